@@ -1,0 +1,23 @@
+use Rattle.std.proofs.Common.{◌≡◌, ◌+◌, ◌≤◌, length, length-append, drop, ◌∙◌, sym, vec_len, arith}
+use Rattle.r3_outside.proofs.ContentsLemmas.{length-piece, take-piece}
+use Rattle.r3_outside.proofs.reading.load_by_pieces.Goals as goal
+
+pub pieces-preserved : goal.pieces-preserved
+pieces-preserved g c =
+    let rest = drop c.min-wanted.result c.pieces.piece in
+    let fits : c.in_ok-count.count ≤ length c.read_at.new.into = c.in_ok-count.ensures.within_buffer in
+    let more : vec_len c.extend_from_slice.new.self ≡ vec_len c.pieces.bytes + c.in_ok-count.count =
+    omega (arith, c.in_ok-extend_from_slice.ensures.len, length-piece c.read_at.new.into rest c.in_ok-count.count fits)
+    in
+    record {
+      within = omega arith;
+      some = omega (arith, c.pieces.invariant.some, length-append c.read_at.new.into rest);
+      contents_unchanged = c.in_ok-count.ensures.contents_unchanged ∙ c.pieces.invariant.contents_unchanged;
+      faults_never_fall = omega (arith, c.in_ok-count.ensures.faults_never_fall);
+      taken_never_falls = omega (arith, c.in_ok-count.ensures.taken_never_falls);
+      took = omega (arith, c.in_ok-count.ensures.took);
+      loaded = λ told e.
+          let e' = sym c.in_ok-count.ensures.contents_unchanged ∙ e in
+          rw c.in_ok-extend_from_slice.ensures.items
+          (take-piece _ _ c.read_at.new.into rest (vec_len c.pieces.bytes) _ c.in_ok-count.count _ (c.pieces.invariant.loaded told e') c.len-in-pieces.ensures (c.in_ok-count.ensures.piece told e') fits more);
+    }

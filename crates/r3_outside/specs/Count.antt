@@ -1,0 +1,14 @@
+-- Counts that 64 bits keep: of the faults of files and of sinks, and of the bytes taken from files.
+use Rattle.std.specs.Prelude.{ℕ, ◌+◌, ◌-◌, ◌^◌, ◌≤◌, min}
+
+-- the count rose between two moments, or stands at the greatest number of 64 bits
+abbrev pub Rose : ℕ → ℕ → Type 0
+Rose before now = min (before + 1) (2 ^ 64 - 1) ≤ now
+
+-- at least so many bytes were taken between two moments, or the count stands at the greatest number of 64 bits
+abbrev pub Took : ℕ → ℕ → ℕ → Type 0
+Took before now bytes = min (before + bytes) (2 ^ 64 - 1) ≤ now
+
+-- the count that stays at the greatest number of 64 bits once it is there
+abbrev pub saturating_add : ℕ → ℕ → ℕ
+saturating_add before more = min (before + more) (2 ^ 64 - 1)

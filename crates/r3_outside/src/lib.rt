@@ -1,0 +1,85 @@
+//! The world outside: files that are read and sinks that are written, as traits with meanings,
+//! and what reads a whole file or writes a whole list over any of them.
+#![tactic(auto)]
+
+ghost use Rattle.std.specs.Prelude.{◌≡◌, ℕ, ◌<◌, ◌≤◌, List, length, take, Option, OnErr, IfOk};
+ghost use Rattle.std.specs.Option.{ForSome};
+ghost use Rattle.r3_outside.specs.Count.{Rose, saturating_add};
+ghost use Rattle.r3_outside.specs.Contents.{FileMap, file_bytes, IsPiece};
+ghost use Rattle.r3_outside.specs.Written.{Grew};
+
+use thiserror::Error;
+
+mod memory;
+mod reading;
+mod sure;
+mod system;
+mod table;
+#[cfg(test)]
+mod tests;
+mod writing;
+
+pub use memory::{MemFiles, MemSink};
+pub use no_memory::NoMemory;
+pub use reading::{LoadFault, load};
+pub use sure::{SureFiles, SureSink};
+pub use system::{DiskFiles, StdSink};
+pub use writing::{PutFault, put_all, put_parts};
+
+/// A call on the world outside failed. Its count of faults rose.
+#[derive(Clone, Copy, PartialEq, Eq, Debug, Error)]
+#[error("a read or a write failed")]
+pub struct Failed;
+
+/// Files that are read by name and place.
+pub trait Files {
+    // The bytes under each name, where these files tell them.
+    ghost contents: { Self → Option FileMap };
+
+    // How many calls failed.
+    ghost faults: { Self → ℕ };
+
+    // How many bytes were taken.
+    ghost taken: { Self → ℕ };
+
+    /// Reads at most `into.len()` bytes of a file, from its byte `at` on, into the front of
+    /// `into`, and answers how many. It reads none only where no byte stands at `at`. After
+    /// `Failed` `into` may hold any bytes.
+    fn read_at(&mut self, name: &str, at: u64, into: &mut [u8]) -> Result<usize, Failed>
+        requires { 0 < length into.old }
+
+        ensures contents_unchanged { contents self.new ≡ contents self.old }
+
+        ensures faults_never_fall { faults self.old ≤ faults self.new }
+        ensures failed { OnErr result (Rose (faults self.old) (faults self.new)) }
+
+        ensures taken_never_falls { taken self.old ≤ taken self.new }
+        ensures took { IfOk result (λ k. taken self.new ≡ saturating_add (taken self.old) k) }
+        ensures took_none { OnErr result (taken self.new ≡ taken self.old) }
+
+        ensures within_buffer { IfOk result (λ k. k ≤ length into.new) }
+        // A name that isn't there is read as an empty file, where it doesn't fail.
+        ensures piece { IfOk result (λ k. ForSome (contents self.old)
+            (λ files. IsPiece (file_bytes files name.now) at k into.new)) };
+}
+
+/// Where bytes are written, one behind the other.
+pub trait Sink {
+    // All bytes that were written, where this sink tells them.
+    ghost written: { Self → Option (List ℕ) };
+
+    // How many calls failed.
+    ghost faults: { Self → ℕ };
+
+    /// Writes the first bytes of `piece`, at least one, and answers how many.
+    fn write(&mut self, piece: &[u8]) -> Result<usize, Failed>
+        requires { 0 < length piece.now }
+
+        ensures faults_never_fall { faults self.old ≤ faults self.new }
+        ensures failed { OnErr result (Rose (faults self.old) (faults self.new)) }
+
+        ensures some { IfOk result (λ k. 0 < k) }
+        ensures within_piece { IfOk result (λ k. k ≤ length piece.now) }
+        ensures wrote { IfOk result (λ k. Grew (written self.old) (written self.new) (take k piece.now)) }
+        ensures wrote_none { OnErr result (written self.new ≡ written self.old) };
+}

@@ -1,0 +1,120 @@
+ghost use Rattle.std.specs.Prelude.{◌≡◌, ℕ, ◌+◌, ◌<◌, ◌≤◌, length, IfOk, IsErrOf, vec_len};
+ghost use Rattle.std.specs.Option.{ForSome};
+ghost use Rattle.r3_outside.specs.Count.{Rose, Took};
+ghost use Rattle.r3_outside.specs.Contents.{file_bytes};
+ghost use Rattle.r3_outside.specs.declared.reading.LoadFault.TheVariants.{Failed as ReadFailed, Memory};
+
+use crate::{Failed, Files};
+use std::alloc::{AllocError, Global};
+use thiserror::Error;
+
+/// Why a file was not loaded.
+#[derive(Clone, Copy, PartialEq, Eq, Debug, Error)]
+pub enum LoadFault {
+    #[error("a read failed")]
+    Failed,
+    #[error("the file is longer than its limit")]
+    TooLong,
+    #[error("out of memory")]
+    Memory,
+}
+
+impl From<Failed> for LoadFault {
+    ghost from_gives = { λ _ fault. fault ≡ ReadFailed };
+
+    fn from(_failed: Failed) -> LoadFault {
+        LoadFault::Failed
+    }
+}
+
+impl From<AllocError> for LoadFault {
+    ghost from_gives = { λ _ fault. fault ≡ Memory };
+
+    fn from(_refused: AllocError) -> LoadFault {
+        LoadFault::Memory
+    }
+}
+
+/// The most bytes that `load` asks for in one call.
+const PIECE: usize = 65_536;
+
+/// Reads a whole file of at most `limit` bytes, by as many calls as it needs.
+///
+/// A file of which `limit + 1` bytes were taken is too long.
+pub fn load<F: Files>(
+    alloc: Global,
+    files: &mut F,
+    name: &str,
+    limit: u64,
+) -> Result<Vec<u8>, LoadFault>
+    requires { limit ≤ 536870912 }
+
+    ensures contents_unchanged { F.contents files.new ≡ F.contents files.old }
+    ensures faults_never_fall { F.faults files.old ≤ F.faults files.new }
+    ensures taken_never_falls { F.taken files.old ≤ F.taken files.new }
+
+    ensures within_limit { IfOk result (λ bytes. vec_len bytes ≤ limit) }
+    ensures loaded { IfOk result (λ bytes. ForSome (F.contents files.old)
+        (λ told. bytes.items ≡ file_bytes told name.now)) }
+    ensures not_longer { IfOk result (λ _. ForSome (F.contents files.old)
+        (λ told. length (file_bytes told name.now) ≤ limit)) }
+
+    ensures failed { IsErrOf result LoadFault.Failed → Rose (F.faults files.old) (F.faults files.new) }
+
+    ensures too_long { IsErrOf result LoadFault.TooLong → Took (F.taken files.old) (F.taken files.new) (limit + 1) }
+    ensures longer { IsErrOf result LoadFault.TooLong → ForSome (F.contents files.old)
+        (λ told. limit < length (file_bytes told name.now)) }
+{
+    let most = limit as usize;
+    let mut piece = zeros(alloc, PIECE.min(most + 1))?;
+    load_by_pieces(alloc, files, name, most, &mut piece)
+}
+
+fn zeros(alloc: Global, count: usize) -> Result<Vec<u8>, AllocError>
+    ensures { IfOk result (λ zeros. vec_len zeros ≡ count) }
+{
+    vec![in alloc; 0; count]
+}
+
+/// Reads a whole file as `load` does, by calls that ask for at most `piece.len()` bytes.
+fn load_by_pieces<F: Files>(
+    alloc: Global,
+    files: &mut F,
+    name: &str,
+    limit: usize,
+    piece: &mut [u8],
+) -> Result<Vec<u8>, LoadFault>
+    requires small { limit ≤ 536870912 }
+    requires some { 0 < length piece.old }
+
+    ensures contents_unchanged { F.contents files.new ≡ F.contents files.old }
+    ensures faults_never_fall { F.faults files.old ≤ F.faults files.new }
+    ensures taken_never_falls { F.taken files.old ≤ F.taken files.new }
+
+    ensures within_limit { IfOk result (λ bytes. vec_len bytes ≤ limit) }
+    ensures loaded { IfOk result (λ bytes. ForSome (F.contents files.old)
+        (λ told. bytes.items ≡ file_bytes told name.now)) }
+    ensures not_longer { IfOk result (λ _. ForSome (F.contents files.old)
+        (λ told. length (file_bytes told name.now) ≤ limit)) }
+
+    ensures failed { IsErrOf result LoadFault.Failed → Rose (F.faults files.old) (F.faults files.new) }
+
+    ensures too_long { IsErrOf result LoadFault.TooLong →
+        Took (F.taken files.old) (F.taken files.new) (limit + 1) }
+    ensures longer { IsErrOf result LoadFault.TooLong → ForSome (F.contents files.old)
+        (λ told. limit < length (file_bytes told name.now)) }
+{
+    let mut bytes = Vec::new(alloc);
+    'pieces: loop {
+        let room = limit - bytes.len();
+        let wanted = piece.len().min(room + 1);
+        let count = files.read_at(name, bytes.len() as u64, &mut piece[..wanted])?;
+        if count == 0 {
+            return Ok(bytes);
+        }
+        if count > room {
+            return Err(LoadFault::TooLong);
+        }
+        bytes.extend_from_slice(&piece[..count])?;
+    }
+}

@@ -1,0 +1,125 @@
+ghost use Rattle.std.specs.Prelude.{◌≡◌, ℕ, ◌<◌, ◌≤◌, List, [], ◌++◌, length, Option, Some, OnOk, OnErr, IfOk};
+ghost use Rattle.std.specs.Option.{option_copied};
+ghost use Rattle.std.specs.FinMap as map;
+ghost use Rattle.r3_outside.specs.Count.{saturating_add};
+ghost use Rattle.r3_outside.specs.Contents.{FileMap, file_bytes, piece_length, IsPiece};
+ghost use Rattle.r3_outside.specs.Written.{Grew};
+
+use crate::table::{Table, copy_piece};
+use crate::{Failed, Files, NoMemory, Sink};
+use std::alloc::Global;
+use std::marker::Model;
+
+/// Files in memory that never fail. A name that isn't there is read as an empty file.
+#[derive(Drop)]
+pub struct SureFiles {
+    table: Table,
+    taken: u64,
+}
+
+impl Model for SureFiles {
+    ghost use Rattle.r3_outside.specs.Stored.{SureStore, sure_store_code};
+
+    ghost Value = { SureStore };
+
+    ghost coded = { sure_store_code };
+
+    ghost view = { λ s. record { files = s.table; taken = s.taken } };
+}
+
+impl SureFiles {
+    pub fn new(alloc: Global) -> SureFiles
+        ensures { result ≡ record { files = map.empty; taken = 0 } }
+    {
+        SureFiles {
+            table: Table::new(alloc),
+            taken: 0,
+        }
+    }
+
+    /// Adds a file, in place of one of the same name.
+    pub fn add(&mut self, name: &str, bytes: &[u8]) -> Result<(), NoMemory>
+        ensures ok { OnOk result
+            (self.new ≡ record self.old { files = map.insert self.old.files name.now bytes.now }) }
+        ensures err { OnErr result (self.new ≡ self.old) }
+    {
+        self.table.insert(name, bytes)
+    }
+}
+
+impl Files for SureFiles {
+    ghost contents = { λ s. Some s.files };
+
+    ghost faults = { λ _. 0 };
+
+    ghost taken = { λ s. s.taken };
+
+    fn read_at(&mut self, name: &str, at: u64, into: &mut [u8]) -> Result<usize, Failed>
+        requires { 0 < length into.old }
+        ensures count { result ≡ Ok (piece_length (file_bytes self.old.files name.now) at (length into.new)) }
+        ensures took { IfOk result
+            (λ k. self.new ≡ record self.old { taken = saturating_add self.old.taken k }) }
+        ensures taken_never_falls { self.old.taken ≤ self.new.taken }
+        ensures piece { IfOk result (λ k. IsPiece (file_bytes self.old.files name.now) at k into.new) }
+    {
+        let bytes = self.table.get(name).unwrap_or(&[]);
+        let count = copy_piece(bytes, at, into);
+        self.taken = self.taken.saturating_add(count as u64);
+        Ok(count)
+    }
+}
+
+/// A sink in memory that never fails. Where there is no memory for what it is given, it drops its
+/// bytes and no longer tells them.
+#[derive(Drop)]
+pub struct SureSink {
+    bytes: Option<Vec<u8>>,
+}
+
+impl Model for SureSink {
+    ghost use Rattle.std.specs.Prelude.{ℕ, List, Option};
+    ghost use Rattle.std.specs.Option.{option_map};
+
+    ghost Value = { Option (List ℕ) };
+
+    ghost view = { λ s. option_map (λ bytes. bytes.items) s.bytes };
+}
+
+impl SureSink {
+    pub fn new(alloc: Global) -> SureSink
+        ensures { result ≡ Some [] }
+    {
+        SureSink {
+            bytes: Some(Vec::new(alloc)),
+        }
+    }
+
+    /// All bytes that were written, unless there was no memory for them.
+    pub fn bytes(&self) -> Option<&[u8]>
+        ensures { option_copied result ≡ self.now }
+    {
+        match &self.bytes {
+            Some(bytes) => Some(bytes.as_slice()),
+            None => None,
+        }
+    }
+}
+
+impl Sink for SureSink {
+    ghost written = { λ s. s };
+
+    ghost faults = { λ _. 0 };
+
+    fn write(&mut self, piece: &[u8]) -> Result<usize, Failed>
+        requires { 0 < length piece.now }
+        ensures count { result ≡ Ok (length piece.now) }
+        ensures wrote { Grew self.old self.new piece.now }
+    {
+        if let Some(bytes) = &mut self.bytes {
+            if bytes.extend_from_slice(piece).is_err() {
+                self.bytes = None;
+            }
+        }
+        Ok(piece.len())
+    }
+}

@@ -1,0 +1,152 @@
+ghost use Rattle.std.specs.Prelude.{◌≡◌, ◌≤◌, length, None, IfOk};
+
+use crate::{Failed, Files, Sink};
+use std::io::{Read, Seek, SeekFrom, Write};
+use std::marker::Model;
+use std::{fs, io, rt};
+
+/// The files of the system, by the paths that their names are.
+///
+/// The last file that was read stays open, so that a file read front to back is opened once and
+/// never sought in. A file that is missing, may not be read or is a directory answers `Failed`, and
+/// so does a name for which there is no memory.
+#[derive(Drop)]
+pub struct DiskFiles<R: rt::Files + AllocGlobal + Drop> {
+    reader: Reader<R>,
+    faults: u64,
+    taken: u64,
+}
+
+impl<R: rt::Files + AllocGlobal + Drop> Model for DiskFiles<R> {
+    ghost use Rattle.r3_outside.specs.Stored.{Counts};
+
+    ghost Value = { Counts };
+
+    ghost view = { λ files. record { faults = files.faults; taken = files.taken } };
+}
+
+impl<R: rt::Files + AllocGlobal + Drop> DiskFiles<R> {
+    pub fn new(rt: R) -> DiskFiles<R>
+        ensures { result ≡ record { faults = 0; taken = 0 } }
+    {
+        DiskFiles {
+            reader: Reader { rt, last: None },
+            faults: 0,
+            taken: 0,
+        }
+    }
+}
+
+impl<R: rt::Files + AllocGlobal + Drop> Files for DiskFiles<R> {
+    ghost contents = { λ _. None };
+
+    ghost faults = { λ files. files.faults };
+
+    ghost taken = { λ files. files.taken };
+
+    fn read_at(&mut self, name: &str, at: u64, into: &mut [u8]) -> Result<usize, Failed> {
+        match self.reader.read_at(name, at, into) {
+            Ok(count) => {
+                self.taken = self.taken.saturating_add(count as u64);
+                Ok(count)
+            }
+            Err(_) => {
+                self.faults = self.faults.saturating_add(1);
+                Err(Failed)
+            }
+        }
+    }
+}
+
+/// What reads the files of the system, with the last one that was read.
+#[derive(Drop)]
+struct Reader<R: rt::Files + AllocGlobal + Drop> {
+    rt: R,
+    last: Option<OpenFile<R::File>>,
+}
+
+impl<R: rt::Files + AllocGlobal + Drop> Reader<R> {
+    /// Reads from the open file where it has this name. It is closed where that fails.
+    fn read_at(&mut self, name: &str, at: u64, into: &mut [u8]) -> io::Result<usize>
+        ensures { IfOk result (λ k. k ≤ length into.new) }
+    {
+        let mut file = match self.last.take() {
+            Some(file) if file.name.as_str() == name => file,
+            _ => self.open(name)?,
+        };
+        let count = file.read_at(at, into)?;
+        self.last = Some(file);
+        Ok(count)
+    }
+
+    fn open(&self, name: &str) -> io::Result<OpenFile<R::File>> {
+        Ok(OpenFile {
+            name: String::from_str(self.rt.alloc(), name)?,
+            file: fs::open(&self.rt, name)?,
+            place: 0,
+        })
+    }
+}
+
+/// A file of the system with the place at which it goes on.
+#[derive(Drop)]
+struct OpenFile<F: Read + Seek + Drop> {
+    name: String,
+    file: F,
+    place: u64,
+}
+
+impl<F: Read + Seek + Drop> OpenFile<F> {
+    /// Reads at a place, which is sought only where the file stands elsewhere.
+    fn read_at(&mut self, at: u64, into: &mut [u8]) -> io::Result<usize>
+        ensures { IfOk result (λ k. k ≤ length into.new) }
+    {
+        if self.place != at {
+            self.file.seek(SeekFrom::Start(at))?;
+        }
+        let count = self.file.read(into)?;
+        self.place = at.saturating_add(count as u64);
+        Ok(count)
+    }
+}
+
+/// A writer as a sink, as one of the standard streams. It is never flushed, so it should keep no
+/// bytes back.
+#[derive(Drop)]
+pub struct StdSink<W: Write + Drop> {
+    writer: W,
+    faults: u64,
+}
+
+impl<W: Write + Drop> Model for StdSink<W> {
+    ghost use Rattle.std.specs.Prelude.{ℕ};
+
+    ghost Value = { ℕ };
+
+    ghost view = { λ sink. sink.faults };
+}
+
+impl<W: Write + Drop> StdSink<W> {
+    pub fn new(writer: W) -> StdSink<W>
+        ensures { result ≡ 0 }
+    {
+        StdSink { writer, faults: 0 }
+    }
+}
+
+impl<W: Write + Drop> Sink for StdSink<W> {
+    ghost written = { λ _. None };
+
+    ghost faults = { λ sink. sink };
+
+    /// A writer that takes nothing of `piece` fails.
+    fn write(&mut self, piece: &[u8]) -> Result<usize, Failed> {
+        match self.writer.write(piece) {
+            Ok(count) if count > 0 => Ok(count),
+            _ => {
+                self.faults = self.faults.saturating_add(1);
+                Err(Failed)
+            }
+        }
+    }
+}

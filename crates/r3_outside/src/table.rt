@@ -1,0 +1,72 @@
+ghost use Rattle.std.specs.Prelude.{◌≡◌, ℕ, ◌<◌, List, length, OnOk, OnErr};
+ghost use Rattle.std.specs.Option.{option_copied};
+ghost use Rattle.std.specs.FinMap as map;
+ghost use Rattle.r3_outside.specs.Contents.{piece_length, IsPiece};
+
+use crate::NoMemory;
+use std::alloc::Global;
+use std::collections::BTreeMap;
+use std::marker::Model;
+
+/// Bytes under names.
+#[derive(Drop)]
+pub(crate) struct Table {
+    alloc: Global,
+    files: BTreeMap<String, Vec<u8>>,
+}
+
+impl Model for Table {
+    ghost use Rattle.r3_outside.specs.Contents.{FileMap};
+    ghost use Rattle.r3_outside.specs.Stored.{file_map_code, file_map};
+
+    ghost Value = { FileMap };
+
+    ghost coded = { file_map_code };
+
+    ghost view = { λ table. file_map table.files.entries };
+}
+
+impl Table {
+    pub(crate) fn new(alloc: Global) -> Table
+        ensures { result ≡ map.empty }
+    {
+        Table {
+            alloc,
+            files: BTreeMap::new(alloc),
+        }
+    }
+
+    /// Puts bytes under a name, in place of those that may stand there.
+    pub(crate) fn insert(&mut self, name: &str, bytes: &[u8]) -> Result<(), NoMemory>
+        ensures ok { OnOk result (self.new ≡ map.insert self.old name.now bytes.now) }
+        ensures err { OnErr result (self.new ≡ self.old) }
+    {
+        let name = String::from_str(self.alloc, name)?;
+        let bytes = Vec::from_slice(self.alloc, bytes)?;
+        self.files.insert(name, bytes)?;
+        Ok(())
+    }
+
+    pub(crate) fn get(&self, name: &str) -> Option<&[u8]>
+        ensures { option_copied result ≡ map.get self.now name.now }
+    {
+        match self.files.get(name) {
+            Some(bytes) => Some(bytes.as_slice()),
+            None => None,
+        }
+    }
+}
+
+/// Copies what stands from `at` on to the front of `into`, as much as there is room for, and
+/// answers how many bytes these are.
+pub(crate) fn copy_piece(bytes: &[u8], at: u64, into: &mut [u8]) -> usize
+    requires { 0 < length into.old }
+    ensures count { result ≡ piece_length bytes.now at (length into.old) }
+    ensures piece { IsPiece bytes.now at result into.new }
+{
+    let start = at.min(bytes.len() as u64) as usize;
+    let rest = &bytes[start..];
+    let count = into.len().min(rest.len());
+    into[..count].copy_from_slice(&rest[..count]);
+    count
+}

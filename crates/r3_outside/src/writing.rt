@@ -1,0 +1,53 @@
+ghost use Rattle.std.specs.Prelude.{◌≡◌, ℕ, ◌≤◌, List, map, OnOk, OnErr};
+ghost use Rattle.std.specs.List.{flat_map};
+ghost use Rattle.r3_outside.specs.Count.{Rose};
+ghost use Rattle.r3_outside.specs.Written.{Grew, GrewByPrefix};
+ghost use Rattle.r3_outside.specs.declared.writing.PutFault.TheVariants.{Failed as WriteFailed};
+
+use crate::{Failed, Sink};
+use thiserror::Error;
+
+/// Why bytes were not written whole.
+#[derive(Clone, Copy, PartialEq, Eq, Debug, Error)]
+pub enum PutFault {
+    #[error("a write failed")]
+    Failed,
+}
+
+impl From<Failed> for PutFault {
+    ghost from_gives = { λ _ fault. fault ≡ WriteFailed };
+
+    fn from(_failed: Failed) -> PutFault {
+        PutFault::Failed
+    }
+}
+
+/// Writes all of `bytes`, by as many calls as it needs, and takes no memory. After a fault a first
+/// part of them is written.
+pub fn put_all<S: Sink>(sink: &mut S, bytes: &[u8]) -> Result<(), PutFault>
+    ensures faults_never_fall { S.faults sink.old ≤ S.faults sink.new }
+    ensures failed { OnErr result (Rose (S.faults sink.old) (S.faults sink.new)) }
+    ensures wrote { OnOk result (Grew (S.written sink.old) (S.written sink.new) bytes.now) }
+    ensures wrote_prefix { OnErr result (GrewByPrefix (S.written sink.old) (S.written sink.new) bytes.now) }
+{
+    let mut done = 0;
+    'pieces: while done < bytes.len() {
+        done += sink.write(&bytes[done..])?;
+    }
+    Ok(())
+}
+
+/// Writes all parts, one behind the other, as `put_all` writes one.
+pub fn put_parts<S: Sink>(sink: &mut S, parts: &[&[u8]]) -> Result<(), PutFault>
+    ensures faults_never_fall { S.faults sink.old ≤ S.faults sink.new }
+    ensures failed { OnErr result (Rose (S.faults sink.old) (S.faults sink.new)) }
+    ensures wrote { OnOk result
+        (Grew (S.written sink.old) (S.written sink.new) (flat_map (λ part. part.now) parts.now)) }
+    ensures wrote_prefix { OnErr result
+        (GrewByPrefix (S.written sink.old) (S.written sink.new) (flat_map (λ part. part.now) parts.now)) }
+{
+    'parts: for part in parts {
+        put_all(sink, part)?;
+    }
+    Ok(())
+}
