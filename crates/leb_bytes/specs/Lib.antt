@@ -1,0 +1,4 @@
+pub mod Encoding
+pub mod Place
+pub mod Signed
+pub mod Unsigned
