@@ -1,0 +1,21 @@
+-- What holds of the binary encoding.
+pub mod Tools
+pub mod Lists
+pub mod Numbers
+pub mod Types
+pub mod Instructions
+pub mod Nests
+pub mod Expressions
+pub mod Locals
+pub mod Items
+pub mod Sections
+pub mod Order
+pub mod Modules
+pub mod Writing
+pub mod BestTypes
+pub mod BestItems
+pub mod BestSections
+pub mod Arranged
+pub mod BestModules
+pub mod Encodable
+pub mod Forms

@@ -1,0 +1,12 @@
+-- The binary encoding of modules (Core 1.0, 5).
+pub mod Grammar
+pub mod Types
+pub mod Instructions
+pub mod Sections
+pub mod Modules
+pub mod Encodable
+pub mod Forms
+pub mod Shortest
+pub mod Reading
+pub mod Readers
+pub mod ReadModules

@@ -1,0 +1,11 @@
+pub mod Nest
+pub mod Opcodes
+pub mod Index
+pub mod Alike
+pub mod Typing
+pub mod Validity
+pub mod Profile
+pub mod Appended
+pub mod Checking
+pub mod Encoding
+pub mod Deciding

@@ -1,0 +1,96 @@
+-- Nested bodies: a body as a tree of blocks (Core 1.0, 2.4.5), beside the flat list that modules keep.
+use Rattle.std.specs.Prelude.{◌≡◌, ℕ, ◌+◌, List, [], ◌∷◌, ◌++◌, Option, Some, None, Bool, true, false, IsTrue}
+use Rattle.wasm_syntax.specs.declared.values.ValType.{ValType}
+use Rattle.wasm_syntax.specs.declared.instructions.Instr.{Instr}
+use Rattle.wasm_syntax.specs.declared.instructions.Instr.TheVariants.{Block, Loop, If, Else, End}
+
+-- a sequence of instructions: empty, or its first one and the rest; a block holds a sequence, an
+-- `if` one or two
+pub data Nest : Type 0 where
+  Empty : Nest
+  Plain : (i : Instr) (rest : Nest) → Nest
+  InBlock : (ty : Option ValType) (body rest : Nest) → Nest
+  InLoop : (ty : Option ValType) (body rest : Nest) → Nest
+  InIf : (ty : Option ValType) (body rest : Nest) → Nest
+  InIfElse : (ty : Option ValType) (body other rest : Nest) → Nest
+
+-- an instruction that neither opens, parts nor closes a block
+abbrev pub is_plain : Instr → Bool
+is_plain (Block ty) = false
+is_plain (Loop ty) = false
+is_plain (If ty) = false
+is_plain Else = false
+is_plain End = false
+is_plain i = true
+
+-- each instruction of the tree that stands alone is plain
+abbrev pub IsNest : Nest → Type 0
+IsNest Empty = Unit {0}
+IsNest (Plain i rest) = IsTrue (is_plain i) × IsNest rest
+IsNest (InBlock ty body rest) = IsNest body × IsNest rest
+IsNest (InLoop ty body rest) = IsNest body × IsNest rest
+IsNest (InIf ty body rest) = IsNest body × IsNest rest
+IsNest (InIfElse ty body other rest) = IsNest body × IsNest other × IsNest rest
+
+-- the sequence as a flat list, each block with its `End`
+abbrev pub flat : Nest → List Instr
+flat Empty = []
+flat (Plain i rest) = i ∷ flat rest
+flat (InBlock ty body rest) = Block ty ∷ (flat body ++ End ∷ flat rest)
+flat (InLoop ty body rest) = Loop ty ∷ (flat body ++ End ∷ flat rest)
+flat (InIf ty body rest) = If ty ∷ (flat body ++ End ∷ flat rest)
+flat (InIfElse ty body other rest) = If ty ∷ (flat body ++ Else ∷ (flat other ++ End ∷ flat rest))
+
+-- how many instructions the sequence counts: `Else` and `End` count for none
+abbrev pub size : Nest → ℕ
+size Empty = 0
+size (Plain i rest) = 1 + size rest
+size (InBlock ty body rest) = 1 + size body + size rest
+size (InLoop ty body rest) = 1 + size body + size rest
+size (InIf ty body rest) = 1 + size body + size rest
+size (InIfElse ty body other rest) = 1 + size body + size other + size rest
+
+-- the tree whose flat list, with the body's own `End`, is the body (Core 1.0, 2.4.6)
+pub record IsBody (nest : Nest) (body : List Instr) : Type 0 where
+  pub nested : IsNest nest
+  pub written : flat nest ++ End ∷ [] ≡ body
+
+-- sequences that are open while a flat list is read from its end: the innermost first, each in an
+-- `End` that is still without its opening
+pub data Open : Type 0 where
+  Outside : Open
+  Ended : (outer : Open) (rest : Nest) → Open
+  Parted : (outer : Open) (other rest : Nest) → Open
+
+-- what is read: the sequence that stands first, and the open sequences round it; or no tree
+pub data Reading : Type 0 where
+  Broken : Reading
+  Read : (first : Nest) (around : Open) → Reading
+
+-- one more instruction in front
+abbrev pub in_front : Instr → Reading → Reading
+in_front i Broken = Broken
+in_front End (Read first around) = Read Empty (Ended around first)
+in_front Else (Read first (Ended outer rest)) = Read Empty (Parted outer first rest)
+in_front Else (Read first around) = Broken
+in_front (Block ty) (Read first (Ended outer rest)) = Read (InBlock ty first rest) outer
+in_front (Block ty) (Read first around) = Broken
+in_front (Loop ty) (Read first (Ended outer rest)) = Read (InLoop ty first rest) outer
+in_front (Loop ty) (Read first around) = Broken
+in_front (If ty) (Read first (Ended outer rest)) = Read (InIf ty first rest) outer
+in_front (If ty) (Read first (Parted outer other rest)) = Read (InIfElse ty first other rest) outer
+in_front (If ty) (Read first around) = Broken
+in_front i (Read first around) = Read (Plain i first) around
+
+-- a flat list read from its end
+abbrev pub reading : List Instr → Reading
+reading [] = Read Empty Outside
+reading (i ∷ is) = in_front i (reading is)
+
+-- the tree of a body where it has one: its own `End` closes it, and nothing stands behind
+abbrev pub whole : Reading → Option Nest
+whole (Read nest (Ended Outside Empty)) = Some nest
+whole other = None
+
+abbrev pub nest_of : List Instr → Option Nest
+nest_of body = whole (reading body)

@@ -1,0 +1,98 @@
+-- The accepted profile: what is refused of valid modules, and where.
+use Rattle.std.specs.Prelude.{◌≡◌, ℕ, List, [], ◌++◌, length, sum_by, filter, filter_map, flat_map, Option, Some, None, Bool, true, false, cond, ◌||◌, nat_lt, bytes_eq, codes, slice_get, option_map}
+use Rattle.std.specs.List.{enumerate_from}
+use Rattle.wasm_syntax.specs.declared.profile.Feature.{Feature}
+use Rattle.wasm_syntax.specs.declared.profile.Feature.TheVariants.{FloatComparison, FloatArithmetic, FloatConversion}
+use Rattle.wasm_syntax.specs.declared.profile.Which.{Which}
+use Rattle.wasm_syntax.specs.declared.profile.Which.TheVariants.{Parameters, Table, Memory, Locals}
+use Rattle.wasm_syntax.specs.declared.instructions.Instr.{Instr}
+use Rattle.wasm_syntax.specs.declared.instructions.Instr.TheVariants.{Else, End, Numeric}
+use Rattle.wasm_syntax.specs.declared.modules.Module.{Module}
+use Rattle.wasm_syntax.specs.declared.modules.Import.{Import}
+use Rattle.wasm_syntax.specs.declared.modules.Func.{Func}
+use Rattle.wasm_syntax.specs.Opcodes.{is_from}
+use Rattle.wasm_syntax.specs.Index.{imported_funcs, all_tables, all_memories}
+use Rattle.wasm_syntax.specs.Validity.{IsValid}
+
+-- the class of a refused opcode (Core 1.0, 5.4.5)
+abbrev pub feature_of : ℕ → Option Feature
+feature_of op =
+    cond (is_from 0x5B 0x66 op) (Some FloatComparison)
+    (cond (is_from 0x8B 0xA6 op) (Some FloatArithmetic)
+    (cond (is_from 0xA8 0xAB op || is_from 0xAE 0xBB op) (Some FloatConversion) None))
+
+abbrev pub refused_feature : Instr → Option Feature
+refused_feature (Numeric op) = feature_of op
+refused_feature other = None
+
+-- `else` and `end` have no number of their own
+abbrev pub is_numbered : Instr → Bool
+is_numbered Else = false
+is_numbered End = false
+is_numbered i = true
+
+-- the instructions of a body, each with its number
+abbrev pub numbered : List Instr → List (ℕ × Instr)
+numbered body = enumerate_from 0 (filter is_numbered body)
+
+-- why a valid module is refused: an instruction of a function, by its number; a quantity past its limit;
+-- an import, by its place
+pub data Refusal : Type 0 where
+  Unsupported : (func number : ℕ) (feature : Feature) → Refusal
+  Limit : (which : Which) (value : ℕ) → Refusal
+  Reserved : (import : ℕ) → Refusal
+
+-- each refused instruction of a function, by the function's index
+abbrev pub refused_in : ℕ → Func → List Refusal
+refused_in func f = filter_map (λ (i : ℕ × Instr). option_map (Unsupported func i.0) (refused_feature i.1)) (numbered f.body)
+
+-- each refused instruction, by function and number
+abbrev pub refused_instructions : Module → List Refusal
+refused_instructions m = flat_map (λ (f : ℕ × Func). refused_in f.0 f.1) (enumerate_from (imported_funcs m) m.funcs)
+
+-- a quantity past what it may be at most
+abbrev pub past : ℕ → Which → ℕ → Option Refusal
+past most which value = cond (nat_lt most value) (Some (Limit which value)) None
+
+-- how many locals a function has, its parameters left out
+abbrev pub count_of_locals : Func → ℕ
+count_of_locals f = sum_by (λ run. run.count) f.locals
+
+-- an instrumented module has five locals more
+abbrev pub most_locals : Bool → ℕ
+most_locals hooked = cond hooked 50005 50000
+
+-- each quantity past its limit: parameters by type, the table's and the memory's minimum, locals by function
+abbrev pub quantities_past : Bool → Module → List Refusal
+quantities_past hooked m =
+    filter_map (λ ty. past 1000 Parameters (length ty.params)) m.types
+    ++ filter_map (λ limits. past 1000000 Table limits.min) (all_tables m)
+    ++ filter_map (λ limits. past 4096 Memory limits.min) (all_memories m)
+    ++ filter_map (λ f. past (most_locals hooked) Locals (count_of_locals f)) m.funcs
+
+-- an import from the module `r3`
+abbrev pub reserved : ℕ × Import → Option Refusal
+reserved i = cond (bytes_eq i.1.module (codes "r3")) (Some (Reserved i.0)) None
+
+-- each import that only an instrumented module may have
+abbrev pub reserved_imports : Bool → Module → List Refusal
+reserved_imports hooked m = cond hooked [] (filter_map reserved (enumerate_from 0 m.imports))
+
+-- all that is refused, in the order in which it is named
+abbrev pub refusals : Bool → Module → List Refusal
+refusals hooked m = refused_instructions m ++ quantities_past hooked m ++ reserved_imports hooked m
+
+-- the refusal that is named
+abbrev pub first_refusal : Bool → Module → Option Refusal
+first_refusal hooked m = slice_get (refusals hooked m) 0
+
+-- an accepted module, where `hooked` says whether an instrumented one is wanted
+pub record IsAccepted (hooked : Bool) (m : Module) : Type 0 where
+  pub valid : IsValid m
+  pub none_refused : refusals hooked m ≡ []
+
+-- a module that can be run: no instruction is refused, and the quantities are those of an instrumented one
+-- at most
+pub record IsSupported (m : Module) : Type 0 where
+  pub instructions : refused_instructions m ≡ []
+  pub quantities : quantities_past true m ≡ []

@@ -1,0 +1,204 @@
+-- The typing of instructions (Core 1.0, 3.3) on nested bodies. An operand stack is a list of types, the top first.
+use Rattle.std.specs.Prelude.{◌≡◌, ℕ, ◌^◌, List, [], ◌∷◌, ◌++◌, length, reverse, Option, Some, None, Bool, true, false, cond, ◌&&◌, IsTrue, nat_eq, nat_lt, nat_le, is_some, slice_get, option_map, option_and_then, All}
+use Rattle.std.specs.List.{list_any}
+use Rattle.wasm_syntax.specs.declared.values.ValType.{ValType}
+use Rattle.wasm_syntax.specs.declared.values.ValType.TheVariants.{I32, I64, F32, F64, FuncRef}
+use Rattle.wasm_syntax.specs.declared.values.Val.{Val}
+use Rattle.wasm_syntax.specs.declared.signatures.FuncType.{FuncType}
+use Rattle.wasm_syntax.specs.declared.signatures.Limits.{Limits}
+use Rattle.wasm_syntax.specs.declared.signatures.GlobalType.{GlobalType}
+use Rattle.wasm_syntax.specs.declared.instructions.MemArg.{MemArg}
+use Rattle.wasm_syntax.specs.declared.instructions.Instr.{Instr}
+use Rattle.wasm_syntax.specs.declared.instructions.Instr.TheVariants.{Unreachable, Nop, Br, BrIf, BrTable, Return, Call, CallIndirect, Drop, Select, LocalGet, LocalSet, LocalTee, GlobalGet, GlobalSet, Load, Store, MemorySize, MemoryGrow, Const, Numeric, RefNull, RefFunc, TableSet}
+use Rattle.wasm_syntax.specs.Nest.{Nest, Empty, Plain, InBlock, InLoop, InIf, InIfElse}
+use Rattle.wasm_syntax.specs.Opcodes.{numeric_shape, Access, load_of, store_of}
+
+-- what is known where an instruction stands (Core 1.0, 3.1.1), the functions by their type indices,
+-- the labels with the innermost first; the functions that bodies may refer to (Core 2.0, 3.1.1)
+pub record Context : Type 0 where
+  pub types : List FuncType
+  pub funcs : List ℕ
+  pub tables : List Limits
+  pub memories : List Limits
+  pub globals : List GlobalType
+  pub locals : List ValType
+  pub labels : List (List ValType)
+  pub results : List ValType
+  pub declared : List ℕ
+
+-- the number types (Core 1.0, 2.3.1); a reference type is none
+abbrev pub is_number : ValType → Bool
+is_number FuncRef = false
+is_number t = true
+
+-- how many bits a value of a number type has (Core 1.0, 4.2.1)
+abbrev pub bits_of : ValType → ℕ
+bits_of I32 = 32
+bits_of I64 = 64
+bits_of F32 = 32
+bits_of F64 = 64
+bits_of FuncRef = 0
+
+-- a value of a number type
+abbrev pub is_constant : Val → Bool
+is_constant v = is_number v.ty && nat_lt v.bits (2 ^ bits_of v.ty)
+
+-- what an instruction that stands alone does to the stack: it takes operands and gives results; takes one
+-- value of any type; takes a condition and two numbers of one type, and gives one; takes operands and
+-- leads elsewhere; takes an index and what all of the labels take, and leads to one of them
+pub data Effect : Type 0 where
+  Moves : (operands results : List ValType) → Effect
+  Drops : Effect
+  Selects : Effect
+  Leaves : (operands : List ValType) → Effect
+  Switches : (labels : List ℕ) → Effect
+
+-- an effect under a condition
+abbrev pub if_true : Bool → Effect → Option Effect
+if_true b effect = cond b (Some effect) None
+
+-- a call of a function of this type, the last argument on top (Core 1.0, 3.3.5.10)
+abbrev pub call_of : FuncType → Effect
+call_of ty = Moves (reverse ty.params) (reverse ty.results)
+
+-- a call by an index into the table, which is on top (Core 1.0, 3.3.5.11)
+abbrev pub indirect_of : FuncType → Effect
+indirect_of ty = Moves (I32 ∷ reverse ty.params) (reverse ty.results)
+
+-- a global that is set is mutable (Core 1.0, 3.3.3.5)
+abbrev pub set_of : GlobalType → Option Effect
+set_of global = if_true global.mutable (Moves (global.ty ∷ []) [])
+
+-- an access is aligned to its width at most (Core 1.0, 3.3.4.1 to 3.3.4.4)
+abbrev pub is_aligned : MemArg → Access → Bool
+is_aligned arg access = nat_le (2 ^ arg.align) access.width
+
+abbrev pub loading : MemArg → Access → Option Effect
+loading arg access = if_true (is_aligned arg access) (Moves (I32 ∷ []) (access.ty ∷ []))
+
+abbrev pub storing : MemArg → Access → Option Effect
+storing arg access = if_true (is_aligned arg access) (Moves (access.ty ∷ I32 ∷ []) [])
+
+-- there is a table of this index, a memory (Core 1.0, 3.3.4 and 3.3.5.11)
+abbrev pub has_table : Context → ℕ → Bool
+has_table ctx x = is_some (slice_get ctx.tables x)
+
+abbrev pub has_memory : Context → Bool
+has_memory ctx = is_some (slice_get ctx.memories 0)
+
+-- bodies may refer to the function (Core 2.0, 3.3.2.3)
+abbrev pub is_declared : Context → ℕ → Bool
+is_declared ctx f = nat_lt f (length ctx.funcs) && list_any (nat_eq f) ctx.declared
+
+-- the type of a function
+abbrev pub func_at : Context → ℕ → Option FuncType
+func_at ctx f = option_and_then (slice_get ctx.types) (slice_get ctx.funcs f)
+
+-- the effect of each instruction that stands alone, where it has one (Core 1.0, 3.3.1 to 3.3.5; Core 2.0,
+-- 3.3.2 and 3.3.6.2). The operands of a numeric instruction are of one type, so either may be on top
+abbrev pub effect_of : Context → Instr → Option Effect
+effect_of ctx Unreachable = Some (Leaves [])
+effect_of ctx Nop = Some (Moves [] [])
+effect_of ctx (Br l) = option_map Leaves (slice_get ctx.labels l)
+effect_of ctx (BrIf l) = option_map (λ label. Moves (I32 ∷ label) label) (slice_get ctx.labels l)
+effect_of ctx (BrTable ls l) = Some (Switches (ls ++ l ∷ []))
+effect_of ctx Return = Some (Leaves ctx.results)
+effect_of ctx (Call f) = option_map call_of (func_at ctx f)
+effect_of ctx (CallIndirect t) = cond (has_table ctx 0) (option_map indirect_of (slice_get ctx.types t)) None
+effect_of ctx Drop = Some Drops
+effect_of ctx Select = Some Selects
+effect_of ctx (LocalGet x) = option_map (λ t. Moves [] (t ∷ [])) (slice_get ctx.locals x)
+effect_of ctx (LocalSet x) = option_map (λ t. Moves (t ∷ []) []) (slice_get ctx.locals x)
+effect_of ctx (LocalTee x) = option_map (λ t. Moves (t ∷ []) (t ∷ [])) (slice_get ctx.locals x)
+effect_of ctx (GlobalGet x) = option_map (λ g. Moves [] (g.ty ∷ [])) (slice_get ctx.globals x)
+effect_of ctx (GlobalSet x) = option_and_then set_of (slice_get ctx.globals x)
+effect_of ctx (Load arg) = cond (has_memory ctx) (option_and_then (loading arg) (load_of arg.op)) None
+effect_of ctx (Store arg) = cond (has_memory ctx) (option_and_then (storing arg) (store_of arg.op)) None
+effect_of ctx MemorySize = if_true (has_memory ctx) (Moves [] (I32 ∷ []))
+effect_of ctx MemoryGrow = if_true (has_memory ctx) (Moves (I32 ∷ []) (I32 ∷ []))
+effect_of ctx (Const v) = if_true (is_constant v) (Moves [] (v.ty ∷ []))
+effect_of ctx (Numeric op) = option_map (λ shape. Moves shape.operands (shape.result ∷ [])) (numeric_shape op)
+effect_of ctx RefNull = Some (Moves [] (FuncRef ∷ []))
+effect_of ctx (RefFunc f) = if_true (is_declared ctx f) (Moves [] (FuncRef ∷ []))
+effect_of ctx (TableSet x) = if_true (has_table ctx x) (Moves (FuncRef ∷ I32 ∷ []) [])
+effect_of ctx other = None
+
+-- the operands are on top of the stack before, the results take their place on the stack after
+pub record Moved (operands results before after : List ValType) : Type 0 where
+  pub below : List ValType
+  pub had : before ≡ operands ++ below
+  pub left : after ≡ results ++ below
+
+-- one value is off (Core 1.0, 3.3.2.1)
+pub record Dropped (before after : List ValType) : Type 0 where
+  pub ty : ValType
+  pub had : before ≡ ty ∷ after
+
+-- one of two numbers stays (Core 1.0, 3.3.2.2)
+pub record Selected (before after : List ValType) : Type 0 where
+  pub ty : ValType
+  pub below : List ValType
+  pub number : IsTrue (is_number ty)
+  pub had : before ≡ I32 ∷ ty ∷ ty ∷ below
+  pub left : after ≡ ty ∷ below
+
+-- the operands are on top
+pub record Stands (operands before : List ValType) : Type 0 where
+  pub below : List ValType
+  pub had : before ≡ operands ++ below
+
+-- the labels take the same types, which are on top below the index (Core 1.0, 3.3.5.8)
+pub record Switched (labels : List (List ValType)) (targets : List ℕ) (before : List ValType) : Type 0 where
+  pub label : List ValType
+  pub each : All (λ l. slice_get labels l ≡ Some label) targets
+  pub stands : Stands (I32 ∷ label) before
+
+-- an effect leads from one stack to another; one that leads elsewhere, to any stack (Core 1.0, 3.3.5)
+abbrev pub Leads : Context → Option Effect → List ValType → List ValType → Type 0
+Leads ctx None before after = ⊥
+Leads ctx (Some (Moves operands results)) before after = Moved operands results before after
+Leads ctx (Some Drops) before after = Dropped before after
+Leads ctx (Some Selects) before after = Selected before after
+Leads ctx (Some (Leaves operands)) before after = Stands operands before
+Leads ctx (Some (Switches targets)) before after = Switched ctx.labels targets before
+
+-- the results of a block (Core 1.0, 2.4.5)
+abbrev pub results_of : Option ValType → List ValType
+results_of None = []
+results_of (Some t) = t ∷ []
+
+-- a block's result is a number
+abbrev pub is_block_type : Option ValType → Bool
+is_block_type None = true
+is_block_type (Some t) = is_number t
+
+-- the context of what stands in a block, whose label takes these types
+abbrev pub inside : List ValType → Context → Context
+inside label ctx = record ctx { labels = label ∷ ctx.labels }
+
+-- a block's body begins with no operands, and leaves the block's results (Core 1.0, 3.3.5.3 to 3.3.5.5);
+-- a missing `else` is an empty one. A sequence is typed through the stacks between its instructions
+-- (Core 1.0, 3.3.6)
+abbrev pub IsTyped : Context → Nest → List ValType → List ValType → Type 0
+IsTyped ctx Empty before after = before ≡ after
+IsTyped ctx (Plain i rest) before after = (middle : List ValType) × Leads ctx (effect_of ctx i) before middle × IsTyped ctx rest middle after
+IsTyped ctx (InBlock ty body rest) before after =
+    IsTrue (is_block_type ty)
+    × IsTyped (inside (results_of ty) ctx) body [] (results_of ty)
+    × IsTyped ctx rest (results_of ty ++ before) after
+IsTyped ctx (InLoop ty body rest) before after =
+    IsTrue (is_block_type ty)
+    × IsTyped (inside [] ctx) body [] (results_of ty)
+    × IsTyped ctx rest (results_of ty ++ before) after
+IsTyped ctx (InIf ty body rest) before after =
+    (below : List ValType) × (before ≡ I32 ∷ below)
+    × IsTrue (is_block_type ty)
+    × IsTyped (inside (results_of ty) ctx) body [] (results_of ty)
+    × ([] ≡ results_of ty)
+    × IsTyped ctx rest (results_of ty ++ below) after
+IsTyped ctx (InIfElse ty body other rest) before after =
+    (below : List ValType) × (before ≡ I32 ∷ below)
+    × IsTrue (is_block_type ty)
+    × IsTyped (inside (results_of ty) ctx) body [] (results_of ty)
+    × IsTyped (inside (results_of ty) ctx) other [] (results_of ty)
+    × IsTyped ctx rest (results_of ty ++ below) after

@@ -1,0 +1,9 @@
+// The two forms of the binary format.
+
+/// A form of the binary format: that of Core 1.0, or the one of replay binaries, which has a few
+/// forms of Core 2.0 besides.
+#[derive(Clone, Copy, PartialEq, Eq, Debug)]
+pub enum Form {
+    Core,
+    Replay,
+}

@@ -1,0 +1,103 @@
+// Instructions and bodies.
+
+ghost use Rattle.std.specs.Prelude.{◌≡◌, IfOk};
+
+use crate::lists::{Item, List};
+use crate::values::{Val, ValType};
+use no_memory::NoMemory;
+
+/// One instruction of a flat body (Core 1.0, 2.4). `Numeric` holds an opcode from 0x45 to 0xBF
+/// (Core 1.0, 5.4.5). The last three are forms of Core 2.0 that the replay form alone spells.
+#[derive(Debug, Drop)]
+pub enum Instr {
+    Unreachable,
+    Nop,
+    Block(Option<ValType>),
+    Loop(Option<ValType>),
+    If(Option<ValType>),
+    Else,
+    End,
+    Br(u32),
+    BrIf(u32),
+    BrTable(Labels, u32),
+    Return,
+    Call(u32),
+    CallIndirect(u32),
+    Drop,
+    Select,
+    LocalGet(u32),
+    LocalSet(u32),
+    LocalTee(u32),
+    GlobalGet(u32),
+    GlobalSet(u32),
+    Load(MemArg),
+    Store(MemArg),
+    MemorySize,
+    MemoryGrow,
+    Const(Val),
+    Numeric(u8),
+    RefNull,
+    RefFunc(u32),
+    TableSet(u32),
+}
+
+/// The operand of a load or store (Core 1.0, 2.4.4): its opcode from 0x28 to 0x3E, the base 2
+/// logarithm of its alignment in bytes, and its offset in bytes.
+#[derive(Clone, Copy, PartialEq, Eq, Debug)]
+pub struct MemArg {
+    pub op: u8,
+    pub align: u32,
+    pub offset: u32,
+}
+
+/// Label indices of a `br_table`.
+pub type Labels = List<u32>;
+
+/// The instructions of a function or a constant expression in order; the last is its own `End`
+/// (Core 1.0, 2.4.6).
+pub type Body = List<Instr>;
+
+impl Instr {
+    /// An equal instruction.
+    pub fn clone(&self) -> Result<Instr, NoMemory>
+        ensures { IfOk result (λ copy. copy ≡ self.now) }
+    {
+        Ok(match self {
+            Instr::Unreachable => Instr::Unreachable,
+            Instr::Nop => Instr::Nop,
+            Instr::Block(result) => Instr::Block(*result),
+            Instr::Loop(result) => Instr::Loop(*result),
+            Instr::If(result) => Instr::If(*result),
+            Instr::Else => Instr::Else,
+            Instr::End => Instr::End,
+            Instr::Br(label) => Instr::Br(*label),
+            Instr::BrIf(label) => Instr::BrIf(*label),
+            Instr::BrTable(labels, default) => Instr::BrTable(labels.clone()?, *default),
+            Instr::Return => Instr::Return,
+            Instr::Call(func) => Instr::Call(*func),
+            Instr::CallIndirect(ty) => Instr::CallIndirect(*ty),
+            Instr::Drop => Instr::Drop,
+            Instr::Select => Instr::Select,
+            Instr::LocalGet(local) => Instr::LocalGet(*local),
+            Instr::LocalSet(local) => Instr::LocalSet(*local),
+            Instr::LocalTee(local) => Instr::LocalTee(*local),
+            Instr::GlobalGet(global) => Instr::GlobalGet(*global),
+            Instr::GlobalSet(global) => Instr::GlobalSet(*global),
+            Instr::Load(access) => Instr::Load(*access),
+            Instr::Store(access) => Instr::Store(*access),
+            Instr::MemorySize => Instr::MemorySize,
+            Instr::MemoryGrow => Instr::MemoryGrow,
+            Instr::Const(value) => Instr::Const(*value),
+            Instr::Numeric(op) => Instr::Numeric(*op),
+            Instr::RefNull => Instr::RefNull,
+            Instr::RefFunc(func) => Instr::RefFunc(*func),
+            Instr::TableSet(table) => Instr::TableSet(*table),
+        })
+    }
+}
+
+impl Item for Instr {
+    fn copied(&self) -> Result<Instr, NoMemory> {
+        self.clone()
+    }
+}
