@@ -1,0 +1,14 @@
+-- The kit's counts are those of the definitions.
+use Rattle.std.proofs.Common.{sym, ◌∙◌, w64}
+use Rattle.wasm_numeric.proofs.Bitwise.{popcnt_is}
+use Rattle.wasm_numeric.proofs.Zeros.{clz_is, ctz_is}
+use Rattle.wasm_numeric.proofs.i64_ops.i64_unary.Goals as goal
+
+pub returns-in-Clz : goal.returns-in-Clz
+returns-in-Clz c = rw c.in-Clz.is (c.from.ensures ∙ sym (clz_is 64 c.args.a c.ranges.a.fits))
+
+pub returns-in-Ctz : goal.returns-in-Ctz
+returns-in-Ctz c = rw c.in-Ctz.is (c.from-in-Ctz.ensures ∙ sym (ctz_is w64 c.args.a c.ranges.a.fits))
+
+pub returns-in-Popcnt : goal.returns-in-Popcnt
+returns-in-Popcnt c = rw c.in-Popcnt.is (c.from-in-Popcnt.ensures ∙ sym (popcnt_is 64 c.args.a c.ranges.a.fits))

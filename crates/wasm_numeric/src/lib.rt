@@ -1,0 +1,125 @@
+//! The integer operations of WebAssembly (Core 1.0, 4.3.2), by the opcodes of the numeric
+//! instructions (5.4.5). No operation takes memory.
+#![tactic(auto)]
+
+ghost use Rattle.std.specs.Prelude.{◌≡◌, ℕ, ◌^◌, ◌<◌, ◌≤◌, IfOk};
+ghost use Rattle.wasm_numeric.specs.Integer.{Bits};
+ghost use Rattle.wasm_numeric.specs.Opcode.{Test, Compare, Unary, Binary, Convert, kind_of, width, width_of, result_of, test_of, compare_of, unary_of, binary_of, convert_of, answer_of};
+
+pub mod i32_ops;
+pub mod i64_ops;
+pub mod operation;
+
+use i32_ops::{i32_binary, i32_binary_op, i32_compare, i32_compare_op, i32_unary, i32_unary_op};
+use i64_ops::{i64_binary, i64_binary_op, i64_compare, i64_compare_op, i64_unary, i64_unary_op};
+use thiserror::Error;
+
+// The last opcode of each kind on `i32`; the same kind on `i64` comes later.
+const I32_GE_U: u8 = 0x4F;
+
+const I32_POPCNT: u8 = 0x69;
+
+const I32_ROTR: u8 = 0x78;
+
+// The conversions that change bits.
+const I32_WRAP_I64: u8 = 0xA7;
+
+const I64_EXTEND_I32_S: u8 = 0xAC;
+
+/// Why an integer operation has no value.
+#[derive(Clone, Copy, PartialEq, Eq, Debug, Error)]
+pub enum NumTrap {
+    #[error("integer divide by zero")]
+    DivideByZero,
+    #[error("integer overflow")]
+    Overflow,
+}
+
+/// 1 where `a` is 0, else 0 (Core 1.0, 4.3.2, "ieqz").
+#[inline]
+pub fn test(op: u8, a: u64) -> u32
+    requires kind { kind_of op ≡ Test }
+    requires operand_fits { a < 2 ^ width_of op }
+    ensures { result ≡ test_of op a }
+{
+    (a == 0) as u32
+}
+
+/// 1 where the comparison of `a` and `b` holds, else 0 (Core 1.0, 4.3.2, "ieq" to "ige_s").
+#[inline]
+pub fn compare(op: u8, a: u64, b: u64) -> u32
+    requires kind { kind_of op ≡ Compare }
+    requires left_fits { a < 2 ^ width_of op }
+    requires right_fits { b < 2 ^ width_of op }
+    ensures { result ≡ compare_of op a b }
+{
+    if op <= I32_GE_U {
+        i32_compare(i32_compare_op(op), a as u32, b as u32)
+    } else {
+        i64_compare(i64_compare_op(op), a, b)
+    }
+}
+
+/// What a unary operation computes of `a` (Core 1.0, 4.3.2, "iclz", "ictz", "ipopcnt").
+#[inline]
+pub fn unary(op: u8, a: u64) -> u64
+    requires kind { kind_of op ≡ Unary }
+    requires operand_fits { a < 2 ^ width_of op }
+    ensures value { result ≡ unary_of op a }
+    ensures fits { result < 2 ^ width (result_of op) }
+{
+    if op <= I32_POPCNT {
+        u64::from(i32_unary(i32_unary_op(op), a as u32))
+    } else {
+        i64_unary(i64_unary_op(op), a)
+    }
+}
+
+/// What a binary operation computes of `a` and `b`, or why it has no value (Core 1.0, 4.3.2,
+/// "iadd" to "irotr"): only divisions and remainders can have none.
+#[inline]
+pub fn binary(op: u8, a: u64, b: u64) -> Result<u64, NumTrap>
+    requires kind { kind_of op ≡ Binary }
+    requires left_fits { a < 2 ^ width_of op }
+    requires right_fits { b < 2 ^ width_of op }
+    ensures value { result ≡ answer_of (binary_of op a b) }
+    ensures fits { IfOk result (λ value. value < 2 ^ width (result_of op)) }
+{
+    if op <= I32_ROTR {
+        let value = i32_binary(i32_binary_op(op), a as u32, b as u32)?;
+        Ok(u64::from(value))
+    } else {
+        i64_binary(i64_binary_op(op), a, b)
+    }
+}
+
+/// What a conversion between integers makes of `a`; a reinterpretation keeps its bits (Core 1.0,
+/// 4.3.4).
+#[inline]
+pub fn convert(op: u8, a: u64) -> u64
+    requires kind { kind_of op ≡ Convert }
+    requires operand_fits { a < 2 ^ width_of op }
+    ensures value { result ≡ convert_of op a }
+    ensures fits { result < 2 ^ width (result_of op) }
+{
+    match op {
+        I32_WRAP_I64 => a % 0x1_0000_0000,
+        I64_EXTEND_I32_S => i64::from((a as u32).cast_signed()).cast_unsigned(),
+        // `i64.extend_i32_u` and the reinterpretations
+        _ => a,
+    }
+}
+
+/// What an operation gives fits the type of its result, where the first operand fits.
+pub fn values_fit()
+    ensures test { (op a : ℕ) → test_of op a ≤ 1 }
+    ensures compare { (op a b : ℕ) → compare_of op a b ≤ 1 }
+    ensures unary { (op a : ℕ) → kind_of op ≡ Unary → unary_of op a < 2 ^ width (result_of op) }
+    ensures binary { (op a b n : ℕ) → kind_of op ≡ Binary → a < 2 ^ width_of op → binary_of op a b ≡ Bits n
+        → n < 2 ^ width (result_of op) }
+    ensures convert { (op a : ℕ) → kind_of op ≡ Convert → a < 2 ^ width_of op
+        → convert_of op a < 2 ^ width (result_of op) }
+{}
+
+#[cfg(test)]
+mod tests;
