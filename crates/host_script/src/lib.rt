@@ -1,0 +1,10 @@
+//! Scripts that play a module's host: what it supplies, and what it does when the module calls it.
+#![tactic(auto)]
+
+pub mod scripts;
+
+pub use no_memory::NoMemory;
+pub use scripts::{
+    Action, Actions, Address, Answer, Answers, Given, LinkFault, Response, ResponseEnd, Responses,
+    Script, Supply,
+};

@@ -1,0 +1,6 @@
+//! How a recorded run ends.
+#![tactic(auto)]
+
+pub mod outcomes;
+
+pub use outcomes::Outcome;
