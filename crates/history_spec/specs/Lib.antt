@@ -1,0 +1,14 @@
+pub mod Store
+pub mod Code
+pub mod Numeric
+pub mod Configuration
+pub mod Instruction
+pub mod Settle
+pub mod Action
+pub mod Step
+pub mod Instantiation
+pub mod Run
+pub mod Budget
+pub mod Line
+pub mod Projection
+pub mod Replayed
