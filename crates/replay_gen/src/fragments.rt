@@ -1,0 +1,16 @@
+// What is generated for a replay module.
+
+use wasm_syntax::{FuncTypes, Funcs, Globals, Indices};
+
+/// What a replay module has beside the original's own parts: a body for each imported function, in
+/// order; helper functions, types and globals behind all of the original's; the index of the helper
+/// that is exported as `_start`; and the functions that bodies refer to by `ref.func`.
+#[derive(Debug, Drop)]
+pub struct Fragment {
+    pub bodies: Funcs,
+    pub helpers: Funcs,
+    pub entry: u32,
+    pub types: FuncTypes,
+    pub globals: Globals,
+    pub declared: Indices,
+}

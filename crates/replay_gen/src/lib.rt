@@ -1,0 +1,6 @@
+//! The generated part of a replay module.
+#![tactic(auto)]
+
+pub mod fragments;
+
+pub use fragments::Fragment;
