@@ -1,0 +1,7 @@
+pub mod Values
+pub mod Stores
+pub mod Heights
+pub mod Frames
+pub mod Effects
+pub mod Configurations
+pub mod Supplies
