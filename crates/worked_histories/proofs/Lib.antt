@@ -1,0 +1,3 @@
+mod GrowFailed
+mod Histories
+mod Safety

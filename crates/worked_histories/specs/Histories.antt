@@ -1,0 +1,312 @@
+-- The histories that the example modules have.
+use Rattle.std.specs.Prelude.{◌≡◌, List, [], ◌∷◌, Option, Some, None, codes}
+use Rattle.wasm_syntax.specs.declared.values.ValType.TheVariants.{I64, F32}
+use Rattle.host_script.specs.declared.scripts.Address.TheVariants.{Fixed}
+use Rattle.host_script.specs.declared.scripts.Action.TheVariants.{Write, SetTable, SetGlobal, Grow}
+use Rattle.host_script.specs.declared.scripts.LinkFault.TheVariants.{Missing, Mismatch}
+use Rattle.history_spec.specs.declared.entries.FaultKind.TheVariants.{NoResponse}
+use Rattle.worked_histories.specs.Build.{value, i32, script, layout}
+use Rattle.worked_histories.specs.Modules.{empty, two_answers, overwrite, grow_access, grow_failed, nested_call, nested_trap, table_entry, float_global, imported_offset, c_buffers, replay_two_answers}
+use Rattle.worked_histories.specs.Scripts.{idle, five_seven, five_seven_twice, does, does_nothing, host_traps, calls_back, gives_global, reads_hi}
+use Rattle.worked_histories.specs.Tells.{told, told_by, Lines, Fault, Spent, NoLink}
+
+-- two answers are added; four turns suffice
+abbrev pub TwoAnswers : Type 0
+TwoAnswers =
+    told two_answers (five_seven) 4 ≡ Lines 4
+    (codes "host-call 1"
+    ∷ codes "step 1 0 ->"
+    ∷ codes "import-call 0"
+    ∷ codes "import-return 0 i32:00000005"
+    ∷ codes "step 1 1 ->"
+    ∷ codes "import-call 0"
+    ∷ codes "import-return 0 i32:00000007"
+    ∷ codes "step 1 2 i32:00000005 i32:00000007 -> i32:0000000c"
+    ∷ codes "host-return 1 i32:0000000c"
+    ∷ codes "ended" ∷ [])
+
+-- three turns do not
+abbrev pub TwoAnswersSpent : Type 0
+TwoAnswersSpent =
+    told two_answers five_seven 3 ≡ Spent
+
+-- nothing is done
+abbrev pub Empty : Type 0
+Empty =
+    told empty (idle) 100 ≡ Lines 0
+    (codes "ended" ∷ [])
+
+-- an import that is never called
+abbrev pub NeverCalled : Type 0
+NeverCalled =
+    told two_answers (script (None ∷ []) []) 100 ≡ Lines 0
+    (codes "ended" ∷ [])
+
+-- the third call has no answer
+abbrev pub AnswersUsedUp : Type 0
+AnswersUsedUp =
+    told two_answers five_seven_twice 100 ≡ Fault 6 NoResponse
+
+-- a write of the host that overlaps what the module stored
+abbrev pub Overwrite : Type 0
+Overwrite =
+    told overwrite (does (Write (Fixed 8) (0xAA ∷ 0xBB ∷ 0xCC ∷ 0xDD ∷ []))) 100 ≡ Lines 8
+    (codes "host-call 1"
+    ∷ codes "step 1 0 ->"
+    ∷ codes "import-call 0"
+    ∷ codes "import-return 0"
+    ∷ codes "step 1 1 -> i32:00000008"
+    ∷ codes "step 1 2 -> i32:00000001"
+    ∷ codes "step 1 3 i32:00000008 i32:00000001 ->"
+    ∷ codes "step 1 4 -> i32:00000008"
+    ∷ codes "step 1 5 i32:00000008 -> i32:ddcc0001"
+    ∷ codes "host-return 1 i32:ddcc0001"
+    ∷ codes "ended" ∷ [])
+
+-- a write of the host that the module does not read
+abbrev pub UnreadWrite : Type 0
+UnreadWrite =
+    told overwrite (does (Write (Fixed 100) (0xFF ∷ []))) 100 ≡ Lines 8
+    (codes "host-call 1"
+    ∷ codes "step 1 0 ->"
+    ∷ codes "import-call 0"
+    ∷ codes "import-return 0"
+    ∷ codes "step 1 1 -> i32:00000008"
+    ∷ codes "step 1 2 -> i32:00000001"
+    ∷ codes "step 1 3 i32:00000008 i32:00000001 ->"
+    ∷ codes "step 1 4 -> i32:00000008"
+    ∷ codes "step 1 5 i32:00000008 -> i32:00000001"
+    ∷ codes "host-return 1 i32:00000001"
+    ∷ codes "ended" ∷ [])
+
+-- an access sees that the host grew the memory
+abbrev pub GrowAccess : Type 0
+GrowAccess =
+    told grow_access (does (Grow 1)) 100 ≡ Lines 6
+    (codes "host-call 1"
+    ∷ codes "step 1 0 ->"
+    ∷ codes "import-call 0"
+    ∷ codes "import-return 0"
+    ∷ codes "step 1 1 -> i32:00010000"
+    ∷ codes "step 1 2 -> i32:00000009"
+    ∷ codes "step 1 3 i32:00010000 i32:00000009 ->"
+    ∷ codes "host-return 1"
+    ∷ codes "ended" ∷ [])
+
+-- and traps where it did not
+abbrev pub GrowAccessTraps : Type 0
+GrowAccessTraps =
+    told grow_access (does_nothing) 100 ≡ Lines 5
+    (codes "host-call 1"
+    ∷ codes "step 1 0 ->"
+    ∷ codes "import-call 0"
+    ∷ codes "import-return 0"
+    ∷ codes "step 1 1 -> i32:00010000"
+    ∷ codes "step 1 2 -> i32:00000009"
+    ∷ codes "trap 1 3 memory i32:00010000 i32:00000009 found 1"
+    ∷ codes "trapped" ∷ [])
+
+-- a failed growth sees that the host grew the memory
+abbrev pub GrowFailed : Type 0
+GrowFailed =
+    told grow_failed (does (Grow 4)) 100 ≡ Lines 5
+    (codes "host-call 1"
+    ∷ codes "step 1 0 ->"
+    ∷ codes "import-call 0"
+    ∷ codes "import-return 0"
+    ∷ codes "step 1 1 -> i32:00000003"
+    ∷ codes "step 1 2 i32:00000003 -> i32:ffffffff found 8"
+    ∷ codes "host-return 1 i32:ffffffff"
+    ∷ codes "ended" ∷ [])
+
+-- the host calls the module inside the call of an import
+abbrev pub NestedCall : Type 0
+NestedCall =
+    told nested_call (calls_back) 100 ≡ Lines 8
+    (codes "host-call 1"
+    ∷ codes "step 1 0 ->"
+    ∷ codes "import-call 0"
+    ∷ codes "host-call 2"
+    ∷ codes "step 2 0 ->"
+    ∷ codes "import-call 0"
+    ∷ codes "import-return 0 i32:00000002"
+    ∷ codes "host-return 2 i32:00000002"
+    ∷ codes "import-return 0 i32:00000001"
+    ∷ codes "step 1 1 -> i32:00000000"
+    ∷ codes "step 1 2 i32:00000000 -> i32:00000004"
+    ∷ codes "step 1 3 i32:00000001 i32:00000004 -> i32:00000005"
+    ∷ codes "host-return 1 i32:00000005"
+    ∷ codes "ended" ∷ [])
+
+-- and that call traps
+abbrev pub NestedTrap : Type 0
+NestedTrap =
+    told nested_trap (calls_back) 100 ≡ Lines 4
+    (codes "host-call 1"
+    ∷ codes "step 1 0 ->"
+    ∷ codes "import-call 0"
+    ∷ codes "host-call 2"
+    ∷ codes "trap 2 0 unreachable"
+    ∷ codes "trapped" ∷ [])
+
+-- the host traps
+abbrev pub HostTrap : Type 0
+HostTrap =
+    told two_answers (host_traps) 100 ≡ Lines 2
+    (codes "host-call 1"
+    ∷ codes "step 1 0 ->"
+    ∷ codes "import-call 0"
+    ∷ codes "host-trap"
+    ∷ codes "host-trapped" ∷ [])
+
+-- an entry that the host set has another type
+abbrev pub TableEntry : Type 0
+TableEntry =
+    told table_entry (does (SetTable 0 (Some 3))) 100 ≡ Lines 5
+    (codes "host-call 1"
+    ∷ codes "step 1 0 ->"
+    ∷ codes "import-call 0"
+    ∷ codes "import-return 0"
+    ∷ codes "step 1 1 -> i32:00000000"
+    ∷ codes "trap 1 2 signature i32:00000000 found 3"
+    ∷ codes "trapped" ∷ [])
+
+-- or is empty
+abbrev pub TableEntryEmptied : Type 0
+TableEntryEmptied =
+    told table_entry (does (SetTable 0 None)) 100 ≡ Lines 5
+    (codes "host-call 1"
+    ∷ codes "step 1 0 ->"
+    ∷ codes "import-call 0"
+    ∷ codes "import-return 0"
+    ∷ codes "step 1 1 -> i32:00000000"
+    ∷ codes "trap 1 2 empty i32:00000000"
+    ∷ codes "trapped" ∷ [])
+
+-- or holds the import
+abbrev pub TableEntryImport : Type 0
+TableEntryImport =
+    told table_entry (does (SetTable 0 (Some 0))) 100 ≡ Lines 5
+    (codes "host-call 1"
+    ∷ codes "step 1 0 ->"
+    ∷ codes "import-call 0"
+    ∷ codes "import-return 0"
+    ∷ codes "step 1 1 -> i32:00000000"
+    ∷ codes "trap 1 2 signature i32:00000000 found 0"
+    ∷ codes "trapped" ∷ [])
+
+-- the bits of a NaN are kept
+abbrev pub FloatGlobal : Type 0
+FloatGlobal =
+    told float_global (does (SetGlobal 0 (value F32 2141192193))) 100 ≡ Lines 4
+    (codes "host-call 1"
+    ∷ codes "step 1 0 ->"
+    ∷ codes "import-call 0"
+    ∷ codes "import-return 0"
+    ∷ codes "step 1 1 -> f32:7fa00001"
+    ∷ codes "host-return 1 f32:7fa00001"
+    ∷ codes "ended" ∷ [])
+
+-- an offset is an imported global
+abbrev pub ImportedOffset : Type 0
+ImportedOffset =
+    told imported_offset (gives_global (Some (i32 16))) 100 ≡ Lines 3
+    (codes "host-call 0"
+    ∷ codes "step 0 0 -> i32:00000010"
+    ∷ codes "step 0 1 i32:00000010 -> i32:00000041"
+    ∷ codes "host-return 0 i32:00000041"
+    ∷ codes "ended" ∷ [])
+
+-- that is not supplied
+abbrev pub ImportedOffsetMissing : Type 0
+ImportedOffsetMissing =
+    told imported_offset (gives_global None) 100 ≡ NoLink (Missing 0)
+
+-- or has another type
+abbrev pub ImportedOffsetMismatch : Type 0
+ImportedOffsetMismatch =
+    told imported_offset (gives_global (Some (value I64 16))) 100 ≡ NoLink (Mismatch 0)
+
+-- a C stack with buffers; 29 turns suffice
+abbrev pub CBuffers : Type 0
+CBuffers =
+    told c_buffers (reads_hi) 29 ≡ Lines 29
+    (codes "host-call 1"
+    ∷ codes "step 1 0 -> i32:00010400"
+    ∷ codes "step 1 1 -> i32:00000010"
+    ∷ codes "step 1 2 i32:00010400 i32:00000010 -> i32:000103f0"
+    ∷ codes "step 1 3 i32:000103f0 -> i32:000103f0"
+    ∷ codes "step 1 4 i32:000103f0 ->"
+    ∷ codes "step 1 5 -> i32:000103f0"
+    ∷ codes "step 1 6 -> i32:00000004"
+    ∷ codes "step 1 7 -> i32:000103f0"
+    ∷ codes "step 1 8 -> i32:00000008"
+    ∷ codes "step 1 9 i32:000103f0 i32:00000008 -> i32:000103f8"
+    ∷ codes "step 1 10 i32:000103f0 i32:00000004 i32:000103f8 ->"
+    ∷ codes "import-call 0 i32:000103f0 i32:00000004 i32:000103f8"
+    ∷ codes "import-return 0 i32:00000000"
+    ∷ codes "step 1 11 i32:00000000 ->"
+    ∷ codes "step 1 12 -> i32:000103f0"
+    ∷ codes "step 1 13 i32:000103f0 -> i32:000a6968"
+    ∷ codes "step 1 14 -> i32:000103f0"
+    ∷ codes "step 1 15 i32:000103f0 -> i32:00000003"
+    ∷ codes "step 1 16 i32:000a6968 i32:00000003 -> i32:000a696b"
+    ∷ codes "step 1 17 -> i32:00000001"
+    ∷ codes "step 1 18 i32:000a696b i32:00000001 -> found 2"
+    ∷ codes "enter 2"
+    ∷ codes "step 2 0 -> i32:000a696b"
+    ∷ codes "step 2 1 -> i32:00000001"
+    ∷ codes "step 2 2 i32:000a696b i32:00000001 -> i32:0014d2d6"
+    ∷ codes "exit 2 i32:0014d2d6"
+    ∷ codes "step 1 19 -> i32:000103f0"
+    ∷ codes "step 1 20 -> i32:00000010"
+    ∷ codes "step 1 21 i32:000103f0 i32:00000010 -> i32:00010400"
+    ∷ codes "step 1 22 i32:00010400 ->"
+    ∷ codes "host-return 1 i32:0014d2d6"
+    ∷ codes "ended" ∷ [])
+
+-- 28 do not
+abbrev pub CBuffersSpent : Type 0
+CBuffersSpent =
+    told c_buffers reads_hi 28 ≡ Spent
+
+-- the replay module of two answers shows their history
+abbrev pub ReplayTwoAnswers : Type 0
+ReplayTwoAnswers =
+    told_by replay_two_answers (layout 1 1) 2 21 ≡ Lines 19
+    (codes "host-call 1"
+    ∷ codes "step 1 0 ->"
+    ∷ codes "import-call 0"
+    ∷ codes "import-return 0 i32:00000005"
+    ∷ codes "step 1 1 ->"
+    ∷ codes "import-call 0"
+    ∷ codes "import-return 0 i32:00000007"
+    ∷ codes "step 1 2 i32:00000005 i32:00000007 -> i32:0000000c"
+    ∷ codes "host-return 1 i32:0000000c"
+    ∷ codes "ended" ∷ [])
+
+-- all of them
+pub record WorkedHistories : Type 0 where
+  pub two_answers : TwoAnswers
+  pub two_answers_spent : TwoAnswersSpent
+  pub empty : Empty
+  pub never_called : NeverCalled
+  pub answers_used_up : AnswersUsedUp
+  pub overwrite : Overwrite
+  pub unread_write : UnreadWrite
+  pub grow_access : GrowAccess
+  pub grow_access_traps : GrowAccessTraps
+  pub grow_failed : GrowFailed
+  pub nested_call : NestedCall
+  pub nested_trap : NestedTrap
+  pub host_trap : HostTrap
+  pub table_entry : TableEntry
+  pub table_entry_emptied : TableEntryEmptied
+  pub table_entry_import : TableEntryImport
+  pub float_global : FloatGlobal
+  pub imported_offset : ImportedOffset
+  pub imported_offset_missing : ImportedOffsetMissing
+  pub imported_offset_mismatch : ImportedOffsetMismatch
+  pub c_buffers : CBuffers
+  pub c_buffers_spent : CBuffersSpent
+  pub replay_two_answers : ReplayTwoAnswers

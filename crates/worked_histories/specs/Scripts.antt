@@ -1,0 +1,45 @@
+-- The scripts of the examples, with their names resolved.
+use Rattle.std.specs.Prelude.{ℕ, List, [], ◌∷◌, Option, Some, None}
+use Rattle.wasm_syntax.specs.declared.values.Val.{Val}
+use Rattle.host_script.specs.declared.scripts.Script.{Script}
+use Rattle.host_script.specs.declared.scripts.Address.TheVariants.{Fixed, Arg}
+use Rattle.host_script.specs.declared.scripts.Action.{Action}
+use Rattle.host_script.specs.declared.scripts.Action.TheVariants.{Write, Copy, SetTable, SetGlobal, Grow, Call, CallTable}
+use Rattle.worked_histories.specs.Build.{value, i32, returns, traps, calls, script, one_call}
+
+-- nothing is supplied, answered or done
+abbrev pub idle : Script
+idle = script [] []
+
+-- the answers 5 and 7, to one call of function 1, and to two
+abbrev pub five_seven : Script
+five_seven = one_call 1 (returns [] (Some (i32 5)) ∷ returns [] (Some (i32 7)) ∷ [])
+
+abbrev pub five_seven_twice : Script
+five_seven_twice = record five_seven { main = Call 1 [] ∷ Call 1 [] ∷ [] }
+
+-- one call of function 1, whose one call of the import is answered by one action, by none, or by a trap
+abbrev pub does : Action → Script
+does action = one_call 1 (returns (action ∷ []) None ∷ [])
+
+abbrev pub does_nothing : Script
+does_nothing = one_call 1 (returns [] None ∷ [])
+
+abbrev pub host_traps : Script
+host_traps = one_call 1 (traps ∷ [])
+
+-- the import answers by a call of function 2 and a write, then by a value
+abbrev pub calls_back : Script
+calls_back =
+    one_call 1 (returns (Call 2 [] ∷ Write (Fixed 0) (4 ∷ []) ∷ []) (Some (i32 1)) ∷ returns [] (Some (i32 2)) ∷ [])
+
+-- an imported global with a value, or with none
+abbrev pub gives_global : Option Val → Script
+gives_global given =
+    record { memory = None; table = None; globals = given ∷ []; imports = []; main = Call 0 [] ∷ [] }
+
+-- a file is read into the buffer that the first argument points to, its length to where the third does
+abbrev pub reads_hi : Script
+reads_hi =
+    one_call 1
+    (returns (Write (Arg 0 0) (0x68 ∷ 0x69 ∷ 0x0A ∷ 0 ∷ []) ∷ Write (Arg 2 0) (3 ∷ 0 ∷ 0 ∷ 0 ∷ []) ∷ []) (Some (i32 0)) ∷ [])
