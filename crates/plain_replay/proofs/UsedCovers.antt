@@ -1,0 +1,77 @@
+-- The answers and calls of a plain script's run cover it.
+use Rattle.std.proofs.Common.{◌≡◌, ℕ, ◌+◌, ◌<◌, ◌≤◌, ◌⊎◌, inl, inr, List, [], ◌∷◌, ◌++◌, length, map, replicate, Some, Result, Ok, slice_get, slice_index, IfSome, refl, sym, ap, ◌∙◌, subst, arith}
+use Rattle.std.proofs.lemmas.Bool.{cases_lt}
+use Rattle.std.proofs.lemmas.List.{map-append}
+use Rattle.std.proofs.lemmas.List.Elements.{recursion_from_All}
+use Rattle.std.proofs.lemmas.Option.{none-some}
+use Rattle.wasm_syntax.specs.declared.values.Val.{Val}
+use Rattle.wasm_syntax.specs.declared.modules.Module.{Module}
+use Rattle.wasm_syntax.specs.Index.{imported_funcs}
+use Rattle.host_script.specs.declared.scripts.Script.{Script}
+use Rattle.host_script.specs.declared.scripts.Action.{Action}
+use Rattle.host_script.specs.declared.scripts.LinkFault.{LinkFault}
+use Rattle.trace_model.specs.declared.outcomes.Outcome.{Outcome}
+use Rattle.history_spec.specs.declared.entries.Entry.{Entry}
+use Rattle.history_spec.specs.declared.entries.Entry.TheVariants.{HostCall}
+use Rattle.history_spec.specs.Code.{code_of}
+use Rattle.history_spec.specs.Configuration.{InMain}
+use Rattle.history_spec.specs.Settle.{settle}
+use Rattle.history_spec.specs.Step.{Stepped, Finished, come_to_stand, response_to}
+use Rattle.history_spec.specs.Run.{run_from, all_one, program_of, opening}
+use Rattle.plain_replay.specs.Forms.{IsIntegerCode, IsPlain, IsPlainAnswer, IsPlainCall}
+use Rattle.plain_replay.specs.Covers.{Covers, Uses, answers_in, calls_in, host_calls, returning, calling}
+use Rattle.plain_replay.proofs.Openings.{empty_store, opens, zeros_count}
+use Rattle.plain_replay.proofs.Plain.{made_calls, no_count}
+use Rattle.plain_replay.proofs.Used.{used_by}
+
+calls_counted : (history : List Entry) → host_calls history ≡ length (calls_in history)
+calls_counted [] = refl
+calls_counted (HostCall func args ∷ rest) = omega (arith, calls_counted rest)
+calls_counted (entry ∷ rest) = calls_counted rest
+
+pub covers_used : (m : Module) (script : Script) (begun : Stepped) (k : ℕ) (outcome : Outcome) (table : List (List Val)) (calls : List ℕ)
+    → IsIntegerCode m → IsPlain m script → opening m script ≡ Ok begun
+    → (run_from (program_of m script) all_one begun k).at ≡ Finished outcome
+    → Uses (run_from (program_of m script) all_one begun k).history table calls
+    → Covers script (run_from (program_of m script) all_one begun k).history table calls
+covers_used m script begun k outcome table calls code plain opened ended uses =
+    subst (λ s. (run_from (program_of m script) all_one s k).at ≡ Finished outcome → Uses (run_from (program_of m script) all_one s k).history table calls → Covers script (run_from (program_of m script) all_one s k).history table calls)
+    begins from_start ended uses
+  where
+    own : (calls : List ℕ) × (script.main ≡ map calling calls)
+    own = made_calls m script.main (recursion_from_All (IsPlainCall m) script.main plain.main)
+
+    first : List Action → Stepped
+    first actions = come_to_stand empty_store (replicate (imported_funcs m) 0) (settle (InMain actions ∷ []))
+
+    same_ok : (opening : Result Stepped LinkFault) (s t : Stepped) → opening ≡ Ok s → opening ≡ Ok t → s ≡ t
+    same_ok opening s t e f = cc
+
+    begins : first (map calling own.0) ≡ begun
+    begins = ap first (sym own.1) ∙ same_ok (opening m script) (first script.main) begun (opens m code script plain.globals) opened
+
+    from_start : (run_from (program_of m script) all_one (first (map calling own.0)) k).at ≡ Finished outcome
+        → Uses (run_from (program_of m script) all_one (first (map calling own.0)) k).history table calls
+        → Covers script (run_from (program_of m script) all_one (first (map calling own.0)) k).history table calls
+    from_start ended uses =
+        let history = (run_from (program_of m script) all_one (first (map calling own.0)) k).history in
+        let used = used_by (code_of m) script.imports (recursion_from_All (λ answer. IfSome answer IsPlainAnswer) script.imports plain.answers) k empty_store (replicate (imported_funcs m) 0) own.0 (zeros_count (imported_funcs m)) outcome ended in
+        record {
+          given = λ import number value found. given history used.0 used.2 import number value (ap (λ l. slice_get l number) (sym (uses.answers import)) ∙ found) (cases_lt import (imported_funcs m));
+          answered = λ import. omega (arith, used.1 import, ap (λ (l : List Val). length l) (uses.answers import));
+          number = uses.number;
+          rest = map calling used.3;
+          made = own.1 ∙ ap (map calling) used.4 ∙ map-append calling (calls_in history) used.3 ∙ ap (λ l. map calling l ++ map calling used.3) (sym uses.made);
+          called = omega (arith, calls_counted history, ap (λ (l : List ℕ). length l) uses.made);
+        }
+      where
+        given : (history : List Entry)
+            → ((i j : ℕ) (value : Val) → i < length {A = ℕ} (replicate (imported_funcs m) 0) → slice_get (answers_in i history) j ≡ Some value → response_to script.imports i (slice_index (replicate (imported_funcs m) 0) i + j) ≡ Some (returning value))
+            → ((i : ℕ) → length {A = ℕ} (replicate (imported_funcs m) 0) ≤ i → answers_in i history ≡ [])
+            → (import number : ℕ) (value : Val) → slice_get (answers_in import history) number ≡ Some value → (import < imported_funcs m) ⊎ (imported_funcs m ≤ import)
+            → response_to script.imports import number ≡ Some (returning value)
+        given history found past import number value here (inl within) =
+            let same : slice_index (replicate (imported_funcs m) 0) import + number ≡ number = omega (arith, no_count (imported_funcs m) import) in
+            ap (response_to script.imports import) (sym same) ∙ found import number value (omega (arith, zeros_count (imported_funcs m), within)) here
+        given history found past import number value here (inr behind) =
+            absurd (none-some value (ap (λ l. slice_get l number) (sym (past import (omega (arith, zeros_count (imported_funcs m), behind)))) ∙ here))
