@@ -1,0 +1,90 @@
+-- Causes of faults, from one file of several and from a part of a call.
+use Rattle.std.proofs.Common.{◌≡◌, ℕ, zero, suc, ◌+◌, ◌<◌, ◌≤◌, Bool, true, false, cond, List, [], ◌∷◌, ◌++◌, length, get_or, map, take, drop, find, zip, nat_lt, refl, sym, ◌∙◌, ap, subst, add-one, arith, Option, Some, None, String, string_bytes}
+use Rattle.std.specs.List.{Contains}
+use Rattle.std.specs.Option.{option_or, ForSome}
+use Rattle.std.proofs.lemmas.List.{map-append}
+use Rattle.std.proofs.lemmas.List.Elements.{Contains-append_left, Contains-append_right}
+use Rattle.std.proofs.lemmas.List.Folds.{find-append}
+use Rattle.r3_outside.specs.Contents.{FileMap, file_bytes}
+use Rattle.r3_core.specs.Words.{texts}
+use Rattle.r3_core.specs.Causes.{first_longer, IsLoadCause}
+use Rattle.r3_core.specs.declared.faults.Fault.{Fault}
+use Rattle.r3_core.specs.declared.faults.Fault.TheVariants.{Usage, Read, TooLong, NotBuilt, Spent, Write, Memory}
+
+module _ {Y : Type 0} where
+  -- the files before one, that one, and those behind it
+  pub files-at : (names : List (String Y)) (limits : List ℕ) (i : ℕ) (d : String Y) (e : ℕ) → i < length names → length names ≡ length limits → take i (zip (texts names) limits) ++ ((string_bytes (get_or names i d), get_or limits i e) ∷ drop (suc i) (zip (texts names) limits)) ≡ zip (texts names) limits
+  files-at [] limits i d e h same = absurd (omega arith)
+  files-at (n ∷ ns) [] i d e h same = absurd (omega arith)
+  files-at (n ∷ ns) (l ∷ ls) zero d e h same = refl
+  files-at (n ∷ ns) (l ∷ ls) (suc i) d e h same =
+      ap (λ files. (string_bytes n, l) ∷ files) (files-at ns ls i d e (omega arith) (omega arith))
+
+  -- one more file
+  pub files-more : (names : List (String Y)) (limits : List ℕ) (i : ℕ) (d : String Y) (e : ℕ) → i < length names → length names ≡ length limits → take (suc i) (zip (texts names) limits) ≡ take i (zip (texts names) limits) ++ (string_bytes (get_or names i d), get_or limits i e) ∷ []
+  files-more [] limits i d e h same = absurd (omega arith)
+  files-more (n ∷ ns) [] i d e h same = absurd (omega arith)
+  files-more (n ∷ ns) (l ∷ ls) zero d e h same = refl
+  files-more (n ∷ ns) (l ∷ ls) (suc i) d e h same =
+      ap (λ files. (string_bytes n, l) ∷ files) (files-more ns ls i d e (omega arith) (omega arith))
+
+module _ {X : Type 0} (p : X → Bool) where
+  -- still none
+  pub find-more : (xs : List X) (x : X) → find p xs ≡ None → find p (x ∷ []) ≡ None → find p (xs ++ x ∷ []) ≡ None
+  find-more xs x none last =
+      find-append p xs (x ∷ []) ∙ ap (λ found. option_or found (find p (x ∷ []))) none ∙ last
+
+  first-of : (x y : X) (other : Option X) (b : Bool) → cond b (Some x) None ≡ Some y → cond b (Some x) other ≡ Some y
+  first-of x y other true e = e
+  first-of x y other false e = cc e
+
+  -- the first one behind others that don't pass
+  pub find-behind : (xs : List X) (x : X) (rest : List X) (y : X) → find p xs ≡ None → find p (x ∷ []) ≡ Some y → find p (xs ++ x ∷ rest) ≡ Some y
+  find-behind xs x rest y none here =
+      find-append p xs (x ∷ rest) ∙ ap (λ found. option_or found (find p (x ∷ rest))) none ∙ first-of x y (find p rest) (p x) here
+
+-- the cause of one file's fault, among files before it that are not too long
+pub IsLoadCause-among : (told : Option FileMap) (faults_before faults_between faults_now taken_before taken_between taken_now : ℕ) (before : List (List ℕ × ℕ)) (file : List ℕ × ℕ) (behind : List (List ℕ × ℕ)) → faults_before ≤ faults_between → taken_before ≤ taken_between → ForSome told (λ told. first_longer told before ≡ None) → (fault : Fault) → IsLoadCause (record { told = told; faults_before = faults_between; faults_now = faults_now; taken_before = taken_between; taken_now = taken_now }) (file ∷ []) fault → IsLoadCause (record { told = told; faults_before = faults_before; faults_now = faults_now; taken_before = taken_before; taken_now = taken_now }) (before ++ file ∷ behind) fault
+IsLoadCause-among told fb fm fn tb tm tn before file behind f t within Usage c = c
+IsLoadCause-among told fb fm fn tb tm tn before file behind f t within (Read name) c = (
+  subst (λ names. Contains names name) (sym (map-append (λ file. file.0) before (file ∷ behind)))
+      (Contains-append_right (map (λ file. file.0) before) _ name (Contains-append_left (file.0 ∷ []) (map (λ file. file.0) behind) name c.0)),
+  omega (arith, c.1),
+)
+IsLoadCause-among told fb fm fn tb tm tn before file behind f t within (TooLong name limit) c = (
+  Contains-append_right before _ (name, limit) (Contains-append_left (file ∷ []) behind (name, limit) c.0),
+  omega (arith, c.1),
+  λ files e. find-behind _ before file behind (name, limit) (within files e) (c.2 files e),
+)
+IsLoadCause-among told fb fm fn tb tm tn before file behind f t within NotBuilt c = c
+IsLoadCause-among told fb fm fn tb tm tn before file behind f t within (Spent turns) c = c
+IsLoadCause-among told fb fm fn tb tm tn before file behind f t within Write c = c
+IsLoadCause-among told fb fm fn tb tm tn before file behind f t within Memory c = c
+
+module _ {Y : Type 0} (names : List (String Y)) (limits : List ℕ) where
+  -- the cause of a fault of the file at `i`, where those before it are not too long
+  pub IsLoadCause-at : (i : ℕ) (d : String Y) (told told' : Option FileMap) (fb fm fn tb tm tn : ℕ) (name : List ℕ) → i < length names → length names ≡ length limits → name ≡ string_bytes (get_or names i d) → told' ≡ told → fb ≤ fm → tb ≤ tm → ForSome told (λ told. first_longer told (take i (zip (texts names) limits)) ≡ None) → (fault : Fault) → IsLoadCause (record { told = told'; faults_before = fm; faults_now = fn; taken_before = tm; taken_now = tn }) ((name, get_or limits i 0) ∷ []) fault → IsLoadCause (record { told = told; faults_before = fb; faults_now = fn; taken_before = tb; taken_now = tn }) (zip (texts names) limits) fault
+  IsLoadCause-at i d told told' fb fm fn tb tm tn name h same is_name same_told f t within fault cause =
+      let here : IsLoadCause (record { told = told; faults_before = fm; faults_now = fn; taken_before = tm; taken_now = tn }) ((string_bytes (get_or names i d), get_or limits i 0) ∷ []) fault =
+      subst (λ name. IsLoadCause (record { told = told; faults_before = fm; faults_now = fn; taken_before = tm; taken_now = tn }) ((name, get_or limits i 0) ∷ []) fault) is_name
+      (subst (λ told. IsLoadCause (record { told = told; faults_before = fm; faults_now = fn; taken_before = tm; taken_now = tn }) ((name, get_or limits i 0) ∷ []) fault) same_told cause)
+      in
+      subst (λ files. IsLoadCause (record { told = told; faults_before = fb; faults_now = fn; taken_before = tb; taken_now = tn }) files fault) (files-at names limits i d 0 h same)
+      (IsLoadCause-among told fb fm fn tb tm tn _ _ _ f t within fault here)
+
+  -- no file up to the one at `i` is too long
+  pub first_longer-more : (told : FileMap) (i : ℕ) (d : String Y) (name : List ℕ) → i < length names → length names ≡ length limits → name ≡ string_bytes (get_or names i d) → first_longer told (take i (zip (texts names) limits)) ≡ None → first_longer told ((name, get_or limits i 0) ∷ []) ≡ None → first_longer told (take (i + 1) (zip (texts names) limits)) ≡ None
+  first_longer-more told i d name h same is_name before here =
+      let here' = subst (λ name. first_longer told ((name, get_or limits i 0) ∷ []) ≡ None) is_name here in
+      ap (λ n. first_longer told (take n (zip (texts names) limits))) (add-one i)
+      ∙ ap (first_longer told) (files-more names limits i d 0 h same)
+      ∙ find-more (λ file. nat_lt file.1 (length (file_bytes told file.0))) (take i (zip (texts names) limits)) (string_bytes (get_or names i d), get_or limits i 0) before here'
+
+-- all files
+pub files-all : {Y : Type 0} (names : List (String Y)) (limits : List ℕ) (i : ℕ) → length names ≤ i → take i (zip (texts names) limits) ≡ zip (texts names) limits
+files-all [] limits zero h = refl
+files-all [] limits (suc i) h = refl
+files-all (n ∷ ns) [] zero h = refl
+files-all (n ∷ ns) [] (suc i) h = refl
+files-all (n ∷ ns) (l ∷ ls) zero h = absurd (omega arith)
+files-all (n ∷ ns) (l ∷ ls) (suc i) h = ap (λ files. (string_bytes n, l) ∷ files) (files-all ns ls i (omega arith))

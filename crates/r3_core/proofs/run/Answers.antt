@@ -1,0 +1,38 @@
+use Rattle.std.proofs.Common.{◌≡◌, subst, true, IsSome}
+use Rattle.r3_core.specs.Words.{is_built}
+use Rattle.r3_core.specs.Causes.{first_longer}
+use Rattle.r3_core.proofs.ResultLemmas.{IfErr-from, IsErrAnd-from}
+use Rattle.r3_core.proofs.WordLemmas.{Says-same, files_of-Says, IsCause-printing}
+use Rattle.r3_core.proofs.run.Goals as goal
+
+pub returns-in_err-printed-clause-longer : goal.returns-in_err-printed-clause-longer
+returns-in_err-printed-clause-longer g c = λ built told e longer.
+    let says = c.in_ok-call.ensures.listed in
+    let same : is_built c.in_ok-call.call.command ≡ true =
+    subst (λ command. is_built command ≡ true) (Says-same _ _ _ _ says _ _ _ built.3) built.4
+    in
+    let longer' = subst (λ files. IsSome (first_longer told files)) (files_of-Says _ _ _ _ says) longer in
+    IsErrAnd-from _ _ _ c.from_residual-in_err-printed.ensures.1 (c.in_err-printed.ensures.longer same told e longer')
+
+pub returns-in_err-printed-clause-cause : goal.returns-in_err-printed-clause-cause
+returns-in_err-printed-clause-cause g c =
+    IfErr-from _ c.in_err-printed.field-0.0 _ c.from_residual-in_err-printed.ensures.1
+    (IsCause-printing _ _ _ _ c.in_ok-call.ensures.listed _ _ _ c.in_err-printed.field-0.0 c.in_err-printed.ensures.cause)
+
+pub returns-in_err-put_all-clause-longer : goal.returns-in_err-put_all-clause-longer
+returns-in_err-put_all-clause-longer g c = λ built told e longer.
+    let says = c.in_ok-call.ensures.listed in
+    let same : is_built c.in_ok-call.call.command ≡ true =
+    subst (λ command. is_built command ≡ true) (Says-same _ _ _ _ says _ _ _ built.3) built.4
+    in
+    let longer' = subst (λ files. IsSome (first_longer told files)) (files_of-Says _ _ _ _ says) longer in
+    absurd (c.in_ok-printed.ensures.longer same told e longer')
+
+pub returns-clause-longer : goal.returns-clause-longer
+returns-clause-longer g c = λ built told e longer.
+    let says = c.in_ok-call.ensures.listed in
+    let same : is_built c.in_ok-call.call.command ≡ true =
+    subst (λ command. is_built command ≡ true) (Says-same _ _ _ _ says _ _ _ built.3) built.4
+    in
+    let longer' = subst (λ files. IsSome (first_longer told files)) (files_of-Says _ _ _ _ says) longer in
+    c.in_ok-printed.ensures.longer same told e longer'

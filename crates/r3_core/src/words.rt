@@ -1,0 +1,152 @@
+// What the words of a call say.
+
+ghost use Rattle.std.specs.Prelude.{◌≡◌, ℕ, Option, IfOk, IfErr, MatchOption};
+ghost use Rattle.r3_core.specs.Words.{form, texts, command_named, is_built, IsNumber, IsBehind, IsListed, Says};
+
+use crate::faults::Fault;
+use itoa::Buffer;
+
+/// A command of the program.
+#[derive(Clone, Copy, PartialEq, Eq, Debug)]
+pub(crate) enum Command {
+    Make,
+    Instrument,
+    Record,
+    Reduce,
+    Build,
+    History,
+    Replay,
+    Show,
+    Load,
+}
+
+/// The most bytes of each kind of file.
+const MODULE: u64 = 8_388_608;
+
+const SCRIPT: u64 = 8_388_608;
+
+const HOOKED: u64 = 134_217_728;
+
+const TRACE: u64 = 268_435_456;
+
+const BINARY: u64 = 536_870_912;
+
+impl Command {
+    fn named(name: &str) -> Option<Command>
+        ensures { result ≡ command_named name.now }
+    {
+        match name {
+            "make" => Some(Command::Make),
+            "instrument" => Some(Command::Instrument),
+            "record" => Some(Command::Record),
+            "reduce" => Some(Command::Reduce),
+            "build" => Some(Command::Build),
+            "history" => Some(Command::History),
+            "replay" => Some(Command::Replay),
+            "show" => Some(Command::Show),
+            "load" => Some(Command::Load),
+            _ => None,
+        }
+    }
+
+    /// The most bytes of each file that the command names, in order.
+    pub(crate) fn limits(self) -> &'static [u64]
+        ensures { result.now ≡ (form self).limits }
+    {
+        match self {
+            Command::Make | Command::History => &[MODULE, SCRIPT],
+            Command::Instrument => &[MODULE],
+            Command::Record => &[HOOKED, SCRIPT],
+            Command::Reduce | Command::Show => &[TRACE],
+            Command::Build => &[MODULE, SCRIPT, TRACE],
+            Command::Replay => &[BINARY],
+            Command::Load => &[],
+        }
+    }
+
+    /// The greatest number that the command takes behind its files, where it takes one.
+    fn most(self) -> Option<u64>
+        ensures { result ≡ (form self).most }
+    {
+        match self {
+            Command::Make | Command::History => Some(2_000_000),
+            Command::Record | Command::Replay => Some(20_000_000),
+            Command::Load => Some(60_000),
+            Command::Instrument | Command::Reduce | Command::Build | Command::Show => None,
+        }
+    }
+
+    /// Whether this program does the command.
+    pub(crate) fn is_built(self) -> bool
+        ensures { result ≡ is_built self }
+    {
+        self == Command::Make
+    }
+}
+
+/// A call of the program: a command, the names of its files in order, and its number.
+#[derive(Drop)]
+pub(crate) struct Call<'a> {
+    pub(crate) command: Command,
+    pub(crate) names: &'a [String],
+    pub(crate) number: Option<u64>,
+}
+
+/// Reads the words behind the program's name. The only fault is `Usage`. Takes no memory.
+pub(crate) fn call_of(words: &[String]) -> Result<Call<'_>, Fault>
+    ensures listed { IfOk result
+        (λ call. Says (texts words.now) call.command (texts call.names.now) call.number) }
+    ensures usage { IfErr result (λ fault. fault ≡ Fault.Usage) }
+    ensures unlisted { IfErr result (λ _. ¬ (IsListed (texts words.now))) }
+{
+    let Some((name, arguments)) = words.split_first() else {
+        return Err(Fault::Usage);
+    };
+    let Some(command) = Command::named(name.as_str()) else {
+        return Err(Fault::Usage);
+    };
+    let count = command.limits().len();
+    if arguments.len() < count {
+        return Err(Fault::Usage);
+    }
+    let (names, behind) = arguments.split_at(count);
+    let number = number_behind(behind, command.most())?;
+    Ok(Call {
+        command,
+        names,
+        number,
+    })
+}
+
+/// Reads the words behind the files: one number where the command takes one, else none.
+fn number_behind(words: &[String], most: Option<u64>) -> Result<Option<u64>, Fault>
+    ensures fits { IfOk result (λ number. IsBehind most (texts words.now) number) }
+    ensures usage { IfErr result (λ fault. fault ≡ Fault.Usage) }
+    ensures unfit { IfErr result
+        (λ _. (number : Option ℕ) → ¬ (IsBehind most (texts words.now) number)) }
+{
+    match (words, most) {
+        ([], None) => Ok(None),
+        ([word], Some(most)) => match number_of(word.as_str(), most) {
+            Some(number) => Ok(Some(number)),
+            None => Err(Fault::Usage),
+        },
+        _ => Err(Fault::Usage),
+    }
+}
+
+/// Reads a number from 1 to `most` in decimal, without a sign and leading zeros.
+fn number_of(word: &str, most: u64) -> Option<u64>
+    ensures { MatchOption result
+        ((number : ℕ) → ¬ (IsNumber most word.now number))
+        (λ number. IsNumber most word.now number) }
+{
+    let Ok(number) = word.parse::<u64>() else {
+        return None;
+    };
+    let mut buffer = Buffer::new();
+    if number < 1 || most < number || buffer.format(number) != word {
+        return None;
+    }
+    Some(number)
+}
