@@ -1,0 +1,13 @@
+pub mod Answered
+pub mod Begun
+pub mod Drafted
+pub mod Following
+pub mod Joining
+pub mod Looped
+pub mod Repeated
+pub mod Segments
+pub mod Shorter
+pub mod Small
+pub mod Text
+pub mod Whole
+pub mod Zipped

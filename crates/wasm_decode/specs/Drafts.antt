@@ -1,0 +1,85 @@
+-- A module under construction: what the sections that were read so far hold.
+use Rattle.std.specs.Prelude.{ℕ, List, [], ◌∷◌, ◌++◌, Option, Some, None, option_map}
+use Rattle.wasm_syntax.specs.Encoding.Sections as grammar
+use Rattle.wasm_syntax.specs.Encoding.Sections.{CustomSection, TypeSection, ImportSection, FunctionSection, TableSection, MemorySection, GlobalSection, ExportSection, StartSection, ElementSection, CodeSection, DataSection}
+use Rattle.wasm_syntax.specs.Encoding.ReadModules.{funcs_of}
+use Rattle.wasm_syntax.specs.declared.modules.Func.{Func}
+use Rattle.wasm_syntax.specs.declared.modules.Module.{Module}
+use Rattle.wasm_decode.specs.declared.sections.Section.{Section}
+use Rattle.wasm_decode.specs.declared.sections.Section.TheVariants as read
+use Rattle.wasm_decode.specs.declared.draft.Draft.{Draft}
+
+-- a section that was read, as the grammar has it
+abbrev pub section_of : Section → grammar.Section
+section_of (read.Custom custom) = CustomSection custom
+section_of (read.Type types) = TypeSection types
+section_of (read.Import imports) = ImportSection imports
+section_of (read.Function types) = FunctionSection types
+section_of (read.Table tables) = TableSection tables
+section_of (read.Memory memories) = MemorySection memories
+section_of (read.Global globals) = GlobalSection globals
+section_of (read.Export exports) = ExportSection exports
+section_of (read.Start func) = StartSection func
+section_of (read.Element elems) = ElementSection elems
+section_of (read.Code codes) = CodeSection codes
+section_of (read.Data datas) = DataSection datas
+
+-- what is there before any section
+abbrev pub nothing : Draft
+nothing = record {
+  types = [];
+  imports = [];
+  functions = [];
+  tables = [];
+  memories = [];
+  globals = [];
+  exports = [];
+  start = None;
+  elems = [];
+  codes = [];
+  datas = [];
+  customs = [];
+}
+
+-- with a section: a custom one behind the others, any other in its place
+abbrev pub put : grammar.Section → Draft → Draft
+put (CustomSection custom) draft = record draft { customs = draft.customs ++ custom ∷ [] }
+put (TypeSection types) draft = record draft { types = types }
+put (ImportSection imports) draft = record draft { imports = imports }
+put (FunctionSection types) draft = record draft { functions = types }
+put (TableSection tables) draft = record draft { tables = tables }
+put (MemorySection memories) draft = record draft { memories = memories }
+put (GlobalSection globals) draft = record draft { globals = globals }
+put (ExportSection exports) draft = record draft { exports = exports }
+put (StartSection func) draft = record draft { start = Some func }
+put (ElementSection elems) draft = record draft { elems = elems }
+put (CodeSection codes) draft = record draft { codes = codes }
+put (DataSection datas) draft = record draft { datas = datas }
+
+-- with sections, one after another
+abbrev pub put_all : List grammar.Section → Draft → Draft
+put_all [] draft = draft
+put_all (section ∷ sections) draft = put_all sections (put section draft)
+
+-- the module of a draft; none where the functions and the code sections differ in number
+abbrev pub module_from : Draft → List Func → Module
+module_from draft funcs = record {
+  types = draft.types;
+  imports = draft.imports;
+  funcs = funcs;
+  tables = draft.tables;
+  memories = draft.memories;
+  globals = draft.globals;
+  exports = draft.exports;
+  start = draft.start;
+  elems = draft.elems;
+  datas = draft.datas;
+  customs = draft.customs;
+}
+
+abbrev pub finished : Draft → Option Module
+finished draft = option_map (module_from draft) (funcs_of draft.functions draft.codes)
+
+-- with sections that were read, and what is left behind them
+abbrev pub put_read : Draft → List grammar.Section × List ℕ → Draft × List ℕ
+put_read draft read = (put_all read.0 draft, read.1)

@@ -1,0 +1,22 @@
+//! Reading modules in the binary format (Core 1.0, section 5).
+#![tactic(auto)]
+
+mod code;
+mod draft;
+mod expressions;
+mod funcs;
+mod instructions;
+mod items;
+mod locals;
+mod modules;
+#[cfg(test)]
+mod reader_tests;
+mod sections;
+#[cfg(test)]
+mod tests;
+mod types;
+mod unread;
+mod values;
+mod vectors;
+
+pub use modules::{DecodeFault, decode};
