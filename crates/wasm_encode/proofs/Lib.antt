@@ -1,0 +1,4 @@
+mod LengthLemmas
+mod ModuleLemmas
+mod TwoAnswers
+mod VectorLemmas

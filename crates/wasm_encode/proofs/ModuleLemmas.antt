@@ -1,0 +1,157 @@
+-- A module's encoding by its sections.
+use Rattle.std.proofs.Common.{◌≡◌, ℕ, ◌+◌, List, [], ◌∷◌, ◌++◌, length, refl, ap, sym, ◌∙◌, append_assoc, append-nil, arith}
+use Rattle.std.specs.Prelude.{Option, Some, None, map, flat_map, option_to_list}
+use Rattle.std.proofs.lemmas.Grind.{flat_map-append}
+use Rattle.std.proofs.lemmas.List.{length-append, length-map}
+use Rattle.std.proofs.lemmas.List.Folds.{flat_map-map}
+use Rattle.leb_bytes.specs.Unsigned.{u32_bytes}
+use Rattle.wasm_encode.specs.Parts.{declarations_of, definitions_of}
+use Rattle.wasm_encode.specs.Vectors.{start_section, vector_section}
+use Rattle.wasm_syntax.specs.Encoding.Modules.{code_of, preamble}
+use Rattle.wasm_syntax.specs.Encoding.Sections.{Section, CustomSection, TypeSection, ImportSection, FunctionSection, TableSection, MemorySection, GlobalSection, ExportSection, StartSection, ElementSection, CodeSection, DataSection}
+use Rattle.wasm_syntax.specs.Encoding.Shortest.{code_bytes, content_bytes, data_bytes, elem_bytes, encoding_of, export_bytes, func_type_bytes, global_bytes, import_bytes, limits_bytes, section_bytes, sections_of, sized_bytes, table_type_bytes, unless_empty, vector_bytes}
+use Rattle.wasm_syntax.specs.declared.modules.DataSeg.{DataSeg}
+use Rattle.wasm_syntax.specs.declared.modules.ElemSeg.{ElemSeg}
+use Rattle.wasm_syntax.specs.declared.modules.Export.{Export}
+use Rattle.wasm_syntax.specs.declared.modules.Func.{Func}
+use Rattle.wasm_syntax.specs.declared.modules.Global.{Global}
+use Rattle.wasm_syntax.specs.declared.modules.Import.{Import}
+use Rattle.wasm_syntax.specs.declared.modules.Module.{Module}
+use Rattle.wasm_syntax.specs.declared.signatures.FuncType.{FuncType}
+use Rattle.wasm_syntax.specs.declared.signatures.Limits.{Limits}
+
+-- the bytes of sections, one behind another
+abbrev all_bytes : List Section → List ℕ
+all_bytes = flat_map section_bytes
+
+-- the section of a list, where it isn't empty
+listed : {A : Type 0} (make : List A → Section) (id : ℕ) (write : A → List ℕ)
+    → ((xs : List A) → section_bytes (make xs) ≡ id ∷ sized_bytes (vector_bytes write xs))
+    → (xs : List A) → all_bytes (unless_empty make xs) ≡ vector_section id write xs
+listed make id write is [] = refl
+listed make id write is (x ∷ xs) = append-nil (section_bytes (make (x ∷ xs))) ∙ is (x ∷ xs)
+
+-- what is written of a part of each item
+of_parts : {A B : Type 0} (id : ℕ) (write : B → List ℕ) (part : A → B) (xs : List A)
+    → vector_section id write (map part xs) ≡ vector_section id (λ x. write (part x)) xs
+of_parts id write part [] = refl
+of_parts id write part (x ∷ xs) =
+    ap (λ items. id ∷ sized_bytes items)
+    (ap (λ count. u32_bytes count ++ flat_map write (map part (x ∷ xs))) (length-map (x ∷ xs) part)
+    ∙ ap (λ items. u32_bytes (length (x ∷ xs)) ++ items) (flat_map-map write part (x ∷ xs)))
+
+start_listed : (start : Option ℕ) → all_bytes (map StartSection (option_to_list start)) ≡ start_section start
+unfolding section_bytes content_bytes
+start_listed None = refl
+start_listed (Some func) = append-nil (section_bytes (StartSection func))
+
+types_listed : (xs : List FuncType) → all_bytes (unless_empty TypeSection xs) ≡ vector_section 1 func_type_bytes xs
+unfolding section_bytes content_bytes
+types_listed = listed TypeSection 1 func_type_bytes (λ xs. refl)
+
+imports_listed : (xs : List Import) → all_bytes (unless_empty ImportSection xs) ≡ vector_section 2 import_bytes xs
+unfolding section_bytes content_bytes
+imports_listed = listed ImportSection 2 import_bytes (λ xs. refl)
+
+functions_listed : (xs : List Func) → all_bytes (unless_empty FunctionSection (map (λ func. func.ty) xs)) ≡ vector_section 3 (λ func. u32_bytes func.ty) xs
+unfolding section_bytes content_bytes
+functions_listed xs =
+    listed FunctionSection 3 u32_bytes (λ ys. refl) (map (λ func. func.ty) xs) ∙ of_parts 3 u32_bytes (λ (func : Func). func.ty) xs
+
+tables_listed : (xs : List Limits) → all_bytes (unless_empty TableSection xs) ≡ vector_section 4 table_type_bytes xs
+unfolding section_bytes content_bytes
+tables_listed = listed TableSection 4 table_type_bytes (λ xs. refl)
+
+memories_listed : (xs : List Limits) → all_bytes (unless_empty MemorySection xs) ≡ vector_section 5 limits_bytes xs
+unfolding section_bytes content_bytes
+memories_listed = listed MemorySection 5 limits_bytes (λ xs. refl)
+
+globals_listed : (xs : List Global) → all_bytes (unless_empty GlobalSection xs) ≡ vector_section 6 global_bytes xs
+unfolding section_bytes content_bytes
+globals_listed = listed GlobalSection 6 global_bytes (λ xs. refl)
+
+exports_listed : (xs : List Export) → all_bytes (unless_empty ExportSection xs) ≡ vector_section 7 export_bytes xs
+unfolding section_bytes content_bytes
+exports_listed = listed ExportSection 7 export_bytes (λ xs. refl)
+
+elems_listed : (xs : List ElemSeg) → all_bytes (unless_empty ElementSection xs) ≡ vector_section 9 elem_bytes xs
+unfolding section_bytes content_bytes
+elems_listed = listed ElementSection 9 elem_bytes (λ xs. refl)
+
+codes_listed : (xs : List Func) → all_bytes (unless_empty CodeSection (map code_of xs)) ≡ vector_section 10 (λ func. code_bytes (code_of func)) xs
+unfolding section_bytes content_bytes
+codes_listed xs = listed CodeSection 10 code_bytes (λ ys. refl) (map code_of xs) ∙ of_parts 10 code_bytes code_of xs
+
+datas_listed : (xs : List DataSeg) → all_bytes (unless_empty DataSection xs) ≡ vector_section 11 data_bytes xs
+unfolding section_bytes content_bytes
+datas_listed = listed DataSection 11 data_bytes (λ xs. refl)
+
+-- sections in front of others
+behind : (xs ys : List Section) (a b : List ℕ) → all_bytes xs ≡ a → all_bytes ys ≡ b → all_bytes (xs ++ ys) ≡ a ++ b
+behind xs ys a b front rest = flat_map-append section_bytes xs ys ∙ ap (λ x. x ++ all_bytes ys) front ∙ ap (λ y. a ++ y) rest
+
+regrouped : (a b c d e rest : List ℕ) → a ++ (b ++ (c ++ (d ++ (e ++ rest)))) ≡ (a ++ (b ++ (c ++ (d ++ e)))) ++ rest
+regrouped a b c d e rest = sym (simp append_assoc)
+
+-- the encoding in the parts in which it is written
+pub encoding_parts : (m : Module) → encoding_of m ≡ preamble ++ (declarations_of m ++ definitions_of m)
+unfolding encoding_of sections_of declarations_of definitions_of
+encoding_parts m =
+    ap (λ x. preamble ++ x)
+    (behind _ _ _ _ (types_listed m.types)
+    (behind _ _ _ _ (imports_listed m.imports)
+    (behind _ _ _ _ (functions_listed m.funcs)
+    (behind _ _ _ _ (tables_listed m.tables)
+    (behind _ _ _ _ (memories_listed m.memories)
+    (behind _ _ _ _ (globals_listed m.globals)
+    (behind _ _ _ _ (exports_listed m.exports)
+    (behind _ _ _ _ (start_listed m.start)
+    (behind _ _ _ _ (elems_listed m.elems)
+    (behind _ _ _ _ (codes_listed m.funcs)
+    (behind _ _ _ _ (datas_listed m.datas) (flat_map-map section_bytes CustomSection m.customs)))))))))))
+    ∙ regrouped (vector_section 1 func_type_bytes m.types) (vector_section 2 import_bytes m.imports)
+    (vector_section 3 (λ func. u32_bytes func.ty) m.funcs) (vector_section 4 table_type_bytes m.tables)
+    (vector_section 5 limits_bytes m.memories) _)
+
+-- what was appended of a list was appended of an equal one
+pub of_equal : {A : Type 0} (write : List A → List ℕ) (out new : List ℕ) (xs ys : List A) → xs ≡ ys → new ≡ out ++ write xs → new ≡ out ++ write ys
+of_equal write out new xs ys same h = h ∙ ap (λ zs. out ++ write zs) same
+
+-- the second part, of seven pieces that were appended one behind the other
+pub definitions_appended : (m : Module) (out a b c d e f all : List ℕ)
+    → a ≡ out ++ vector_section 6 global_bytes m.globals
+    → b ≡ a ++ vector_section 7 export_bytes m.exports
+    → c ≡ b ++ start_section m.start
+    → d ≡ c ++ vector_section 9 elem_bytes m.elems
+    → e ≡ d ++ vector_section 10 (λ func. code_bytes (code_of func)) m.funcs
+    → f ≡ e ++ vector_section 11 data_bytes m.datas
+    → all ≡ f ++ flat_map (λ custom. section_bytes (CustomSection custom)) m.customs
+    → all ≡ out ++ definitions_of m
+unfolding definitions_of
+definitions_appended m out a b c d e f all ha hb hc hd he hf h =
+    h ∙ ap (λ x. x ++ flat_map (λ custom. section_bytes (CustomSection custom)) m.customs)
+    (hf ∙ ap (λ x. x ++ vector_section 11 data_bytes m.datas)
+    (he ∙ ap (λ x. x ++ vector_section 10 (λ func. code_bytes (code_of func)) m.funcs)
+    (hd ∙ ap (λ x. x ++ vector_section 9 elem_bytes m.elems)
+    (hc ∙ ap (λ x. x ++ start_section m.start)
+    (hb ∙ ap (λ x. x ++ vector_section 7 export_bytes m.exports) ha)))))
+    ∙ simp append_assoc
+
+-- the whole, of three pieces
+pub encoding_appended : (m : Module) (out front behind all : List ℕ) → front ≡ out ++ preamble → behind ≡ front ++ declarations_of m
+    → all ≡ behind ++ definitions_of m → all ≡ out ++ encoding_of m
+encoding_appended m out front behind all h hd hf =
+    hf ∙ ap (λ x. x ++ definitions_of m) (hd ∙ ap (λ x. x ++ declarations_of m) h)
+    ∙ append_assoc (out ++ preamble) (declarations_of m) (definitions_of m)
+    ∙ append_assoc out preamble (declarations_of m ++ definitions_of m)
+    ∙ ap (λ x. out ++ x) (sym (encoding_parts m))
+
+-- how long the encoding is, by its parts
+pub encoding_length : (m : Module) → length (encoding_of m) ≡ 8 + (length (declarations_of m) + length (definitions_of m))
+encoding_length m =
+    omega (
+      arith,
+      ap length (encoding_parts m),
+      length-append preamble (declarations_of m ++ definitions_of m),
+      length-append (declarations_of m) (definitions_of m),
+    )

@@ -1,0 +1,4 @@
+pub mod Lengths
+pub mod NotEmpty
+pub mod Parts
+pub mod Vectors

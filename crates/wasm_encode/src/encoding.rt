@@ -1,0 +1,31 @@
+// What stands in lists of a module.
+
+ghost use Rattle.std.specs.Prelude.{◌≡◌, ℕ, ◌^◌, ◌<◌, ◌++◌, List, length, OnOk};
+ghost use Rattle.wasm_encode.specs.Lengths.{kept};
+
+use no_memory::NoMemory;
+
+/// How the items of a list are encoded.
+pub(crate) trait Encoding {
+    type Item;
+
+    // The shortest encoding of an item.
+    ghost bytes: { Self.Item → List ℕ };
+
+    // What an item needs for it.
+    ghost fits: { Self.Item → Type 0 };
+
+    /// How many bytes the encoding of an item has.
+    fn length(item: &Self::Item) -> u64
+        requires { fits item.now }
+        ensures { result ≡ kept (length (bytes item.now)) };
+
+    /// Appends the encoding of an item.
+    fn write(item: &Self::Item, out: &mut Vec<u8>) -> Result<(), NoMemory>
+        requires fits { fits item.now }
+        requires sizes { length (bytes item.now) < 2 ^ 32 }
+        ensures { OnOk result (out.new.items ≡ out.old.items ++ bytes item.now) };
+
+    // No encoding is empty, so a vector has no more items than bytes.
+    ghost some: { (item : Self.Item) → fits item → 0 < length (bytes item) };
+}

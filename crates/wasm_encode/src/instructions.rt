@@ -1,0 +1,208 @@
+// Instructions and bodies (Core 1.0, 5.4).
+
+ghost use Rattle.std.specs.Prelude.{◌≡◌, ℕ, ◌^◌, ◌<◌, ◌≤◌, ◌++◌, ◌∷◌, [], length, OnOk};
+ghost use Rattle.std.specs.Int.{w32, cast_signed};
+ghost use Rattle.std.specs.List.{AllByRecursion};
+ghost use Rattle.leb_bytes.specs.Unsigned.{u32_bytes};
+ghost use Rattle.wasm_encode.specs.Lengths.{kept};
+ghost use Rattle.wasm_encode.specs.NotEmpty.{instr_some};
+ghost use Rattle.wasm_syntax.specs.Encoding.Encodable.{FitsConst, FitsInstr, FitsU32};
+ghost use Rattle.wasm_syntax.specs.Encoding.Shortest.{access_bytes, body_bytes, const_bytes, instr_bytes};
+ghost use Rattle.wasm_syntax.specs.declared.forms.Form.TheVariants.{Replay};
+ghost use Rattle.wasm_syntax.specs.declared.instructions.Instr.TheVariants.{BrTable, CallIndirect};
+
+use crate::encoding::Encoding;
+use crate::lengths::{i64_length, u32_length};
+use crate::parts::{push_byte, push_marked, push_pair};
+use crate::types::block_type_byte;
+use crate::vectors::{Indices, items_length, vector_length, write_items, write_vector};
+use leb_bytes::{push_i64, push_u32};
+use no_memory::NoMemory;
+use wasm_syntax::{Body, Instr, Labels, MemArg, Val, ValType};
+
+/// Instructions.
+pub(crate) struct Instrs;
+
+#[tactic(auto, unfolding(wasm_syntax::specs::Encoding::Shortest::instr_bytes))]
+impl Encoding for Instrs {
+    type Item = Instr;
+
+    ghost bytes = { instr_bytes };
+
+    ghost fits = { FitsInstr Replay };
+
+    fn length(item: &Instr) -> u64 {
+        match item {
+            Instr::Block(_) | Instr::Loop(_) | Instr::If(_) => 2,
+            Instr::BrTable(labels, default) => table_length(labels, *default),
+            Instr::CallIndirect(ty) => 2 + u32_length(u64::from(*ty)),
+            Instr::Br(index)
+            | Instr::BrIf(index)
+            | Instr::Call(index)
+            | Instr::LocalGet(index)
+            | Instr::LocalSet(index)
+            | Instr::LocalTee(index)
+            | Instr::GlobalGet(index)
+            | Instr::GlobalSet(index)
+            | Instr::RefFunc(index)
+            | Instr::TableSet(index) => 1 + u32_length(u64::from(*index)),
+            Instr::Load(access) | Instr::Store(access) => access_length(*access),
+            Instr::Const(value) => const_length(*value),
+            Instr::MemorySize | Instr::MemoryGrow | Instr::RefNull => 2,
+            _ => 1,
+        }
+    }
+
+    fn write(item: &Instr, out: &mut Vec<u8>) -> Result<(), NoMemory> {
+        match item {
+            Instr::Unreachable => push_byte(out, 0x00),
+            Instr::Nop => push_byte(out, 0x01),
+            Instr::Block(ty) => push_pair(out, 0x02, block_type_byte(*ty)),
+            Instr::Loop(ty) => push_pair(out, 0x03, block_type_byte(*ty)),
+            Instr::If(ty) => push_pair(out, 0x04, block_type_byte(*ty)),
+            Instr::Else => push_byte(out, 0x05),
+            Instr::End => push_byte(out, 0x0b),
+            Instr::Br(label) => push_marked(out, 0x0c, *label),
+            Instr::BrIf(label) => push_marked(out, 0x0d, *label),
+            Instr::BrTable(labels, default) => write_table(labels, *default, out),
+            Instr::Return => push_byte(out, 0x0f),
+            Instr::Call(func) => push_marked(out, 0x10, *func),
+            Instr::CallIndirect(ty) => write_call_indirect(*ty, out),
+            Instr::Drop => push_byte(out, 0x1a),
+            Instr::Select => push_byte(out, 0x1b),
+            Instr::LocalGet(local) => push_marked(out, 0x20, *local),
+            Instr::LocalSet(local) => push_marked(out, 0x21, *local),
+            Instr::LocalTee(local) => push_marked(out, 0x22, *local),
+            Instr::GlobalGet(global) => push_marked(out, 0x23, *global),
+            Instr::GlobalSet(global) => push_marked(out, 0x24, *global),
+            Instr::Load(access) | Instr::Store(access) => write_access(*access, out),
+            Instr::MemorySize => push_pair(out, 0x3f, 0x00),
+            Instr::MemoryGrow => push_pair(out, 0x40, 0x00),
+            Instr::Const(value) => write_const(*value, out),
+            Instr::Numeric(op) => push_byte(out, *op),
+            Instr::TableSet(table) => push_marked(out, 0x26, *table),
+            Instr::RefNull => push_pair(out, 0xd0, 0x70),
+            Instr::RefFunc(func) => push_marked(out, 0xd2, *func),
+        }
+    }
+
+    ghost some = { instr_some };
+}
+
+/// How many bytes a body has.
+pub(crate) fn body_length(body: &Body) -> u64
+    requires { AllByRecursion (FitsInstr Replay) body.now }
+    ensures { result ≡ kept (length (body_bytes body.now)) }
+{
+    items_length::<Instrs>(body.as_slice())
+}
+
+/// Appends a body.
+pub(crate) fn write_body(body: &Body, out: &mut Vec<u8>) -> Result<(), NoMemory>
+    requires fits { AllByRecursion (FitsInstr Replay) body.now }
+    requires sizes { length (body_bytes body.now) < 2 ^ 32 }
+    ensures { OnOk result (out.new.items ≡ out.old.items ++ body_bytes body.now) }
+{
+    write_items::<Instrs>(body.as_slice(), out)
+}
+
+/// How many bytes a `br_table` has.
+#[tactic(auto, unfolding(wasm_syntax::specs::Encoding::Shortest::instr_bytes))]
+fn table_length(labels: &Labels, default: u32) -> u64
+    requires { AllByRecursion FitsU32 labels.now }
+    ensures { result ≡ kept (length (instr_bytes (BrTable labels.now default))) }
+{
+    let last = u32_length(u64::from(default));
+    vector_length::<Indices>(labels.as_slice()).saturating_add(1 + last)
+}
+
+/// Appends a `br_table`.
+#[tactic(auto, unfolding(wasm_syntax::specs::Encoding::Shortest::instr_bytes))]
+fn write_table(labels: &Labels, default: u32, out: &mut Vec<u8>) -> Result<(), NoMemory>
+    requires fits { AllByRecursion FitsU32 labels.now }
+    requires sizes { length (instr_bytes (BrTable labels.now default)) < 2 ^ 32 }
+    ensures { OnOk result
+        (out.new.items ≡ out.old.items ++ instr_bytes (BrTable labels.now default)) }
+{
+    push_byte(out, 0x0e)?;
+    write_vector::<Indices>(labels.as_slice(), out)?;
+    push_u32(out, default)
+}
+
+/// Appends a `call_indirect`.
+#[tactic(auto, unfolding(wasm_syntax::specs::Encoding::Shortest::instr_bytes))]
+fn write_call_indirect(ty: u32, out: &mut Vec<u8>) -> Result<(), NoMemory>
+    ensures { OnOk result (out.new.items ≡ out.old.items ++ instr_bytes (CallIndirect ty)) }
+{
+    push_marked(out, 0x11, ty)?;
+    push_byte(out, 0x00)
+}
+
+/// How many bytes a load or a store has.
+fn access_length(access: MemArg) -> u64
+    ensures length { result ≡ length (access_bytes access) }
+    ensures few { result ≤ 11 }
+{
+    1 + u32_length(u64::from(access.align)) + u32_length(u64::from(access.offset))
+}
+
+/// Appends a load or a store.
+fn write_access(access: MemArg, out: &mut Vec<u8>) -> Result<(), NoMemory>
+    ensures { OnOk result (out.new.items ≡ out.old.items ++ access_bytes access) }
+{
+    push_marked(out, access.op, access.align)?;
+    push_u32(out, access.offset)
+}
+
+/// How many bytes a constant has.
+#[tactic(auto, unfolding(wasm_syntax::specs::Encoding::Shortest::const_bytes, leb_bytes::specs::Signed::i32_bytes, leb_bytes::specs::Signed::i64_bytes))]
+fn const_length(value: Val) -> u64
+    requires { FitsConst value.ty value.bits }
+    ensures length { result ≡ length (const_bytes value.ty value.bits) }
+    ensures few { result ≤ 11 }
+{
+    match value.ty {
+        ValType::I32 => 1 + i64_length(signed_of_i32(value.bits)),
+        ValType::I64 => 1 + i64_length(value.bits.cast_signed()),
+        ValType::F32 => 5,
+        ValType::F64 => 9,
+        ValType::FuncRef => 0,
+    }
+}
+
+/// Appends a constant.
+#[tactic(auto, unfolding(wasm_syntax::specs::Encoding::Shortest::const_bytes, leb_bytes::specs::Signed::i32_bytes, leb_bytes::specs::Signed::i64_bytes))]
+fn write_const(value: Val, out: &mut Vec<u8>) -> Result<(), NoMemory>
+    requires { FitsConst value.ty value.bits }
+    ensures { OnOk result (out.new.items ≡ out.old.items ++ const_bytes value.ty value.bits) }
+{
+    match value.ty {
+        ValType::I32 => {
+            push_byte(out, 0x41)?;
+            push_i64(out, signed_of_i32(value.bits))
+        }
+        ValType::I64 => {
+            push_byte(out, 0x42)?;
+            push_i64(out, value.bits.cast_signed())
+        }
+        ValType::F32 => {
+            push_byte(out, 0x43)?;
+            out.extend_from_slice(&(value.bits as u32).to_le_bytes())?;
+            Ok(())
+        }
+        ValType::F64 => {
+            push_byte(out, 0x44)?;
+            out.extend_from_slice(&value.bits.to_le_bytes())?;
+            Ok(())
+        }
+        ValType::FuncRef => Ok(()),
+    }
+}
+
+/// The number that the bits of an i32 are in two's complement.
+fn signed_of_i32(bits: u64) -> i64
+    requires { bits < 2 ^ 32 }
+    ensures { result ≡ cast_signed w32 bits }
+{
+    i64::from((bits as u32).cast_signed())
+}

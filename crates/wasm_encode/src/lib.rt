@@ -1,0 +1,20 @@
+//! Writing modules in the binary format (Core 1.0, 5).
+#![tactic(auto)]
+
+mod encoding;
+mod functions;
+mod instructions;
+mod items;
+mod lengths;
+mod limited;
+mod modules;
+mod parts;
+mod sections;
+mod types;
+mod vectors;
+
+pub use limited::{EncodeFault, encode};
+pub use no_memory::NoMemory;
+
+#[cfg(test)]
+mod tests;
