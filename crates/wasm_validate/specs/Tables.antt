@@ -1,0 +1,25 @@
+-- What the tables of opcodes stand for.
+use Rattle.std.specs.Prelude.{ℕ, ◌∷◌}
+use Rattle.wasm_syntax.specs.declared.values.ValType.{ValType}
+use Rattle.wasm_syntax.specs.Typing.{results_of}
+use Rattle.wasm_syntax.specs.Opcodes.{Shape, Access}
+use Rattle.wasm_validate.specs.declared.opcodes.Operation.{Operation}
+use Rattle.wasm_validate.specs.declared.opcodes.Transfer.{Transfer}
+
+-- the types of a numeric instruction
+abbrev pub shape_of : Operation → Shape
+shape_of o = record { operands = o.first ∷ results_of o.second; result = o.result }
+
+-- the type and the width of an access, without the sign
+pub record Reach : Type 0 where
+  pub ty : ValType
+  pub width : ℕ
+
+abbrev pub reach : ValType → ℕ → Reach
+reach ty width = record { ty = ty; width = width }
+
+abbrev pub reach_of : Access → Reach
+reach_of a = reach a.ty a.width
+
+abbrev pub reach_told : Transfer → Reach
+reach_told t = reach t.ty t.width

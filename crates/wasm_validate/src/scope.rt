@@ -1,0 +1,166 @@
+// What is looked up in a module.
+
+ghost use Rattle.std.specs.Prelude.{◌≡◌, ◌&&◌, length, slice_get, nat_eq, nat_le, nat_lt, IfOk};
+ghost use Rattle.std.specs.Option.{option_copied};
+ghost use Rattle.std.specs.List.{list_any};
+ghost use Rattle.wasm_syntax.specs.Index.{type_at, func_type as type_of_func, imported_funcs, all_tables, all_memories, imported_globals, all_globals, func_indices};
+ghost use Rattle.wasm_syntax.specs.Validity.{declared_funcs};
+
+use crate::index::{funcs_of, globals_of, marks_of, memories_of, tables_of};
+use no_memory::NoMemory;
+use std::alloc::Global;
+use std::marker::Model;
+use wasm_syntax::{FuncType, GlobalType, Limits, Module};
+
+/// A module with its index spaces and the functions that bodies may refer to. Contracts see the
+/// module.
+#[derive(Drop)]
+pub(crate) struct Scope<'a> {
+    module: &'a Module,
+    funcs: Vec<u32>,
+    tables: Vec<Limits>,
+    memories: Vec<Limits>,
+    globals: Vec<GlobalType>,
+    imported: usize,
+    imported_variables: usize,
+    declared: Vec<bool>,
+}
+
+impl<'a> Model for Scope<'a> {
+    ghost use Rattle.wasm_syntax.specs.declared.modules.Module.{Module};
+    ghost use Rattle.wasm_validate.specs.Scopes.{IsScope};
+
+    ghost Value = { Module };
+
+    ghost view = { λ s. s.module.now };
+
+    ghost invariant = { λ s. IsScope s.module.now s.funcs.items s.tables.items s.memories.items s.globals.items s.imported s.imported_variables s.declared.items };
+}
+
+impl<'a> Scope<'a> {
+    /// What is looked up in a module.
+    pub(crate) fn of(alloc: Global, module: &'a Module) -> Result<Scope<'a>, NoMemory>
+        ensures { IfOk result (λ scope. scope ≡ «module».now) }
+    {
+        let (funcs, imported) = funcs_of(alloc, module)?;
+        let tables = tables_of(alloc, module)?;
+        let memories = memories_of(alloc, module)?;
+        let (globals, imported_variables) = globals_of(alloc, module)?;
+        let declared = marks_of(alloc, module, funcs.len())?;
+        Ok(Scope {
+            module,
+            funcs,
+            tables,
+            memories,
+            globals,
+            imported,
+            imported_variables,
+            declared,
+        })
+    }
+
+    /// The module.
+    pub(crate) fn module(&self) -> &'a Module
+        ensures { result.now ≡ self.now }
+    {
+        self.module
+    }
+
+    /// The type of this index.
+    pub(crate) fn type_at(&self, index: u32) -> Option<&FuncType>
+        ensures { option_copied result ≡ type_at self.now index }
+    {
+        self.module.types.as_slice().get(index as usize)
+    }
+
+    /// The type of the function of this index.
+    pub(crate) fn func_type(&self, func: u32) -> Option<&FuncType>
+        ensures { option_copied result ≡ type_of_func self.now func }
+    {
+        match self.funcs.get(func as usize) {
+            Some(index) => self.type_at(*index),
+            None => None,
+        }
+    }
+
+    /// The type of the global of this index.
+    pub(crate) fn global(&self, global: u32) -> Option<GlobalType>
+        ensures { result ≡ slice_get (all_globals self.now) global }
+    {
+        self.globals.get(global as usize).copied()
+    }
+
+    /// The type of the imported global of this index.
+    pub(crate) fn imported_global(&self, global: u32) -> Option<GlobalType>
+        ensures { result ≡ slice_get (imported_globals self.now) global }
+    {
+        if (global as usize) < self.imported_variables {
+            self.global(global)
+        } else {
+            None
+        }
+    }
+
+    /// There is a function of this index.
+    pub(crate) fn has_func(&self, func: u32) -> bool
+        ensures { result ≡ nat_lt func (length (func_indices self.now)) }
+    {
+        (func as usize) < self.funcs.len()
+    }
+
+    /// There is a table of this index.
+    pub(crate) fn has_table(&self, table: u32) -> bool
+        ensures { result ≡ nat_lt table (length (all_tables self.now)) }
+    {
+        (table as usize) < self.tables.len()
+    }
+
+    /// There is a memory of this index.
+    pub(crate) fn has_memory(&self, memory: u32) -> bool
+        ensures { result ≡ nat_lt memory (length (all_memories self.now)) }
+    {
+        (memory as usize) < self.memories.len()
+    }
+
+    /// There is a type of this index.
+    pub(crate) fn has_type(&self, ty: u32) -> bool
+        ensures { result ≡ nat_lt ty (length self.now.types) }
+    {
+        (ty as usize) < self.module.types.as_slice().len()
+    }
+
+    /// There is at most one table.
+    pub(crate) fn has_one_table(&self) -> bool
+        ensures { result ≡ nat_le (length (all_tables self.now)) 1 }
+    {
+        self.tables.len() <= 1
+    }
+
+    /// There is at most one memory.
+    pub(crate) fn has_one_memory(&self) -> bool
+        ensures { result ≡ nat_le (length (all_memories self.now)) 1 }
+    {
+        self.memories.len() <= 1
+    }
+
+    /// There is a global of this index.
+    pub(crate) fn has_global(&self, global: u32) -> bool
+        ensures { result ≡ nat_lt global (length (all_globals self.now)) }
+    {
+        (global as usize) < self.globals.len()
+    }
+
+    /// How many functions are imported.
+    pub(crate) fn imported_funcs(&self) -> usize
+        ensures { result ≡ imported_funcs self.now }
+    {
+        self.imported
+    }
+
+    /// Bodies may refer to the function of this index.
+    pub(crate) fn is_declared(&self, func: u32) -> bool
+        ensures { result ≡ (nat_lt func (length (func_indices self.now)) && list_any (nat_eq func) (declared_funcs self.now)) }
+    {
+        self.has_func(func) && self.declared[func as usize]
+    }
+}
