@@ -1,0 +1,11 @@
+use Rattle.std.proofs.Common.{◌≡◌, drop}
+use Rattle.std.specs.Prelude.{filter_map}
+use Rattle.wasm_syntax.specs.Index.{of_kind, memory_import}
+use Rattle.wasm_syntax.specs.Profile.{past}
+use Rattle.wasm_syntax.specs.declared.profile.Which.TheVariants.{Memory}
+use Rattle.wasm_profile.proofs.quantities.refuse_imported_memories.Given as goal
+
+abbrev pub invariant-imports : goal.invariant-imports
+invariant-imports l =
+    filter_map (λ limits. past 4096 Memory limits.min) (of_kind memory_import l.imports)
+    ≡ filter_map (λ limits. past 4096 Memory limits.min) (of_kind memory_import (drop l.import-index l.imports))
