@@ -1,0 +1,11 @@
+pub mod Lists
+pub mod Firsts
+pub mod Named
+pub mod ImportLoops
+pub mod Spaces
+pub mod Checks
+pub mod Meanings
+pub mod Loops
+pub mod Listed
+pub mod Members
+pub mod Examples

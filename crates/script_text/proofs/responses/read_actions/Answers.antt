@@ -1,0 +1,20 @@
+use Rattle.std.proofs.lemmas.Result.{err_from_is_err_and}
+use Rattle.serde_json.specs.View.{items_view}
+use Rattle.script_text.specs.Walk.{items_from}
+use Rattle.script_text.specs.Actions.{action_of}
+use Rattle.script_text.specs.Placed.{place_of}
+use Rattle.script_text.proofs.Loops.{goes_on, ends, is_done}
+use Rattle.script_text.proofs.responses.read_actions.Goals as goal
+
+pub returns-in_err-item : goal.returns-in_err-item
+returns-in_err-item c =
+    let p = err_from_is_err_and c.from_residual.result c.from_residual.ensures.1 in
+    rw (p.1, p.2) (ends (action_of c.args.names.now (place_of c.args.place.now)) c.in_err-item.field-0.0 c.items.found.items c.args.values.now c.items.index c.index-values-index.result (items_from (action_of c.args.names.now (place_of c.args.place.now)) 0 (items_view c.args.values.now)) c.items-test.true c.index-values-index.is c.in_err-item.ensures c.items.invariant)
+
+pub items-preserved : goal.items-preserved
+items-preserved c =
+    rw c.in_ok-push.ensures.items
+    (goes_on (action_of c.args.names.now (place_of c.args.place.now)) c.items.found.items c.args.values.now c.items.index c.index-values-index.result c.in_ok-item.item (items_from (action_of c.args.names.now (place_of c.args.place.now)) 0 (items_view c.args.values.now)) c.items-test.true c.index-values-index.is c.in_ok-item.ensures c.items.invariant)
+
+pub returns : goal.returns
+returns c = rw c.from_vec.ensures (is_done (action_of c.args.names.now (place_of c.args.place.now)) c.items.found.items c.args.values.now c.items.index (items_from (action_of c.args.names.now (place_of c.args.place.now)) 0 (items_view c.args.values.now)) c.items-test.false c.items.invariant)

@@ -1,0 +1,9 @@
+use Rattle.std.proofs.Common.{◌≡◌, drop}
+use Rattle.serde_json.specs.View.{items_view}
+use Rattle.script_text.specs.Walk.{items_from}
+use Rattle.script_text.specs.Values.{value_of}
+use Rattle.script_text.proofs.Loops.{with_front}
+use Rattle.script_text.proofs.values.read_values.Given as goal
+
+abbrev pub invariant-items : goal.invariant-items
+invariant-items l = with_front l.found.items (items_from value_of l.index (items_view (drop l.index l.values))) ≡ items_from value_of 0 (items_view l.values)

@@ -1,0 +1,13 @@
+// The keys that tell one action from another.
+
+/// The lead key of an action.
+#[derive(Clone, Copy, PartialEq, Eq, Debug)]
+pub enum Lead {
+    Write,
+    Copy,
+    SetTable,
+    SetGlobal,
+    Grow,
+    Call,
+    CallTable,
+}

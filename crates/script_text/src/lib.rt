@@ -1,0 +1,25 @@
+//! The text of a script, read for a module: the script that it is, or the first fault of its form,
+//! its names and its types.
+#![tactic(auto)]
+
+mod actions;
+mod exports;
+pub mod faults;
+mod import_texts;
+mod imports;
+pub mod leads;
+mod module_names;
+mod objects;
+mod paths;
+mod places;
+pub mod plain;
+mod responses;
+pub mod scripts;
+mod targets;
+mod values;
+
+pub use faults::ScriptFault;
+pub use leads::Lead;
+pub use no_memory::NoMemory;
+pub use plain::{is_flat, is_plain};
+pub use scripts::read_script;

@@ -1,0 +1,91 @@
+// The paths of faults, which grow on the way out of the values that they stand in.
+
+ghost use Rattle.std.specs.Prelude.{◌≡◌, [], ◌++◌, decimal, OnOk, IfOk};
+ghost use Rattle.script_text.specs.Walk.{Gives, part, fault_below as fault_under, below as result_below};
+ghost use Rattle.script_text.specs.declared.faults.ScriptFault.TheVariants.{Shape, Memory};
+
+use crate::faults::ScriptFault;
+use itoa::Buffer;
+use no_memory::NoMemory;
+use std::alloc::Global;
+use wasm_syntax::Name;
+
+/// The fault of a value of the wrong form itself. Takes no memory.
+pub(crate) fn shape(alloc: Global) -> ScriptFault
+    ensures { result ≡ Shape [] }
+{
+    let path = Name::from_string(String::new(alloc));
+    ScriptFault::Shape { path }
+}
+
+/// Appends a key or an index as a part of a JSON Pointer.
+fn push_part(path: &mut Vec<u8>, step: &str) -> Result<(), NoMemory>
+    ensures { OnOk result (path.new.items ≡ path.old.items ++ part step.now) }
+{
+    path.push(b'/')?;
+    'bytes: for byte in step.as_bytes() {
+        match *byte {
+            b'~' => path.extend_from_slice(b"~0")?,
+            b'/' => path.extend_from_slice(b"~1")?,
+            byte => path.push(byte)?,
+        }
+    }
+    Ok(())
+}
+
+/// A path below a key or an index.
+fn path_below(alloc: Global, step: &str, path: &Name) -> Result<Name, NoMemory>
+    ensures { IfOk result (λ name. name ≡ part step.now ++ path.now) }
+{
+    let mut longer = Vec::new(alloc);
+    push_part(&mut longer, step)?;
+    longer.extend_from_slice(path.as_str().as_bytes())?;
+    match String::from_utf8(longer) {
+        Ok(text) => Ok(Name::from_string(text)),
+        Err(_) => Err(NoMemory),
+    }
+}
+
+/// The fault of what stands under a key or an index.
+fn fault_below(alloc: Global, step: &str, fault: ScriptFault) -> Result<ScriptFault, NoMemory>
+    ensures { IfOk result (λ below. below ≡ fault_under step.now fault) }
+{
+    match fault {
+        ScriptFault::Shape { path } => {
+            let path = path_below(alloc, step, &path)?;
+            Ok(ScriptFault::Shape { path })
+        }
+        fault => Ok(fault),
+    }
+}
+
+/// What was read under a key or an index.
+pub(crate) fn below<T: Drop>(
+    alloc: Global,
+    step: &str,
+    read: Result<T, ScriptFault>,
+) -> Result<T, ScriptFault>
+    ensures { Gives (λ a. a) result (result_below step.now read) }
+{
+    match read {
+        Ok(read) => Ok(read),
+        Err(fault) => Err(fault_below(alloc, step, fault)?),
+    }
+}
+
+/// What was read at an index of a list.
+pub(crate) fn below_index<T: Drop>(
+    alloc: Global,
+    index: usize,
+    read: Result<T, ScriptFault>,
+) -> Result<T, ScriptFault>
+    ensures { Gives (λ a. a) result (result_below (decimal index) read) }
+{
+    match read {
+        Ok(read) => Ok(read),
+        Err(fault) => {
+            let mut buffer = Buffer::new();
+            Err(fault_below(alloc, buffer.format(index), fault)?)
+        }
+    }
+}
