@@ -1,0 +1,114 @@
+// Numbers and ranges in a slice of bytes. Each is one range of the slice behind one test, which the
+// compiler makes one instruction of where the width is known.
+
+ghost use Rattle.std.specs.Prelude.{◌≡◌, ℕ, ◌+◌, ◌^◌, ◌<◌, ◌≤◌, List, length, Option, Some, None, IsTrue, IfOk, OnOk, OnErr, option_map};
+ghost use Rattle.history_spec.specs.Store.{bytes_at, written, number_of, bytes_of};
+ghost use Rattle.wasm_store.specs.Calls.{is_width};
+
+use crate::bounds::OutOfBounds;
+
+/// The place behind the `count` bytes at `addr`, where a length has them all.
+#[inline(always)]
+pub(crate) fn end_of(length: usize, addr: u64, count: u64) -> Result<usize, OutOfBounds>
+    ensures place { IfOk result (λ end. end ≡ addr + count) }
+    ensures ok { OnOk result (addr + count ≤ length) }
+    ensures err { OnErr result (length < addr + count) }
+{
+    match addr.checked_add(count) {
+        Some(end) if end <= length as u64 => Ok(end as usize),
+        _ => Err(OutOfBounds),
+    }
+}
+
+/// The number that `width` bytes stand for.
+#[inline(always)]
+pub(crate) fn load(bytes: &[u8], addr: u64, width: usize) -> Result<u64, OutOfBounds>
+    requires { width ≤ 8 }
+    ensures ok { IfOk result
+        (λ bits. option_map number_of (bytes_at bytes.now addr width) ≡ Some bits) }
+    ensures fits { IfOk result (λ bits. bits < 256 ^ width) }
+    ensures err { OnErr result (bytes_at bytes.now addr width ≡ None) }
+{
+    end_of(bytes.len(), addr, width as u64)?;
+    let mut word = [0; 8];
+    word[..width].copy_from_slice(&bytes[addr as usize..][..width]);
+    Ok(u64::from_le_bytes(word))
+}
+
+/// The same of a width that is known only when it runs.
+#[inline(always)]
+pub(crate) fn load_width(bytes: &[u8], addr: u64, width: u32) -> Result<u64, OutOfBounds>
+    requires { IsTrue (is_width width) }
+    ensures ok { IfOk result
+        (λ bits. option_map number_of (bytes_at bytes.now addr width) ≡ Some bits) }
+    ensures fits { IfOk result (λ bits. bits < 256 ^ width) }
+    ensures err { OnErr result (bytes_at bytes.now addr width ≡ None) }
+{
+    match width {
+        1 => load(bytes, addr, 1),
+        2 => load(bytes, addr, 2),
+        4 => load(bytes, addr, 4),
+        _ => load(bytes, addr, 8),
+    }
+}
+
+/// Puts a word in the place of as many bytes.
+#[inline(always)]
+fn replace<const N: usize>(part: &mut [u8], word: [u8; N])
+    requires { length part.old ≡ N }
+    ensures { part.new ≡ word.entry }
+{
+    if let Some(place) = part.first_chunk_mut::<N>() {
+        *place = word;
+    }
+}
+
+/// Writes a word.
+#[inline(always)]
+pub(crate) fn store<const N: usize>(
+    bytes: &mut [u8],
+    addr: u64,
+    word: [u8; N],
+) -> Result<(), OutOfBounds>
+    ensures ok { OnOk result (written bytes.old addr word.entry ≡ Some bytes.new) }
+    ensures err { OnErr result (written bytes.old addr word.entry ≡ None) }
+    ensures same { OnErr result (bytes.new ≡ bytes.old) }
+{
+    let end = end_of(bytes.len(), addr, N as u64)?;
+    replace(&mut bytes[addr as usize..end], word);
+    Ok(())
+}
+
+/// Writes the lowest bytes of a number, as many as a width that is known only when it runs.
+#[inline(always)]
+pub(crate) fn store_width(
+    bytes: &mut [u8],
+    addr: u64,
+    width: u32,
+    bits: u64,
+) -> Result<(), OutOfBounds>
+    requires { IsTrue (is_width width) }
+    ensures ok { OnOk result (written bytes.old addr (bytes_of width bits) ≡ Some bytes.new) }
+    ensures err { OnErr result (written bytes.old addr (bytes_of width bits) ≡ None) }
+    ensures same { OnErr result (bytes.new ≡ bytes.old) }
+{
+    let [a, b, c, d, e, f, g, h] = bits.to_le_bytes();
+    match width {
+        1 => store(bytes, addr, [a]),
+        2 => store(bytes, addr, [a, b]),
+        4 => store(bytes, addr, [a, b, c, d]),
+        _ => store(bytes, addr, [a, b, c, d, e, f, g, h]),
+    }
+}
+
+/// Writes bytes.
+#[inline(always)]
+pub(crate) fn put(bytes: &mut [u8], addr: u64, news: &[u8]) -> Result<(), OutOfBounds>
+    ensures ok { OnOk result (written bytes.old addr news.now ≡ Some bytes.new) }
+    ensures err { OnErr result (written bytes.old addr news.now ≡ None) }
+    ensures same { OnErr result (bytes.new ≡ bytes.old) }
+{
+    let end = end_of(bytes.len(), addr, news.len() as u64)?;
+    bytes[addr as usize..end].copy_from_slice(news);
+    Ok(())
+}

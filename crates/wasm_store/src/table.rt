@@ -1,0 +1,34 @@
+// Ranges of a table's entries.
+
+ghost use Rattle.std.specs.Prelude.{◌≡◌, ℕ, ◌+◌, ◌≤◌, List, length, Option, Some, None, OnOk, OnErr, map};
+ghost use Rattle.wasm_store.specs.Calls.{funcs_written};
+
+use crate::bounds::OutOfTable;
+use crate::bytes::end_of;
+
+/// Puts functions in the place of as many entries.
+fn replace(part: &mut [Option<u32>], funcs: &[u32])
+    requires { length part.old ≡ length funcs.now }
+    ensures { part.new ≡ map (λ func. Some func) funcs.now }
+{
+    for at in 0..funcs.len() {
+        part[at] = Some(funcs[at]);
+    }
+}
+
+/// Puts functions into the entries from `index` on.
+pub(crate) fn put_funcs(
+    entries: &mut [Option<u32>],
+    index: u64,
+    funcs: &[u32],
+) -> Result<(), OutOfTable>
+    ensures ok { OnOk result (funcs_written entries.old index funcs.now ≡ Some entries.new) }
+    ensures err { OnErr result (funcs_written entries.old index funcs.now ≡ None) }
+    ensures same { OnErr result (entries.new ≡ entries.old) }
+{
+    let Ok(end) = end_of(entries.len(), index, funcs.len() as u64) else {
+        return Err(OutOfTable);
+    };
+    replace(&mut entries[index as usize..end], funcs);
+    Ok(())
+}

@@ -1,0 +1,134 @@
+ghost use Rattle.std.specs.Prelude.{◌≤◌, IsTrue};
+ghost use Rattle.history_spec.specs.Store.{most_pages};
+ghost use Rattle.wasm_store.specs.Calls.{is_width};
+
+use crate::{OutOfBounds, OutOfTable, Store};
+use std::alloc::Global;
+use std::test::Fail;
+use wasm_syntax::{Limits, NoMemory, Val, ValType};
+
+/// A store with a memory and a table of four entries.
+fn store_of(
+    alloc: Global,
+    pages: u32,
+    max: Option<u32>,
+    globals: Vec<Val>,
+) -> Result<Store, NoMemory>
+    requires { pages ≤ most_pages }
+{
+    let entries = Limits { min: 4, max: None };
+    Store::new(
+        alloc,
+        Some(Limits { min: pages, max }),
+        Some(entries),
+        globals,
+    )
+}
+
+/// What a growth answers, 9,999 where it is none.
+fn grown(store: &mut Store, pages: u32) -> Result<u32, NoMemory> {
+    if !store.has_memory() {
+        return Ok(9_999);
+    }
+    match store.grow(pages)? {
+        Some(old) => Ok(old),
+        None => Ok(9_999),
+    }
+}
+
+fn loaded(store: &Store, addr: u64, width: u32) -> Option<u64>
+    requires { IsTrue (is_width width) }
+{
+    store.load_at(addr, width).ok()
+}
+
+/// Whether the number was written.
+fn stored(store: &mut Store, addr: u64, width: u32, bits: u64) -> bool
+    requires { IsTrue (is_width width) }
+{
+    store.store_at(addr, width, bits).is_ok()
+}
+
+#[test]
+fn an_access_ends_at_the_last_byte_at_most(rt: HostRuntime) -> Result<(), Fail> {
+    let alloc = rt.alloc();
+    let mut store = store_of(alloc, 1, None, Vec::new(alloc))?;
+    assert!(rt; stored(&mut store, 65_532, 4, 0xFFFF_FFFF_0403_0201));
+    assert!(rt; loaded(&store, 65_532, 4) == Some(0x0403_0201));
+    assert!(rt; loaded(&store, 65_528, 8) == Some(0x0403_0201_0000_0000));
+    assert!(rt; loaded(&store, 65_534, 2) == Some(0x0403));
+    assert!(rt; loaded(&store, 65_535, 1) == Some(4));
+    assert!(rt; loaded(&store, 65_533, 4) == None);
+    assert!(rt; loaded(&store, 65_536, 1) == None);
+    assert!(rt; loaded(&store, 0x1_0000_0000, 1) == None);
+    assert!(rt; loaded(&store, u64::MAX, 8) == None);
+    assert!(rt; !stored(&mut store, 65_529, 8, 1));
+    assert!(rt; store.put_bytes(65_534, &[1, 2, 3]) == Err(OutOfBounds));
+    assert!(rt; loaded(&store, 65_532, 4) == Some(0x0403_0201));
+    Ok(())
+}
+
+#[test]
+fn overlapping_bytes_are_moved_both_ways(rt: HostRuntime) -> Result<(), Fail> {
+    let alloc = rt.alloc();
+    let mut store = store_of(alloc, 1, None, Vec::new(alloc))?;
+    assert!(rt; store.put_bytes(8, &[1, 2, 3, 4, 5, 6]).is_ok());
+    assert!(rt; store.move_bytes(10, 8, 4).is_ok());
+    assert!(rt; loaded(&store, 8, 8) == Some(0x0000_0403_0201_0201));
+    assert!(rt; store.move_bytes(8, 9, 5).is_ok());
+    assert!(rt; loaded(&store, 8, 8) == Some(0x0000_0404_0302_0102));
+    assert!(rt; store.move_bytes(65_533, 8, 4) == Err(OutOfBounds));
+    assert!(rt; store.move_bytes(8, 65_533, 4) == Err(OutOfBounds));
+    Ok(())
+}
+
+#[test]
+fn a_memory_grows_to_its_maximum(rt: HostRuntime) -> Result<(), Fail> {
+    let alloc = rt.alloc();
+    let mut store = store_of(alloc, 1, Some(3), Vec::new(alloc))?;
+    assert!(rt; stored(&mut store, 65_535, 1, 7));
+    assert!(rt; grown(&mut store, 1)? == 1);
+    assert!(rt; loaded(&store, 65_535, 4) == Some(7));
+    assert!(rt; grown(&mut store, 2)? == 9_999);
+    assert!(rt; grown(&mut store, u32::MAX)? == 9_999);
+    assert!(rt; grown(&mut store, 1)? == 2);
+    assert!(rt; store.pages() == 3);
+    let mut store = store_of(alloc, 1, Some(65_536), Vec::new(alloc))?;
+    assert!(rt; grown(&mut store, 4_096)? == 9_999);
+    assert!(rt; grown(&mut store, 0)? == 1);
+    Ok(())
+}
+
+#[test]
+fn entries_and_globals_are_set_and_copied(rt: HostRuntime) -> Result<(), Fail> {
+    let alloc = rt.alloc();
+    let value = Val {
+        ty: ValType::I32,
+        bits: 5,
+    };
+    let mut store = store_of(alloc, 0, None, vec![in alloc; value]?)?;
+    assert!(rt; store.put_funcs(1, &[7, 8]).is_ok());
+    assert!(rt; store.set_entry(2, None).is_ok());
+    assert!(rt; store.put_funcs(3, &[7, 8]) == Err(OutOfTable));
+    assert!(rt; store.set_entry(4, Some(1)) == Err(OutOfTable));
+    let copy = store.clone()?;
+    assert!(rt; copy.entry(1) == Ok(Some(7)));
+    assert!(rt; copy.entry(2) == Ok(None));
+    assert!(rt; copy.entry(4) == Err(OutOfTable));
+    assert!(rt; copy.table_size() == 4);
+    assert!(rt; copy.globals() == [value].as_slice());
+    Ok(())
+}
+
+#[test]
+fn a_store_may_have_no_memory_and_no_table(rt: HostRuntime) -> Result<(), Fail> {
+    let alloc = rt.alloc();
+    let mut store = Store::new(alloc, None, None, Vec::new(alloc))?;
+    assert!(rt; !store.has_memory() && !store.has_table());
+    assert!(rt; store.pages() == 0 && store.table_size() == 0);
+    assert!(rt; store.put_bytes(0, &[]).is_ok());
+    assert!(rt; store.put_bytes(1, &[]) == Err(OutOfBounds));
+    assert!(rt; loaded(&store, 0, 1) == None);
+    assert!(rt; store.entry(0) == Err(OutOfTable));
+    Ok(())
+}
