@@ -1,0 +1,11 @@
+pub mod Scans
+pub mod Imports
+pub mod Bodies
+pub mod Sizes
+pub mod Encodings
+pub mod MadeSizes
+pub mod Encodable
+pub mod Plain
+pub mod Totals
+pub mod Gathering
+pub mod PlainCalls
