@@ -1,0 +1,90 @@
+-- What each fault is answered by: a status, and a line on the error stream.
+use Rattle.std.specs.Prelude.{ℕ, ◌+◌, ◌/◌, ◌%◌, ◌==◌, ◌&&◌, Bool, not, nat_lt, List, [], ◌∷◌, ◌++◌, flat_map, codes, decimal, if◌then◌else◌, ◌⊎◌, Option}
+use Rattle.r3_outside.specs.Count.{Rose}
+use Rattle.r3_outside.specs.Written.{Grew, GrewByPrefix}
+use Rattle.wasm_syntax.specs.declared.profile.Feature.{Feature}
+use Rattle.wasm_syntax.specs.declared.profile.Feature.TheVariants.{FloatComparison, FloatArithmetic, FloatConversion}
+use Rattle.wasm_syntax.specs.declared.profile.Which.{Which}
+use Rattle.wasm_syntax.specs.declared.profile.Which.TheVariants.{Parameters, Table, Memory as MemoryPages, Locals}
+use Rattle.r3_faults.specs.declared.faults.Fault.{Fault}
+use Rattle.r3_faults.specs.declared.faults.Fault.TheVariants.{Usage, Read, TooLong, Malformed, InvalidFunction, InvalidModule, Unsupported, Limit, Reserved, NotJson, Shape, UnknownName, WrongType, NoAccess, CallsOwn, Spent, Write, Memory, NotBuilt}
+
+abbrev pub status_of : Fault → ℕ
+status_of Usage = 2
+status_of (Read name) = 3
+status_of (TooLong name limit) = 4
+status_of (Malformed at) = 5
+status_of (InvalidFunction func) = 6
+status_of InvalidModule = 6
+status_of (Unsupported func number feature) = 7
+status_of (Limit which value) = 8
+status_of (Reserved import) = 8
+status_of NotJson = 9
+status_of (Shape path) = 9
+status_of (UnknownName name) = 9
+status_of (WrongType name) = 9
+status_of (NoAccess name) = 9
+status_of (CallsOwn name) = 9
+status_of (Spent turns) = 12
+status_of Write = 13
+status_of Memory = 14
+status_of NotBuilt = 19
+
+-- a byte that is printed as it is: from the space to `~`, but for `\`
+abbrev pub is_plain : ℕ → Bool
+is_plain byte = nat_lt 31 byte && nat_lt byte 127 && not (byte == 92)
+
+abbrev pub hex_digit : ℕ → ℕ
+hex_digit digit = if nat_lt digit 10 then 48 + digit else 87 + digit
+
+-- any other byte is `\` and two lower-case hexadecimal digits
+abbrev pub escaped_byte : ℕ → List ℕ
+escaped_byte byte = if is_plain byte then byte ∷ [] else 92 ∷ hex_digit (byte / 16) ∷ hex_digit (byte % 16) ∷ []
+
+abbrev pub escaped : List ℕ → List ℕ
+escaped bytes = flat_map escaped_byte bytes
+
+-- a line of a text and a number, or a name
+abbrev pub with_number : List ℕ → ℕ → List ℕ
+with_number text number = text ++ (decimal number ++ codes "\n")
+
+abbrev pub with_name : List ℕ → List ℕ → List ℕ
+with_name text name = text ++ (escaped name ++ codes "\n")
+
+abbrev pub feature_text : Feature → List ℕ
+feature_text FloatComparison = codes " float comparison"
+feature_text FloatArithmetic = codes " float arithmetic"
+feature_text FloatConversion = codes " float conversion"
+
+abbrev pub limit_text : Which → List ℕ
+limit_text Parameters = codes "limit: parameters "
+limit_text Table = codes "limit: table "
+limit_text MemoryPages = codes "limit: memory "
+limit_text Locals = codes "limit: locals "
+
+abbrev pub line_of : Fault → List ℕ
+line_of Usage = codes "usage\n"
+line_of (Read name) = with_name (codes "read: ") name
+line_of (TooLong name limit) = codes "too long: " ++ (escaped name ++ with_number (codes " ") limit)
+line_of (Malformed at) = with_number (codes "malformed: at ") at
+line_of (InvalidFunction func) = with_number (codes "invalid: function ") func
+line_of InvalidModule = codes "invalid: module\n"
+line_of (Unsupported func number feature) =
+    codes "unsupported: function " ++ (decimal func ++ (codes " instruction " ++ (decimal number ++ (feature_text feature ++ codes "\n"))))
+line_of (Limit which value) = with_number (limit_text which) value
+line_of (Reserved import) = with_number (codes "reserved: import ") import
+line_of NotJson = codes "script: not json\n"
+line_of (Shape path) = with_name (codes "script: shape ") path
+line_of (UnknownName name) = with_name (codes "script: unknown ") name
+line_of (WrongType name) = with_name (codes "script: type ") name
+line_of (NoAccess name) = with_name (codes "script: no access ") name
+line_of (CallsOwn name) = with_name (codes "script: calls own ") name
+line_of (Spent turns) = with_number (codes "turns spent: ") turns
+line_of Write = codes "write\n"
+line_of Memory = codes "memory\n"
+line_of NotBuilt = codes "not built\n"
+
+-- the line was written whole, or a first part of it and the count of faults rose
+abbrev pub IsTold : (before now : Option (List ℕ)) (faults_before faults_now : ℕ) → List ℕ → Type 0
+IsTold before now faults_before faults_now line =
+    Grew before now line ⊎ (GrewByPrefix before now line × Rose faults_before faults_now)

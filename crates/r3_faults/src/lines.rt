@@ -1,0 +1,215 @@
+// The lines of error.
+
+ghost use Rattle.std.specs.Prelude.{◌≡◌, ◌<◌, ◌≤◌, ◌/◌, ◌%◌, false, [], ◌∷◌, ◌++◌, length, take, flat_map, slice_index, OnOk, OnErr, IfOk, codes, decimal};
+ghost use Rattle.r3_outside.specs.Count.{Rose};
+ghost use Rattle.r3_outside.specs.Written.{Grew, GrewByPrefix};
+ghost use Rattle.r3_faults.specs.Lines.{line_of, escaped, is_plain, hex_digit, feature_text, limit_text};
+
+use crate::faults::Fault;
+use itoa::Buffer;
+use r3_outside::{PutFault, Sink, put_all, put_parts};
+use wasm_syntax::{Feature, Name, Which};
+
+impl Fault {
+    /// Writes the line of this fault. After a fault of `err` a first part of it is written. Takes
+    /// no memory.
+    pub fn put_line<E: Sink>(&self, err: &mut E) -> Result<(), PutFault>
+        ensures faults_never_fall { E.faults err.old ≤ E.faults err.new }
+        ensures failed { OnErr result (Rose (E.faults err.old) (E.faults err.new)) }
+        ensures wrote { OnOk result (Grew (E.written err.old) (E.written err.new) (line_of self.now)) }
+        ensures wrote_prefix { OnErr result
+            (GrewByPrefix (E.written err.old) (E.written err.new) (line_of self.now)) }
+    {
+        match self {
+            Fault::Usage => put_all(err, b"usage\n"),
+            Fault::Read { name } => put_name(err, b"read: ", name, &[b"\n"]),
+            Fault::TooLong { name, limit } => {
+                let mut buffer = Buffer::new();
+                let limit = buffer.format(*limit).as_bytes();
+                put_name(err, b"too long: ", name, &[b" ", limit, b"\n"])
+            }
+            Fault::Malformed { at } => put_number(err, b"malformed: at ", *at),
+            Fault::InvalidFunction { func } => put_number(err, b"invalid: function ", *func),
+            Fault::InvalidModule => put_all(err, b"invalid: module\n"),
+            Fault::Unsupported {
+                func,
+                number,
+                feature,
+            } => put_unsupported(err, *func, *number, *feature),
+            Fault::Limit { which, value } => put_number(err, limit_text(*which), *value),
+            Fault::Reserved { import } => put_number(err, b"reserved: import ", *import),
+            Fault::NotJson => put_all(err, b"script: not json\n"),
+            Fault::Shape { path } => put_name(err, b"script: shape ", path, &[b"\n"]),
+            Fault::UnknownName { name } => put_name(err, b"script: unknown ", name, &[b"\n"]),
+            Fault::WrongType { name } => put_name(err, b"script: type ", name, &[b"\n"]),
+            Fault::NoAccess { name } => put_name(err, b"script: no access ", name, &[b"\n"]),
+            Fault::CallsOwn { name } => put_name(err, b"script: calls own ", name, &[b"\n"]),
+            Fault::Spent { turns } => put_number(err, b"turns spent: ", *turns),
+            Fault::Write => put_all(err, b"write\n"),
+            Fault::Memory => put_all(err, b"memory\n"),
+            Fault::NotBuilt => put_all(err, b"not built\n"),
+        }
+    }
+}
+
+/// Writes a line of a text and a number in decimal.
+fn put_number<E: Sink>(err: &mut E, text: &[u8], number: u64) -> Result<(), PutFault>
+    ensures faults_never_fall { E.faults err.old ≤ E.faults err.new }
+    ensures failed { OnErr result (Rose (E.faults err.old) (E.faults err.new)) }
+    ensures wrote { OnOk result (Grew (E.written err.old) (E.written err.new)
+        (text.now ++ (decimal number ++ codes "\n"))) }
+    ensures wrote_prefix { OnErr result (GrewByPrefix (E.written err.old) (E.written err.new)
+        (text.now ++ (decimal number ++ codes "\n"))) }
+{
+    let mut buffer = Buffer::new();
+    put_parts(err, &[text, buffer.format(number).as_bytes(), b"\n"])
+}
+
+/// Writes the line of an instruction that is not supported.
+fn put_unsupported<E: Sink>(
+    err: &mut E,
+    func: u64,
+    number: u64,
+    feature: Feature,
+) -> Result<(), PutFault>
+    ensures faults_never_fall { E.faults err.old ≤ E.faults err.new }
+    ensures failed { OnErr result (Rose (E.faults err.old) (E.faults err.new)) }
+    ensures wrote { OnOk result (Grew (E.written err.old) (E.written err.new)
+        (line_of (Fault.Unsupported func number feature))) }
+    ensures wrote_prefix { OnErr result (GrewByPrefix (E.written err.old) (E.written err.new)
+        (line_of (Fault.Unsupported func number feature))) }
+{
+    let mut func_buffer = Buffer::new();
+    let mut number_buffer = Buffer::new();
+    put_parts(
+        err,
+        &[
+            b"unsupported: function ",
+            func_buffer.format(func).as_bytes(),
+            b" instruction ",
+            number_buffer.format(number).as_bytes(),
+            feature_text(feature),
+            b"\n",
+        ],
+    )
+}
+
+/// The end of the line of such an instruction.
+fn feature_text(feature: Feature) -> &'static [u8]
+    ensures { result.now ≡ feature_text feature }
+{
+    match feature {
+        Feature::FloatComparison => b" float comparison",
+        Feature::FloatArithmetic => b" float arithmetic",
+        Feature::FloatConversion => b" float conversion",
+    }
+}
+
+/// The begin of the line of a quantity past its limit.
+fn limit_text(which: Which) -> &'static [u8]
+    ensures { result.now ≡ limit_text which }
+{
+    match which {
+        Which::Parameters => b"limit: parameters ",
+        Which::Table => b"limit: table ",
+        Which::Memory => b"limit: memory ",
+        Which::Locals => b"limit: locals ",
+    }
+}
+
+/// Writes a name, escaped, between a text and the parts of another.
+fn put_name<E: Sink>(
+    err: &mut E,
+    before: &[u8],
+    name: &Name,
+    behind: &[&[u8]],
+) -> Result<(), PutFault>
+    ensures faults_never_fall { E.faults err.old ≤ E.faults err.new }
+    ensures failed { OnErr result (Rose (E.faults err.old) (E.faults err.new)) }
+    ensures wrote { OnOk result (Grew (E.written err.old) (E.written err.new)
+        (before.now ++ (escaped name.now ++ flat_map (λ part. part.now) behind.now))) }
+    ensures wrote_prefix { OnErr result (GrewByPrefix (E.written err.old) (E.written err.new)
+        (before.now ++ (escaped name.now ++ flat_map (λ part. part.now) behind.now))) }
+{
+    put_all(err, before)?;
+    put_escaped(err, name.as_str().as_bytes())?;
+    put_parts(err, behind)
+}
+
+/// Writes a text in runs: plain bytes as they are, any other one escaped.
+fn put_escaped<E: Sink>(err: &mut E, text: &[u8]) -> Result<(), PutFault>
+    ensures faults_never_fall { E.faults err.old ≤ E.faults err.new }
+    ensures failed { OnErr result (Rose (E.faults err.old) (E.faults err.new)) }
+    ensures wrote { OnOk result
+        (Grew (E.written err.old) (E.written err.new) (escaped text.now)) }
+    ensures wrote_prefix { OnErr result
+        (GrewByPrefix (E.written err.old) (E.written err.new) (escaped text.now)) }
+{
+    let mut done = 0;
+    'runs: while done < text.len() {
+        done += put_run(err, &text[done..])?;
+    }
+    Ok(())
+}
+
+/// Writes the plain bytes that a text begins with, or else its first byte escaped, and answers how
+/// many bytes of the text these are.
+fn put_run<E: Sink>(err: &mut E, text: &[u8]) -> Result<usize, PutFault>
+    requires { 0 < length text.now }
+    ensures faults_never_fall { E.faults err.old ≤ E.faults err.new }
+    ensures failed { OnErr result (Rose (E.faults err.old) (E.faults err.new)) }
+    ensures some { IfOk result (λ count. 0 < count) }
+    ensures within { IfOk result (λ count. count ≤ length text.now) }
+    ensures wrote { IfOk result
+        (λ count. Grew (E.written err.old) (E.written err.new) (escaped (take count text.now))) }
+    ensures wrote_prefix { OnErr result
+        (GrewByPrefix (E.written err.old) (E.written err.new) (escaped text.now)) }
+{
+    let plain = plain_count(text);
+    if plain > 0 {
+        put_all(err, &text[..plain])?;
+        return Ok(plain);
+    }
+    put_all(err, &escaped_byte(text[0]))?;
+    Ok(1)
+}
+
+/// How many plain bytes a text begins with.
+fn plain_count(text: &[u8]) -> usize
+    ensures within { result ≤ length text.now }
+    ensures plain { escaped (take result text.now) ≡ take result text.now }
+    ensures ends { result < length text.now → is_plain (slice_index text.now result) ≡ false }
+{
+    for (count, byte) in text.iter().enumerate() {
+        if !is_plain(*byte) {
+            return count;
+        }
+    }
+    text.len()
+}
+
+/// Whether a byte is printed as it is.
+fn is_plain(byte: u8) -> bool
+    ensures { result ≡ is_plain byte }
+{
+    byte > 0x1f && byte < 0x7f && byte != b'\\'
+}
+
+/// A backslash and the two digits of a byte.
+fn escaped_byte(byte: u8) -> [u8; 3]
+    ensures { result ≡ 92 ∷ hex_digit (byte / 16) ∷ hex_digit (byte % 16) ∷ [] }
+{
+    [b'\\', hex_digit(byte / 16), hex_digit(byte % 16)]
+}
+
+/// A lower-case hexadecimal digit.
+fn hex_digit(digit: u8) -> u8
+    requires { digit < 16 }
+    ensures { result ≡ hex_digit digit }
+{
+    if digit < 10 {
+        b'0' + digit
+    } else {
+        b'a' - 10 + digit
+    }
+}
