@@ -1,0 +1,90 @@
+-- The module and the script that bytes are, or why they are refused, in order.
+use Rattle.std.specs.Prelude.{◌≡◌, ◌≢◌, ℕ, List, Option, Some, None, Err, Ok, false}
+use Rattle.wasm_syntax.specs.declared.forms.Form.TheVariants.{Core}
+use Rattle.wasm_syntax.specs.declared.modules.Module.{Module}
+use Rattle.wasm_syntax.specs.Encoding.Modules.{Encodes, IsFaultPlace}
+use Rattle.wasm_syntax.specs.Validity.{IsValid, IsInvalidAt}
+use Rattle.wasm_syntax.specs.Profile as profile
+use Rattle.wasm_syntax.specs.Profile.{Refusal, IsAccepted, first_refusal}
+use Rattle.host_script.specs.declared.scripts.Script.{Script}
+use Rattle.script_text.specs.declared.faults.ScriptFault.{ScriptFault}
+use Rattle.script_text.specs.declared.faults.ScriptFault.TheVariants as script
+use Rattle.script_text.specs.Texts.{script_of_text}
+use Rattle.r3_faults.specs.declared.faults.Fault.{Fault}
+use Rattle.r3_faults.specs.declared.faults.Fault.TheVariants.{Malformed, InvalidFunction, InvalidModule, Unsupported, Limit, Reserved, NotJson, Shape, UnknownName, WrongType, NoAccess, CallsOwn, Memory}
+
+-- ---- the faults that name a refusal
+
+-- a module that is invalid at a place
+abbrev pub invalid_fault : Option ℕ → Fault
+invalid_fault None = InvalidModule
+invalid_fault (Some func) = InvalidFunction func
+
+-- a valid module that is refused
+abbrev pub refusal_fault : Refusal → Fault
+refusal_fault (profile.Unsupported func number feature) = Unsupported func number feature
+refusal_fault (profile.Limit which value) = Limit which value
+refusal_fault (profile.Reserved import) = Reserved import
+
+-- a script
+abbrev pub script_fault : ScriptFault → Fault
+script_fault script.NotJson = NotJson
+script_fault (script.Shape path) = Shape path
+script_fault (script.UnknownName name) = UnknownName name
+script_fault (script.WrongType name) = WrongType name
+script_fault (script.NoAccess name) = NoAccess name
+script_fault (script.CallsOwn name) = CallsOwn name
+script_fault script.Memory = Memory
+
+-- ---- modules
+
+-- the bytes encode the module in the form Core, and it is accepted
+pub record IsModuleOf (bytes : List ℕ) (m : Module) : Type 0 where
+  pub encoded : Encodes Core bytes m
+  pub accepted : IsAccepted false m
+
+-- they encode no module, and this is the place of the fault
+pub record IsMalformed (bytes : List ℕ) (fault : Fault) : Type 0 where
+  pub at : ℕ
+  pub named : fault ≡ Malformed at
+  pub none : (m : Module) → Encodes Core bytes m → ⊥
+  pub place : IsFaultPlace Core bytes at
+
+-- a module is invalid at the place that is named
+pub record IsInvalidFor (m : Module) (fault : Fault) : Type 0 where
+  pub place : Option ℕ
+  pub named : fault ≡ invalid_fault place
+  pub invalid : IsInvalidAt m place
+
+-- a module is refused for what is named
+pub record IsUnacceptedFor (m : Module) (fault : Fault) : Type 0 where
+  pub refusal : Refusal
+  pub named : fault ≡ refusal_fault refusal
+  pub first : first_refusal false m ≡ Some refusal
+
+-- why bytes are no accepted module: they encode none, or one that is invalid, or a valid one that is refused
+pub data IsRefusedModule (bytes : List ℕ) (fault : Fault) : Type 0 where
+  ByBytes : (malformed : IsMalformed bytes fault) → IsRefusedModule bytes fault
+  ByRules : (m : Module) (encoded : Encodes Core bytes m) (invalid : IsInvalidFor m fault) → IsRefusedModule bytes fault
+  ByProfile : (m : Module) (encoded : Encodes Core bytes m) (valid : IsValid m) (refused : IsUnacceptedFor m fault) → IsRefusedModule bytes fault
+
+-- ---- scripts
+
+-- why bytes are no script for a module: the first fault of the walk
+pub record IsRefusedScript (m : Module) (bytes : List ℕ) (fault : Fault) : Type 0 where
+  pub found : ScriptFault
+  pub named : fault ≡ script_fault found
+  pub differs : found ≢ script.Memory
+  pub first : script_of_text m bytes ≡ Err found
+
+-- ---- both
+
+-- the module and the script of two files
+pub record AreInputs (module_bytes script_bytes : List ℕ) (m : Module) (script : Script) : Type 0 where
+  pub is_module : IsModuleOf module_bytes m
+  pub is_script : script_of_text m script_bytes ≡ Ok script
+
+-- the module is refused, or the script for it
+pub data AreRefused (module_bytes script_bytes : List ℕ) (fault : Fault) : Type 0 where
+  ByModule : (refused : IsRefusedModule module_bytes fault) → AreRefused module_bytes script_bytes fault
+  ByScript : (m : Module) (is_module : IsModuleOf module_bytes m) (refused : IsRefusedScript m script_bytes fault) → AreRefused module_bytes script_bytes fault

@@ -1,0 +1,133 @@
+// Bytes as modules and scripts.
+
+ghost use Rattle.std.specs.Prelude.{◌≡◌, ◌<◌, ◌≤◌, ◌⊎◌, ◌^◌, false, Ok, Err, length, All, IfOk, IfErr, OnOk};
+ghost use Rattle.wasm_syntax.specs.declared.forms.Form.TheVariants.{Core};
+ghost use Rattle.wasm_syntax.specs.Encoding.Modules.{Encodes};
+ghost use Rattle.wasm_syntax.specs.Index.{func_indices};
+ghost use Rattle.wasm_syntax.specs.Profile.{IsAccepted};
+ghost use Rattle.wasm_profile.specs.Sizes.{HasShortLists};
+ghost use Rattle.wasm_syntax.specs.declared.modules.Module.{Module};
+ghost use Rattle.wasm_syntax.specs.Validity.{IsValid};
+ghost use Rattle.host_script.specs.declared.scripts.Script.{Script};
+ghost use Rattle.script_text.specs.Texts.{script_of_text};
+ghost use Rattle.r3_faults.specs.declared.faults.Fault.{Fault};
+ghost use Rattle.r3_faults.specs.declared.faults.Fault.TheVariants.{Memory};
+ghost use Rattle.r3_inputs.specs.Inputs.{IsModuleOf, IsMalformed, IsInvalidFor, IsUnacceptedFor, IsRefusedModule, IsRefusedScript};
+
+use encoding_sizes::lists_of_encoding;
+use host_script::Script;
+use r3_faults::Fault;
+use script_text::{ScriptFault, read_script};
+use std::alloc::Global;
+use wasm_decode::{DecodeFault, decode};
+use wasm_profile::{ProfileFault, accept};
+use wasm_syntax::{Form, Module, fault_places, module_encoding, validity_is_decided};
+use wasm_validate::{Checked, InvalidFault, validate};
+
+/// The module that bytes encode in the form Core, where it is valid and accepted.
+pub fn module_of(alloc: Global, bytes: &[u8]) -> Result<Checked, Fault>
+    requires { length bytes.now ≤ 8388608 }
+    ensures taken { IfOk result (λ checked. IsModuleOf bytes.now checked) }
+    ensures bytes { IfOk result (λ checked. All (λ segment. All (λ byte. byte < 256) segment.bytes) checked.datas) }
+    ensures cause { IfErr result (λ fault. (fault ≡ Memory) ⊎ IsRefusedModule bytes.now fault) }
+    ensures refused { (fault : Fault) → IsRefusedModule bytes.now fault
+        → (result ≡ Err fault) ⊎ (result ≡ Err Memory) }
+    ensures accepted { (m : Module) → IsModuleOf bytes.now m
+        → (result ≡ Ok m) ⊎ (result ≡ Err Memory) }
+{
+    module_encoding();
+    fault_places();
+    validity_is_decided();
+    taken_module(alloc, bytes)
+}
+
+/// The same, with what it is or why it is refused.
+fn taken_module(alloc: Global, bytes: &[u8]) -> Result<Checked, Fault>
+    requires { length bytes.now ≤ 8388608 }
+    ensures taken { IfOk result (λ checked. IsModuleOf bytes.now checked) }
+    ensures bytes { IfOk result (λ checked. All (λ segment. All (λ byte. byte < 256) segment.bytes) checked.datas) }
+    ensures cause { IfErr result (λ fault. (fault ≡ Memory) ⊎ IsRefusedModule bytes.now fault) }
+{
+    lists_of_encoding();
+    let module = decoded(alloc, bytes)?;
+    let checked = validated(alloc, module)?;
+    accepted(&checked)?;
+    Ok(checked)
+}
+
+/// The module that bytes encode in the form Core.
+fn decoded(alloc: Global, bytes: &[u8]) -> Result<Module, Fault>
+    ensures found { IfOk result (λ m. Encodes Core bytes.now m) }
+    ensures bytes { IfOk result (λ m. All (λ segment. All (λ byte. byte < 256) segment.bytes) m.datas) }
+    ensures cause { IfErr result (λ fault. (fault ≡ Memory) ⊎ IsMalformed bytes.now fault) }
+{
+    match decode(alloc, bytes, Form::Core) {
+        Ok(module) => Ok(module),
+        Err(DecodeFault::Malformed { at }) => Err(Fault::Malformed { at }),
+        Err(DecodeFault::Memory) => Err(Fault::Memory),
+    }
+}
+
+/// A module, with the knowledge that it is valid.
+fn validated(alloc: Global, module: Module) -> Result<Checked, Fault>
+    requires { length (func_indices «module») < 2 ^ 32 }
+    ensures same { IfOk result (λ checked. checked ≡ «module») }
+    ensures valid { IfOk result (λ _. IsValid «module») }
+    ensures cause { IfErr result (λ fault. (fault ≡ Memory) ⊎ IsInvalidFor «module» fault) }
+{
+    match validate(alloc, module) {
+        Ok(checked) => Ok(checked),
+        Err(InvalidFault::Invalid { func: None }) => Err(Fault::InvalidModule),
+        Err(InvalidFault::Invalid { func: Some(func) }) => Err(Fault::InvalidFunction {
+            func: u64::from(func),
+        }),
+        Err(InvalidFault::Memory) => Err(Fault::Memory),
+    }
+}
+
+/// Takes a valid module that is accepted.
+fn accepted(checked: &Checked) -> Result<(), Fault>
+    requires { HasShortLists checked.now }
+    ensures taken { OnOk result (IsAccepted false checked.now) }
+    ensures cause { IfErr result (λ fault. IsUnacceptedFor checked.now fault) }
+{
+    match accept(checked, false) {
+        Ok(()) => Ok(()),
+        Err(
+            ProfileFault::Unsupported {
+                func,
+                number,
+                feature,
+            },
+        ) => Err(Fault::Unsupported {
+            func: u64::from(func),
+            number: u64::from(number),
+            feature,
+        }),
+        Err(ProfileFault::Limit { which, value }) => Err(Fault::Limit { which, value }),
+        Err(ProfileFault::Reserved { import }) => Err(Fault::Reserved {
+            import: u64::from(import),
+        }),
+    }
+}
+
+/// The script that bytes are for a module.
+pub fn script_of(alloc: Global, bytes: &[u8], checked: &Checked) -> Result<Script, Fault>
+    ensures taken { IfOk result (λ script. script_of_text checked.now bytes.now ≡ Ok script) }
+    ensures cause { IfErr result (λ fault. (fault ≡ Memory) ⊎ IsRefusedScript checked.now bytes.now fault) }
+    ensures refused { (fault : Fault) → IsRefusedScript checked.now bytes.now fault
+        → (result ≡ Err fault) ⊎ (result ≡ Err Memory) }
+    ensures accepted { (script : Script) → script_of_text checked.now bytes.now ≡ Ok script
+        → (result ≡ Ok script) ⊎ (result ≡ Err Memory) }
+{
+    match read_script(alloc, bytes, checked.module()) {
+        Ok(script) => Ok(script),
+        Err(ScriptFault::NotJson) => Err(Fault::NotJson),
+        Err(ScriptFault::Shape { path }) => Err(Fault::Shape { path }),
+        Err(ScriptFault::UnknownName { name }) => Err(Fault::UnknownName { name }),
+        Err(ScriptFault::WrongType { name }) => Err(Fault::WrongType { name }),
+        Err(ScriptFault::NoAccess { name }) => Err(Fault::NoAccess { name }),
+        Err(ScriptFault::CallsOwn { name }) => Err(Fault::CallsOwn { name }),
+        Err(ScriptFault::Memory) => Err(Fault::Memory),
+    }
+}
