@@ -1,0 +1,25 @@
+//! Tests alone: which modules are taken, and why others are refused. The answers were worked out from
+//! the standard by hand.
+//!
+//! Core 1.0 refuses what later editions take: types with two results, two tables, and a `br_table`
+//! behind `unreachable` whose labels have two types.
+#![tactic(auto)]
+
+#[cfg(test)]
+mod answers;
+#[cfg(test)]
+mod bodies;
+#[cfg(test)]
+mod jumps;
+#[cfg(test)]
+mod memory;
+#[cfg(test)]
+mod numeric;
+#[cfg(test)]
+mod outside;
+#[cfg(test)]
+mod places;
+#[cfg(test)]
+mod profile;
+#[cfg(test)]
+mod uses;
