@@ -1,0 +1,23 @@
+//! Worked histories of flat code, beside those of the run.
+#![tactic(auto)]
+
+ghost use Rattle.std.specs.Prelude.{[], ◌∷◌};
+ghost use Rattle.worked_histories.specs.Build.{i32};
+ghost use Rattle.worked_histories.specs.Modules.{grow_access, overwrite, two_answers};
+ghost use Rattle.worked_histories.specs.Scripts.{does_nothing, five_seven};
+ghost use Rattle.flat_histories.specs.Loops.{called_with, either, leaves, sum_down, switch};
+ghost use Rattle.flat_histories.specs.Played.{PlaysAs};
+
+/// The flat code of the example modules has the histories of their runs.
+pub fn flat_code_has_the_histories()
+    ensures two_answers { PlaysAs two_answers five_seven 1 [] ((i32 5 ∷ []) ∷ (i32 7 ∷ []) ∷ []) 10 }
+    ensures overwrite { PlaysAs overwrite does_nothing 1 [] ([] ∷ []) 20 }
+    ensures grow_access { PlaysAs grow_access does_nothing 1 [] ([] ∷ []) 20 }
+    ensures sum_down { PlaysAs sum_down (called_with 3) 0 (i32 3 ∷ []) [] 60 }
+    ensures either_first { PlaysAs either (called_with 3) 0 (i32 3 ∷ []) [] 60 }
+    ensures either_second { PlaysAs either (called_with 0) 0 (i32 0 ∷ []) [] 60 }
+    ensures switch_first { PlaysAs switch (called_with 0) 0 (i32 0 ∷ []) [] 60 }
+    ensures switch_second { PlaysAs switch (called_with 1) 0 (i32 1 ∷ []) [] 60 }
+    ensures switch_default { PlaysAs switch (called_with 2) 0 (i32 2 ∷ []) [] 60 }
+    ensures leaves { PlaysAs leaves (called_with 6) 0 (i32 6 ∷ []) [] 60 }
+{}
