@@ -1,0 +1,13 @@
+pub mod Stacks
+pub mod Opcodes
+pub mod Bytes
+pub mod Types
+pub mod Accesses
+pub mod Computes
+pub mod Slots
+pub mod Safety
+pub mod Due
+pub mod Entries
+pub mod Standing
+pub mod Fits
+pub mod Going

@@ -1,0 +1,19 @@
+-- The values that are read stand before those that are left to be read.
+use Rattle.std.proofs.Common.{◌≡◌, ◌+◌, ◌++◌, arith, refl, add-zero, sym, ap, ◌∙◌}
+use Rattle.flat_steps.specs.FlatStep.{values_at}
+use Rattle.wasm_interp.proofs.Slots.{one_read, all_read}
+use Rattle.wasm_interp.proofs.values.values_at.Goals as goal
+
+pub each-init : goal.each-init
+each-init c = (sym (add-zero c.args.at), ap (λ l. l ++ values_at c.args.slots.now c.args.at c.args.types.now) c.in_ok-values.ensures.items)
+
+pub overflow_add-slot : goal.overflow_add-slot
+overflow_add-slot c = let place = c.each.invariant.0 in omega (arith, place)
+
+pub each-preserved : goal.each-preserved
+each-preserved c =
+    let place = c.each.invariant.0 in
+    (omega (arith, place), one_read c.args.slots.now c.each.slot c.each.ty-index c.args.types.now c.each.values.items c.push.new.self.items _ _ _ c.each-test.true c.read.ensures c.in_ok-push.ensures.items c.each.invariant.1)
+
+pub returns : goal.returns
+returns c = c.from_vec.ensures ∙ all_read c.args.slots.now c.each.slot c.each.ty-index c.args.types.now c.each.values.items _ (omega arith) c.each.invariant.1

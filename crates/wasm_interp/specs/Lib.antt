@@ -1,0 +1,10 @@
+pub mod State
+pub mod Turns
+pub mod Deeds
+pub mod Frames
+pub mod Traps
+pub mod Shown
+pub mod Steps
+pub mod OpcodeTypes
+pub mod Advance
+pub mod Lending

@@ -1,0 +1,21 @@
+//! The machine: flat code run over a store, turn by turn (Core 1.0, 4.4).
+#![tactic(auto)]
+
+mod acts;
+mod advances;
+mod calls;
+pub mod deeds;
+mod host;
+pub mod machine;
+mod memory;
+mod numeric;
+mod operands;
+mod plain;
+mod returns;
+mod signatures;
+mod stack;
+mod turns;
+mod values;
+
+pub use machine::{Machine, Pause, Turn};
+pub use no_memory::NoMemory;

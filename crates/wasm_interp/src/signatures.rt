@@ -1,0 +1,104 @@
+// Types of functions that are equal in structure.
+
+ghost use Rattle.std.specs.Prelude.{◌≡◌, ◌<◌, length, slice_get};
+ghost use Rattle.wasm_syntax.specs.Alike as alike;
+ghost use Rattle.wasm_flat.specs.Slots.{params_of, type_in};
+ghost use Rattle.wasm_store.specs.Calls.{entry_at};
+ghost use Rattle.flat_steps.specs.FlatStep.{same_types_there, calls_entry};
+ghost use Rattle.wasm_interp.specs.Deeds.{deed_of};
+
+use crate::deeds::Deed;
+use crate::memory::entry;
+use history_spec::TrapKind;
+use wasm_flat::Flat;
+use wasm_store::Store;
+use wasm_syntax::{FuncType, ValType};
+
+/// The byte of a type.
+fn type_byte(ty: ValType) -> u8
+    ensures { result ≡ alike.type_byte ty }
+{
+    match ty {
+        ValType::I32 => 0x7F,
+        ValType::I64 => 0x7E,
+        ValType::F32 => 0x7D,
+        ValType::F64 => 0x7C,
+        ValType::FuncRef => 0x70,
+    }
+}
+
+/// Whether types are the same.
+fn same_types(a: &[ValType], b: &[ValType]) -> bool
+    ensures { result ≡ alike.same_types a.now b.now }
+{
+    if a.len() != b.len() {
+        return false;
+    }
+    for i in 0..a.len() {
+        if type_byte(a[i]) != type_byte(b[i]) {
+            return false;
+        }
+    }
+    true
+}
+
+/// Whether function types are equal in structure.
+fn same_signature(a: &FuncType, b: &FuncType) -> bool
+    ensures { result ≡ alike.same_signature a.now b.now }
+{
+    same_types(a.params.as_slice(), b.params.as_slice())
+        && same_types(a.results.as_slice(), b.results.as_slice())
+}
+
+/// How many parameters a function type has.
+#[inline(always)]
+pub(crate) fn param_count(flat: &Flat, ty: u32) -> usize
+    ensures { result ≡ length (params_of (slice_get flat.now.types ty)) }
+{
+    match flat.types.as_slice().get(ty as usize) {
+        Some(found) => found.params.as_slice().len(),
+        None => 0,
+    }
+}
+
+/// Whether a function has a type by its structure.
+fn has_type(flat: &Flat, ty: u32, func: u32) -> bool
+    requires { ty < length flat.now.types }
+    ensures { result ≡ same_types_there (slice_get flat.now.types ty) (type_in flat.now.types flat.now.indices func) }
+{
+    let types = flat.types.as_slice();
+    let Some(index) = flat.indices.as_slice().get(func as usize) else {
+        return false;
+    };
+    match types.get(*index as usize) {
+        Some(other) => same_signature(&types[ty as usize], other),
+        None => false,
+    }
+}
+
+/// A call of the function in an entry of the table, which has this type.
+pub(crate) fn call_entry(flat: &Flat, store: &Store, ty: u32, index: u64) -> Deed
+    requires { ty < length flat.now.types }
+    ensures { result ≡ deed_of (calls_entry flat.now store.now ty (entry_at store.now index)) }
+{
+    match entry(store, index) {
+        None => Deed::Traps {
+            kind: TrapKind::Table,
+            found: Some(store.table_size()),
+        },
+        Some(None) => Deed::traps(TrapKind::Empty),
+        Some(Some(func)) => {
+            if has_type(flat, ty, func) {
+                Deed::Calls {
+                    func,
+                    found: Some(func),
+                }
+            } else {
+                Deed::Traps {
+                    kind: TrapKind::Signature,
+                    found: Some(func),
+                }
+            }
+        }
+    }
+}

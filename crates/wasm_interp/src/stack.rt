@@ -1,0 +1,75 @@
+// The activations of the machine.
+
+ghost use Rattle.std.specs.Prelude.{◌≡◌, List, [], ◌∷◌, OnOk, OnErr};
+ghost use Rattle.wasm_interp.specs.Frames.{top_of, below_of, with_number};
+
+use flat_steps::FlatFrame;
+use no_memory::NoMemory;
+use std::alloc::Global;
+use std::marker::Model;
+
+/// Activations; contracts see the topmost first.
+#[derive(Drop)]
+pub(crate) struct Frames {
+    items: Vec<FlatFrame>,
+}
+
+impl Model for Frames {
+    ghost use Rattle.std.specs.Prelude.{List, reverse};
+    ghost use Rattle.flat_steps.specs.declared.frames.FlatFrame.{FlatFrame};
+
+    ghost Value = { List FlatFrame };
+
+    ghost view = { λ frames. reverse frames.items.items };
+}
+
+impl Frames {
+    /// No activation. Takes no memory.
+    pub(crate) fn new(alloc: Global) -> Frames
+        ensures { result ≡ [] }
+    {
+        Frames {
+            items: Vec::new(alloc),
+        }
+    }
+
+    /// The allocator.
+    pub(crate) fn allocator(&self) -> Global {
+        *self.items.allocator()
+    }
+
+    /// The topmost activation.
+    #[inline]
+    pub(crate) fn top(&self) -> Option<FlatFrame>
+        ensures { result ≡ top_of self.now }
+    {
+        self.items.last().copied()
+    }
+
+    /// Puts an activation on top. After a refusal nothing is changed.
+    pub(crate) fn push(&mut self, frame: FlatFrame) -> Result<(), NoMemory>
+        ensures ok { OnOk result (self.new ≡ frame ∷ self.old) }
+        ensures err { OnErr result (self.new ≡ self.old) }
+    {
+        self.items.push(frame)?;
+        Ok(())
+    }
+
+    /// Removes the topmost activation, where there is one.
+    pub(crate) fn pop(&mut self)
+        ensures { self.new ≡ below_of self.old }
+    {
+        let _ = self.items.pop();
+    }
+
+    /// Gives the topmost activation, where there is one, another number.
+    #[inline]
+    pub(crate) fn move_to(&mut self, number: u32)
+        ensures { self.new ≡ with_number self.old number }
+    {
+        let count = self.items.len();
+        if count > 0 {
+            self.items[count - 1].number = number;
+        }
+    }
+}
