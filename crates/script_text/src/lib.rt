@@ -21,5 +21,5 @@ mod values;
 pub use faults::ScriptFault;
 pub use leads::Lead;
 pub use no_memory::NoMemory;
-pub use plain::{is_flat, is_plain};
+pub use plain::is_flat;
 pub use scripts::read_script;
