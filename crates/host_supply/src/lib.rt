@@ -1,0 +1,8 @@
+//! What a script supplies for a module's imports, or the first import that it does not match.
+#![tactic(auto)]
+
+mod matches;
+mod supply;
+
+pub use no_memory::NoMemory;
+pub use supply::supply_of;

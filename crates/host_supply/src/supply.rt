@@ -1,0 +1,144 @@
+// What a script supplies for a module's imports (Core 1.0, 4.5.2).
+
+ghost use Rattle.std.specs.Prelude.{◌≡◌, ◌≤◌, None, Some, Ok, Err, IfOk, IfErr, OnOk, option_and_then, slice_get, is_some};
+ghost use Rattle.std.specs.List.{list_any};
+ghost use Rattle.host_script.specs.declared.scripts.LinkFault.TheVariants.{Memory};
+ghost use Rattle.host_script.specs.Supplied.{supplied, globals_in as global_count, fault_or, first_fault, given_values as values_given, if_imported, supply_of as supply_meant};
+ghost use Rattle.wasm_syntax.specs.Index.{of_kind, memory_import, table_import};
+
+use crate::matches::{limits_fault, value_fault};
+use host_script::{LinkFault, Script, Supply};
+use no_memory::NoMemory;
+use std::alloc::Global;
+use wasm_syntax::{Import, ImportKind, Limits, List, Module, Val, Vals};
+
+/// The most pages that a memory may begin with.
+const MOST_PAGES: u32 = 4096;
+
+/// The most entries that a table may begin with.
+const MOST_ENTRIES: u32 = 1_000_000;
+
+/// The value given for an imported global, by its place among these.
+fn given_at(script: &Script, global: usize) -> Option<Val>
+    ensures { result ≡ option_and_then (λ value. value) (slice_get script.now.globals global) }
+{
+    match script.globals.as_slice().get(global) {
+        Some(value) => *value,
+        None => None,
+    }
+}
+
+/// The fault of one import, where so many imported globals stand before it.
+fn import_fault(script: &Script, globals: usize, import: u32, kind: ImportKind) -> Option<LinkFault>
+    ensures { result ≡ fault_or (supplied script.now globals kind) import None }
+{
+    match kind {
+        ImportKind::Func(_) => None,
+        ImportKind::Table(wanted) => limits_fault(import, MOST_ENTRIES, script.table, wanted),
+        ImportKind::Memory(wanted) => limits_fault(import, MOST_PAGES, script.memory, wanted),
+        ImportKind::Global(wanted) => value_fault(import, given_at(script, globals), wanted),
+    }
+}
+
+fn globals_in(kind: ImportKind) -> usize
+    ensures value { result ≡ global_count kind }
+    ensures bound { result ≤ 1 }
+{
+    match kind {
+        ImportKind::Global(_) => 1,
+        _ => 0,
+    }
+}
+
+/// Tests that each import is supplied, and alike.
+fn check_imports(imports: &[Import], script: &Script) -> Result<(), LinkFault>
+    ensures ok { OnOk result (first_fault script.now imports.now 0 0 ≡ None) }
+    ensures err { IfErr result (λ fault. (fault ≡ Memory → ⊥)
+        → first_fault script.now imports.now 0 0 ≡ Some fault) }
+{
+    let mut globals: usize = 0;
+    'imports: for (index, import) in imports.iter().enumerate() {
+        // So many imports do not fit into memory.
+        let Ok(number) = u32::try_from(index) else {
+            return Err(LinkFault::Memory);
+        };
+        if let Some(fault) = import_fault(script, globals, number, import.kind) {
+            return Err(fault);
+        }
+        globals += globals_in(import.kind);
+    }
+    Ok(())
+}
+
+/// The values that are given, in order.
+fn given_values(alloc: Global, given: &[Option<Val>]) -> Result<Vals, NoMemory>
+    ensures { IfOk result (λ values. values ≡ values_given given.now) }
+{
+    let mut values = Vec::new(alloc);
+    'given: for value in given {
+        match value {
+            Some(value) => values.push(*value)?,
+            None => {}
+        }
+    }
+    Ok(List::from_vec(values))
+}
+
+fn imports_memory(imports: &[Import]) -> bool
+    ensures { result ≡ list_any (λ import. is_some (memory_import import.kind)) imports.now }
+{
+    imports
+        .iter()
+        .any(|import| matches!(import.kind, ImportKind::Memory(_)))
+}
+
+fn imports_table(imports: &[Import]) -> bool
+    ensures { result ≡ list_any (λ import. is_some (table_import import.kind)) imports.now }
+{
+    imports
+        .iter()
+        .any(|import| matches!(import.kind, ImportKind::Table(_)))
+}
+
+/// The limits of the memory that a script supplies, where one is imported.
+#[tactic(auto, using(crate::proofs::Imported::imported_by_test))]
+fn supplied_memory(imports: &[Import], script: &Script) -> Option<Limits>
+    ensures { result ≡ if_imported (of_kind memory_import imports.now) script.now.memory }
+{
+    if imports_memory(imports) {
+        script.memory
+    } else {
+        None
+    }
+}
+
+/// The limits of the table that a script supplies, where one is imported.
+#[tactic(auto, using(crate::proofs::Imported::imported_by_test))]
+fn supplied_table(imports: &[Import], script: &Script) -> Option<Limits>
+    ensures { result ≡ if_imported (of_kind table_import imports.now) script.now.table }
+{
+    if imports_table(imports) {
+        script.table
+    } else {
+        None
+    }
+}
+
+/// What a script supplies for the imports of a module, or the first import, in order, that is not
+/// supplied or does not match: `Missing` or `Mismatch` with the import's place. Never `Segment`.
+pub fn supply_of(alloc: Global, module: &Module, script: &Script) -> Result<Supply, LinkFault>
+    ensures ok { IfOk result (λ supply. supply_meant «module».now script.now ≡ Ok supply) }
+    ensures err { IfErr result (λ fault. (fault ≡ Memory → ⊥)
+        → supply_meant «module».now script.now ≡ Err fault) }
+{
+    let imports = module.imports.as_slice();
+    check_imports(imports, script)?;
+    let Ok(globals) = given_values(alloc, script.globals.as_slice()) else {
+        return Err(LinkFault::Memory);
+    };
+    Ok(Supply {
+        memory: supplied_memory(imports, script),
+        table: supplied_table(imports, script),
+        globals,
+    })
+}
