@@ -1,0 +1,3 @@
+pub mod Digits
+pub mod Growths
+pub mod Values

@@ -1,0 +1,15 @@
+use Rattle.std.proofs.Common.{codes}
+use Rattle.history_spec.specs.Line.{entry_text}
+use Rattle.history_lines.proofs.Growths.{grew-after, grew-longer, at-exit, at-refusal}
+use Rattle.history_lines.proofs.lines.print_entry.Goals as goal
+
+pub returns-in_err-put_entry-clause-refused : goal.returns-in_err-put_entry-clause-refused
+returns-in_err-put_entry-clause-refused c =
+    at-exit c.from_residual.result
+    (grew-longer _ _ (entry_text c.args.entry.now) (codes "\n") c.in_err-put_entry.ensures.refused)
+
+pub returns-clause-refused : goal.returns-clause-refused
+returns-clause-refused c =
+    at-refusal c.put.result
+    (λ part. grew-after _ _ _ (entry_text c.args.entry.now) (codes "\n") c.in_ok-put_entry.ensures.ok
+    (part)) c.put.ensures.refused

@@ -1,0 +1,165 @@
+// Whole lines.
+
+ghost use Rattle.std.specs.Prelude.{◌≡◌, ◌++◌, OnOk, OnErr, codes};
+ghost use Rattle.history_spec.specs.Line.{entry_text, kind_text, line, number_text, outcome_text, spaced, values_text};
+ghost use Rattle.history_spec.specs.declared.entries.Entry.TheVariants.{Step, Trap};
+ghost use Rattle.history_lines.specs.Growth.{GrewByFirstPart};
+
+use crate::words::{put, put_found, put_number, put_values};
+use history_spec::{Entry, Outcome, TrapKind};
+use no_memory::NoMemory;
+use wasm_syntax::Val;
+
+/// Appends the line of an entry, with its line feed. After want of memory a first part of it is
+/// appended.
+pub fn print_entry(out: &mut Vec<u8>, entry: &Entry) -> Result<(), NoMemory>
+    ensures ok { OnOk result (out.new.items ≡ out.old.items ++ line (entry_text entry.now)) }
+    ensures refused { OnErr result
+        (GrewByFirstPart out.old.items out.new.items (line (entry_text entry.now))) }
+{
+    put_entry(out, entry)?;
+    put(out, b"\n")
+}
+
+/// Appends the line of an outcome, with its line feed. After want of memory a first part of it is
+/// appended.
+pub fn print_outcome(out: &mut Vec<u8>, outcome: Outcome) -> Result<(), NoMemory>
+    ensures ok { OnOk result (out.new.items ≡ out.old.items ++ line (outcome_text outcome)) }
+    ensures refused { OnErr result
+        (GrewByFirstPart out.old.items out.new.items (line (outcome_text outcome))) }
+{
+    match outcome {
+        Outcome::Ended => put(out, b"ended\n"),
+        Outcome::Trapped => put(out, b"trapped\n"),
+        Outcome::HostTrapped => put(out, b"host-trapped\n"),
+    }
+}
+
+/// Appends the text of an entry.
+fn put_entry(out: &mut Vec<u8>, entry: &Entry) -> Result<(), NoMemory>
+    ensures ok { OnOk result (out.new.items ≡ out.old.items ++ entry_text entry.now) }
+    ensures refused { OnErr result
+        (GrewByFirstPart out.old.items out.new.items (entry_text entry.now)) }
+{
+    match entry {
+        Entry::HostCall { func, args } => put_call(out, b"host-call", *func, args.as_slice()),
+        Entry::HostReturn { func, results } => {
+            put_call(out, b"host-return", *func, results.as_slice())
+        }
+        Entry::ImportCall { import, args } => {
+            put_call(out, b"import-call", *import, args.as_slice())
+        }
+        Entry::ImportReturn { import, results } => {
+            put_call(out, b"import-return", *import, results.as_slice())
+        }
+        Entry::Enter { func } => put_enter(out, *func),
+        Entry::Exit { func, results } => put_call(out, b"exit", *func, results.as_slice()),
+        Entry::Step {
+            func,
+            number,
+            operands,
+            results,
+            found,
+        } => put_step(
+            out,
+            *func,
+            *number,
+            operands.as_slice(),
+            results.as_slice(),
+            *found,
+        ),
+        Entry::Trap {
+            func,
+            number,
+            kind,
+            operands,
+            found,
+        } => put_trap(out, *func, *number, *kind, operands.as_slice(), *found),
+        Entry::HostTrap => put(out, b"host-trap"),
+    }
+}
+
+/// Appends the text of a call or a return: its name, the function, and values.
+fn put_call(out: &mut Vec<u8>, name: &[u8], func: u32, values: &[Val]) -> Result<(), NoMemory>
+    ensures ok { OnOk result
+        (out.new.items ≡ out.old.items ++ (name.now ++ (number_text func ++ values_text values.now))) }
+    ensures refused { OnErr result (GrewByFirstPart out.old.items out.new.items
+        (name.now ++ (number_text func ++ values_text values.now))) }
+{
+    put(out, name)?;
+    put_number(out, func)?;
+    put_values(out, values)
+}
+
+/// Appends the text of a function's begin.
+fn put_enter(out: &mut Vec<u8>, func: u32) -> Result<(), NoMemory>
+    ensures ok { OnOk result
+        (out.new.items ≡ out.old.items ++ (codes "enter" ++ number_text func)) }
+    ensures refused { OnErr result
+        (GrewByFirstPart out.old.items out.new.items (codes "enter" ++ number_text func)) }
+{
+    put(out, b"enter")?;
+    put_number(out, func)
+}
+
+/// Appends the text of an instruction.
+fn put_step(
+    out: &mut Vec<u8>,
+    func: u32,
+    number: u32,
+    operands: &[Val],
+    results: &[Val],
+    found: Option<u32>,
+) -> Result<(), NoMemory>
+    ensures ok { OnOk result (out.new.items
+        ≡ out.old.items ++ entry_text (Step func number operands.now results.now found)) }
+    ensures refused { OnErr result (GrewByFirstPart out.old.items out.new.items
+        (entry_text (Step func number operands.now results.now found))) }
+{
+    put(out, b"step")?;
+    put_number(out, func)?;
+    put_number(out, number)?;
+    put_values(out, operands)?;
+    put(out, b" ->")?;
+    put_values(out, results)?;
+    put_found(out, found)
+}
+
+/// Appends the text of an instruction that traps.
+fn put_trap(
+    out: &mut Vec<u8>,
+    func: u32,
+    number: u32,
+    kind: TrapKind,
+    operands: &[Val],
+    found: Option<u32>,
+) -> Result<(), NoMemory>
+    ensures ok { OnOk result (out.new.items
+        ≡ out.old.items ++ entry_text (Trap func number kind operands.now found)) }
+    ensures refused { OnErr result (GrewByFirstPart out.old.items out.new.items
+        (entry_text (Trap func number kind operands.now found))) }
+{
+    put(out, b"trap")?;
+    put_number(out, func)?;
+    put_number(out, number)?;
+    put_kind(out, kind)?;
+    put_values(out, operands)?;
+    put_found(out, found)
+}
+
+/// Appends the name of a trap.
+fn put_kind(out: &mut Vec<u8>, kind: TrapKind) -> Result<(), NoMemory>
+    ensures ok { OnOk result (out.new.items ≡ out.old.items ++ spaced (kind_text kind)) }
+    ensures refused { OnErr result
+        (GrewByFirstPart out.old.items out.new.items (spaced (kind_text kind))) }
+{
+    match kind {
+        TrapKind::Unreachable => put(out, b" unreachable"),
+        TrapKind::DivideByZero => put(out, b" divide"),
+        TrapKind::Overflow => put(out, b" overflow"),
+        TrapKind::Memory => put(out, b" memory"),
+        TrapKind::Table => put(out, b" table"),
+        TrapKind::Empty => put(out, b" empty"),
+        TrapKind::Signature => put(out, b" signature"),
+    }
+}
