@@ -11,3 +11,5 @@ pub mod Entries
 pub mod Standing
 pub mod Fits
 pub mod Going
+pub mod Following
+pub mod Ready

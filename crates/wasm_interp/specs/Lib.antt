@@ -8,3 +8,4 @@ pub mod Steps
 pub mod OpcodeTypes
 pub mod Advance
 pub mod Lending
+pub mod Running

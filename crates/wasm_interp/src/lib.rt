@@ -6,6 +6,7 @@ mod advances;
 mod calls;
 pub mod deeds;
 mod host;
+mod laws;
 pub mod machine;
 mod memory;
 mod numeric;
@@ -17,5 +18,6 @@ mod stack;
 mod turns;
 mod values;
 
+pub use laws::{calls_are_ready, hosts_go_on};
 pub use machine::{Machine, Pause, Turn};
 pub use no_memory::NoMemory;

@@ -1,5 +1,5 @@
 -- The slots of an activation stand within all slots, which are fewer than the bytes of any memory.
-use Rattle.std.proofs.Common.{◌≡◌, ◌+◌, ◌≤◌, ◌<◌, ◌^◌, length, arith}
+use Rattle.std.proofs.Common.{arith}
 use Rattle.wasm_interp.proofs.Safety.{base_top}
 use Rattle.wasm_interp.proofs.turns.after.Goals as goal
 

@@ -1,5 +1,5 @@
 -- The entry is told that the definition has.
-use Rattle.std.proofs.Common.{◌≡◌, ◌++◌, ◌∷◌, [], ap, ◌∙◌}
+use Rattle.std.proofs.Common.{◌++◌, ◌∷◌, [], ap, ◌∙◌}
 use Rattle.flat_steps.specs.FlatStep.{act}
 use Rattle.wasm_interp.proofs.Entries.{told_entry}
 use Rattle.wasm_interp.proofs.turns.told_act.Goals as goal

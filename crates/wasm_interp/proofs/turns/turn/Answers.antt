@@ -1,8 +1,8 @@
 -- The topmost activation stands at an instruction of its function; what follows is within bounds.
-use Rattle.std.proofs.Common.{◌≡◌, ◌+◌, ◌≤◌, length, sym, ap, ◌∙◌, subst, arith}
-use Rattle.std.specs.Prelude.{IfOk, All}
+use Rattle.std.proofs.Common.{◌≡◌, subst, arith}
+use Rattle.std.specs.Prelude.{IfOk}
 use Rattle.flat_steps.specs.FlatStep.{part}
-use Rattle.wasm_interp.specs.Shown.{shown, pause_by}
+use Rattle.wasm_interp.specs.Shown.{pause_by}
 use Rattle.wasm_interp.proofs.Entries.{turned}
 use Rattle.wasm_interp.proofs.Fits.{act_keeps, on_ok}
 use Rattle.wasm_interp.proofs.Safety.{base_top}

@@ -1,6 +1,5 @@
 -- The values that are left go into the slots that are left.
-use Rattle.std.proofs.Common.{◌+◌, arith, refl, add-zero, sym}
-use Rattle.std.specs.Prelude.{slice_index}
+use Rattle.std.proofs.Common.{arith, refl, add-zero, sym}
 use Rattle.wasm_interp.proofs.Slots.{one_put, all_put}
 use Rattle.wasm_interp.proofs.values.put.Goals as goal
 

@@ -1,5 +1,5 @@
 -- The values that are read stand before those that are left to be read.
-use Rattle.std.proofs.Common.{◌≡◌, ◌+◌, ◌++◌, arith, refl, add-zero, sym, ap, ◌∙◌}
+use Rattle.std.proofs.Common.{◌++◌, arith, add-zero, sym, ap, ◌∙◌}
 use Rattle.flat_steps.specs.FlatStep.{values_at}
 use Rattle.wasm_interp.proofs.Slots.{one_read, all_read}
 use Rattle.wasm_interp.proofs.values.values_at.Goals as goal

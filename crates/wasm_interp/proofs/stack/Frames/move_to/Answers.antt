@@ -1,5 +1,5 @@
 -- The topmost activation stands last.
-use Rattle.std.proofs.Common.{◌≡◌, ap, ◌∙◌, arith}
+use Rattle.std.proofs.Common.{ap, ◌∙◌, arith}
 use Rattle.wasm_interp.specs.Frames.{with_number}
 use Rattle.wasm_interp.proofs.Stacks.{last_moved}
 use Rattle.wasm_interp.proofs.stack.Frames.move_to.Goals as goal
