@@ -9,12 +9,14 @@ ghost use Rattle.wasm_profile.specs.Sizes.{HasShortLists};
 ghost use Rattle.wasm_syntax.specs.declared.modules.Module.{Module};
 ghost use Rattle.wasm_syntax.specs.Validity.{IsValid};
 ghost use Rattle.host_script.specs.declared.scripts.Script.{Script};
+ghost use Rattle.host_script.specs.Fits.{Fits};
 ghost use Rattle.script_text.specs.Texts.{script_of_text};
 ghost use Rattle.r3_faults.specs.declared.faults.Fault.{Fault};
 ghost use Rattle.r3_faults.specs.declared.faults.Fault.TheVariants.{Memory};
 ghost use Rattle.r3_inputs.specs.Inputs.{IsModuleOf, IsMalformed, IsInvalidFor, IsUnacceptedFor, IsRefusedModule, IsRefusedScript};
 
 use encoding_sizes::lists_of_encoding;
+use fitting_scripts::scripts_that_are_read_fit;
 use host_script::Script;
 use r3_faults::Fault;
 use script_text::{ScriptFault, read_script};
@@ -111,15 +113,17 @@ fn accepted(checked: &Checked) -> Result<(), Fault>
     }
 }
 
-/// The script that bytes are for a module.
+/// The script that bytes are for a module, which fits the module.
 pub fn script_of(alloc: Global, bytes: &[u8], checked: &Checked) -> Result<Script, Fault>
     ensures taken { IfOk result (λ script. script_of_text checked.now bytes.now ≡ Ok script) }
+    ensures fits { IfOk result (λ script. Fits checked.now script) }
     ensures cause { IfErr result (λ fault. (fault ≡ Memory) ⊎ IsRefusedScript checked.now bytes.now fault) }
     ensures refused { (fault : Fault) → IsRefusedScript checked.now bytes.now fault
         → (result ≡ Err fault) ⊎ (result ≡ Err Memory) }
     ensures accepted { (script : Script) → script_of_text checked.now bytes.now ≡ Ok script
         → (result ≡ Ok script) ⊎ (result ≡ Err Memory) }
 {
+    scripts_that_are_read_fit();
     match read_script(alloc, bytes, checked.module()) {
         Ok(script) => Ok(script),
         Err(ScriptFault::NotJson) => Err(Fault::NotJson),
