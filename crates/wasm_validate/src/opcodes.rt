@@ -10,17 +10,17 @@ use wasm_syntax::ValType::{F32, F64, I32, I64};
 
 /// The types of a numeric instruction: its one or two operands and its result.
 #[derive(Clone, Copy)]
-pub(crate) struct Operation {
-    pub(crate) first: ValType,
-    pub(crate) second: Option<ValType>,
-    pub(crate) result: ValType,
+pub struct Operation {
+    pub first: ValType,
+    pub second: Option<ValType>,
+    pub result: ValType,
 }
 
 /// The type of an access to memory, and its width in bytes.
 #[derive(Clone, Copy)]
-pub(crate) struct Transfer {
-    pub(crate) ty: ValType,
-    pub(crate) width: u32,
+pub struct Transfer {
+    pub ty: ValType,
+    pub width: u32,
 }
 
 const I32_TO_I32: Operation = Operation {
@@ -320,7 +320,7 @@ static STORES: [Transfer; 9] = [
 ];
 
 /// The types of the numeric instruction of this opcode, if there is one.
-pub(crate) fn numeric_shape(op: u8) -> Option<Operation>
+pub fn numeric_shape(op: u8) -> Option<Operation>
     ensures { option_map shape_of result ≡ shape_of_opcode op }
 {
     if op < 0x45 {
@@ -330,7 +330,7 @@ pub(crate) fn numeric_shape(op: u8) -> Option<Operation>
 }
 
 /// The load of this opcode, if there is one.
-pub(crate) fn load(op: u8) -> Option<Transfer>
+pub fn load(op: u8) -> Option<Transfer>
     ensures { option_map reach_told result ≡ option_map reach_of (load_of op) }
 {
     if op < 0x28 {
@@ -340,7 +340,7 @@ pub(crate) fn load(op: u8) -> Option<Transfer>
 }
 
 /// The store of this opcode, if there is one.
-pub(crate) fn store(op: u8) -> Option<Transfer>
+pub fn store(op: u8) -> Option<Transfer>
     ensures { option_map reach_told result ≡ option_map reach_of (store_of op) }
 {
     if op < 0x36 {

@@ -15,7 +15,7 @@ use wasm_syntax::{FuncType, GlobalType, Limits, Module};
 /// A module with its index spaces and the functions that bodies may refer to. Contracts see the
 /// module.
 #[derive(Drop)]
-pub(crate) struct Scope<'a> {
+pub struct Scope<'a> {
     module: &'a Module,
     funcs: Vec<u32>,
     tables: Vec<Limits>,
@@ -39,7 +39,7 @@ impl<'a> Model for Scope<'a> {
 
 impl<'a> Scope<'a> {
     /// What is looked up in a module.
-    pub(crate) fn of(alloc: Global, module: &'a Module) -> Result<Scope<'a>, NoMemory>
+    pub fn of(alloc: Global, module: &'a Module) -> Result<Scope<'a>, NoMemory>
         ensures { IfOk result (λ scope. scope ≡ «module».now) }
     {
         let (funcs, imported) = funcs_of(alloc, module)?;
@@ -60,21 +60,35 @@ impl<'a> Scope<'a> {
     }
 
     /// The module.
-    pub(crate) fn module(&self) -> &'a Module
+    pub fn module(&self) -> &'a Module
         ensures { result.now ≡ self.now }
     {
         self.module
     }
 
+    /// The type index of each function.
+    pub fn funcs(&self) -> &[u32]
+        ensures { result.now ≡ func_indices self.now }
+    {
+        self.funcs.as_slice()
+    }
+
+    /// The type of each global.
+    pub fn globals(&self) -> &[GlobalType]
+        ensures { result.now ≡ all_globals self.now }
+    {
+        self.globals.as_slice()
+    }
+
     /// The type of this index.
-    pub(crate) fn type_at(&self, index: u32) -> Option<&FuncType>
+    pub fn type_at(&self, index: u32) -> Option<&FuncType>
         ensures { option_copied result ≡ type_at self.now index }
     {
         self.module.types.as_slice().get(index as usize)
     }
 
     /// The type of the function of this index.
-    pub(crate) fn func_type(&self, func: u32) -> Option<&FuncType>
+    pub fn func_type(&self, func: u32) -> Option<&FuncType>
         ensures { option_copied result ≡ type_of_func self.now func }
     {
         match self.funcs.get(func as usize) {
@@ -84,14 +98,14 @@ impl<'a> Scope<'a> {
     }
 
     /// The type of the global of this index.
-    pub(crate) fn global(&self, global: u32) -> Option<GlobalType>
+    pub fn global(&self, global: u32) -> Option<GlobalType>
         ensures { result ≡ slice_get (all_globals self.now) global }
     {
         self.globals.get(global as usize).copied()
     }
 
     /// The type of the imported global of this index.
-    pub(crate) fn imported_global(&self, global: u32) -> Option<GlobalType>
+    pub fn imported_global(&self, global: u32) -> Option<GlobalType>
         ensures { result ≡ slice_get (imported_globals self.now) global }
     {
         if (global as usize) < self.imported_variables {
@@ -102,63 +116,63 @@ impl<'a> Scope<'a> {
     }
 
     /// There is a function of this index.
-    pub(crate) fn has_func(&self, func: u32) -> bool
+    pub fn has_func(&self, func: u32) -> bool
         ensures { result ≡ nat_lt func (length (func_indices self.now)) }
     {
         (func as usize) < self.funcs.len()
     }
 
     /// There is a table of this index.
-    pub(crate) fn has_table(&self, table: u32) -> bool
+    pub fn has_table(&self, table: u32) -> bool
         ensures { result ≡ nat_lt table (length (all_tables self.now)) }
     {
         (table as usize) < self.tables.len()
     }
 
     /// There is a memory of this index.
-    pub(crate) fn has_memory(&self, memory: u32) -> bool
+    pub fn has_memory(&self, memory: u32) -> bool
         ensures { result ≡ nat_lt memory (length (all_memories self.now)) }
     {
         (memory as usize) < self.memories.len()
     }
 
     /// There is a type of this index.
-    pub(crate) fn has_type(&self, ty: u32) -> bool
+    pub fn has_type(&self, ty: u32) -> bool
         ensures { result ≡ nat_lt ty (length self.now.types) }
     {
         (ty as usize) < self.module.types.as_slice().len()
     }
 
     /// There is at most one table.
-    pub(crate) fn has_one_table(&self) -> bool
+    pub fn has_one_table(&self) -> bool
         ensures { result ≡ nat_le (length (all_tables self.now)) 1 }
     {
         self.tables.len() <= 1
     }
 
     /// There is at most one memory.
-    pub(crate) fn has_one_memory(&self) -> bool
+    pub fn has_one_memory(&self) -> bool
         ensures { result ≡ nat_le (length (all_memories self.now)) 1 }
     {
         self.memories.len() <= 1
     }
 
     /// There is a global of this index.
-    pub(crate) fn has_global(&self, global: u32) -> bool
+    pub fn has_global(&self, global: u32) -> bool
         ensures { result ≡ nat_lt global (length (all_globals self.now)) }
     {
         (global as usize) < self.globals.len()
     }
 
     /// How many functions are imported.
-    pub(crate) fn imported_funcs(&self) -> usize
+    pub fn imported_funcs(&self) -> usize
         ensures { result ≡ imported_funcs self.now }
     {
         self.imported
     }
 
     /// Bodies may refer to the function of this index.
-    pub(crate) fn is_declared(&self, func: u32) -> bool
+    pub fn is_declared(&self, func: u32) -> bool
         ensures { result ≡ (nat_lt func (length (func_indices self.now)) && list_any (nat_eq func) (declared_funcs self.now)) }
     {
         self.has_func(func) && self.declared[func as usize]
