@@ -16,3 +16,4 @@ mod Examples
 pub mod CoreForm
 pub mod Used
 pub mod UsedCovers
+pub mod AllCovers

@@ -24,7 +24,7 @@ use Rattle.plain_replay.proofs.Openings.{empty_store, opens, zeros_count}
 use Rattle.plain_replay.proofs.Plain.{made_calls, no_count}
 use Rattle.plain_replay.proofs.Used.{used_by}
 
-calls_counted : (history : List Entry) → host_calls history ≡ length (calls_in history)
+pub calls_counted : (history : List Entry) → host_calls history ≡ length (calls_in history)
 calls_counted [] = refl
 calls_counted (HostCall func args ∷ rest) = omega (arith, calls_counted rest)
 calls_counted (entry ∷ rest) = calls_counted rest

@@ -2,3 +2,4 @@ pub mod Forms
 pub mod Made
 pub mod Covers
 pub mod Replay
+pub mod All
