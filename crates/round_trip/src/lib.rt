@@ -1,0 +1,8 @@
+//! Encoding a module and decoding it again (Core 1.0, section 5).
+#![tactic(auto)]
+
+mod laws;
+#[cfg(test)]
+mod tests;
+
+pub use laws::round_trip;
