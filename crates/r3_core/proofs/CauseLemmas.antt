@@ -1,15 +1,15 @@
 -- Causes of faults, from one file of several and from a part of a call.
-use Rattle.std.proofs.Common.{◌≡◌, ℕ, zero, suc, ◌+◌, ◌<◌, ◌≤◌, Bool, true, false, cond, List, [], ◌∷◌, ◌++◌, length, get_or, map, take, drop, find, zip, nat_lt, refl, sym, ◌∙◌, ap, subst, add-one, arith, Option, Some, None, String, string_bytes}
+use Rattle.std.proofs.Common.{◌≡◌, ℕ, zero, suc, ◌+◌, ◌<◌, ◌≤◌, Bool, true, false, cond, List, [], ◌∷◌, ◌++◌, length, get_or, map, take, drop, find, zip, nat_lt, refl, sym, ◌∙◌, ap, subst, add-one, arith, Option, Some, None, String, Vec, string_bytes}
 use Rattle.std.specs.List.{Contains}
 use Rattle.std.specs.Option.{option_or, ForSome}
-use Rattle.std.proofs.lemmas.List.{map-append}
+use Rattle.std.proofs.lemmas.List.{length-map, map-append, take_more}
 use Rattle.std.proofs.lemmas.List.Elements.{Contains-append_left, Contains-append_right}
 use Rattle.std.proofs.lemmas.List.Folds.{find-append}
 use Rattle.r3_outside.specs.Contents.{FileMap, file_bytes}
 use Rattle.r3_core.specs.Words.{texts}
-use Rattle.r3_core.specs.Causes.{first_longer, IsLoadCause}
-use Rattle.r3_core.specs.declared.faults.Fault.{Fault}
-use Rattle.r3_core.specs.declared.faults.Fault.TheVariants.{Usage, Read, TooLong, NotBuilt, Spent, Write, Memory}
+use Rattle.r3_core.specs.Causes.{first_longer, IsLoadCause, AreBytesOf, AreWithin, all_bytes}
+use Rattle.r3_faults.specs.declared.faults.Fault.{Fault}
+use Rattle.r3_faults.specs.declared.faults.Fault.TheVariants as faults
 
 module _ {Y : Type 0} where
   -- the files before one, that one, and those behind it
@@ -45,21 +45,33 @@ module _ {X : Type 0} (p : X → Bool) where
 
 -- the cause of one file's fault, among files before it that are not too long
 pub IsLoadCause-among : (told : Option FileMap) (faults_before faults_between faults_now taken_before taken_between taken_now : ℕ) (before : List (List ℕ × ℕ)) (file : List ℕ × ℕ) (behind : List (List ℕ × ℕ)) → faults_before ≤ faults_between → taken_before ≤ taken_between → ForSome told (λ told. first_longer told before ≡ None) → (fault : Fault) → IsLoadCause (record { told = told; faults_before = faults_between; faults_now = faults_now; taken_before = taken_between; taken_now = taken_now }) (file ∷ []) fault → IsLoadCause (record { told = told; faults_before = faults_before; faults_now = faults_now; taken_before = taken_before; taken_now = taken_now }) (before ++ file ∷ behind) fault
-IsLoadCause-among told fb fm fn tb tm tn before file behind f t within Usage c = c
-IsLoadCause-among told fb fm fn tb tm tn before file behind f t within (Read name) c = (
+IsLoadCause-among told fb fm fn tb tm tn before file behind f t within faults.Usage c = absurd c
+IsLoadCause-among told fb fm fn tb tm tn before file behind f t within (faults.Read name) c = (
   subst (λ names. Contains names name) (sym (map-append (λ file. file.0) before (file ∷ behind)))
       (Contains-append_right (map (λ file. file.0) before) _ name (Contains-append_left (file.0 ∷ []) (map (λ file. file.0) behind) name c.0)),
   omega (arith, c.1),
 )
-IsLoadCause-among told fb fm fn tb tm tn before file behind f t within (TooLong name limit) c = (
+IsLoadCause-among told fb fm fn tb tm tn before file behind f t within (faults.TooLong name limit) c = (
   Contains-append_right before _ (name, limit) (Contains-append_left (file ∷ []) behind (name, limit) c.0),
   omega (arith, c.1),
   λ files e. find-behind _ before file behind (name, limit) (within files e) (c.2 files e),
 )
-IsLoadCause-among told fb fm fn tb tm tn before file behind f t within NotBuilt c = c
-IsLoadCause-among told fb fm fn tb tm tn before file behind f t within (Spent turns) c = c
-IsLoadCause-among told fb fm fn tb tm tn before file behind f t within Write c = c
-IsLoadCause-among told fb fm fn tb tm tn before file behind f t within Memory c = c
+IsLoadCause-among told fb fm fn tb tm tn before file behind f t within (faults.Malformed at) c = absurd c
+IsLoadCause-among told fb fm fn tb tm tn before file behind f t within (faults.InvalidFunction func) c = absurd c
+IsLoadCause-among told fb fm fn tb tm tn before file behind f t within faults.InvalidModule c = absurd c
+IsLoadCause-among told fb fm fn tb tm tn before file behind f t within (faults.Unsupported func number feature) c = absurd c
+IsLoadCause-among told fb fm fn tb tm tn before file behind f t within (faults.Limit which value) c = absurd c
+IsLoadCause-among told fb fm fn tb tm tn before file behind f t within (faults.Reserved import) c = absurd c
+IsLoadCause-among told fb fm fn tb tm tn before file behind f t within faults.NotJson c = absurd c
+IsLoadCause-among told fb fm fn tb tm tn before file behind f t within (faults.Shape path) c = absurd c
+IsLoadCause-among told fb fm fn tb tm tn before file behind f t within (faults.UnknownName name) c = absurd c
+IsLoadCause-among told fb fm fn tb tm tn before file behind f t within (faults.WrongType name) c = absurd c
+IsLoadCause-among told fb fm fn tb tm tn before file behind f t within (faults.NoAccess name) c = absurd c
+IsLoadCause-among told fb fm fn tb tm tn before file behind f t within (faults.CallsOwn name) c = absurd c
+IsLoadCause-among told fb fm fn tb tm tn before file behind f t within (faults.Spent turns) c = absurd c
+IsLoadCause-among told fb fm fn tb tm tn before file behind f t within faults.Write c = absurd c
+IsLoadCause-among told fb fm fn tb tm tn before file behind f t within faults.Memory c = absurd c
+IsLoadCause-among told fb fm fn tb tm tn before file behind f t within faults.NotBuilt c = absurd c
 
 module _ {Y : Type 0} (names : List (String Y)) (limits : List ℕ) where
   -- the cause of a fault of the file at `i`, where those before it are not too long
@@ -88,3 +100,28 @@ files-all (n ∷ ns) [] zero h = refl
 files-all (n ∷ ns) [] (suc i) h = refl
 files-all (n ∷ ns) (l ∷ ls) zero h = absurd (omega arith)
 files-all (n ∷ ns) (l ∷ ls) (suc i) h = ap (λ files. (string_bytes n, l) ∷ files) (files-all ns ls i (omega arith))
+
+-- the bytes of one more file
+pub AreBytesOf-more : {Y Z : Type 0} (contents : Option FileMap) (names : List (String Y)) (i : ℕ) (d : String Y) (loaded more : List (Vec ℕ Z)) (bytes : Vec ℕ Z) → i < length names → more ≡ loaded ++ bytes ∷ [] → AreBytesOf contents (texts (take i names)) (all_bytes loaded) → ForSome contents (λ told. bytes.items ≡ file_bytes told (string_bytes (get_or names i d))) → AreBytesOf contents (texts (take (i + 1) names)) (all_bytes more)
+AreBytesOf-more contents names i d loaded more bytes h pushed before here = λ told e.
+    let one = string_bytes (get_or names i d) in
+    ap all_bytes pushed
+    ∙ map-append (λ bytes. bytes.items) loaded (bytes ∷ [])
+    ∙ ap (λ l. l ++ bytes.items ∷ []) (before told e)
+    ∙ ap (λ x. map (file_bytes told) (texts (take i names)) ++ x ∷ []) (here told e)
+    ∙ sym (map-append (file_bytes told) (texts (take i names)) (one ∷ []))
+    ∙ ap (map (file_bytes told)) (sym (map-append string_bytes (take i names) (get_or names i d ∷ [])))
+    ∙ ap (λ l. map (file_bytes told) (texts l)) (sym (take_more names i d h))
+
+-- one more list within its limit
+AreWithin-behind : (lists : List (List ℕ)) (bytes : List ℕ) (limits : List ℕ) → length lists < length limits → AreWithin lists limits → length bytes ≤ get_or limits (length lists) 0 → AreWithin (lists ++ bytes ∷ []) limits
+AreWithin-behind [] bytes [] h within short = absurd (omega (arith, h))
+AreWithin-behind [] bytes (limit ∷ limits) h within short = (short, tt)
+AreWithin-behind (list ∷ lists) bytes [] h within short = absurd (omega (arith, h))
+AreWithin-behind (list ∷ lists) bytes (limit ∷ limits) h within short = (within.0, AreWithin-behind lists bytes limits (omega (arith, h)) within.1 short)
+
+pub AreWithin-more : {Y Z : Type 0} (names : List (String Y)) (loaded more : List (Vec ℕ Z)) (bytes : Vec ℕ Z) (limits : List ℕ) (i : ℕ) → more ≡ loaded ++ bytes ∷ [] → length loaded ≡ i → length names ≡ length limits → i < length names → AreWithin (all_bytes loaded) limits → length bytes.items ≤ get_or limits i 0 → AreWithin (all_bytes more) limits
+AreWithin-more names loaded more bytes limits i pushed count each h before short =
+    let listed : length (all_bytes loaded) ≡ i = length-map loaded (λ bytes. bytes.items) ∙ count in
+    subst (λ lists. AreWithin lists limits) (sym (ap all_bytes pushed ∙ map-append (λ bytes. bytes.items) loaded (bytes ∷ [])))
+    (AreWithin-behind (all_bytes loaded) bytes.items limits (omega (arith, listed, each, h)) before (subst (λ k. length bytes.items ≤ get_or limits k 0) (sym listed) short))

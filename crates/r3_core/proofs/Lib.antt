@@ -1,5 +1,4 @@
 pub mod CauseLemmas
-pub mod EscapeLemmas
-pub mod GrowthLemmas
 pub mod ResultLemmas
+pub mod StatusLemmas
 pub mod WordLemmas

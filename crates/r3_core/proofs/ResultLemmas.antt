@@ -3,7 +3,7 @@ use Rattle.std.proofs.Common.{◌≡◌, List, ℕ, sym, subst, inl, inr, Option
 use Rattle.std.specs.Result.{IsErrAnd}
 use Rattle.r3_outside.specs.Count.{Rose}
 use Rattle.r3_outside.specs.Written.{Grew, GrewByPrefix}
-use Rattle.r3_core.specs.Lines.{IsTold}
+use Rattle.r3_faults.specs.Lines.{IsTold}
 
 -- what holds of the error that is passed on
 pub IfErr-from : {T E : Type 0} (r : Result T E) (e : E) (P : E → Type 0) → IsErrAnd r (λ y. y ≡ e) → P e → IfErr r P

@@ -1,5 +1,5 @@
 -- How words are read.
-use Rattle.std.proofs.Common.{◌≡◌, ℕ, ◌<◌, ◌≤◌, true, false, List, [], ◌∷◌, ◌++◌, length, drop, refl, sym, ◌∙◌, ap, subst, arith, Option, Some, None, is_some, Result, Ok, Err, IfErr, String, string_bytes, zip, decimal, inl, inr, ◌⊎◌}
+use Rattle.std.proofs.Common.{◌≡◌, ℕ, ◌<◌, ◌≤◌, true, false, List, [], ◌∷◌, ◌++◌, length, drop, refl, sym, ◌∙◌, ap, subst, arith, Option, Some, None, is_some, Result, Ok, Err, IfErr, String, string_bytes, zip, decimal}
 use Rattle.std.specs.Option.{option_map_or}
 use Rattle.std.proofs.Math.Seq.{drop-append_seam}
 use Rattle.std.proofs.lemmas.Bool.{false≢true}
@@ -7,10 +7,6 @@ use Rattle.std.proofs.lemmas.List.{length-append, length-map, drop-map}
 use Rattle.std.proofs.lemmas.Slice.Eq.{bytes_eq-Decides}
 use Rattle.std.specs.Str.{bytes_eq}
 use Rattle.r3_core.specs.Words.{form, texts, command_named, IsBehind, Says, IsListed, files_of, EndsWithNumber}
-use Rattle.r3_core.specs.Causes.{Reading, IsLoadCause, IsPrintCause, IsCause}
-use Rattle.r3_core.specs.Lines.{status_of}
-use Rattle.r3_core.specs.declared.faults.Fault.{Fault}
-use Rattle.r3_core.specs.declared.faults.Fault.TheVariants.{Usage, Read, TooLong, NotBuilt, Spent, Write, Memory}
 use Rattle.r3_core.specs.declared.words.Command.{Command}
 
 -- two texts that differ
@@ -121,35 +117,3 @@ module _ (words : List (List ℕ)) (command : Command) (files : List (List ℕ))
   EndsWithNumber-Says number e =
       let behind = ends (form command).most says.behind number (subst (IsBehind (form command).most says.behind) e says.number) in
       (says.name ∷ files, says.written ∙ ap (λ behind. says.name ∷ (files ++ behind)) behind)
-
-  -- why nothing is printed, in the words of the call
-  pub IsCause-printing : (reading : Reading) (before now : ℕ) (fault : Fault) → IsPrintCause reading (zip files (form command).limits) given fault → IsCause words reading before now fault
-  IsCause-printing reading before now Usage c = absurd c
-  IsCause-printing reading before now (Read name) c =
-      ((command, files, given, says), subst (λ files. IsLoadCause reading files (Read name)) (sym files_of-Says) c)
-  IsCause-printing reading before now (TooLong name limit) c =
-      ((command, files, given, says), subst (λ files. IsLoadCause reading files (TooLong name limit)) (sym files_of-Says) c)
-  IsCause-printing reading before now NotBuilt c = (command, files, given, says)
-  IsCause-printing reading before now (Spent turns) c = ((command, files, given, says), EndsWithNumber-Says turns c)
-  IsCause-printing reading before now Write c = absurd c
-  IsCause-printing reading before now Memory c = (command, files, given, says)
-
--- the status of a fault with its cause
-module _ (words : List (List ℕ)) (reading : Reading) (before now : ℕ) where
-  pub status-usage : (fault : Fault) → IsCause words reading before now fault → status_of fault ≡ 2 → ¬ (IsListed words)
-  status-usage Usage c e = c
-  status-usage (Read name) c e = absurd (omega arith)
-  status-usage (TooLong name limit) c e = absurd (omega arith)
-  status-usage NotBuilt c e = absurd (omega arith)
-  status-usage (Spent turns) c e = absurd (omega arith)
-  status-usage Write c e = absurd (omega arith)
-  status-usage Memory c e = absurd (omega arith)
-
-  pub listed-unless_usage : (fault : Fault) → IsCause words reading before now fault → (status_of fault ≡ 2) ⊎ IsListed words
-  listed-unless_usage Usage c = inl refl
-  listed-unless_usage (Read name) c = inr c.0
-  listed-unless_usage (TooLong name limit) c = inr c.0
-  listed-unless_usage NotBuilt c = inr c
-  listed-unless_usage (Spent turns) c = inr c.0
-  listed-unless_usage Write c = inr c.0
-  listed-unless_usage Memory c = inr c

@@ -1,11 +1,17 @@
--- Why a call ends with a fault.
-use Rattle.std.specs.Prelude.{◌≡◌, ℕ, ◌+◌, nat_lt, List, length, map, find, Contains, Option, Some}
+-- Why a call ends with a fault, and what it prints where it ends without one.
+use Rattle.std.specs.Prelude.{◌≡◌, ℕ, ◌+◌, ◌≤◌, nat_lt, List, [], ◌∷◌, length, map, find, zip, Contains, Option, Some, false, Vec}
 use Rattle.std.specs.Option.{ForSome}
 use Rattle.r3_outside.specs.Count.{Rose, Took}
 use Rattle.r3_outside.specs.Contents.{FileMap, file_bytes}
-use Rattle.r3_core.specs.Words.{IsListed, files_of, EndsWithNumber}
-use Rattle.r3_core.specs.declared.faults.Fault.{Fault}
-use Rattle.r3_core.specs.declared.faults.Fault.TheVariants.{Usage, Read, TooLong, NotBuilt, Spent, Write, Memory}
+use Rattle.r3_faults.specs.declared.faults.Fault.{Fault}
+use Rattle.r3_faults.specs.declared.faults.Fault.TheVariants.{Usage, Read, TooLong, NotBuilt, Write, Memory}
+use Rattle.r3_make.specs.Refusals.{IsMakeRefusal, IsSureMakeRefusal}
+use Rattle.r3_make.specs.Printed.{IsPrinted}
+use Rattle.r3_core.specs.declared.words.Command.{Command}
+use Rattle.r3_core.specs.declared.words.Command.TheVariants.{Make}
+use Rattle.r3_core.specs.Words.{form, is_built, IsListed, IsUnbuilt, Says, files_of}
+
+-- ---- the files of a call
 
 -- the first of these files, each with its limit, that is longer
 abbrev pub first_longer : FileMap → List (List ℕ × ℕ) → Option (List ℕ × ℕ)
@@ -26,38 +32,75 @@ IsLoadCause reading files (Read name) =
 IsLoadCause reading files (TooLong name limit) =
     Contains files (name, limit) × Took reading.taken_before reading.taken_now (limit + 1)
     × ForSome reading.told (λ told. first_longer told files ≡ Some (name, limit))
-IsLoadCause reading files Memory = Unit {0}
 IsLoadCause reading files fault = ⊥
 
--- why a replay module is not made: the module or the script has a form that is not built, the turns are used,
--- or there is no memory
-abbrev pub IsMakeCause : (turns : ℕ) → Fault → Type 0
-IsMakeCause turns NotBuilt = Unit {0}
-IsMakeCause turns (Spent given) = given ≡ turns
-IsMakeCause turns Memory = Unit {0}
-IsMakeCause turns fault = ⊥
+-- the bytes of the files of these names, where the files tell what they hold
+abbrev pub AreBytesOf : Option FileMap → (names loaded : List (List ℕ)) → Type 0
+AreBytesOf contents names loaded = ForSome contents (λ told. loaded ≡ map (file_bytes told) names)
 
--- a plain part gave up
-abbrev pub IsUnmade : Fault → Type 0
-IsUnmade NotBuilt = Unit {0}
-IsUnmade Memory = Unit {0}
-IsUnmade fault = ⊥
+-- the bytes of each list
+abbrev pub all_bytes : {Z : Type 0} → List (Vec ℕ Z) → List (List ℕ)
+all_bytes lists = map (λ bytes. bytes.items) lists
 
--- why a command with these files and this number prints nothing
-abbrev pub IsPrintCause : Reading → List (List ℕ × ℕ) → Option ℕ → Fault → Type 0
-IsPrintCause reading files number (Read name) = IsLoadCause reading files (Read name)
-IsPrintCause reading files number (TooLong name limit) = IsLoadCause reading files (TooLong name limit)
-IsPrintCause reading files number NotBuilt = Unit {0}
-IsPrintCause reading files number (Spent turns) = number ≡ Some turns
-IsPrintCause reading files number Memory = Unit {0}
-IsPrintCause reading files number fault = ⊥
+-- lists of bytes, each within its limit
+abbrev pub AreWithin : (lists : List (List ℕ)) → (limits : List ℕ) → Type 0
+AreWithin [] limits = Unit {0}
+AreWithin (bytes ∷ lists) [] = ⊥
+AreWithin (bytes ∷ lists) (limit ∷ limits) = (length bytes ≤ limit) × AreWithin lists limits
+
+-- ---- commands over the bytes of their files
+
+-- a command refuses them
+abbrev pub IsRefusal : Command → (loaded : List (List ℕ)) → (number : Option ℕ) → Fault → Type 0
+IsRefusal Make (module_bytes ∷ script_bytes ∷ []) (Some turns) fault = IsMakeRefusal module_bytes script_bytes turns fault
+IsRefusal command loaded number fault = ⊥
+
+-- a command refuses them in any case, want of memory apart
+abbrev pub IsSureRefusal : Command → (loaded : List (List ℕ)) → (number : Option ℕ) → Fault → Type 0
+IsSureRefusal Make (module_bytes ∷ script_bytes ∷ []) (Some turns) fault = IsSureMakeRefusal module_bytes script_bytes turns fault
+IsSureRefusal command loaded number fault = ⊥
+
+-- a command prints these bytes for them
+abbrev pub Prints : Command → (loaded : List (List ℕ)) → (number : Option ℕ) → (printed : List ℕ) → Type 0
+Prints Make (module_bytes ∷ script_bytes ∷ []) (Some turns) printed = IsPrinted module_bytes script_bytes printed
+Prints command loaded number printed = ⊥
+
+-- ---- calls
+
+-- what a call's words say, and the bytes of its files
+pub record IsCall (words : List (List ℕ)) (contents : Option FileMap) (command : Command) (loaded : List (List ℕ)) (number : Option ℕ) : Type 0 where
+  pub names : List (List ℕ)
+  pub says : Says words command names number
+  pub bytes : AreBytesOf contents names loaded
+
+-- the command of the words refuses the bytes of its files
+pub record IsRefused (words : List (List ℕ)) (contents : Option FileMap) (fault : Fault) : Type 0 where
+  pub command : Command
+  pub loaded : List (List ℕ)
+  pub number : Option ℕ
+  pub call : IsCall words contents command loaded number
+  pub refusal : IsRefusal command loaded number fault
+
+-- the command of the words prints these bytes for those of its files
+pub record IsPrintedFor (words : List (List ℕ)) (contents : Option FileMap) (printed : List ℕ) : Type 0 where
+  pub command : Command
+  pub loaded : List (List ℕ)
+  pub number : Option ℕ
+  pub call : IsCall words contents command loaded number
+  pub prints : Prints command loaded number printed
 
 -- why a call with these words ends with this fault
-abbrev pub IsCause : List (List ℕ) → Reading → (write_faults_before write_faults_now : ℕ) → Fault → Type 0
-IsCause words reading before now Usage = ¬ (IsListed words)
-IsCause words reading before now (Read name) = IsListed words × IsLoadCause reading (files_of words) (Read name)
-IsCause words reading before now (TooLong name limit) = IsListed words × IsLoadCause reading (files_of words) (TooLong name limit)
-IsCause words reading before now NotBuilt = IsListed words
-IsCause words reading before now (Spent turns) = IsListed words × EndsWithNumber words turns
-IsCause words reading before now Write = IsListed words × Rose before now
-IsCause words reading before now Memory = IsListed words
+pub data IsCause (words : List (List ℕ)) (reading : Reading) (writes_before writes_now : ℕ) (fault : Fault) : Type 0 where
+  Unlisted : (is_usage : fault ≡ Usage) (unlisted : ¬ (IsListed words)) → IsCause words reading writes_before writes_now fault
+  Unbuilt : (is_not_built : fault ≡ NotBuilt) (unbuilt : IsUnbuilt words) → IsCause words reading writes_before writes_now fault
+  Unloaded : (listed : IsListed words) (cause : IsLoadCause reading (files_of words) fault) → IsCause words reading writes_before writes_now fault
+  Refused : (refused : IsRefused words reading.told fault) → IsCause words reading writes_before writes_now fault
+  Unwritten : (is_write : fault ≡ Write) (listed : IsListed words) (rose : Rose writes_before writes_now) → IsCause words reading writes_before writes_now fault
+  Wanting : (is_memory : fault ≡ Memory) (listed : IsListed words) → IsCause words reading writes_before writes_now fault
+
+-- why a command over files prints nothing
+pub data IsPrintCause (reading : Reading) (command : Command) (names : List (List ℕ)) (number : Option ℕ) (fault : Fault) : Type 0 where
+  UnbuiltCommand : (is_not_built : fault ≡ NotBuilt) (unbuilt : is_built command ≡ false) → IsPrintCause reading command names number fault
+  UnloadedFile : (cause : IsLoadCause reading (zip names (form command).limits) fault) → IsPrintCause reading command names number fault
+  RefusedBytes : (loaded : List (List ℕ)) (bytes : AreBytesOf reading.told names loaded) (refusal : IsRefusal command loaded number fault) → IsPrintCause reading command names number fault
+  WantingMemory : (is_memory : fault ≡ Memory) → IsPrintCause reading command names number fault

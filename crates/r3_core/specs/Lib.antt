@@ -1,4 +1,2 @@
 pub mod Words
-pub mod Lines
 pub mod Causes
-pub mod Printed

@@ -1,31 +1,29 @@
 //! The commands of r3 and the call that does them.
 #![tactic(auto)]
 
-ghost use Rattle.std.specs.Prelude.{◌≡◌, ◌≢◌, ℕ, ◌+◌, ◌≤◌, ◌⊎◌, ◌↔◌, true, false, List, [], ◌∷◌, length, zip, Contains, Some, IsSome, OnOk, IfOk, IfErr, IsErrAnd, Err};
+ghost use Rattle.std.specs.Prelude.{◌≡◌, ◌≢◌, ℕ, ◌+◌, ◌≤◌, ◌⊎◌, ◌↔◌, true, false, List, [], ◌∷◌, length, map, zip, Contains, Option, Some, None, IsSome, OnOk, IfOk, IfErr, IsErrAnd, Err};
 ghost use Rattle.std.specs.Option.{ForSome};
+ghost use Rattle.r3_outside.specs.Contents.{file_bytes};
 ghost use Rattle.r3_outside.specs.Count.{Rose, Took};
 ghost use Rattle.r3_outside.specs.Written.{Grew, GrewByPrefix};
-ghost use Rattle.r3_core.specs.Words.{form, texts, is_built, files_of, IsListed, IsBuilt, IsUnbuilt};
-ghost use Rattle.r3_core.specs.Lines.{status_of, line_of, IsTold};
-ghost use Rattle.r3_core.specs.Causes.{Reading, first_longer, IsPrintCause, IsCause};
-ghost use Rattle.r3_core.specs.Printed.{IsPrinted};
-ghost use Rattle.r3_core.specs.declared.faults.Fault.TheVariants.{Write as WriteFault};
+ghost use Rattle.r3_faults.specs.Lines.{status_of, line_of, IsTold};
+ghost use Rattle.r3_faults.specs.declared.faults.Fault.{Fault};
+ghost use Rattle.r3_faults.specs.declared.faults.Fault.TheVariants.{NotBuilt, Memory, Write as WriteFault};
+ghost use Rattle.r3_core.specs.Words.{form, texts, is_built, files_of, IsBehind, IsListed, IsBuilt, IsUnbuilt, Says};
+ghost use Rattle.r3_core.specs.Causes.{Reading, first_longer, AreBytesOf, Prints, IsRefusal, IsSureRefusal, IsPrintedFor, IsPrintCause, IsCause, AreWithin, all_bytes};
 
 use loading::load_files;
 use r3_outside::{Files, Sink, put_all};
 use std::alloc::Global;
 use words::{Call, Command, call_of};
 
-mod faults;
 mod loading;
-mod making;
-mod plain;
 #[cfg(test)]
 mod tests;
 mod words;
 
-pub use faults::Fault;
-pub use making::make;
+pub use r3_faults::Fault;
+pub use r3_make::make;
 
 /// Does what the words behind the program's name say, and answers the status that the program ends
 /// with.
@@ -56,11 +54,20 @@ pub fn r3<F: Files, O: Sink, E: Sink>(
         (λ told. IsSome (first_longer told (files_of (texts words.now)))
         → Contains (3 ∷ 4 ∷ 14 ∷ []) result) }
 
+    // The bytes of the files are refused, in the order of the refusals.
+    ensures refused { (command : Command) (names : List (List ℕ)) (number : Option ℕ) (fault : Fault)
+        → Says (texts words.now) command names number
+        → ForSome (F.contents files.old) (λ told. first_longer told (files_of (texts words.now)) ≡ None
+        → IsSureRefusal command (map (file_bytes told) names) number fault
+        → Contains (status_of fault ∷ 3 ∷ 14 ∷ []) result) }
+
     // What is printed.
-    ensures printed { result ≡ 0 → (bytes : List ℕ) × IsPrinted bytes
+    ensures printed { result ≡ 0 → (bytes : List ℕ)
+        × IsPrintedFor (texts words.now) (F.contents files.old) bytes
         × Grew (O.written out.old) (O.written out.new) bytes }
     ensures write { result ≡ 13 → Rose (O.faults out.old) (O.faults out.new) }
-    ensures printed_prefix { result ≡ 13 → (bytes : List ℕ) × IsPrinted bytes
+    ensures printed_prefix { result ≡ 13 → (bytes : List ℕ)
+        × IsPrintedFor (texts words.now) (F.contents files.old) bytes
         × GrewByPrefix (O.written out.old) (O.written out.new) bytes }
     ensures nothing_printed { result ≢ 0 → result ≢ 13 → out.new ≡ out.old }
 
@@ -101,9 +108,16 @@ fn run<F: Files, O: Sink>(
     ensures longer { IsBuilt (texts words.now) → ForSome (F.contents files.old)
         (λ told. IsSome (first_longer told (files_of (texts words.now)))
         → IsErrAnd result (λ fault. Contains (3 ∷ 4 ∷ 14 ∷ []) (status_of fault))) }
-    ensures printed { OnOk result ((bytes : List ℕ) × IsPrinted bytes
+    ensures refused { (command : Command) (names : List (List ℕ)) (number : Option ℕ) (fault : Fault)
+        → Says (texts words.now) command names number
+        → ForSome (F.contents files.old) (λ told. first_longer told (files_of (texts words.now)) ≡ None
+        → IsSureRefusal command (map (file_bytes told) names) number fault
+        → IsErrAnd result (λ other. Contains (status_of fault ∷ 3 ∷ 14 ∷ []) (status_of other))) }
+    ensures printed { OnOk result ((bytes : List ℕ)
+        × IsPrintedFor (texts words.now) (F.contents files.old) bytes
         × Grew (O.written out.old) (O.written out.new) bytes) }
-    ensures printed_prefix { result ≡ Err WriteFault → (bytes : List ℕ) × IsPrinted bytes
+    ensures printed_prefix { result ≡ Err WriteFault → (bytes : List ℕ)
+        × IsPrintedFor (texts words.now) (F.contents files.old) bytes
         × GrewByPrefix (O.written out.old) (O.written out.new) bytes }
     ensures nothing_printed { IfErr result (λ fault. fault ≢ WriteFault → out.new ≡ out.old) }
     ensures cause { IfErr result (λ fault.
@@ -124,15 +138,21 @@ fn run<F: Files, O: Sink>(
 
 /// The bytes that a command prints.
 fn printed_by<F: Files>(alloc: Global, call: &Call<'_>, files: &mut F) -> Result<Vec<u8>, Fault>
-    requires { length call.now.names.now ≡ length (form call.now.command).limits }
+    requires { (words : List (List ℕ)) × Says words call.now.command (texts call.now.names.now) call.now.number }
 
     ensures contents_unchanged { F.contents files.new ≡ F.contents files.old }
     ensures unbuilt { is_built call.now.command ≡ false →
-        (result ≡ Err Fault.NotBuilt) × (files.new ≡ files.old) }
+        (result ≡ Err NotBuilt) × (files.new ≡ files.old) }
     ensures longer { is_built call.now.command ≡ true → ForSome (F.contents files.old)
         (λ told. IsSome (first_longer told (zip (texts call.now.names.now) (form call.now.command).limits))
         → IsErrAnd result (λ fault. Contains (3 ∷ 4 ∷ 14 ∷ []) (status_of fault))) }
-    ensures printed { IfOk result (λ bytes. IsPrinted bytes.items) }
+    ensures refused { (fault : Fault) → ForSome (F.contents files.old)
+        (λ told. first_longer told (zip (texts call.now.names.now) (form call.now.command).limits) ≡ None
+        → IsSureRefusal call.now.command (map (file_bytes told) (texts call.now.names.now)) call.now.number fault
+        → IsErrAnd result (λ other. Contains (status_of fault ∷ 3 ∷ 14 ∷ []) (status_of other))) }
+    ensures printed { IfOk result (λ bytes. (loaded : List (List ℕ))
+        × AreBytesOf (F.contents files.old) (texts call.now.names.now) loaded
+        × Prints call.now.command loaded call.now.number bytes.items) }
     ensures cause { IfErr result (λ fault.
         let reading : Reading = record {
           told = F.contents files.old;
@@ -141,14 +161,34 @@ fn printed_by<F: Files>(alloc: Global, call: &Call<'_>, files: &mut F) -> Result
           taken_before = F.taken files.old;
           taken_now = F.taken files.new;
         } in
-        IsPrintCause reading (zip (texts call.now.names.now) (form call.now.command).limits)
-        call.now.number fault) }
+        IsPrintCause reading call.now.command (texts call.now.names.now) call.now.number fault) }
 {
     if !call.command.is_built() {
         return Err(Fault::NotBuilt);
     }
     let loaded = load_files(alloc, files, call.names, call.command.limits())?;
-    match (call.command, loaded.as_slice(), call.number) {
+    printed_for(alloc, call.command, &loaded, call.number)
+}
+
+/// The bytes that a command that is built prints for the bytes of its files.
+fn printed_for(
+    alloc: Global,
+    command: Command,
+    loaded: &[Vec<u8>],
+    number: Option<u64>,
+) -> Result<Vec<u8>, Fault>
+    requires built { is_built command ≡ true }
+    requires files { length loaded.now ≡ length (form command).limits }
+    requires within { AreWithin (all_bytes loaded.now) (form command).limits }
+    requires behind { (behind : List (List ℕ)) × IsBehind (form command).most behind number }
+
+    ensures printed { IfOk result (λ bytes. Prints command (all_bytes loaded.now) number bytes.items) }
+    ensures cause { IfErr result (λ fault.
+        (fault ≡ Memory) ⊎ IsRefusal command (all_bytes loaded.now) number fault) }
+    ensures refused { (fault : Fault) → IsSureRefusal command (all_bytes loaded.now) number fault
+        → (result ≡ Err fault) ⊎ (result ≡ Err Memory) }
+{
+    match (command, loaded, number) {
         (Command::Make, [module, script], Some(turns)) => make(alloc, module, script, turns),
         _ => Err(Fault::NotBuilt),
     }

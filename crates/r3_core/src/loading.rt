@@ -1,11 +1,13 @@
 // The files of a command.
 
-ghost use Rattle.std.specs.Prelude.{◌≡◌, ◌≤◌, ℕ, None, All, [], ◌∷◌, length, zip, IfOk, IfErr, OnOk, vec_len};
+ghost use Rattle.std.specs.Prelude.{◌≡◌, ◌≤◌, ◌⊎◌, ℕ, None, All, [], ◌∷◌, length, zip, IfOk, IfErr, OnOk, vec_len};
 ghost use Rattle.std.specs.Option.{ForSome};
 ghost use Rattle.r3_core.specs.Words.{texts};
-ghost use Rattle.r3_core.specs.Causes.{Reading, first_longer, IsLoadCause};
+ghost use Rattle.r3_core.specs.Causes.{Reading, first_longer, AreBytesOf, AreWithin, IsLoadCause, all_bytes};
+ghost use Rattle.r3_outside.specs.Contents.{file_bytes};
+ghost use Rattle.r3_faults.specs.declared.faults.Fault.TheVariants.{Memory};
 
-use crate::faults::Fault;
+use r3_faults::Fault;
 use r3_outside::{Files, LoadFault, load};
 use std::alloc::Global;
 use wasm_syntax::Name;
@@ -25,6 +27,9 @@ pub(crate) fn load_files<F: Files>(
     ensures taken_never_falls { F.taken files.old ≤ F.taken files.new }
 
     ensures all { IfOk result (λ loaded. vec_len loaded ≡ length names.now) }
+    ensures bytes { IfOk result (λ loaded.
+        AreBytesOf (F.contents files.old) (texts names.now) (all_bytes loaded.items)) }
+    ensures within { IfOk result (λ loaded. AreWithin (all_bytes loaded.items) limits.now) }
     ensures within_limits { OnOk result (ForSome (F.contents files.old)
         (λ told. first_longer told (zip (texts names.now) limits.now) ≡ None)) }
     ensures cause { IfErr result (λ fault.
@@ -35,7 +40,7 @@ pub(crate) fn load_files<F: Files>(
           taken_before = F.taken files.old;
           taken_now = F.taken files.new;
         } in
-        IsLoadCause reading (zip (texts names.now) limits.now) fault) }
+        (fault ≡ Memory) ⊎ IsLoadCause reading (zip (texts names.now) limits.now) fault) }
 {
     let mut loaded = Vec::new(alloc);
     'files: for (index, name) in names.iter().enumerate() {
@@ -57,6 +62,9 @@ fn load_file<F: Files>(
     ensures faults_never_fall { F.faults files.old ≤ F.faults files.new }
     ensures taken_never_falls { F.taken files.old ≤ F.taken files.new }
 
+    ensures bytes { IfOk result (λ bytes. ForSome (F.contents files.old)
+        (λ told. bytes.items ≡ file_bytes told name.now)) }
+    ensures short { IfOk result (λ bytes. length bytes.items ≤ limit) }
     ensures within_limit { OnOk result (ForSome (F.contents files.old)
         (λ told. first_longer told ((name.now, limit) ∷ []) ≡ None)) }
     ensures cause { IfErr result (λ fault.
@@ -67,7 +75,7 @@ fn load_file<F: Files>(
           taken_before = F.taken files.old;
           taken_now = F.taken files.new;
         } in
-        IsLoadCause reading ((name.now, limit) ∷ []) fault) }
+        (fault ≡ Memory) ⊎ IsLoadCause reading ((name.now, limit) ∷ []) fault) }
 {
     match load(alloc, files, name, limit) {
         Ok(bytes) => Ok(bytes),

@@ -3,8 +3,8 @@
 ghost use Rattle.std.specs.Prelude.{◌≡◌, ℕ, Option, IfOk, IfErr, MatchOption};
 ghost use Rattle.r3_core.specs.Words.{form, texts, command_named, is_built, IsNumber, IsBehind, IsListed, Says};
 
-use crate::faults::Fault;
 use itoa::Buffer;
+use r3_faults::Fault;
 
 /// A command of the program.
 #[derive(Clone, Copy, PartialEq, Eq, Debug)]

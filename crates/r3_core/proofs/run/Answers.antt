@@ -1,8 +1,9 @@
-use Rattle.std.proofs.Common.{◌≡◌, subst, true, IsSome}
+use Rattle.std.proofs.Common.{◌≡◌, subst, true, IsSome, None}
 use Rattle.r3_core.specs.Words.{is_built}
 use Rattle.r3_core.specs.Causes.{first_longer}
 use Rattle.r3_core.proofs.ResultLemmas.{IfErr-from, IsErrAnd-from}
-use Rattle.r3_core.proofs.WordLemmas.{Says-same, files_of-Says, IsCause-printing}
+use Rattle.r3_core.proofs.WordLemmas.{Says-same, files_of-Says}
+use Rattle.r3_core.proofs.StatusLemmas.{IsCause-printing, IsSureRefusal-said}
 use Rattle.r3_core.proofs.run.Goals as goal
 
 pub returns-in_err-printed-clause-longer : goal.returns-in_err-printed-clause-longer
@@ -19,6 +20,14 @@ returns-in_err-printed-clause-cause g c =
     IfErr-from _ c.in_err-printed.field-0.0 _ c.from_residual-in_err-printed.ensures.1
     (IsCause-printing _ _ _ _ c.in_ok-call.ensures.listed _ _ _ c.in_err-printed.field-0.0 c.in_err-printed.ensures.cause)
 
+pub returns-in_err-printed-clause-refused : goal.returns-in_err-printed-clause-refused
+returns-in_err-printed-clause-refused g c = λ command names number fault says told e none sure.
+    let here = c.in_ok-call.ensures.listed in
+    IsErrAnd-from _ _ _ c.from_residual-in_err-printed.ensures.1
+    (c.in_err-printed.ensures.refused fault told e
+    (subst (λ files. first_longer told files ≡ None) (files_of-Says _ _ _ _ here) none)
+    (IsSureRefusal-said _ _ _ _ _ _ _ here says told fault sure))
+
 pub returns-in_err-put_all-clause-longer : goal.returns-in_err-put_all-clause-longer
 returns-in_err-put_all-clause-longer g c = λ built told e longer.
     let says = c.in_ok-call.ensures.listed in
@@ -28,6 +37,14 @@ returns-in_err-put_all-clause-longer g c = λ built told e longer.
     let longer' = subst (λ files. IsSome (first_longer told files)) (files_of-Says _ _ _ _ says) longer in
     absurd (c.in_ok-printed.ensures.longer same told e longer')
 
+pub returns-in_err-put_all-clause-refused : goal.returns-in_err-put_all-clause-refused
+returns-in_err-put_all-clause-refused g c = λ command names number fault says told e none sure.
+    let here = c.in_ok-call.ensures.listed in
+    absurd
+    (c.in_ok-printed.ensures.refused fault told e
+    (subst (λ files. first_longer told files ≡ None) (files_of-Says _ _ _ _ here) none)
+    (IsSureRefusal-said _ _ _ _ _ _ _ here says told fault sure))
+
 pub returns-clause-longer : goal.returns-clause-longer
 returns-clause-longer g c = λ built told e longer.
     let says = c.in_ok-call.ensures.listed in
@@ -36,3 +53,10 @@ returns-clause-longer g c = λ built told e longer.
     in
     let longer' = subst (λ files. IsSome (first_longer told files)) (files_of-Says _ _ _ _ says) longer in
     c.in_ok-printed.ensures.longer same told e longer'
+
+pub returns-clause-refused : goal.returns-clause-refused
+returns-clause-refused g c = λ command names number fault says told e none sure.
+    let here = c.in_ok-call.ensures.listed in
+    c.in_ok-printed.ensures.refused fault told e
+    (subst (λ files. first_longer told files ≡ None) (files_of-Says _ _ _ _ here) none)
+    (IsSureRefusal-said _ _ _ _ _ _ _ here says told fault sure)

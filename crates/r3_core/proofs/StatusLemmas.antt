@@ -1,0 +1,379 @@
+-- The causes of faults in the words of a call, and their statuses.
+use Rattle.std.proofs.Common.{◌≡◌, ℕ, zero, suc, ◌+◌, ◌^◌, ◌<◌, List, [], ◌∷◌, ◌++◌, length, take, drop, decimal, refl, sym, ◌∙◌, ap, subst, arith, map, Option, Some, None, inl, inr, ◌⊎◌, Result, Ok, Err, IfErr}
+use Rattle.std.specs.List.{Contains}
+use Rattle.std.proofs.Math.Seq.{take-append_seam, drop-append_seam}
+use Rattle.std.specs.Option.{ForSome}
+use Rattle.std.specs.Str.Parse.{digits_value, without_leading_plus}
+use Rattle.std.proofs.lemmas.Fmt.{parse-decimal}
+use Rattle.std.specs.Result.{IsErrAnd}
+use Rattle.r3_outside.specs.Count.{Rose, Took}
+use Rattle.r3_outside.specs.Contents.{FileMap, file_bytes}
+use Rattle.r3_faults.specs.Lines.{status_of}
+use Rattle.r3_faults.specs.declared.faults.Fault.{Fault}
+use Rattle.r3_faults.specs.declared.faults.Fault.TheVariants as faults
+use Rattle.wasm_syntax.specs.Profile as profile
+use Rattle.wasm_syntax.specs.Profile.{Refusal}
+use Rattle.script_text.specs.declared.faults.ScriptFault.{ScriptFault}
+use Rattle.script_text.specs.declared.faults.ScriptFault.TheVariants as script
+use Rattle.r3_inputs.specs.Inputs.{invalid_fault, refusal_fault, script_fault, IsRefusedModule, ByBytes, ByRules, ByProfile, AreRefused, ByModule, ByScript}
+use Rattle.r3_make.specs.Refusals.{IsMakeRefusal, OfInputs, OfForm, OfTurns}
+use Rattle.r3_core.specs.declared.words.Command.{Command}
+use Rattle.r3_core.specs.declared.words.Command.TheVariants.{Make, Instrument, Record, Reduce, Build, History, Replay, Show, Load}
+use Rattle.r3_core.specs.Words.{form, IsBehind, Says, IsListed, IsUnbuilt, files_of}
+use Rattle.r3_core.specs.Causes.{Reading, first_longer, IsLoadCause, AreBytesOf, IsRefusal, IsSureRefusal, IsRefused, IsCause, Unlisted, Unbuilt, Unloaded, Refused, Unwritten, Wanting, IsPrintCause, UnbuiltCommand, UnloadedFile, RefusedBytes, WantingMemory}
+use Rattle.r3_core.proofs.WordLemmas.{files_of-Says, Says-same}
+
+-- ---- a file that is not loaded
+
+module _ (reading : Reading) (files : List (List ℕ × ℕ)) where
+  -- a read fault: the count rose
+  pub load-status_read : (fault : Fault) → IsLoadCause reading files fault → status_of fault ≡ 3 → Rose reading.faults_before reading.faults_now
+  load-status_read faults.Usage c e = absurd c
+  load-status_read (faults.Read name) c e = c.1
+  load-status_read (faults.TooLong name limit) c e = absurd (omega arith)
+  load-status_read (faults.Malformed at) c e = absurd c
+  load-status_read (faults.InvalidFunction func) c e = absurd c
+  load-status_read faults.InvalidModule c e = absurd c
+  load-status_read (faults.Unsupported func number feature) c e = absurd c
+  load-status_read (faults.Limit which value) c e = absurd c
+  load-status_read (faults.Reserved import) c e = absurd c
+  load-status_read faults.NotJson c e = absurd c
+  load-status_read (faults.Shape path) c e = absurd c
+  load-status_read (faults.UnknownName name) c e = absurd c
+  load-status_read (faults.WrongType name) c e = absurd c
+  load-status_read (faults.NoAccess name) c e = absurd c
+  load-status_read (faults.CallsOwn name) c e = absurd c
+  load-status_read (faults.Spent turns) c e = absurd c
+  load-status_read faults.Write c e = absurd c
+  load-status_read faults.Memory c e = absurd c
+  load-status_read faults.NotBuilt c e = absurd c
+
+  -- too long: the first file that is
+  pub load-status_too_long : (fault : Fault) → IsLoadCause reading files fault → status_of fault ≡ 4 → (file : List ℕ × ℕ) × Contains files file × Took reading.taken_before reading.taken_now (file.1 + 1) × ForSome reading.told (λ told. first_longer told files ≡ Some file)
+  load-status_too_long faults.Usage c e = absurd c
+  load-status_too_long (faults.Read name) c e = absurd (omega arith)
+  load-status_too_long (faults.TooLong name limit) c e = ((name, limit), c.0, c.1, c.2)
+  load-status_too_long (faults.Malformed at) c e = absurd c
+  load-status_too_long (faults.InvalidFunction func) c e = absurd c
+  load-status_too_long faults.InvalidModule c e = absurd c
+  load-status_too_long (faults.Unsupported func number feature) c e = absurd c
+  load-status_too_long (faults.Limit which value) c e = absurd c
+  load-status_too_long (faults.Reserved import) c e = absurd c
+  load-status_too_long faults.NotJson c e = absurd c
+  load-status_too_long (faults.Shape path) c e = absurd c
+  load-status_too_long (faults.UnknownName name) c e = absurd c
+  load-status_too_long (faults.WrongType name) c e = absurd c
+  load-status_too_long (faults.NoAccess name) c e = absurd c
+  load-status_too_long (faults.CallsOwn name) c e = absurd c
+  load-status_too_long (faults.Spent turns) c e = absurd c
+  load-status_too_long faults.Write c e = absurd c
+  load-status_too_long faults.Memory c e = absurd c
+  load-status_too_long faults.NotBuilt c e = absurd c
+
+  pub load-statuses : (fault : Fault) → IsLoadCause reading files fault → (status_of fault ≡ 3) ⊎ (status_of fault ≡ 4)
+  load-statuses faults.Usage c = absurd c
+  load-statuses (faults.Read name) c = inl refl
+  load-statuses (faults.TooLong name limit) c = inr refl
+  load-statuses (faults.Malformed at) c = absurd c
+  load-statuses (faults.InvalidFunction func) c = absurd c
+  load-statuses faults.InvalidModule c = absurd c
+  load-statuses (faults.Unsupported func number feature) c = absurd c
+  load-statuses (faults.Limit which value) c = absurd c
+  load-statuses (faults.Reserved import) c = absurd c
+  load-statuses faults.NotJson c = absurd c
+  load-statuses (faults.Shape path) c = absurd c
+  load-statuses (faults.UnknownName name) c = absurd c
+  load-statuses (faults.WrongType name) c = absurd c
+  load-statuses (faults.NoAccess name) c = absurd c
+  load-statuses (faults.CallsOwn name) c = absurd c
+  load-statuses (faults.Spent turns) c = absurd c
+  load-statuses faults.Write c = absurd c
+  load-statuses faults.Memory c = absurd c
+  load-statuses faults.NotBuilt c = absurd c
+
+-- a file that is not loaded: its status
+pub load-contains : (reading : Reading) (files : List (List ℕ × ℕ)) (fault : Fault) → (fault ≡ faults.Memory) ⊎ IsLoadCause reading files fault → Contains (3 ∷ 4 ∷ 14 ∷ []) (status_of fault)
+load-contains reading files fault (inl memory) = (2, omega arith, sym (ap status_of memory))
+load-contains reading files fault (inr cause) =
+    elim (load-statuses reading files fault cause) [ inl three ↦ (0, omega arith, sym three) | inr four ↦ (1, omega arith, sym four) ]
+
+-- the same, where no file is too long
+none-differs : (file : List ℕ × ℕ) (found : Option (List ℕ × ℕ)) → found ≡ None → found ≡ Some file → ⊥
+none-differs file None none some = cc some
+none-differs file (Some other) none some = cc none
+
+pub load-refused : (reading : Reading) (files : List (List ℕ × ℕ)) (fault : Fault) (other : ℕ) (told : FileMap) → reading.told ≡ Some told → first_longer told files ≡ None → (fault ≡ faults.Memory) ⊎ IsLoadCause reading files fault → Contains (other ∷ 3 ∷ 14 ∷ []) (status_of fault)
+load-refused reading files fault other told e none (inl memory) = (2, omega arith, sym (ap status_of memory))
+load-refused reading files fault other told e none (inr cause) =
+    elim (load-statuses reading files fault cause) [
+      | inl three ↦ (1, omega arith, sym three)
+      | inr four ↦ (let long = load-status_too_long reading files fault cause four in absurd (none-differs long.0 (first_longer told files) none (long.3 told e)))
+    ]
+
+-- ---- bytes that are refused
+
+-- a status that none of the other causes has
+abbrev IsOther : ℕ → Type 0
+IsOther status = (status ≡ 2 → ⊥) × (status ≡ 3 → ⊥) × (status ≡ 4 → ⊥) × (status ≡ 13 → ⊥) × (status ≡ 14 → ⊥)
+
+-- a fault that is named
+named-other : (fault other : Fault) → fault ≡ other → IsOther (status_of other) → IsOther (status_of fault)
+named-other fault other e is = subst (λ f. IsOther (status_of f)) (sym e) is
+
+not-5 : IsOther 5
+not-5 = (λ e. absurd (omega (arith, e)), λ e. absurd (omega (arith, e)), λ e. absurd (omega (arith, e)), λ e. absurd (omega (arith, e)), λ e. absurd (omega (arith, e)))
+
+not-6 : IsOther 6
+not-6 = (λ e. absurd (omega (arith, e)), λ e. absurd (omega (arith, e)), λ e. absurd (omega (arith, e)), λ e. absurd (omega (arith, e)), λ e. absurd (omega (arith, e)))
+
+not-7 : IsOther 7
+not-7 = (λ e. absurd (omega (arith, e)), λ e. absurd (omega (arith, e)), λ e. absurd (omega (arith, e)), λ e. absurd (omega (arith, e)), λ e. absurd (omega (arith, e)))
+
+not-8 : IsOther 8
+not-8 = (λ e. absurd (omega (arith, e)), λ e. absurd (omega (arith, e)), λ e. absurd (omega (arith, e)), λ e. absurd (omega (arith, e)), λ e. absurd (omega (arith, e)))
+
+not-9 : IsOther 9
+not-9 = (λ e. absurd (omega (arith, e)), λ e. absurd (omega (arith, e)), λ e. absurd (omega (arith, e)), λ e. absurd (omega (arith, e)), λ e. absurd (omega (arith, e)))
+
+not-12 : IsOther 12
+not-12 = (λ e. absurd (omega (arith, e)), λ e. absurd (omega (arith, e)), λ e. absurd (omega (arith, e)), λ e. absurd (omega (arith, e)), λ e. absurd (omega (arith, e)))
+
+not-19 : IsOther 19
+not-19 = (λ e. absurd (omega (arith, e)), λ e. absurd (omega (arith, e)), λ e. absurd (omega (arith, e)), λ e. absurd (omega (arith, e)), λ e. absurd (omega (arith, e)))
+
+invalid-other : (place : Option ℕ) → IsOther (status_of (invalid_fault place))
+invalid-other None = not-6
+invalid-other (Some func) = not-6
+
+profile-other : (refusal : Refusal) → IsOther (status_of (refusal_fault refusal))
+profile-other (profile.Unsupported func number feature) = not-7
+profile-other (profile.Limit which value) = not-8
+profile-other (profile.Reserved import) = not-8
+
+script-other : (found : ScriptFault) → (found ≡ script.Memory → ⊥) → IsOther (status_of (script_fault found))
+script-other script.NotJson differs = not-9
+script-other (script.Shape path) differs = not-9
+script-other (script.UnknownName name) differs = not-9
+script-other (script.WrongType name) differs = not-9
+script-other (script.NoAccess name) differs = not-9
+script-other (script.CallsOwn name) differs = not-9
+script-other script.Memory differs = absurd (differs refl)
+
+module-other : (bytes : List ℕ) (fault : Fault) → IsRefusedModule bytes fault → IsOther (status_of fault)
+module-other bytes fault (ByBytes malformed) = named-other fault (faults.Malformed malformed.at) malformed.named not-5
+module-other bytes fault (ByRules m encoded invalid) = named-other fault (invalid_fault invalid.place) invalid.named (invalid-other invalid.place)
+module-other bytes fault (ByProfile m encoded valid refused) = named-other fault (refusal_fault refused.refusal) refused.named (profile-other refused.refusal)
+
+inputs-other : (module_bytes script_bytes : List ℕ) (fault : Fault) → AreRefused module_bytes script_bytes fault → IsOther (status_of fault)
+inputs-other module_bytes script_bytes fault (ByModule refused) = module-other module_bytes fault refused
+inputs-other module_bytes script_bytes fault (ByScript m is refused) = named-other fault (script_fault refused.found) refused.named (script-other refused.found refused.differs)
+
+make-status : (module_bytes script_bytes : List ℕ) (turns : ℕ) (fault : Fault) → IsMakeRefusal module_bytes script_bytes turns fault → IsOther (status_of fault)
+make-status m s turns fault (OfInputs refused) = inputs-other m s fault refused
+make-status m s turns fault (OfForm is taken) = named-other fault faults.NotBuilt is not-19
+make-status m s turns fault (OfTurns is taken) = named-other fault (faults.Spent turns) is not-12
+
+refusal-status : (command : Command) (loaded : List (List ℕ)) (number : Option ℕ) (fault : Fault) → IsRefusal command loaded number fault → IsOther (status_of fault)
+refusal-status Make [] number fault c = absurd c
+refusal-status Make (m ∷ []) number fault c = absurd c
+refusal-status Make (m ∷ s ∷ []) None fault c = absurd c
+refusal-status Make (m ∷ s ∷ []) (Some turns) fault c = make-status m s turns fault c
+refusal-status Make (m ∷ s ∷ t ∷ more) number fault c = absurd c
+refusal-status Instrument loaded number fault c = absurd c
+refusal-status Record loaded number fault c = absurd c
+refusal-status Reduce loaded number fault c = absurd c
+refusal-status Build loaded number fault c = absurd c
+refusal-status History loaded number fault c = absurd c
+refusal-status Replay loaded number fault c = absurd c
+refusal-status Show loaded number fault c = absurd c
+refusal-status Load loaded number fault c = absurd c
+
+-- ---- the cause of a call's fault
+
+module _ (words : List (List ℕ)) (reading : Reading) (before now : ℕ) (fault : Fault) where
+  listed-when_refused : IsRefused words reading.told fault → IsListed words
+  listed-when_refused r = (r.command, r.call.names, r.number, r.call.says)
+
+  listed-when_unbuilt : IsUnbuilt words → IsListed words
+  listed-when_unbuilt u = (u.0, u.1, u.2, u.3)
+
+  pub status-usage : IsCause words reading before now fault → status_of fault ≡ 2 → ¬ (IsListed words)
+  status-usage (Unlisted is unlisted) e = unlisted
+  status-usage (Unbuilt is unbuilt) e = absurd (omega (arith, e, ap status_of is))
+  status-usage (Unloaded listed cause) e =
+      elim (load-statuses reading (files_of words) fault cause) [ inl three ↦ absurd (omega (arith, e, three)) | inr four ↦ absurd (omega (arith, e, four)) ]
+  status-usage (Refused r) e = absurd ((refusal-status r.command r.loaded r.number fault r.refusal).0 e)
+  status-usage (Unwritten is listed rose) e = absurd (omega (arith, e, ap status_of is))
+  status-usage (Wanting is listed) e = absurd (omega (arith, e, ap status_of is))
+
+  pub fault-usage : IsCause words reading before now fault → status_of fault ≡ 2 → fault ≡ faults.Usage
+  fault-usage (Unlisted is unlisted) e = is
+  fault-usage (Unbuilt is unbuilt) e = absurd (omega (arith, e, ap status_of is))
+  fault-usage (Unloaded listed cause) e =
+      elim (load-statuses reading (files_of words) fault cause) [ inl three ↦ absurd (omega (arith, e, three)) | inr four ↦ absurd (omega (arith, e, four)) ]
+  fault-usage (Refused r) e = absurd ((refusal-status r.command r.loaded r.number fault r.refusal).0 e)
+  fault-usage (Unwritten is listed rose) e = absurd (omega (arith, e, ap status_of is))
+  fault-usage (Wanting is listed) e = absurd (omega (arith, e, ap status_of is))
+
+  pub listed-unless_usage : IsCause words reading before now fault → (status_of fault ≡ 2) ⊎ IsListed words
+  listed-unless_usage (Unlisted is unlisted) = inl (ap status_of is)
+  listed-unless_usage (Unbuilt is unbuilt) = inr (listed-when_unbuilt unbuilt)
+  listed-unless_usage (Unloaded listed cause) = inr listed
+  listed-unless_usage (Refused r) = inr (listed-when_refused r)
+  listed-unless_usage (Unwritten is listed rose) = inr listed
+  listed-unless_usage (Wanting is listed) = inr listed
+
+  pub status-read : IsCause words reading before now fault → status_of fault ≡ 3 → Rose reading.faults_before reading.faults_now
+  status-read (Unlisted is unlisted) e = absurd (omega (arith, e, ap status_of is))
+  status-read (Unbuilt is unbuilt) e = absurd (omega (arith, e, ap status_of is))
+  status-read (Unloaded listed cause) e = load-status_read reading (files_of words) fault cause e
+  status-read (Refused r) e = absurd ((refusal-status r.command r.loaded r.number fault r.refusal).1 e)
+  status-read (Unwritten is listed rose) e = absurd (omega (arith, e, ap status_of is))
+  status-read (Wanting is listed) e = absurd (omega (arith, e, ap status_of is))
+
+  pub status-too_long : IsCause words reading before now fault → status_of fault ≡ 4 → (file : List ℕ × ℕ) × Contains (files_of words) file × Took reading.taken_before reading.taken_now (file.1 + 1) × ForSome reading.told (λ told. first_longer told (files_of words) ≡ Some file)
+  status-too_long (Unlisted is unlisted) e = absurd (omega (arith, e, ap status_of is))
+  status-too_long (Unbuilt is unbuilt) e = absurd (omega (arith, e, ap status_of is))
+  status-too_long (Unloaded listed cause) e = load-status_too_long reading (files_of words) fault cause e
+  status-too_long (Refused r) e = absurd ((refusal-status r.command r.loaded r.number fault r.refusal).2 e)
+  status-too_long (Unwritten is listed rose) e = absurd (omega (arith, e, ap status_of is))
+  status-too_long (Wanting is listed) e = absurd (omega (arith, e, ap status_of is))
+
+  pub status-write : IsCause words reading before now fault → status_of fault ≡ 13 → (fault ≡ faults.Write) × Rose before now
+  status-write (Unlisted is unlisted) e = absurd (omega (arith, e, ap status_of is))
+  status-write (Unbuilt is unbuilt) e = absurd (omega (arith, e, ap status_of is))
+  status-write (Unloaded listed cause) e =
+      elim (load-statuses reading (files_of words) fault cause) [ inl three ↦ absurd (omega (arith, e, three)) | inr four ↦ absurd (omega (arith, e, four)) ]
+  status-write (Refused r) e = absurd ((refusal-status r.command r.loaded r.number fault r.refusal).3 e)
+  status-write (Unwritten is listed rose) e = (is, rose)
+  status-write (Wanting is listed) e = absurd (omega (arith, e, ap status_of is))
+
+-- why a command prints nothing, in the words of the call
+pub IsCause-printing : (words : List (List ℕ)) (command : Command) (names : List (List ℕ)) (given : Option ℕ) → Says words command names given → (reading : Reading) (before now : ℕ) (fault : Fault) → IsPrintCause reading command names given fault → IsCause words reading before now fault
+IsCause-printing words command names given says reading before now fault (UnbuiltCommand is unbuilt) =
+    Unbuilt is (command, names, given, says, unbuilt)
+IsCause-printing words command names given says reading before now fault (UnloadedFile cause) =
+    Unloaded (command, names, given, says) (subst (λ files. IsLoadCause reading files fault) (sym (files_of-Says words command names given says)) cause)
+IsCause-printing words command names given says reading before now fault (RefusedBytes loaded bytes refusal) =
+    Refused (record { command = command; loaded = loaded; number = given; call = record { names = names; says = says; bytes = bytes }; refusal = refusal })
+IsCause-printing words command names given says reading before now fault (WantingMemory is) = Wanting is (command, names, given, says)
+
+-- the answer to a refusal, want of memory apart
+pub IsErrAnd-refused : {T : Type 0} (r : Result T Fault) (fault : Fault) → (r ≡ Err fault) ⊎ (r ≡ Err faults.Memory) → IsErrAnd r (λ other. Contains (status_of fault ∷ 3 ∷ 14 ∷ []) (status_of other))
+IsErrAnd-refused r fault (inl e) = subst (λ r. IsErrAnd r (λ other. Contains (status_of fault ∷ 3 ∷ 14 ∷ []) (status_of other))) (sym e) (0, omega arith, refl)
+IsErrAnd-refused r fault (inr e) = subst (λ r. IsErrAnd r (λ other. Contains (status_of fault ∷ 3 ∷ 14 ∷ []) (status_of other))) (sym e) (2, omega arith, refl)
+
+-- the cause of what is answered for the bytes of files
+pub IfErr-bytes : {T : Type 0} (r : Result T Fault) (reading : Reading) (command : Command) (names loaded : List (List ℕ)) (number : Option ℕ) → AreBytesOf reading.told names loaded → IfErr r (λ fault. (fault ≡ faults.Memory) ⊎ IsRefusal command loaded number fault) → IfErr r (λ fault. IsPrintCause reading command names number fault)
+IfErr-bytes (Ok x) reading command names loaded number bytes cause = tt
+IfErr-bytes (Err fault) reading command names loaded number bytes (inl memory) = WantingMemory memory
+IfErr-bytes (Err fault) reading command names loaded number bytes (inr refusal) = RefusedBytes loaded bytes refusal
+
+-- ---- two readings of the words
+
+stable : (a b : ℕ) → ((a ≡ b → ⊥) → ⊥) → a ≡ b
+stable zero zero h = refl
+stable zero (suc b) h = absurd (h (λ e. absurd (omega (arith, e))))
+stable (suc a) zero h = absurd (h (λ e. absurd (omega (arith, e))))
+stable (suc a) (suc b) h = ap suc (stable a b (λ differ. h (λ e. differ (omega (arith, e)))))
+
+ok-one : (a b : ℕ) (r : Result ℕ (Unit {0})) → r ≡ Ok a → r ≡ Ok b → a ≡ b
+ok-one a b r e f = cc (sym e ∙ f)
+
+err-no_ok : (a : ℕ) (r : Result ℕ (Unit {0})) → r ≡ Err tt → r ≡ Ok a → ⊥
+err-no_ok a r e f = cc (sym e ∙ f)
+
+-- what is written in decimal is one number
+decimal-one : (a b : ℕ) → a < 2 ^ 64 → b < 2 ^ 64 → decimal a ≡ decimal b → a ≡ b
+decimal-one a b low high e = stable a b (λ differ.
+    let none : Result ℕ (Unit {0}) = Err tt in
+    let word : Result ℕ (Unit {0}) = Ok (digits_value 10 (without_leading_plus (decimal a))) in
+    let unread : none ≡ Ok a = parse-decimal 64 a (decimal a) none low low refl (λ numeral. differ
+    (ok-one a b word (parse-decimal 64 a (decimal a) word low low refl (numeral, refl)) (parse-decimal 64 b (decimal a) word high high e (numeral, refl))))
+    in err-no_ok a none refl unread)
+
+-- each number that a command takes is small
+IsSmall : Option ℕ → Type 0
+IsSmall None = Unit {0}
+IsSmall (Some most) = most < 2 ^ 64
+
+most-IsSmall : (command : Command) → IsSmall (form command).most
+unfolding IsSmall
+most-IsSmall Make = omega arith
+most-IsSmall Instrument = tt
+most-IsSmall Record = omega arith
+most-IsSmall Reduce = tt
+most-IsSmall Build = tt
+most-IsSmall History = omega arith
+most-IsSmall Replay = omega arith
+most-IsSmall Show = tt
+most-IsSmall Load = omega arith
+
+-- one number behind the files
+IsBehind-one : (most : Option ℕ) (behind : List (List ℕ)) (a b : Option ℕ) → IsSmall most → IsBehind most behind a → IsBehind most behind b → b ≡ a
+unfolding IsSmall
+IsBehind-one None [] None None h p q = refl
+IsBehind-one (Some most) (word ∷ []) (Some a) (Some b) h p q = ap Some (decimal-one b a (omega (arith, h, q.high)) (omega (arith, h, p.high)) (sym q.digits ∙ p.digits))
+IsBehind-one None [] None (Some b) h p q = absurd q
+IsBehind-one None [] (Some a) b h p q = absurd p
+IsBehind-one None (w ∷ ws) a b h p q = absurd p
+IsBehind-one (Some most) [] a b h p q = absurd p
+IsBehind-one (Some most) (w ∷ []) None b h p q = absurd p
+IsBehind-one (Some most) (w ∷ []) (Some a) None h p q = absurd q
+IsBehind-one (Some most) (w ∷ v ∷ ws) a b h p q = absurd p
+
+-- the names of the files, of one reading and of another
+module _ (words : List (List ℕ)) (command : Command) (names : List (List ℕ)) (number : Option ℕ) (command' : Command) (names' : List (List ℕ)) (number' : Option ℕ) (says : Says words command names number) (again : Says words command' names' number') where
+  same-command : command' ≡ command
+  same-command = Says-same words command names number says command' names' number' again
+
+  same-written : names ++ says.behind ≡ names' ++ again.behind
+  same-written = cc (sym says.written ∙ again.written)
+
+  same-length : length names ≡ length names'
+  same-length = says.all_files ∙ sym (again.all_files ∙ ap (λ c. length (form c).limits) same-command)
+
+  same-names : names' ≡ names
+  same-names =
+      sym (take-append_seam names' again.behind) ∙ ap (take (length names')) (sym same-written)
+      ∙ ap (λ n. take n (names ++ says.behind)) (sym same-length) ∙ take-append_seam names says.behind
+
+  same-behind : says.behind ≡ again.behind
+  same-behind =
+      sym (drop-append_seam names says.behind) ∙ ap (drop (length names)) same-written
+      ∙ ap (λ n. drop n (names' ++ again.behind)) same-length ∙ drop-append_seam names' again.behind
+
+  same-number : number' ≡ number
+  same-number =
+      IsBehind-one (form command).most says.behind number number' (most-IsSmall command) says.number
+      (subst (λ behind. IsBehind (form command).most behind number') (sym same-behind)
+      (subst (λ c. IsBehind (form c).most again.behind number') same-command again.number))
+
+  -- a refusal by one reading of the words is one by another
+  pub IsSureRefusal-said : (told : FileMap) (fault : Fault) → IsSureRefusal command' (map (file_bytes told) names') number' fault → IsSureRefusal command (map (file_bytes told) names) number fault
+  IsSureRefusal-said told fault sure =
+      subst (λ c. IsSureRefusal c (map (file_bytes told) names) number fault) same-command
+      (subst (λ ns. IsSureRefusal command' (map (file_bytes told) ns) number fault) same-names
+      (subst (λ k. IsSureRefusal command' (map (file_bytes told) names') k fault) same-number sure))
+
+-- no fault has the status of a job that is done
+pub status-not_done : (fault : Fault) → status_of fault ≡ 0 → ⊥
+status-not_done faults.Usage e = omega (arith, e)
+status-not_done (faults.Read name) e = omega (arith, e)
+status-not_done (faults.TooLong name limit) e = omega (arith, e)
+status-not_done (faults.Malformed at) e = omega (arith, e)
+status-not_done (faults.InvalidFunction func) e = omega (arith, e)
+status-not_done faults.InvalidModule e = omega (arith, e)
+status-not_done (faults.Unsupported func number feature) e = omega (arith, e)
+status-not_done (faults.Limit which value) e = omega (arith, e)
+status-not_done (faults.Reserved import) e = omega (arith, e)
+status-not_done faults.NotJson e = omega (arith, e)
+status-not_done (faults.Shape path) e = omega (arith, e)
+status-not_done (faults.UnknownName name) e = omega (arith, e)
+status-not_done (faults.WrongType name) e = omega (arith, e)
+status-not_done (faults.NoAccess name) e = omega (arith, e)
+status-not_done (faults.CallsOwn name) e = omega (arith, e)
+status-not_done (faults.Spent turns) e = omega (arith, e)
+status-not_done faults.Write e = omega (arith, e)
+status-not_done faults.Memory e = omega (arith, e)
+status-not_done faults.NotBuilt e = omega (arith, e)

@@ -1,0 +1,25 @@
+use Rattle.std.proofs.Common.{◌≡◌, sym, ap, subst, ◌∙◌, zip, None}
+use Rattle.r3_core.specs.Causes.{first_longer, IsSureRefusal, all_bytes}
+use Rattle.r3_core.specs.Words.{texts}
+use Rattle.r3_core.proofs.ResultLemmas.{IsErrAnd-from}
+use Rattle.r3_core.proofs.StatusLemmas.{load-contains, load-refused, IsErrAnd-refused, IfErr-bytes}
+use Rattle.r3_core.proofs.printed_by.Goals as goal
+
+pub returns-in_err-loaded-clause-longer : goal.returns-in_err-loaded-clause-longer
+returns-in_err-loaded-clause-longer g c = λ built told e longer.
+    IsErrAnd-from _ _ _ c.from_residual.ensures.1 (load-contains _ _ c.in_err-loaded.field-0.0 c.in_err-loaded.ensures.cause)
+
+pub returns-in_err-loaded-clause-refused : goal.returns-in_err-loaded-clause-refused
+returns-in_err-loaded-clause-refused g c = λ fault told e none sure.
+    IsErrAnd-from _ _ _ c.from_residual.ensures.1 (load-refused _ _ c.in_err-loaded.field-0.0 _ told e
+    (subst (λ limits. first_longer told (zip (texts c.args.call.now.names.now) limits) ≡ None) (sym c.limits.ensures) none)
+    c.in_err-loaded.ensures.cause)
+
+pub returns-clause-refused : goal.returns-clause-refused
+returns-clause-refused g c = λ fault told e none sure.
+    IsErrAnd-refused c.printed_for.result fault
+    (c.printed_for.ensures.refused fault (subst (λ loaded. IsSureRefusal c.args.call.now.command loaded c.args.call.now.number fault) (sym (ap all_bytes c.deref.ensures.value ∙ c.in_ok-loaded.ensures.bytes told e)) sure))
+
+pub returns-clause-cause : goal.returns-clause-cause
+returns-clause-cause g c =
+    IfErr-bytes c.printed_for.result _ c.args.call.now.command _ _ c.args.call.now.number (λ told e. ap all_bytes c.deref.ensures.value ∙ c.in_ok-loaded.ensures.bytes told e) c.printed_for.ensures.cause
