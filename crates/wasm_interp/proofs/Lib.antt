@@ -13,3 +13,6 @@ pub mod Fits
 pub mod Going
 pub mod Following
 pub mod Ready
+pub mod Walking
+pub mod Stretching
+pub mod Meters

@@ -9,3 +9,4 @@ pub mod OpcodeTypes
 pub mod Advance
 pub mod Lending
 pub mod Running
+pub mod Walks

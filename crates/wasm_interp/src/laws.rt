@@ -7,6 +7,7 @@ ghost use Rattle.wasm_syntax.specs.declared.values.ValType.{ValType};
 ghost use Rattle.wasm_syntax.specs.declared.signatures.FuncType.{FuncType};
 ghost use Rattle.wasm_syntax.specs.declared.modules.Module.{Module};
 ghost use Rattle.wasm_syntax.specs.Index.{imported_funcs};
+ghost use Rattle.wasm_syntax.specs.Validity.{IsValid};
 ghost use Rattle.host_script.specs.declared.scripts.Action.{Action};
 ghost use Rattle.host_script.specs.declared.scripts.ResponseEnd.{ResponseEnd};
 ghost use Rattle.host_script.specs.Fits.{AreOfTypes, FitActions};
@@ -17,14 +18,17 @@ ghost use Rattle.type_safety.specs.Heights.{Heights};
 ghost use Rattle.type_safety.specs.Stores.{IsStore, func_count};
 ghost use Rattle.type_safety.specs.Values.{AreValues};
 ghost use Rattle.wasm_flat.specs.FlatCode.{flat_of};
+ghost use Rattle.wasm_flat.specs.Meters.{FitsMeter, Weighing};
 ghost use Rattle.flat_steps.specs.Bounds.{FitsCode};
 ghost use Rattle.flat_steps.specs.Follows.{AwaitsHost};
 ghost use Rattle.wasm_interp.specs.Frames.{argument_of};
 ghost use Rattle.wasm_interp.specs.Lending.{with_store};
 ghost use Rattle.wasm_interp.specs.Running.{IsCallable};
+ghost use Rattle.wasm_interp.specs.Walks.{FitsWeights};
 ghost use Rattle.wasm_interp.specs.State.{IsAtHost, IsInModule, IsWaiting, StandsFor, State, state};
 
 use flat_steps::stores_fit;
+use wasm_flat::weightless_items_go_ahead;
 
 /// What the calls of a machine ask for holds where it stands for a stack whose topmost activation is
 /// the module's, or the host's.
@@ -37,6 +41,13 @@ pub fn calls_are_ready()
     ensures arguments { (m : Module) (heights : Heights) (import : ℕ) (args : List Val) (actions : List Action) («end» : ResponseEnd) (below : List Activation) (machine : State) (number : ℕ) → StandsFor m heights (InImport import args actions «end» ∷ below) machine → argument_of machine.flat machine.frames machine.slots number ≡ slice_get args number }
 {
     stores_fit();
+}
+
+/// The weights of a meter that fits a module are fit for its flat code.
+pub fn meters_fit()
+    ensures { (m : Module) (weighing : Weighing) → IsValid m → FitsMeter m weighing → FitsWeights (flat_of m) weighing }
+{
+    weightless_items_go_ahead();
 }
 
 /// A machine without activations stands for the host at its own work. What the host has left to do

@@ -17,7 +17,8 @@ mod signatures;
 mod stack;
 mod turns;
 mod values;
+mod walks;
 
-pub use laws::{calls_are_ready, hosts_go_on};
+pub use laws::{calls_are_ready, hosts_go_on, meters_fit};
 pub use machine::{Machine, Pause, Turn};
 pub use no_memory::NoMemory;
