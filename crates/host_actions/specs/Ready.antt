@@ -1,0 +1,65 @@
+-- What an action of the host needs.
+use Rattle.std.specs.Prelude.{◌≡◌, ℕ, ◌^◌, ◌<◌, ◌≤◌, List, length, Option, Some, None, IsSome, slice_get, option_and_then}
+use Rattle.wasm_syntax.specs.declared.signatures.FuncType.{FuncType}
+use Rattle.wasm_syntax.specs.declared.values.Val.{Val}
+use Rattle.host_script.specs.declared.scripts.Address.{Address}
+use Rattle.host_script.specs.declared.scripts.Address.TheVariants.{Fixed, Arg}
+use Rattle.host_script.specs.declared.scripts.Action.{Action}
+use Rattle.host_script.specs.declared.scripts.Action.TheVariants.{Write, Copy, SetTable, SetGlobal, Grow, Call, CallTable}
+use Rattle.history_spec.specs.Store.{Store}
+use Rattle.history_spec.specs.Code.{Code}
+use Rattle.history_spec.specs.Action.{address_of}
+use Rattle.wasm_store.specs.Calls.{entry_at}
+use Rattle.host_actions.specs.declared.addresses.Addresses.{Addresses}
+use Rattle.host_actions.specs.declared.calls.Functions.{Functions}
+
+-- the functions of a module's code
+pub record AreOf (code : Code) (functions : Functions) : Type 0 where
+  pub types : code.types ≡ functions.types
+  pub indices : code.indices ≡ functions.indices
+  pub imported : code.imported ≡ functions.imported
+
+-- the type of a function
+abbrev pub type_of : Functions → ℕ → Option FuncType
+type_of functions func =
+    option_and_then (λ ty. slice_get functions.types ty) (slice_get functions.indices func)
+
+-- an argument that an address names is there and has 32 bits
+abbrev pub IsThere : List Val → Address → Type 0
+IsThere args (Fixed address) = Unit {0}
+IsThere args (Arg number plus) = (value : Val) × (slice_get args number ≡ Some value) × (value.bits < 2 ^ 32)
+
+abbrev pub AreThere : List Val → Action → Type 0
+AreThere args (Write to bytes) = IsThere args to
+AreThere args (Copy to source count) = IsThere args to × IsThere args source
+AreThere args (SetTable index func) = Unit {0}
+AreThere args (SetGlobal global value) = Unit {0}
+AreThere args (Grow by) = Unit {0}
+AreThere args (Call func given) = Unit {0}
+AreThere args (CallTable index given) = Unit {0}
+
+-- where the ranges of an action begin, given the arguments of the call that is answered
+abbrev pub AreAddresses : List Val → Action → Addresses → Type 0
+AreAddresses args (Write to bytes) at = address_of args to ≡ Some at.to
+AreAddresses args (Copy to source count) at = (address_of args to ≡ Some at.to) × (address_of args source ≡ Some at.source)
+AreAddresses args (SetTable index func) at = Unit {0}
+AreAddresses args (SetGlobal global value) at = Unit {0}
+AreAddresses args (Grow by) at = Unit {0}
+AreAddresses args (Call func given) at = Unit {0}
+AreAddresses args (CallTable index given) at = Unit {0}
+
+-- a defined function in an entry of the table has a type
+abbrev pub IsTyped : Functions → Option (Option ℕ) → Type 0
+IsTyped functions None = Unit {0}
+IsTyped functions (Some None) = Unit {0}
+IsTyped functions (Some (Some func)) = functions.imported ≤ func → IsSome (type_of functions func)
+
+-- a store has the memory, the table or the global that an action needs
+abbrev pub IsReady : Functions → Store → Action → Type 0
+IsReady functions store (Write to bytes) = IsSome store.memory
+IsReady functions store (Copy to source count) = IsSome store.memory
+IsReady functions store (SetTable index func) = IsSome store.table
+IsReady functions store (SetGlobal global value) = global < length store.globals
+IsReady functions store (Grow by) = IsSome store.memory
+IsReady functions store (Call func given) = Unit {0}
+IsReady functions store (CallTable index given) = IsSome store.table × IsTyped functions (entry_at store index)

@@ -1,0 +1,13 @@
+//! The store that a module's run under a script begins with (Core 1.0, 4.5.4).
+#![tactic(auto)]
+
+mod constants;
+mod linking;
+mod segments;
+
+pub use host_script::LinkFault;
+pub use linking::link;
+pub use no_memory::NoMemory;
+
+#[cfg(test)]
+mod tests;
