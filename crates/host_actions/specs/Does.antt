@@ -1,11 +1,12 @@
--- What an answer says that an action did.
-use Rattle.std.specs.Prelude.{◌≡◌, List, [], Result, Ok, Err}
+-- What an answer says that an action of the host did.
+use Rattle.std.specs.Prelude.{◌≡◌, List, [], Bool, true, false, IsTrue, Result, Ok, Err}
 use Rattle.wasm_syntax.specs.declared.values.Val.{Val}
 use Rattle.host_script.specs.declared.scripts.Action.{Action}
 use Rattle.host_script.specs.declared.scripts.Action.TheVariants.{Write, Copy, SetTable, SetGlobal, Grow, Call, CallTable}
 use Rattle.history_spec.specs.Store.{Store}
+use Rattle.history_spec.specs.Code.{Code}
 use Rattle.history_spec.specs.Action as history
-use Rattle.history_spec.specs.Action.{Acted, Changes, Fails}
+use Rattle.history_spec.specs.Action.{Changes, Fails, act}
 use Rattle.host_actions.specs.declared.acts.Done.{Done}
 use Rattle.host_actions.specs.declared.acts.Done.TheVariants.{Changed, Enters}
 use Rattle.host_actions.specs.declared.acts.ActFault.{ActFault}
@@ -21,10 +22,20 @@ args_in (Grow by) = []
 args_in (Call func given) = given
 args_in (CallTable index given) = given
 
--- the store is changed just so, or is as it was: the host calls the function with these arguments, or there is this
--- fault, or no memory was left
-abbrev pub Does : Result Done ActFault → Acted → List Val → (old new : Store) → Type 0
-Does (Ok Changed) acted given old new = acted ≡ Changes new
-Does (Ok (Enters func)) acted given old new = (acted ≡ history.Enters func given) × (new ≡ old)
-Does (Err (Fault kind)) acted given old new = (acted ≡ Fails kind) × (new ≡ old)
-Does (Err Memory) acted given old new = new ≡ old
+-- a growth alone takes memory
+abbrev pub takes_memory : Action → Bool
+takes_memory (Write to bytes) = false
+takes_memory (Copy to source count) = false
+takes_memory (SetTable index func) = false
+takes_memory (SetGlobal global value) = false
+takes_memory (Grow by) = true
+takes_memory (Call func given) = false
+takes_memory (CallTable index given) = false
+
+-- the store is changed just so, or is as it was: the host calls this function with the action's arguments, or there
+-- is this fault, or no memory was left
+abbrev pub Does : Code → List Val → Action → Result Done ActFault → (old new : Store) → Type 0
+Does code args action (Ok Changed) old new = act code old args action ≡ Changes new
+Does code args action (Ok (Enters func)) old new = (act code old args action ≡ history.Enters func (args_in action)) × (new ≡ old)
+Does code args action (Err (Fault kind)) old new = (act code old args action ≡ Fails kind) × (new ≡ old)
+Does code args action (Err Memory) old new = IsTrue (takes_memory action) × (new ≡ old)

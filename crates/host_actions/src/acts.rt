@@ -1,13 +1,13 @@
 // One action of the host.
 
-ghost use Rattle.std.specs.Prelude.{◌≡◌, ℕ, List, [], Some, IsSome, ◌<◌, length};
+ghost use Rattle.std.specs.Prelude.{◌≡◌, ℕ, List, Some, IsSome, ◌<◌, length};
 ghost use Rattle.wasm_syntax.specs.declared.values.Val.{Val};
 ghost use Rattle.host_script.specs.declared.scripts.Address.{Address};
 ghost use Rattle.host_script.specs.declared.scripts.Action.TheVariants.{Copy, Grow, SetGlobal, SetTable, Write};
-ghost use Rattle.history_spec.specs.Action.{act as acted, address_of};
+ghost use Rattle.history_spec.specs.Action.{address_of};
 ghost use Rattle.history_spec.specs.Code.{Code};
 ghost use Rattle.host_actions.specs.Ready.{AreAddresses, AreOf, IsReady};
-ghost use Rattle.host_actions.specs.Does.{Does, args_in};
+ghost use Rattle.host_actions.specs.Does.{Does};
 
 use crate::addresses::Addresses;
 use crate::calls::{Functions, call_table};
@@ -39,7 +39,7 @@ pub enum ActFault {
 }
 
 /// Does one action of the host, whose ranges begin at `addresses`. After a fault, and for a call,
-/// the store is as it was. The store has what the action needs.
+/// the store is as it was. The store has what the action needs. A growth alone takes memory.
 pub fn act(
     store: &mut Store,
     functions: &Functions,
@@ -49,7 +49,7 @@ pub fn act(
     requires { IsReady functions.now store.old action.now }
     ensures { (code : Code) (args : List Val) → AreOf code functions.now
         → AreAddresses args action.now addresses
-        → Does result (acted code store.old args action.now) (args_in action.now) store.old store.new }
+        → Does code args action.now result store.old store.new }
 {
     match action {
         Action::Write { bytes, .. } => write(store, addresses.to, bytes.as_slice()),
@@ -71,7 +71,7 @@ pub fn act(
 fn write(store: &mut Store, at: u64, bytes: &[u8]) -> Result<Done, ActFault>
     requires { IsSome store.old.memory }
     ensures { (code : Code) (args : List Val) (to : Address) → address_of args to ≡ Some at
-        → Does result (acted code store.old args (Write to bytes.now)) [] store.old store.new }
+        → Does code args (Write to bytes.now) result store.old store.new }
 {
     match store.put_bytes(at, bytes) {
         Ok(()) => Ok(Done::Changed),
@@ -86,7 +86,7 @@ fn copy(store: &mut Store, at: u64, from: u64, count: u32) -> Result<Done, ActFa
     requires { IsSome store.old.memory }
     ensures { (code : Code) (args : List Val) (to source : Address) → address_of args to ≡ Some at
         → address_of args source ≡ Some from
-        → Does result (acted code store.old args (Copy to source count)) [] store.old store.new }
+        → Does code args (Copy to source count) result store.old store.new }
 {
     match store.move_bytes(at, from, u64::from(count)) {
         Ok(()) => Ok(Done::Changed),
@@ -100,7 +100,7 @@ fn copy(store: &mut Store, at: u64, from: u64, count: u32) -> Result<Done, ActFa
 fn set_table(store: &mut Store, index: u32, func: Option<u32>) -> Result<Done, ActFault>
     requires { IsSome store.old.table }
     ensures { (code : Code) (args : List Val)
-        → Does result (acted code store.old args (SetTable index func)) [] store.old store.new }
+        → Does code args (SetTable index func) result store.old store.new }
 {
     match store.set_entry(index, func) {
         Ok(()) => Ok(Done::Changed),
@@ -114,7 +114,7 @@ fn set_table(store: &mut Store, index: u32, func: Option<u32>) -> Result<Done, A
 fn set_global(store: &mut Store, global: u32, value: Val) -> Result<Done, ActFault>
     requires { global < length store.old.globals }
     ensures { (code : Code) (args : List Val)
-        → Does result (acted code store.old args (SetGlobal global value)) [] store.old store.new }
+        → Does code args (SetGlobal global value) result store.old store.new }
 {
     store.set_global(global, value);
     Ok(Done::Changed)
@@ -124,7 +124,7 @@ fn set_global(store: &mut Store, global: u32, value: Val) -> Result<Done, ActFau
 fn grow(store: &mut Store, pages: u32) -> Result<Done, ActFault>
     requires { IsSome store.old.memory }
     ensures { (code : Code) (args : List Val)
-        → Does result (acted code store.old args (Grow pages)) [] store.old store.new }
+        → Does code args (Grow pages) result store.old store.new }
 {
     match store.grow(pages) {
         Ok(Some(_)) => Ok(Done::Changed),

@@ -1,9 +1,8 @@
 use Rattle.std.proofs.Common.{Ok, Err, refl, subst}
 use Rattle.host_script.specs.declared.scripts.Action.TheVariants.{Write, Copy, SetTable, SetGlobal, Grow, CallTable}
-use Rattle.history_spec.specs.Action.{act}
 use Rattle.host_actions.specs.declared.acts.Done.TheVariants.{Enters}
 use Rattle.host_actions.specs.declared.acts.ActFault.TheVariants.{Fault}
-use Rattle.host_actions.specs.Does.{Does, args_in}
+use Rattle.host_actions.specs.Does.{Does}
 use Rattle.host_actions.proofs.Answering.{does_so, addresses_so}
 use Rattle.host_actions.proofs.acts.act.Goals as goal
 
@@ -14,7 +13,7 @@ returns-in-Write c code args own at =
     let to = c.in-Write.to in
     let here = addresses_so args c.args.addresses c.args.action.now (Write to c.in-Write.bytes) c.in-Write.is at in
     does_so code old new args c.write.result c.args.action.now (Write to c.in-Write.bytes) c.in-Write.is
-    (subst (λ bytes. Does c.write.result (act code old args (Write to bytes)) (args_in (Write to bytes)) old new) c.as_slice.ensures (c.write.ensures code args to here))
+    (subst (λ bytes. Does code args (Write to bytes) c.write.result old new) c.as_slice.ensures (c.write.ensures code args to here))
 
 pub returns-in-Copy : goal.returns-in-Copy
 returns-in-Copy c code args own at =
@@ -39,11 +38,11 @@ returns-in-Ok c code args own at =
     let old = c.args.store.now in
     let index = c.in-CallTable.index in
     does_so code old old args (Ok (Enters c.in-Ok.func)) c.args.action.now (CallTable index c.in-CallTable.args) c.in-CallTable.is
-    (subst (λ given. Does (Ok (Enters c.in-Ok.func)) (act code old args (CallTable index given)) given old old) c.as_slice-in-CallTable.ensures (c.in-Ok.ensures.ok code args own, refl))
+    (subst (λ given. Does code args (CallTable index given) (Ok (Enters c.in-Ok.func)) old old) c.as_slice-in-CallTable.ensures (c.in-Ok.ensures.ok code args own, refl))
 
 pub returns-in-Err : goal.returns-in-Err
 returns-in-Err c code args own at =
     let old = c.args.store.now in
     let index = c.in-CallTable.index in
     does_so code old old args (Err (Fault c.in-Err.kind)) c.args.action.now (CallTable index c.in-CallTable.args) c.in-CallTable.is
-    (subst (λ given. Does (Err (Fault c.in-Err.kind)) (act code old args (CallTable index given)) given old old) c.as_slice-in-CallTable.ensures (c.in-Err.ensures.err code args own, refl))
+    (subst (λ given. Does code args (CallTable index given) (Err (Fault c.in-Err.kind)) old old) c.as_slice-in-CallTable.ensures (c.in-Err.ensures.err code args own, refl))
