@@ -1,6 +1,6 @@
 // One action of the host.
 
-ghost use Rattle.std.specs.Prelude.{◌≡◌, ℕ, List, Some, IsSome, ◌<◌, length};
+ghost use Rattle.std.specs.Prelude.{◌≡◌, List, Some, IsSome, ◌<◌, length};
 ghost use Rattle.wasm_syntax.specs.declared.values.Val.{Val};
 ghost use Rattle.host_script.specs.declared.scripts.Address.{Address};
 ghost use Rattle.host_script.specs.declared.scripts.Action.TheVariants.{Copy, Grow, SetGlobal, SetTable, Write};

@@ -1,6 +1,6 @@
 // Which function an entry of the table holds, and whether it can be called.
 
-ghost use Rattle.std.specs.Prelude.{◌≡◌, ℕ, List, Some, IfOk, IfErr};
+ghost use Rattle.std.specs.Prelude.{◌≡◌, List, Some, IfOk, IfErr};
 ghost use Rattle.wasm_syntax.specs.declared.signatures.FuncType.{FuncType};
 ghost use Rattle.wasm_syntax.specs.declared.values.Val.{Val};
 ghost use Rattle.wasm_syntax.specs.Alike as alike;
