@@ -1,0 +1,12 @@
+mod Stacks
+mod Outside
+mod Coming
+mod Settling
+mod FitResponses
+mod Counts
+mod Turning
+mod Opening
+mod Acting
+mod Ending
+mod Reaching
+mod Starting

@@ -1,0 +1,103 @@
+-- Where a run stands between its steps, as code keeps it, and how the run goes on from there.
+use Rattle.std.specs.Prelude.{◌≡◌, ℕ, ◌+◌, ◌*◌, List, [], ◌∷◌, length, map, Result, Ok, Err}
+use Rattle.wasm_syntax.specs.declared.modules.Module.{Module}
+use Rattle.host_script.specs.declared.scripts.Script.{Script}
+use Rattle.history_spec.specs.declared.entries.Entry.{Entry}
+use Rattle.history_spec.specs.Code.{code_of}
+use Rattle.history_spec.specs.Configuration.{Frame, Activation, InModule}
+use Rattle.history_spec.specs.Settle.{settle}
+use Rattle.history_spec.specs.Configuration.{Config}
+use Rattle.history_spec.specs.Step.{Goes_on, Finished, Faulted, Stepped, stepped, after_entries, come_to_stand, step}
+use Rattle.history_spec.specs.Run.{program_of}
+use Rattle.type_safety.specs.Configurations.{IsGoing}
+use Rattle.type_safety.specs.Heights.{Heights}
+use Rattle.flat_steps.specs.Follows.{AwaitsHost}
+use Rattle.host_actions.specs.Ready.{AreOf}
+use Rattle.wasm_interp.specs.State.{StandsFor}
+use Rattle.wasm_interp.specs.Running.{IsRun, config_of}
+use Rattle.host_play.specs.declared.playing.Stand.{Stand}
+use Rattle.host_play.specs.declared.playing.Stand.TheVariants as at
+use Rattle.host_play.specs.declared.playing.Playing.{Playing}
+use Rattle.host_play.specs.declared.playing.Refusal.{Refusal}
+use Rattle.host_play.specs.declared.playing.Refusal.TheVariants as refusal
+use Rattle.host_play.specs.Telling.{Journaled, Tells}
+use Rattle.host_play.specs.Hosts.{Plays, kept}
+
+-- a stack of activations is that of the machine and of the host's own ones
+pub record IsStack (m : Module) (heights : Heights) (script : Script) (stack : List Activation) (playing : Playing) : Type 0 where
+  pub machine : StandsFor m heights stack playing.machine
+  pub hosts : Plays script stack playing.hosts
+
+-- control stands at an instruction
+pub record AtInstruction (m : Module) (heights : Heights) (script : Script) (counts : List ℕ) (playing : Playing) (s : Stepped) : Type 0 where
+  pub frame : Frame
+  pub below : List Activation
+  pub stack : IsStack m heights script (InModule frame ∷ below) playing
+  pub going : IsGoing frame.at.rest
+  pub same : s ≡ stepped [] (Goes_on (config_of playing.machine (InModule frame ∷ below) counts))
+
+-- control has come to the module, and the returns that are due are not made yet
+pub record InsideModule (m : Module) (heights : Heights) (script : Script) (counts : List ℕ) (playing : Playing) (s : Stepped) : Type 0 where
+  pub frame : Frame
+  pub below : List Activation
+  pub stack : IsStack m heights script (InModule frame ∷ below) playing
+  pub same : s ≡ come_to_stand playing.machine.store counts (settle (InModule frame ∷ below))
+
+-- control is with the host, which may have nothing left to do
+pub record AtHost (m : Module) (heights : Heights) (script : Script) (counts : List ℕ) (playing : Playing) (s : Stepped) : Type 0 where
+  pub activations : List Activation
+  pub stack : IsStack m heights script activations playing
+  pub awaits : AwaitsHost activations
+  pub same : s ≡ come_to_stand playing.machine.store counts (settle activations)
+
+-- how the run goes on
+abbrev pub GoesOn : Module → Heights → Script → List ℕ → Stand → Playing → Stepped → Type 0
+GoesOn m heights script counts at.Instruction playing s = AtInstruction m heights script counts playing s
+GoesOn m heights script counts at.Module playing s = InsideModule m heights script counts playing s
+GoesOn m heights script counts at.Host playing s = AtHost m heights script counts playing s
+GoesOn m heights script counts (at.Over outcome) playing s = s ≡ stepped [] (Finished outcome)
+
+-- the run of a module under a script goes on from here as `s`
+pub record Standing (m : Module) (script : Script) (stand : Stand) (playing : Playing) (s : Stepped) : Type 0 where
+  pub heights : Heights
+  pub counts : List ℕ
+  pub is_run : IsRun m heights (program_of m script) counts
+  pub functions : AreOf (code_of m) playing.functions
+  pub counted : playing.counts.items ≡ map kept counts
+  pub goes_on : GoesOn m heights script counts stand playing s
+
+-- some run does
+abbrev pub IsPlayed : Script → Stand → Playing → Type 0
+IsPlayed script stand playing = (m : Module) × (s : Stepped) × Standing m script stand playing s
+
+-- what followed without a turn was told, and the run goes on
+pub record Leads (m : Module) (script : Script) (s : Stepped) (told new_told : Journaled) (stand : Stand) (playing : Playing) : Type 0 where
+  pub entries : List Entry
+  pub next : Stepped
+  pub same : s ≡ after_entries entries next
+  pub tells : Tells told new_told entries
+  pub standing : Standing m script stand playing next
+
+-- why the run does not go on
+abbrev pub Stops : Refusal → Stepped → Type 0
+Stops (refusal.Fault kind) s = s.next ≡ Faulted kind
+Stops refusal.Memory s = Unit {0}
+
+abbrev pub LeadsBy : Module → Script → Stepped → (told new_told : Journaled) → Result Stand Refusal → Playing → Type 0
+LeadsBy m script s told new_told (Ok stand) playing = Leads m script s told new_told stand playing
+LeadsBy m script s told new_told (Err refused) playing = Stops refused s
+
+-- a step was made, and what followed without a turn
+pub record MakesStep (m : Module) (script : Script) (s : Stepped) (told new_told : Journaled) (result : Result Stand Refusal) (playing : Playing) : Type 0 where
+  pub config : Config
+  pub standing : s ≡ stepped [] (Goes_on config)
+  pub leads : LeadsBy m script (step (program_of m script) config) told new_told result playing
+
+-- how much a run may still do without a turn
+abbrev pub rest_at : Stand → (hosts : ℕ) → ℕ
+rest_at at.Module hosts = 2 * hosts + 2
+rest_at at.Host hosts = 2 * hosts + 1
+rest_at stand hosts = 2 * hosts
+
+abbrev pub rest : Stand → Playing → ℕ
+rest stand playing = rest_at stand (length playing.hosts)

@@ -1,0 +1,16 @@
+//! The run of a module under a script, within a budget of turns: the machine does the module's part,
+//! and the script is the host, whose activations stand on a stack of their own.
+#![tactic(auto)]
+
+mod actions;
+pub mod journal;
+mod modules;
+pub mod playing;
+mod plays;
+mod responses;
+pub mod results;
+mod tells;
+
+pub use no_memory::NoMemory;
+pub use plays::{Play, tell};
+pub use results::{PlayFault, Told};

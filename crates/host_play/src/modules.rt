@@ -1,0 +1,91 @@
+// What the module does: the returns that are due, and its next instruction.
+
+ghost use Rattle.std.specs.Prelude.{◌≡◌, ◌≢◌, ℕ, ◌+◌, ◌<◌, ◌∷◌, length, map, IfOk, OnOk, IsErr, Err};
+ghost use Rattle.wasm_syntax.specs.declared.modules.Module.{Module};
+ghost use Rattle.history_spec.specs.Step.{Stepped};
+ghost use Rattle.host_play.specs.Hosts.{Begins, BeginsBy};
+ghost use Rattle.host_play.specs.Standing.{IsPlayed, LeadsBy, MakesStep, Standing, rest};
+
+use crate::journal::Journal;
+use crate::playing::{Host, Hosts, Playing, Refusal, Stand};
+use crate::responses::response_to;
+use flat_steps::stores_fit;
+use history_spec::{FaultKind, Outcome};
+use host_script::Script;
+use wasm_interp::Pause;
+
+/// Makes the returns that are due.
+pub(crate) fn settle(
+    script: &Script,
+    playing: &mut Playing,
+    journal: &mut Journal,
+) -> Result<Stand, Refusal>
+    requires { IsPlayed script.now Stand.Module playing.old }
+    ensures leads { (m : Module) (s : Stepped) → Standing m script.now Stand.Module playing.old s → LeadsBy m script.now s journal.old journal.new result playing.new }
+    ensures less { IfOk result (λ stand. rest stand playing.new < rest Stand.Module playing.old) }
+{
+    let _script = script;
+    let turn = playing.machine.settle()?;
+    journal.tell_all(turn.entries.as_slice())?;
+    match turn.pause {
+        None => Ok(Stand::Instruction),
+        Some(_) => Ok(Stand::Host),
+    }
+}
+
+/// The next instruction.
+pub(crate) fn turn(
+    script: &Script,
+    playing: &mut Playing,
+    journal: &mut Journal,
+) -> Result<Stand, Refusal>
+    requires { IsPlayed script.now Stand.Instruction playing.old }
+    ensures makes { (m : Module) (s : Stepped) → Standing m script.now Stand.Instruction playing.old s → MakesStep m script.now s journal.old journal.new result playing.new }
+    ensures less { IfOk result (λ stand. rest stand playing.new < rest Stand.Instruction playing.old + 4) }
+{
+    stores_fit();
+    let turn = playing.machine.turn()?;
+    journal.tell_all(turn.entries.as_slice())?;
+    match turn.pause {
+        None => Ok(Stand::Instruction),
+        Some(pause) => match pause {
+            Pause::Returned => Ok(Stand::Host),
+            Pause::Trapped => Ok(Stand::Over {
+                outcome: Outcome::Trapped,
+            }),
+            Pause::Import { index } => {
+                match begin_answer(script, &mut playing.hosts, &mut playing.counts, index) {
+                    Ok(()) => Ok(Stand::Host),
+                    Err(refused) => Err(refused),
+                }
+            }
+            Pause::Spent => unreachable!(),
+        },
+    }
+}
+
+/// The host begins to answer a call of an import. The response is that of the call's number, counted
+/// from 0 for each import.
+fn begin_answer(
+    script: &Script,
+    hosts: &mut Hosts,
+    counts: &mut Vec<u64>,
+    index: u32,
+) -> Result<(), Refusal>
+    requires { index < length counts.old.items }
+    ensures { BeginsBy script.now hosts.old counts.old.items index result hosts.new counts.new.items }
+{
+    let number = counts[index as usize];
+    let Some(_response) = response_to(script, index, number) else {
+        return Err(Refusal::Fault {
+            kind: FaultKind::NoResponse,
+        });
+    };
+    hosts.push(Host::Answer {
+        import: index,
+        number,
+        next: 0,
+    })?;
+    counts[index as usize] = number.saturating_add(1);
+    Ok(())
+}

@@ -1,0 +1,52 @@
+// The run of a linked module.
+
+ghost use Rattle.std.specs.Prelude.{◌≡◌, Ok};
+ghost use Rattle.wasm_syntax.specs.Validity.{IsValid};
+ghost use Rattle.wasm_syntax.specs.Profile.{IsSupported};
+ghost use Rattle.host_script.specs.Fits.{Fits};
+ghost use Rattle.history_spec.specs.Run.{opening, program_of, start_of};
+ghost use Rattle.history_spec.specs.Step.{Stepped};
+ghost use Rattle.type_safety.specs.Stores.{IsStore};
+ghost use Rattle.wasm_flat.specs.Bounds.{IsBound};
+ghost use Rattle.wasm_flat.specs.FlatCode.{flat_of};
+ghost use Rattle.host_play.specs.Results.{IsTold};
+
+use crate::results::{PlayFault, Told};
+use crate::tells::tell_from;
+use host_script::Script;
+use std::alloc::Global;
+use wasm_flat::Flat;
+use wasm_store::Store;
+use wasm_syntax::Module;
+
+/// A module that is linked with a script: its flat code, and the store that its run begins with.
+#[derive(Drop)]
+pub struct Play<'a> {
+    pub code: &'a Module,
+    pub flat: Flat,
+    pub script: &'a Script,
+    pub store: Store,
+}
+
+/// The run of a module under a script within so many turns, with every entry of its history told. A
+/// fault of the script is found at the turn of the action that cannot be done, or of the call that has
+/// no response. The script fits the module, no instruction of which is refused, and the module links
+/// with it.
+pub fn tell(alloc: Global, play: Play, turns: u64) -> Result<Told, PlayFault>
+    requires valid { IsValid play.code.now }
+    requires supported { IsSupported play.code.now }
+    requires fits { Fits play.code.now play.script.now }
+    requires flat { play.flat ≡ flat_of play.code.now }
+    requires bound { IsBound play.flat }
+    requires store { IsStore play.code.now play.store }
+    requires opened { opening play.code.now play.script.now ≡ Ok (start_of play.code.now play.script.now play.store) }
+    ensures { (begun : Stepped) → opening play.entry.code.now play.entry.script.now ≡ Ok begun → IsTold (program_of play.entry.code.now play.entry.script.now) begun turns result }
+{
+    let Play {
+        code,
+        flat,
+        script,
+        store,
+    } = play;
+    tell_from(alloc, code, flat, script, store, turns)
+}

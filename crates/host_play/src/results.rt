@@ -1,0 +1,49 @@
+// What a run answers.
+
+ghost use Rattle.std.specs.Prelude.{◌≡◌};
+ghost use Rattle.host_play.specs.declared.results.PlayFault.TheVariants.{Memory};
+
+use history_spec::{FaultKind, Outcome};
+use no_memory::NoMemory;
+use std::alloc::AllocError;
+use thiserror::Error;
+use wasm_syntax::Bytes;
+
+/// A run that has an outcome: the lines of its history and of its outcome, how many entries the history has,
+/// and how many turns it took.
+#[derive(Debug, Drop)]
+pub struct Told {
+    pub text: Bytes,
+    pub entries: u64,
+    pub turns: u64,
+    pub outcome: Outcome,
+}
+
+/// Why a run has no outcome.
+#[derive(Clone, Copy, PartialEq, Eq, Debug, Error)]
+pub enum PlayFault {
+    /// The host cannot do what its script says, at this turn.
+    #[error("turn {turn}: {kind}")]
+    Fault { turn: u64, kind: FaultKind },
+    /// All turns are used, and the next step takes one.
+    #[error("turns are spent")]
+    Spent,
+    #[error("out of memory")]
+    Memory,
+}
+
+impl From<NoMemory> for PlayFault {
+    ghost from_gives = { λ _ fault. fault ≡ Memory };
+
+    fn from(_refused: NoMemory) -> PlayFault {
+        PlayFault::Memory
+    }
+}
+
+impl From<AllocError> for PlayFault {
+    ghost from_gives = { λ _ fault. fault ≡ Memory };
+
+    fn from(_refused: AllocError) -> PlayFault {
+        PlayFault::Memory
+    }
+}
