@@ -66,3 +66,9 @@ pub fn made(alloc: Global, module: &str, script: &str, turns: &str) -> Result<Ou
     let mut files = files_of(alloc, module, script, Vec::new(alloc))?;
     called(alloc, &["make", "m.wasm", "s.json", turns], &mut files)
 }
+
+/// Tells the run of a module, in hexadecimal, with a script.
+pub fn told(alloc: Global, module: &str, script: &str, turns: &str) -> Result<Outcome, Fail> {
+    let mut files = files_of(alloc, module, script, Vec::new(alloc))?;
+    called(alloc, &["history", "m.wasm", "s.json", turns], &mut files)
+}

@@ -68,6 +68,10 @@ IsLoadCause-among told fb fm fn tb tm tn before file behind f t within (faults.U
 IsLoadCause-among told fb fm fn tb tm tn before file behind f t within (faults.WrongType name) c = absurd c
 IsLoadCause-among told fb fm fn tb tm tn before file behind f t within (faults.NoAccess name) c = absurd c
 IsLoadCause-among told fb fm fn tb tm tn before file behind f t within (faults.CallsOwn name) c = absurd c
+IsLoadCause-among told fb fm fn tb tm tn before file behind f t within (faults.Missing import) c = absurd c
+IsLoadCause-among told fb fm fn tb tm tn before file behind f t within (faults.Mismatch import) c = absurd c
+IsLoadCause-among told fb fm fn tb tm tn before file behind f t within (faults.Segment number) c = absurd c
+IsLoadCause-among told fb fm fn tb tm tn before file behind f t within (faults.Script turn kind) c = absurd c
 IsLoadCause-among told fb fm fn tb tm tn before file behind f t within (faults.Spent turns) c = absurd c
 IsLoadCause-among told fb fm fn tb tm tn before file behind f t within faults.Write c = absurd c
 IsLoadCause-among told fb fm fn tb tm tn before file behind f t within faults.Memory c = absurd c

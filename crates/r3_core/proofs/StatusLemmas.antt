@@ -17,6 +17,12 @@ use Rattle.script_text.specs.declared.faults.ScriptFault.{ScriptFault}
 use Rattle.script_text.specs.declared.faults.ScriptFault.TheVariants as script
 use Rattle.r3_inputs.specs.Inputs.{invalid_fault, refusal_fault, script_fault, IsRefusedModule, ByBytes, ByRules, ByProfile, AreRefused, ByModule, ByScript}
 use Rattle.r3_make.specs.Refusals.{IsMakeRefusal, OfInputs, OfForm, OfTurns}
+use Rattle.wasm_syntax.specs.declared.modules.Module.{Module}
+use Rattle.host_script.specs.declared.scripts.Script.{Script}
+use Rattle.host_script.specs.declared.scripts.LinkFault.{LinkFault}
+use Rattle.host_script.specs.declared.scripts.LinkFault.TheVariants as link
+use Rattle.r3_history.specs.Histories as histories
+use Rattle.r3_history.specs.Histories.{IsHistoryRefusal, IsUntold, OfRun, OfLink, OfScript, link_fault}
 use Rattle.r3_core.specs.declared.words.Command.{Command}
 use Rattle.r3_core.specs.declared.words.Command.TheVariants.{Make, Instrument, Record, Reduce, Build, History, Replay, Show, Load}
 use Rattle.r3_core.specs.Words.{form, IsBehind, Says, IsListed, IsUnbuilt, files_of}
@@ -43,6 +49,10 @@ module _ (reading : Reading) (files : List (List ℕ × ℕ)) where
   load-status_read (faults.WrongType name) c e = absurd c
   load-status_read (faults.NoAccess name) c e = absurd c
   load-status_read (faults.CallsOwn name) c e = absurd c
+  load-status_read (faults.Missing import) c e = absurd c
+  load-status_read (faults.Mismatch import) c e = absurd c
+  load-status_read (faults.Segment number) c e = absurd c
+  load-status_read (faults.Script turn kind) c e = absurd c
   load-status_read (faults.Spent turns) c e = absurd c
   load-status_read faults.Write c e = absurd c
   load-status_read faults.Memory c e = absurd c
@@ -65,6 +75,10 @@ module _ (reading : Reading) (files : List (List ℕ × ℕ)) where
   load-status_too_long (faults.WrongType name) c e = absurd c
   load-status_too_long (faults.NoAccess name) c e = absurd c
   load-status_too_long (faults.CallsOwn name) c e = absurd c
+  load-status_too_long (faults.Missing import) c e = absurd c
+  load-status_too_long (faults.Mismatch import) c e = absurd c
+  load-status_too_long (faults.Segment number) c e = absurd c
+  load-status_too_long (faults.Script turn kind) c e = absurd c
   load-status_too_long (faults.Spent turns) c e = absurd c
   load-status_too_long faults.Write c e = absurd c
   load-status_too_long faults.Memory c e = absurd c
@@ -86,6 +100,10 @@ module _ (reading : Reading) (files : List (List ℕ × ℕ)) where
   load-statuses (faults.WrongType name) c = absurd c
   load-statuses (faults.NoAccess name) c = absurd c
   load-statuses (faults.CallsOwn name) c = absurd c
+  load-statuses (faults.Missing import) c = absurd c
+  load-statuses (faults.Mismatch import) c = absurd c
+  load-statuses (faults.Segment number) c = absurd c
+  load-statuses (faults.Script turn kind) c = absurd c
   load-statuses (faults.Spent turns) c = absurd c
   load-statuses faults.Write c = absurd c
   load-statuses faults.Memory c = absurd c
@@ -135,6 +153,12 @@ not-8 = (λ e. absurd (omega (arith, e)), λ e. absurd (omega (arith, e)), λ e.
 not-9 : IsOther 9
 not-9 = (λ e. absurd (omega (arith, e)), λ e. absurd (omega (arith, e)), λ e. absurd (omega (arith, e)), λ e. absurd (omega (arith, e)), λ e. absurd (omega (arith, e)))
 
+not-10 : IsOther 10
+not-10 = (λ e. absurd (omega (arith, e)), λ e. absurd (omega (arith, e)), λ e. absurd (omega (arith, e)), λ e. absurd (omega (arith, e)), λ e. absurd (omega (arith, e)))
+
+not-11 : IsOther 11
+not-11 = (λ e. absurd (omega (arith, e)), λ e. absurd (omega (arith, e)), λ e. absurd (omega (arith, e)), λ e. absurd (omega (arith, e)), λ e. absurd (omega (arith, e)))
+
 not-12 : IsOther 12
 not-12 = (λ e. absurd (omega (arith, e)), λ e. absurd (omega (arith, e)), λ e. absurd (omega (arith, e)), λ e. absurd (omega (arith, e)), λ e. absurd (omega (arith, e)))
 
@@ -173,6 +197,22 @@ make-status m s turns fault (OfInputs refused) = inputs-other m s fault refused
 make-status m s turns fault (OfForm is taken) = named-other fault faults.NotBuilt is not-19
 make-status m s turns fault (OfTurns is taken) = named-other fault (faults.Spent turns) is not-12
 
+link-other : (found : LinkFault) → (found ≡ link.Memory → ⊥) → IsOther (status_of (link_fault found))
+link-other (link.Missing import) differs = not-10
+link-other (link.Mismatch import) differs = not-10
+link-other (link.Segment number) differs = not-10
+link-other link.Memory differs = absurd (differs refl)
+
+untold-status : (m : Module) (played : Script) (turns : ℕ) (fault : Fault) → IsUntold m played turns fault → IsOther (status_of fault)
+untold-status m played turns fault (OfLink u) = named-other fault (link_fault u.found) u.named (link-other u.found u.differs)
+untold-status m played turns fault (histories.OfForm u) = named-other fault faults.NotBuilt u.named not-19
+untold-status m played turns fault (OfScript u) = named-other fault (faults.Script u.turn u.kind) u.named not-11
+untold-status m played turns fault (histories.OfTurns u) = named-other fault (faults.Spent turns) u.named not-12
+
+history-status : (module_bytes script_bytes : List ℕ) (turns : ℕ) (fault : Fault) → IsHistoryRefusal module_bytes script_bytes turns fault → IsOther (status_of fault)
+history-status m s turns fault (histories.OfInputs refused) = inputs-other m s fault refused
+history-status m s turns fault (OfRun original played inputs untold) = untold-status original played turns fault untold
+
 refusal-status : (command : Command) (loaded : List (List ℕ)) (number : Option ℕ) (fault : Fault) → IsRefusal command loaded number fault → IsOther (status_of fault)
 refusal-status Make [] number fault c = absurd c
 refusal-status Make (m ∷ []) number fault c = absurd c
@@ -183,7 +223,11 @@ refusal-status Instrument loaded number fault c = absurd c
 refusal-status Record loaded number fault c = absurd c
 refusal-status Reduce loaded number fault c = absurd c
 refusal-status Build loaded number fault c = absurd c
-refusal-status History loaded number fault c = absurd c
+refusal-status History [] number fault c = absurd c
+refusal-status History (m ∷ []) number fault c = absurd c
+refusal-status History (m ∷ s ∷ []) None fault c = absurd c
+refusal-status History (m ∷ s ∷ []) (Some turns) fault c = history-status m s turns fault c
+refusal-status History (m ∷ s ∷ t ∷ more) number fault c = absurd c
 refusal-status Replay loaded number fault c = absurd c
 refusal-status Show loaded number fault c = absurd c
 refusal-status Load loaded number fault c = absurd c
@@ -373,6 +417,10 @@ status-not_done (faults.UnknownName name) e = omega (arith, e)
 status-not_done (faults.WrongType name) e = omega (arith, e)
 status-not_done (faults.NoAccess name) e = omega (arith, e)
 status-not_done (faults.CallsOwn name) e = omega (arith, e)
+status-not_done (faults.Missing import) e = omega (arith, e)
+status-not_done (faults.Mismatch import) e = omega (arith, e)
+status-not_done (faults.Segment number) e = omega (arith, e)
+status-not_done (faults.Script turn kind) e = omega (arith, e)
 status-not_done (faults.Spent turns) e = omega (arith, e)
 status-not_done faults.Write e = omega (arith, e)
 status-not_done faults.Memory e = omega (arith, e)

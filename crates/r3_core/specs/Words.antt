@@ -60,6 +60,7 @@ IsListed words = (command : Command) × (files : List (List ℕ)) × (number : O
 -- whether this program does the command
 abbrev pub is_built : Command → Bool
 is_built Make = true
+is_built History = true
 is_built command = false
 
 -- listed words of a command that this program does, and of one that it does not do yet

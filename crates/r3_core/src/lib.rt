@@ -23,6 +23,7 @@ mod tests;
 mod words;
 
 pub use r3_faults::Fault;
+pub use r3_history::history;
 pub use r3_make::make;
 
 /// Does what the words behind the program's name say, and answers the status that the program ends
@@ -190,6 +191,7 @@ fn printed_for(
 {
     match (command, loaded, number) {
         (Command::Make, [module, script], Some(turns)) => make(alloc, module, script, turns),
+        (Command::History, [module, script], Some(turns)) => history(alloc, module, script, turns),
         _ => Err(Fault::NotBuilt),
     }
 }

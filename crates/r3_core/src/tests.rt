@@ -68,12 +68,11 @@ fn two_answers(alloc: Global, failing: Vec<u64>) -> Result<MemFiles, Fail> {
 fn commands_that_are_not_built_read_no_file(rt: HostRuntime) -> Result<(), Fail> {
     let alloc = rt.alloc();
     let mut files = MemFiles::new(alloc, Vec::new(alloc));
-    let calls: [&[&str]; 8] = [
+    let calls: [&[&str]; 7] = [
         &["instrument", "m"],
         &["record", "m", "s", "20000000"],
         &["reduce", "l"],
         &["build", "m", "s", "t"],
-        &["history", "m", "s", "2000000"],
         &["replay", "b", "1"],
         &["show", "t"],
         &["load", "60000"],

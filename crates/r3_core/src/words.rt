@@ -80,7 +80,7 @@ impl Command {
     pub(crate) fn is_built(self) -> bool
         ensures { result ≡ is_built self }
     {
-        self == Command::Make
+        matches!(self, Command::Make | Command::History)
     }
 }
 

@@ -6,8 +6,10 @@ use Rattle.wasm_syntax.specs.declared.profile.Feature.{Feature}
 use Rattle.wasm_syntax.specs.declared.profile.Feature.TheVariants.{FloatComparison, FloatArithmetic, FloatConversion}
 use Rattle.wasm_syntax.specs.declared.profile.Which.{Which}
 use Rattle.wasm_syntax.specs.declared.profile.Which.TheVariants.{Parameters, Table, Memory as MemoryPages, Locals}
+use Rattle.history_spec.specs.declared.entries.FaultKind.{FaultKind}
+use Rattle.history_spec.specs.declared.entries.FaultKind.TheVariants as kind
 use Rattle.r3_faults.specs.declared.faults.Fault.{Fault}
-use Rattle.r3_faults.specs.declared.faults.Fault.TheVariants.{Usage, Read, TooLong, Malformed, InvalidFunction, InvalidModule, Unsupported, Limit, Reserved, NotJson, Shape, UnknownName, WrongType, NoAccess, CallsOwn, Spent, Write, Memory, NotBuilt}
+use Rattle.r3_faults.specs.declared.faults.Fault.TheVariants.{Usage, Read, TooLong, Malformed, InvalidFunction, InvalidModule, Unsupported, Limit, Reserved, NotJson, Shape, UnknownName, WrongType, NoAccess, CallsOwn, Missing, Mismatch, Segment, Script, Spent, Write, Memory, NotBuilt}
 
 abbrev pub status_of : Fault → ℕ
 status_of Usage = 2
@@ -25,6 +27,10 @@ status_of (UnknownName name) = 9
 status_of (WrongType name) = 9
 status_of (NoAccess name) = 9
 status_of (CallsOwn name) = 9
+status_of (Missing import) = 10
+status_of (Mismatch import) = 10
+status_of (Segment number) = 10
+status_of (Script turn kind) = 11
 status_of (Spent turns) = 12
 status_of Write = 13
 status_of Memory = 14
@@ -56,6 +62,15 @@ feature_text FloatComparison = codes " float comparison"
 feature_text FloatArithmetic = codes " float arithmetic"
 feature_text FloatConversion = codes " float conversion"
 
+abbrev pub kind_text : FaultKind → List ℕ
+kind_text kind.NoResponse = codes " no response"
+kind_text kind.Outside = codes " outside"
+kind_text kind.TableOutside = codes " table outside"
+kind_text kind.GrowRefused = codes " grow refused"
+kind_text kind.EmptyEntry = codes " empty entry"
+kind_text kind.CallsOwn = codes " calls own"
+kind_text kind.EntryType = codes " entry type"
+
 abbrev pub limit_text : Which → List ℕ
 limit_text Parameters = codes "limit: parameters "
 limit_text Table = codes "limit: table "
@@ -79,6 +94,10 @@ line_of (UnknownName name) = with_name (codes "script: unknown ") name
 line_of (WrongType name) = with_name (codes "script: type ") name
 line_of (NoAccess name) = with_name (codes "script: no access ") name
 line_of (CallsOwn name) = with_name (codes "script: calls own ") name
+line_of (Missing import) = with_number (codes "link: missing import ") import
+line_of (Mismatch import) = with_number (codes "link: mismatch import ") import
+line_of (Segment number) = with_number (codes "link: segment ") number
+line_of (Script turn kind) = codes "script fault: turn " ++ (decimal turn ++ (kind_text kind ++ codes "\n"))
 line_of (Spent turns) = with_number (codes "turns spent: ") turns
 line_of Write = codes "write\n"
 line_of Memory = codes "memory\n"

@@ -4,6 +4,7 @@ ghost use Rattle.std.specs.Prelude.{◌≡◌};
 ghost use Rattle.r3_faults.specs.Lines.{status_of};
 ghost use Rattle.r3_faults.specs.declared.faults.Fault.TheVariants.{Memory, Write as WriteFault};
 
+use history_spec::FaultKind;
 use no_memory::NoMemory;
 use r3_outside::PutFault;
 use std::alloc::{AllocError, AllocFailed};
@@ -11,8 +12,8 @@ use thiserror::Error;
 use wasm_syntax::{Feature, Name, Which};
 
 /// Why a call ends without its job done: one variant for each line of error, in the order of their
-/// statuses. Functions, imports and instructions are named by their numbers, bytes and turns are
-/// counted from the begin.
+/// statuses. Functions, imports, segments and instructions are named by their numbers, bytes and
+/// turns are counted from the begin.
 #[derive(Debug, Drop, Error)]
 pub enum Fault {
     #[error("the words have no listed form")]
@@ -72,6 +73,23 @@ pub enum Fault {
     #[error("the script calls an import")]
     CallsOwn {
         name: Name,
+    },
+    #[error("an import is not supplied")]
+    Missing {
+        import: u64,
+    },
+    #[error("what is supplied for an import does not match it")]
+    Mismatch {
+        import: u64,
+    },
+    #[error("a segment passes its table or memory")]
+    Segment {
+        number: u64,
+    },
+    #[error("the host cannot do what the script says")]
+    Script {
+        turn: u64,
+        kind: FaultKind,
     },
     #[error("all turns are used")]
     Spent {
@@ -136,6 +154,8 @@ impl Fault {
             | Fault::WrongType { .. }
             | Fault::NoAccess { .. }
             | Fault::CallsOwn { .. } => 9,
+            Fault::Missing { .. } | Fault::Mismatch { .. } | Fault::Segment { .. } => 10,
+            Fault::Script { .. } => 11,
             Fault::Spent { .. } => 12,
             Fault::Write => 13,
             Fault::Memory => 14,

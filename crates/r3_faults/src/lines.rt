@@ -3,9 +3,10 @@
 ghost use Rattle.std.specs.Prelude.{◌≡◌, ◌<◌, ◌≤◌, ◌/◌, ◌%◌, false, [], ◌∷◌, ◌++◌, length, take, flat_map, slice_index, OnOk, OnErr, IfOk, codes, decimal};
 ghost use Rattle.r3_outside.specs.Count.{Rose};
 ghost use Rattle.r3_outside.specs.Written.{Grew, GrewByPrefix};
-ghost use Rattle.r3_faults.specs.Lines.{line_of, escaped, is_plain, hex_digit, feature_text, limit_text};
+ghost use Rattle.r3_faults.specs.Lines.{line_of, escaped, is_plain, hex_digit, feature_text, kind_text, limit_text};
 
 use crate::faults::Fault;
+use history_spec::FaultKind;
 use itoa::Buffer;
 use r3_outside::{PutFault, Sink, put_all, put_parts};
 use wasm_syntax::{Feature, Name, Which};
@@ -44,6 +45,10 @@ impl Fault {
             Fault::WrongType { name } => put_name(err, b"script: type ", name, &[b"\n"]),
             Fault::NoAccess { name } => put_name(err, b"script: no access ", name, &[b"\n"]),
             Fault::CallsOwn { name } => put_name(err, b"script: calls own ", name, &[b"\n"]),
+            Fault::Missing { import } => put_number(err, b"link: missing import ", *import),
+            Fault::Mismatch { import } => put_number(err, b"link: mismatch import ", *import),
+            Fault::Segment { number } => put_number(err, b"link: segment ", *number),
+            Fault::Script { turn, kind } => put_script(err, *turn, *kind),
             Fault::Spent { turns } => put_number(err, b"turns spent: ", *turns),
             Fault::Write => put_all(err, b"write\n"),
             Fault::Memory => put_all(err, b"memory\n"),
@@ -94,7 +99,43 @@ fn put_unsupported<E: Sink>(
     )
 }
 
-/// The end of the line of such an instruction.
+/// Writes the line of an action that the host cannot do.
+fn put_script<E: Sink>(err: &mut E, turn: u64, kind: FaultKind) -> Result<(), PutFault>
+    ensures faults_never_fall { E.faults err.old ≤ E.faults err.new }
+    ensures failed { OnErr result (Rose (E.faults err.old) (E.faults err.new)) }
+    ensures wrote { OnOk result (Grew (E.written err.old) (E.written err.new)
+        (line_of (Fault.Script turn kind))) }
+    ensures wrote_prefix { OnErr result (GrewByPrefix (E.written err.old) (E.written err.new)
+        (line_of (Fault.Script turn kind))) }
+{
+    let mut buffer = Buffer::new();
+    put_parts(
+        err,
+        &[
+            b"script fault: turn ",
+            buffer.format(turn).as_bytes(),
+            kind_text(kind),
+            b"\n",
+        ],
+    )
+}
+
+/// The end of the line of such an action.
+fn kind_text(kind: FaultKind) -> &'static [u8]
+    ensures { result.now ≡ kind_text kind }
+{
+    match kind {
+        FaultKind::NoResponse => b" no response",
+        FaultKind::Outside => b" outside",
+        FaultKind::TableOutside => b" table outside",
+        FaultKind::GrowRefused => b" grow refused",
+        FaultKind::EmptyEntry => b" empty entry",
+        FaultKind::CallsOwn => b" calls own",
+        FaultKind::EntryType => b" entry type",
+    }
+}
+
+/// The end of the line of an instruction that is not supported.
 fn feature_text(feature: Feature) -> &'static [u8]
     ensures { result.now ≡ feature_text feature }
 {

@@ -1,6 +1,7 @@
-use Rattle.std.proofs.Common.{◌≡◌, sym, ap, subst, ◌∙◌, zip, None}
+use Rattle.std.proofs.Common.{◌≡◌, sym, ap, subst, ◌∙◌, zip, Option, Some, None, IsSome}
+use Rattle.std.proofs.lemmas.Bool.{false≢true}
 use Rattle.r3_core.specs.Causes.{first_longer, IsSureRefusal, all_bytes}
-use Rattle.r3_core.specs.Words.{texts}
+use Rattle.r3_core.specs.Words.{form, texts}
 use Rattle.r3_core.proofs.ResultLemmas.{IsErrAnd-from}
 use Rattle.r3_core.proofs.StatusLemmas.{load-contains, load-refused, IsErrAnd-refused, IfErr-bytes}
 use Rattle.r3_core.proofs.printed_by.Goals as goal
@@ -23,3 +24,15 @@ returns-clause-refused g c = λ fault told e none sure.
 pub returns-clause-cause : goal.returns-clause-cause
 returns-clause-cause g c =
     IfErr-bytes c.printed_for.result _ c.args.call.now.command _ _ c.args.call.now.number (λ told e. ap all_bytes c.deref.ensures.value ∙ c.in_ok-loaded.ensures.bytes told e) c.printed_for.ensures.cause
+
+-- a file that is longer, where none is
+none-longer : {X : Type 0} (found : Option X) → found ≡ None → IsSome found → ⊥
+none-longer None none some = false≢true some
+none-longer (Some file) none some = cc none
+
+pub returns-clause-longer : goal.returns-clause-longer
+returns-clause-longer g c = λ built told e longer.
+    absurd
+    (none-longer (first_longer told (zip (texts c.args.call.now.names.now) (form c.args.call.now.command).limits))
+    (subst (λ limits. first_longer told (zip (texts c.args.call.now.names.now) limits) ≡ None) c.limits.ensures (c.in_ok-loaded.ensures.within_limits told e))
+    longer)

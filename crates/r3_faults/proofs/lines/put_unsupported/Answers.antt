@@ -1,4 +1,4 @@
-use Rattle.std.proofs.Common.{◌≡◌, ◌∙◌, List, ℕ, [], ◌∷◌, ◌++◌, flat_map, decimal, codes, subst, OnOk, Result}
+use Rattle.std.proofs.Common.{◌∙◌, List, ℕ, ◌++◌, decimal, codes, subst, OnOk}
 use Rattle.r3_outside.specs.Written.{Grew}
 use Rattle.r3_faults.specs.Lines.{feature_text}
 use Rattle.r3_faults.proofs.lines.put_unsupported.Goals as goal

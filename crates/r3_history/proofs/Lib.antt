@@ -1,0 +1,3 @@
+mod Conditions
+mod Deciding
+mod Answered

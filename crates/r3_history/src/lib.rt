@@ -1,0 +1,7 @@
+//! The history of the run of a module under a script, from the bytes of both.
+#![tactic(auto)]
+
+mod histories;
+mod telling;
+
+pub use histories::history;
