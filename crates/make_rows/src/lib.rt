@@ -13,6 +13,8 @@ mod histories;
 #[cfg(test)]
 mod modules;
 #[cfg(test)]
+mod replays;
+#[cfg(test)]
 mod runs;
 #[cfg(test)]
 mod scripts;

@@ -27,6 +27,36 @@ fn a_host_that_calls_nothing(rt: HostRuntime) -> Result<(), Fail> {
 }
 
 #[test]
+fn a_module_without_anything(rt: HostRuntime) -> Result<(), Fail> {
+    let answer = made(rt.alloc(), "0061736d01000000", "{}", "1")?;
+    assert_eq!(rt; answer.status, 0);
+    assert!(rt; answer.line.is_empty());
+    Ok(())
+}
+
+#[test]
+fn answers_are_used_up(rt: HostRuntime) -> Result<(), Fail> {
+    let alloc = rt.alloc();
+    let rows = [
+        (
+            r#"{"main":[{"call":"g"}]}"#,
+            "script fault: turn 2 no response\n",
+        ),
+        (
+            r#"{"imports":{"h":{"f":{"calls":[{"return":{"i32":5}},{"return":{"i32":7}}]}}},"main":[{"call":"g"},{"call":"g"}]}"#,
+            "script fault: turn 6 no response\n",
+        ),
+    ];
+    for (script, line) in rows {
+        let answer = made(alloc, TWO_ANSWERS, script, "100")?;
+        assert_eq!(rt; answer.status, 11);
+        assert_eq!(rt; answer.line.as_slice(), line.as_bytes());
+        assert!(rt; answer.printed.is_empty());
+    }
+    Ok(())
+}
+
+#[test]
 fn turns_are_spent(rt: HostRuntime) -> Result<(), Fail> {
     let answer = made(rt.alloc(), TWO_ANSWERS, ANSWERS, "3")?;
     assert_eq!(rt; answer.status, 12);
@@ -65,7 +95,6 @@ fn forms_that_are_not_built(rt: HostRuntime) -> Result<(), Fail> {
     let overwrite =
         "0061736d010000000108026000006000017f02070101680166000003020101050301000107090201670001016d02000a120110001000410841013b010041082802000b";
     let rows = [
-        ("an empty module", "0061736d01000000", "{}"),
         ("a memory", "0061736d01000000050401008020", "{}"),
         (
             "a host that writes",
@@ -76,11 +105,6 @@ fn forms_that_are_not_built(rt: HostRuntime) -> Result<(), Fail> {
             "a host that traps",
             TWO_ANSWERS,
             r#"{"imports":{"h":{"f":{"calls":[{"trap":true}]}}},"main":[{"call":"g"}]}"#,
-        ),
-        (
-            "no answer to a call",
-            TWO_ANSWERS,
-            r#"{"main":[{"call":"g"}]}"#,
         ),
     ];
     for (name, module, script) in rows {

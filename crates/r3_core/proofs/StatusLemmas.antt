@@ -16,7 +16,10 @@ use Rattle.wasm_syntax.specs.Profile.{Refusal}
 use Rattle.script_text.specs.declared.faults.ScriptFault.{ScriptFault}
 use Rattle.script_text.specs.declared.faults.ScriptFault.TheVariants as script
 use Rattle.r3_inputs.specs.Inputs.{invalid_fault, refusal_fault, script_fault, IsRefusedModule, ByBytes, ByRules, ByProfile, AreRefused, ByModule, ByScript}
-use Rattle.r3_make.specs.Refusals.{IsMakeRefusal, OfInputs, OfForm, OfTurns}
+use Rattle.accepted_runs.specs.Unlinked as unlinked
+use Rattle.accepted_runs.specs.Runs as runs
+use Rattle.r3_make.specs.Refusals as refusals
+use Rattle.r3_make.specs.Refusals.{IsMakeRefusal, IsUnmade, OfInputs, OfModule}
 use Rattle.wasm_syntax.specs.declared.modules.Module.{Module}
 use Rattle.host_script.specs.declared.scripts.Script.{Script}
 use Rattle.host_script.specs.declared.scripts.LinkFault.{LinkFault}
@@ -26,7 +29,7 @@ use Rattle.r3_history.specs.Histories.{IsHistoryRefusal, IsUntold, OfRun, OfLink
 use Rattle.r3_core.specs.declared.words.Command.{Command}
 use Rattle.r3_core.specs.declared.words.Command.TheVariants.{Make, Instrument, Record, Reduce, Build, History, Replay, Show, Load}
 use Rattle.r3_core.specs.Words.{form, IsBehind, Says, IsListed, IsUnbuilt, files_of}
-use Rattle.r3_core.specs.Causes.{Reading, first_longer, IsLoadCause, AreBytesOf, IsRefusal, IsSureRefusal, IsRefused, IsCause, Unlisted, Unbuilt, Unloaded, Refused, Unwritten, Wanting, IsPrintCause, UnbuiltCommand, UnloadedFile, RefusedBytes, WantingMemory}
+use Rattle.r3_core.specs.Causes.{Reading, first_longer, IsLoadCause, AreBytesOf, IsRefusal, IsRefused, IsCause, Unlisted, Unbuilt, Unloaded, Refused, Unwritten, Wanting, IsPrintCause, UnbuiltCommand, UnloadedFile, RefusedBytes, WantingMemory}
 use Rattle.r3_core.proofs.WordLemmas.{files_of-Says, Says-same}
 
 -- ---- a file that is not loaded
@@ -192,10 +195,22 @@ inputs-other : (module_bytes script_bytes : List ℕ) (fault : Fault) → AreRef
 inputs-other module_bytes script_bytes fault (ByModule refused) = module-other module_bytes fault refused
 inputs-other module_bytes script_bytes fault (ByScript m is refused) = named-other fault (script_fault refused.found) refused.named (script-other refused.found refused.differs)
 
+made-link-other : (found : LinkFault) → (found ≡ link.Memory → ⊥) → IsOther (status_of (unlinked.link_fault found))
+made-link-other (link.Missing import) differs = not-10
+made-link-other (link.Mismatch import) differs = not-10
+made-link-other (link.Segment number) differs = not-10
+made-link-other link.Memory differs = absurd (differs refl)
+
+unmade-status : (m : Module) (played : Script) (turns : ℕ) (fault : Fault) → IsUnmade m played turns fault → IsOther (status_of fault)
+unmade-status m played turns fault (refusals.OfLink u) = named-other fault (unlinked.link_fault u.found) u.named (made-link-other u.found u.differs)
+unmade-status m played turns fault (refusals.OfForm u) = named-other fault faults.NotBuilt u.named not-19
+unmade-status m played turns fault (refusals.OfRun built (runs.OfScript u)) = named-other fault (faults.Script u.turn u.kind) u.named not-11
+unmade-status m played turns fault (refusals.OfRun built (runs.OfTurns u)) = named-other fault (faults.Spent turns) u.named not-12
+unmade-status m played turns fault (refusals.OfSize built u) = named-other fault faults.NotBuilt u.named not-19
+
 make-status : (module_bytes script_bytes : List ℕ) (turns : ℕ) (fault : Fault) → IsMakeRefusal module_bytes script_bytes turns fault → IsOther (status_of fault)
 make-status m s turns fault (OfInputs refused) = inputs-other m s fault refused
-make-status m s turns fault (OfForm is taken) = named-other fault faults.NotBuilt is not-19
-make-status m s turns fault (OfTurns is taken) = named-other fault (faults.Spent turns) is not-12
+make-status m s turns fault (OfModule n played inputs unmade) = unmade-status n played turns fault unmade
 
 link-other : (found : LinkFault) → (found ≡ link.Memory → ⊥) → IsOther (status_of (link_fault found))
 link-other (link.Missing import) differs = not-10
@@ -394,11 +409,11 @@ module _ (words : List (List ℕ)) (command : Command) (names : List (List ℕ))
       (subst (λ c. IsBehind (form c).most again.behind number') same-command again.number))
 
   -- a refusal by one reading of the words is one by another
-  pub IsSureRefusal-said : (told : FileMap) (fault : Fault) → IsSureRefusal command' (map (file_bytes told) names') number' fault → IsSureRefusal command (map (file_bytes told) names) number fault
-  IsSureRefusal-said told fault sure =
-      subst (λ c. IsSureRefusal c (map (file_bytes told) names) number fault) same-command
-      (subst (λ ns. IsSureRefusal command' (map (file_bytes told) ns) number fault) same-names
-      (subst (λ k. IsSureRefusal command' (map (file_bytes told) names') k fault) same-number sure))
+  pub IsRefusal-said : (told : FileMap) (fault : Fault) → IsRefusal command' (map (file_bytes told) names') number' fault → IsRefusal command (map (file_bytes told) names) number fault
+  IsRefusal-said told fault sure =
+      subst (λ c. IsRefusal c (map (file_bytes told) names) number fault) same-command
+      (subst (λ ns. IsRefusal command' (map (file_bytes told) ns) number fault) same-names
+      (subst (λ k. IsRefusal command' (map (file_bytes told) names') k fault) same-number sure))
 
 -- no fault has the status of a job that is done
 pub status-not_done : (fault : Fault) → status_of fault ≡ 0 → ⊥

@@ -5,7 +5,7 @@ use Rattle.r3_outside.specs.Count.{Rose, Took}
 use Rattle.r3_outside.specs.Contents.{FileMap, file_bytes}
 use Rattle.r3_faults.specs.declared.faults.Fault.{Fault}
 use Rattle.r3_faults.specs.declared.faults.Fault.TheVariants.{Usage, Read, TooLong, NotBuilt, Write, Memory}
-use Rattle.r3_make.specs.Refusals.{IsMakeRefusal, IsSureMakeRefusal}
+use Rattle.r3_make.specs.Refusals.{IsMakeRefusal}
 use Rattle.r3_make.specs.Printed.{IsPrinted}
 use Rattle.r3_history.specs.Histories.{IsHistory, IsHistoryRefusal}
 use Rattle.r3_core.specs.declared.words.Command.{Command}
@@ -57,15 +57,9 @@ IsRefusal Make (module_bytes ∷ script_bytes ∷ []) (Some turns) fault = IsMak
 IsRefusal History (module_bytes ∷ script_bytes ∷ []) (Some turns) fault = IsHistoryRefusal module_bytes script_bytes turns fault
 IsRefusal command loaded number fault = ⊥
 
--- a command refuses them in any case, want of memory apart
-abbrev pub IsSureRefusal : Command → (loaded : List (List ℕ)) → (number : Option ℕ) → Fault → Type 0
-IsSureRefusal Make (module_bytes ∷ script_bytes ∷ []) (Some turns) fault = IsSureMakeRefusal module_bytes script_bytes turns fault
-IsSureRefusal History (module_bytes ∷ script_bytes ∷ []) (Some turns) fault = IsHistoryRefusal module_bytes script_bytes turns fault
-IsSureRefusal command loaded number fault = ⊥
-
 -- a command prints these bytes for them
 abbrev pub Prints : Command → (loaded : List (List ℕ)) → (number : Option ℕ) → (printed : List ℕ) → Type 0
-Prints Make (module_bytes ∷ script_bytes ∷ []) (Some turns) printed = IsPrinted module_bytes script_bytes printed
+Prints Make (module_bytes ∷ script_bytes ∷ []) (Some turns) printed = IsPrinted module_bytes script_bytes turns printed
 Prints History (module_bytes ∷ script_bytes ∷ []) (Some turns) printed = IsHistory module_bytes script_bytes turns printed
 Prints command loaded number printed = ⊥
 

@@ -10,7 +10,7 @@ ghost use Rattle.r3_faults.specs.Lines.{status_of, line_of, IsTold};
 ghost use Rattle.r3_faults.specs.declared.faults.Fault.{Fault};
 ghost use Rattle.r3_faults.specs.declared.faults.Fault.TheVariants.{NotBuilt, Memory, Write as WriteFault};
 ghost use Rattle.r3_core.specs.Words.{form, texts, is_built, files_of, IsBehind, IsListed, IsBuilt, IsUnbuilt, Says};
-ghost use Rattle.r3_core.specs.Causes.{Reading, first_longer, AreBytesOf, Prints, IsRefusal, IsSureRefusal, IsPrintedFor, IsPrintCause, IsCause, AreWithin, all_bytes};
+ghost use Rattle.r3_core.specs.Causes.{Reading, first_longer, AreBytesOf, Prints, IsRefusal, IsPrintedFor, IsPrintCause, IsCause, AreWithin, all_bytes};
 
 use loading::load_files;
 use r3_outside::{Files, Sink, put_all};
@@ -59,7 +59,7 @@ pub fn r3<F: Files, O: Sink, E: Sink>(
     ensures refused { (command : Command) (names : List (List ℕ)) (number : Option ℕ) (fault : Fault)
         → Says (texts words.now) command names number
         → ForSome (F.contents files.old) (λ told. first_longer told (files_of (texts words.now)) ≡ None
-        → IsSureRefusal command (map (file_bytes told) names) number fault
+        → IsRefusal command (map (file_bytes told) names) number fault
         → Contains (status_of fault ∷ 3 ∷ 14 ∷ []) result) }
 
     // What is printed.
@@ -112,7 +112,7 @@ fn run<F: Files, O: Sink>(
     ensures refused { (command : Command) (names : List (List ℕ)) (number : Option ℕ) (fault : Fault)
         → Says (texts words.now) command names number
         → ForSome (F.contents files.old) (λ told. first_longer told (files_of (texts words.now)) ≡ None
-        → IsSureRefusal command (map (file_bytes told) names) number fault
+        → IsRefusal command (map (file_bytes told) names) number fault
         → IsErrAnd result (λ other. Contains (status_of fault ∷ 3 ∷ 14 ∷ []) (status_of other))) }
     ensures printed { OnOk result ((bytes : List ℕ)
         × IsPrintedFor (texts words.now) (F.contents files.old) bytes
@@ -149,7 +149,7 @@ fn printed_by<F: Files>(alloc: Global, call: &Call<'_>, files: &mut F) -> Result
         → IsErrAnd result (λ fault. Contains (3 ∷ 4 ∷ 14 ∷ []) (status_of fault))) }
     ensures refused { (fault : Fault) → ForSome (F.contents files.old)
         (λ told. first_longer told (zip (texts call.now.names.now) (form call.now.command).limits) ≡ None
-        → IsSureRefusal call.now.command (map (file_bytes told) (texts call.now.names.now)) call.now.number fault
+        → IsRefusal call.now.command (map (file_bytes told) (texts call.now.names.now)) call.now.number fault
         → IsErrAnd result (λ other. Contains (status_of fault ∷ 3 ∷ 14 ∷ []) (status_of other))) }
     ensures printed { IfOk result (λ bytes. (loaded : List (List ℕ))
         × AreBytesOf (F.contents files.old) (texts call.now.names.now) loaded
@@ -186,7 +186,7 @@ fn printed_for(
     ensures printed { IfOk result (λ bytes. Prints command (all_bytes loaded.now) number bytes.items) }
     ensures cause { IfErr result (λ fault.
         (fault ≡ Memory) ⊎ IsRefusal command (all_bytes loaded.now) number fault) }
-    ensures refused { (fault : Fault) → IsSureRefusal command (all_bytes loaded.now) number fault
+    ensures refused { (fault : Fault) → IsRefusal command (all_bytes loaded.now) number fault
         → (result ≡ Err fault) ⊎ (result ≡ Err Memory) }
 {
     match (command, loaded, number) {

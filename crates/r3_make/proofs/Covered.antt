@@ -1,5 +1,5 @@
 -- The answers and calls that are read from a plain script are all of it.
-use Rattle.std.proofs.Common.{◌≡◌, ℕ, zero, suc, ◌<◌, ◌≤◌, ◌^◌, List, [], ◌∷◌, length, map, option_and_then, All, Option, Some, None, IfSome, refl, sym, ◌∙◌, ap, subst, arith}
+use Rattle.std.proofs.Common.{◌≡◌, ℕ, zero, suc, ◌+◌, ◌<◌, ◌≤◌, ◌^◌, List, [], ◌∷◌, length, map, sum_by, option_and_then, All, Option, Some, None, IfSome, refl, sym, ◌∙◌, ap, subst, arith}
 use Rattle.std.specs.List.{slice_get}
 use Rattle.std.proofs.lemmas.List.{append-nil, length-map}
 use Rattle.std.proofs.lemmas.Option.{slice_get_within}
@@ -76,3 +76,8 @@ all-of-script script table calls plain same number made = record {
   answers = λ import number response e. subst (λ table. number < length (values_of table import)) (sym same) (answers-counted script.imports import number response plain e);
   made = made;
 }
+
+-- there are as many of them as the script has
+pub counted-all : (script : Script) (table : List (List Val)) (calls : List ℕ) → table ≡ map values_in script.imports → script.main ≡ map calling calls
+    → sum_by length table + length calls ≡ sum_by length (map values_in script.imports) + length script.main
+counted-all script table calls same made = omega (arith, ap (λ table. sum_by length table) same, ap length made, length-map calls calling)

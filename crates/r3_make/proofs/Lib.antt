@@ -1,2 +1,3 @@
-pub mod Answered
-pub mod Covered
+mod Answered
+mod Covered
+mod Deciding

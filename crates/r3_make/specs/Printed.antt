@@ -1,45 +1,36 @@
 -- What `make` prints.
-use Rattle.std.specs.Prelude.{◌≡◌, ℕ, List, [], Ok}
-use Rattle.wasm_syntax.specs.declared.forms.Form.TheVariants.{Replay}
+use Rattle.std.specs.Prelude.{ℕ, ◌+◌, ◌*◌, ◌≤◌, List, length, sum_by}
 use Rattle.wasm_syntax.specs.declared.values.Val.{Val}
 use Rattle.wasm_syntax.specs.declared.modules.Module.{Module}
-use Rattle.wasm_syntax.specs.Encoding.Modules.{Encodes}
-use Rattle.wasm_syntax.specs.Validity.{IsValid}
+use Rattle.wasm_syntax.specs.Index.{imported_funcs}
 use Rattle.host_script.specs.declared.scripts.Script.{Script}
 use Rattle.trace_model.specs.declared.outcomes.Outcome.{Outcome}
-use Rattle.history_spec.specs.Step.{Stepped, Finished}
-use Rattle.history_spec.specs.Run.{run_from, all_one, program_of, opening}
-use Rattle.history_spec.specs.Replayed.{Replays}
+use Rattle.history_spec.specs.Run.{Run}
 use Rattle.plain_replay.specs.Covers.{Covers}
-use Rattle.plain_replay.specs.Forms.{IsIntegerCode, IsPlain}
-use Rattle.plain_replay.specs.Made.{replay_module, layout_of, entry_of}
-use Rattle.plain_replay.specs.Replay.{KeepsOriginals, StandsAlone}
+use Rattle.plain_replay.specs.Made.{replay_module}
+use Rattle.plain_maker.specs.Replay.{IsReplay}
+use Rattle.accepted_runs.specs.Runs.{HasOutcome}
 use Rattle.r3_inputs.specs.Inputs.{AreInputs}
+use Rattle.r3_make.specs.Refusals.{IsBuilt}
 
--- the run of the replay module shows exactly the history and the outcome of the module's run under the script, where this
--- has an outcome
-abbrev pub ShowsRun : (m : Module) (script : Script) (replay : Module) → Type 0
-ShowsRun m script replay =
-    (begun : Stepped) (steps : ℕ) (outcome : Outcome) → opening m script ≡ Ok begun → (run_from (program_of m script) all_one begun steps).at ≡ Finished outcome
-    → Replays replay (layout_of m) (entry_of m) (run_from (program_of m script) all_one begun steps).history outcome
-
--- the bytes encode a valid module without imports that keeps the original's functions and replays its run: the replay
--- module of first answers and first calls of the script
-pub record IsReplayFor (m : Module) (script : Script) (printed : List ℕ) : Type 0 where
-  pub code : IsIntegerCode m
-  pub plain : IsPlain m script
+-- the module of so many bytes and the script are built, and their run has an outcome within the turns; the bytes that are
+-- printed encode a valid module without imports that keeps the original's functions, and whose run shows exactly the
+-- history and the outcome of that run: the replay module of first answers and first calls of the script. They are at most
+-- 64 more for each import, 32 for each of those answers and calls, and 1,024
+pub record IsReplayFor (m : Module) (script : Script) (turns size : ℕ) (printed : List ℕ) : Type 0 where
+  pub built : IsBuilt m script
+  pub run : Run
+  pub outcome : Outcome
+  pub ends : HasOutcome m script turns run outcome
   pub table : List (List Val)
   pub calls : List ℕ
-  pub covers : Covers script [] table calls
-  pub encoded : Encodes Replay printed (replay_module m table calls)
-  pub valid : IsValid (replay_module m table calls)
-  pub originals : KeepsOriginals m (replay_module m table calls)
-  pub alone : StandsAlone m (replay_module m table calls)
-  pub shows : ShowsRun m script (replay_module m table calls)
+  pub covers : Covers script run.history table calls
+  pub replay : IsReplay m run.history outcome (replay_module m table calls) printed
+  pub most : length printed ≤ size + 64 * imported_funcs m + 32 * (sum_by length table + length calls) + 1024
 
 -- the same, of the module and the script that the bytes of two files are
-pub record IsPrinted (module_bytes script_bytes printed : List ℕ) : Type 0 where
+pub record IsPrinted (module_bytes script_bytes : List ℕ) (turns : ℕ) (printed : List ℕ) : Type 0 where
   pub m : Module
   pub script : Script
   pub inputs : AreInputs module_bytes script_bytes m script
-  pub replay : IsReplayFor m script printed
+  pub replay : IsReplayFor m script turns (length module_bytes) printed

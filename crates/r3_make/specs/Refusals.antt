@@ -1,24 +1,69 @@
--- Why no replay module is made.
-use Rattle.std.specs.Prelude.{◌≡◌, ℕ, List}
+-- Why no replay module is made, and where one is.
+use Rattle.std.specs.Prelude.{◌≡◌, ◌+◌, ◌≤◌, ◌^◌, ℕ, List, Ok, length, map, sum_by}
 use Rattle.host_script.specs.declared.scripts.Script.{Script}
 use Rattle.wasm_syntax.specs.declared.modules.Module.{Module}
+use Rattle.trace_model.specs.declared.outcomes.Outcome.{Outcome}
+use Rattle.history_spec.specs.Run.{Run, opening}
+use Rattle.history_spec.specs.Step.{Stepped}
+use Rattle.plain_replay.specs.Forms.{IsIntegerCode, IsPlain}
+use Rattle.accepted_runs.specs.Unlinked.{IsUnlinkedFor}
+use Rattle.accepted_runs.specs.Runs.{HasOutcome, HasNoOutcome}
 use Rattle.r3_faults.specs.declared.faults.Fault.{Fault}
-use Rattle.r3_faults.specs.declared.faults.Fault.TheVariants.{Spent, NotBuilt}
+use Rattle.r3_faults.specs.declared.faults.Fault.TheVariants.{NotBuilt}
 use Rattle.r3_inputs.specs.Inputs.{AreInputs, AreRefused}
+use Rattle.r3_make.specs.Parts.{values_in}
 
--- the module and the script are taken
-pub record AreTaken (module_bytes script_bytes : List ℕ) : Type 0 where
+-- ---- the run of a module under a script
+
+-- the module is of integer code, the script is plain
+pub record IsBuilt (m : Module) (script : Script) : Type 0 where
+  pub code : IsIntegerCode m
+  pub plain : IsPlain m script
+
+-- the script has at most 2^26 answers and calls
+abbrev pub IsShort : Script → Type 0
+IsShort script = sum_by length (map values_in script.imports) + length script.main ≤ 2 ^ 26
+
+-- both are built, and the run has an outcome within the turns
+pub record IsReplayable (m : Module) (script : Script) (turns : ℕ) : Type 0 where
+  pub built : IsBuilt m script
+  pub short : IsShort script
+  pub run : Run
+  pub outcome : Outcome
+  pub ends : HasOutcome m script turns run outcome
+
+-- the module links, and one of the two has another form
+pub record IsOtherForm (m : Module) (script : Script) (fault : Fault) : Type 0 where
+  pub named : fault ≡ NotBuilt
+  pub begun : Stepped
+  pub opens : opening m script ≡ Ok begun
+  pub other : ¬ (IsBuilt m script)
+
+-- the run has an outcome, and the script more answers and calls
+pub record HasMany (m : Module) (script : Script) (turns : ℕ) (fault : Fault) : Type 0 where
+  pub named : fault ≡ NotBuilt
+  pub run : Run
+  pub outcome : Outcome
+  pub ends : HasOutcome m script turns run outcome
+  pub many : ¬ (IsShort script)
+
+-- why there is no replay module of it
+pub data IsUnmade (m : Module) (script : Script) (turns : ℕ) (fault : Fault) : Type 0 where
+  OfLink : (unlinked : IsUnlinkedFor m script fault) → IsUnmade m script turns fault
+  OfForm : (other : IsOtherForm m script fault) → IsUnmade m script turns fault
+  OfRun : (built : IsBuilt m script) (none : HasNoOutcome m script turns fault) → IsUnmade m script turns fault
+  OfSize : (built : IsBuilt m script) (many : HasMany m script turns fault) → IsUnmade m script turns fault
+
+-- ---- the bytes of a module and of a script
+
+-- they are a module and a script whose run is replayed
+pub record AreReplayable (module_bytes script_bytes : List ℕ) (turns : ℕ) : Type 0 where
   pub m : Module
   pub script : Script
   pub inputs : AreInputs module_bytes script_bytes m script
+  pub replayable : IsReplayable m script turns
 
--- of the bytes of a module and of a script, within so many turns: the module or the script is refused; or one of
--- them, or their run, has a form that is not built; or the turns are used
+-- they are refused, or there is no replay module of the run
 pub data IsMakeRefusal (module_bytes script_bytes : List ℕ) (turns : ℕ) (fault : Fault) : Type 0 where
   OfInputs : (refused : AreRefused module_bytes script_bytes fault) → IsMakeRefusal module_bytes script_bytes turns fault
-  OfForm : (is_not_built : fault ≡ NotBuilt) (taken : AreTaken module_bytes script_bytes) → IsMakeRefusal module_bytes script_bytes turns fault
-  OfTurns : (is_spent : fault ≡ Spent turns) (taken : AreTaken module_bytes script_bytes) → IsMakeRefusal module_bytes script_bytes turns fault
-
--- those that are always answered, want of memory apart: a module or a script that is refused, in their order
-abbrev pub IsSureMakeRefusal : (module_bytes script_bytes : List ℕ) → (turns : ℕ) → Fault → Type 0
-IsSureMakeRefusal module_bytes script_bytes turns fault = AreRefused module_bytes script_bytes fault
+  OfModule : (m : Module) (script : Script) (inputs : AreInputs module_bytes script_bytes m script) (unmade : IsUnmade m script turns fault) → IsMakeRefusal module_bytes script_bytes turns fault

@@ -3,9 +3,6 @@
 
 mod making;
 mod parts;
-mod plain;
 mod replaying;
-#[cfg(test)]
-mod tests;
 
 pub use making::make;

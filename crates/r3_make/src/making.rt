@@ -3,27 +3,33 @@
 ghost use Rattle.std.specs.Prelude.{◌≡◌, ◌≤◌, ◌⊎◌, Err, IfErr, IfOk, length};
 ghost use Rattle.r3_faults.specs.declared.faults.Fault.{Fault};
 ghost use Rattle.r3_faults.specs.declared.faults.Fault.TheVariants.{Memory};
-ghost use Rattle.r3_make.specs.Refusals.{IsMakeRefusal, IsSureMakeRefusal};
+ghost use Rattle.r3_make.specs.Refusals.{AreReplayable, IsMakeRefusal};
 ghost use Rattle.r3_make.specs.Printed.{IsPrinted};
 
 use crate::replaying::replay_of;
+use accepted_runs::accepted_modules_run;
+use encoding_sizes::lists_of_encoding;
 use r3_faults::Fault;
 use r3_inputs::{module_of, script_of};
 use std::alloc::Global;
 
-/// Makes the replay module of the run of a module with a script, in its binary format. The module
-/// has at most 8,388,608 bytes.
+/// Makes the replay module of the run of a module with a script, within so many turns, in its binary
+/// format. The module has at most 8,388,608 bytes.
 ///
-/// The fault names why the module or the script is refused, in this order. `NotBuilt` where the
-/// module, the script or its run has another form than those that are built. `Spent` where the run
-/// needs more than `turns` turns.
+/// The fault names why there is none: the module or the script is refused, the module does not link,
+/// one of the two has another form than those that are built (`NotBuilt`), the host cannot do what
+/// the script says, or the run needs more turns. Each comes exactly where it stands and none before it
+/// does.
 pub fn make(alloc: Global, module: &[u8], script: &[u8], turns: u64) -> Result<Vec<u8>, Fault>
     requires { length «module».now ≤ 8388608 }
     ensures cause { IfErr result (λ fault. (fault ≡ Memory) ⊎ IsMakeRefusal «module».now script.now turns fault) }
-    ensures refused { (fault : Fault) → IsSureMakeRefusal «module».now script.now turns fault
+    ensures refused { (fault : Fault) → IsMakeRefusal «module».now script.now turns fault
         → (result ≡ Err fault) ⊎ (result ≡ Err Memory) }
-    ensures printed { IfOk result (λ bytes. IsPrinted «module».now script.now bytes.items) }
+    ensures printed { IfOk result (λ bytes. IsPrinted «module».now script.now turns bytes.items) }
+    ensures accepted { AreReplayable «module».now script.now turns → IfErr result (λ fault. fault ≡ Memory) }
 {
+    lists_of_encoding();
+    accepted_modules_run();
     let checked = module_of(alloc, module)?;
     let script = script_of(alloc, script, &checked)?;
     replay_of(alloc, module, checked, &script, turns)

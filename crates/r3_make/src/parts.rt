@@ -5,14 +5,34 @@ ghost use Rattle.wasm_syntax.specs.declared.modules.Module.{Module};
 ghost use Rattle.history_spec.specs.Code.{i32_value};
 ghost use Rattle.plain_maker.specs.Parts.{table_of};
 ghost use Rattle.plain_replay.specs.Covers.{calling};
-ghost use Rattle.plain_replay.specs.Forms.{IsPlainAnswer, IsPlainCall};
+ghost use Rattle.plain_replay.specs.Forms.{IsPlain, IsPlainAnswer, IsPlainCall};
 ghost use Rattle.r3_make.specs.Parts.{values_in};
 
 use host_script::{Action, Answer, ResponseEnd, Script};
 use std::alloc::{AllocError, Global};
 
+/// The numbers that each import's calls are answered by, and the functions that the host calls by
+/// itself, both in order.
+#[derive(Drop)]
+pub(crate) struct Parts {
+    pub(crate) answers: Vec<Vec<u32>>,
+    pub(crate) calls: Vec<u32>,
+}
+
+/// Those of a plain script.
+pub(crate) fn parts_of(alloc: Global, script: &Script) -> Result<Parts, AllocError>
+    requires { (m : Module) × IsPlain m script.now }
+    ensures answers { IfOk result (λ parts. table_of parts.answers.items ≡ map values_in script.now.imports) }
+    ensures calls { IfOk result (λ parts. script.now.main ≡ map calling parts.calls.items) }
+{
+    Ok(Parts {
+        answers: answers_of(alloc, script)?,
+        calls: calls_of(alloc, script)?,
+    })
+}
+
 /// The numbers that each import's calls are answered by, in order.
-pub(crate) fn answers_of(alloc: Global, script: &Script) -> Result<Vec<Vec<u32>>, AllocError>
+fn answers_of(alloc: Global, script: &Script) -> Result<Vec<Vec<u32>>, AllocError>
     requires { All (λ answer. IfSome answer IsPlainAnswer) script.now.imports }
     ensures { IfOk result (λ answers. table_of answers.items ≡ map values_in script.now.imports) }
 {
@@ -44,7 +64,7 @@ fn numbers_of(alloc: Global, answer: &Option<Answer>) -> Result<Vec<u32>, AllocE
 }
 
 /// The functions that the host calls by itself, in order.
-pub(crate) fn calls_of(alloc: Global, script: &Script) -> Result<Vec<u32>, AllocError>
+fn calls_of(alloc: Global, script: &Script) -> Result<Vec<u32>, AllocError>
     requires { (m : Module) × All (IsPlainCall m) script.now.main }
     ensures { IfOk result (λ calls. script.now.main ≡ map calling calls.items) }
 {

@@ -1,6 +1,6 @@
 use Rattle.std.proofs.Common.{◌≡◌, sym, ap, subst, ◌∙◌, zip, Option, Some, None, IsSome}
 use Rattle.std.proofs.lemmas.Bool.{false≢true}
-use Rattle.r3_core.specs.Causes.{first_longer, IsSureRefusal, all_bytes}
+use Rattle.r3_core.specs.Causes.{first_longer, IsRefusal, all_bytes}
 use Rattle.r3_core.specs.Words.{form, texts}
 use Rattle.r3_core.proofs.ResultLemmas.{IsErrAnd-from}
 use Rattle.r3_core.proofs.StatusLemmas.{load-contains, load-refused, IsErrAnd-refused, IfErr-bytes}
@@ -19,7 +19,7 @@ returns-in_err-loaded-clause-refused g c = λ fault told e none sure.
 pub returns-clause-refused : goal.returns-clause-refused
 returns-clause-refused g c = λ fault told e none sure.
     IsErrAnd-refused c.printed_for.result fault
-    (c.printed_for.ensures.refused fault (subst (λ loaded. IsSureRefusal c.args.call.now.command loaded c.args.call.now.number fault) (sym (ap all_bytes c.deref.ensures.value ∙ c.in_ok-loaded.ensures.bytes told e)) sure))
+    (c.printed_for.ensures.refused fault (subst (λ loaded. IsRefusal c.args.call.now.command loaded c.args.call.now.number fault) (sym (ap all_bytes c.deref.ensures.value ∙ c.in_ok-loaded.ensures.bytes told e)) sure))
 
 pub returns-clause-cause : goal.returns-clause-cause
 returns-clause-cause g c =

@@ -1,10 +1,10 @@
 use Rattle.std.proofs.Common.{◌≡◌, ℕ, ◌<◌, ◌≤◌, List, [], ◌∷◌, length, get_or, Option, Some, Vec, sym, subst, arith}
 use Rattle.r3_faults.specs.declared.faults.Fault.{Fault}
-use Rattle.r3_make.specs.Refusals.{IsSureMakeRefusal}
+use Rattle.r3_make.specs.Refusals.{IsMakeRefusal}
 use Rattle.r3_history.specs.Histories.{IsHistoryRefusal}
 use Rattle.r3_core.specs.declared.words.Command.{Command}
 use Rattle.r3_core.specs.declared.words.Command.TheVariants.{Make, History}
-use Rattle.r3_core.specs.Causes.{IsSureRefusal, all_bytes}
+use Rattle.r3_core.specs.Causes.{IsRefusal, all_bytes}
 use Rattle.r3_core.proofs.printed_for.Goals as goal
 
 -- what is said of two files
@@ -22,9 +22,9 @@ pub returns-in-Make-len2-Some-clause-refused : goal.returns-in-Make-len2-Some-cl
 returns-in-Make-len2-Some-clause-refused c = λ fault sure.
     let here = c.in-Make-len2-Some in
     c.make.ensures.refused fault
-    (subst (λ bytes. IsSureMakeRefusal bytes c.deref-in-Make-len2-Some.result.now here.turns fault) (sym c.deref.ensures.value)
-    (subst (λ bytes. IsSureMakeRefusal c.module-item.result.items bytes here.turns fault) (sym c.deref-in-Make-len2-Some.ensures.value)
-    (two-files c.args.command Make (λ a b turns. IsSureMakeRefusal a b turns fault) (λ command loaded number. IsSureRefusal command loaded number fault) c.args.loaded.now c.args.number c.module-item.result c.script-item.result here.turns (λ a b sure. sure) here.is-0 here.is-2 c.module-item.is c.script-item.is (omega (arith, here.len_at_least)) (omega (arith, here.len_below)) sure)))
+    (subst (λ bytes. IsMakeRefusal bytes c.deref-in-Make-len2-Some.result.now here.turns fault) (sym c.deref.ensures.value)
+    (subst (λ bytes. IsMakeRefusal c.module-item.result.items bytes here.turns fault) (sym c.deref-in-Make-len2-Some.ensures.value)
+    (two-files c.args.command Make (λ a b turns. IsMakeRefusal a b turns fault) (λ command loaded number. IsRefusal command loaded number fault) c.args.loaded.now c.args.number c.module-item.result c.script-item.result here.turns (λ a b sure. sure) here.is-0 here.is-2 c.module-item.is c.script-item.is (omega (arith, here.len_at_least)) (omega (arith, here.len_below)) sure)))
 
 pub returns-in-History-len2-Some-clause-refused : goal.returns-in-History-len2-Some-clause-refused
 returns-in-History-len2-Some-clause-refused c = λ fault sure.
@@ -32,4 +32,4 @@ returns-in-History-len2-Some-clause-refused c = λ fault sure.
     c.history.ensures.refused fault
     (subst (λ bytes. IsHistoryRefusal bytes c.deref-in-History-len2-Some-2.result.now here.turns fault) (sym c.deref-in-History-len2-Some.ensures.value)
     (subst (λ bytes. IsHistoryRefusal c.module-item-in-Some-this-2-1.result.items bytes here.turns fault) (sym c.deref-in-History-len2-Some-2.ensures.value)
-    (two-files c.args.command History (λ a b turns. IsHistoryRefusal a b turns fault) (λ command loaded number. IsSureRefusal command loaded number fault) c.args.loaded.now c.args.number c.module-item-in-Some-this-2-1.result c.script-item-in-Some-this-2-1.result here.turns (λ a b sure. sure) here.is-0 here.is-2 c.module-item-in-Some-this-2-1.is c.script-item-in-Some-this-2-1.is (omega (arith, here.len_at_least)) (omega (arith, here.len_below)) sure)))
+    (two-files c.args.command History (λ a b turns. IsHistoryRefusal a b turns fault) (λ command loaded number. IsRefusal command loaded number fault) c.args.loaded.now c.args.number c.module-item-in-Some-this-2-1.result c.script-item-in-Some-this-2-1.result here.turns (λ a b sure. sure) here.is-0 here.is-2 c.module-item-in-Some-this-2-1.is c.script-item-in-Some-this-2-1.is (omega (arith, here.len_at_least)) (omega (arith, here.len_below)) sure)))

@@ -3,7 +3,7 @@ use Rattle.r3_core.specs.Words.{is_built}
 use Rattle.r3_core.specs.Causes.{first_longer}
 use Rattle.r3_core.proofs.ResultLemmas.{IfErr-from, IsErrAnd-from}
 use Rattle.r3_core.proofs.WordLemmas.{Says-same, files_of-Says}
-use Rattle.r3_core.proofs.StatusLemmas.{IsCause-printing, IsSureRefusal-said}
+use Rattle.r3_core.proofs.StatusLemmas.{IsCause-printing, IsRefusal-said}
 use Rattle.r3_core.proofs.run.Goals as goal
 
 pub returns-in_err-printed-clause-longer : goal.returns-in_err-printed-clause-longer
@@ -26,7 +26,7 @@ returns-in_err-printed-clause-refused g c = λ command names number fault says t
     IsErrAnd-from _ _ _ c.from_residual-in_err-printed.ensures.1
     (c.in_err-printed.ensures.refused fault told e
     (subst (λ files. first_longer told files ≡ None) (files_of-Says _ _ _ _ here) none)
-    (IsSureRefusal-said _ _ _ _ _ _ _ here says told fault sure))
+    (IsRefusal-said _ _ _ _ _ _ _ here says told fault sure))
 
 pub returns-in_err-put_all-clause-longer : goal.returns-in_err-put_all-clause-longer
 returns-in_err-put_all-clause-longer g c = λ built told e longer.
@@ -43,7 +43,7 @@ returns-in_err-put_all-clause-refused g c = λ command names number fault says t
     absurd
     (c.in_ok-printed.ensures.refused fault told e
     (subst (λ files. first_longer told files ≡ None) (files_of-Says _ _ _ _ here) none)
-    (IsSureRefusal-said _ _ _ _ _ _ _ here says told fault sure))
+    (IsRefusal-said _ _ _ _ _ _ _ here says told fault sure))
 
 pub returns-clause-longer : goal.returns-clause-longer
 returns-clause-longer g c = λ built told e longer.
@@ -59,4 +59,4 @@ returns-clause-refused g c = λ command names number fault says told e none sure
     let here = c.in_ok-call.ensures.listed in
     c.in_ok-printed.ensures.refused fault told e
     (subst (λ files. first_longer told files ≡ None) (files_of-Says _ _ _ _ here) none)
-    (IsSureRefusal-said _ _ _ _ _ _ _ here says told fault sure)
+    (IsRefusal-said _ _ _ _ _ _ _ here says told fault sure)

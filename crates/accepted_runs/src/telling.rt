@@ -1,0 +1,50 @@
+// The run of an accepted module that is linked.
+
+ghost use Rattle.std.specs.Prelude.{◌≡◌, ◌⊎◌, Ok, IfErr, IfOk};
+ghost use Rattle.wasm_syntax.specs.Profile.{IsSupported};
+ghost use Rattle.wasm_flat.specs.Sizes.{IsShort};
+ghost use Rattle.host_script.specs.Fits.{Fits};
+ghost use Rattle.history_spec.specs.Run.{opening, program_of, start_of};
+ghost use Rattle.type_safety.specs.Stores.{IsStore};
+ghost use Rattle.host_play.specs.Results.{TellsRun};
+ghost use Rattle.r3_faults.specs.declared.faults.Fault.TheVariants.{Memory};
+ghost use Rattle.accepted_runs.specs.Runs.{HasNoOutcome};
+
+use host_play::{Play, PlayFault, Told, tell};
+use host_script::Script;
+use r3_faults::Fault;
+use std::alloc::Global;
+use wasm_flatten::flatten;
+use wasm_store::Store;
+use wasm_validate::Checked;
+
+/// The run of a module under a script that fits it, from the store that it begins with, within so
+/// many turns.
+pub fn told(
+    alloc: Global,
+    checked: &Checked,
+    script: &Script,
+    store: Store,
+    turns: u64,
+) -> Result<Told, Fault>
+    requires supported { IsSupported checked.now }
+    requires short { IsShort checked.now }
+    requires fits { Fits checked.now script.now }
+    requires typed { IsStore checked.now store }
+    requires opened { opening checked.now script.now ≡ Ok (start_of checked.now script.now store) }
+    ensures told { IfOk result (λ told. TellsRun (program_of checked.now script.now) (start_of checked.now script.now store) turns told) }
+    ensures cause { IfErr result (λ fault. (fault ≡ Memory) ⊎ HasNoOutcome checked.now script.now turns fault) }
+{
+    let play = Play {
+        code: checked.module(),
+        flat: flatten(alloc, checked)?,
+        script,
+        store,
+    };
+    match tell(alloc, play, turns) {
+        Ok(told) => Ok(told),
+        Err(PlayFault::Fault { turn, kind }) => Err(Fault::Script { turn, kind }),
+        Err(PlayFault::Spent) => Err(Fault::Spent { turns }),
+        Err(PlayFault::Memory) => Err(Fault::Memory),
+    }
+}
