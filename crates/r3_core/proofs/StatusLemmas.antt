@@ -29,7 +29,7 @@ use Rattle.r3_history.specs.Histories.{IsHistoryRefusal, IsUntold, OfRun, OfLink
 use Rattle.r3_core.specs.declared.words.Command.{Command}
 use Rattle.r3_core.specs.declared.words.Command.TheVariants.{Make, Instrument, Record, Reduce, Build, History, Replay, Show, Load}
 use Rattle.r3_core.specs.Words.{form, IsBehind, Says, IsListed, IsUnbuilt, files_of}
-use Rattle.r3_core.specs.Causes.{Reading, first_longer, IsLoadCause, AreBytesOf, IsRefusal, IsRefused, IsCause, Unlisted, Unbuilt, Unloaded, Refused, Unwritten, Wanting, IsPrintCause, UnbuiltCommand, UnloadedFile, RefusedBytes, WantingMemory}
+use Rattle.r3_core.specs.Causes.{Reading, first_longer, IsLoadCause, AreBytesOf, IsRefusal, IsDoable, IsRefused, IsCause, Unlisted, Unbuilt, Unloaded, Refused, Unwritten, Wanting, IsPrintCause, UnbuiltCommand, UnloadedFile, RefusedBytes, WantingMemory}
 use Rattle.r3_core.proofs.WordLemmas.{files_of-Says, Says-same}
 
 -- ---- a file that is not loaded
@@ -128,6 +128,14 @@ load-refused reading files fault other told e none (inl memory) = (2, omega arit
 load-refused reading files fault other told e none (inr cause) =
     elim (load-statuses reading files fault cause) [
       | inl three ↦ (1, omega arith, sym three)
+      | inr four ↦ (let long = load-status_too_long reading files fault cause four in absurd (none-differs long.0 (first_longer told files) none (long.3 told e)))
+    ]
+
+pub load-done : (reading : Reading) (files : List (List ℕ × ℕ)) (fault : Fault) (told : FileMap) → reading.told ≡ Some told → first_longer told files ≡ None → (fault ≡ faults.Memory) ⊎ IsLoadCause reading files fault → Contains (3 ∷ 13 ∷ 14 ∷ []) (status_of fault)
+load-done reading files fault told e none (inl memory) = (2, omega arith, sym (ap status_of memory))
+load-done reading files fault told e none (inr cause) =
+    elim (load-statuses reading files fault cause) [
+      | inl three ↦ (0, omega arith, sym three)
       | inr four ↦ (let long = load-status_too_long reading files fault cause four in absurd (none-differs long.0 (first_longer told files) none (long.3 told e)))
     ]
 
@@ -322,6 +330,17 @@ pub IsErrAnd-refused : {T : Type 0} (r : Result T Fault) (fault : Fault) → (r 
 IsErrAnd-refused r fault (inl e) = subst (λ r. IsErrAnd r (λ other. Contains (status_of fault ∷ 3 ∷ 14 ∷ []) (status_of other))) (sym e) (0, omega arith, refl)
 IsErrAnd-refused r fault (inr e) = subst (λ r. IsErrAnd r (λ other. Contains (status_of fault ∷ 3 ∷ 14 ∷ []) (status_of other))) (sym e) (2, omega arith, refl)
 
+-- a job that can be done
+pub IfErr-done : {T : Type 0} (r : Result T Fault) → IfErr r (λ fault. fault ≡ faults.Memory) → IfErr r (λ other. Contains (3 ∷ 13 ∷ 14 ∷ []) (status_of other))
+IfErr-done (Ok x) memory = tt
+IfErr-done (Err fault) memory = (2, omega arith, sym (ap status_of memory))
+
+pub done-behind : (status : ℕ) → Contains (3 ∷ 13 ∷ 14 ∷ []) status → Contains (0 ∷ 3 ∷ 13 ∷ 14 ∷ []) status
+done-behind status (zero, h, e) = (1, omega arith, e)
+done-behind status (suc zero, h, e) = (2, omega arith, e)
+done-behind status (suc (suc zero), h, e) = (3, omega arith, e)
+done-behind status (suc (suc (suc k)), h, e) = absurd (omega (arith, h))
+
 -- the cause of what is answered for the bytes of files
 pub IfErr-bytes : {T : Type 0} (r : Result T Fault) (reading : Reading) (command : Command) (names loaded : List (List ℕ)) (number : Option ℕ) → AreBytesOf reading.told names loaded → IfErr r (λ fault. (fault ≡ faults.Memory) ⊎ IsRefusal command loaded number fault) → IfErr r (λ fault. IsPrintCause reading command names number fault)
 IfErr-bytes (Ok x) reading command names loaded number bytes cause = tt
@@ -414,6 +433,13 @@ module _ (words : List (List ℕ)) (command : Command) (names : List (List ℕ))
       subst (λ c. IsRefusal c (map (file_bytes told) names) number fault) same-command
       (subst (λ ns. IsRefusal command' (map (file_bytes told) ns) number fault) same-names
       (subst (λ k. IsRefusal command' (map (file_bytes told) names') k fault) same-number sure))
+
+  -- so is a job that can be done
+  pub IsDoable-said : (told : FileMap) → IsDoable command' (map (file_bytes told) names') number' → IsDoable command (map (file_bytes told) names) number
+  IsDoable-said told done =
+      subst (λ c. IsDoable c (map (file_bytes told) names) number) same-command
+      (subst (λ ns. IsDoable command' (map (file_bytes told) ns) number) same-names
+      (subst (λ k. IsDoable command' (map (file_bytes told) names') k) same-number done))
 
 -- no fault has the status of a job that is done
 pub status-not_done : (fault : Fault) → status_of fault ≡ 0 → ⊥

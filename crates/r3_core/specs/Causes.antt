@@ -5,7 +5,7 @@ use Rattle.r3_outside.specs.Count.{Rose, Took}
 use Rattle.r3_outside.specs.Contents.{FileMap, file_bytes}
 use Rattle.r3_faults.specs.declared.faults.Fault.{Fault}
 use Rattle.r3_faults.specs.declared.faults.Fault.TheVariants.{Usage, Read, TooLong, NotBuilt, Write, Memory}
-use Rattle.r3_make.specs.Refusals.{IsMakeRefusal}
+use Rattle.r3_make.specs.Refusals.{AreReplayable, IsMakeRefusal}
 use Rattle.r3_make.specs.Printed.{IsPrinted}
 use Rattle.r3_history.specs.Histories.{IsHistory, IsHistoryRefusal}
 use Rattle.r3_core.specs.declared.words.Command.{Command}
@@ -56,6 +56,12 @@ abbrev pub IsRefusal : Command → (loaded : List (List ℕ)) → (number : Opti
 IsRefusal Make (module_bytes ∷ script_bytes ∷ []) (Some turns) fault = IsMakeRefusal module_bytes script_bytes turns fault
 IsRefusal History (module_bytes ∷ script_bytes ∷ []) (Some turns) fault = IsHistoryRefusal module_bytes script_bytes turns fault
 IsRefusal command loaded number fault = ⊥
+
+-- a command does its job for them
+abbrev pub IsDoable : Command → (loaded : List (List ℕ)) → (number : Option ℕ) → Type 0
+IsDoable Make (module_bytes ∷ script_bytes ∷ []) (Some turns) = AreReplayable module_bytes script_bytes turns
+IsDoable History (module_bytes ∷ script_bytes ∷ []) (Some turns) = (text : List ℕ) × IsHistory module_bytes script_bytes turns text
+IsDoable command loaded number = ⊥
 
 -- a command prints these bytes for them
 abbrev pub Prints : Command → (loaded : List (List ℕ)) → (number : Option ℕ) → (printed : List ℕ) → Type 0

@@ -10,7 +10,7 @@ ghost use Rattle.r3_faults.specs.Lines.{status_of, line_of, IsTold};
 ghost use Rattle.r3_faults.specs.declared.faults.Fault.{Fault};
 ghost use Rattle.r3_faults.specs.declared.faults.Fault.TheVariants.{NotBuilt, Memory, Write as WriteFault};
 ghost use Rattle.r3_core.specs.Words.{form, texts, is_built, files_of, IsBehind, IsListed, IsBuilt, IsUnbuilt, Says};
-ghost use Rattle.r3_core.specs.Causes.{Reading, first_longer, AreBytesOf, Prints, IsRefusal, IsPrintedFor, IsPrintCause, IsCause, AreWithin, all_bytes};
+ghost use Rattle.r3_core.specs.Causes.{Reading, first_longer, AreBytesOf, Prints, IsRefusal, IsDoable, IsPrintedFor, IsPrintCause, IsCause, AreWithin, all_bytes};
 
 use loading::load_files;
 use r3_outside::{Files, Sink, put_all};
@@ -61,6 +61,13 @@ pub fn r3<F: Files, O: Sink, E: Sink>(
         → ForSome (F.contents files.old) (λ told. first_longer told (files_of (texts words.now)) ≡ None
         → IsRefusal command (map (file_bytes told) names) number fault
         → Contains (status_of fault ∷ 3 ∷ 14 ∷ []) result) }
+
+    // The job can be done for the bytes of the files.
+    ensures done { (command : Command) (names : List (List ℕ)) (number : Option ℕ)
+        → Says (texts words.now) command names number
+        → ForSome (F.contents files.old) (λ told. first_longer told (files_of (texts words.now)) ≡ None
+        → IsDoable command (map (file_bytes told) names) number
+        → Contains (0 ∷ 3 ∷ 13 ∷ 14 ∷ []) result) }
 
     // What is printed.
     ensures printed { result ≡ 0 → (bytes : List ℕ)
@@ -114,6 +121,11 @@ fn run<F: Files, O: Sink>(
         → ForSome (F.contents files.old) (λ told. first_longer told (files_of (texts words.now)) ≡ None
         → IsRefusal command (map (file_bytes told) names) number fault
         → IsErrAnd result (λ other. Contains (status_of fault ∷ 3 ∷ 14 ∷ []) (status_of other))) }
+    ensures done { (command : Command) (names : List (List ℕ)) (number : Option ℕ)
+        → Says (texts words.now) command names number
+        → ForSome (F.contents files.old) (λ told. first_longer told (files_of (texts words.now)) ≡ None
+        → IsDoable command (map (file_bytes told) names) number
+        → IfErr result (λ other. Contains (3 ∷ 13 ∷ 14 ∷ []) (status_of other))) }
     ensures printed { OnOk result ((bytes : List ℕ)
         × IsPrintedFor (texts words.now) (F.contents files.old) bytes
         × Grew (O.written out.old) (O.written out.new) bytes) }
@@ -151,6 +163,10 @@ fn printed_by<F: Files>(alloc: Global, call: &Call<'_>, files: &mut F) -> Result
         (λ told. first_longer told (zip (texts call.now.names.now) (form call.now.command).limits) ≡ None
         → IsRefusal call.now.command (map (file_bytes told) (texts call.now.names.now)) call.now.number fault
         → IsErrAnd result (λ other. Contains (status_of fault ∷ 3 ∷ 14 ∷ []) (status_of other))) }
+    ensures done { ForSome (F.contents files.old)
+        (λ told. first_longer told (zip (texts call.now.names.now) (form call.now.command).limits) ≡ None
+        → IsDoable call.now.command (map (file_bytes told) (texts call.now.names.now)) call.now.number
+        → IfErr result (λ other. Contains (3 ∷ 13 ∷ 14 ∷ []) (status_of other))) }
     ensures printed { IfOk result (λ bytes. (loaded : List (List ℕ))
         × AreBytesOf (F.contents files.old) (texts call.now.names.now) loaded
         × Prints call.now.command loaded call.now.number bytes.items) }
@@ -188,6 +204,7 @@ fn printed_for(
         (fault ≡ Memory) ⊎ IsRefusal command (all_bytes loaded.now) number fault) }
     ensures refused { (fault : Fault) → IsRefusal command (all_bytes loaded.now) number fault
         → (result ≡ Err fault) ⊎ (result ≡ Err Memory) }
+    ensures done { IsDoable command (all_bytes loaded.now) number → IfErr result (λ fault. fault ≡ Memory) }
 {
     match (command, loaded, number) {
         (Command::Make, [module, script], Some(turns)) => make(alloc, module, script, turns),

@@ -1,9 +1,9 @@
 use Rattle.std.proofs.Common.{◌≡◌, sym, ap, subst, ◌∙◌, zip, Option, Some, None, IsSome}
 use Rattle.std.proofs.lemmas.Bool.{false≢true}
-use Rattle.r3_core.specs.Causes.{first_longer, IsRefusal, all_bytes}
+use Rattle.r3_core.specs.Causes.{first_longer, IsRefusal, IsDoable, all_bytes}
 use Rattle.r3_core.specs.Words.{form, texts}
-use Rattle.r3_core.proofs.ResultLemmas.{IsErrAnd-from}
-use Rattle.r3_core.proofs.StatusLemmas.{load-contains, load-refused, IsErrAnd-refused, IfErr-bytes}
+use Rattle.r3_core.proofs.ResultLemmas.{IfErr-from, IsErrAnd-from}
+use Rattle.r3_core.proofs.StatusLemmas.{load-contains, load-refused, load-done, IsErrAnd-refused, IfErr-bytes, IfErr-done}
 use Rattle.r3_core.proofs.printed_by.Goals as goal
 
 pub returns-in_err-loaded-clause-longer : goal.returns-in_err-loaded-clause-longer
@@ -36,3 +36,15 @@ returns-clause-longer g c = λ built told e longer.
     (none-longer (first_longer told (zip (texts c.args.call.now.names.now) (form c.args.call.now.command).limits))
     (subst (λ limits. first_longer told (zip (texts c.args.call.now.names.now) limits) ≡ None) c.limits.ensures (c.in_ok-loaded.ensures.within_limits told e))
     longer)
+
+pub returns-in_err-loaded-clause-done : goal.returns-in_err-loaded-clause-done
+returns-in_err-loaded-clause-done g c = λ told e none doable.
+    IfErr-from _ c.in_err-loaded.field-0.0 _ c.from_residual.ensures.1
+    (load-done _ _ c.in_err-loaded.field-0.0 told e
+    (subst (λ limits. first_longer told (zip (texts c.args.call.now.names.now) limits) ≡ None) (sym c.limits.ensures) none)
+    c.in_err-loaded.ensures.cause)
+
+pub returns-clause-done : goal.returns-clause-done
+returns-clause-done g c = λ told e none doable.
+    IfErr-done c.printed_for.result
+    (c.printed_for.ensures.done (subst (λ loaded. IsDoable c.args.call.now.command loaded c.args.call.now.number) (sym (ap all_bytes c.deref.ensures.value ∙ c.in_ok-loaded.ensures.bytes told e)) doable))

@@ -1,7 +1,7 @@
 use Rattle.std.proofs.Common.{[], ◌∷◌, sym, ◌∙◌, ap, subst, inl, inr, Err}
 use Rattle.std.specs.List.{Contains}
 use Rattle.r3_core.proofs.ResultLemmas.{IsTold-from}
-use Rattle.r3_core.proofs.StatusLemmas.{status-usage, status-read, status-too_long, status-write, fault-usage, status-not_done, listed-unless_usage}
+use Rattle.r3_core.proofs.StatusLemmas.{status-usage, status-read, status-too_long, status-write, fault-usage, status-not_done, done-behind, listed-unless_usage}
 use Rattle.r3_faults.specs.Lines.{status_of}
 use Rattle.r3_core.proofs.r3.Goals as goal
 
@@ -60,3 +60,7 @@ returns-in-Err-clause-silent g c = λ e. absurd (status-not_done c.in-Err.fault 
 pub returns-in-Err-clause-nothing_printed : goal.returns-in-Err-clause-nothing_printed
 returns-in-Err-clause-nothing_printed g c = λ some other.
     c.in-Err.ensures.nothing_printed (λ is. other (c.status.ensures ∙ ap status_of is))
+
+pub returns-in-Err-clause-done : goal.returns-in-Err-clause-done
+returns-in-Err-clause-done g c = λ command names number says told e none doable.
+    subst (Contains (0 ∷ 3 ∷ 13 ∷ 14 ∷ [])) (sym c.status.ensures) (done-behind _ (c.in-Err.ensures.done command names number says told e none doable))

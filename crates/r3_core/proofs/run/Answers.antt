@@ -1,9 +1,10 @@
-use Rattle.std.proofs.Common.{◌≡◌, subst, true, IsSome, None}
+use Rattle.std.proofs.Common.{◌≡◌, refl, subst, true, IsSome, None, arith}
+use Rattle.r3_faults.specs.declared.faults.Fault.TheVariants.{Write as WriteFault}
 use Rattle.r3_core.specs.Words.{is_built}
 use Rattle.r3_core.specs.Causes.{first_longer}
 use Rattle.r3_core.proofs.ResultLemmas.{IfErr-from, IsErrAnd-from}
 use Rattle.r3_core.proofs.WordLemmas.{Says-same, files_of-Says}
-use Rattle.r3_core.proofs.StatusLemmas.{IsCause-printing, IsRefusal-said}
+use Rattle.r3_core.proofs.StatusLemmas.{IsCause-printing, IsRefusal-said, IsDoable-said}
 use Rattle.r3_core.proofs.run.Goals as goal
 
 pub returns-in_err-printed-clause-longer : goal.returns-in_err-printed-clause-longer
@@ -60,3 +61,15 @@ returns-clause-refused g c = λ command names number fault says told e none sure
     c.in_ok-printed.ensures.refused fault told e
     (subst (λ files. first_longer told files ≡ None) (files_of-Says _ _ _ _ here) none)
     (IsRefusal-said _ _ _ _ _ _ _ here says told fault sure)
+
+pub returns-in_err-printed-clause-done : goal.returns-in_err-printed-clause-done
+returns-in_err-printed-clause-done g c = λ command names number says told e none doable.
+    let here = c.in_ok-call.ensures.listed in
+    IfErr-from _ c.in_err-printed.field-0.0 _ c.from_residual-in_err-printed.ensures.1
+    (c.in_err-printed.ensures.done told e
+    (subst (λ files. first_longer told files ≡ None) (files_of-Says _ _ _ _ here) none)
+    (IsDoable-said _ _ _ _ _ _ _ here says told doable))
+
+pub returns-in_err-put_all-clause-done : goal.returns-in_err-put_all-clause-done
+returns-in_err-put_all-clause-done g c = λ command names number says told e none doable.
+    IfErr-from _ WriteFault _ c.from_residual-in_err-put_all.ensures.1 (1, omega arith, refl)
