@@ -1,16 +1,15 @@
 -- The place of the first segment that does not fit, element segments before data segments.
-use Rattle.std.proofs.Common.{◌≡◌, ℕ, ◌+◌, List, [], ◌∷◌, ◌++◌, length, Some, None, Ok, Err, Bool, true, false, map, refl, sym, ap, ◌∙◌, zero-add, arith}
+use Rattle.std.proofs.Common.{◌≡◌, ℕ, ◌+◌, List, [], ◌∷◌, ◌++◌, length, Option, Some, None, Bool, true, false, IsTrue, map, refl, sym, ap, subst, ◌∙◌, arith}
+use Rattle.std.specs.Prelude.{All, option_map}
 use Rattle.std.proofs.lemmas.List.{length-map}
+use Rattle.std.proofs.lemmas.List.Elements.{All-nil, All-cons}
 use Rattle.wasm_syntax.specs.declared.values.Val.{Val}
 use Rattle.wasm_syntax.specs.declared.modules.Module.{Module}
 use Rattle.wasm_syntax.specs.declared.modules.ElemSeg.{ElemSeg}
 use Rattle.wasm_syntax.specs.declared.modules.DataSeg.{DataSeg}
-use Rattle.host_script.specs.declared.scripts.Supply.{Supply}
-use Rattle.host_script.specs.declared.scripts.LinkFault.{LinkFault}
-use Rattle.host_script.specs.declared.scripts.LinkFault.TheVariants.{Segment}
 use Rattle.history_spec.specs.Store.{Store}
-use Rattle.history_spec.specs.Instantiation.{data_fits, elem_fits, first_false, new_store, with_segments, store_unless, instantiate}
-use Rattle.host_link.specs.Linked.{with_datas_in, with_elems_in}
+use Rattle.history_spec.specs.Instantiation.{data_fits, elem_fits, first_false, first_unfit}
+use Rattle.host_link.specs.Linked.{with_elems_in}
 
 -- one among the first
 first_before : (at place : ℕ) (xs ys : List Bool) → first_false at xs ≡ Some place → first_false at (xs ++ ys) ≡ Some place
@@ -24,88 +23,62 @@ first_behind at [] ys is = ap (λ k. first_false k ys) (omega arith)
 first_behind at (true ∷ xs) ys is = first_behind (at + 1) xs ys is ∙ ap (λ k. first_false k ys) (omega arith)
 first_behind at (false ∷ xs) ys is = cc
 
+-- none at all
+none_before : (at : ℕ) (xs ys : List Bool) → first_false at (xs ++ ys) ≡ None → first_false at xs ≡ None
+none_before at [] ys is = refl
+none_before at (true ∷ xs) ys is = none_before (at + 1) xs ys is
+none_before at (false ∷ xs) ys is = is
+
 -- counted from another place
-first_later : (more at place : ℕ) (ys : List Bool) → first_false at ys ≡ Some place → first_false (more + at) ys ≡ Some (more + place)
-first_later more at place [] is = cc
-first_later more at place (true ∷ ys) is = ap (λ k. first_false k ys) (omega arith) ∙ first_later more (at + 1) place ys is
-first_later more at place (false ∷ ys) is =
-    let same : at ≡ place = cc in
-    ap (λ k. Some (more + k)) same
+first_later : (more at : ℕ) (ys : List Bool) → first_false (more + at) ys ≡ option_map (λ k. more + k) (first_false at ys)
+first_later more at [] = refl
+first_later more at (true ∷ ys) = ap (λ k. first_false k ys) (omega arith) ∙ first_later more (at + 1) ys
+first_later more at (false ∷ ys) = refl
 
-none_later : (more at : ℕ) (ys : List Bool) → first_false at ys ≡ None → first_false (more + at) ys ≡ None
-none_later more at [] is = refl
-none_later more at (true ∷ ys) is = ap (λ k. first_false k ys) (omega arith) ∙ none_later more (at + 1) ys is
-none_later more at (false ∷ ys) is = cc
+-- where none is false, it is true of all
+all_true : {X : Type 0} (p : X → Bool) (at : ℕ) (xs : List X) → first_false at (map p xs) ≡ None → All (λ x. IsTrue (p x)) xs
+all_true p at [] is = All-nil (λ x. IsTrue (p x))
+all_true p at (x ∷ xs) is = by (p x) refl is (all_true p (at + 1) xs)
+  where
+    by : (b : Bool) → p x ≡ b → first_false at (b ∷ map p xs) ≡ None → (first_false (at + 1) (map p xs) ≡ None → All (λ x. IsTrue (p x)) xs) → All (λ x. IsTrue (p x)) (x ∷ xs)
+    by true e i later = All-cons (λ x. IsTrue (p x)) x xs e (later i)
+    by false e i later = cc
 
-module _ (m : Module) (supply : Supply) where
-  abbrev begun : Store
-  begun = new_store m supply
+module _ (m : Module) (imported : List Val) (store : Store) (elems : List ElemSeg) (e : elems ≡ m.elems) where
+  abbrev elem_tests : List Bool
+  elem_tests = map (elem_fits imported store) elems
 
-  abbrev elems : List Bool
-  elems = map (elem_fits supply.globals begun) m.elems
+  abbrev data_tests : List DataSeg → List Bool
+  data_tests datas = map (data_fits imported store) datas
 
-  abbrev datas : List Bool
-  datas = map (data_fits supply.globals begun) m.datas
+  -- the segments of the module are these
+  unfit_is : (datas : List DataSeg) → datas ≡ m.datas → first_unfit m imported store ≡ first_false 0 (elem_tests ++ data_tests datas)
+  unfit_is datas f =
+      sym (ap (λ es. first_false 0 (map (elem_fits imported store) es ++ data_tests datas)) e
+      ∙ ap (λ ds. first_false 0 (map (elem_fits imported store) m.elems ++ data_tests ds)) f)
 
   -- an element segment does not fit
-  elem_unfit : (place : ℕ) → first_false 0 elems ≡ Some place → instantiate m supply ≡ Err (Segment place)
-  elem_unfit place is = ap (λ o. store_unless o (with_segments m supply.globals begun)) (first_before 0 place elems datas is)
+  pub elem_unfit : (place : ℕ) → Some place ≡ first_false 0 elem_tests → Some place ≡ first_unfit m imported store
+  elem_unfit place is = sym (unfit_is m.datas refl ∙ first_before 0 place elem_tests (data_tests m.datas) (sym is))
 
-  -- all of them fit, and a data segment does not
-  data_unfit : (place : ℕ) → first_false 0 elems ≡ None → first_false 0 datas ≡ Some place → instantiate m supply ≡ Err (Segment (length m.elems + place))
-  data_unfit place none is =
-      ap (λ o. store_unless o (with_segments m supply.globals begun))
-      (first_behind 0 elems datas none
-      ∙ ap (λ k. first_false k datas) (omega (arith, length-map m.elems (elem_fits supply.globals begun)))
-      ∙ first_later (length m.elems) 0 place datas is)
+  -- they all fit, and so do the data segments, or one of those does not
+  pub data_unfit : (datas : List DataSeg) (place : Option ℕ) → datas ≡ m.datas → None ≡ first_false 0 elem_tests → place ≡ first_false 0 (data_tests datas) → option_map (λ k. length elems + k) place ≡ first_unfit m imported store
+  data_unfit datas place f none is =
+      ap (option_map (λ k. length elems + k)) is
+      ∙ sym (unfit_is datas f
+      ∙ first_behind 0 elem_tests (data_tests datas) (sym none)
+      ∙ ap (λ k. first_false k (data_tests datas)) (omega (arith, length-map elems (elem_fits imported store)))
+      ∙ first_later (length elems) 0 (data_tests datas))
 
-  -- all fit
-  all_fit : first_false 0 elems ≡ None → first_false 0 datas ≡ None → instantiate m supply ≡ Ok (with_datas_in supply.globals m.datas (with_elems_in supply.globals m.elems begun))
-  all_fit none none_either =
-      ap (λ o. store_unless o (with_segments m supply.globals begun))
-      (first_behind 0 elems datas none
-      ∙ ap (λ k. first_false k datas) (omega (arith, length-map m.elems (elem_fits supply.globals begun)))
-      ∙ none_later (length m.elems) 0 datas none_either)
+  -- each fits
+  pub elems_fit : first_unfit m imported store ≡ None → All (λ elem. IsTrue (elem_fits imported store elem)) elems
+  elems_fit none =
+      all_true (elem_fits imported store) 0 elems (none_before 0 elem_tests (data_tests m.datas) (sym (unfit_is m.datas refl) ∙ none))
 
--- the same of what equals the parts of the module
-same_elems : (imported others : List Val) (elems same : List ElemSeg) (store begun : Store) → imported ≡ others → elems ≡ same → store ≡ begun
-    → first_false 0 (map (elem_fits others begun) same) ≡ first_false 0 (map (elem_fits imported store) elems)
-same_elems imported others elems same store begun e f g =
-    sym (ap (λ i. first_false 0 (map (elem_fits i store) elems)) e
-    ∙ ap (λ es. first_false 0 (map (elem_fits others store) es)) f
-    ∙ ap (λ s. first_false 0 (map (elem_fits others s) same)) g)
-
-same_datas : (imported others : List Val) (datas same : List DataSeg) (store begun : Store) → imported ≡ others → datas ≡ same → store ≡ begun
-    → first_false 0 (map (data_fits others begun) same) ≡ first_false 0 (map (data_fits imported store) datas)
-same_datas imported others datas same store begun e f g =
-    sym (ap (λ i. first_false 0 (map (data_fits i store) datas)) e
-    ∙ ap (λ ds. first_false 0 (map (data_fits others store) ds)) f
-    ∙ ap (λ s. first_false 0 (map (data_fits others s) same)) g)
-
-module _ (m : Module) (supply : Supply) (imported : List Val) (elems : List ElemSeg) (store : Store) (e : imported ≡ supply.globals) (f : elems ≡ m.elems) (g : store ≡ new_store m supply) where
-  pub elem_fault : (place : ℕ) (fault : LinkFault) → first_false 0 (map (elem_fits imported store) elems) ≡ Some place → fault ≡ Segment (0 + place) → instantiate m supply ≡ Err fault
-  elem_fault place fault is named =
-      elem_unfit m supply place (same_elems imported supply.globals elems m.elems store (new_store m supply) e f g ∙ is) ∙ sym (ap (λ x. Err x) (named ∙ ap (λ n. Segment n) (zero-add place)))
-
-  with_elems_is : (behind : Store) → behind ≡ with_elems_in imported elems store → behind ≡ with_elems_in supply.globals m.elems (new_store m supply)
-  with_elems_is behind is =
-      is ∙ ap (λ i. with_elems_in i elems store) e ∙ ap (λ es. with_elems_in supply.globals es store) f ∙ ap (λ s. with_elems_in supply.globals m.elems s) g
-
-  module _ (datas : List DataSeg) (behind : Store) (h : datas ≡ m.datas) (none : first_false 0 (map (elem_fits imported store) elems) ≡ None) (is : behind ≡ with_elems_in imported elems store) where
-    pub data_fault : (place : ℕ) (fault : LinkFault) → first_false 0 (map (data_fits imported behind) datas) ≡ Some place → fault ≡ Segment (length elems + place) → instantiate m supply ≡ Err fault
-    data_fault place fault unfit named =
-        data_unfit m supply place
-        (same_elems imported supply.globals elems m.elems store (new_store m supply) e f g ∙ none)
-        (same_datas imported supply.globals datas m.datas behind (with_elems_in supply.globals m.elems (new_store m supply)) e h (with_elems_is behind is) ∙ unfit)
-        ∙ sym (ap (λ x. Err x) (named ∙ ap (λ es. Segment (length es + place)) f))
-
-    pub link_done : (done : Store) → first_false 0 (map (data_fits imported behind) datas) ≡ None → done ≡ with_datas_in imported datas behind → instantiate m supply ≡ Ok done
-    link_done done all_in made =
-        all_fit m supply
-        (same_elems imported supply.globals elems m.elems store (new_store m supply) e f g ∙ none)
-        (same_datas imported supply.globals datas m.datas behind (with_elems_in supply.globals m.elems (new_store m supply)) e h (with_elems_is behind is) ∙ all_in)
-        ∙ sym (ap (λ s. Ok s)
-        (made
-        ∙ ap (λ i. with_datas_in i datas behind) e
-        ∙ ap (λ ds. with_datas_in supply.globals ds behind) h
-        ∙ ap (λ s. with_datas_in supply.globals m.datas s) (with_elems_is behind is)))
+  -- also behind the writing of element segments, which leaves the memory as it is
+  pub datas_fit : (datas : List DataSeg) (behind : Store) → datas ≡ m.datas → behind ≡ with_elems_in imported elems store → first_unfit m imported store ≡ None → All (λ segment. IsTrue (data_fits imported behind segment)) datas
+  datas_fit datas behind f written none =
+      let is = sym (unfit_is datas f) ∙ none in
+      subst (λ s. All (λ segment. IsTrue (data_fits imported s segment)) datas) (sym written)
+      (all_true (data_fits imported store) (0 + length elem_tests) datas
+      (sym (first_behind 0 elem_tests (data_tests datas) (none_before 0 elem_tests (data_tests datas) is)) ∙ is))

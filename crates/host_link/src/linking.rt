@@ -1,6 +1,6 @@
 // Linking a module with what a script supplies.
 
-ghost use Rattle.std.specs.Prelude.{◌≡◌, ◌+◌, Ok, Err, IfOk, IfErr};
+ghost use Rattle.std.specs.Prelude.{◌≡◌, Ok, Err, IfOk, IfErr};
 ghost use Rattle.wasm_syntax.specs.Profile.{IsSupported};
 ghost use Rattle.host_script.specs.declared.scripts.LinkFault.TheVariants.{Memory as NoMemoryLeft, Segment};
 ghost use Rattle.host_script.specs.Fits.{Fits};
@@ -11,7 +11,7 @@ ghost use Rattle.type_safety.specs.Supplies.{HasBytes};
 ghost use Rattle.host_link.specs.Linked.{AreChosen, first_of, linked};
 
 use crate::constants::all_globals;
-use crate::segments::{write_datas, write_elems};
+use crate::segments::{first_unfit, write_segments};
 use host_script::{LinkFault, Script, Supply};
 use host_supply::supply_of;
 use no_memory::NoMemory;
@@ -44,7 +44,7 @@ pub fn link(alloc: Global, checked: &Checked, script: &Script) -> Result<Store, 
 }
 
 /// The store of a module with a supply that matches its imports, or the first segment that does not
-/// fit. The store is let go with such a segment, so that nobody sees what was written before.
+/// fit. Nothing is written before all segments are checked.
 fn instantiate(alloc: Global, module: &Module, supply: &Supply) -> Result<Store, LinkFault>
     requires { AreChosen «module».now supply.now }
     ensures ok { IfOk result (λ store. history.instantiate «module».now supply.now ≡ Ok store) }
@@ -52,27 +52,21 @@ fn instantiate(alloc: Global, module: &Module, supply: &Supply) -> Result<Store,
         → history.instantiate «module».now supply.now ≡ Err fault) }
 {
     let imported = supply.globals.as_slice();
-    let elems = module.elems.as_slice();
     let Ok(mut store) = new_store(alloc, module, supply) else {
         return Err(LinkFault::Memory);
     };
-    if let Err(at) = write_elems(&mut store, imported, elems) {
-        return Err(unfit(0, at));
+    if let Some(place) = first_unfit(&store, imported, module) {
+        return Err(unfit(place));
     }
-    if let Err(at) = write_datas(&mut store, imported, module.datas.as_slice()) {
-        return Err(unfit(elems.len(), at));
-    }
+    write_segments(&mut store, imported, module);
     Ok(store)
 }
 
-/// The fault of a segment that does not fit, where `before` element segments stand before it. So
-/// many segments that 32 bits do not count them do not fit into memory.
-fn unfit(before: usize, at: usize) -> LinkFault
-    ensures { (result ≡ NoMemoryLeft → ⊥) → result ≡ Segment (before + at) }
+/// The fault of the segment at a place, which does not fit. So many segments that 32 bits do not
+/// count them do not fit into memory.
+fn unfit(place: u128) -> LinkFault
+    ensures { (result ≡ NoMemoryLeft → ⊥) → result ≡ Segment place }
 {
-    let Some(place) = before.checked_add(at) else {
-        return LinkFault::Memory;
-    };
     match u32::try_from(place) {
         Ok(number) => LinkFault::Segment { number },
         Err(_) => LinkFault::Memory,

@@ -1,75 +1,133 @@
-// Element and data segments (Core 1.0, 2.5.7 and 2.5.8).
+// Element and data segments (Core 1.0, 2.5.7 and 2.5.8): whether they fit, and writing them.
 
-ghost use Rattle.std.specs.Prelude.{◌≡◌, [], ◌∷◌, map, true, false, None, Some, OnOk, OnErr, IfErr};
+ghost use Rattle.std.specs.Prelude.{◌≡◌, ◌+◌, [], ◌∷◌, All, IsTrue, None, map, nat_le};
+ghost use Rattle.history_spec.specs.Instantiation as history;
 ghost use Rattle.history_spec.specs.Instantiation.{data_fits, elem_fits, first_false};
 ghost use Rattle.host_link.specs.Linked.{with_datas_in, with_elems_in};
 
 use crate::constants::offset_of;
 use wasm_store::{OutOfBounds, OutOfTable, Store};
-use wasm_syntax::{DataSeg, ElemSeg, Val};
+use wasm_syntax::{DataSeg, ElemSeg, Module, Val};
 
-/// Writes element segments in order, or answers the place of the first one that does not fit.
-pub(crate) fn write_elems(
-    store: &mut Store,
-    imported: &[Val],
-    elems: &[ElemSeg],
-) -> Result<(), usize>
-    ensures fit { OnOk result
-        (first_false 0 (map (elem_fits imported.now store.old) elems.now) ≡ None) }
-    ensures written { OnOk result (store.new ≡ with_elems_in imported.now elems.now store.old) }
-    ensures unfit { IfErr result (λ at.
-        first_false 0 (map (elem_fits imported.now store.old) elems.now) ≡ Some at) }
+/// The place of the first segment that does not fit, element segments before data segments (Core
+/// 1.0, 4.5.4). It is below the sum of two lengths, which 64 bits may not hold.
+pub(crate) fn first_unfit(store: &Store, imported: &[Val], module: &Module) -> Option<u128>
+    ensures { result ≡ history.first_unfit «module».now imported.now store.now }
 {
-    'elems: for (at, elem) in elems.iter().enumerate() {
-        if write_elem(store, imported, elem).is_err() {
-            return Err(at);
-        }
+    let elems = module.elems.as_slice();
+    if let Some(at) = first_unfit_elem(store, imported, elems) {
+        return Some(at as u128);
     }
-    Ok(())
+    let at = first_unfit_data(store, imported, module.datas.as_slice())?;
+    Some(elems.len() as u128 + at as u128)
 }
 
-/// Writes an element segment. One that is only declared is nowhere.
-fn write_elem(store: &mut Store, imported: &[Val], elem: &ElemSeg) -> Result<(), OutOfTable>
-    ensures ok { OnOk result (elem_fits imported.now store.old elem.now ≡ true) }
-    ensures written { OnOk result (store.new ≡ with_elems_in imported.now (elem.now ∷ []) store.old) }
-    ensures err { OnErr result (elem_fits imported.now store.old elem.now ≡ false) }
+/// The place of the first element segment that does not fit, counted among these.
+fn first_unfit_elem(store: &Store, imported: &[Val], elems: &[ElemSeg]) -> Option<usize>
+    ensures { result ≡ first_false 0 (map (elem_fits imported.now store.now) elems.now) }
+{
+    'elems: for (at, elem) in elems.iter().enumerate() {
+        if !elem_fits(store, imported, elem) {
+            return Some(at);
+        }
+    }
+    None
+}
+
+/// Whether an element segment is within the table. One that is only declared is nowhere.
+fn elem_fits(store: &Store, imported: &[Val], elem: &ElemSeg) -> bool
+    ensures { result ≡ elem_fits imported.now store.now elem.now }
 {
     match elem {
         ElemSeg::Active { offset, funcs, .. } => {
-            store.put_funcs(offset_of(imported, offset.as_slice()), funcs.as_slice())
+            let offset = offset_of(imported, offset.as_slice());
+            is_within(offset, funcs.as_slice().len(), store.table_size() as usize)
         }
-        ElemSeg::Declared { .. } => Ok(()),
+        ElemSeg::Declared { .. } => true,
     }
 }
 
-/// Writes data segments in order, or answers the place of the first one that does not fit.
-pub(crate) fn write_datas(
-    store: &mut Store,
-    imported: &[Val],
-    datas: &[DataSeg],
-) -> Result<(), usize>
-    ensures fit { OnOk result
-        (first_false 0 (map (data_fits imported.now store.old) datas.now) ≡ None) }
-    ensures written { OnOk result (store.new ≡ with_datas_in imported.now datas.now store.old) }
-    ensures unfit { IfErr result (λ at.
-        first_false 0 (map (data_fits imported.now store.old) datas.now) ≡ Some at) }
+/// The place of the first data segment that does not fit, counted among these.
+fn first_unfit_data(store: &Store, imported: &[Val], datas: &[DataSeg]) -> Option<usize>
+    ensures { result ≡ first_false 0 (map (data_fits imported.now store.now) datas.now) }
 {
     'datas: for (at, segment) in datas.iter().enumerate() {
-        if write_data(store, imported, segment).is_err() {
-            return Err(at);
+        if !data_fits(store, imported, segment) {
+            return Some(at);
         }
     }
-    Ok(())
+    None
 }
 
-/// Writes a data segment.
-fn write_data(store: &mut Store, imported: &[Val], segment: &DataSeg) -> Result<(), OutOfBounds>
-    ensures ok { OnOk result (data_fits imported.now store.old segment.now ≡ true) }
-    ensures written { OnOk result (store.new ≡ with_datas_in imported.now (segment.now ∷ []) store.old) }
-    ensures err { OnErr result (data_fits imported.now store.old segment.now ≡ false) }
+/// Whether a data segment is within the memory.
+fn data_fits(store: &Store, imported: &[Val], segment: &DataSeg) -> bool
+    ensures { result ≡ data_fits imported.now store.now segment.now }
 {
-    store.put_bytes(
-        offset_of(imported, segment.offset.as_slice()),
-        segment.bytes.as_slice(),
-    )
+    let offset = offset_of(imported, segment.offset.as_slice());
+    is_within(offset, segment.bytes.as_slice().len(), store.bytes().len())
+}
+
+/// Whether so many bytes or entries from an offset on end within a size.
+fn is_within(offset: u64, count: usize, size: usize) -> bool
+    ensures { result ≡ nat_le (offset + count) size }
+{
+    match offset.checked_add(count as u64) {
+        Some(end) => end <= size as u64,
+        None => false,
+    }
+}
+
+/// Writes all segments in order. They all fit.
+pub(crate) fn write_segments(store: &mut Store, imported: &[Val], module: &Module)
+    requires { history.first_unfit «module».now imported.now store.old ≡ None }
+    ensures { store.new ≡ history.with_segments «module».now imported.now store.old }
+{
+    write_elems(store, imported, module.elems.as_slice());
+    write_datas(store, imported, module.datas.as_slice());
+}
+
+/// Writes element segments in order. They all fit.
+fn write_elems(store: &mut Store, imported: &[Val], elems: &[ElemSeg])
+    requires { All (λ elem. IsTrue (elem_fits imported.now store.old elem)) elems.now }
+    ensures { store.new ≡ with_elems_in imported.now elems.now store.old }
+{
+    'elems: for elem in elems {
+        write_elem(store, imported, elem);
+    }
+}
+
+/// Writes an element segment, which fits. One that is only declared is nowhere.
+fn write_elem(store: &mut Store, imported: &[Val], elem: &ElemSeg)
+    requires { IsTrue (elem_fits imported.now store.old elem.now) }
+    ensures { store.new ≡ with_elems_in imported.now (elem.now ∷ []) store.old }
+{
+    let ElemSeg::Active { offset, funcs, .. } = elem else {
+        return;
+    };
+    match store.put_funcs(offset_of(imported, offset.as_slice()), funcs.as_slice()) {
+        Ok(()) => (),
+        Err(OutOfTable) => unreachable!(),
+    }
+}
+
+/// Writes data segments in order. They all fit.
+fn write_datas(store: &mut Store, imported: &[Val], datas: &[DataSeg])
+    requires { All (λ segment. IsTrue (data_fits imported.now store.old segment)) datas.now }
+    ensures { store.new ≡ with_datas_in imported.now datas.now store.old }
+{
+    'datas: for segment in datas {
+        write_data(store, imported, segment);
+    }
+}
+
+/// Writes a data segment, which fits.
+fn write_data(store: &mut Store, imported: &[Val], segment: &DataSeg)
+    requires { IsTrue (data_fits imported.now store.old segment.now) }
+    ensures { store.new ≡ with_datas_in imported.now (segment.now ∷ []) store.old }
+{
+    let offset = offset_of(imported, segment.offset.as_slice());
+    match store.put_bytes(offset, segment.bytes.as_slice()) {
+        Ok(()) => (),
+        Err(OutOfBounds) => unreachable!(),
+    }
 }
