@@ -11,6 +11,7 @@ pub mod Entries
 pub mod Standing
 pub mod Fits
 pub mod Going
+pub mod OwnEntries
 pub mod Following
 pub mod Ready
 pub mod Walking
