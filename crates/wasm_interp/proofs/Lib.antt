@@ -17,3 +17,4 @@ pub mod Ready
 pub mod Walking
 pub mod Stretching
 pub mod Meters
+pub mod Lessening

@@ -10,3 +10,4 @@ pub mod Advance
 pub mod Lending
 pub mod Running
 pub mod Walks
+pub mod Ahead

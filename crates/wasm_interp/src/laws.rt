@@ -1,7 +1,7 @@
-// Laws of a machine that stands for a stack of activations, each the contract of a function that does
-// nothing: what its calls ask for, and what the host's part of the stack asks for.
+// Laws of a machine, each the contract of a function that does nothing: what its calls ask for, what the host's
+// part of the stack that it stands for asks for, and that instructions of weight 0 come to an end.
 
-ghost use Rattle.std.specs.Prelude.{◌≡◌, ℕ, ◌≤◌, List, [], ◌∷◌, Some, slice_get, false};
+ghost use Rattle.std.specs.Prelude.{◌≡◌, ◌≢◌, ℕ, ◌<◌, ◌≤◌, List, [], ◌∷◌, Some, slice_get, false};
 ghost use Rattle.wasm_syntax.specs.declared.values.Val.{Val};
 ghost use Rattle.wasm_syntax.specs.declared.values.ValType.{ValType};
 ghost use Rattle.wasm_syntax.specs.declared.signatures.FuncType.{FuncType};
@@ -14,20 +14,29 @@ ghost use Rattle.host_script.specs.Fits.{AreOfTypes, FitActions};
 ghost use Rattle.history_spec.specs.Store.{Store};
 ghost use Rattle.history_spec.specs.Code.{code_of, signature};
 ghost use Rattle.history_spec.specs.Configuration.{Activation, Frame, InImport, InMain, InModule};
+ghost use Rattle.history_spec.specs.Run.{weight_of};
+ghost use Rattle.type_safety.specs.Configurations.{IsGoing};
 ghost use Rattle.type_safety.specs.Heights.{Heights};
 ghost use Rattle.type_safety.specs.Stores.{IsStore, func_count};
 ghost use Rattle.type_safety.specs.Values.{AreValues};
 ghost use Rattle.wasm_flat.specs.FlatCode.{flat_of};
-ghost use Rattle.wasm_flat.specs.Meters.{FitsMeter, Weighing};
+ghost use Rattle.wasm_flat.specs.declared.code.Flat.{Flat};
+ghost use Rattle.wasm_flat.specs.Meters.{FitsMeter, Weighing, meter_of};
+ghost use Rattle.flat_steps.specs.declared.frames.FlatFrame.{FlatFrame};
+ghost use Rattle.flat_steps.specs.FlatStep.{Trapped, settle, turn};
+ghost use Rattle.flat_steps.specs.Runs.{weight_at};
 ghost use Rattle.flat_steps.specs.Bounds.{FitsCode};
 ghost use Rattle.flat_steps.specs.Follows.{AwaitsHost};
-ghost use Rattle.wasm_interp.specs.Frames.{argument_of};
+ghost use Rattle.wasm_interp.specs.Advance.{Advances, flat_meter};
+ghost use Rattle.wasm_interp.specs.Ahead.{IsLessened, ahead};
+ghost use Rattle.wasm_interp.specs.declared.machine.Pause.{Pause};
+ghost use Rattle.wasm_interp.specs.Frames.{argument_of, below_of};
 ghost use Rattle.wasm_interp.specs.Lending.{with_store};
 ghost use Rattle.wasm_interp.specs.Running.{IsCallable};
 ghost use Rattle.wasm_interp.specs.Walks.{FitsWeights};
 ghost use Rattle.wasm_interp.specs.State.{IsAtHost, IsInModule, IsWaiting, StandsFor, State, state};
 
-use flat_steps::stores_fit;
+use flat_steps::{stores_fit, weights_agree};
 use wasm_flat::weightless_items_go_ahead;
 
 /// What the calls of a machine ask for holds where it stands for a stack whose topmost activation is
@@ -59,3 +68,18 @@ pub fn hosts_go_on()
     ensures stores { (m : Module) (heights : Heights) (stack : List Activation) (machine : State) (store : Store) → StandsFor m heights stack machine → IsStore m store → StandsFor m heights stack (with_store machine store) }
     ensures results { (m : Module) (types : List ValType) (values : List Val) → AreOfTypes types values → AreValues (func_count m) types values }
 {}
+
+/// Only so many instructions of weight 0 come in a row, also across calls of imports that the host just
+/// answers: each leaves the activations less code ahead of them, unless it traps, and neither a return
+/// nor an answer gives them more. So an advance that takes no turn and comes to a call of an import
+/// leaves less ahead than it found.
+pub fn weightless_turns_end()
+    ensures turns { (flat : Flat) (weighing : Weighing) (store : Store) (frames : List FlatFrame) (slots : List ℕ) → FitsWeights flat weighing → IsInModule flat frames → weight_at (flat_meter flat weighing) frames ≡ 0 → (turn flat store frames slots).pause ≢ Trapped → ahead flat (turn flat store frames slots).frames < ahead flat frames }
+    ensures returns { (flat : Flat) (store : Store) (frames : List FlatFrame) (slots : List ℕ) → ahead flat (settle flat store frames slots).frames ≤ ahead flat frames }
+    ensures answers { (flat : Flat) (frames : List FlatFrame) → ahead flat (below_of frames) ≤ ahead flat frames }
+    ensures advances { (old : State) (weighing : Weighing) (turns : ℕ) («end» : Pause) (new : State) → IsInModule old.flat old.frames → FitsWeights old.flat weighing → Advances old.flat old.store old.frames old.slots weighing turns «end» turns new → IsLessened «end» (ahead old.flat old.frames) (ahead old.flat new.frames) }
+    ensures steps { (m : Module) (heights : Heights) (weighing : Weighing) (frame : Frame) (below : List Activation) (machine : State) → IsValid m → FitsMeter m weighing → StandsFor m heights (InModule frame ∷ below) machine → IsGoing frame.at.rest → weight_of (meter_of m weighing) (InModule frame ∷ below) ≡ 0 → (turn machine.flat machine.store machine.frames machine.slots).pause ≢ Trapped → ahead machine.flat (turn machine.flat machine.store machine.frames machine.slots).frames < ahead machine.flat machine.frames }
+{
+    weights_agree();
+    meters_fit();
+}

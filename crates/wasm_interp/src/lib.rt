@@ -19,6 +19,6 @@ mod turns;
 mod values;
 mod walks;
 
-pub use laws::{calls_are_ready, hosts_go_on, meters_fit};
+pub use laws::{calls_are_ready, hosts_go_on, meters_fit, weightless_turns_end};
 pub use machine::{Machine, Pause, Turn};
 pub use no_memory::NoMemory;
