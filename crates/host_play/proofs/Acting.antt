@@ -1,7 +1,6 @@
 -- What the host's action does is the step of the run.
-use Rattle.std.proofs.Common.{◌≡◌, ℕ, ◌+◌, ◌≤◌, List, [], ◌∷◌, Some, slice_get, option_map, sym, ap, ◌∙◌, subst, arith}
+use Rattle.std.proofs.Common.{◌≡◌, ℕ, ◌+◌, ◌≤◌, List, [], ◌∷◌, Some, slice_get, option_map, sym, ap, ◌∙◌, subst}
 use Rattle.std.specs.Prelude.{Ok, Err}
-use Rattle.std.proofs.lemmas.List.{append-nil}
 use Rattle.wasm_syntax.specs.declared.values.Val.{Val}
 use Rattle.wasm_syntax.specs.declared.signatures.FuncType.{FuncType}
 use Rattle.wasm_syntax.specs.declared.modules.Module.{Module}
@@ -28,13 +27,14 @@ use Rattle.wasm_interp.specs.Frames.{argument_of}
 use Rattle.wasm_interp.specs.Lending.{with_store}
 use Rattle.wasm_interp.specs.Running.{InvokesRun, config_of}
 use Rattle.wasm_interp.specs.State.{IsWaiting, State, StandsFor}
+use Rattle.host_play.specs.declared.deeds.Deed.TheVariants as deed
 use Rattle.host_play.specs.declared.playing.Host.{Host}
 use Rattle.host_play.specs.declared.playing.Stand.TheVariants as at
 use Rattle.host_play.specs.declared.playing.Refusal.TheVariants as refusal
 use Rattle.host_play.specs.declared.playing.Playing.{Playing}
 use Rattle.host_play.specs.Arguments.{AreKnown, AreRead, IsKnown, IsRead}
+use Rattle.host_play.specs.Deeds.{moved_by}
 use Rattle.host_play.specs.Hosts.{Plays, behind_action, below_of}
-use Rattle.host_play.specs.Telling.{Journaled, Tells}
 use Rattle.host_play.specs.Standing.{MakesStep, Standing}
 use Rattle.host_play.proofs.Opening.{Opened}
 
@@ -73,24 +73,19 @@ module _ (machine : State) (args : List Val) (each : (number : ℕ) (value : Val
 
 -- ---- steps
 
-pub tells_none : (told : Journaled) → Tells told told []
-tells_none told = record { lines_are = sym (append-nil told.text); count_is = omega arith }
-
 module _ (m : Module) (script : Script) (s : Stepped) (playing : Playing) (top : Host) (action : Action) (standing : Standing m script at.Host playing s)
     (o : Opened m standing.heights script standing.counts playing top action s) where
-  pub does_change : (told : Journaled) (store : Store) (new_playing : Playing)
+  pub does_change : (store : Store) (new_playing : Playing)
       → act (code_of m) playing.machine.store o.args action ≡ Changes store → IsStore m store
       → StandsFor m standing.heights o.left (with_store playing.machine store)
       → new_playing.machine ≡ with_store playing.machine store → new_playing.functions ≡ playing.functions → new_playing.counts.items ≡ playing.counts.items → new_playing.hosts ≡ behind_action top ∷ below_of playing.hosts
-      → MakesStep m script s told told (Ok at.Host) new_playing
-  does_change told store new_playing is is_store stands same_machine same_functions same_counts same_hosts = record {
+      → MakesStep m script s (Ok (moved_by deed.Stays)) new_playing
+  does_change store new_playing is is_store stands same_machine same_functions same_counts same_hosts = record {
     config = config_of playing.machine o.whole standing.counts;
     standing = o.same;
     leads = record {
-      entries = [];
       next = come_to_stand store standing.counts (settle o.left);
       same = o.is_step ∙ ap (after_action (program_of m script) (config_of playing.machine o.whole standing.counts) o.left) is;
-      tells = tells_none told;
       standing = record {
         heights = standing.heights;
         counts = standing.counts;
@@ -110,25 +105,24 @@ module _ (m : Module) (script : Script) (s : Stepped) (playing : Playing) (top :
     };
   }
 
-  pub does_call : (told new_told : Journaled) (func : ℕ) (given : List Val) (ty : FuncType) (new_playing : Playing)
+  pub does_call : (func : ℕ) (given args : List Val) (ty : FuncType) (new_playing : Playing)
       → act (code_of m) playing.machine.store o.args action ≡ Enters func given
       → signature (code_of m) func ≡ Some ty → imported_funcs m ≤ func → AreValues (func_count m) ty.params given
-      → InvokesRun playing.machine func given new_playing.machine → Tells told new_told (HostCall func given ∷ [])
+      → InvokesRun playing.machine func given new_playing.machine → args ≡ given
       → new_playing.functions ≡ playing.functions → new_playing.counts.items ≡ playing.counts.items → new_playing.hosts ≡ behind_action top ∷ below_of playing.hosts
-      → MakesStep m script s told new_told (Ok at.Module) new_playing
-  does_call told new_told func given ty new_playing is has_type defined values invokes tells same_functions same_counts same_hosts =
+      → MakesStep m script s (Ok (moved_by (deed.Calls func args))) new_playing
+  does_call func given args ty new_playing is has_type defined values invokes same_args same_functions same_counts same_hosts =
       let enters = invokes m standing.heights standing.counts o.left ty standing.is_run.code o.awaits o.stands defined has_type values in
       let next : Stepped = come_to_stand playing.machine.store standing.counts (settle (InModule enters.frame ∷ o.left)) in
-      record {
+      subst (λ values. MakesStep m script s (Ok (moved_by (deed.Calls func values))) new_playing) (sym same_args)
+      (record {
         config = config_of playing.machine o.whole standing.counts;
         standing = o.same;
         leads = record {
-          entries = HostCall func given ∷ [];
           next = next;
           same =
               o.is_step ∙ ap (after_action (program_of m script) (config_of playing.machine o.whole standing.counts) o.left) is
               ∙ ap (after_entries (HostCall func given ∷ [])) enters.same;
-          tells = tells;
           standing = record {
             heights = standing.heights;
             counts = standing.counts;
@@ -143,18 +137,18 @@ module _ (m : Module) (script : Script) (s : Stepped) (playing : Playing) (top :
             };
           };
         };
-      }
+      })
 
-  pub does_fail : (told new_told : Journaled) (kind : FaultKind) (new_playing : Playing) → act (code_of m) playing.machine.store o.args action ≡ Fails kind
-      → MakesStep m script s told new_told (Err (refusal.Fault kind)) new_playing
-  does_fail told new_told kind new_playing is = record {
+  pub does_fail : (kind : FaultKind) (new_playing : Playing) → act (code_of m) playing.machine.store o.args action ≡ Fails kind
+      → MakesStep m script s (Err (refusal.Fault kind)) new_playing
+  does_fail kind new_playing is = record {
     config = config_of playing.machine o.whole standing.counts;
     standing = o.same;
     leads = ap (λ (t : Stepped). t.next) (o.is_step ∙ ap (after_action (program_of m script) (config_of playing.machine o.whole standing.counts) o.left) is);
   }
 
-  pub does_nothing : (told new_told : Journaled) (new_playing : Playing) → MakesStep m script s told new_told (Err refusal.Memory) new_playing
-  does_nothing told new_told new_playing = record {
+  pub does_nothing : (new_playing : Playing) → MakesStep m script s (Err refusal.Memory) new_playing
+  does_nothing new_playing = record {
     config = config_of playing.machine o.whole standing.counts;
     standing = o.same;
     leads = tt;

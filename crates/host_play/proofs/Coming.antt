@@ -18,7 +18,6 @@ use Rattle.wasm_interp.specs.Running.{IsRun, config_of, ComesToInstruction, Come
 use Rattle.host_play.specs.declared.playing.Stand.TheVariants as at
 use Rattle.host_play.specs.declared.playing.Playing.{Playing}
 use Rattle.host_play.specs.Hosts.{Plays, kept}
-use Rattle.host_play.specs.Telling.{Journaled, Tells}
 use Rattle.host_play.specs.Standing.{Leads}
 use Rattle.host_play.proofs.Outside.{plays_same, plays_outside, awaits_outside}
 
@@ -30,14 +29,12 @@ pub after_both : (first second : List Entry) (s : Stepped) → after_entries (fi
 after_both first second s = ap (λ es. stepped es s.next) (append_assoc first second s.entries)
 
 module _ (m : Module) (heights : Heights) (script : Script) (counts : List ℕ) (is_run : IsRun m heights (program_of m script) counts) (below : List Activation) (playing : Playing) (functions : AreOf (code_of m) playing.functions) (counted : playing.counts.items ≡ map kept counts)
-    (entries : List Entry) (s : Stepped) (told new_told : Journaled) (tells : Tells told new_told entries) where
-  pub at_instruction : Plays script below playing.hosts → ComesToInstruction m heights (outside_of below) counts entries playing.machine s → Leads m script s told new_told at.Instruction playing
+    (entries : List Entry) (s : Stepped) where
+  pub at_instruction : Plays script below playing.hosts → ComesToInstruction m heights (outside_of below) counts entries playing.machine s → Leads m script s entries at.Instruction playing
   at_instruction hosts c =
       record {
-        entries = entries;
         next = stepped [] (Goes_on (config_of playing.machine (InModule c.frame ∷ c.below) counts));
         same = c.same ∙ with_none entries (Goes_on (config_of playing.machine (InModule c.frame ∷ c.below) counts));
-        tells = tells;
         standing = record {
           heights = heights;
           counts = counts;
@@ -54,13 +51,11 @@ module _ (m : Module) (heights : Heights) (script : Script) (counts : List ℕ) 
         };
       }
 
-  pub at_host : Plays script below playing.hosts → ComesToHost m heights (outside_of below) counts entries playing.machine s → Leads m script s told new_told at.Host playing
+  pub at_host : Plays script below playing.hosts → ComesToHost m heights (outside_of below) counts entries playing.machine s → Leads m script s entries at.Host playing
   at_host hosts c =
       record {
-        entries = entries;
         next = come_to_stand playing.machine.store counts (settle (outside_of below));
         same = c.same;
-        tells = tells;
         standing = record {
           heights = heights;
           counts = counts;
@@ -76,12 +71,10 @@ module _ (m : Module) (heights : Heights) (script : Script) (counts : List ℕ) 
         };
       }
 
-  pub at_trap : s ≡ stepped entries (Finished ByTrap) → Leads m script s told new_told (at.Over ByTrap) playing
+  pub at_trap : s ≡ stepped entries (Finished ByTrap) → Leads m script s entries (at.Over ByTrap) playing
   at_trap same =
       record {
-        entries = entries;
         next = stepped [] (Finished ByTrap);
         same = same ∙ with_none entries (Finished ByTrap);
-        tells = tells;
         standing = record { heights = heights; counts = counts; is_run = is_run; functions = functions; counted = counted; goes_on = refl };
       }

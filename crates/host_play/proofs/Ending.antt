@@ -29,9 +29,7 @@ use Rattle.host_play.specs.declared.playing.Host.TheVariants as host
 use Rattle.host_play.specs.declared.playing.Stand.TheVariants as at
 use Rattle.host_play.specs.declared.playing.Playing.{Playing}
 use Rattle.host_play.specs.Hosts.{Plays, IsCaller, action_at, actions_in, below_of, top_of}
-use Rattle.host_play.specs.Telling.{Journaled, Tells}
 use Rattle.host_play.specs.Standing.{Leads, Standing}
-use Rattle.host_play.proofs.Acting.{tells_none}
 
 drop_past : {A : Type 0} (xs : List A) (i : ℕ) → slice_get xs i ≡ None → drop i xs ≡ []
 drop_past [] zero is = refl
@@ -136,42 +134,37 @@ module _ (m : Module) (heights : Heights) (script : Script) (counts : List ℕ) 
 
 -- ---- what the run goes on with
 
-pub main_leads : (m : Module) (script : Script) (s : Stepped) (told : Journaled) (next : ℕ) (playing : Playing) → Standing m script at.Host playing s → top_of playing.hosts ≡ Some (host.Main next) → action_at script (host.Main next) ≡ None
-    → Leads m script s told told (at.Over Ended) playing
-main_leads m script s told next playing standing is none = record {
-  entries = [];
+pub main_leads : (m : Module) (script : Script) (s : Stepped) (next : ℕ) (playing : Playing) → Standing m script at.Host playing s → top_of playing.hosts ≡ Some (host.Main next) → action_at script (host.Main next) ≡ None
+    → Leads m script s [] (at.Over Ended) playing
+main_leads m script s next playing standing is none = record {
   next = stepped [] (Finished Ended);
   same = main_done m standing.heights script standing.counts playing s standing.goes_on.activations playing.hosts next standing.goes_on.awaits standing.goes_on.stack.hosts standing.goes_on.same is none;
-  tells = tells_none told;
   standing = record { heights = standing.heights; counts = standing.counts; is_run = standing.is_run; functions = standing.functions; counted = standing.counted; goes_on = refl };
 }
 
 module _ (m : Module) (script : Script) (s : Stepped) (playing : Playing) (top : Host) (standing : Standing m script at.Host playing s) (d : Done m standing.heights script standing.counts playing top s) where
-  pub trap_leads : (told new_told : Journaled) → d.response.«end» ≡ Trap → Tells told new_told (HostTrap ∷ []) → Leads m script s told new_told (at.Over HostTrapped) playing
-  trap_leads told new_told is tells = record {
-    entries = HostTrap ∷ [];
+  pub trap_leads : d.response.«end» ≡ Trap → Leads m script s (HostTrap ∷ []) (at.Over HostTrapped) playing
+  trap_leads is = record {
     next = stepped [] (Finished HostTrapped);
     same = d.same ∙ ap (λ e. come_to_stand playing.machine.store standing.counts (settle (InImport d.import d.args [] e ∷ InModule d.frame ∷ d.below))) is;
-    tells = tells;
     standing = record { heights = standing.heights; counts = standing.counts; is_run = standing.is_run; functions = standing.functions; counted = standing.counted; goes_on = refl };
   }
 
-  pub return_leads : (told new_told : Journaled) (value : Option Val) (new_playing : Playing)
+  pub return_leads : (import : ℕ) (value : Option Val) (new_playing : Playing) → import ≡ d.import
       → ((m : Module) (types : List ValType) (values : List Val) → AreOfTypes types values → AreValues (func_count m) types values)
-      → d.response.«end» ≡ Return value → ResumesRun playing.machine value new_playing.machine → Tells told new_told (ImportReturn d.import (option_to_list value) ∷ [])
+      → d.response.«end» ≡ Return value → ResumesRun playing.machine value new_playing.machine
       → new_playing.functions ≡ playing.functions → new_playing.counts.items ≡ playing.counts.items → new_playing.hosts ≡ below_of playing.hosts
-      → Leads m script s told new_told at.Module new_playing
-  return_leads told new_told value new_playing results_law is resumes tells same_functions same_counts same_hosts =
+      → Leads m script s (ImportReturn import (option_to_list value) ∷ []) at.Module new_playing
+  return_leads import value new_playing same_import results_law is resumes same_functions same_counts same_hosts =
       let r = resumes m standing.heights d.import d.args [] d.response.«end» d.frame d.below d.ty d.stands d.has_type (results_law m d.ty.results (option_to_list value) (d.fits value is)) in
       let next : Stepped = come_to_stand playing.machine.store standing.counts (settle (InModule r.next ∷ d.below)) in
-      record {
-        entries = ImportReturn d.import (option_to_list value) ∷ [];
+      subst (λ i. Leads m script s (ImportReturn i (option_to_list value) ∷ []) at.Module new_playing) (sym same_import)
+      (record {
         next = next;
         same =
             d.same
             ∙ ap (λ e. come_to_stand playing.machine.store standing.counts (settle (InImport d.import d.args [] e ∷ InModule d.frame ∷ d.below))) is
             ∙ ap (λ q. after_entries (ImportReturn d.import (option_to_list value) ∷ []) (come_to_stand playing.machine.store standing.counts q)) r.same;
-        tells = tells;
         standing = record {
           heights = standing.heights;
           counts = standing.counts;
@@ -185,4 +178,4 @@ module _ (m : Module) (script : Script) (s : Stepped) (playing : Playing) (top :
             same = ap (λ st. come_to_stand st standing.counts (settle (InModule r.next ∷ d.below))) (sym r.store);
           };
         };
-      }
+      })

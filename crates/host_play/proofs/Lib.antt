@@ -4,9 +4,15 @@ mod Coming
 mod Settling
 mod FitResponses
 mod Counts
+mod Answering
 mod Turning
 mod Opening
 mod Acting
 mod Ending
 mod Reaching
+mod Telling
+mod Joining
+mod CallCounts
+mod Advancing
+mod Counted
 mod Starting

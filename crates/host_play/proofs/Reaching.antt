@@ -1,31 +1,29 @@
 -- One more step of a run, and where it leads.
-use Rattle.std.proofs.Common.{◌≡◌, ℕ, suc, zero, ◌+◌, ◌-◌, List, [], ◌∷◌, ◌++◌, length, refl, sym, ap, ◌∙◌, subst, arith, append_assoc}
+use Rattle.std.proofs.Common.{◌≡◌, ℕ, suc, zero, ◌+◌, List, [], ◌∷◌, ◌++◌, refl, sym, ap, ◌∙◌, subst, arith, append_assoc}
 use Rattle.std.specs.Prelude.{Ok, Err}
-use Rattle.std.proofs.lemmas.List.{append-nil, length-append}
+use Rattle.std.proofs.lemmas.List.{append-nil}
 use Rattle.wasm_syntax.specs.declared.modules.Module.{Module}
 use Rattle.host_script.specs.declared.scripts.Script.{Script}
 use Rattle.trace_model.specs.declared.outcomes.Outcome.{Outcome}
 use Rattle.history_spec.specs.declared.entries.Entry.{Entry}
-use Rattle.history_spec.specs.Budget.{IsOver, IsSpent}
+use Rattle.history_spec.specs.Budget.{IsOver, IsOverWithin, IsSpent}
 use Rattle.history_spec.specs.Configuration.{Activation, Config, InModule, InMain, InImport}
-use Rattle.history_spec.specs.Line.{line, entry_text, outcome_text}
 use Rattle.history_spec.specs.Step.{Program, Progress, Goes_on, Finished, Faulted, Stuck, Stepped, stepped, step}
 use Rattle.history_spec.specs.Run.{Run, all_one, program_of, run_from, behind, steps, weight, weight_of}
+use Rattle.host_play.specs.declared.deeds.Moved.{Moved}
 use Rattle.host_play.specs.declared.playing.Stand.{Stand}
 use Rattle.host_play.specs.declared.playing.Stand.TheVariants as at
 use Rattle.host_play.specs.declared.playing.Refusal.{Refusal}
 use Rattle.host_play.specs.declared.playing.Refusal.TheVariants as unmade
 use Rattle.host_play.specs.declared.playing.Playing.{Playing}
-use Rattle.host_play.specs.declared.results.Told.{Told}
 use Rattle.host_play.specs.Reached.{Reached}
-use Rattle.host_play.specs.Results.{Refuses, TellsRun, refused}
-use Rattle.host_play.specs.Standing.{Leads, LeadsBy, MakesStep}
-use Rattle.host_play.specs.Telling.{Journaled, lines}
+use Rattle.host_play.specs.Results.{Refuses, refused}
+use Rattle.host_play.specs.Standing.{Leads, LeadsBy, MakesStep, Stops}
 
 abbrev pub run_of : List Entry → ℕ → Progress → Run
 run_of history turns at = record { history = history; turns = turns; at = at }
 
-weight_one : (stack : List Activation) → weight_of all_one stack ≡ 1
+pub weight_one : (stack : List Activation) → weight_of all_one stack ≡ 1
 weight_one [] = refl
 weight_one (InModule frame ∷ below) = refl
 weight_one (InMain actions ∷ below) = refl
@@ -64,45 +62,51 @@ one_more program begun k history turns config is =
     ∙ ap (λ es. run_of (es ++ (step program config).entries) (0 + (inner.turns + 1)) (step program config).next) here
     ∙ ap (λ n. run_of (history ++ (step program config).entries) n (step program config).next) (omega arith)
 
--- ---- lines
-
-lines_behind : (first second : List Entry) → lines (first ++ second) ≡ lines first ++ lines second
-lines_behind [] second = refl
-lines_behind (e ∷ es) second =
-    ap (λ text. line (entry_text e) ++ text) (lines_behind es second) ∙ sym (append_assoc (line (entry_text e)) (lines es) (lines second))
-
 -- ---- where a run comes to
 
 module _ (m : Module) (script : Script) (begun : Stepped) (budget : ℕ) where
   -- what a step leads to
-  pub led : (told new_told : Journaled) (stand : Stand) (playing : Playing) (count left used : ℕ) (history : List Entry) (s : Stepped)
-      → run_from (program_of m script) all_one begun count ≡ run_of (history ++ s.entries) used s.next → used + left ≡ budget → told.text ≡ lines history → told.entries ≡ length history
-      → Leads m script s told new_told stand playing → Reached m script begun budget new_told stand playing left
-  led told new_told stand playing count left used history s run spent text counted l = record {
+  pub led : (stand : Stand) (playing : Playing) (count left used : ℕ) (history entries : List Entry) (s : Stepped)
+      → run_from (program_of m script) all_one begun count ≡ run_of (history ++ s.entries) used s.next → used + left ≡ budget
+      → Leads m script s entries stand playing → Reached m script begun budget (history ++ entries) stand playing left
+  led stand playing count left used history entries s run spent l = record {
     steps = count;
-    history = history ++ l.entries;
     pending = l.next;
     used = used;
     run =
         run
         ∙ ap (λ (t : Stepped). run_of (history ++ t.entries) used t.next) l.same
-        ∙ ap (λ es. run_of es used l.next.next) (sym (append_assoc history l.entries l.next.entries));
+        ∙ ap (λ es. run_of es used l.next.next) (sym (append_assoc history entries l.next.entries));
     spent = spent;
-    text = l.tells.lines_are ∙ ap (λ t. t ++ lines l.entries) text ∙ sym (lines_behind history l.entries);
-    count = l.tells.count_is ∙ ap (λ n. n + length l.entries) counted ∙ sym (length-append history l.entries);
     standing = l.standing;
   }
 
-  module _ (told : Journaled) (stand : Stand) (playing : Playing) (left : ℕ) (r : Reached m script begun budget told stand playing left) where
-    pub goes_free : (new_told : Journaled) (next : Stand) (new_playing : Playing) → Leads m script r.pending told new_told next new_playing → Reached m script begun budget new_told next new_playing left
-    goes_free new_told next new_playing l = led told new_told next new_playing r.steps left r.used r.history r.pending r.run r.spent r.text r.count l
+  -- what it begins with
+  pub begins : (entries : List Entry) (stand : Stand) (playing : Playing) → Leads m script begun entries stand playing → Reached m script begun budget ([] ++ entries) stand playing budget
+  begins entries stand playing l = led stand playing 0 budget 0 [] entries begun (ap (λ es. run_of es 0 begun.next) (append-nil begun.entries)) (omega arith) l
+
+  -- a fault of the script stops it
+  pub stopped : (count left used turn : ℕ) (history : List Entry) (s : Stepped) (refusal : Refusal)
+      → run_from (program_of m script) all_one begun count ≡ run_of (history ++ s.entries) used s.next → used + left ≡ budget → turn + left ≡ budget
+      → Stops refusal s → Refuses (program_of m script) begun budget (refused refusal turn)
+  stopped count left used turn history s unmade.Memory run spent is stops = tt
+  stopped count left used turn history s (unmade.Fault kind) run spent is stops = record {
+    run = run_of (history ++ s.entries) used s.next;
+    within = record { count = count; is_run = run; over = subst IsOver (sym stops) tt; in_budget = omega arith };
+    kind_is = stops;
+    turn_is = omega arith;
+  }
+
+  module _ (history : List Entry) (stand : Stand) (playing : Playing) (left : ℕ) (r : Reached m script begun budget history stand playing left) where
+    pub goes_free : (moved : Moved) (new_playing : Playing) → Leads m script r.pending moved.entries moved.stand new_playing → Reached m script begun budget (history ++ moved.entries) moved.stand new_playing left
+    goes_free moved new_playing l = led moved.stand new_playing r.steps left r.used history moved.entries r.pending r.run r.spent l
 
     -- where it stands before a step
-    standing_run : (config : Config) → r.pending ≡ stepped [] (Goes_on config) → run_from (program_of m script) all_one begun r.steps ≡ run_of r.history r.used (Goes_on config)
+    standing_run : (config : Config) → r.pending ≡ stepped [] (Goes_on config) → run_from (program_of m script) all_one begun r.steps ≡ run_of history r.used (Goes_on config)
     standing_run config is =
         r.run
-        ∙ ap (λ (t : Stepped). run_of (r.history ++ t.entries) r.used t.next) is
-        ∙ ap (λ es. run_of es r.used (Goes_on config)) (append-nil r.history)
+        ∙ ap (λ (t : Stepped). run_of (history ++ t.entries) r.used t.next) is
+        ∙ ap (λ es. run_of es r.used (Goes_on config)) (append-nil history)
 
     pub spends : (config : Config) → left ≡ 0 → r.pending ≡ stepped [] (Goes_on config) → IsSpent (run_from (program_of m script) all_one begun) all_one budget
     spends config none is =
@@ -116,63 +120,38 @@ module _ (m : Module) (script : Script) (begun : Stepped) (budget : ℕ) where
           wants = omega arith;
         }
 
-    pub goes_step : (new_told : Journaled) (next : Stand) (new_playing : Playing) (now : ℕ) → now + 1 ≡ left → MakesStep m script r.pending told new_told (Ok next) new_playing → Reached m script begun budget new_told next new_playing now
-    goes_step new_told next new_playing now one made =
+    pub goes_step : (moved : Moved) (new_playing : Playing) (now : ℕ) → now + 1 ≡ left → MakesStep m script r.pending (Ok moved) new_playing → Reached m script begun budget (history ++ moved.entries) moved.stand new_playing now
+    goes_step moved new_playing now one made =
         let spent : r.used + left ≡ budget = r.spent in
-        led told new_told next new_playing (suc r.steps) now (r.used + 1) r.history (step (program_of m script) made.config)
-        (one_more (program_of m script) begun r.steps r.history r.used made.config (standing_run made.config made.standing)) (omega arith) r.text r.count made.leads
+        led moved.stand new_playing (suc r.steps) now (r.used + 1) history moved.entries (step (program_of m script) made.config)
+        (one_more (program_of m script) begun r.steps history r.used made.config (standing_run made.config made.standing)) (omega arith) made.leads
 
-    pub step_fails : (new_told : Journaled) (refusal : Refusal) (new_playing : Playing) (now : ℕ) (turn : ℕ) → now + 1 ≡ left → turn + now ≡ budget
-        → MakesStep m script r.pending told new_told (Err refusal) new_playing → Refuses (program_of m script) begun budget (refused refusal turn)
-    step_fails new_told unmade.Memory new_playing now turn one is made = tt
-    step_fails new_told (unmade.Fault kind) new_playing now turn one is made =
+    pub step_fails : (refusal : Refusal) (new_playing : Playing) (now : ℕ) (turn : ℕ) → now + 1 ≡ left → turn + now ≡ budget
+        → MakesStep m script r.pending (Err refusal) new_playing → Refuses (program_of m script) begun budget (refused refusal turn)
+    step_fails refusal new_playing now turn one is made =
         let spent : r.used + left ≡ budget = r.spent in
-        let s : Stepped = step (program_of m script) made.config in
-        let run = one_more (program_of m script) begun r.steps r.history r.used made.config (standing_run made.config made.standing) in
-        record {
-          run = run_of (r.history ++ s.entries) (r.used + 1) s.next;
-          within = record {
-            count = suc r.steps;
-            is_run = run;
-            over = subst IsOver (sym made.leads) tt;
-            in_budget = omega arith;
-          };
-          kind_is = made.leads;
-          turn_is = omega arith;
-        }
+        stopped (suc r.steps) now (r.used + 1) turn history (step (program_of m script) made.config) refusal
+        (one_more (program_of m script) begun r.steps history r.used made.config (standing_run made.config made.standing)) (omega arith) is made.leads
 
     -- without a turn only want of memory stops a run, or a fault of the script that there is not
-    pub free_fails : (new_told : Journaled) (refusal : Refusal) (new_playing : Playing) (turn : ℕ) → turn + left ≡ budget
-        → LeadsBy m script r.pending told new_told (Err refusal) new_playing → Refuses (program_of m script) begun budget (refused refusal turn)
-    free_fails new_told unmade.Memory new_playing turn is leads = tt
-    free_fails new_told (unmade.Fault kind) new_playing turn is leads =
+    pub free_fails : (refusal : Refusal) (new_playing : Playing) (turn : ℕ) → turn + left ≡ budget
+        → LeadsBy m script r.pending (Err refusal) new_playing → Refuses (program_of m script) begun budget (refused refusal turn)
+    free_fails refusal new_playing turn is leads = stopped r.steps left r.used turn history r.pending refusal r.run r.spent is leads
+
+  -- the run is over by an outcome
+  module _ (outcome : Outcome) (history : List Entry) (playing : Playing) (left : ℕ) (r : Reached m script begun budget history (at.Over outcome) playing left) where
+    abbrev pub whole : Run
+    whole = run_of history r.used (Finished outcome)
+
+    pub over_within : IsOverWithin (run_from (program_of m script) all_one begun) budget whole
+    over_within =
         let spent : r.used + left ≡ budget = r.spent in
         record {
-          run = run_of (r.history ++ r.pending.entries) r.used r.pending.next;
-          within = record { count = r.steps; is_run = r.run; over = subst IsOver (sym leads) tt; in_budget = omega arith };
-          kind_is = leads;
-          turn_is = omega arith;
-        }
-
-  -- the run is over by an outcome, and all is told
-  pub over : (outcome : Outcome) (told : Journaled) (playing : Playing) (left : ℕ) → Reached m script begun budget told (at.Over outcome) playing left
-      → (result : Told) → result.text ≡ told.text ++ line (outcome_text outcome) → result.entries ≡ told.entries → result.turns ≡ budget - left → result.outcome ≡ outcome
-      → TellsRun (program_of m script) begun budget result
-  over outcome told playing left r result text entries turns outcome_is =
-      let spent : r.used + left ≡ budget = r.spent in
-      record {
-        run = run_of r.history r.used (Finished outcome);
-        within = record {
           count = r.steps;
           is_run =
               r.run
-              ∙ ap (λ (t : Stepped). run_of (r.history ++ t.entries) r.used t.next) r.standing.goes_on
-              ∙ ap (λ es. run_of es r.used (Finished outcome)) (append-nil r.history);
+              ∙ ap (λ (t : Stepped). run_of (history ++ t.entries) r.used t.next) r.standing.goes_on
+              ∙ ap (λ es. run_of es r.used (Finished outcome)) (append-nil history);
           over = tt;
           in_budget = omega arith;
-        };
-        outcome = ap (λ o. Finished o) (sym outcome_is);
-        text = text ∙ ap (λ t. t ++ line (outcome_text outcome)) r.text ∙ ap (λ o. lines r.history ++ line (outcome_text o)) (sym outcome_is);
-        entries = entries ∙ r.count;
-        turns = omega arith;
-      }
+        }

@@ -3,12 +3,14 @@ use Rattle.std.proofs.Common.{◌≡◌, ℕ, suc, zero, ◌≤◌, List, [], �
 use Rattle.std.specs.Prelude.{nat_lt, IfSome, Result, Ok, replicate}
 use Rattle.host_script.specs.declared.scripts.LinkFault.{LinkFault}
 use Rattle.std.proofs.lemmas.Bool.{ltb-false}
+use Rattle.wasm_syntax.specs.declared.values.Val.{Val}
+use Rattle.wasm_syntax.specs.declared.signatures.FuncType.{FuncType}
 use Rattle.wasm_syntax.specs.declared.modules.Module.{Module}
 use Rattle.wasm_syntax.specs.Index.{imported_funcs}
 use Rattle.wasm_syntax.specs.Validity.{IsStart}
 use Rattle.host_script.specs.declared.scripts.Script.{Script}
 use Rattle.history_spec.specs.declared.entries.Entry.TheVariants.{HostCall}
-use Rattle.history_spec.specs.Code.{code_of}
+use Rattle.history_spec.specs.Code.{code_of, signature}
 use Rattle.history_spec.specs.Configuration.{InModule, InMain}
 use Rattle.history_spec.specs.Settle.{settle}
 use Rattle.history_spec.specs.Store.{Store}
@@ -18,37 +20,44 @@ use Rattle.type_safety.specs.Heights.{Heights}
 use Rattle.type_safety.specs.Stores.{func_count}
 use Rattle.type_safety.specs.Values.{AreValues}
 use Rattle.host_actions.specs.Ready.{AreOf}
-use Rattle.wasm_interp.specs.Running.{IsRun}
-use Rattle.wasm_interp.specs.State.{StandsFor}
+use Rattle.wasm_interp.specs.Running.{IsCallable, IsRun}
+use Rattle.wasm_interp.specs.State.{IsAtHost, StandsFor}
+use Rattle.host_play.specs.declared.deeds.Deed.{Deed}
 use Rattle.host_play.specs.declared.playing.Host.TheVariants as host
-use Rattle.host_play.specs.declared.playing.Stand.{Stand}
 use Rattle.host_play.specs.declared.playing.Stand.TheVariants as at
 use Rattle.host_play.specs.declared.playing.Playing.{Playing}
-use Rattle.host_play.specs.Beginning.{AtWork, Begins, BeginsAs, CallsStart}
+use Rattle.host_play.specs.Beginning.{AtWork, Begins, BeginsAs, CallsStart, CanBegin}
+use Rattle.host_play.specs.Deeds.{stand_behind, told_of}
 use Rattle.host_play.specs.Hosts.{Plays, kept}
 use Rattle.host_play.specs.Standing.{Leads}
-use Rattle.host_play.specs.Telling.{Journaled}
-use Rattle.host_play.proofs.Acting.{tells_none}
 
 pub kept_zeros : (n : ℕ) → replicate n 0 ≡ map kept (replicate n 0)
 kept_zeros zero = refl
 kept_zeros (suc n) = ap (λ xs. 0 ∷ xs) (kept_zeros n)
 
+-- the start function can be called
+pub can_begin : (m : Module) (first : Playing) → AreOf (code_of m) first.functions → IsAtHost first.machine.flat first.machine.frames
+    → ((func : ℕ) (ty : FuncType) (args : List Val) → imported_funcs m ≤ func → signature (code_of m) func ≡ Some ty → AreValues (func_count m) ty.params args → IsCallable first.machine.flat func args)
+    → (first_called : Option ℕ) → IfSome first_called (IsStart m) → CanBegin first first_called
+can_begin m first functions host callable None is = tt
+can_begin m first functions host callable (Some func) is = λ le. (
+  host,
+  callable func is.ty [] (subst (λ n. n ≤ func) (sym functions.imported) le) is.has_type (subst (λ ps. AreValues (func_count m) ps []) (sym is.params) tt),
+)
+
 module _ (m : Module) (script : Script) (store : Store) (heights : Heights) (is_run : IsRun m heights (program_of m script) (replicate (imported_funcs m) 0))
     (first : Playing) (stands : StandsFor m heights (InMain script.main ∷ []) first.machine) (same_store : first.machine.store ≡ store) (functions : AreOf (code_of m) first.functions)
     (hosts : first.hosts ≡ host.Main 0 ∷ []) (counted : first.counts.items ≡ map kept (replicate (imported_funcs m) 0))
-    (told : Journaled) (stand : Stand) (new : Playing) (new_told : Journaled) where
+    (did : Deed) (new : Playing) where
   plays : Plays script (InMain script.main ∷ []) first.hosts
   plays = subst (Plays script (InMain script.main ∷ [])) (sym hosts) (refl, refl, refl)
 
-  work_leads : AtWork first told stand new new_told → Leads m script (come_to_stand store (replicate (imported_funcs m) 0) (settle (InMain script.main ∷ []))) told new_told stand new
+  work_leads : AtWork first did new → Leads m script (come_to_stand store (replicate (imported_funcs m) 0) (settle (InMain script.main ∷ []))) (told_of did) (stand_behind did) new
   work_leads w =
       let next : Stepped = come_to_stand store (replicate (imported_funcs m) 0) (settle (InMain script.main ∷ [])) in
-      let here : Leads m script next told told at.Host first = record {
-        entries = [];
+      let here : Leads m script next [] at.Host first = record {
         next = next;
         same = refl;
-        tells = tells_none told;
         standing = record {
           heights = heights;
           counts = replicate (imported_funcs m) 0;
@@ -63,23 +72,20 @@ module _ (m : Module) (script : Script) (store : Store) (heights : Heights) (is_
           };
         };
       } in
-      subst (λ t. Leads m script next told t stand new) (sym w.same_told)
-      (subst (λ x. Leads m script next told told x new) (sym w.stands)
-      (subst (λ p. Leads m script next told told at.Host p) (sym w.same_playing) here))
+      subst (λ d. Leads m script next (told_of d) (stand_behind d) new) (sym w.stays)
+      (subst (λ p. Leads m script next [] at.Host p) (sym w.same_playing) here)
 
-  call_leads : (func : ℕ) → IsStart m func → imported_funcs m ≤ func → CallsStart func first told stand new new_told
-      → Leads m script (starts_with (program_of m script) false store (replicate (imported_funcs m) 0) func (InMain script.main ∷ [])) told new_told stand new
+  call_leads : (func : ℕ) → IsStart m func → imported_funcs m ≤ func → CallsStart func first did new
+      → Leads m script (starts_with (program_of m script) false store (replicate (imported_funcs m) 0) func (InMain script.main ∷ [])) (told_of did) (stand_behind did) new
   call_leads func is defined calls =
       let counts : List ℕ = replicate (imported_funcs m) 0 in
       let values : AreValues (func_count m) is.ty.params [] = subst (λ ps. AreValues (func_count m) ps []) (sym is.params) tt in
       let enters = calls.machine m heights counts (InMain script.main ∷ []) is.ty is_run.code tt stands defined is.has_type values in
       let next : Stepped = come_to_stand first.machine.store counts (settle (InModule enters.frame ∷ InMain script.main ∷ [])) in
       let s : Stepped = starts_with (program_of m script) false store counts func (InMain script.main ∷ []) in
-      let here : Leads m script s told new_told at.Module new = record {
-        entries = HostCall func [] ∷ [];
+      let here : Leads m script s (HostCall func [] ∷ []) at.Module new = record {
         next = next;
         same = ap (λ st. starts_with (program_of m script) false st counts func (InMain script.main ∷ [])) (sym same_store) ∙ ap (after_entries (HostCall func [] ∷ [])) enters.same;
-        tells = calls.tells;
         standing = record {
           heights = heights;
           counts = counts;
@@ -94,18 +100,18 @@ module _ (m : Module) (script : Script) (store : Store) (heights : Heights) (is_
           };
         };
       } in
-      subst (λ x. Leads m script s told new_told x new) (sym calls.stands) here
+      subst (λ d. Leads m script s (told_of d) (stand_behind d) new) (sym calls.calls) here
 
-  by_test : (func : ℕ) (b : Bool) → IsStart m func → nat_lt func (imported_funcs m) ≡ b → BeginsAs b func first told stand new new_told
-      → Leads m script (starts_with (program_of m script) b store (replicate (imported_funcs m) 0) func (InMain script.main ∷ [])) told new_told stand new
+  by_test : (func : ℕ) (b : Bool) → IsStart m func → nat_lt func (imported_funcs m) ≡ b → BeginsAs b func first did new
+      → Leads m script (starts_with (program_of m script) b store (replicate (imported_funcs m) 0) func (InMain script.main ∷ [])) (told_of did) (stand_behind did) new
   by_test func true is test begins = work_leads begins
   by_test func false is test begins = call_leads func is (ltb-false func (imported_funcs m) test) begins
 
-  pub start_leads : (first_called : Option ℕ) → IfSome first_called (IsStart m) → Begins first_called first told stand new new_told
-      → Leads m script (start (program_of m script) first_called store (replicate (imported_funcs m) 0) script.main) told new_told stand new
+  pub start_leads : (first_called : Option ℕ) → IfSome first_called (IsStart m) → Begins first_called first did new
+      → Leads m script (start (program_of m script) first_called store (replicate (imported_funcs m) 0) script.main) (told_of did) (stand_behind did) new
   start_leads None is begins = work_leads begins
   start_leads (Some func) is begins =
-      by_test func (nat_lt func (imported_funcs m)) is refl (subst (λ n. BeginsAs (nat_lt func n) func first told stand new new_told) (sym functions.imported) begins)
+      by_test func (nat_lt func (imported_funcs m)) is refl (subst (λ n. BeginsAs (nat_lt func n) func first did new) (sym functions.imported) begins)
 
 pub same_begun : {a b : Stepped} (r : Result Stepped LinkFault) → r ≡ Ok a → r ≡ Ok b → a ≡ b
 same_begun r first second = cc

@@ -1,7 +1,9 @@
 pub mod Arguments
+pub mod Deeds
 pub mod Beginning
 pub mod Hosts
 pub mod Telling
+pub mod Counting
 pub mod Standing
 pub mod Results
 pub mod Reached

@@ -15,12 +15,12 @@ use Rattle.flat_steps.specs.Follows.{AwaitsHost}
 use Rattle.host_actions.specs.Ready.{AreOf}
 use Rattle.wasm_interp.specs.State.{StandsFor}
 use Rattle.wasm_interp.specs.Running.{IsRun, config_of}
+use Rattle.host_play.specs.declared.deeds.Moved.{Moved}
 use Rattle.host_play.specs.declared.playing.Stand.{Stand}
 use Rattle.host_play.specs.declared.playing.Stand.TheVariants as at
 use Rattle.host_play.specs.declared.playing.Playing.{Playing}
 use Rattle.host_play.specs.declared.playing.Refusal.{Refusal}
 use Rattle.host_play.specs.declared.playing.Refusal.TheVariants as refusal
-use Rattle.host_play.specs.Telling.{Journaled, Tells}
 use Rattle.host_play.specs.Hosts.{Plays, kept}
 
 -- a stack of activations is that of the machine and of the host's own ones
@@ -70,12 +70,10 @@ pub record Standing (m : Module) (script : Script) (stand : Stand) (playing : Pl
 abbrev pub IsPlayed : Script → Stand → Playing → Type 0
 IsPlayed script stand playing = (m : Module) × (s : Stepped) × Standing m script stand playing s
 
--- what followed without a turn was told, and the run goes on
-pub record Leads (m : Module) (script : Script) (s : Stepped) (told new_told : Journaled) (stand : Stand) (playing : Playing) : Type 0 where
-  pub entries : List Entry
+-- what follows without a turn has these entries, and the run goes on
+pub record Leads (m : Module) (script : Script) (s : Stepped) (entries : List Entry) (stand : Stand) (playing : Playing) : Type 0 where
   pub next : Stepped
   pub same : s ≡ after_entries entries next
-  pub tells : Tells told new_told entries
   pub standing : Standing m script stand playing next
 
 -- why the run does not go on
@@ -83,15 +81,15 @@ abbrev pub Stops : Refusal → Stepped → Type 0
 Stops (refusal.Fault kind) s = s.next ≡ Faulted kind
 Stops refusal.Memory s = Unit {0}
 
-abbrev pub LeadsBy : Module → Script → Stepped → (told new_told : Journaled) → Result Stand Refusal → Playing → Type 0
-LeadsBy m script s told new_told (Ok stand) playing = Leads m script s told new_told stand playing
-LeadsBy m script s told new_told (Err refused) playing = Stops refused s
+abbrev pub LeadsBy : Module → Script → Stepped → Result Moved Refusal → Playing → Type 0
+LeadsBy m script s (Ok moved) playing = Leads m script s moved.entries moved.stand playing
+LeadsBy m script s (Err refused) playing = Stops refused s
 
--- a step was made, and what followed without a turn
-pub record MakesStep (m : Module) (script : Script) (s : Stepped) (told new_told : Journaled) (result : Result Stand Refusal) (playing : Playing) : Type 0 where
+-- a step is made, and what follows without a turn
+pub record MakesStep (m : Module) (script : Script) (s : Stepped) (result : Result Moved Refusal) (playing : Playing) : Type 0 where
   pub config : Config
   pub standing : s ≡ stepped [] (Goes_on config)
-  pub leads : LeadsBy m script (step (program_of m script) config) told new_told result playing
+  pub leads : LeadsBy m script (step (program_of m script) config) result playing
 
 -- how much a run may still do without a turn
 abbrev pub rest_at : Stand → (hosts : ℕ) → ℕ

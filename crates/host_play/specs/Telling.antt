@@ -17,3 +17,8 @@ pub record Journaled : Type 0 where
 pub record Tells (old new : Journaled) (entries : List Entry) : Type 0 where
   pub lines_are : new.text ≡ old.text ++ lines entries
   pub count_is : new.entries ≡ old.entries + length entries
+
+-- all entries of a history are told
+pub record HasTold (told : Journaled) (history : List Entry) : Type 0 where
+  pub text_is : told.text ≡ lines history
+  pub entries_are : told.entries ≡ length history

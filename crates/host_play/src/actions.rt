@@ -1,32 +1,30 @@
 // What the host does: its next action, and the end of an answer.
 
-ghost use Rattle.std.specs.Prelude.{◌≡◌, ℕ, ◌+◌, ◌^◌, ◌<◌, [], ◌∷◌, Some, None, IfOk, OnOk, option_to_list};
+ghost use Rattle.std.specs.Prelude.{◌≡◌, ℕ, ◌+◌, ◌^◌, ◌<◌, Some, None, IfOk, OnOk};
 ghost use Rattle.wasm_syntax.specs.declared.modules.Module.{Module};
 ghost use Rattle.wasm_syntax.specs.declared.values.Val.{Val};
 ghost use Rattle.history_spec.specs.Code.{Code};
 ghost use Rattle.history_spec.specs.Step.{Stepped};
-ghost use Rattle.history_spec.specs.declared.entries.Entry.TheVariants as entry;
 ghost use Rattle.host_actions.specs.Does.{Does, args_in};
 ghost use Rattle.host_actions.specs.Ready.{AreAddresses, AreOf, IsReady};
 ghost use Rattle.wasm_interp.specs.Lending.{with_store};
-ghost use Rattle.wasm_interp.specs.Running.{InvokesRun, IsCallable, ResumesRun};
-ghost use Rattle.wasm_interp.specs.State.{IsAtHost, IsWaiting};
+ghost use Rattle.wasm_interp.specs.Running.{InvokesRun, IsCallable};
+ghost use Rattle.wasm_interp.specs.State.{IsAtHost};
 ghost use Rattle.host_play.specs.Arguments.{AreKnown, AreRead, IsKnown, IsRead};
+ghost use Rattle.host_play.specs.Deeds.{by_host, stand_behind, told_of};
 ghost use Rattle.host_play.specs.Hosts.{action_at, next_of, top_of};
-ghost use Rattle.host_play.specs.Standing.{IsPlayed, LeadsBy, MakesStep, Standing, rest};
-ghost use Rattle.host_play.specs.Telling.{Tells};
+ghost use Rattle.host_play.specs.Standing.{IsPlayed, Leads, MakesStep, Standing, rest};
 
-use crate::journal::Journal;
+use crate::deeds::Deed;
 use crate::playing::{Host, Playing, Refusal, Stand};
 use crate::responses::response_to;
-use history_spec::{Entry, Outcome};
 use host_actions::{ActFault, Addresses, Done, Functions, act as do_act, fitting_actions};
 use host_script::{Action, Address, ResponseEnd, Script};
 use no_memory::NoMemory;
 use std::alloc::Global;
 use type_safety::rules_hold;
 use wasm_interp::{Machine, calls_are_ready, hosts_go_on};
-use wasm_syntax::{List, Val, Vals};
+use wasm_syntax::{List, Vals};
 
 /// An address, without wrapping; an argument that it names is that of the call that is answered.
 fn resolved(machine: &Machine, address: Address) -> u64
@@ -72,19 +70,12 @@ fn change(
 }
 
 /// Calls a function of the module.
-pub(crate) fn call(
-    machine: &mut Machine,
-    journal: &mut Journal,
-    func: u32,
-    args: Vals,
-) -> Result<(), NoMemory>
+pub(crate) fn call(machine: &mut Machine, func: u32, args: &Vals) -> Result<(), NoMemory>
     requires host { IsAtHost machine.old.flat machine.old.frames }
-    requires callable { IsCallable machine.old.flat func args }
-    ensures tells { OnOk result (Tells journal.old journal.new (entry.HostCall func args ∷ [])) }
-    ensures run { OnOk result (InvokesRun machine.old func args machine.new) }
+    requires callable { IsCallable machine.old.flat func args.now }
+    ensures { OnOk result (InvokesRun machine.old func args.now machine.new) }
 {
     machine.invoke(func, args.as_slice())?;
-    journal.tell(&Entry::HostCall { func, args })?;
     Ok(())
 }
 
@@ -99,56 +90,21 @@ fn args_of(alloc: Global, action: &Action) -> Result<Vals, NoMemory>
     }
 }
 
-/// Gives the result of a call of an import.
-fn give(
-    alloc: Global,
-    machine: &mut Machine,
-    journal: &mut Journal,
-    import: u32,
-    value: Option<Val>,
-) -> Result<(), NoMemory>
-    requires { IsWaiting machine.old.flat machine.old.frames }
-    ensures tells { OnOk result (Tells journal.old journal.new (entry.ImportReturn import (option_to_list value) ∷ [])) }
-    ensures run { OnOk result (ResumesRun machine.old value machine.new) }
-{
-    let entry = Entry::ImportReturn {
-        import,
-        results: results_of(alloc, value)?,
-    };
-    journal.tell(&entry)?;
-    machine.resume(value);
-    Ok(())
-}
-
-/// A result as a list.
-fn results_of(alloc: Global, value: Option<Val>) -> Result<Vals, NoMemory>
-    ensures { IfOk result (λ results. results ≡ option_to_list value) }
-{
-    match value {
-        None => Ok(List::new(alloc)),
-        Some(value) => {
-            let mut results = Vec::with_capacity(alloc, 1)?;
-            results.push_reserved(value);
-            Ok(List::from_vec(results))
-        }
-    }
-}
-
 /// The host's next action.
 pub(crate) fn act(
     script: &Script,
     alloc: Global,
     playing: &mut Playing,
-    journal: &mut Journal,
     top: Host,
     action: &Action,
-) -> Result<Stand, Refusal>
+) -> Result<Deed, Refusal>
     requires played { IsPlayed script.now Stand.Host playing.old }
     requires top { top_of playing.old.hosts ≡ Some top }
     requires next { action_at script.now top ≡ Some action.now }
     requires small { next_of top < 2 ^ 63 }
-    ensures makes { (m : Module) (s : Stepped) → Standing m script.now Stand.Host playing.old s → MakesStep m script.now s journal.old journal.new result playing.new }
-    ensures less { IfOk result (λ stand. rest stand playing.new < rest Stand.Host playing.old + 4) }
+    ensures makes { (m : Module) (s : Stepped) → Standing m script.now Stand.Host playing.old s → MakesStep m script.now s (by_host result) playing.new }
+    ensures counts { playing.new.counts.items ≡ playing.old.counts.items }
+    ensures less { IfOk result (λ deed. rest (stand_behind deed) playing.new < rest Stand.Host playing.old + 4) }
 {
     rules_hold();
     calls_are_ready();
@@ -160,17 +116,17 @@ pub(crate) fn act(
         Ok(done) => match done {
             Done::Changed => {
                 playing.hosts.put(top.behind_action());
-                Ok(Stand::Host)
+                Ok(Deed::Stays)
             }
             Done::Enters { func } => {
                 let Ok(args) = args_of(alloc, action) else {
                     return Err(Refusal::Memory);
                 };
-                let Ok(()) = call(&mut playing.machine, journal, func, args) else {
+                let Ok(()) = call(&mut playing.machine, func, &args) else {
                     return Err(Refusal::Memory);
                 };
                 playing.hosts.put(top.behind_action());
-                Ok(Stand::Module)
+                Ok(Deed::Calls { func, args })
             }
         },
         Err(fault) => match fault {
@@ -181,44 +137,28 @@ pub(crate) fn act(
 }
 
 /// The end of what the topmost activation of the host has to do.
-pub(crate) fn end(
-    script: &Script,
-    alloc: Global,
-    playing: &mut Playing,
-    journal: &mut Journal,
-    top: Host,
-) -> Result<Stand, Refusal>
+pub(crate) fn end(script: &Script, playing: &mut Playing, top: Host) -> Deed
     requires played { IsPlayed script.now Stand.Host playing.old }
     requires top { top_of playing.old.hosts ≡ Some top }
     requires done { action_at script.now top ≡ None }
-    ensures leads { (m : Module) (s : Stepped) → Standing m script.now Stand.Host playing.old s → LeadsBy m script.now s journal.old journal.new result playing.new }
-    ensures less { IfOk result (λ stand. rest stand playing.new < rest Stand.Host playing.old) }
+    ensures leads { (m : Module) (s : Stepped) → Standing m script.now Stand.Host playing.old s → Leads m script.now s (told_of result) (stand_behind result) playing.new }
+    ensures counts { playing.new.counts.items ≡ playing.old.counts.items }
+    ensures less { rest (stand_behind result) playing.new < rest Stand.Host playing.old }
 {
     calls_are_ready();
     hosts_go_on();
     match top {
-        Host::Main { .. } => Ok(Stand::Over {
-            outcome: Outcome::Ended,
-        }),
+        Host::Main { .. } => Deed::Ends,
         Host::Answer { import, number, .. } => {
             let Some(response) = response_to(script, import, number) else {
                 unreachable!();
             };
             match response.end {
-                ResponseEnd::Trap => {
-                    let Ok(()) = journal.tell(&Entry::HostTrap) else {
-                        return Err(Refusal::Memory);
-                    };
-                    Ok(Stand::Over {
-                        outcome: Outcome::HostTrapped,
-                    })
-                }
+                ResponseEnd::Trap => Deed::Traps,
                 ResponseEnd::Return(value) => {
-                    let Ok(()) = give(alloc, &mut playing.machine, journal, import, value) else {
-                        return Err(Refusal::Memory);
-                    };
+                    playing.machine.resume(value);
                     playing.hosts.pop();
-                    Ok(Stand::Module)
+                    Deed::Returns { import, value }
                 }
             }
         }

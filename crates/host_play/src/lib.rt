@@ -3,14 +3,18 @@
 #![tactic(auto)]
 
 mod actions;
+pub mod deeds;
 pub mod journal;
 mod modules;
 pub mod playing;
 mod plays;
 mod responses;
 pub mod results;
+mod runs;
+mod starts;
+mod steps;
 mod tells;
 
 pub use no_memory::NoMemory;
-pub use plays::{Play, tell};
-pub use results::{PlayFault, Told};
+pub use plays::{Play, run, tell};
+pub use results::{Counts, PlayFault, Played, Told};

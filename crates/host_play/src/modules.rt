@@ -6,7 +6,7 @@ ghost use Rattle.history_spec.specs.Step.{Stepped};
 ghost use Rattle.host_play.specs.Hosts.{Begins, BeginsBy};
 ghost use Rattle.host_play.specs.Standing.{IsPlayed, LeadsBy, MakesStep, Standing, rest};
 
-use crate::journal::Journal;
+use crate::deeds::Moved;
 use crate::playing::{Host, Hosts, Playing, Refusal, Stand};
 use crate::responses::response_to;
 use flat_steps::stores_fit;
@@ -15,47 +15,57 @@ use host_script::Script;
 use wasm_interp::Pause;
 
 /// Makes the returns that are due.
-pub(crate) fn settle(
-    script: &Script,
-    playing: &mut Playing,
-    journal: &mut Journal,
-) -> Result<Stand, Refusal>
+pub(crate) fn settle(script: &Script, playing: &mut Playing) -> Result<Moved, Refusal>
     requires { IsPlayed script.now Stand.Module playing.old }
-    ensures leads { (m : Module) (s : Stepped) → Standing m script.now Stand.Module playing.old s → LeadsBy m script.now s journal.old journal.new result playing.new }
-    ensures less { IfOk result (λ stand. rest stand playing.new < rest Stand.Module playing.old) }
+    ensures leads { (m : Module) (s : Stepped) → Standing m script.now Stand.Module playing.old s → LeadsBy m script.now s result playing.new }
+    ensures less { IfOk result (λ moved. rest moved.stand playing.new < rest Stand.Module playing.old) }
 {
     let _script = script;
     let turn = playing.machine.settle()?;
-    journal.tell_all(turn.entries.as_slice())?;
+    let entries = turn.entries;
     match turn.pause {
-        None => Ok(Stand::Instruction),
-        Some(_) => Ok(Stand::Host),
+        None => Ok(Moved {
+            stand: Stand::Instruction,
+            entries,
+        }),
+        Some(_) => Ok(Moved {
+            stand: Stand::Host,
+            entries,
+        }),
     }
 }
 
 /// The next instruction.
-pub(crate) fn turn(
-    script: &Script,
-    playing: &mut Playing,
-    journal: &mut Journal,
-) -> Result<Stand, Refusal>
+pub(crate) fn turn(script: &Script, playing: &mut Playing) -> Result<Moved, Refusal>
     requires { IsPlayed script.now Stand.Instruction playing.old }
-    ensures makes { (m : Module) (s : Stepped) → Standing m script.now Stand.Instruction playing.old s → MakesStep m script.now s journal.old journal.new result playing.new }
-    ensures less { IfOk result (λ stand. rest stand playing.new < rest Stand.Instruction playing.old + 4) }
+    ensures makes { (m : Module) (s : Stepped) → Standing m script.now Stand.Instruction playing.old s → MakesStep m script.now s result playing.new }
+    ensures less { IfOk result (λ moved. rest moved.stand playing.new < rest Stand.Instruction playing.old + 4) }
 {
     stores_fit();
     let turn = playing.machine.turn()?;
-    journal.tell_all(turn.entries.as_slice())?;
+    let entries = turn.entries;
     match turn.pause {
-        None => Ok(Stand::Instruction),
+        None => Ok(Moved {
+            stand: Stand::Instruction,
+            entries,
+        }),
         Some(pause) => match pause {
-            Pause::Returned => Ok(Stand::Host),
-            Pause::Trapped => Ok(Stand::Over {
-                outcome: Outcome::Trapped,
+            Pause::Returned => Ok(Moved {
+                stand: Stand::Host,
+                entries,
+            }),
+            Pause::Trapped => Ok(Moved {
+                stand: Stand::Over {
+                    outcome: Outcome::Trapped,
+                },
+                entries,
             }),
             Pause::Import { index } => {
                 match begin_answer(script, &mut playing.hosts, &mut playing.counts, index) {
-                    Ok(()) => Ok(Stand::Host),
+                    Ok(()) => Ok(Moved {
+                        stand: Stand::Host,
+                        entries,
+                    }),
                     Err(refused) => Err(refused),
                 }
             }
@@ -66,7 +76,7 @@ pub(crate) fn turn(
 
 /// The host begins to answer a call of an import. The response is that of the call's number, counted
 /// from 0 for each import.
-fn begin_answer(
+pub(crate) fn begin_answer(
     script: &Script,
     hosts: &mut Hosts,
     counts: &mut Vec<u64>,

@@ -7,7 +7,7 @@ use history_spec::{FaultKind, Outcome};
 use no_memory::NoMemory;
 use std::alloc::AllocError;
 use thiserror::Error;
-use wasm_syntax::Bytes;
+use wasm_syntax::{Bytes, List};
 
 /// A run that has an outcome: the lines of its history and of its outcome, how many entries the history has,
 /// and how many turns it took.
@@ -17,6 +17,19 @@ pub struct Told {
     pub entries: u64,
     pub turns: u64,
     pub outcome: Outcome,
+}
+
+/// A count for each import.
+pub type Counts = List<u64>;
+
+/// A run that has an outcome, without its history: how many turns it took, how many calls of each
+/// import it has, and how many by the host. A count stays at 2^64 - 1 once it is there.
+#[derive(Debug, Drop)]
+pub struct Played {
+    pub outcome: Outcome,
+    pub turns: u64,
+    pub imports: Counts,
+    pub calls: u64,
 }
 
 /// Why a run has no outcome.

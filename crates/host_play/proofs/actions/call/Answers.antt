@@ -2,5 +2,5 @@ use Rattle.std.proofs.Common.{subst}
 use Rattle.wasm_interp.specs.Running.{InvokesRun}
 use Rattle.host_play.proofs.actions.call.Goals as goal
 
-pub returns-clause-run : goal.returns-clause-run
-returns-clause-run c = subst (λ args. InvokesRun c.args.machine.now c.args.func args c.invoke.new.self) c.as_slice.ensures c.in_ok-invoke.ensures.run
+pub returns : goal.returns
+returns c = subst (λ args. InvokesRun c.args.machine.now c.args.func args c.invoke.new.self) c.as_slice.ensures c.in_ok-invoke.ensures.run

@@ -1,19 +1,18 @@
-use Rattle.std.proofs.Common.{Some, ap, ◌∙◌, refl, subst}
-use Rattle.host_play.specs.Telling.{Tells}
+use Rattle.std.proofs.Common.{Some, ap, ◌∙◌, refl}
 use Rattle.host_play.proofs.Turning.{turn_at_instruction, turn_at_host, turn_at_trap, counted_import, import_begins, no_response}
 use Rattle.host_play.proofs.modules.turn.Goals as goal
 
 pub returns-in-None-clause-makes : goal.returns-in-None-clause-makes
 returns-in-None-clause-makes c = λ m s standing.
-    turn_at_instruction m c.args.script.now s c.args.playing.now c.turn.new.self c.in_ok-turn.turn standing c.in_ok-turn.ensures.run c.args.journal.now c.tell_all.new.self (subst (Tells c.args.journal.now c.tell_all.new.self) c.as_slice.ensures c.in_ok-tell_all.ensures) c.in-None.is
+    turn_at_instruction m c.args.script.now s c.args.playing.now c.turn.new.self c.in_ok-turn.turn standing c.in_ok-turn.ensures.run c.in-None.is
 
 pub returns-in-Returned-clause-makes : goal.returns-in-Returned-clause-makes
 returns-in-Returned-clause-makes c = λ m s standing.
-    turn_at_host m c.args.script.now s c.args.playing.now c.turn.new.self c.in_ok-turn.turn standing c.in_ok-turn.ensures.run c.args.journal.now c.tell_all.new.self (subst (Tells c.args.journal.now c.tell_all.new.self) c.as_slice.ensures c.in_ok-tell_all.ensures) (c.in-Some.is ∙ ap (λ p. Some p) c.in-Returned.is)
+    turn_at_host m c.args.script.now s c.args.playing.now c.turn.new.self c.in_ok-turn.turn standing c.in_ok-turn.ensures.run (c.in-Some.is ∙ ap (λ p. Some p) c.in-Returned.is)
 
 pub returns-in-Trapped-clause-makes : goal.returns-in-Trapped-clause-makes
 returns-in-Trapped-clause-makes c = λ m s standing.
-    turn_at_trap m c.args.script.now s c.args.playing.now c.turn.new.self c.in_ok-turn.turn standing c.in_ok-turn.ensures.run c.args.journal.now c.tell_all.new.self (subst (Tells c.args.journal.now c.tell_all.new.self) c.as_slice.ensures c.in_ok-tell_all.ensures) (c.in-Some.is ∙ ap (λ p. Some p) c.in-Trapped.is)
+    turn_at_trap m c.args.script.now s c.args.playing.now c.turn.new.self c.in_ok-turn.turn standing c.in_ok-turn.ensures.run (c.in-Some.is ∙ ap (λ p. Some p) c.in-Trapped.is)
 
 pub begin_answer-requires : goal.begin_answer-requires
 begin_answer-requires c =
@@ -21,9 +20,9 @@ begin_answer-requires c =
 
 pub returns-in-Ok-clause-makes : goal.returns-in-Ok-clause-makes
 returns-in-Ok-clause-makes c = λ m s standing.
-    import_begins m c.args.script.now s c.args.playing.now c.turn.new.self c.in_ok-turn.turn standing c.in_ok-turn.ensures.run c.in-Import.index (c.in-Some.is ∙ ap (λ p. Some p) c.in-Import.is) c.args.journal.now c.tell_all.new.self
-    c.begin_answer.new.hosts _ (subst (Tells c.args.journal.now c.tell_all.new.self) c.as_slice.ensures c.in_ok-tell_all.ensures) refl refl refl c.in-Ok.ensures
+    import_begins m c.args.script.now s c.args.playing.now c.turn.new.self c.in_ok-turn.turn standing c.in_ok-turn.ensures.run c.in-Import.index (c.in-Some.is ∙ ap (λ p. Some p) c.in-Import.is)
+    c.begin_answer.new.hosts _ refl refl refl c.in-Ok.ensures
 
-pub returns-in-Import-clause-makes : goal.returns-in-Import-clause-makes
-returns-in-Import-clause-makes c = λ m s standing.
-    no_response m c.args.script.now s c.args.playing.now c.turn.new.self c.in_ok-turn.turn standing c.in_ok-turn.ensures.run c.in-Import.index (c.in-Some.is ∙ ap (λ p. Some p) c.in-Import.is) c.in-Err.refused c.args.journal.now c.tell_all.new.self _ c.in-Err.ensures
+pub returns-in-Err-clause-makes : goal.returns-in-Err-clause-makes
+returns-in-Err-clause-makes c = λ m s standing.
+    no_response m c.args.script.now s c.args.playing.now c.turn.new.self c.in_ok-turn.turn standing c.in_ok-turn.ensures.run c.in-Import.index (c.in-Some.is ∙ ap (λ p. Some p) c.in-Import.is) c.in-Err.refused _ c.in-Err.ensures

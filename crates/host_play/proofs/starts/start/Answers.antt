@@ -1,0 +1,54 @@
+use Rattle.std.proofs.Common.{◌≡◌, ◌∷◌, [], refl, sym, subst, ap, ◌∙◌}
+use Rattle.std.specs.Prelude.{map, replicate, false}
+use Rattle.std.proofs.lemmas.List.{length-replicate}
+use Rattle.wasm_syntax.specs.Index.{imported_funcs}
+use Rattle.history_spec.specs.Code.{code_of}
+use Rattle.history_spec.specs.Configuration.{InMain}
+use Rattle.history_spec.specs.Run.{program_of}
+use Rattle.type_safety.specs.Configurations.{IsTypedCode}
+use Rattle.host_actions.specs.Ready.{AreOf}
+use Rattle.wasm_flat.specs.declared.code.Flat.{Flat}
+use Rattle.wasm_flat.specs.FlatCode.{flat_of}
+use Rattle.wasm_interp.specs.State.{StandsFor, State, state}
+use Rattle.wasm_interp.specs.Running.{IsRun}
+use Rattle.host_play.specs.Hosts.{kept}
+use Rattle.host_play.proofs.Starting.{can_begin, kept_zeros, start_leads}
+use Rattle.host_play.proofs.starts.start.Goals as goal
+
+pub begin-requires : goal.begin-requires
+begin-requires c =
+    let found = c.typed_code.ensures.heights c.args.module.now c.requires.valid in
+    let first = c.in_ok-playing.playing in
+    let machine : first.machine ≡ state (flat_of c.args.module.now) c.args.store [] [] false = c.in_ok-playing.ensures.machine ∙ ap (λ flat. state flat c.args.store [] [] false) c.requires.flat in
+    let stands : StandsFor c.args.module.now found.0 (InMain c.args.script.now.main ∷ []) first.machine =
+    subst (StandsFor c.args.module.now found.0 (InMain c.args.script.now.main ∷ [])) (sym machine) (c.hosts_go_on.ensures.begins c.args.module.now found.0 c.args.store c.args.script.now.main c.requires.store c.requires.fits.main) in
+    let functions : AreOf (code_of c.args.module.now) first.functions =
+    subst (AreOf (code_of c.args.module.now)) (sym (c.in_ok-playing.ensures.functions ∙ ap (λ (flat : Flat). record { types = flat.types; indices = flat.indices; imported = flat.imported }) c.requires.flat)) (record { types = refl; indices = refl; imported = refl }) in
+    can_begin c.args.module.now first functions
+    (c.calls_are_ready.ensures.host c.args.module.now found.0 (InMain c.args.script.now.main ∷ []) first.machine stands tt)
+    (λ func ty args. c.calls_are_ready.ensures.callable c.args.module.now found.0 (InMain c.args.script.now.main ∷ []) first.machine func ty args stands)
+    c.args.module.now.start c.requires.valid.outside.start
+
+pub returns-clause-leads : goal.returns-clause-leads
+returns-clause-leads c =
+    let found = c.typed_code.ensures.heights c.args.module.now c.requires.valid in
+    let typed : IsTypedCode c.args.module.now found.0 = c.typed_code.ensures.code c.args.module.now found.0 c.requires.valid c.requires.supported found.1 in
+    let is_run : IsRun c.args.module.now found.0 (program_of c.args.module.now c.args.script.now) (replicate (imported_funcs c.args.module.now) 0) = record {
+      valid = c.requires.valid;
+      code = typed;
+      fits = record { code = refl; answers = c.requires.fits.imports };
+      counted = length-replicate (imported_funcs c.args.module.now) 0;
+    } in
+    let first = c.in_ok-playing.playing in
+    let machine : first.machine ≡ state (flat_of c.args.module.now) c.args.store [] [] false = c.in_ok-playing.ensures.machine ∙ ap (λ flat. state flat c.args.store [] [] false) c.requires.flat in
+    let stands : StandsFor c.args.module.now found.0 (InMain c.args.script.now.main ∷ []) first.machine =
+    subst (StandsFor c.args.module.now found.0 (InMain c.args.script.now.main ∷ [])) (sym machine) (c.hosts_go_on.ensures.begins c.args.module.now found.0 c.args.store c.args.script.now.main c.requires.store c.requires.fits.main) in
+    let functions : AreOf (code_of c.args.module.now) first.functions =
+    subst (AreOf (code_of c.args.module.now)) (sym (c.in_ok-playing.ensures.functions ∙ ap (λ (flat : Flat). record { types = flat.types; indices = flat.indices; imported = flat.imported }) c.requires.flat)) (record { types = refl; indices = refl; imported = refl }) in
+    let counted : first.counts.items ≡ map kept (replicate (imported_funcs c.args.module.now) 0) =
+    c.in_ok-playing.ensures.counts ∙ ap (λ (flat : Flat). replicate flat.imported 0) c.requires.flat ∙ kept_zeros (imported_funcs c.args.module.now) in
+    start_leads c.args.module.now c.args.script.now c.args.store found.0 is_run first stands (ap (λ (m : State). m.store) machine) functions c.in_ok-playing.ensures.hosts counted c.in_ok-deed.deed c.begin.new.playing
+    c.args.module.now.start c.requires.valid.outside.start c.in_ok-deed.ensures.begins
+
+pub returns-clause-counts : goal.returns-clause-counts
+returns-clause-counts c = c.in_ok-deed.ensures.counts ∙ c.in_ok-playing.ensures.counts ∙ ap (λ (flat : Flat). replicate flat.imported 0) c.requires.flat
