@@ -25,7 +25,7 @@ use Rattle.host_script.specs.declared.scripts.Script.{Script}
 use Rattle.host_script.specs.declared.scripts.LinkFault.{LinkFault}
 use Rattle.host_script.specs.declared.scripts.LinkFault.TheVariants as link
 use Rattle.r3_history.specs.Histories as histories
-use Rattle.r3_history.specs.Histories.{IsHistoryRefusal, IsUntold, OfRun, OfLink, OfScript, link_fault}
+use Rattle.r3_history.specs.Histories.{IsHistoryRefusal, IsUntold, OfRun, OfLink}
 use Rattle.r3_core.specs.declared.words.Command.{Command}
 use Rattle.r3_core.specs.declared.words.Command.TheVariants.{Make, Instrument, Record, Reduce, Build, History, Replay, Show, Load}
 use Rattle.r3_core.specs.Words.{form, IsBehind, Says, IsListed, IsUnbuilt, files_of}
@@ -203,14 +203,14 @@ inputs-other : (module_bytes script_bytes : List ℕ) (fault : Fault) → AreRef
 inputs-other module_bytes script_bytes fault (ByModule refused) = module-other module_bytes fault refused
 inputs-other module_bytes script_bytes fault (ByScript m is refused) = named-other fault (script_fault refused.found) refused.named (script-other refused.found refused.differs)
 
-made-link-other : (found : LinkFault) → (found ≡ link.Memory → ⊥) → IsOther (status_of (unlinked.link_fault found))
-made-link-other (link.Missing import) differs = not-10
-made-link-other (link.Mismatch import) differs = not-10
-made-link-other (link.Segment number) differs = not-10
-made-link-other link.Memory differs = absurd (differs refl)
+link-other : (found : LinkFault) → (found ≡ link.Memory → ⊥) → IsOther (status_of (unlinked.link_fault found))
+link-other (link.Missing import) differs = not-10
+link-other (link.Mismatch import) differs = not-10
+link-other (link.Segment number) differs = not-10
+link-other link.Memory differs = absurd (differs refl)
 
 unmade-status : (m : Module) (played : Script) (turns : ℕ) (fault : Fault) → IsUnmade m played turns fault → IsOther (status_of fault)
-unmade-status m played turns fault (refusals.OfLink u) = named-other fault (unlinked.link_fault u.found) u.named (made-link-other u.found u.differs)
+unmade-status m played turns fault (refusals.OfLink u) = named-other fault (unlinked.link_fault u.found) u.named (link-other u.found u.differs)
 unmade-status m played turns fault (refusals.OfForm u) = named-other fault faults.NotBuilt u.named not-19
 unmade-status m played turns fault (refusals.OfRun built (runs.OfScript u)) = named-other fault (faults.Script u.turn u.kind) u.named not-11
 unmade-status m played turns fault (refusals.OfRun built (runs.OfTurns u)) = named-other fault (faults.Spent turns) u.named not-12
@@ -220,17 +220,11 @@ make-status : (module_bytes script_bytes : List ℕ) (turns : ℕ) (fault : Faul
 make-status m s turns fault (OfInputs refused) = inputs-other m s fault refused
 make-status m s turns fault (OfModule n played inputs unmade) = unmade-status n played turns fault unmade
 
-link-other : (found : LinkFault) → (found ≡ link.Memory → ⊥) → IsOther (status_of (link_fault found))
-link-other (link.Missing import) differs = not-10
-link-other (link.Mismatch import) differs = not-10
-link-other (link.Segment number) differs = not-10
-link-other link.Memory differs = absurd (differs refl)
-
 untold-status : (m : Module) (played : Script) (turns : ℕ) (fault : Fault) → IsUntold m played turns fault → IsOther (status_of fault)
-untold-status m played turns fault (OfLink u) = named-other fault (link_fault u.found) u.named (link-other u.found u.differs)
+untold-status m played turns fault (OfLink u) = named-other fault (unlinked.link_fault u.found) u.named (link-other u.found u.differs)
 untold-status m played turns fault (histories.OfForm u) = named-other fault faults.NotBuilt u.named not-19
-untold-status m played turns fault (OfScript u) = named-other fault (faults.Script u.turn u.kind) u.named not-11
-untold-status m played turns fault (histories.OfTurns u) = named-other fault (faults.Spent turns) u.named not-12
+untold-status m played turns fault (histories.OfOutcome flat (runs.OfScript u)) = named-other fault (faults.Script u.turn u.kind) u.named not-11
+untold-status m played turns fault (histories.OfOutcome flat (runs.OfTurns u)) = named-other fault (faults.Spent turns) u.named not-12
 
 history-status : (module_bytes script_bytes : List ℕ) (turns : ℕ) (fault : Fault) → IsHistoryRefusal module_bytes script_bytes turns fault → IsOther (status_of fault)
 history-status m s turns fault (histories.OfInputs refused) = inputs-other m s fault refused

@@ -6,7 +6,7 @@ use Rattle.host_script.specs.declared.scripts.Script.{Script}
 use Rattle.script_text.specs.Texts.{script_of_text}
 use Rattle.r3_faults.specs.declared.faults.Fault.{Fault}
 use Rattle.r3_faults.specs.declared.faults.Fault.TheVariants.{Memory}
-use Rattle.r3_inputs.specs.Inputs.{IsModuleOf, IsRefusedModule, IsRefusedScript, AreInputs, AreRefused, ByModule, ByScript}
+use Rattle.r3_inputs.specs.Inputs.{IsModuleOf, IsRefusedModule, IsRefusedScript, AreInputs, ByModule, ByScript}
 use Rattle.r3_history.specs.Histories.{IsHistory, IsHistoryOf, IsHistoryRefusal, OfInputs, OfRun, IsUntold}
 
 -- what holds of the error that is passed on

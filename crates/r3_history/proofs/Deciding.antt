@@ -1,17 +1,19 @@
 -- A run under a script has one answer.
-use Rattle.std.proofs.Common.{◌≡◌, ◌≢◌, ◌⊎◌, inl, inr, ℕ, List, Option, Bool, true, false, Result, Ok, Err, IfOk, IfErr, refl, sym, ◌∙◌, ap, subst}
+use Rattle.std.proofs.Common.{◌≡◌, ◌⊎◌, inl, inr, ℕ, List, Bool, true, false, Result, Ok, Err, IfOk, IfErr, sym, ◌∙◌, ap, subst}
 use Rattle.wasm_syntax.specs.declared.modules.Module.{Module}
 use Rattle.host_script.specs.declared.scripts.Script.{Script}
 use Rattle.host_script.specs.declared.scripts.LinkFault.{LinkFault}
 use Rattle.script_text.specs.Plain.{is_flat}
 use Rattle.history_spec.specs.Step.{Stepped, Progress, Goes_on, Finished, Faulted, Stuck}
-use Rattle.history_spec.specs.Run.{Run, Meter, all_one, program_of, opening, run_from}
+use Rattle.history_spec.specs.Run.{Run, all_one, program_of, opening, run_from}
 use Rattle.history_spec.specs.Budget as budget
 use Rattle.history_spec.specs.Budget.{IsResult, HasOneResultAtMost}
 use Rattle.history_spec.specs.Line.{history_text}
+use Rattle.accepted_runs.specs.Unlinked.{link_fault}
+use Rattle.accepted_runs.specs.Runs.{OfScript, OfTurns}
 use Rattle.r3_faults.specs.declared.faults.Fault.{Fault}
 use Rattle.r3_faults.specs.declared.faults.Fault.TheVariants.{NotBuilt, Memory, Script as ScriptFault, Spent}
-use Rattle.r3_history.specs.Histories.{IsHistoryOf, IsUntold, OfLink, OfForm, OfScript, OfTurns, link_fault}
+use Rattle.r3_history.specs.Histories.{IsHistoryOf, IsUntold, OfLink, OfForm, OfOutcome}
 
 -- an answer: the lines, or a fault
 abbrev Answer : Type 0
@@ -64,17 +66,17 @@ module _ (m : Module) (script : Script) (turns : ℕ) where
 
   history_answers : (text : List ℕ) → IsHistoryOf m script turns text → IsAnswer (Ok text)
   history_answers text h =
-      by_opening (Ok h.begun) true (Ok text) h.opens h.flat
-      (budget.Over h.run, h.within, ap Ok h.lines ∙ sym (ap (answer_at h.run) h.ends))
+      by_opening (Ok h.ends.begun) true (Ok text) h.ends.opens h.flat
+      (budget.Over h.run, h.ends.within, ap Ok h.lines ∙ sym (ap (answer_at h.run) h.ends.ends))
 
   untold_answers : (fault : Fault) → IsUntold m script turns fault → IsAnswer (Err fault)
   untold_answers fault (OfLink u) =
       subst (λ o. Answers m script turns o (is_flat script) (Err fault)) (sym u.unopened) (ap Err u.named)
   untold_answers fault (OfForm u) = by_opening (Ok u.begun) false (Err fault) u.opens u.calls (ap Err u.named)
-  untold_answers fault (OfScript u) =
-      by_opening (Ok u.begun) true (Err fault) u.opens u.flat
+  untold_answers fault (OfOutcome flat (OfScript u)) =
+      by_opening (Ok u.begun) true (Err fault) u.opens flat
       (budget.Over u.faulty.run, u.faulty.within, ap Err (u.named ∙ ap (λ turn. ScriptFault turn u.kind) (sym u.faulty.turn_is)) ∙ sym (ap (answer_at u.faulty.run) u.faulty.kind_is))
-  untold_answers fault (OfTurns u) = by_opening (Ok u.begun) true (Err fault) u.opens u.flat (budget.Spent, u.spent, ap Err u.named)
+  untold_answers fault (OfOutcome flat (OfTurns u)) = by_opening (Ok u.begun) true (Err fault) u.opens flat (budget.Spent, u.spent, ap Err u.named)
 
   module _ (one : (begun : Stepped) → HasOneResultAtMost (run_from (program_of m script) all_one begun) all_one turns) where
     answers_same : (a b : Answer) → IsAnswer a → IsAnswer b → a ≡ b

@@ -1,3 +1,2 @@
-mod Conditions
 mod Deciding
 mod Answered

@@ -6,6 +6,7 @@ ghost use Rattle.r3_faults.specs.declared.faults.Fault.TheVariants.{Memory};
 ghost use Rattle.r3_history.specs.Histories.{IsHistory, IsHistoryRefusal};
 
 use crate::telling::history_of;
+use accepted_runs::accepted_modules_run;
 use encoding_sizes::lists_of_encoding;
 use r3_faults::Fault;
 use r3_inputs::{module_of, script_of};
@@ -27,6 +28,7 @@ pub fn history(alloc: Global, module: &[u8], script: &[u8], turns: u64) -> Resul
         → IfOk result (λ bytes. bytes.items ≡ text) × IfErr result (λ fault. fault ≡ Memory) }
 {
     lists_of_encoding();
+    accepted_modules_run();
     let checked = module_of(alloc, module)?;
     let script = script_of(alloc, script, &checked)?;
     history_of(alloc, &checked, &script, turns)

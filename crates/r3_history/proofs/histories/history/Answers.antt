@@ -5,7 +5,6 @@ use Rattle.r3_faults.specs.declared.faults.Fault.TheVariants.{Memory}
 use Rattle.r3_inputs.specs.Inputs.{ByModule, ByScript}
 use Rattle.r3_history.specs.Histories.{IsHistoryRefusal, OfInputs, OfRun, IsUntold}
 use Rattle.r3_history.proofs.Answered.{passed, module-refused, script-refused-answer, run-refused, run-accepted}
-use Rattle.r3_history.proofs.Conditions.{supported_when_accepted, short_when_accepted}
 use Rattle.r3_history.proofs.histories.history.Goals as goal
 
 pub returns-in_err-checked-clause-cause : goal.returns-in_err-checked-clause-cause
@@ -27,12 +26,12 @@ returns-in_err-script-clause-refused c =
     script-refused-answer c.args.module.now c.args.script.now c.args.turns c.module_of.result c.module_of.ensures.refused c.module_of.ensures.accepted c.in_ok-checked.checked c.in_ok-checked.was c.script_of.result c.script_of.ensures.refused c.script_of.ensures.accepted c.in_err-script.field-0.0 c.in_err-script.was c.from_residual-in_err-script.result c.from_residual-in_err-script.ensures.1
 
 pub history_of-requires-clause-supported : goal.history_of-requires-clause-supported
-history_of-requires-clause-supported c = supported_when_accepted c.in_ok-checked.checked c.in_ok-checked.ensures.taken.accepted
+history_of-requires-clause-supported c = c.accepted_modules_run.ensures.supported c.in_ok-checked.checked c.in_ok-checked.ensures.taken.accepted
 
 pub history_of-requires-clause-short : goal.history_of-requires-clause-short
 history_of-requires-clause-short c =
     let taken = c.in_ok-checked.ensures.taken in
-    short_when_accepted c.in_ok-checked.checked taken.accepted (length c.args.module.now) c.requires (c.lists_of_encoding.ensures.within Core c.args.module.now c.in_ok-checked.checked taken.encoded)
+    c.accepted_modules_run.ensures.short c.in_ok-checked.checked (length c.args.module.now) taken.accepted c.requires (c.lists_of_encoding.ensures.within Core c.args.module.now c.in_ok-checked.checked taken.encoded)
 
 -- why there is no history, of the bytes of the module and of the script
 returned : {T : Type 0} (r : Result T Fault) (P Q : Fault → Type 0) → ((fault : Fault) → P fault → Q fault) → IfErr r (λ fault. (fault ≡ Memory) ⊎ P fault) → IfErr r (λ fault. (fault ≡ Memory) ⊎ Q fault)

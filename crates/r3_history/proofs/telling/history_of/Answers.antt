@@ -6,10 +6,10 @@ pub returns-clause-refused : goal.returns-clause-refused
 returns-clause-refused c = λ fault untold.
     let m = c.args.checked.now in
     let script = c.args.script.now in
-    refused_answered m script c.args.turns (λ begun. c.runs_have_one_result_at_most.ensures (program_of m script) all_one begun c.args.turns) c.told.result (λ bytes. bytes.items) fault c.told.ensures.printed c.told.ensures.cause untold
+    refused_answered m script c.args.turns (λ begun. c.runs_have_one_result_at_most.ensures (program_of m script) all_one begun c.args.turns) c.lines_of.result (λ bytes. bytes.items) fault c.lines_of.ensures.printed c.lines_of.ensures.cause untold
 
 pub returns-clause-accepted : goal.returns-clause-accepted
 returns-clause-accepted c = λ text history.
     let m = c.args.checked.now in
     let script = c.args.script.now in
-    accepted_answered m script c.args.turns (λ begun. c.runs_have_one_result_at_most.ensures (program_of m script) all_one begun c.args.turns) c.told.result (λ bytes. bytes.items) text c.told.ensures.printed c.told.ensures.cause history
+    accepted_answered m script c.args.turns (λ begun. c.runs_have_one_result_at_most.ensures (program_of m script) all_one begun c.args.turns) c.lines_of.result (λ bytes. bytes.items) text c.lines_of.ensures.printed c.lines_of.ensures.cause history
