@@ -16,4 +16,3 @@ mod Examples
 pub mod CoreForm
 pub mod Used
 pub mod UsedCovers
-pub mod AllCovers

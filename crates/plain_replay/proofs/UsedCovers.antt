@@ -19,7 +19,7 @@ use Rattle.history_spec.specs.Settle.{settle}
 use Rattle.history_spec.specs.Step.{Stepped, Finished, come_to_stand, response_to}
 use Rattle.history_spec.specs.Run.{run_from, all_one, program_of, opening}
 use Rattle.plain_replay.specs.Forms.{IsIntegerCode, IsPlain, IsPlainAnswer, IsPlainCall}
-use Rattle.plain_replay.specs.Covers.{Covers, Uses, answers_in, calls_in, host_calls, returning, calling}
+use Rattle.plain_replay.specs.Covers.{Covers, FollowsScript, Uses, answers_in, calls_in, host_calls, returning, calling}
 use Rattle.plain_replay.proofs.Openings.{empty_store, opens, zeros_count}
 use Rattle.plain_replay.proofs.Plain.{made_calls, no_count}
 use Rattle.plain_replay.proofs.Used.{used_by}
@@ -29,20 +29,20 @@ calls_counted [] = refl
 calls_counted (HostCall func args ∷ rest) = omega (arith, calls_counted rest)
 calls_counted (entry ∷ rest) = calls_counted rest
 
-pub covers_used : (m : Module) (script : Script) (begun : Stepped) (k : ℕ) (outcome : Outcome) (table : List (List Val)) (calls : List ℕ)
-    → IsIntegerCode m → IsPlain m script → opening m script ≡ Ok begun
+pub follows : (m : Module) (script : Script) (begun : Stepped) (k : ℕ) (outcome : Outcome) → IsIntegerCode m → IsPlain m script → opening m script ≡ Ok begun
     → (run_from (program_of m script) all_one begun k).at ≡ Finished outcome
-    → Uses (run_from (program_of m script) all_one begun k).history table calls
-    → Covers script (run_from (program_of m script) all_one begun k).history table calls
-covers_used m script begun k outcome table calls code plain opened ended uses =
-    subst (λ s. (run_from (program_of m script) all_one s k).at ≡ Finished outcome → Uses (run_from (program_of m script) all_one s k).history table calls → Covers script (run_from (program_of m script) all_one s k).history table calls)
-    begins from_start ended uses
+    → FollowsScript script (run_from (program_of m script) all_one begun k).history
+follows m script begun k outcome code plain opened ended =
+    subst (λ s. (run_from (program_of m script) all_one s k).at ≡ Finished outcome → FollowsScript script (run_from (program_of m script) all_one s k).history) begins from_start ended
   where
     own : (calls : List ℕ) × (script.main ≡ map calling calls)
     own = made_calls m script.main (recursion_from_All (IsPlainCall m) script.main plain.main)
 
+    none_yet : List ℕ
+    none_yet = replicate (imported_funcs m) 0
+
     first : List Action → Stepped
-    first actions = come_to_stand empty_store (replicate (imported_funcs m) 0) (settle (InMain actions ∷ []))
+    first actions = come_to_stand empty_store none_yet (settle (InMain actions ∷ []))
 
     same_ok : (opening : Result Stepped LinkFault) (s t : Stepped) → opening ≡ Ok s → opening ≡ Ok t → s ≡ t
     same_ok opening s t e f = cc
@@ -51,27 +51,41 @@ covers_used m script begun k outcome table calls code plain opened ended uses =
     begins = ap first (sym own.1) ∙ same_ok (opening m script) (first script.main) begun (opens m code script plain.globals) opened
 
     from_start : (run_from (program_of m script) all_one (first (map calling own.0)) k).at ≡ Finished outcome
-        → Uses (run_from (program_of m script) all_one (first (map calling own.0)) k).history table calls
-        → Covers script (run_from (program_of m script) all_one (first (map calling own.0)) k).history table calls
-    from_start ended uses =
+        → FollowsScript script (run_from (program_of m script) all_one (first (map calling own.0)) k).history
+    from_start ended =
         let history = (run_from (program_of m script) all_one (first (map calling own.0)) k).history in
-        let used = used_by (code_of m) script.imports (recursion_from_All (λ answer. IfSome answer IsPlainAnswer) script.imports plain.answers) k empty_store (replicate (imported_funcs m) 0) own.0 (zeros_count (imported_funcs m)) outcome ended in
+        let used = used_by (code_of m) script.imports (recursion_from_All (λ answer. IfSome answer IsPlainAnswer) script.imports plain.answers) k empty_store none_yet own.0 (zeros_count (imported_funcs m)) outcome ended in
         record {
-          given = λ import number value found. given history used.0 used.2 import number value (ap (λ l. slice_get l number) (sym (uses.answers import)) ∙ found) (cases_lt import (imported_funcs m));
-          answered = λ import. omega (arith, used.1 import, ap (λ (l : List Val). length l) (uses.answers import));
-          number = uses.number;
+          given = λ import number value found. given history used.0 used.2 import number value found (cases_lt import (imported_funcs m));
+          each = λ import. sym (used.1 import);
           rest = map calling used.3;
-          made = own.1 ∙ ap (map calling) used.4 ∙ map-append calling (calls_in history) used.3 ∙ ap (λ l. map calling l ++ map calling used.3) (sym uses.made);
-          called = omega (arith, calls_counted history, ap (λ (l : List ℕ). length l) uses.made);
+          made = own.1 ∙ ap (map calling) used.4 ∙ map-append calling (calls_in history) used.3;
         }
       where
         given : (history : List Entry)
-            → ((i j : ℕ) (value : Val) → i < length {A = ℕ} (replicate (imported_funcs m) 0) → slice_get (answers_in i history) j ≡ Some value → response_to script.imports i (slice_index (replicate (imported_funcs m) 0) i + j) ≡ Some (returning value))
-            → ((i : ℕ) → length {A = ℕ} (replicate (imported_funcs m) 0) ≤ i → answers_in i history ≡ [])
+            → ((i j : ℕ) (value : Val) → i < length none_yet → slice_get (answers_in i history) j ≡ Some value → response_to script.imports i (slice_index none_yet i + j) ≡ Some (returning value))
+            → ((i : ℕ) → length none_yet ≤ i → answers_in i history ≡ [])
             → (import number : ℕ) (value : Val) → slice_get (answers_in import history) number ≡ Some value → (import < imported_funcs m) ⊎ (imported_funcs m ≤ import)
             → response_to script.imports import number ≡ Some (returning value)
         given history found past import number value here (inl within) =
-            let same : slice_index (replicate (imported_funcs m) 0) import + number ≡ number = omega (arith, no_count (imported_funcs m) import) in
+            let same : slice_index none_yet import + number ≡ number = omega (arith, no_count (imported_funcs m) import) in
             ap (response_to script.imports import) (sym same) ∙ found import number value (omega (arith, zeros_count (imported_funcs m), within)) here
         given history found past import number value here (inr behind) =
             absurd (none-some value (ap (λ l. slice_get l number) (sym (past import (omega (arith, zeros_count (imported_funcs m), behind)))) ∙ here))
+
+pub covers_used : (m : Module) (script : Script) (begun : Stepped) (k : ℕ) (outcome : Outcome) (table : List (List Val)) (calls : List ℕ)
+    → IsIntegerCode m → IsPlain m script → opening m script ≡ Ok begun
+    → (run_from (program_of m script) all_one begun k).at ≡ Finished outcome
+    → Uses (run_from (program_of m script) all_one begun k).history table calls
+    → Covers script (run_from (program_of m script) all_one begun k).history table calls
+covers_used m script begun k outcome table calls code plain opened ended uses =
+    let history = (run_from (program_of m script) all_one begun k).history in
+    let own = follows m script begun k outcome code plain opened ended in
+    record {
+      given = λ import number value found. own.given import number value (ap (λ l. slice_get l number) (sym (uses.answers import)) ∙ found);
+      answered = λ import. omega (arith, own.each import, ap (λ (l : List Val). length l) (uses.answers import));
+      number = uses.number;
+      rest = own.rest;
+      made = own.made ∙ ap (λ l. map calling l ++ own.rest) (sym uses.made);
+      called = omega (arith, calls_counted history, ap (λ (l : List ℕ). length l) uses.made);
+    }

@@ -59,3 +59,11 @@ pub record Uses (history : List Entry) (table : List (List Val)) (calls : List �
   pub answers : (import : ℕ) → values_of table import ≡ answers_in import history
   pub number : (import : ℕ) → length (values_of table import) ≤ 2 ^ 32
   pub made : calls ≡ calls_in history
+
+-- what a history has of answers and calls is the script's: its answers to the first calls of each import, one to each call,
+-- and the first calls that it makes by itself
+pub record FollowsScript (script : Script) (history : List Entry) : Type 0 where
+  pub given : (import number : ℕ) (value : Val) → slice_get (answers_in import history) number ≡ Some value → response_to script.imports import number ≡ Some (returning value)
+  pub each : (import : ℕ) → length (answers_in import history) ≡ import_calls import history
+  pub rest : List Action
+  pub made : script.main ≡ map calling (calls_in history) ++ rest

@@ -2,4 +2,3 @@ pub mod Forms
 pub mod Made
 pub mod Covers
 pub mod Replay
-pub mod All

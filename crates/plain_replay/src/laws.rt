@@ -13,8 +13,7 @@ ghost use Rattle.history_spec.specs.Run.{run_from, all_one, program_of, opening}
 ghost use Rattle.history_spec.specs.Replayed.{Replays};
 ghost use Rattle.plain_replay.specs.Forms.{IsIntegerCode, IsPlain, IsUnreferring};
 ghost use Rattle.plain_replay.specs.Made.{replay_module, layout_of, entry_of};
-ghost use Rattle.plain_replay.specs.All.{AreAllOf};
-ghost use Rattle.plain_replay.specs.Covers.{Covers, Uses};
+ghost use Rattle.plain_replay.specs.Covers.{Covers, FollowsScript, Uses};
 ghost use Rattle.plain_replay.specs.Replay.{KeepsOriginals, StandsAlone};
 
 /// No instruction of a module in the Core form names a function by `ref.func`.
@@ -31,13 +30,13 @@ pub fn used_by_plain_run()
         → Covers script (run_from (program_of m script) all_one begun steps).history table calls }
 {}
 
-/// All the answers and calls that a plain script has cover each of its runs.
-pub fn all_of_plain_script()
-    ensures covers { (m : Module) (script : Script) (begun : Stepped) (steps : ℕ) (outcome : Outcome) (table : List (List Val)) (calls : List ℕ)
+/// In a run of a plain script each call of an import has an answer, which is the script's to this call,
+/// and the host's calls are the first that the script makes.
+pub fn plain_runs_follow_scripts()
+    ensures follows { (m : Module) (script : Script) (begun : Stepped) (steps : ℕ) (outcome : Outcome)
         → IsIntegerCode m → IsPlain m script → opening m script ≡ Ok begun
         → (run_from (program_of m script) all_one begun steps).at ≡ Finished outcome
-        → AreAllOf script table calls
-        → Covers script (run_from (program_of m script) all_one begun steps).history table calls }
+        → FollowsScript script (run_from (program_of m script) all_one begun steps).history }
 {}
 
 /// The replay module of a plain script's run: the module's original functions, its one export, and
