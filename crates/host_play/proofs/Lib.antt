@@ -16,3 +16,4 @@ mod CallCounts
 mod Advancing
 mod Counted
 mod Starting
+pub mod Calls

@@ -5,6 +5,7 @@
 mod actions;
 pub mod deeds;
 pub mod journal;
+mod laws;
 mod modules;
 pub mod playing;
 mod plays;
@@ -15,6 +16,7 @@ mod starts;
 mod steps;
 mod tells;
 
+pub use laws::calls_take_turns;
 pub use no_memory::NoMemory;
 pub use plays::{Play, run, tell};
 pub use results::{Counts, PlayFault, Played, Told};
