@@ -6,6 +6,6 @@ mod linking;
 mod telling;
 
 pub use accepted::accepted_modules_run;
-pub use host_play::Told;
+pub use host_play::{Played, Told};
 pub use linking::linked;
-pub use telling::told;
+pub use telling::{played, told};

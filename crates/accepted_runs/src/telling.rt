@@ -1,16 +1,19 @@
 // The run of an accepted module that is linked.
 
 ghost use Rattle.std.specs.Prelude.{◌≡◌, ◌⊎◌, Ok, IfErr, IfOk};
+ghost use Rattle.wasm_syntax.specs.declared.modules.Module.{Module};
 ghost use Rattle.wasm_syntax.specs.Profile.{IsSupported};
 ghost use Rattle.wasm_flat.specs.Sizes.{IsShort};
+ghost use Rattle.host_script.specs.declared.scripts.Script.{Script};
 ghost use Rattle.host_script.specs.Fits.{Fits};
 ghost use Rattle.history_spec.specs.Run.{opening, program_of, start_of};
+ghost use Rattle.history_spec.specs.Step.{Stepped};
 ghost use Rattle.type_safety.specs.Stores.{IsStore};
-ghost use Rattle.host_play.specs.Results.{TellsRun};
+ghost use Rattle.host_play.specs.Results.{PlaysRun, Refuses, TellsRun};
 ghost use Rattle.r3_faults.specs.declared.faults.Fault.TheVariants.{Memory};
 ghost use Rattle.accepted_runs.specs.Runs.{HasNoOutcome};
 
-use host_play::{Play, PlayFault, Told, tell};
+use host_play::{Play, PlayFault, Played, Told, run, tell};
 use host_script::Script;
 use r3_faults::Fault;
 use std::alloc::Global;
@@ -19,7 +22,7 @@ use wasm_store::Store;
 use wasm_validate::Checked;
 
 /// The run of a module under a script that fits it, from the store that it begins with, within so
-/// many turns.
+/// many turns, with every entry of its history told.
 pub fn told(
     alloc: Global,
     checked: &Checked,
@@ -43,8 +46,47 @@ pub fn told(
     };
     match tell(alloc, play, turns) {
         Ok(told) => Ok(told),
-        Err(PlayFault::Fault { turn, kind }) => Err(Fault::Script { turn, kind }),
-        Err(PlayFault::Spent) => Err(Fault::Spent { turns }),
-        Err(PlayFault::Memory) => Err(Fault::Memory),
+        Err(fault) => Err(fault_of(fault, turns)),
+    }
+}
+
+/// The same run without its entries: its outcome, how many turns it took, and how many calls of each
+/// import and by the host it has.
+pub fn played(
+    alloc: Global,
+    checked: &Checked,
+    script: &Script,
+    store: Store,
+    turns: u64,
+) -> Result<Played, Fault>
+    requires supported { IsSupported checked.now }
+    requires short { IsShort checked.now }
+    requires fits { Fits checked.now script.now }
+    requires typed { IsStore checked.now store }
+    requires opened { opening checked.now script.now ≡ Ok (start_of checked.now script.now store) }
+    ensures played { IfOk result (λ played. PlaysRun (program_of checked.now script.now) (start_of checked.now script.now store) turns played) }
+    ensures cause { IfErr result (λ fault. (fault ≡ Memory) ⊎ HasNoOutcome checked.now script.now turns fault) }
+{
+    let play = Play {
+        code: checked.module(),
+        flat: flatten(alloc, checked)?,
+        script,
+        store,
+    };
+    match run(alloc, play, turns) {
+        Ok(played) => Ok(played),
+        Err(fault) => Err(fault_of(fault, turns)),
+    }
+}
+
+/// Why a run within so many turns has no outcome, as the fault of a call.
+fn fault_of(fault: PlayFault, turns: u64) -> Fault
+    ensures { (m : Module) (script : Script) (begun : Stepped) → opening m script ≡ Ok begun → Refuses (program_of m script) begun turns fault
+        → (result ≡ Memory) ⊎ HasNoOutcome m script turns result }
+{
+    match fault {
+        PlayFault::Fault { turn, kind } => Fault::Script { turn, kind },
+        PlayFault::Spent => Fault::Spent { turns },
+        PlayFault::Memory => Fault::Memory,
     }
 }
