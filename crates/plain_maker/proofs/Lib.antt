@@ -6,6 +6,4 @@ pub mod Encodings
 pub mod MadeSizes
 pub mod Encodable
 pub mod Plain
-pub mod Totals
-pub mod Gathering
 pub mod PlainCalls

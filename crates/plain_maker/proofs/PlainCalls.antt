@@ -1,12 +1,12 @@
 -- The test of a plain call is that it is one.
-use Rattle.std.proofs.Common.{◌≡◌, ◌↔◌, ℕ, zero, suc, ◌≤◌, List, [], ◌∷◌, length, Option, Some, None, Bool, true, false, ◌&&◌, IsTrue, refl, sym, ◌∙◌, ap, subst, arith}
+use Rattle.std.proofs.Common.{◌≡◌, ◌↔◌, ℕ, ◌≤◌, List, [], ◌∷◌, length, Option, Some, None, Bool, true, false, ◌&&◌, IsTrue, refl, ◌∙◌, ap, arith}
 use Rattle.std.specs.Prelude.{nat_eq, nat_le}
 use Rattle.std.proofs.lemmas.Bool.{false≢true}
 use Rattle.std.proofs.lemmas.Bool.Decides.{nat_tests}
 use Rattle.wasm_syntax.specs.declared.values.Val.{Val}
 use Rattle.wasm_syntax.specs.declared.signatures.FuncType.{FuncType}
 use Rattle.wasm_syntax.specs.declared.modules.Module.{Module}
-use Rattle.wasm_syntax.specs.Index.{imported_funcs, func_type}
+use Rattle.wasm_syntax.specs.Index.{func_type}
 use Rattle.host_script.specs.declared.scripts.Action.{Action}
 use Rattle.host_script.specs.declared.scripts.Action.TheVariants as action
 use Rattle.plain_replay.specs.Forms.{IsIntegerCode, IsPlainCall}

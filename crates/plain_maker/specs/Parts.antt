@@ -1,5 +1,5 @@
 -- What the code for plain scripts and their replay modules is made of.
-use Rattle.std.specs.Prelude.{◌≡◌, ℕ, List, [], ◌∷◌, ◌++◌, Option, Some, None, Bool, true, false, ◌&&◌, nat_eq, nat_le, codes, length, map, replicate, slice_set}
+use Rattle.std.specs.Prelude.{◌≡◌, ℕ, List, [], ◌∷◌, ◌++◌, Option, Some, None, Bool, false, ◌&&◌, nat_eq, nat_le, codes, length, map, replicate}
 use Rattle.std.specs.Prelude.{Vec}
 use Rattle.leb_bytes.specs.Unsigned.{u32_bytes}
 use Rattle.wasm_syntax.specs.declared.values.Val.{Val}
@@ -16,11 +16,9 @@ use Rattle.host_script.specs.declared.scripts.ResponseEnd.{ResponseEnd}
 use Rattle.host_script.specs.declared.scripts.ResponseEnd.TheVariants.{Return}
 use Rattle.host_script.specs.declared.scripts.Action.{Action}
 use Rattle.host_script.specs.declared.scripts.Action.TheVariants.{Call}
-use Rattle.history_spec.specs.declared.entries.Entry.{Entry}
 use Rattle.history_spec.specs.Code.{i32_value}
 use Rattle.plain_replay.specs.Forms.{IsNumber}
-use Rattle.plain_replay.specs.Made.{i32_add, i32_eq, result_count, values_of}
-use Rattle.plain_replay.specs.Covers.{answers_in, calls_in}
+use Rattle.plain_replay.specs.Made.{i32_add, i32_eq, result_count}
 
 -- ---- modules and scripts
 
@@ -88,23 +86,3 @@ start_export_at func = record { name = codes "_start"; kind = ExportFunc func }
 abbrev pub layout_of_counts : (imported defined : ℕ) → Custom
 layout_of_counts imported defined =
     record { name = codes "r3.layout"; bytes = u32_bytes imported ++ u32_bytes defined }
-
--- ---- what a run uses
-
--- the answers to the calls of each import, and the calls that the host made
-pub record Gathered : Type 0 where
-  pub table : List (List Val)
-  pub calls : List ℕ
-
--- one more answer to a call of an import
-abbrev pub answered : Gathered → (import : ℕ) → Val → Gathered
-answered g import value = record g { table = slice_set g.table import (values_of g.table import ++ value ∷ []) }
-
--- one more call by the host
-abbrev pub called : Gathered → (func : ℕ) → Gathered
-called g func = record g { calls = g.calls ++ func ∷ [] }
-
--- just the answers and the calls that a history has
-pub record IsGathered (history : List Entry) (g : Gathered) : Type 0 where
-  pub answers : (import : ℕ) → values_of g.table import ≡ answers_in import history
-  pub made : g.calls ≡ calls_in history

@@ -1,6 +1,6 @@
 //! What holds of the encodings of replay modules, for the crates above.
 
-ghost use Rattle.std.specs.Prelude.{◌≡◌, ℕ, [], ◌∷◌, ◌++◌, ◌+◌, ◌*◌, ◌^◌, ◌<◌, ◌≤◌, List, All, Ok, length, replicate, sum_by};
+ghost use Rattle.std.specs.Prelude.{◌≡◌, ℕ, ◌+◌, ◌*◌, ◌^◌, ◌<◌, ◌≤◌, List, All, Ok, length, sum_by};
 ghost use Rattle.wasm_syntax.specs.declared.forms.Form.{Form};
 ghost use Rattle.wasm_syntax.specs.declared.forms.Form.TheVariants.{Core, Replay};
 ghost use Rattle.wasm_syntax.specs.declared.modules.Module.{Module};
@@ -13,13 +13,11 @@ ghost use Rattle.wasm_syntax.specs.Validity.{IsValid};
 ghost use Rattle.host_script.specs.declared.scripts.Script.{Script};
 ghost use Rattle.trace_model.specs.declared.outcomes.Outcome.{Outcome};
 ghost use Rattle.history_spec.specs.declared.entries.Entry.{Entry};
-ghost use Rattle.history_spec.specs.declared.entries.Entry.TheVariants.{HostCall, ImportReturn};
 ghost use Rattle.history_spec.specs.Step.{Finished, Stepped};
 ghost use Rattle.history_spec.specs.Run.{all_one, opening, program_of, run_from};
-ghost use Rattle.plain_replay.specs.Covers.{answers_in, calls_in, Covers, Uses};
+ghost use Rattle.plain_replay.specs.Covers.{Covers, Uses};
 ghost use Rattle.plain_replay.specs.Forms.{IsIntegerCode, IsNumber, IsPlain};
 ghost use Rattle.plain_replay.specs.Made.{replay_module, values_of};
-ghost use Rattle.plain_maker.specs.Parts.{answered, called, Gathered, IsGathered};
 ghost use Rattle.plain_maker.specs.Replay.{IsReplay};
 
 use plain_replay::laws::{core_form, replay_of_plain_run, used_by_plain_run};
@@ -78,16 +76,3 @@ pub fn replay_of_run()
     replay_of_plain_run();
     encoding_of_replay();
 }
-
-/// What a history has of answers and calls, entry by entry; and that this is what the run uses.
-pub fn gathered_by_entries()
-    ensures begins { (imports : ℕ) → IsGathered [] (record { table = replicate imports []; calls = [] }) }
-    ensures answer { (history : List Entry) (g : Gathered) (import : ℕ) (value : Val)
-        → import < length g.table → IsGathered history g → IsGathered (history ++ ImportReturn import (value ∷ []) ∷ []) (answered g import value) }
-    ensures call { (history : List Entry) (g : Gathered) (func : ℕ) (args : List Val)
-        → IsGathered history g → IsGathered (history ++ HostCall func args ∷ []) (called g func) }
-    ensures others { (history more : List Entry) (g : Gathered)
-        → ((import : ℕ) → answers_in import more ≡ []) → calls_in more ≡ [] → IsGathered history g → IsGathered (history ++ more) g }
-    ensures uses { (history : List Entry) (g : Gathered)
-        → IsGathered history g → ((import : ℕ) → length (values_of g.table import) ≤ 2 ^ 32) → Uses history g.table g.calls }
-{}

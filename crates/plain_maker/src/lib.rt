@@ -3,7 +3,6 @@
 #![tactic(auto)]
 
 mod answers;
-mod bounds;
 mod calls;
 mod forms;
 mod laws;
@@ -12,14 +11,9 @@ mod plainness;
 mod scripts;
 #[cfg(test)]
 mod tests;
-mod used;
 
-pub use bounds::are_few;
 pub use forms::is_integer_code;
-pub use laws::{
-    encoding_of_replay, gathered_by_entries, parts_of_encoding, replay_of_run, size_of_replay,
-};
+pub use laws::{encoding_of_replay, parts_of_encoding, replay_of_run, size_of_replay};
 pub use made::replay_module;
 pub use no_memory::NoMemory;
 pub use plainness::is_plain;
-pub use used::Used;

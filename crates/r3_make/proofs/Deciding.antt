@@ -13,7 +13,7 @@ use Rattle.accepted_runs.specs.Unlinked.{link_fault}
 use Rattle.accepted_runs.specs.Runs.{OfScript, OfTurns}
 use Rattle.r3_faults.specs.declared.faults.Fault.{Fault}
 use Rattle.r3_faults.specs.declared.faults.Fault.TheVariants.{NotBuilt, Memory, Script as ScriptFault, Spent}
-use Rattle.r3_make.specs.Refusals.{IsBuilt, IsShort, IsReplayable, IsUnmade, OfLink, OfForm, OfRun, OfSize}
+use Rattle.r3_make.specs.Refusals.{IsBuilt, IsReplayable, IsUnmade, OfLink, OfForm, OfRun}
 
 -- an answer: a replay module is made, or a fault
 abbrev Answer : Type 0
@@ -32,11 +32,10 @@ no_fault fault e = cc e
 same_fault : (f g : Fault) → IsSame (Err f) (Err g) → f ≡ g
 same_fault f g e = cc e
 
--- the answer that a result of a run is; the script has few or many answers and calls
-data IsAnswerAt (script : Script) (run : Run) (at : Progress) (answer : Answer) : Type 0 where
-  Made : (outcome : Outcome) (ends : at ≡ Finished outcome) (short : IsShort script) (same : answer ≡ made) → IsAnswerAt script run at answer
-  Many : (outcome : Outcome) (ends : at ≡ Finished outcome) (many : ¬ (IsShort script)) (same : answer ≡ Err NotBuilt) → IsAnswerAt script run at answer
-  Faulty : (kind : FaultKind) (ends : at ≡ Faulted kind) (same : answer ≡ Err (ScriptFault run.turns kind)) → IsAnswerAt script run at answer
+-- the answer that a result of a run is
+data IsAnswerAt (run : Run) (at : Progress) (answer : Answer) : Type 0 where
+  Made : (outcome : Outcome) (ends : at ≡ Finished outcome) (same : answer ≡ made) → IsAnswerAt run at answer
+  Faulty : (kind : FaultKind) (ends : at ≡ Faulted kind) (same : answer ≡ Err (ScriptFault run.turns kind)) → IsAnswerAt run at answer
 
 finished-faulted : (at : Progress) (outcome : Outcome) (kind : FaultKind) → at ≡ Finished outcome → at ≡ Faulted kind → ⊥
 finished-faulted at outcome kind e f = absurd (cc (sym e ∙ f))
@@ -44,32 +43,27 @@ finished-faulted at outcome kind e f = absurd (cc (sym e ∙ f))
 faulted-same : (at : Progress) (a b : FaultKind) → at ≡ Faulted a → at ≡ Faulted b → a ≡ b
 faulted-same at a b e f = cc (sym e ∙ f)
 
-answer_at_one : (script : Script) (run : Run) (at : Progress) (a b : Answer) → IsAnswerAt script run at a → IsAnswerAt script run at b → a ≡ b
-answer_at_one script run at a b (Made o e short same) (Made p f short_too same_too) = same ∙ sym same_too
-answer_at_one script run at a b (Made o e short same) (Many p f many same_too) = absurd (many short)
-answer_at_one script run at a b (Made o e short same) (Faulty kind f same_too) = absurd (finished-faulted at o kind e f)
-answer_at_one script run at a b (Many o e many same) (Made p f short same_too) = absurd (many short)
-answer_at_one script run at a b (Many o e many same) (Many p f many_too same_too) = same ∙ sym same_too
-answer_at_one script run at a b (Many o e many same) (Faulty kind f same_too) = absurd (finished-faulted at o kind e f)
-answer_at_one script run at a b (Faulty kind e same) (Made p f short same_too) = absurd (finished-faulted at p kind f e)
-answer_at_one script run at a b (Faulty kind e same) (Many p f many same_too) = absurd (finished-faulted at p kind f e)
-answer_at_one script run at a b (Faulty kind e same) (Faulty other f same_too) = same ∙ ap (λ kind. Err (ScriptFault run.turns kind)) (faulted-same at kind other e f) ∙ sym same_too
+answer_at_one : (run : Run) (at : Progress) (a b : Answer) → IsAnswerAt run at a → IsAnswerAt run at b → a ≡ b
+answer_at_one run at a b (Made o e same) (Made p f same_too) = same ∙ sym same_too
+answer_at_one run at a b (Made o e same) (Faulty kind f same_too) = absurd (finished-faulted at o kind e f)
+answer_at_one run at a b (Faulty kind e same) (Made p f same_too) = absurd (finished-faulted at p kind f e)
+answer_at_one run at a b (Faulty kind e same) (Faulty other f same_too) = same ∙ ap (λ kind. Err (ScriptFault run.turns kind)) (faulted-same at kind other e f) ∙ sym same_too
 
-abbrev IsAnswerOf : Script → ℕ → budget.Result → Answer → Type 0
-IsAnswerOf script turns (budget.Over run) answer = IsAnswerAt script run run.at answer
-IsAnswerOf script turns budget.Spent answer = answer ≡ Err (Spent turns)
+abbrev IsAnswerOf : ℕ → budget.Result → Answer → Type 0
+IsAnswerOf turns (budget.Over run) answer = IsAnswerAt run run.at answer
+IsAnswerOf turns budget.Spent answer = answer ≡ Err (Spent turns)
 
-answer_of_one : (script : Script) (turns : ℕ) (result other : budget.Result) (a b : Answer) → result ≡ other → IsAnswerOf script turns result a → IsAnswerOf script turns other b → a ≡ b
-answer_of_one script turns (budget.Over run) other a b e x y =
-    answer_at_one script run run.at a b x (subst (λ r. IsAnswerOf script turns r b) (sym e) y)
-answer_of_one script turns budget.Spent other a b e x y = x ∙ sym (subst (λ r. IsAnswerOf script turns r b) (sym e) y)
+answer_of_one : (turns : ℕ) (result other : budget.Result) (a b : Answer) → result ≡ other → IsAnswerOf turns result a → IsAnswerOf turns other b → a ≡ b
+answer_of_one turns (budget.Over run) other a b e x y =
+    answer_at_one run run.at a b x (subst (λ r. IsAnswerOf turns r b) (sym e) y)
+answer_of_one turns budget.Spent other a b e x y = x ∙ sym (subst (λ r. IsAnswerOf turns r b) (sym e) y)
 
 -- the answer where both are built
 record BuiltAnswers (m : Module) (script : Script) (turns : ℕ) (begun : Stepped) (answer : Answer) : Type 0 where
   built : IsBuilt m script
   result : budget.Result
   holds : IsResult (run_from (program_of m script) all_one begun) all_one turns result
-  same : IsAnswerOf script turns result answer
+  same : IsAnswerOf turns result answer
 
 -- the answer by how the run starts
 abbrev Answers : Module → Script → ℕ → Result Stepped LinkFault → Answer → Type 0
@@ -87,7 +81,7 @@ module _ (m : Module) (script : Script) (turns : ℕ) where
   answer_one one (Ok begun) a b (inl x) (inr y) = absurd (x.0 y.built)
   answer_one one (Ok begun) a b (inr x) (inl y) = absurd (y.0 x.built)
   answer_one one (Ok begun) a b (inr x) (inr y) =
-      answer_of_one script turns x.result y.result a b (one begun x.result y.result x.holds y.holds) x.same y.same
+      answer_of_one turns x.result y.result a b (one begun x.result y.result x.holds y.holds) x.same y.same
 
   by_opening : (opened : Result Stepped LinkFault) (answer : Answer) → opening m script ≡ opened → Answers m script turns opened answer → IsAnswer answer
   by_opening opened answer e is = subst (λ o. Answers m script turns o answer) (sym e) is
@@ -95,7 +89,7 @@ module _ (m : Module) (script : Script) (turns : ℕ) where
   replayable_answers : IsReplayable m script turns → IsAnswer made
   replayable_answers r =
       by_opening (Ok r.ends.begun) made r.ends.opens
-      (inr (record { built = r.built; result = budget.Over r.run; holds = r.ends.within; same = Made r.outcome r.ends.ends r.short refl }))
+      (inr (record { built = r.built; result = budget.Over r.run; holds = r.ends.within; same = Made r.outcome r.ends.ends refl }))
 
   unmade_answers : (fault : Fault) → IsUnmade m script turns fault → IsAnswer (Err fault)
   unmade_answers fault (OfLink u) = by_opening (Err u.found) (Err fault) u.unopened (ap Err u.named)
@@ -111,9 +105,6 @@ module _ (m : Module) (script : Script) (turns : ℕ) where
   unmade_answers fault (OfRun built (OfTurns u)) =
       by_opening (Ok u.begun) (Err fault) u.opens
       (inr (record { built = built; result = budget.Spent; holds = u.spent; same = ap Err u.named }))
-  unmade_answers fault (OfSize built u) =
-      by_opening (Ok u.ends.begun) (Err fault) u.ends.opens
-      (inr (record { built = built; result = budget.Over u.run; holds = u.ends.within; same = Many u.outcome u.ends.ends u.many (ap Err u.named) }))
 
   module _ (one : (begun : Stepped) → HasOneResultAtMost (run_from (program_of m script) all_one begun) all_one turns) where
     answers_same : (a b : Answer) → IsAnswer a → IsAnswer b → a ≡ b

@@ -1,3 +1,5 @@
 mod Answered
-mod Covered
+mod Used
 mod Deciding
+mod Counted
+mod OfRun

@@ -1,5 +1,5 @@
 -- Why no replay module is made, and where one is.
-use Rattle.std.specs.Prelude.{◌≡◌, ◌+◌, ◌≤◌, ◌^◌, ℕ, List, Ok, length, map, sum_by}
+use Rattle.std.specs.Prelude.{◌≡◌, ℕ, List, Ok}
 use Rattle.host_script.specs.declared.scripts.Script.{Script}
 use Rattle.wasm_syntax.specs.declared.modules.Module.{Module}
 use Rattle.trace_model.specs.declared.outcomes.Outcome.{Outcome}
@@ -11,7 +11,6 @@ use Rattle.accepted_runs.specs.Runs.{HasOutcome, HasNoOutcome}
 use Rattle.r3_faults.specs.declared.faults.Fault.{Fault}
 use Rattle.r3_faults.specs.declared.faults.Fault.TheVariants.{NotBuilt}
 use Rattle.r3_inputs.specs.Inputs.{AreInputs, AreRefused}
-use Rattle.r3_make.specs.Parts.{values_in}
 
 -- ---- the run of a module under a script
 
@@ -20,14 +19,9 @@ pub record IsBuilt (m : Module) (script : Script) : Type 0 where
   pub code : IsIntegerCode m
   pub plain : IsPlain m script
 
--- the script has at most 2^26 answers and calls
-abbrev pub IsShort : Script → Type 0
-IsShort script = sum_by length (map values_in script.imports) + length script.main ≤ 2 ^ 26
-
 -- both are built, and the run has an outcome within the turns
 pub record IsReplayable (m : Module) (script : Script) (turns : ℕ) : Type 0 where
   pub built : IsBuilt m script
-  pub short : IsShort script
   pub run : Run
   pub outcome : Outcome
   pub ends : HasOutcome m script turns run outcome
@@ -39,20 +33,11 @@ pub record IsOtherForm (m : Module) (script : Script) (fault : Fault) : Type 0 w
   pub opens : opening m script ≡ Ok begun
   pub other : ¬ (IsBuilt m script)
 
--- the run has an outcome, and the script more answers and calls
-pub record HasMany (m : Module) (script : Script) (turns : ℕ) (fault : Fault) : Type 0 where
-  pub named : fault ≡ NotBuilt
-  pub run : Run
-  pub outcome : Outcome
-  pub ends : HasOutcome m script turns run outcome
-  pub many : ¬ (IsShort script)
-
 -- why there is no replay module of it
 pub data IsUnmade (m : Module) (script : Script) (turns : ℕ) (fault : Fault) : Type 0 where
   OfLink : (unlinked : IsUnlinkedFor m script fault) → IsUnmade m script turns fault
   OfForm : (other : IsOtherForm m script fault) → IsUnmade m script turns fault
   OfRun : (built : IsBuilt m script) (none : HasNoOutcome m script turns fault) → IsUnmade m script turns fault
-  OfSize : (built : IsBuilt m script) (many : HasMany m script turns fault) → IsUnmade m script turns fault
 
 -- ---- the bytes of a module and of a script
 

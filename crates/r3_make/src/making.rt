@@ -14,14 +14,15 @@ use r3_inputs::{module_of, script_of};
 use std::alloc::Global;
 
 /// Makes the replay module of the run of a module with a script, within so many turns, in its binary
-/// format. The module has at most 8,388,608 bytes.
+/// format. The module has at most 8,388,608 bytes, and the turns are at most 2,000,000.
 ///
 /// The fault names why there is none: the module or the script is refused, the module does not link,
 /// one of the two has another form than those that are built (`NotBuilt`), the host cannot do what
 /// the script says, or the run needs more turns. Each comes exactly where it stands and none before it
 /// does.
 pub fn make(alloc: Global, module: &[u8], script: &[u8], turns: u64) -> Result<Vec<u8>, Fault>
-    requires { length «module».now ≤ 8388608 }
+    requires small { length «module».now ≤ 8388608 }
+    requires few { turns ≤ 2000000 }
     ensures cause { IfErr result (λ fault. (fault ≡ Memory) ⊎ IsMakeRefusal «module».now script.now turns fault) }
     ensures refused { (fault : Fault) → IsMakeRefusal «module».now script.now turns fault
         → (result ≡ Err fault) ⊎ (result ≡ Err Memory) }

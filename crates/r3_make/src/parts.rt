@@ -1,17 +1,17 @@
-// The answers and the calls of a plain script.
+// The answers and the calls of a plain script that its run takes.
 
-ghost use Rattle.std.specs.Prelude.{◌≡◌, IfOk, IfSome, All, map};
+ghost use Rattle.std.specs.Prelude.{◌≡◌, IfOk, IfSome, All, length, map, take};
 ghost use Rattle.wasm_syntax.specs.declared.modules.Module.{Module};
 ghost use Rattle.history_spec.specs.Code.{i32_value};
 ghost use Rattle.plain_maker.specs.Parts.{table_of};
 ghost use Rattle.plain_replay.specs.Covers.{calling};
 ghost use Rattle.plain_replay.specs.Forms.{IsPlain, IsPlainAnswer, IsPlainCall};
-ghost use Rattle.r3_make.specs.Parts.{values_in};
+ghost use Rattle.r3_make.specs.Parts.{first_values, values_in};
 
 use host_script::{Action, Answer, ResponseEnd, Script};
 use std::alloc::{AllocError, Global};
 
-/// The numbers that each import's calls are answered by, and the functions that the host calls by
+/// The numbers that calls of each import are answered by, and the functions that the host calls by
 /// itself, both in order.
 #[derive(Drop)]
 pub(crate) struct Parts {
@@ -19,40 +19,48 @@ pub(crate) struct Parts {
     pub(crate) calls: Vec<u32>,
 }
 
-/// Those of a plain script.
-pub(crate) fn parts_of(alloc: Global, script: &Script) -> Result<Parts, AllocError>
-    requires { (m : Module) × IsPlain m script.now }
-    ensures answers { IfOk result (λ parts. table_of parts.answers.items ≡ map values_in script.now.imports) }
-    ensures calls { IfOk result (λ parts. script.now.main ≡ map calling parts.calls.items) }
+/// Those of a plain script for the first calls of each import, so many, and for so many first calls by
+/// the host.
+pub(crate) fn parts_of(
+    alloc: Global,
+    script: &Script,
+    imports: &[u64],
+    calls: u64,
+) -> Result<Parts, AllocError>
+    requires plain { (m : Module) × IsPlain m script.now }
+    requires each { length imports.now ≡ length script.now.imports }
+    ensures answers { IfOk result (λ parts. table_of parts.answers.items ≡ first_values imports.now script.now.imports) }
+    ensures calls { IfOk result (λ parts. map calling parts.calls.items ≡ take calls script.now.main) }
 {
     Ok(Parts {
-        answers: answers_of(alloc, script)?,
-        calls: calls_of(alloc, script)?,
+        answers: answers_of(alloc, script, imports)?,
+        calls: calls_of(alloc, script, calls)?,
     })
 }
 
-/// The numbers that each import's calls are answered by, in order.
-fn answers_of(alloc: Global, script: &Script) -> Result<Vec<Vec<u32>>, AllocError>
-    requires { All (λ answer. IfSome answer IsPlainAnswer) script.now.imports }
-    ensures { IfOk result (λ answers. table_of answers.items ≡ map values_in script.now.imports) }
+/// The numbers that the first calls of each import are answered by, in order.
+fn answers_of(alloc: Global, script: &Script, counts: &[u64]) -> Result<Vec<Vec<u32>>, AllocError>
+    requires plain { All (λ answer. IfSome answer IsPlainAnswer) script.now.imports }
+    requires each { length counts.now ≡ length script.now.imports }
+    ensures { IfOk result (λ answers. table_of answers.items ≡ first_values counts.now script.now.imports) }
 {
     let imports = script.imports.as_slice();
     let mut answers = Vec::with_capacity(alloc, imports.len())?;
-    'imports: for answer in imports {
-        answers.push(numbers_of(alloc, answer)?)?;
+    'imports: for (import, answer) in imports.iter().enumerate() {
+        answers.push(numbers_of(alloc, answer, counts[import])?)?;
     }
     Ok(answers)
 }
 
-/// The numbers that an import's calls are answered by.
-fn numbers_of(alloc: Global, answer: &Option<Answer>) -> Result<Vec<u32>, AllocError>
+/// The numbers that the first calls of an import are answered by.
+fn numbers_of(alloc: Global, answer: &Option<Answer>, count: u64) -> Result<Vec<u32>, AllocError>
     requires { IfSome answer.now IsPlainAnswer }
-    ensures { IfOk result (λ numbers. map i32_value numbers.items ≡ values_in answer.now) }
+    ensures { IfOk result (λ numbers. map i32_value numbers.items ≡ take count (values_in answer.now)) }
 {
     let Some(answer) = answer else {
         return Ok(Vec::new(alloc));
     };
-    let calls = answer.calls.as_slice();
+    let calls = first(answer.calls.as_slice(), count);
     let mut numbers = Vec::with_capacity(alloc, calls.len())?;
     'calls: for response in calls {
         let ResponseEnd::Return(Some(value)) = response.end else {
@@ -63,12 +71,12 @@ fn numbers_of(alloc: Global, answer: &Option<Answer>) -> Result<Vec<u32>, AllocE
     Ok(numbers)
 }
 
-/// The functions that the host calls by itself, in order.
-fn calls_of(alloc: Global, script: &Script) -> Result<Vec<u32>, AllocError>
+/// The functions that the host calls by itself at first, in order.
+fn calls_of(alloc: Global, script: &Script, count: u64) -> Result<Vec<u32>, AllocError>
     requires { (m : Module) × All (IsPlainCall m) script.now.main }
-    ensures { IfOk result (λ calls. script.now.main ≡ map calling calls.items) }
+    ensures { IfOk result (λ calls. map calling calls.items ≡ take count script.now.main) }
 {
-    let actions = script.main.as_slice();
+    let actions = first(script.main.as_slice(), count);
     let mut calls = Vec::with_capacity(alloc, actions.len())?;
     'actions: for action in actions {
         let Action::Call { func, .. } = action else {
@@ -77,4 +85,11 @@ fn calls_of(alloc: Global, script: &Script) -> Result<Vec<u32>, AllocError>
         calls.push(*func)?;
     }
     Ok(calls)
+}
+
+/// The first items, at most so many.
+fn first<T>(items: &[T], count: u64) -> &[T]
+    ensures { result.now ≡ take count items.now }
+{
+    &items[..items.len().min(count as usize)]
 }

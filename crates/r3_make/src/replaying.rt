@@ -1,34 +1,32 @@
 // The replay module of a run, in its binary format.
 
-ghost use Rattle.std.specs.Prelude.{◌≡◌, ◌+◌, ◌^◌, ◌≤◌, ◌⊎◌, ℕ, List, Ok, Err, IfErr, IfOk, OnOk, length, sum_by};
+ghost use Rattle.std.specs.Prelude.{◌≡◌, ◌≤◌, ◌⊎◌, ℕ, Ok, Err, IfErr, IfOk, OnOk, length};
 ghost use Rattle.wasm_syntax.specs.declared.forms.Form.TheVariants.{Core};
 ghost use Rattle.wasm_syntax.specs.Encoding.Modules.{Encodes};
 ghost use Rattle.wasm_syntax.specs.Profile.{IsSupported};
 ghost use Rattle.wasm_syntax.specs.Validity.{IsValid};
 ghost use Rattle.wasm_flat.specs.Sizes.{IsShort as IsShortModule};
 ghost use Rattle.host_script.specs.Fits.{Fits};
-ghost use Rattle.trace_model.specs.declared.outcomes.Outcome.{Outcome};
-ghost use Rattle.history_spec.specs.Run.{Run, opening, start_of};
-ghost use Rattle.history_spec.specs.declared.entries.Entry.{Entry};
+ghost use Rattle.history_spec.specs.Run.{opening, start_of};
 ghost use Rattle.type_safety.specs.Stores.{IsStore};
 ghost use Rattle.type_safety.specs.Supplies.{HasBytes};
-ghost use Rattle.plain_replay.specs.Covers.{Covers};
 ghost use Rattle.plain_maker.specs.Parts.{table_of};
-ghost use Rattle.accepted_runs.specs.Runs.{HasOutcome};
 ghost use Rattle.r3_faults.specs.declared.faults.Fault.{Fault};
 ghost use Rattle.r3_faults.specs.declared.faults.Fault.TheVariants.{Memory};
+ghost use Rattle.r3_make.specs.Parts.{AreOfRun};
 ghost use Rattle.r3_make.specs.Printed.{IsReplayFor};
-ghost use Rattle.r3_make.specs.Refusals.{IsBuilt, IsReplayable, IsShort, IsUnmade};
+ghost use Rattle.r3_make.specs.Refusals.{IsBuilt, IsReplayable, IsUnmade};
 
 use crate::parts::{Parts, parts_of};
-use accepted_runs::{linked, told};
+use accepted_runs::{linked, played};
 use encoding_sizes::lists_of_encoding;
 use history_spec::runs_have_one_result_at_most;
+use host_play::calls_take_turns;
 use host_script::Script;
 use plain_maker::{
-    are_few, encoding_of_replay, is_integer_code, is_plain, replay_module, size_of_replay,
+    encoding_of_replay, is_integer_code, is_plain, replay_module, replay_of_run, size_of_replay,
 };
-use plain_replay::laws::{all_of_plain_script, core_form, replay_of_plain_run};
+use plain_replay::laws::{plain_runs_follow_scripts, used_by_plain_run};
 use r3_faults::Fault;
 use std::alloc::Global;
 use wasm_encode::{EncodeFault, encode};
@@ -50,6 +48,7 @@ pub(crate) fn replay_of(
     requires short { IsShortModule checked }
     requires bytes { HasBytes checked }
     requires fits { Fits checked script.now }
+    requires few { turns ≤ 2000000 }
     ensures cause { IfErr result (λ fault. (fault ≡ Memory) ⊎ IsUnmade checked script.now turns fault) }
     ensures refused { (fault : Fault) → IsUnmade checked script.now turns fault
         → (result ≡ Err fault) ⊎ (result ≡ Err Memory) }
@@ -74,6 +73,7 @@ fn made(
     requires short { IsShortModule checked }
     requires bytes { HasBytes checked }
     requires fits { Fits checked script.now }
+    requires few { turns ≤ 2000000 }
     ensures cause { IfErr result (λ fault. (fault ≡ Memory) ⊎ IsUnmade checked script.now turns fault) }
     ensures printed { IfOk result (λ printed. IsReplayFor checked script.now turns (length bytes.now) printed.items) }
     ensures replayable { OnOk result (IsReplayable checked script.now turns) }
@@ -93,8 +93,7 @@ fn made(
     )
 }
 
-/// The answers and the calls that a replay of the run needs, out of all that the script has, where the
-/// run has an outcome within the turns.
+/// The answers and the calls of the run, where it has an outcome within the turns.
 fn used_in_run(
     alloc: Global,
     checked: &Checked,
@@ -108,18 +107,14 @@ fn used_in_run(
     requires typed { IsStore checked.now store }
     requires opened { opening checked.now script.now ≡ Ok (start_of checked.now script.now store) }
     requires built { IsBuilt checked.now script.now }
+    requires few { turns ≤ 2000000 }
     ensures cause { IfErr result (λ fault. (fault ≡ Memory) ⊎ IsUnmade checked.now script.now turns fault) }
-    ensures ends { IfOk result (λ used. (run : Run) × (outcome : Outcome) × HasOutcome checked.now script.now turns run outcome
-        × Covers script.now run.history (table_of used.answers.items) used.calls.items) }
-    ensures short { OnOk result (IsShort script.now) }
-    ensures few { IfOk result (λ used. sum_by length (table_of used.answers.items) + length used.calls.items ≤ 2 ^ 26) }
+    ensures used { IfOk result (λ used. AreOfRun checked.now script.now turns (table_of used.answers.items) used.calls.items) }
 {
-    all_of_plain_script();
-    let _told = told(alloc, checked, script, store, turns)?;
-    let parts = parts_of(alloc, script)?;
-    if !are_few(&parts.answers, &parts.calls) {
-        return Err(Fault::NotBuilt);
-    }
+    plain_runs_follow_scripts();
+    calls_take_turns();
+    let run = played(alloc, checked, script, store, turns)?;
+    let parts = parts_of(alloc, script, run.imports.as_slice(), run.calls)?;
     Ok(parts)
 }
 
@@ -136,18 +131,16 @@ fn written(
     requires small { length bytes.now ≤ 8388608 }
     requires valid { IsValid «module» }
     requires built { IsBuilt «module» script.now }
-    requires covers { (history : List Entry) × Covers script.now history (table_of answers.now) calls.now }
-    requires few { sum_by length (table_of answers.now) + length calls.now ≤ 2 ^ 26 }
+    requires used { (turns : ℕ) × (turns ≤ 2000000) × AreOfRun «module» script.now turns (table_of answers.now) calls.now }
     ensures cause { IfErr result (λ fault. fault ≡ Memory) }
-    ensures printed { IfOk result (λ printed. (turns : ℕ) (run : Run) (outcome : Outcome)
-        → HasOutcome «module» script.now turns run outcome → Covers script.now run.history (table_of answers.now) calls.now
+    ensures printed { IfOk result (λ printed. (turns : ℕ) → AreOfRun «module» script.now turns (table_of answers.now) calls.now
         → IsReplayFor «module» script.now turns (length bytes.now) printed.items) }
 {
-    core_form();
-    replay_of_plain_run();
+    used_by_plain_run();
     lists_of_encoding();
     size_of_replay();
     encoding_of_replay();
+    replay_of_run();
     let replay = replay_module(alloc, module, answers, calls)?;
     match encode(alloc, &replay, u32::MAX) {
         Ok(printed) => Ok(printed),

@@ -1,6 +1,6 @@
 use Rattle.std.proofs.Common.{arith}
 use Rattle.plain_replay.specs.Forms.{IsPlainCall}
-use Rattle.plain_maker.proofs.Scans.{passes, fails, all_pass}
+use Rattle.plain_maker.proofs.Scans.{passes, all_pass}
 use Rattle.plain_maker.proofs.plainness.are_plain_calls.Goals as goal
 
 pub loop-action-preserved : goal.loop-action-preserved

@@ -42,7 +42,7 @@ replay_of-requires-clause-supported c = c.accepted_modules_run.ensures.supported
 pub replay_of-requires-clause-short : goal.replay_of-requires-clause-short
 replay_of-requires-clause-short c =
     let taken = c.in_ok-checked.ensures.taken in
-    c.accepted_modules_run.ensures.short c.in_ok-checked.checked (length c.args.module.now) taken.accepted c.requires (c.lists_of_encoding.ensures.within Core c.args.module.now c.in_ok-checked.checked taken.encoded)
+    c.accepted_modules_run.ensures.short c.in_ok-checked.checked (length c.args.module.now) taken.accepted c.requires.small (c.lists_of_encoding.ensures.within Core c.args.module.now c.in_ok-checked.checked taken.encoded)
 
 -- why there is no replay module, of the bytes of the module and of the script
 returned : {T : Type 0} (r : Result T Fault) (P Q : Fault → Type 0) → ((fault : Fault) → P fault → Q fault) → IfErr r (λ fault. (fault ≡ Memory) ⊎ P fault) → IfErr r (λ fault. (fault ≡ Memory) ⊎ Q fault)

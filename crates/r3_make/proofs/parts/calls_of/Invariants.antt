@@ -3,4 +3,4 @@ use Rattle.plain_replay.specs.Covers.{calling}
 use Rattle.r3_make.proofs.parts.calls_of.Given as goal
 
 abbrev pub invariant-actions : goal.invariant-actions
-invariant-actions l = take l.action-index l.actions ≡ map calling l.calls.items
+invariant-actions l = map calling l.calls.items ≡ take l.action-index l.actions
