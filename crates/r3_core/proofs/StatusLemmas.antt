@@ -214,7 +214,6 @@ unmade-status m played turns fault (refusals.OfLink u) = named-other fault (unli
 unmade-status m played turns fault (refusals.OfForm u) = named-other fault faults.NotBuilt u.named not-19
 unmade-status m played turns fault (refusals.OfRun built (runs.OfScript u)) = named-other fault (faults.Script u.turn u.kind) u.named not-11
 unmade-status m played turns fault (refusals.OfRun built (runs.OfTurns u)) = named-other fault (faults.Spent turns) u.named not-12
-unmade-status m played turns fault (refusals.OfSize built u) = named-other fault faults.NotBuilt u.named not-19
 
 make-status : (module_bytes script_bytes : List ℕ) (turns : ℕ) (fault : Fault) → IsMakeRefusal module_bytes script_bytes turns fault → IsOther (status_of fault)
 make-status m s turns fault (OfInputs refused) = inputs-other m s fault refused

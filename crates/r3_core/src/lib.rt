@@ -18,6 +18,7 @@ use std::alloc::Global;
 use words::{Call, Command, call_of};
 
 mod loading;
+mod sure;
 #[cfg(test)]
 mod tests;
 mod words;
@@ -25,6 +26,7 @@ mod words;
 pub use r3_faults::Fault;
 pub use r3_history::history;
 pub use r3_make::make;
+pub use sure::r3_in_memory;
 
 /// Does what the words behind the program's name say, and answers the status that the program ends
 /// with.

@@ -1,10 +1,6 @@
 // The call on worked examples, over files and sinks in memory.
 
-ghost use Rattle.std.specs.Prelude.{◌≡◌, ◌≢◌, ◌⊎◌, IsSome};
-ghost use Rattle.r3_core.specs.Words.{texts, files_of, IsBuilt};
-ghost use Rattle.r3_core.specs.Causes.{first_longer};
-
-use crate::r3;
+use crate::{r3, r3_in_memory};
 use r3_outside::{MemFiles, MemSink, SureFiles, SureSink};
 use std::alloc::Global;
 use std::test::Fail;
@@ -38,23 +34,6 @@ fn answer(alloc: Global, words: &[&str], files: &mut MemFiles) -> Result<Outcome
         printed: Vec::from_slice(alloc, out.bytes())?,
         line: Vec::from_slice(alloc, err.bytes())?,
     })
-}
-
-/// Over files and sinks that never fail no status speaks of a fault of theirs.
-fn sure_status(
-    alloc: Global,
-    words: &[String],
-    files: &mut SureFiles,
-    out: &mut SureSink,
-    err: &mut SureSink,
-) -> u8
-    ensures no_read_fault { result ≢ 3 }
-    ensures no_write_fault { result ≢ 13 }
-    ensures longer { IsBuilt (texts words.now)
-        → IsSome (first_longer files.old.files (files_of (texts words.now)))
-        → (result ≡ 4) ⊎ (result ≡ 14) }
-{
-    r3(alloc, words, files, out, err)
 }
 
 fn two_answers(alloc: Global, failing: Vec<u64>) -> Result<MemFiles, Fail> {
@@ -152,7 +131,7 @@ fn sure_files_and_sinks_do_the_job(rt: HostRuntime) -> Result<(), Fail> {
     let mut out = SureSink::new(alloc);
     let mut err = SureSink::new(alloc);
     assert_eq!(rt;
-        sure_status(alloc, words.as_slice(), &mut files, &mut out, &mut err),
+        r3_in_memory(alloc, words.as_slice(), &mut files, &mut out, &mut err),
         0
     );
     assert_eq!(rt; err.bytes(), Some(b"".as_slice()));

@@ -1,0 +1,35 @@
+use Rattle.std.proofs.Common.{◌≡◌, ℕ, zero, suc, [], ◌∷◌, refl, sym, inl, inr, ◌⊎◌, arith}
+use Rattle.std.specs.List.{Contains}
+use Rattle.r3_faults.specs.Lines.{status_of}
+use Rattle.r3_core.proofs.sure.r3_in_memory.Goals as goal
+
+too_long-or_memory : (x : ℕ) → Contains (3 ∷ 4 ∷ 14 ∷ []) x → (x ≡ 3 → ⊥) → (x ≡ 4) ⊎ (x ≡ 14)
+too_long-or_memory x (zero, h, e) other = absurd (other (sym e))
+too_long-or_memory x (suc zero, h, e) other = inl (sym e)
+too_long-or_memory x (suc (suc zero), h, e) other = inr (sym e)
+too_long-or_memory x (suc (suc (suc k)), h, e) other = absurd (omega arith)
+
+refusal-or_memory : (x status : ℕ) → Contains (status ∷ 3 ∷ 14 ∷ []) x → (x ≡ 3 → ⊥) → (x ≡ status) ⊎ (x ≡ 14)
+refusal-or_memory x status (zero, h, e) other = inl (sym e)
+refusal-or_memory x status (suc zero, h, e) other = absurd (other (sym e))
+refusal-or_memory x status (suc (suc zero), h, e) other = inr (sym e)
+refusal-or_memory x status (suc (suc (suc k)), h, e) other = absurd (omega arith)
+
+done-or_memory : (x : ℕ) → Contains (0 ∷ 3 ∷ 13 ∷ 14 ∷ []) x → (x ≡ 3 → ⊥) → (x ≡ 13 → ⊥) → (x ≡ 0) ⊎ (x ≡ 14)
+done-or_memory x (zero, h, e) read write = inl (sym e)
+done-or_memory x (suc zero, h, e) read write = absurd (read (sym e))
+done-or_memory x (suc (suc zero), h, e) read write = absurd (write (sym e))
+done-or_memory x (suc (suc (suc zero)), h, e) read write = inr (sym e)
+done-or_memory x (suc (suc (suc (suc k))), h, e) read write = absurd (omega arith)
+
+pub returns-clause-longer : goal.returns-clause-longer
+returns-clause-longer c = λ built longer.
+    too_long-or_memory c.r3.result (c.r3.ensures.longer built _ refl longer) (λ e. absurd (omega (arith, c.r3.ensures.read e)))
+
+pub returns-clause-refused : goal.returns-clause-refused
+returns-clause-refused c = λ command names number fault says none refusal.
+    refusal-or_memory c.r3.result (status_of fault) (c.r3.ensures.refused command names number fault says _ refl none refusal) (λ e. absurd (omega (arith, c.r3.ensures.read e)))
+
+pub returns-clause-done : goal.returns-clause-done
+returns-clause-done c = λ command names number says none doable.
+    done-or_memory c.r3.result (c.r3.ensures.done command names number says _ refl none doable) (λ e. absurd (omega (arith, c.r3.ensures.read e))) (λ e. absurd (omega (arith, c.r3.ensures.write e)))

@@ -1,0 +1,46 @@
+// The call over files and sinks that never fail.
+
+ghost use Rattle.std.specs.Prelude.{◌≡◌, ◌≢◌, ◌⊎◌, ℕ, List, map, Option, Some, None, IsSome};
+ghost use Rattle.r3_outside.specs.Contents.{file_bytes};
+ghost use Rattle.r3_outside.specs.Written.{Grew};
+ghost use Rattle.r3_faults.specs.declared.faults.Fault.{Fault};
+ghost use Rattle.r3_faults.specs.Lines.{status_of};
+ghost use Rattle.r3_core.specs.Words.{texts, files_of, IsBuilt, Says};
+ghost use Rattle.r3_core.specs.declared.words.Command.{Command};
+ghost use Rattle.r3_core.specs.Causes.{first_longer, IsDoable, IsPrintedFor, IsRefusal};
+
+use crate::r3;
+use r3_outside::{SureFiles, SureSink};
+use std::alloc::Global;
+
+/// [`r3`] over files and sinks in memory, which never fail: no status speaks of a fault of theirs. Where
+/// the words are those of a command that is built and its files are within their limits, the status is 0
+/// where the job can be done and that of the refusal where it can't, and 14 for want of memory alone.
+pub fn r3_in_memory(
+    alloc: Global,
+    words: &[String],
+    files: &mut SureFiles,
+    out: &mut SureSink,
+    err: &mut SureSink,
+) -> u8
+    ensures no_read_fault { result ≢ 3 }
+    ensures no_write_fault { result ≢ 13 }
+    ensures longer { IsBuilt (texts words.now)
+        → IsSome (first_longer files.old.files (files_of (texts words.now)))
+        → (result ≡ 4) ⊎ (result ≡ 14) }
+    ensures refused { (command : Command) (names : List (List ℕ)) (number : Option ℕ) (fault : Fault)
+        → Says (texts words.now) command names number
+        → first_longer files.old.files (files_of (texts words.now)) ≡ None
+        → IsRefusal command (map (file_bytes files.old.files) names) number fault
+        → (result ≡ status_of fault) ⊎ (result ≡ 14) }
+    ensures done { (command : Command) (names : List (List ℕ)) (number : Option ℕ)
+        → Says (texts words.now) command names number
+        → first_longer files.old.files (files_of (texts words.now)) ≡ None
+        → IsDoable command (map (file_bytes files.old.files) names) number
+        → (result ≡ 0) ⊎ (result ≡ 14) }
+    ensures printed { result ≡ 0 → (bytes : List ℕ)
+        × IsPrintedFor (texts words.now) (Some files.old.files) bytes
+        × Grew out.old out.new bytes }
+{
+    r3(alloc, words, files, out, err)
+}
