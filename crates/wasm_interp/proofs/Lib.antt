@@ -18,3 +18,4 @@ pub mod Walking
 pub mod Stretching
 pub mod Meters
 pub mod Lessening
+pub mod Shortening

@@ -11,3 +11,5 @@ pub mod Lending
 pub mod Running
 pub mod Walks
 pub mod Ahead
+pub mod Quick
+pub mod Sound
