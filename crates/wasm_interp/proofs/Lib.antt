@@ -19,3 +19,4 @@ pub mod Stretching
 pub mod Meters
 pub mod Lessening
 pub mod Shortening
+pub mod Pushed

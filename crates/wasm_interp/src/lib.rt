@@ -7,6 +7,7 @@ mod calls;
 pub mod deeds;
 mod host;
 mod laws;
+mod leaving;
 pub mod machine;
 mod memory;
 mod numeric;
