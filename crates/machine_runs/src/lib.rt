@@ -1,0 +1,8 @@
+//! The machine alone: the machine of a module, calls of its functions, and how they go on.
+#![tactic(auto)]
+
+mod calling;
+pub mod loading;
+
+pub use loading::{Loaded, MachineFault, machine_of};
+pub use no_memory::NoMemory;
