@@ -1,6 +1,6 @@
 -- Where a machine stands: before the host's first call, and at a pause.
 use Rattle.std.proofs.Common.{◌≡◌, ℕ, List, [], ◌∷◌, refl, ap, ◌∙◌, subst}
-use Rattle.std.specs.Prelude.{Result, Ok, Err, IfOk, replicate, All, false, ◌≤◌, Some}
+use Rattle.std.specs.Prelude.{Option, None, Result, Ok, Err, IfOk, replicate, All, false, ◌≤◌, Some}
 use Rattle.std.proofs.lemmas.List.{length-replicate}
 use Rattle.std.proofs.lemmas.List.Elements.{All-nil}
 use Rattle.wasm_syntax.specs.declared.signatures.FuncType.{FuncType}
@@ -13,7 +13,8 @@ use Rattle.host_script.specs.declared.scripts.Script.{Script}
 use Rattle.host_script.specs.Fits.{FitActions, FitsAction, Fits}
 use Rattle.history_spec.specs.Code.{code_of, signature}
 use Rattle.history_spec.specs.Configuration.{Activation, Frame, InMain, InModule}
-use Rattle.history_spec.specs.Step.{Stepped}
+use Rattle.history_spec.specs.Settle.{settle}
+use Rattle.history_spec.specs.Step.{Stepped, come_to_stand, step}
 use Rattle.history_spec.specs.Run.{Meter, program_of}
 use Rattle.type_safety.specs.Configurations.{IsTypedCode}
 use Rattle.type_safety.specs.Heights.{Heights}
@@ -25,9 +26,10 @@ use Rattle.wasm_flat.specs.Meters.{Weighing, meter_of}
 use Rattle.flat_steps.specs.Follows.{outside_of}
 use Rattle.wasm_interp.specs.declared.machine.Pause.{Pause}
 use Rattle.wasm_interp.specs.declared.machine.Pause.TheVariants as pause
-use Rattle.wasm_interp.specs.Running.{AdvancesRun, EndsRun, InvokesRun, IsRun}
+use Rattle.wasm_interp.specs.declared.machine.Turn.{Turn}
+use Rattle.wasm_interp.specs.Running.{AdvancesRun, Comes, EndsRun, InvokesRun, IsRun, SettlesRun, TurnIsStep, config_of}
 use Rattle.wasm_interp.specs.State.{State, StandsFor}
-use Rattle.machine_runs.specs.Standing.{SomeRun, IsIdle, IsRunning, IsCalling, IsPaused, host}
+use Rattle.machine_runs.specs.Standing.{SomeRun, ComesBy, IsIdle, IsRunning, IsStanding, IsCalling, IsPaused, host}
 
 -- a run of a module under a script that fits it
 abbrev pub some_run : (m : Module) (script : Script) (heights : Heights) → IsValid m → IsTypedCode m heights → Fits m script → SomeRun m
@@ -82,3 +84,33 @@ pub paused : (m : Module) (old new : State) (weighing : Weighing) (turns left : 
 paused m old new weighing turns left end i advances =
     let a = advances m i.run.heights i.run.program i.run.counts i.frame i.below i.run.is_run i.stands in
     paused_by m i.run (meter_of m weighing) (outside_of i.below) i.called left a.entries new a.last end a.ends
+
+-- behind a part of the run
+module _ (m : Module) (r : SomeRun m) (outside : List Activation) (is_host : outside ≡ host) (entries : List Entry) (new : State) (s : Stepped) where
+  pub comes_by : (end : Option Pause) → Comes m r.heights r.program outside r.counts end entries new s → ComesBy m end new
+  comes_by None e = record { running = record { run = r; frame = e.frame; below = e.below; stands = e.stands; called = e.same_outside ∙ is_host }; going = e.going }
+  comes_by (Some (pause.Import index)) e = record {
+    run = r;
+    frame = e.frame;
+    below = e.below;
+    ty = e.ty;
+    args = e.args;
+    has_type = e.has_type;
+    values = e.values;
+    stands = e.stands;
+    called = e.same_outside ∙ is_host;
+  }
+  comes_by (Some pause.Returned) e = record { run = r; stands = subst (λ o. StandsFor m r.heights o new) is_host e.stands }
+  comes_by (Some pause.Trapped) e = tt
+  comes_by (Some pause.Spent) e = absurd e
+
+pub settled : (m : Module) (old new : State) (turn : Turn) → IsRunning m old → SettlesRun old turn new → ComesBy m turn.pause new
+settled m old new turn i run =
+    comes_by m i.run (outside_of i.below) i.called turn.entries new (come_to_stand old.store i.run.counts (settle (InModule i.frame ∷ i.below))) turn.pause
+    (run m i.run.heights i.run.program i.run.counts i.frame i.below i.run.is_run i.stands)
+
+pub turned : (m : Module) (old new : State) (turn : Turn) → IsStanding m old → TurnIsStep old turn new → ComesBy m turn.pause new
+turned m old new turn st run =
+    let i = st.running in
+    comes_by m i.run (outside_of i.below) i.called turn.entries new (step i.run.program (config_of old (InModule i.frame ∷ i.below) i.run.counts)) turn.pause
+    (run m i.run.heights i.run.program i.run.counts i.frame i.below i.run.is_run i.stands st.going)

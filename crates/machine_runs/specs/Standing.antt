@@ -1,5 +1,5 @@
 -- Where a machine stands in a run of a module whose host makes single calls.
-use Rattle.std.specs.Prelude.{◌≡◌, ℕ, List, [], ◌∷◌, Some}
+use Rattle.std.specs.Prelude.{◌≡◌, ℕ, List, [], ◌∷◌, Option, Some, None}
 use Rattle.wasm_syntax.specs.declared.values.Val.{Val}
 use Rattle.wasm_syntax.specs.declared.signatures.FuncType.{FuncType}
 use Rattle.wasm_syntax.specs.declared.modules.Module.{Module}
@@ -9,6 +9,7 @@ use Rattle.host_script.specs.Fits.{FitActions, FitsEnd}
 use Rattle.history_spec.specs.Code.{code_of, signature}
 use Rattle.history_spec.specs.Configuration.{Activation, Frame, InMain, InImport, InModule}
 use Rattle.history_spec.specs.Step.{Program}
+use Rattle.type_safety.specs.Configurations.{IsGoing}
 use Rattle.type_safety.specs.Heights.{Heights}
 use Rattle.type_safety.specs.Stores.{func_count}
 use Rattle.type_safety.specs.Values.{AreValues}
@@ -61,3 +62,13 @@ IsPaused m (pause.Import index) machine = IsCalling m index machine
 IsPaused m pause.Returned machine = IsIdle m machine
 IsPaused m pause.Trapped machine = Unit {0}
 IsPaused m pause.Spent machine = IsRunning m machine
+
+-- the machine stands at an instruction, no return is due
+pub record IsStanding (m : Module) (machine : State) : Type 0 where
+  pub running : IsRunning m machine
+  pub going : IsGoing running.frame.at.rest
+
+-- where it stands behind a part of the run that ends with a pause, or with none
+abbrev pub ComesBy : Module → Option Pause → State → Type 0
+ComesBy m None machine = IsStanding m machine
+ComesBy m (Some «end») machine = IsPaused m «end» machine

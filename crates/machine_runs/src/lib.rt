@@ -3,6 +3,7 @@
 
 mod calling;
 pub mod loading;
+mod stepping;
 
 pub use loading::{Loaded, MachineFault, machine_of};
 pub use no_memory::NoMemory;
