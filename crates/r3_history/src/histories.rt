@@ -6,7 +6,7 @@ ghost use Rattle.r3_faults.specs.declared.faults.Fault.TheVariants.{Memory};
 ghost use Rattle.r3_history.specs.Histories.{IsHistory, IsHistoryRefusal};
 
 use crate::telling::history_of;
-use accepted_runs::accepted_modules_run;
+use accepted_modules::accepted_modules_run;
 use encoding_sizes::lists_of_encoding;
 use r3_faults::Fault;
 use r3_inputs::{module_of, script_of};

@@ -7,7 +7,7 @@ ghost use Rattle.r3_make.specs.Refusals.{AreReplayable, IsMakeRefusal};
 ghost use Rattle.r3_make.specs.Printed.{IsPrinted};
 
 use crate::replaying::replay_of;
-use accepted_runs::accepted_modules_run;
+use accepted_modules::accepted_modules_run;
 use encoding_sizes::lists_of_encoding;
 use r3_faults::Fault;
 use r3_inputs::{module_of, script_of};
