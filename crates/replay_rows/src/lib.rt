@@ -1,0 +1,18 @@
+//! Tests alone: what `make` prints is run on the machine, and what its run shows of the original
+//! functions is compared, line by line, with the history of the scripted run.
+#![tactic(auto)]
+
+#[cfg(test)]
+mod hand_written;
+#[cfg(test)]
+mod loading;
+#[cfg(test)]
+mod long_runs;
+#[cfg(test)]
+mod machines;
+#[cfg(test)]
+mod projecting;
+#[cfg(test)]
+mod replays;
+#[cfg(test)]
+mod rows;
