@@ -20,3 +20,4 @@ pub mod Meters
 pub mod Lessening
 pub mod Shortening
 pub mod Pushed
+pub mod Quickly
