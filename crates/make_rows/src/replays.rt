@@ -44,10 +44,11 @@ const NUMBERS: &str =
 /// calls `g`.
 fn answering(alloc: Global, first: &[u32], count: u32) -> Result<String, Fail> {
     let mut script = String::from_str(alloc, r#"{"imports":{"h":{"f":{"calls":["#)?;
-    let mut separator = "";
-    for number in first.iter().copied().chain(0..count) {
-        write!(script, "{separator}{{\"return\":{{\"i32\":{number}}}}}")?;
-        separator = ",";
+    for (index, number) in first.iter().copied().chain(0..count).enumerate() {
+        if index > 0 {
+            script.push_str(",")?;
+        }
+        write!(script, "{{\"return\":{{\"i32\":{number}}}}}")?;
     }
     script.push_str(r#"]}}},"main":[{"call":"g"}]}"#)?;
     Ok(script)

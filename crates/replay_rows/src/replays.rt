@@ -59,8 +59,8 @@ pub fn shown_by(alloc: Global, bytes: &[u8]) -> Result<Vec<u8>, Fail> {
 /// The replay module of the run of a module, in hexadecimal, with a script.
 pub fn made(alloc: Global, module: &str, script: &str, turns: u64) -> Result<Vec<u8>, Fail> {
     let bytes = hex::decode(alloc, module)?;
-    if bytes.len() > 8_388_608 {
-        return Err(Fail::from("too many bytes"));
+    if bytes.len() > 8_388_608 || turns > 2_000_000 {
+        return Err(Fail::from("too many bytes or turns"));
     }
     Ok(make(alloc, bytes.as_slice(), script.as_bytes(), turns)?)
 }
