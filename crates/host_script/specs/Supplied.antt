@@ -15,7 +15,7 @@ use Rattle.host_script.specs.declared.scripts.Supply.{Supply}
 use Rattle.host_script.specs.declared.scripts.LinkFault.{LinkFault}
 use Rattle.host_script.specs.declared.scripts.LinkFault.TheVariants.{Missing, Mismatch}
 
--- the most pages and the most entries that a memory and a table may begin with
+-- the most pages and the most entries that a memory and a table may begin with: limits of this project
 abbrev pub most_pages : ℕ
 most_pages = 4096
 

@@ -1,4 +1,4 @@
--- What is supplied for a module's imports and matches them (Core 1.0, 4.5.3).
+-- What is supplied for a module's imports and matches them (Core 1.0, 4.5.2).
 use Rattle.std.specs.Prelude.{ℕ, ◌<◌, List, [], ◌∷◌, map, Option, Some, None, IsTrue, All}
 use Rattle.wasm_syntax.specs.declared.signatures.Limits.{Limits}
 use Rattle.wasm_syntax.specs.declared.modules.Module.{Module}

@@ -1,4 +1,4 @@
--- Grammars of the binary format (Core 1.0, 5.1.2): which bytes encode which value. Each is a relation on whole
+-- Grammars of the binary format (Core 1.0, 5.1.1): which bytes encode which value. Each is a relation on whole
 -- lists of bytes, and a production parts them by ◌++◌.
 use Rattle.std.specs.Prelude.{◌≡◌, ℕ, List, [], ◌∷◌, ◌++◌, length}
 use Rattle.leb_bytes.specs.Unsigned.{EncodesU32}
