@@ -23,13 +23,6 @@ ghost use Rattle.plain_maker.specs.Replay.{IsReplay};
 use plain_replay::laws::{core_form, replay_of_plain_run, used_by_plain_run};
 use wasm_syntax::{encoding_forms, shortest_encoding};
 
-/// The types, imports and functions of a module are no more than the bytes that encode it.
-pub fn parts_of_encoding()
-    ensures few { (form : Form) (bytes : List ℕ) (m : Module) → Encodes form bytes m → length m.types + length m.imports + length m.funcs ≤ length bytes }
-{
-    shortest_encoding();
-}
-
 /// The size of a replay module: its shortest encoding has at most 64 bytes an import, 32 an answer or
 /// call of the host, and 1,024 more than any encoding of the original.
 pub fn size_of_replay()

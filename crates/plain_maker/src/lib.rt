@@ -13,7 +13,7 @@ mod scripts;
 mod tests;
 
 pub use forms::is_integer_code;
-pub use laws::{encoding_of_replay, parts_of_encoding, replay_of_run, size_of_replay};
+pub use laws::{encoding_of_replay, replay_of_run, size_of_replay};
 pub use made::replay_module;
 pub use no_memory::NoMemory;
 pub use plainness::is_plain;
