@@ -26,7 +26,7 @@ use Rattle.host_play.specs.declared.playing.Host.{Host}
 use Rattle.host_play.specs.declared.playing.Playing.{Playing}
 use Rattle.host_play.specs.declared.playing.Refusal.{Refusal}
 use Rattle.host_play.specs.declared.playing.Stand.TheVariants as at
-use Rattle.host_play.specs.Hosts.{Begins, HasNoResponse}
+use Rattle.host_play.specs.Hosts.{BeginsAnswer, HasNoResponse}
 use Rattle.host_play.specs.Reached.{CountsSoFar, HasCounted}
 use Rattle.host_play.specs.Results.{Refuses, refused}
 use Rattle.host_play.specs.Standing.{Standing}
@@ -132,7 +132,7 @@ module _ (m : Module) (script : Script) (s : Stepped) (playing : Playing) (stand
       }
 
       pub to_import : (index : ℕ) → end ≡ pause.Import index → (hosts : List Host) (new_playing : Playing) → new_playing.machine ≡ new → new_playing.functions ≡ playing.functions → new_playing.hosts ≡ hosts
-          → Begins script playing.hosts playing.counts.items index hosts new_playing.counts.items → CountsSoFar m script begun budget calls at.Host new_playing now
+          → BeginsAnswer script playing.hosts playing.counts.items index hosts new_playing.counts.items → CountsSoFar m script begun budget calls at.Host new_playing now
       to_import index is hosts new_playing same_machine same_functions same_hosts begins =
           let own : AreOwnUpTo (pause.Import index) (a.before ++ a.entries) = own_as (pause.Import index) is in
           record {

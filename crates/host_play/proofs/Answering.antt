@@ -25,7 +25,7 @@ use Rattle.host_play.specs.declared.playing.Stand.TheVariants as at
 use Rattle.host_play.specs.declared.playing.Refusal.{Refusal}
 use Rattle.host_play.specs.declared.playing.Refusal.TheVariants as refusal
 use Rattle.host_play.specs.declared.playing.Playing.{Playing}
-use Rattle.host_play.specs.Hosts.{Begins, HasNoResponse, Plays, kept}
+use Rattle.host_play.specs.Hosts.{BeginsAnswer, HasNoResponse, Plays, kept}
 use Rattle.host_play.specs.Standing.{Leads, Stops}
 use Rattle.host_play.proofs.Coming.{after_both}
 use Rattle.host_play.proofs.Counts.{kept_at, kept_more, kept_there}
@@ -51,7 +51,7 @@ module _ (m : Module) (heights : Heights) (script : Script) (counts : List ℕ) 
   no_response refusal.Memory none = tt
 
   pub import_begins : (new_hosts : List Host) (new_playing : Playing) → new_playing.machine ≡ machine → new_playing.functions ≡ playing.functions → new_playing.hosts ≡ new_hosts
-      → Begins script playing.hosts playing.counts.items index new_hosts new_playing.counts.items → Leads m script s entries at.Host new_playing
+      → BeginsAnswer script playing.hosts playing.counts.items index new_hosts new_playing.counts.items → Leads m script s entries at.Host new_playing
   import_begins new_hosts new_playing same_machine same_functions same_hosts begins =
       let response : Response = begins.response in
       let chosen : response_to script.imports index (slice_index counts index) ≡ Some response = begins.chosen (slice_index counts index) number in

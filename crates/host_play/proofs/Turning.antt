@@ -19,7 +19,7 @@ use Rattle.host_play.specs.declared.playing.Host.{Host}
 use Rattle.host_play.specs.declared.playing.Refusal.{Refusal}
 use Rattle.host_play.specs.declared.playing.Playing.{Playing}
 use Rattle.host_play.specs.Deeds.{moved}
-use Rattle.host_play.specs.Hosts.{Begins, HasNoResponse}
+use Rattle.host_play.specs.Hosts.{BeginsAnswer, HasNoResponse}
 use Rattle.host_play.specs.Standing.{LeadsBy, MakesStep, Standing}
 use Rattle.host_play.proofs.Answering as answering
 use Rattle.host_play.proofs.Coming.{at_instruction, at_host, at_trap}
@@ -80,7 +80,7 @@ module _ (m : Module) (script : Script) (s : Stepped) (playing : Playing) (machi
         (answering.no_response m standing.heights script standing.counts standing.is_run standing.goes_on.below playing standing.functions standing.counted standing.goes_on.stack.hosts turn.entries machine (step (program_of m script) config) index comes refused none)
 
     pub import_begins : (hosts : List Host) (new_playing : Playing) → new_playing.machine ≡ machine → new_playing.functions ≡ playing.functions → new_playing.hosts ≡ hosts
-        → Begins script playing.hosts playing.counts.items index hosts new_playing.counts.items → MakesStep m script s (Ok (moved at.Host turn.entries)) new_playing
+        → BeginsAnswer script playing.hosts playing.counts.items index hosts new_playing.counts.items → MakesStep m script s (Ok (moved at.Host turn.entries)) new_playing
     import_begins hosts new_playing same_machine same_functions same_hosts begins =
         turns (Ok (moved at.Host turn.entries)) new_playing
         (answering.import_begins m standing.heights script standing.counts standing.is_run standing.goes_on.below playing standing.functions standing.counted standing.goes_on.stack.hosts turn.entries machine (step (program_of m script) config) index comes

@@ -89,7 +89,7 @@ abbrev pub IsResponse : Script → (import number : ℕ) → Option Response →
 IsResponse script import number found = (count : ℕ) → kept count ≡ number → response_to script.imports import count ≡ found
 
 -- the host begins the answer to a call of an import, or there is no response to it
-pub record Begins (script : Script) (hosts : List Host) (counts : List ℕ) (import : ℕ) (new_hosts : List Host) (new_counts : List ℕ) : Type 0 where
+pub record BeginsAnswer (script : Script) (hosts : List Host) (counts : List ℕ) (import : ℕ) (new_hosts : List Host) (new_counts : List ℕ) : Type 0 where
   pub response : Response
   pub chosen : IsResponse script import (slice_index counts import) (Some response)
   pub pushed : new_hosts ≡ host.Answer import (slice_index counts import) 0 ∷ hosts
@@ -101,5 +101,5 @@ HasNoResponse script counts import (refusal.Fault kind) = (kind ≡ NoResponse) 
 HasNoResponse script counts import refusal.Memory = Unit {0}
 
 abbrev pub BeginsBy : Script → List Host → (counts : List ℕ) → (import : ℕ) → Result (Unit {0}) Refusal → List Host → List ℕ → Type 0
-BeginsBy script hosts counts import (Ok done) new_hosts new_counts = Begins script hosts counts import new_hosts new_counts
+BeginsBy script hosts counts import (Ok done) new_hosts new_counts = BeginsAnswer script hosts counts import new_hosts new_counts
 BeginsBy script hosts counts import (Err refused) new_hosts new_counts = HasNoResponse script counts import refused

@@ -3,7 +3,7 @@
 ghost use Rattle.std.specs.Prelude.{◌≡◌, ◌≢◌, ℕ, ◌+◌, ◌<◌, ◌∷◌, length, map, IfOk, OnOk, IsErr, Err};
 ghost use Rattle.wasm_syntax.specs.declared.modules.Module.{Module};
 ghost use Rattle.history_spec.specs.Step.{Stepped};
-ghost use Rattle.host_play.specs.Hosts.{Begins, BeginsBy};
+ghost use Rattle.host_play.specs.Hosts.{BeginsAnswer, BeginsBy};
 ghost use Rattle.host_play.specs.Standing.{IsPlayed, LeadsBy, MakesStep, Standing, rest};
 
 use crate::deeds::Moved;
