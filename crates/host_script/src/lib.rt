@@ -1,6 +1,7 @@
 //! Scripts that play a module's host: what it supplies, and what it does when the module calls it.
 #![tactic(auto)]
 
+mod copies;
 pub mod scripts;
 
 pub use no_memory::NoMemory;

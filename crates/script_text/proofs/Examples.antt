@@ -1,5 +1,5 @@
 -- Scripts and their faults, computed from the definitions.
-use Rattle.std.proofs.Common.{◌≡◌, ℕ, List, [], ◌∷◌, Option, Some, None, Result, Ok, Err, codes, refl}
+use Rattle.std.proofs.Common.{◌≡◌, ℕ, List, [], ◌∷◌, None, Err, codes, refl}
 use Rattle.std.specs.Bool.{⊤}
 use Rattle.serde_json.proofs.OnLiterals.{serde_json_on_literals}
 use Rattle.hex.proofs.OnLiterals.{hex_on_literals}

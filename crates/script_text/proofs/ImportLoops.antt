@@ -1,5 +1,5 @@
 -- Indexes of imports, filled by loops.
-use Rattle.std.proofs.Common.{◌≡◌, ℕ, suc, ◌+◌, ◌<◌, ◌≤◌, List, [], ◌∷◌, ◌++◌, map, take, length, get_or, filter, Option, Some, None, option_map, Bor, Bool, true, false, ◌&&◌, ◌||◌, is_some, cond, sym, ap, refl, subst, ◌∙◌, arith, unwrap_or, add-zero, Vec, Global}
+use Rattle.std.proofs.Common.{◌≡◌, ℕ, ◌+◌, ◌<◌, ◌≤◌, List, [], ◌∷◌, ◌++◌, map, take, length, get_or, filter, Option, Some, None, option_map, Bor, Bool, true, false, ◌&&◌, ◌||◌, is_some, cond, sym, ap, refl, ◌∙◌, arith, unwrap_or, add-zero, Vec, Global}
 use Rattle.std.specs.Prelude.{filter_map}
 use Rattle.std.specs.List.{list_any, cons_option}
 use Rattle.std.specs.Option.{option_or, option_to_list}
@@ -13,7 +13,6 @@ use Rattle.wasm_syntax.specs.declared.modules.Module.{Module}
 use Rattle.wasm_syntax.specs.declared.modules.Import.{Import}
 use Rattle.script_text.specs.Names.{is_from, is_named, first_named, import_type}
 use Rattle.script_text.specs.Indexed.{types_named, Types, types_of, under_names, AddsType}
-use Rattle.script_text.proofs.Named.{is_none}
 
 abbrev pub seen : List (Bor Import) → ℕ → List Import
 seen imports i = map (λ import. import.now) (take i imports)

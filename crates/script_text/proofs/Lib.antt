@@ -3,7 +3,9 @@ pub mod Firsts
 pub mod Named
 pub mod ImportLoops
 pub mod Spaces
+pub mod FirstNamed
 pub mod Checks
+pub mod InCommon
 pub mod Meanings
 pub mod Loops
 pub mod Listed

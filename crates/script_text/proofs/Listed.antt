@@ -1,5 +1,5 @@
 -- Looking through listed texts, as a loop does.
-use Rattle.std.proofs.Common.{◌≡◌, ℕ, suc, ◌+◌, ◌<◌, List, [], ◌∷◌, map, length, drop, get_or, Bool, true, false, Bor, refl, sym, add-one, drop-cons}
+use Rattle.std.proofs.Common.{◌≡◌, ℕ, suc, ◌+◌, ◌<◌, List, ◌∷◌, map, length, drop, get_or, Bool, true, false, Bor, refl, add-one, drop-cons}
 use Rattle.std.specs.List.{list_any}
 
 abbrev pub texts : List (Bor (List ℕ)) → List (List ℕ)

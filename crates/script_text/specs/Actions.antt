@@ -1,7 +1,7 @@
 -- What an action of the host is, by its lead key. Of one action the faults come in this order: of its
 -- form; a memory or a table that can't be reached; an unknown name; a call of an import; a global that
 -- can't be changed; a wrong type.
-use Rattle.std.specs.Prelude.{◌≡◌, ℕ, ◌<◌, ◌==◌, ◌&&◌, List, [], ◌∷◌, length, map, codes, filter, Bool, true, false, nat_lt, Option, Some, None, is_some, option_map, option_and_then, slice_get, Result, Ok, Err, if◌then◌else◌, ⊤}
+use Rattle.std.specs.Prelude.{ℕ, List, [], ◌∷◌, map, codes, filter, Bool, true, false, nat_lt, Option, Some, None, is_some, slice_get, Result, Ok, Err, if◌then◌else◌, ⊤}
 use Rattle.std.specs.List.{list_all}
 use Rattle.wasm_syntax.specs.declared.values.ValType.{ValType}
 use Rattle.wasm_syntax.specs.declared.values.ValType.TheVariants.{I32}
@@ -21,7 +21,7 @@ use Rattle.script_text.specs.declared.faults.ScriptFault.{ScriptFault}
 use Rattle.script_text.specs.declared.faults.ScriptFault.TheVariants.{Shape, UnknownName, WrongType, NoAccess, CallsOwn}
 use Rattle.script_text.specs.declared.leads.Lead.{Lead}
 use Rattle.script_text.specs.declared.leads.Lead.TheVariants.{Write, Copy, SetTable, SetGlobal, Grow, Call, CallTable}
-use Rattle.script_text.specs.Walk.{◌>>=◌, below, formed, only, under, under_or, list_of}
+use Rattle.script_text.specs.Walk.{◌>>=◌, below, only, under, under_or, list_of}
 use Rattle.script_text.specs.Values.{u32_of, value_of, values_under, text_of, text_or_null, bytes_of}
 use Rattle.script_text.specs.Names.{imports_from, imported_global, exported_func, exported_global, reaches_memory, reaches_table}
 

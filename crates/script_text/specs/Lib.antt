@@ -5,4 +5,5 @@ pub mod Indexed
 pub mod Actions
 pub mod Placed
 pub mod Texts
+pub mod InCommon
 pub mod Plain

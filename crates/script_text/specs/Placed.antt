@@ -1,12 +1,18 @@
 -- Where an action stands, and what a global is named by, as code says it.
-use Rattle.std.specs.Prelude.{ℕ, List, map, Option, Some, None, if◌then◌else◌}
+use Rattle.std.specs.Prelude.{ℕ, List, Option, Some, None}
 use Rattle.std.specs.Borrow.{Bor}
+use Rattle.wasm_syntax.specs.declared.signatures.FuncType.{FuncType}
 use Rattle.script_text.specs.declared.places.Place as code
 use Rattle.script_text.specs.declared.targets.Target as named
 use Rattle.script_text.specs.Actions.{Place, InMain, InResponse, Target, Exported, Imported}
 
+-- in a response where types are there
+abbrev pub place_at : List ℕ → Option (Bor (List FuncType)) → Place
+place_at name None = InMain
+place_at name (Some types) = InResponse name types.now
+
 abbrev pub place_of : code.Place → Place
-place_of place = if place.in_response then InResponse place.name.now (map (λ ty. ty.now) place.types.now) else InMain
+place_of place = place_at place.name.now place.types
 
 abbrev pub target_by : Option (Bor (List ℕ)) → Bor (List ℕ) → Target
 target_by None name = Exported name.now

@@ -1,12 +1,11 @@
 -- What the text of a script means for a module. The keys of the script are walked in the order in which
 -- they stand here, names in the order of their bytes, and lists in order. In each object a key that is
 -- not listed comes first.
-use Rattle.std.specs.Prelude.{ℕ, List, [], ◌∷◌, map, codes, Bool, true, false, Option, Some, None, option_and_then, Result, Ok, Err, if◌then◌else◌, ⊤}
+use Rattle.std.specs.Prelude.{ℕ, List, [], ◌∷◌, map, codes, Bool, true, Option, Some, None, option_and_then, Result, Ok, Err, if◌then◌else◌, ⊤}
 use Rattle.std.specs.Str.{is_utf8}
 use Rattle.std.specs.Result.{result_ok}
 use Rattle.std.specs.List.{list_all}
 use Rattle.std.specs.Option.{option_to_list}
-use Rattle.wasm_syntax.specs.declared.values.ValType.{ValType}
 use Rattle.wasm_syntax.specs.declared.values.Val.{Val}
 use Rattle.wasm_syntax.specs.declared.signatures.FuncType.{FuncType}
 use Rattle.wasm_syntax.specs.declared.modules.Import.{Import}
@@ -19,15 +18,15 @@ use Rattle.host_script.specs.declared.scripts.Answer.{Answer}
 use Rattle.host_script.specs.declared.scripts.Response.{Response}
 use Rattle.host_script.specs.declared.scripts.ResponseEnd.{ResponseEnd}
 use Rattle.host_script.specs.declared.scripts.ResponseEnd.TheVariants.{Return, Trap}
-use Rattle.serde_json.specs.Data.{Data, null, boolean, number, string, array, object, Members, no_members, member}
+use Rattle.serde_json.specs.Data.{Data, boolean, Members, no_members, member}
 use Rattle.serde_json.specs.Find.{get, as_object}
 use Rattle.serde_json.specs.Read.{read}
 use Rattle.script_text.specs.declared.faults.ScriptFault.{ScriptFault}
 use Rattle.script_text.specs.declared.faults.ScriptFault.TheVariants.{NotJson, Shape, UnknownName, WrongType}
-use Rattle.script_text.specs.Walk.{◌>>=◌, below, formed, only, under, under_or, under_if_there, list_of}
+use Rattle.script_text.specs.Walk.{◌>>=◌, below, only, under_or, under_if_there, list_of}
 use Rattle.script_text.specs.Values.{value_of, limits_of}
 use Rattle.script_text.specs.Names.{imports_with, imports_from, imports_named, func_types_named}
-use Rattle.script_text.specs.Actions.{Place, InMain, InResponse, actions_under}
+use Rattle.script_text.specs.Actions.{InMain, InResponse, actions_under}
 
 -- ---- responses
 

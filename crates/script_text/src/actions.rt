@@ -11,9 +11,9 @@ use crate::faults::ScriptFault;
 use crate::module_names::ModuleNames;
 use crate::objects::{bytes_under, only, text_or_null_under, text_under};
 use crate::places::{
-    Place, address_under, are_of_types, calls_own, fits_address, no_access, unknown_name,
-    wrong_type,
+    Place, address_under, calls_own, fits_address, no_access, unknown_name, wrong_type,
 };
+use crate::types::are_of_types;
 use crate::values::{u32_under, values_under};
 use host_script::Action;
 use serde_json::Value;
@@ -46,7 +46,7 @@ fn table_access(alloc: Global, names: &ModuleNames<'_>) -> Result<(), ScriptFaul
 pub(crate) fn read_write(
     alloc: Global,
     names: &ModuleNames<'_>,
-    place: &Place<'_, '_, '_>,
+    place: &Place<'_, '_, '_, '_>,
     value: &Value,
 ) -> Result<Action, ScriptFault>
     ensures { Gives (λ a. a) result (write_of names.now (place_of place.now) (view value.now)) }
@@ -63,7 +63,7 @@ pub(crate) fn read_write(
 pub(crate) fn read_copy(
     alloc: Global,
     names: &ModuleNames<'_>,
-    place: &Place<'_, '_, '_>,
+    place: &Place<'_, '_, '_, '_>,
     value: &Value,
 ) -> Result<Action, ScriptFault>
     ensures { Gives (λ a. a) result (copy_of names.now (place_of place.now) (view value.now)) }

@@ -3,6 +3,7 @@
 #![tactic(auto)]
 
 mod actions;
+mod common_types;
 mod exports;
 pub mod faults;
 mod import_texts;
@@ -16,6 +17,7 @@ pub mod plain;
 mod responses;
 pub mod scripts;
 mod targets;
+mod types;
 mod values;
 
 pub use faults::ScriptFault;

@@ -1,14 +1,13 @@
 // Where actions stand, and the addresses in them.
 
-ghost use Rattle.std.specs.Prelude.{◌≡◌, map, IfOk};
-ghost use Rattle.std.specs.List.{list_all};
+ghost use Rattle.std.specs.Prelude.{◌≡◌, IfOk};
 ghost use Rattle.serde_json.specs.View.{view};
-ghost use Rattle.wasm_syntax.specs.Alike.{same_type as alike, same_types};
 ghost use Rattle.script_text.specs.Walk.{Gives, under};
-ghost use Rattle.script_text.specs.Actions.{address_of, argument_of, takes_i32 as type_takes_i32, fits_address as fitting_address, Place as PlaceOf};
+ghost use Rattle.script_text.specs.Actions.{address_of, argument_of, fits_address as fitting_address, Place as PlaceOf};
 ghost use Rattle.script_text.specs.Placed.{place_of};
 ghost use Rattle.script_text.specs.declared.faults.ScriptFault.TheVariants.{WrongType, UnknownName, NoAccess, CallsOwn, Memory as NoMemoryLeft};
 
+use crate::common_types::CommonTypes;
 use crate::faults::ScriptFault;
 use crate::objects::only;
 use crate::paths::{below, shape};
@@ -16,15 +15,14 @@ use crate::values::{read_u32, u32_if_there, u32_under};
 use host_script::Address;
 use serde_json::Value;
 use std::alloc::{AllocError, Global};
-use wasm_syntax::{FuncType, Name, Val, ValType};
+use wasm_syntax::Name;
 
 /// Where an action stands: in `main`, or in a response to calls of the functions imported under two
 /// names, of which these are the second name and the types.
 #[derive(Clone, Copy)]
-pub(crate) struct Place<'n, 'l, 't> {
-    pub(crate) in_response: bool,
+pub(crate) struct Place<'n, 's, 'l, 't> {
     pub(crate) name: &'n str,
-    pub(crate) types: &'l [&'t FuncType],
+    pub(crate) types: Option<&'s CommonTypes<'l, 't>>,
 }
 
 fn name_from(alloc: Global, name: &str) -> Result<Name, AllocError>
@@ -73,56 +71,6 @@ pub(crate) fn calls_own(alloc: Global, name: &str) -> ScriptFault
     }
 }
 
-/// Whether two types are one.
-pub(crate) fn is_type(a: ValType, b: ValType) -> bool
-    ensures { result ≡ alike a b }
-{
-    match (a, b) {
-        (ValType::I32, ValType::I32) => true,
-        (ValType::I64, ValType::I64) => true,
-        (ValType::F32, ValType::F32) => true,
-        (ValType::F64, ValType::F64) => true,
-        (ValType::FuncRef, ValType::FuncRef) => true,
-        _ => false,
-    }
-}
-
-/// Whether values are of these types.
-pub(crate) fn are_of_types(values: &[Val], types: &[ValType]) -> bool
-    ensures { result ≡ same_types (map (λ value. value.ty) values.now) types.now }
-{
-    if values.len() != types.len() {
-        return false;
-    }
-    'values: for (index, value) in values.iter().enumerate() {
-        if !is_type(value.ty, types[index]) {
-            return false;
-        }
-    }
-    true
-}
-
-fn takes_i32(ty: &FuncType, number: u32) -> bool
-    ensures { result ≡ type_takes_i32 number ty.now }
-{
-    match ty.params.as_slice().get(number as usize) {
-        Some(param) => is_type(*param, ValType::I32),
-        None => false,
-    }
-}
-
-/// Whether each of these functions has this parameter, an i32.
-fn all_take_i32(types: &[&FuncType], number: u32) -> bool
-    ensures { result ≡ list_all (type_takes_i32 number) (map (λ ty. ty.now) types.now) }
-{
-    'types: for ty in types {
-        if !takes_i32(ty, number) {
-            return false;
-        }
-    }
-    true
-}
-
 /// An argument of the call that is answered, plus an offset.
 fn read_argument(alloc: Global, value: &Value) -> Result<Address, ScriptFault>
     ensures { Gives (λ address. address) result (argument_of (view value.now)) }
@@ -136,12 +84,12 @@ fn read_argument(alloc: Global, value: &Value) -> Result<Address, ScriptFault>
 #[tactic(auto, unfolding(crate::specs::Actions::address_of))]
 fn read_address(
     alloc: Global,
-    place: &Place<'_, '_, '_>,
+    place: &Place<'_, '_, '_, '_>,
     value: &Value,
 ) -> Result<Address, ScriptFault>
     ensures { Gives (λ address. address) result (address_of (place_of place.now) (view value.now)) }
 {
-    if place.in_response && value.is_object() {
+    if place.types.is_some() && value.is_object() {
         return read_argument(alloc, value);
     }
     Ok(Address::Fixed(read_u32(alloc, value)?))
@@ -150,7 +98,7 @@ fn read_address(
 /// An address under a key that is needed.
 pub(crate) fn address_under(
     alloc: Global,
-    place: &Place<'_, '_, '_>,
+    place: &Place<'_, '_, '_, '_>,
     object: &Value,
     key: &str,
 ) -> Result<Address, ScriptFault>
@@ -167,21 +115,17 @@ pub(crate) fn address_under(
 #[tactic(auto, unfolding(crate::specs::Actions::fits_address))]
 pub(crate) fn fits_address(
     alloc: Global,
-    place: &Place<'_, '_, '_>,
+    place: &Place<'_, '_, '_, '_>,
     address: Address,
 ) -> Result<(), ScriptFault>
     ensures { Gives (λ u. u) result (fitting_address (place_of place.now) address) }
 {
     match address {
         Address::Fixed(_) => Ok(()),
-        Address::Arg { number, .. } => {
-            if !place.in_response {
-                Err(shape(alloc))
-            } else if all_take_i32(place.types, number) {
-                Ok(())
-            } else {
-                Err(wrong_type(alloc, place.name))
-            }
-        }
+        Address::Arg { number, .. } => match place.types {
+            Some(types) if types.take_i32(number) => Ok(()),
+            Some(_) => Err(wrong_type(alloc, place.name)),
+            None => Err(shape(alloc)),
+        },
     }
 }

@@ -1,24 +1,24 @@
 // Actions by their lead keys, responses to calls, and the answers to the calls of an import.
 
 ghost use Rattle.std.specs.Prelude.{◌≡◌, [], map, is_some, codes};
-ghost use Rattle.std.specs.List.{list_all};
 ghost use Rattle.serde_json.specs.Find.{get};
 ghost use Rattle.serde_json.specs.View.{view, items_view};
 ghost use Rattle.script_text.specs.Walk.{Gives, under_or, under_if_there, list_of, items_from, at_index};
 ghost use Rattle.script_text.specs.Actions.{key_of, leads_in, action_with, action_of, actions_under as actions_below};
 ghost use Rattle.script_text.specs.Placed.{place_of};
 ghost use Rattle.script_text.specs.Names.{func_types_named};
-ghost use Rattle.script_text.specs.Texts.{fits_results as fitting_results, trap_of, return_of, end_of, response_of, answer_of, returns as type_returns};
+ghost use Rattle.script_text.specs.Texts.{fits_results as fitting_results, trap_of, return_of, end_of, response_of, answer_of};
 
 use crate::actions::{
     read_call, read_call_table, read_copy, read_grow, read_set_table, read_write,
 };
+use crate::common_types::CommonTypes;
 use crate::faults::ScriptFault;
 use crate::leads::Lead;
 use crate::module_names::ModuleNames;
 use crate::objects::only;
 use crate::paths::{below, below_index, shape};
-use crate::places::{Place, are_of_types, wrong_type};
+use crate::places::{Place, wrong_type};
 use crate::targets::read_set_global;
 use crate::values::value_if_there;
 use host_script::{Action, Actions, Answer, Response, ResponseEnd, Responses};
@@ -30,7 +30,7 @@ use wasm_syntax::{FuncType, List, Val};
 fn read_with<'a>(
     alloc: Global,
     names: &ModuleNames<'a>,
-    place: &Place<'_, '_, '_>,
+    place: &Place<'_, '_, '_, '_>,
     lead: Lead,
     value: &'a Value,
 ) -> Result<Action, ScriptFault>
@@ -98,7 +98,7 @@ fn leads_of(alloc: Global, value: &Value) -> Result<Vec<Lead>, ScriptFault>
 fn read_action<'a>(
     alloc: Global,
     names: &ModuleNames<'a>,
-    place: &Place<'_, '_, '_>,
+    place: &Place<'_, '_, '_, '_>,
     value: &'a Value,
 ) -> Result<Action, ScriptFault>
     ensures { Gives (λ a. a) result (action_of names.now (place_of place.now) (view value.now)) }
@@ -113,7 +113,7 @@ fn read_action<'a>(
 fn action_at<'a>(
     alloc: Global,
     names: &ModuleNames<'a>,
-    place: &Place<'_, '_, '_>,
+    place: &Place<'_, '_, '_, '_>,
     index: usize,
     value: &'a Value,
 ) -> Result<Action, ScriptFault>
@@ -126,7 +126,7 @@ fn action_at<'a>(
 fn read_actions<'a>(
     alloc: Global,
     names: &ModuleNames<'a>,
-    place: &Place<'_, '_, '_>,
+    place: &Place<'_, '_, '_, '_>,
     values: &'a [Value],
 ) -> Result<Actions, ScriptFault>
     ensures { Gives (λ a. a) result
@@ -144,7 +144,7 @@ fn read_actions<'a>(
 pub(crate) fn actions_under<'a>(
     alloc: Global,
     names: &ModuleNames<'a>,
-    place: &Place<'_, '_, '_>,
+    place: &Place<'_, '_, '_, '_>,
     object: &'a Value,
     key: &str,
 ) -> Result<Actions, ScriptFault>
@@ -164,39 +164,17 @@ pub(crate) fn actions_under<'a>(
     }
 }
 
-fn returns(ty: &FuncType, value: Option<Val>) -> bool
-    ensures { result ≡ type_returns value ty.now }
-{
-    match value {
-        Some(value) => are_of_types(&[value], ty.results.as_slice()),
-        None => ty.results.as_slice().is_empty(),
-    }
-}
-
-/// Whether each of these functions returns such a value.
-fn all_return(types: &[&FuncType], value: Option<Val>) -> bool
-    ensures { result ≡ list_all (type_returns value) (map (λ ty. ty.now) types.now) }
-{
-    'types: for ty in types {
-        if !returns(ty, value) {
-            return false;
-        }
-    }
-    true
-}
-
 /// Tests that a value, or none, is what each of the functions that are answered returns.
 #[tactic(auto, unfolding(crate::specs::Texts::fits_results))]
 fn fits_results(
     alloc: Global,
     name: &str,
-    types: &[&FuncType],
+    types: &CommonTypes<'_, '_>,
     value: Option<Val>,
 ) -> Result<(), ScriptFault>
-    ensures { Gives (λ u. u) result
-        (fitting_results name.now (map (λ ty. ty.now) types.now) value) }
+    ensures { Gives (λ u. u) result (fitting_results name.now types.now value) }
 {
-    if all_return(types, value) {
+    if types.return_value(value) {
         Ok(())
     } else {
         Err(wrong_type(alloc, name))
@@ -217,11 +195,10 @@ fn read_trap(alloc: Global, value: &Value) -> Result<ResponseEnd, ScriptFault>
 fn read_return(
     alloc: Global,
     name: &str,
-    types: &[&FuncType],
+    types: &CommonTypes<'_, '_>,
     object: &Value,
 ) -> Result<ResponseEnd, ScriptFault>
-    ensures { Gives (λ e. e) result
-        (return_of name.now (map (λ ty. ty.now) types.now) (view object.now)) }
+    ensures { Gives (λ e. e) result (return_of name.now types.now (view object.now)) }
 {
     let value = value_if_there(alloc, object, "return")?;
     fits_results(alloc, name, types, value)?;
@@ -233,11 +210,10 @@ fn read_return(
 fn read_end(
     alloc: Global,
     name: &str,
-    types: &[&FuncType],
+    types: &CommonTypes<'_, '_>,
     object: &Value,
 ) -> Result<ResponseEnd, ScriptFault>
-    ensures { Gives (λ e. e) result
-        (end_of name.now (map (λ ty. ty.now) types.now) (view object.now)) }
+    ensures { Gives (λ e. e) result (end_of name.now types.now (view object.now)) }
 {
     match object.get("trap") {
         Some(trap) => {
@@ -256,17 +232,15 @@ fn read_response<'a>(
     alloc: Global,
     names: &ModuleNames<'a>,
     name: &str,
-    types: &[&FuncType],
+    types: &CommonTypes<'_, '_>,
     value: &'a Value,
 ) -> Result<Response, ScriptFault>
-    ensures { Gives (λ r. r) result
-        (response_of names.now name.now (map (λ ty. ty.now) types.now) (view value.now)) }
+    ensures { Gives (λ r. r) result (response_of names.now name.now types.now (view value.now)) }
 {
     only(alloc, value, &["do", "return", "trap"])?;
     let place = Place {
-        in_response: true,
         name,
-        types,
+        types: Some(types),
     };
     let actions = actions_under(alloc, names, &place, value, "do")?;
     let end = read_end(alloc, name, types, value)?;
@@ -277,12 +251,12 @@ fn response_at<'a>(
     alloc: Global,
     names: &ModuleNames<'a>,
     name: &str,
-    types: &[&FuncType],
+    types: &CommonTypes<'_, '_>,
     index: usize,
     value: &'a Value,
 ) -> Result<Response, ScriptFault>
     ensures { Gives (λ r. r) result
-        (at_index index (response_of names.now name.now (map (λ ty. ty.now) types.now))
+        (at_index index (response_of names.now name.now types.now)
         (view value.now)) }
 {
     below_index(
@@ -296,11 +270,11 @@ fn read_responses<'a>(
     alloc: Global,
     names: &ModuleNames<'a>,
     name: &str,
-    types: &[&FuncType],
+    types: &CommonTypes<'_, '_>,
     values: &'a [Value],
 ) -> Result<Responses, ScriptFault>
     ensures { Gives (λ r. r) result
-        (items_from (response_of names.now name.now (map (λ ty. ty.now) types.now)) 0
+        (items_from (response_of names.now name.now types.now) 0
         (items_view values.now)) }
 {
     let mut found = Vec::new(alloc);
@@ -316,11 +290,11 @@ fn read_calls<'a>(
     alloc: Global,
     names: &ModuleNames<'a>,
     name: &str,
-    types: &[&FuncType],
+    types: &CommonTypes<'_, '_>,
     object: &'a Value,
 ) -> Result<Responses, ScriptFault>
     ensures { Gives (λ r. r) result
-        (under_or (codes "calls") [] (list_of (response_of names.now name.now (map (λ ty. ty.now) types.now)))
+        (under_or (codes "calls") [] (list_of (response_of names.now name.now types.now))
         (view object.now)) }
 {
     match object.get("calls") {
@@ -341,11 +315,11 @@ fn read_rest<'a>(
     alloc: Global,
     names: &ModuleNames<'a>,
     name: &str,
-    types: &[&FuncType],
+    types: &CommonTypes<'_, '_>,
     object: &'a Value,
 ) -> Result<Option<Response>, ScriptFault>
     ensures { Gives (λ r. r) result
-        (under_if_there (codes "rest") (response_of names.now name.now (map (λ ty. ty.now) types.now))
+        (under_if_there (codes "rest") (response_of names.now name.now types.now)
         (view object.now)) }
 {
     match object.get("rest") {
@@ -371,8 +345,9 @@ fn read_answer<'a>(
         (answer_of names.now name.now (map (λ ty. ty.now) types.now) (view value.now)) }
 {
     only(alloc, value, &["calls", "rest"])?;
-    let calls = read_calls(alloc, names, name, types, value)?;
-    let rest = read_rest(alloc, names, name, types, value)?;
+    let types = CommonTypes::of(alloc, types)?;
+    let calls = read_calls(alloc, names, name, &types, value)?;
+    let rest = read_rest(alloc, names, name, &types, value)?;
     Ok(Answer { calls, rest })
 }
 

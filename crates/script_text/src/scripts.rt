@@ -1,14 +1,16 @@
 // Scripts: what each import takes of a text, and the whole.
 
-ghost use Rattle.std.specs.Prelude.{◌≡◌, map, option_map, codes};
+ghost use Rattle.std.specs.Prelude.{◌≡◌, map, option_map, option_and_then, option_copied, slice_get, codes, IfSome};
 ghost use Rattle.serde_json.specs.View.{view};
 ghost use Rattle.wasm_syntax.specs.Index.{func_import, global_import};
 ghost use Rattle.script_text.specs.Walk.{Gives, under_or};
+ghost use Rattle.script_text.specs.Indexed.{under_names};
 ghost use Rattle.script_text.specs.Actions.{InMain, actions_under as actions_below};
 ghost use Rattle.script_text.specs.Texts.{each_import, look_value, look_answer, given_for as given_to, value_for as value_given, answer_for as answer_given, script_of, script_of_text};
 
 use crate::faults::ScriptFault;
 use crate::import_texts::{look_at_answers, look_at_values};
+use crate::imports::{FirstsByNames, firsts_by_names};
 use crate::module_names::ModuleNames;
 use crate::objects::{limits_if_there, only};
 use crate::paths::below;
@@ -87,7 +89,41 @@ fn values_for(
     Ok(List::from_vec(given))
 }
 
-/// What each imported function takes.
+/// The answers that an import before this one takes under the same names.
+fn taken_before<'a, 's>(
+    firsts: &FirstsByNames<'a>,
+    answers: &'s [Option<Answer>],
+    import: &'a Import,
+) -> Option<&'s Option<Answer>>
+    ensures { option_copied result ≡ option_and_then (slice_get answers.now)
+        (under_names import.now.«module» import.now.name firsts.now.entries) }
+{
+    let first = firsts.get(&(import.module.as_str(), import.name.as_str()))?;
+    answers.get(*first)
+}
+
+/// The answers that an imported function takes, or a copy of those of an import before it.
+fn read_or_copied<'a>(
+    alloc: Global,
+    names: &ModuleNames<'a>,
+    texts: Option<&'a Value>,
+    import: &'a Import,
+    before: Option<&Option<Answer>>,
+) -> Result<Option<Answer>, ScriptFault>
+    requires { IfSome before (λ answer. answer.now
+        ≡ answer_given names.now (option_map (λ v. view v.now) texts) import.now) }
+    ensures { Gives (λ a. a) result
+        (Ok (answer_given names.now (option_map (λ v. view v.now) texts.entry) import.now)) }
+{
+    match before {
+        Some(Some(answer)) => Ok(Some(answer.clone()?)),
+        Some(None) => Ok(None),
+        None => answer_for(alloc, names, texts, import),
+    }
+}
+
+/// What each imported function takes. Of imports under the same names the first one's answers are read,
+/// and the others take copies.
 fn answers_for<'a>(
     alloc: Global,
     names: &ModuleNames<'a>,
@@ -98,9 +134,13 @@ fn answers_for<'a>(
         (answer_given names.now (option_map (λ v. view v.now) texts.entry))
         (map (λ import. import.now) imports.now))) }
 {
+    let firsts = firsts_by_names(alloc, imports)?;
     let mut answers = Vec::new(alloc);
     'imports: for import in imports {
-        answers.push(answer_for(alloc, names, texts, import)?)?;
+        let import: &'a Import = *import;
+        let before = taken_before(&firsts, answers.as_slice(), import);
+        let answer = read_or_copied(alloc, names, texts, import, before)?;
+        answers.push(answer)?;
     }
     Ok(List::from_vec(answers))
 }
@@ -144,9 +184,8 @@ fn read_main<'a>(
     ensures { Gives (λ a. a) result (actions_below names.now InMain (codes "main") (view object.now)) }
 {
     let place = Place {
-        in_response: false,
         name: "",
-        types: &[],
+        types: None,
     };
     actions_under(alloc, names, &place, object, "main")
 }

@@ -1,4 +1,4 @@
-use Rattle.std.proofs.Common.{◌≡◌, Result, IsTrue, sym, subst, true≢false}
+use Rattle.std.proofs.Common.{Result, IsTrue, sym, subst, true≢false}
 use Rattle.host_script.specs.declared.scripts.Script.{Script}
 use Rattle.serde_json.specs.View.{view}
 use Rattle.script_text.specs.declared.faults.ScriptFault.{ScriptFault}

@@ -1,7 +1,7 @@
 use Rattle.std.proofs.Common.{◌<◌, ◌≤◌, length, map, sym, ◌∙◌, arith}
 use Rattle.std.proofs.lemmas.List.{length-map}
 use Rattle.script_text.proofs.Checks.{other_length, same_fails, same_goes_on, same_ends}
-use Rattle.script_text.proofs.places.are_of_types.Goals as goal
+use Rattle.script_text.proofs.types.are_of_types.Goals as goal
 
 pub returns-then-values-types : goal.returns-then-values-types
 returns-then-values-types c = sym (other_length (map (λ value. value.ty) c.args.values.now) c.args.types.now (λ e. c.if-values-types.true (sym (length-map c.args.values.now (λ value. value.ty)) ∙ e)))

@@ -1,7 +1,7 @@
 use Rattle.std.proofs.Common.{sym, ap, ◌∙◌}
 use Rattle.script_text.specs.Texts.{returns as type_returns}
 use Rattle.script_text.proofs.Checks.{all_fails, all_goes_on, all_ends}
-use Rattle.script_text.proofs.responses.all_return.Goals as goal
+use Rattle.script_text.proofs.common_types.all_return.Goals as goal
 
 pub returns-then-not-returns : goal.returns-then-not-returns
 returns-then-not-returns c =

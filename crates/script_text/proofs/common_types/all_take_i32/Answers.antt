@@ -1,7 +1,7 @@
 use Rattle.std.proofs.Common.{sym, ap, ◌∙◌}
 use Rattle.script_text.specs.Actions.{takes_i32}
 use Rattle.script_text.proofs.Checks.{all_fails, all_goes_on, all_ends}
-use Rattle.script_text.proofs.places.all_take_i32.Goals as goal
+use Rattle.script_text.proofs.common_types.all_take_i32.Goals as goal
 
 pub returns-then-not-takes_i32 : goal.returns-then-not-takes_i32
 returns-then-not-takes_i32 c =
