@@ -21,3 +21,6 @@ pub mod Lessening
 pub mod Shortening
 pub mod Pushed
 pub mod Quickly
+pub mod QuickCalls
+pub mod Single
+pub mod Calling

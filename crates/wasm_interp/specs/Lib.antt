@@ -13,3 +13,4 @@ pub mod Walks
 pub mod Ahead
 pub mod Quick
 pub mod Sound
+pub mod Made

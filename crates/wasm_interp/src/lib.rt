@@ -15,6 +15,8 @@ mod operands;
 mod plain;
 pub mod quick;
 mod quick_acts;
+mod quick_advances;
+mod quick_calls;
 mod quick_walks;
 mod returns;
 mod shorten;

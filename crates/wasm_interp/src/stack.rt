@@ -39,7 +39,7 @@ impl Frames {
     }
 
     /// The topmost activation.
-    #[inline]
+    #[inline(always)]
     pub(crate) fn top(&self) -> Option<FlatFrame>
         ensures { result ≡ top_of self.now }
     {
@@ -47,6 +47,7 @@ impl Frames {
     }
 
     /// Puts an activation on top. After a refusal nothing is changed.
+    #[inline(always)]
     pub(crate) fn push(&mut self, frame: FlatFrame) -> Result<(), NoMemory>
         ensures ok { OnOk result (self.new ≡ frame ∷ self.old) }
         ensures err { OnErr result (self.new ≡ self.old) }
@@ -56,6 +57,7 @@ impl Frames {
     }
 
     /// Removes the topmost activation, where there is one.
+    #[inline(always)]
     pub(crate) fn pop(&mut self)
         ensures { self.new ≡ below_of self.old }
     {
@@ -63,7 +65,7 @@ impl Frames {
     }
 
     /// Gives the topmost activation, where there is one, another number.
-    #[inline]
+    #[inline(always)]
     pub(crate) fn move_to(&mut self, number: u32)
         ensures { self.new ≡ with_number self.old number }
     {
