@@ -1,6 +1,6 @@
 // Calls of functions by the host, and how they go on.
 
-ghost use Rattle.std.specs.Prelude.{◌≡◌, ◌↔◌, ◌+◌, ◌≤◌, IsTrue, IfOk, Ok, true, false};
+ghost use Rattle.std.specs.Prelude.{◌≡◌, ◌⊎◌, ◌↔◌, ◌+◌, ◌≤◌, IsTrue, IfOk, OnErr, Ok, true, false};
 ghost use Rattle.wasm_syntax.specs.Alike.{same_type};
 ghost use Rattle.host_script.specs.Fits.{IsCallable};
 ghost use Rattle.wasm_interp.specs.Running.{AdvancesRun, InvokesRun};
@@ -74,6 +74,7 @@ impl Loaded {
         ensures run { result ≡ Ok true → InvokesRun self.old.machine func args.now self.new.machine }
         ensures running { result ≡ Ok true → IsRunning self.new.«module» self.new.machine }
         ensures unchanged { result ≡ Ok false → self.new ≡ self.old }
+        ensures err { OnErr result ((self.new ≡ self.old) ⊎ (self.new.machine.broken ≡ true)) }
         ensures same { self.new.«module» ≡ self.old.«module» }
     {
         calls_are_ready();
@@ -94,6 +95,7 @@ impl Loaded {
         ensures run { IfOk result (λ ran. AdvancesRun self.old.machine meter.now turns ran.0 ran.1 self.new.machine) }
         ensures paused { IfOk result (λ ran. IsPaused self.new.«module» ran.0 self.new.machine) }
         ensures within { IfOk result (λ ran. ran.1 ≤ turns) }
+        ensures err { OnErr result (self.new.machine.broken ≡ true) }
         ensures same { self.new.«module» ≡ self.old.«module» }
     {
         calls_are_ready();

@@ -1,6 +1,6 @@
 // How a call goes on by single turns.
 
-ghost use Rattle.std.specs.Prelude.{◌≡◌, IfOk};
+ghost use Rattle.std.specs.Prelude.{◌≡◌, IfOk, OnErr, true};
 ghost use Rattle.wasm_interp.specs.Running.{SettlesRun, TurnIsStep};
 ghost use Rattle.machine_runs.specs.Standing.{ComesBy, IsRunning, IsStanding};
 
@@ -14,6 +14,7 @@ impl Loaded {
         requires { IsRunning self.old.«module» self.old.machine }
         ensures run { IfOk result (λ turn. SettlesRun self.old.machine turn self.new.machine) }
         ensures comes { IfOk result (λ turn. ComesBy self.new.«module» turn.pause self.new.machine) }
+        ensures err { OnErr result (self.new.machine.broken ≡ true) }
         ensures same { self.new.«module» ≡ self.old.«module» }
     {
         calls_are_ready();
@@ -25,6 +26,7 @@ impl Loaded {
         requires { IsStanding self.old.«module» self.old.machine }
         ensures run { IfOk result (λ turn. TurnIsStep self.old.machine turn self.new.machine) }
         ensures comes { IfOk result (λ turn. ComesBy self.new.«module» turn.pause self.new.machine) }
+        ensures err { OnErr result (self.new.machine.broken ≡ true) }
         ensures same { self.new.«module» ≡ self.old.«module» }
     {
         calls_are_ready();
