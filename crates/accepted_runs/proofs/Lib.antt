@@ -1,1 +1,3 @@
 mod Refused
+pub mod InputAnswers
+pub mod OneResult

@@ -1,2 +1,3 @@
 pub mod Unlinked
+pub mod Runnable
 pub mod Runs

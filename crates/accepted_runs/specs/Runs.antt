@@ -4,8 +4,8 @@ use Rattle.wasm_syntax.specs.declared.modules.Module.{Module}
 use Rattle.host_script.specs.declared.scripts.Script.{Script}
 use Rattle.trace_model.specs.declared.outcomes.Outcome.{Outcome}
 use Rattle.history_spec.specs.declared.entries.FaultKind.{FaultKind}
-use Rattle.history_spec.specs.Step.{Stepped, Finished}
-use Rattle.history_spec.specs.Run.{Run, all_one, program_of, opening, run_from}
+use Rattle.history_spec.specs.Step.{StepResult, Finished}
+use Rattle.history_spec.specs.Run.{Run, all_one, program_of, run_start, run_from}
 use Rattle.history_spec.specs.Budget.{IsOverWithin, IsSpent}
 use Rattle.host_play.specs.Results.{IsFault}
 use Rattle.r3_faults.specs.declared.faults.Fault.{Fault}
@@ -13,9 +13,9 @@ use Rattle.r3_faults.specs.declared.faults.Fault.TheVariants.{Script as ScriptFa
 
 -- the module links, and the run is over within the turns by this outcome
 pub record HasOutcome (m : Module) (script : Script) (turns : ℕ) (run : Run) (outcome : Outcome) : Type 0 where
-  pub begun : Stepped
-  pub opens : opening m script ≡ Ok begun
-  pub within : IsOverWithin (run_from (program_of m script) all_one begun) turns run
+  pub initial : StepResult
+  pub starts : run_start m script ≡ Ok initial
+  pub within : IsOverWithin (run_from (program_of m script) all_one initial) turns run
   pub ends : run.at ≡ Finished outcome
 
 -- the run is over within the turns, by an action that the host cannot do: the turn that this is, and why
@@ -23,16 +23,16 @@ pub record IsFaultyFor (m : Module) (script : Script) (turns : ℕ) (fault : Fau
   pub turn : ℕ
   pub kind : FaultKind
   pub named : fault ≡ ScriptFault turn kind
-  pub begun : Stepped
-  pub opens : opening m script ≡ Ok begun
-  pub faulty : IsFault (program_of m script) begun turns turn kind
+  pub initial : StepResult
+  pub starts : run_start m script ≡ Ok initial
+  pub faulty : IsFault (program_of m script) initial turns turn kind
 
 -- the turns are spent
 pub record IsSpentFor (m : Module) (script : Script) (turns : ℕ) (fault : Fault) : Type 0 where
   pub named : fault ≡ Spent turns
-  pub begun : Stepped
-  pub opens : opening m script ≡ Ok begun
-  pub spent : IsSpent (run_from (program_of m script) all_one begun) all_one turns
+  pub initial : StepResult
+  pub starts : run_start m script ≡ Ok initial
+  pub spent : IsSpent (run_from (program_of m script) all_one initial) all_one turns
 
 -- why a module that links has no outcome
 pub data HasNoOutcome (m : Module) (script : Script) (turns : ℕ) (fault : Fault) : Type 0 where

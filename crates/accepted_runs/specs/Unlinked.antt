@@ -4,7 +4,7 @@ use Rattle.wasm_syntax.specs.declared.modules.Module.{Module}
 use Rattle.host_script.specs.declared.scripts.Script.{Script}
 use Rattle.host_script.specs.declared.scripts.LinkFault.{LinkFault}
 use Rattle.host_script.specs.declared.scripts.LinkFault.TheVariants as link
-use Rattle.history_spec.specs.Run.{opening}
+use Rattle.history_spec.specs.Run.{run_start}
 use Rattle.r3_faults.specs.declared.faults.Fault.{Fault}
 use Rattle.r3_faults.specs.declared.faults.Fault.TheVariants.{Missing, Mismatch, Segment, Memory}
 
@@ -20,4 +20,4 @@ pub record IsUnlinkedFor (m : Module) (script : Script) (fault : Fault) : Type 0
   pub found : LinkFault
   pub named : fault ≡ link_fault found
   pub differs : found ≢ link.Memory
-  pub unopened : opening m script ≡ Err found
+  pub unopened : run_start m script ≡ Err found

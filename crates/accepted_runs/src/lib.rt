@@ -1,9 +1,12 @@
-//! The run of an accepted module under a script, and the fault of a call where there is none.
+//! The module and the script that bytes are, the run of the one under the other, and the fault of a call
+//! where there is none.
 #![tactic(auto)]
 
-mod linking;
-mod telling;
+mod inputs;
+mod links;
+mod runs;
 
 pub use host_play::{Played, Told};
-pub use linking::linked;
-pub use telling::{played, told};
+pub use inputs::inputs_of;
+pub use links::start_store;
+pub use runs::{played_run, told_run};

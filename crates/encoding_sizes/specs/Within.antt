@@ -1,8 +1,10 @@
--- Modules whose lists have at most so many items.
-use Rattle.std.specs.Prelude.{ℕ, ◌≤◌, ◌+◌, length, All}
+-- Modules whose lists have at most a given number of items.
+use Rattle.std.specs.Prelude.{ℕ, List, ◌≤◌, ◌+◌, length, All}
+use Rattle.wasm_syntax.specs.declared.forms.Form.{Form}
 use Rattle.wasm_syntax.specs.declared.signatures.FuncType.{FuncType}
 use Rattle.wasm_syntax.specs.declared.modules.Func.{Func}
 use Rattle.wasm_syntax.specs.declared.modules.Module.{Module}
+use Rattle.wasm_syntax.specs.Encoding.Modules.{Encodes}
 use Rattle.wasm_syntax.specs.Index.{func_indices}
 
 -- types, imports and functions together, imported and defined functions, and of each type the parameters, of
@@ -13,3 +15,8 @@ pub record HasListsWithin (most : ℕ) (m : Module) : Type 0 where
   pub params : All (λ (ty : FuncType). length ty.params ≤ most) m.types
   pub locals : All (λ (func : Func). length func.locals ≤ most) m.funcs
   pub bodies : All (λ (func : Func). length func.body ≤ most) m.funcs
+
+-- no list of a module has more items than there are bytes that encode the module
+abbrev pub ListsAreWithinEncoding : Type 0
+ListsAreWithinEncoding =
+    (form : Form) (bytes : List ℕ) (m : Module) → Encodes form bytes m → HasListsWithin (length bytes) m

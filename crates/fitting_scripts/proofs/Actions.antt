@@ -26,7 +26,8 @@ use Rattle.script_text.specs.Walk.{only, under}
 use Rattle.script_text.specs.Values.{u32_of, value_of, values_under, text_of, text_or_null, bytes_of}
 use Rattle.script_text.specs.Actions.{Place, InMain, InResponse, is_i32, takes_i32, address_of, fits_address, memory_access, table_access, write_of, copy_of, func_named, entry_named, set_table_of, target_of, global_at, name_of, fits_global, set_global_of, grow_of, is_defined, are_arguments, fits_params, call_of, call_table_of, leads_in, action_with, action_by, action_of, actions_under}
 use Rattle.fitting_scripts.proofs.Steps.{ok_one, both_ok, passed, under_holds, under_or_holds, list_holds}
-use Rattle.fitting_scripts.proofs.Tests.{Among, type_same, types_same}
+use Rattle.fitting_scripts.proofs.Tests.{Among}
+use Rattle.wasm_syntax.proofs.ValTypes.{type_same, types_same}
 use Rattle.fitting_scripts.proofs.Values.{value_in_range, bytes_below}
 use Rattle.fitting_scripts.proofs.Reach.{has_memory, has_table, func_named_there, settable}
 
@@ -45,7 +46,8 @@ is_i32_type : (o : Option ValType) → is_i32 o ≡ true → o ≡ Some I32
 is_i32_type None h = cc h
 is_i32_type (Some ty) h = ap Some (type_same ty I32 h)
 
-pub serves_response : (name : List ℕ) (types : List FuncType) (ty : FuncType) → Among ty types → Serves (InResponse name types) ty.params
+pub serves_response : (name : List ℕ) (types : List FuncType) (ty : FuncType) → Among ty types
+    → Serves (InResponse name types) ty.params
 unfolding fits_address
 serves_response name types ty among (Fixed address) t h = tt
 serves_response name types ty among (Arg number plus) t h =
@@ -53,11 +55,13 @@ serves_response name types ty among (Arg number plus) t h =
 
 -- ---- functions and values
 
-pub values_in_range : (key : List ℕ) (d : Data) (values : List Val) → values_under key d ≡ Ok values → AreConstants values
+pub values_in_range : (key : List ℕ) (d : Data) (values : List Val) → values_under key d ≡ Ok values
+    → AreConstants values
 values_in_range key d values h =
     under_or_holds AreConstants _ (list_holds (λ v. is_constant v ≡ true) value_of value_in_range) key [] d values (All-nil (λ v. is_constant v ≡ true)) h
 
-entry_there : (m : Module) (name : Option (List ℕ)) (func : Option ℕ) → IsValid m → entry_named m name ≡ Ok func → IfSome func (λ f. f < length (func_indices m))
+entry_there : (m : Module) (name : Option (List ℕ)) (func : Option ℕ) → IsValid m → entry_named m name ≡ Ok func
+    → IfSome func (λ f. f < length (func_indices m))
 unfolding entry_named
 entry_there m None func valid h = subst (λ o. IfSome o (λ f. f < length (func_indices m))) (ok_one None func h) tt
 entry_there m (Some name) func valid h =
@@ -68,11 +72,13 @@ defined_is : (m : Module) (func : ℕ) (name : List ℕ) (t : ⊤) → is_define
 unfolding is_defined
 defined_is m func name t h = by (nat_lt func (imported_funcs m)) refl h
   where
-    by : (b : Bool) → nat_lt func (imported_funcs m) ≡ b → cond b (Err (CallsOwn name)) (Ok tt) ≡ Ok t → imported_funcs m ≤ func
+    by : (b : Bool) → nat_lt func (imported_funcs m) ≡ b → cond b (Err (CallsOwn name)) (Ok tt) ≡ Ok t
+        → imported_funcs m ≤ func
     by true is h = cc h
     by false is h = ltb-false func (imported_funcs m) is
 
-callable : (m : Module) (func : ℕ) (name : List ℕ) (args : List Val) (t : ⊤) → imported_funcs m ≤ func → AreConstants args → fits_params m func name args ≡ Ok t → IsCallable m func args
+callable : (m : Module) (func : ℕ) (name : List ℕ) (args : List Val) (t : ⊤) → imported_funcs m ≤ func
+    → AreConstants args → fits_params m func name args ≡ Ok t → IsCallable m func args
 unfolding fits_params
 callable m func name args t defined constants h = by (func_type m func) refl h
   where
@@ -89,7 +95,8 @@ callable m func name args t defined constants h = by (func_type m func) refl h
 
 -- ---- actions
 
-module _ (m : Module) (place : Place) (params : List ValType) (valid : IsValid m) (serves : Serves place params) (d : Data) (action : Action) where
+module _ (m : Module) (place : Place) (params : List ValType) (valid : IsValid m) (serves : Serves place params)
+    (d : Data) (action : Action) where
   write_fits : write_of m place d ≡ Ok action → FitsAction m params action
   unfolding write_of
   write_fits h =

@@ -22,7 +22,8 @@ use Rattle.script_text.specs.Values.{value_of}
 use Rattle.script_text.specs.Actions.{InResponse, actions_under}
 use Rattle.script_text.specs.Texts.{returns, fits_results, trap_of, return_of, end_by, end_of, response_of, answer_of}
 use Rattle.fitting_scripts.proofs.Steps.{ok_one, both_ok, passed, below_ok, under_or_holds, if_there_holds, list_holds}
-use Rattle.fitting_scripts.proofs.Tests.{Among, types_same}
+use Rattle.fitting_scripts.proofs.Tests.{Among}
+use Rattle.wasm_syntax.proofs.ValTypes.{types_same}
 use Rattle.fitting_scripts.proofs.Values.{value_in_range}
 use Rattle.fitting_scripts.proofs.Actions.{serves_response, actions_fit}
 
@@ -30,8 +31,10 @@ constants : (value : Option Val) → IfSome value (λ v. is_constant v ≡ true)
 constants None h = All-nil (λ v. is_constant v ≡ true)
 constants (Some v) h = All-cons (λ v. is_constant v ≡ true) v [] h (All-nil (λ v. is_constant v ≡ true))
 
-module _ (m : Module) (valid : IsValid m) (name : List ℕ) (types : List FuncType) (ty : FuncType) (among : Among ty types) where
-  results_fit : (value : Option Val) (t : ⊤) → IfSome value (λ v. is_constant v ≡ true) → fits_results name types value ≡ Ok t → AreOfTypes ty.results (option_to_list value)
+module _ (m : Module) (valid : IsValid m) (name : List ℕ) (types : List FuncType) (ty : FuncType)
+    (among : Among ty types) where
+  results_fit : (value : Option Val) (t : ⊤) → IfSome value (λ v. is_constant v ≡ true)
+      → fits_results name types value ≡ Ok t → AreOfTypes ty.results (option_to_list value)
   unfolding fits_results
   results_fit value t constant h =
       let typed = among (returns value) (passed (list_all (returns value) types) (Ok tt) (WrongType name) t h).0 in
@@ -65,7 +68,8 @@ module _ (m : Module) (valid : IsValid m) (name : List ℕ) (types : List FuncTy
       by (Some r) None h = return_fits d e h
       by None None h = return_fits d e h
 
-  response_fits : (d : Data) (response : Response) → response_of m name types d ≡ Ok response → FitsResponse m ty response
+  response_fits : (d : Data) (response : Response) → response_of m name types d ≡ Ok response
+      → FitsResponse m ty response
   unfolding response_of
   response_fits d response h =
       let listed = both_ok (only (codes "do" ∷ codes "return" ∷ codes "trap" ∷ []) d) _ response h in

@@ -18,29 +18,35 @@ use Rattle.wasm_syntax.specs.Typing.{is_constant}
 use Rattle.wasm_syntax.specs.Validity.{IsThere, IsValid}
 use Rattle.host_script.specs.Fits.{HasMemory, HasTable, IsSettable}
 use Rattle.script_text.specs.declared.faults.ScriptFault.TheVariants.{NoAccess, WrongType}
-use Rattle.script_text.specs.Names.{is_kind, imports_some, exports_some, func_export, memory_export, table_export, exported_func, reaches_memory, reaches_table}
-use Rattle.script_text.specs.Actions.{memory_access, table_access, known, func_named, is_set_by, fits_global}
+use Rattle.module_names.specs.Names.{is_kind, imports_some, exports_some, func_export, memory_export, table_export, exported_func, reaches_memory, reaches_table}
+use Rattle.script_text.specs.Actions.{memory_access, table_access, index_or_unknown, func_named, is_set_by, fits_global}
 use Rattle.fitting_scripts.proofs.Steps.{ok_one, some_one, passed}
-use Rattle.fitting_scripts.proofs.Tests.{either_true, type_same}
+use Rattle.wasm_syntax.proofs.ValTypes.{type_same}
+use Rattle.list_laws.proofs.Booleans.{or_cases}
 
 -- ---- memory and table
 
 -- something of a kind is imported
-some_imported : {K : Type 0} (pick : ImportKind → Option K) (imports : List Import) → list_any (is_kind pick) imports ≡ true → 0 < length (of_kind pick imports)
+some_imported : {K : Type 0} (pick : ImportKind → Option K) (imports : List Import)
+    → list_any (is_kind pick) imports ≡ true → 0 < length (of_kind pick imports)
 some_imported {K} pick [] h = cc h
 some_imported {K} pick (x ∷ xs) h = by (pick x.kind) h (some_imported pick xs)
   where
-    by : (o : Option K) → (is_some o || list_any (is_kind pick) xs) ≡ true → (list_any (is_kind pick) xs ≡ true → 0 < length (of_kind pick xs)) → 0 < length (cons_option o (of_kind pick xs))
+    by : (o : Option K) → (is_some o || list_any (is_kind pick) xs) ≡ true
+        → (list_any (is_kind pick) xs ≡ true → 0 < length (of_kind pick xs))
+        → 0 < length (cons_option o (of_kind pick xs))
     by None h later = later h
     by (Some k) h later = omega arith
 
 -- something of a kind is exported, and is there
-some_exported : (P : Type 0) (pick : ExportKind → Option ℕ) (m : Module) → ((kind : ExportKind) (x : ℕ) → pick kind ≡ Some x → IsThere m kind → P)
+some_exported : (P : Type 0) (pick : ExportKind → Option ℕ) (m : Module)
+    → ((kind : ExportKind) (x : ℕ) → pick kind ≡ Some x → IsThere m kind → P)
     → (exports : List Export) → All (λ e. IsThere m e.kind) exports → list_any (λ e. is_some (pick e.kind)) exports ≡ true → P
 some_exported P pick m holds [] there h = cc h
 some_exported P pick m holds (e ∷ es) there h = by (pick e.kind) refl h (some_exported P pick m holds es (All-tail (λ e. IsThere m e.kind) e es there))
   where
-    by : (o : Option ℕ) → pick e.kind ≡ o → (is_some o || list_any (λ e. is_some (pick e.kind)) es) ≡ true → (list_any (λ e. is_some (pick e.kind)) es ≡ true → P) → P
+    by : (o : Option ℕ) → pick e.kind ≡ o → (is_some o || list_any (λ e. is_some (pick e.kind)) es) ≡ true
+        → (list_any (λ e. is_some (pick e.kind)) es ≡ true → P) → P
     by None is h later = later h
     by (Some x) is h later = holds e.kind x is (All-head (λ e. IsThere m e.kind) e es there)
 
@@ -65,18 +71,19 @@ unfolding memory_access
 has_memory m t valid h =
     ⊎_elim (λ i. some_first (of_kind memory_import m.imports) m.memories (some_imported memory_import m.imports i))
     (λ e. some_exported (HasMemory m) memory_export m (memory_there m) m.exports valid.outside.exports e)
-    (either_true (imports_some memory_import m) (exports_some memory_export m) (passed (reaches_memory m) (Ok tt) _ t h).0)
+    (or_cases (imports_some memory_import m) (exports_some memory_export m) (passed (reaches_memory m) (Ok tt) _ t h).0)
 
 pub has_table : (m : Module) (t : ⊤) → IsValid m → table_access m ≡ Ok t → HasTable m
 unfolding table_access
 has_table m t valid h =
     ⊎_elim (λ i. some_first (of_kind table_import m.imports) m.tables (some_imported table_import m.imports i))
     (λ e. some_exported (HasTable m) table_export m (table_there m) m.exports valid.outside.exports e)
-    (either_true (imports_some table_import m) (exports_some table_export m) (passed (reaches_table m) (Ok tt) _ t h).0)
+    (or_cases (imports_some table_import m) (exports_some table_export m) (passed (reaches_table m) (Ok tt) _ t h).0)
 
 -- ---- functions
 
-found_holds : {A : Type 0} (P : A → Type 0) (test : A → Bool) (xs : List A) (a : A) → All P xs → find test xs ≡ Some a → P a
+found_holds : {A : Type 0} (P : A → Type 0) (test : A → Bool) (xs : List A) (a : A) → All P xs → find test xs ≡ Some a
+    → P a
 found_holds P test [] a all h = cc h
 found_holds P test (x ∷ xs) a all h = by (test x) h (found_holds P test xs a (All-tail P x xs all))
   where
@@ -84,34 +91,40 @@ found_holds P test (x ∷ xs) a all h = by (test x) h (found_holds P test xs a (
     by true h later = subst P (some_one x a h) (All-head P x xs all)
     by false h later = later h
 
-func_there : (m : Module) (kind : ExportKind) (f : ℕ) → IsThere m kind → func_export kind ≡ Some f → f < length (func_indices m)
+func_there : (m : Module) (kind : ExportKind) (f : ℕ) → IsThere m kind → func_export kind ≡ Some f
+    → f < length (func_indices m)
 func_there m (Func x) f there h = subst (λ f. f < length (func_indices m)) (some_one x f h) there
 func_there m (Table x) f there h = cc h
 func_there m (Memory x) f there h = cc h
 func_there m (Global x) f there h = cc h
 
-pub exported_there : (m : Module) (name : List ℕ) (f : ℕ) → IsValid m → exported_func m name ≡ Some f → f < length (func_indices m)
+pub exported_there : (m : Module) (name : List ℕ) (f : ℕ) → IsValid m → exported_func m name ≡ Some f
+    → f < length (func_indices m)
 exported_there m name f valid h = by (find (λ e. bytes_eq e.name name) m.exports) refl h
   where
-    by : (o : Option Export) → find (λ e. bytes_eq e.name name) m.exports ≡ o → option_and_then func_export (option_map (λ e. e.kind) o) ≡ Some f → f < length (func_indices m)
+    by : (o : Option Export) → find (λ e. bytes_eq e.name name) m.exports ≡ o
+        → option_and_then func_export (option_map (λ e. e.kind) o) ≡ Some f → f < length (func_indices m)
     by None is h = cc h
     by (Some e) is h = func_there m e.kind f (found_holds (λ e. IsThere m e.kind) (λ e. bytes_eq e.name name) m.exports e valid.outside.exports is) h
 
-known_is : (name : List ℕ) (o : Option ℕ) (index : ℕ) → known name o ≡ Ok index → o ≡ Some index
-known_is name None index h = cc h
-known_is name (Some i) index h = ap Some (ok_one i index h)
+index_is : (name : List ℕ) (o : Option ℕ) (index : ℕ) → index_or_unknown name o ≡ Ok index → o ≡ Some index
+index_is name None index h = cc h
+index_is name (Some i) index h = ap Some (ok_one i index h)
 
-pub func_named_there : (m : Module) (name : List ℕ) (f : ℕ) → IsValid m → func_named m name ≡ Ok f → f < length (func_indices m)
+pub func_named_there : (m : Module) (name : List ℕ) (f : ℕ) → IsValid m → func_named m name ≡ Ok f
+    → f < length (func_indices m)
 unfolding func_named
-func_named_there m name f valid h = exported_there m name f valid (known_is name (exported_func m name) f h)
+func_named_there m name f valid h = exported_there m name f valid (index_is name (exported_func m name) f h)
 
 -- ---- globals
 
-pub settable : (m : Module) (global : ℕ) (name : List ℕ) (value : Val) (t : ⊤) → is_constant value ≡ true → fits_global m global name value ≡ Ok t → IsSettable m global value
+pub settable : (m : Module) (global : ℕ) (name : List ℕ) (value : Val) (t : ⊤) → is_constant value ≡ true
+    → fits_global m global name value ≡ Ok t → IsSettable m global value
 unfolding fits_global
 settable m global name value t constant h = by (slice_get (all_globals m) global) refl h
   where
-    by : (o : Option GlobalType) → slice_get (all_globals m) global ≡ o → is_set_by o name value ≡ Ok t → IsSettable m global value
+    by : (o : Option GlobalType) → slice_get (all_globals m) global ≡ o → is_set_by o name value ≡ Ok t
+        → IsSettable m global value
     by None is h = cc h
     by (Some ty) is h =
         let mutable = passed ty.mutable _ (NoAccess name) t h in

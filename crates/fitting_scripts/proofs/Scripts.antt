@@ -1,5 +1,5 @@
 -- A script that was read fits the module.
-use Rattle.std.proofs.Common.{◌≡◌, ℕ, zero, suc, List, [], ◌∷◌, length, map, codes, filter, All, Contains, get_or, Option, Some, None, IfSome, is_some, option_and_then, Result, Ok, Err, IsTrue, true, cond, refl, ap, subst, ◌∙◌, arith}
+use Rattle.std.proofs.Common.{◌≡◌, ℕ, zero, suc, List, [], ◌∷◌, length, map, codes, filter, All, Contains, get_or, Option, Some, None, IfSome, is_some, option_and_then, Result, Ok, Err, IsTrue, true, cond, refl, sym, subst, ◌∙◌, arith}
 use Rattle.std.specs.List.{cons_option, AllZip}
 use Rattle.std.specs.Result.{result_ok}
 use Rattle.std.specs.Str.{bytes_eq, is_utf8}
@@ -26,9 +26,11 @@ use Rattle.script_text.specs.declared.faults.ScriptFault.{ScriptFault}
 use Rattle.script_text.specs.declared.faults.ScriptFault.TheVariants.{NotJson}
 use Rattle.script_text.specs.Walk.{only, under_or, under_if_there}
 use Rattle.script_text.specs.Values.{value_of, limits_of}
-use Rattle.script_text.specs.Names.{is_kind, imports_with, is_named, import_type, func_types_named}
+use Rattle.module_names.specs.Names.{is_kind, imports_with, is_named, import_type, func_types_named}
 use Rattle.script_text.specs.Actions.{InMain, actions_under}
-use Rattle.script_text.specs.Texts.{each_import, look_value, look_answer, given_for, value_for, answer_of, answer_for, script_of, script_in, script_of_text}
+use Rattle.script_text.specs.Texts.{each_import, look_value, look_answer, member_for, value_for, answer_of, answer_for, script_of, script_in, script_of_text}
+use Rattle.module_names.proofs.Spaces.{length-of_kind}
+use Rattle.fitting_scripts.specs.FittingScripts.{ValuesFit, TextsFit}
 use Rattle.fitting_scripts.proofs.Steps.{ok_one, both_ok, passed}
 use Rattle.fitting_scripts.proofs.Tests.{Among, contained, among_kept, among_found}
 use Rattle.fitting_scripts.proofs.Values.{value_in_range}
@@ -36,15 +38,6 @@ use Rattle.fitting_scripts.proofs.Actions.{serves_main, actions_fit}
 use Rattle.fitting_scripts.proofs.Answers.{answer_fits}
 
 -- ---- the imports of one kind
-
-length_of_kind : {K : Type 0} (pick : ImportKind → Option K) (imports : List Import) → length (filter (is_kind pick) imports) ≡ length (of_kind pick imports)
-length_of_kind pick [] = refl
-length_of_kind {K} pick (x ∷ xs) = by (pick x.kind) (length_of_kind pick xs)
-  where
-    by : (o : Option K) → length (filter (is_kind pick) xs) ≡ length (of_kind pick xs)
-        → length (cond (is_some o) (x ∷ filter (is_kind pick) xs) (filter (is_kind pick) xs)) ≡ length (cons_option o (of_kind pick xs))
-    by None h = h
-    by (Some k) h = ap suc h
 
 -- a relation of each import of a kind with what is made of it
 each_of_kind : {K B : Type 0} (pick : ImportKind → Option K) (make : Import → B) (R : K → B → Type 0) (imports : List Import)
@@ -68,7 +61,8 @@ own_name x = rw (own x.«module», own x.name) refl
     own bytes = (bytes_eq-Decides bytes bytes).1 refl
 
 -- the type of an imported function is among those of its names
-among_types : (m : Module) (x : Import) (t : ℕ) (ty : FuncType) → Contains m.imports x → func_import x.kind ≡ Some t → type_at m t ≡ Some ty
+among_types : (m : Module) (x : Import) (t : ℕ) (ty : FuncType) → Contains m.imports x → func_import x.kind ≡ Some t
+    → type_at m t ≡ Some ty
     → Among ty (func_types_named m x.«module» x.name)
 among_types m x t ty there is typed =
     among_found (import_type m) x ty (filter (is_named x.«module» x.name) (imports_with func_import m)) (rw (is, typed) refl)
@@ -76,7 +70,8 @@ among_types m x t ty there is typed =
     (among_kept (is_kind func_import) x m.imports (rw is refl) (contained x m.imports there)))
 
 -- the type of an import of a valid module is there
-type_there : (m : Module) (kind : ImportKind) (t : ℕ) → IsImport m kind → func_import kind ≡ Some t → (ty : FuncType) × (type_at m t ≡ Some ty)
+type_there : (m : Module) (kind : ImportKind) (t : ℕ) → IsImport m kind → func_import kind ≡ Some t
+    → (ty : FuncType) × (type_at m t ≡ Some ty)
 type_there m (Func i) t there is =
     let same : i ≡ t = cc is in
     let d : FuncType = record { params = []; results = [] } in
@@ -85,24 +80,28 @@ type_there m (Table limits) t there is = cc is
 type_there m (Memory limits) t there is = cc is
 type_there m (Global ty) t there is = cc is
 
-answer_for_fits : (m : Module) (d : Option Data) (x : Import) (t : ℕ) → IsValid m → Contains m.imports x → func_import x.kind ≡ Some t → FitsImport m t (answer_for m d x)
-answer_for_fits m d x t valid there is = by (given_for d x)
+answer_for_fits : (m : Module) (d : Option Data) (x : Import) (t : ℕ) → IsValid m → Contains m.imports x
+    → func_import x.kind ≡ Some t → FitsImport m t (answer_for m d x)
+answer_for_fits m d x t valid there is = by (member_for d x)
   where
     typed : (ty : FuncType) × (type_at m t ≡ Some ty)
     typed = type_there m x.kind t (All-contains (λ i. IsImport m i.kind) m.imports x valid.outside.imports there) is
 
-    fits : (a : Data) (r : Result Answer ScriptFault) → answer_of m x.name (func_types_named m x.«module» x.name) a ≡ r → FitsImport m t (result_ok r)
+    fits : (a : Data) (r : Result Answer ScriptFault) → answer_of m x.name (func_types_named m x.«module» x.name) a ≡ r
+        → FitsImport m t (result_ok r)
     fits a (Ok answer) read = (typed.0, typed.1, answer_fits m valid x.name (func_types_named m x.«module» x.name) typed.0 (among_types m x t typed.0 there is typed.1) a answer read)
     fits a (Err fault) read = tt
 
-    by : (o : Option Data) → FitsImport m t (option_and_then (λ a. result_ok (answer_of m x.name (func_types_named m x.«module» x.name) a)) o)
+    by : (o : Option Data)
+        → FitsImport m t
+        (option_and_then (λ a. result_ok (answer_of m x.name (func_types_named m x.«module» x.name) a)) o)
     by None = tt
     by (Some a) = fits a (answer_of m x.name (func_types_named m x.«module» x.name) a) refl
 
 -- ---- the values of globals
 
 value_for_fits : (d : Option Data) (x : Import) → IfSome (value_for d x) (λ v. IsTrue (is_constant v))
-value_for_fits d x = by (given_for d x)
+value_for_fits d x = by (member_for d x)
   where
     fits : (a : Data) (r : Result Val ScriptFault) → value_of a ≡ r → IfSome (result_ok r) (λ v. IsTrue (is_constant v))
     fits a (Ok v) read = value_in_range a v read
@@ -112,14 +111,14 @@ value_for_fits d x = by (given_for d x)
     by None = tt
     by (Some a) = fits a (value_of a) refl
 
-all_made : {A B : Type 0} (P : B → Type 0) (make : A → B) (xs : List A) → ((a : A) → P (make a)) → All P (map make xs)
-all_made P make [] h k d lt = absurd (omega (arith, lt))
-all_made P make (x ∷ xs) h zero d lt = h x
-all_made P make (x ∷ xs) h (suc k) d lt = all_made P make xs h k d (omega (arith, lt))
+all_mapped : {A B : Type 0} (P : B → Type 0) (make : A → B) (xs : List A) → ((a : A) → P (make a)) → All P (map make xs)
+all_mapped P make [] h k d lt = absurd (omega (arith, lt))
+all_mapped P make (x ∷ xs) h zero d lt = h x
+all_mapped P make (x ∷ xs) h (suc k) d lt = all_mapped P make xs h k d (omega (arith, lt))
 
 -- ---- scripts
 
-pub script_fits : (m : Module) (d : Data) (script : Script) → IsValid m → script_of m d ≡ Ok script → Fits m script
+pub script_fits : ValuesFit
 unfolding script_of
 script_fits m d script valid h =
     let listed = both_ok (only (codes "memory" ∷ codes "table" ∷ codes "globals" ∷ codes "imports" ∷ codes "main" ∷ []) d) _ script h in
@@ -131,13 +130,13 @@ script_fits m d script valid h =
     let given = map (value_for (get (codes "globals") d)) (imports_with global_import m) in
     let answers = map (answer_for m (get (codes "imports") d)) (imports_with func_import m) in
     subst (Fits m) (ok_one (record { memory = memory.0; table = table.0; globals = given; imports = answers; main = main.0 }) script main.2) (record {
-      globals = length-map (imports_with global_import m) (value_for (get (codes "globals") d)) ∙ length_of_kind global_import m.imports;
-      values = all_made (λ given. IfSome given (λ v. IsTrue (is_constant v))) (value_for (get (codes "globals") d)) (imports_with global_import m) (value_for_fits (get (codes "globals") d));
+      globals = length-map (imports_with global_import m) (value_for (get (codes "globals") d)) ∙ sym (length-of_kind global_import m.imports);
+      values = all_mapped (λ given. IfSome given (λ v. IsTrue (is_constant v))) (value_for (get (codes "globals") d)) (imports_with global_import m) (value_for_fits (get (codes "globals") d));
       imports = each_of_kind func_import (answer_for m (get (codes "imports") d)) (FitsImport m) m.imports (λ x t there is. answer_for_fits m (get (codes "imports") d) x t valid there is);
       main = actions_fit m InMain [] valid serves_main (codes "main") d main.0 main.1;
     })
 
-pub text_fits : (m : Module) (bytes : List ℕ) (script : Script) → IsValid m → script_of_text m bytes ≡ Ok script → Fits m script
+pub text_fits : TextsFit
 text_fits m bytes script valid h = by (read bytes) (passed (is_utf8 bytes) (script_in m (read bytes)) NotJson script h).1
   where
     by : (o : Option Data) → script_in m o ≡ Ok script → Fits m script

@@ -4,7 +4,7 @@ use Rattle.std.proofs.lemmas.List.Elements.{All-nil, All-cons}
 use Rattle.serde_json.specs.Data.{Data, Items, no_items, item}
 use Rattle.serde_json.specs.Find.{get, as_array}
 use Rattle.script_text.specs.declared.faults.ScriptFault.{ScriptFault}
-use Rattle.script_text.specs.Walk.{◌>>=◌, below, formed, read_some, under, read_any, under_or, some_of, under_if_there, at_index, items_from, items_in, list_of}
+use Rattle.script_text.specs.Walk.{◌>>=◌, below, or_shape, read_some, under, read_any, under_or, some_of, under_if_there, at_index, items_from, items_in, list_of}
 
 pub ok_one : {A : Type 0} (a b : A) → ◌≡◌ {A = Result A ScriptFault} (Ok a) (Ok b) → a ≡ b
 ok_one a b h = cc h
@@ -13,12 +13,14 @@ pub some_one : {A : Type 0} (a b : A) → ◌≡◌ {A = Option A} (Some a) (Som
 some_one a b h = cc h
 
 -- both steps have read something
-pub both_ok : {A B : Type 0} (read : Result A ScriptFault) (next : A → Result B ScriptFault) (b : B) → (read >>= next) ≡ Ok b → (a : A) × (read ≡ Ok a) × (next a ≡ Ok b)
+pub both_ok : {A B : Type 0} (read : Result A ScriptFault) (next : A → Result B ScriptFault) (b : B)
+    → (read >>= next) ≡ Ok b → (a : A) × (read ≡ Ok a) × (next a ≡ Ok b)
 both_ok (Ok a) next b h = (a, refl, h)
 both_ok (Err fault) next b h = cc h
 
 -- a test was passed
-pub passed : {A : Type 0} (test : Bool) (read : Result A ScriptFault) (fault : ScriptFault) (a : A) → cond test read (Err fault) ≡ Ok a → (test ≡ true) × (read ≡ Ok a)
+pub passed : {A : Type 0} (test : Bool) (read : Result A ScriptFault) (fault : ScriptFault) (a : A)
+    → cond test read (Err fault) ≡ Ok a → (test ≡ true) × (read ≡ Ok a)
 passed true read fault a h = (refl, h)
 passed false read fault a h = cc h
 
@@ -26,12 +28,13 @@ pub below_ok : {A : Type 0} (step : List ℕ) (read : Result A ScriptFault) (a :
 below_ok step (Ok b) a h = h
 below_ok step (Err fault) a h = cc h
 
-pub formed_ok : {A : Type 0} (o : Option A) (a : A) → formed o ≡ Ok a → o ≡ Some a
-formed_ok (Some b) a h = ap Some (ok_one b a h)
-formed_ok None a h = cc h
+pub or_shape_ok : {A : Type 0} (o : Option A) (a : A) → or_shape o ≡ Ok a → o ≡ Some a
+or_shape_ok (Some b) a h = ap Some (ok_one b a h)
+or_shape_ok None a h = cc h
 
 -- what holds of all that is read, holds of what is read under keys and in lists
-module _ {A : Type 0} (P : A → Type 0) (read : Data → Result A ScriptFault) (holds : (d : Data) (a : A) → read d ≡ Ok a → P a) where
+module _ {A : Type 0} (P : A → Type 0) (read : Data → Result A ScriptFault)
+    (holds : (d : Data) (a : A) → read d ≡ Ok a → P a) where
   pub under_holds : (key : List ℕ) (d : Data) (a : A) → under key read d ≡ Ok a → P a
   under_holds key d a h = by (get key d) h
     where
@@ -39,7 +42,8 @@ module _ {A : Type 0} (P : A → Type 0) (read : Data → Result A ScriptFault) 
       by None h = cc h
       by (Some e) h = holds e a (below_ok key (read e) a h)
 
-  pub under_or_holds : (key : List ℕ) (missing : A) (d : Data) (a : A) → P missing → under_or key missing read d ≡ Ok a → P a
+  pub under_or_holds : (key : List ℕ) (missing : A) (d : Data) (a : A) → P missing → under_or key missing read d ≡ Ok a
+      → P a
   under_or_holds key missing d a p h = by (get key d) h
     where
       by : (o : Option Data) → read_any key missing read o ≡ Ok a → P a

@@ -1,35 +1,8 @@
 -- Tests that were passed, and what is among the items of lists.
-use Rattle.std.proofs.Common.{◌≡◌, ◌⊎◌, inl, inr, List, [], ◌∷◌, filter, filter_map, Contains, Option, Some, None, Bool, true, false, ◌&&◌, ◌||◌, cond, refl, ap, ◌∙◌}
+use Rattle.std.proofs.Common.{◌≡◌, List, [], ◌∷◌, filter, filter_map, Contains, Option, Some, None, Bool, true, false, ◌&&◌, cond, refl, ap, ◌∙◌}
 use Rattle.std.specs.List.{list_all, cons_option}
 use Rattle.std.proofs.lemmas.List.Elements.{All-contains}
 use Rattle.std.proofs.lemmas.List.Sums.{AllPass-from_list_all}
-use Rattle.wasm_syntax.specs.declared.values.ValType.{ValType}
-use Rattle.wasm_syntax.specs.declared.values.ValType.TheVariants.{I32, I64, F32, F64, FuncRef}
-use Rattle.wasm_syntax.specs.Alike.{same_type, same_types}
-
-pub both_true : (a b : Bool) → (a && b) ≡ true → (a ≡ true) × (b ≡ true)
-both_true true b h = (refl, h)
-both_true false b h = cc h
-
-pub either_true : (a b : Bool) → (a || b) ≡ true → (a ≡ true) ⊎ (b ≡ true)
-either_true true b h = inl refl
-either_true false b h = inr h
-
-pub type_same : (t u : ValType) → same_type t u ≡ true → t ≡ u
-type_same I32 I32 h = refl
-type_same I64 I64 h = refl
-type_same F32 F32 h = refl
-type_same F64 F64 h = refl
-type_same FuncRef FuncRef h = refl
-type_same t u h = cc
-
-pub types_same : (ts us : List ValType) → same_types ts us ≡ true → ts ≡ us
-types_same [] [] h = refl
-types_same [] (u ∷ us) h = cc
-types_same (t ∷ ts) [] h = cc
-types_same (t ∷ ts) (u ∷ us) h =
-    let p = both_true (same_type t u) (same_types ts us) h in
-    (λ i. type_same t u p.0 i ∷ types_same ts us p.1 i)
 
 -- it passes each test that all items pass
 abbrev pub Among : {A : Type 0} → A → List A → Type 0
@@ -42,7 +15,8 @@ contained a xs there test all = All-contains (λ x. test x ≡ true) xs a (AllPa
 kept : {A : Type 0} (keep test : A → Bool) → A → Bool
 kept keep test a = cond (keep a) (test a) true
 
-abbrev all_kept : {A : Type 0} (keep test : A → Bool) (xs : List A) → list_all (λ x. cond (keep x) (test x) true) xs ≡ list_all test (filter keep xs)
+abbrev all_kept : {A : Type 0} (keep test : A → Bool) (xs : List A)
+    → list_all (λ x. cond (keep x) (test x) true) xs ≡ list_all test (filter keep xs)
 all_kept keep test [] = refl
 all_kept keep test (x ∷ xs) = by (keep x) (all_kept keep test xs)
   where
@@ -51,7 +25,8 @@ all_kept keep test (x ∷ xs) = by (keep x) (all_kept keep test xs)
     by true h = ap (λ b. test x && b) h
     by false h = h
 
-pub among_kept : {A : Type 0} (keep : A → Bool) (a : A) (xs : List A) → keep a ≡ true → Among a xs → Among a (filter keep xs)
+pub among_kept : {A : Type 0} (keep : A → Bool) (a : A) (xs : List A) → keep a ≡ true → Among a xs
+    → Among a (filter keep xs)
 among_kept keep a xs is among test all =
     let h : cond (keep a) (test a) true ≡ true = among (λ x. cond (keep x) (test x) true) (all_kept keep test xs ∙ all) in
     rw is at h
@@ -61,7 +36,8 @@ abbrev on_found : {B : Type 0} → (B → Bool) → Option B → Bool
 on_found test None = true
 on_found test (Some b) = test b
 
-all_found : {A B : Type 0} (find : A → Option B) (test : B → Bool) (xs : List A) → list_all (λ x. on_found test (find x)) xs ≡ list_all test (filter_map find xs)
+all_found : {A B : Type 0} (find : A → Option B) (test : B → Bool) (xs : List A)
+    → list_all (λ x. on_found test (find x)) xs ≡ list_all test (filter_map find xs)
 all_found find test [] = refl
 all_found {A} {B} find test (x ∷ xs) = by (find x) (all_found find test xs)
   where
@@ -70,7 +46,8 @@ all_found {A} {B} find test (x ∷ xs) = by (find x) (all_found find test xs)
     by None h = h
     by (Some b) h = ap (λ c. test b && c) h
 
-pub among_found : {A B : Type 0} (find : A → Option B) (a : A) (b : B) (xs : List A) → find a ≡ Some b → Among a xs → Among b (filter_map find xs)
+pub among_found : {A B : Type 0} (find : A → Option B) (a : A) (b : B) (xs : List A) → find a ≡ Some b → Among a xs
+    → Among b (filter_map find xs)
 among_found find a b xs is among test all =
     let h : on_found test (find a) ≡ true = among (λ x. on_found test (find x)) (all_found find test xs ∙ all) in
     rw is at h

@@ -4,7 +4,7 @@ use Rattle.std.specs.Prelude.{[], ◌∷◌}
 use Rattle.worked_histories.specs.Build.{i32}
 use Rattle.worked_histories.specs.Modules.{two_answers, overwrite, grow_access}
 use Rattle.worked_histories.specs.Scripts.{five_seven, does_nothing}
-use Rattle.flat_histories.specs.Played.{PlaysAs}
+use Rattle.flat_histories.specs.Plays.{PlaysAs}
 use Rattle.flat_histories.specs.Loops.{called_with, sum_down, either, switch, leaves}
 
 pub two_answers_played : PlaysAs two_answers five_seven 1 [] ((i32 5 ∷ []) ∷ (i32 7 ∷ []) ∷ []) 10

@@ -1,2 +1,2 @@
-pub mod Played
+pub mod Plays
 pub mod Loops

@@ -6,7 +6,7 @@ ghost use Rattle.worked_histories.specs.Build.{i32};
 ghost use Rattle.worked_histories.specs.Modules.{grow_access, overwrite, two_answers};
 ghost use Rattle.worked_histories.specs.Scripts.{does_nothing, five_seven};
 ghost use Rattle.flat_histories.specs.Loops.{called_with, either, leaves, sum_down, switch};
-ghost use Rattle.flat_histories.specs.Played.{PlaysAs};
+ghost use Rattle.flat_histories.specs.Plays.{PlaysAs};
 
 /// The flat code of the example modules has the histories of their runs.
 pub fn flat_code_has_the_histories()

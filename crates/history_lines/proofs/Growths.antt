@@ -1,10 +1,6 @@
 -- How growths by parts of a text compose.
-use Rattle.std.proofs.Common.{◌≡◌, ℕ, List, [], ◌++◌, Result, Ok, Err, OnErr, refl, sym, ◌∙◌, ap, append_assoc, append-nil}
+use Rattle.std.proofs.Common.{◌≡◌, ℕ, List, ◌++◌, Result, Ok, Err, OnErr, sym, ◌∙◌, ap, append_assoc}
 use Rattle.history_lines.specs.Growth.{GrewByFirstPart}
-
--- none of a text
-pub grew-none : (old new text : List ℕ) → new ≡ old → GrewByFirstPart old new text
-grew-none old new text same = record { part = []; rest = text; whole = refl; grew = same ∙ sym (append-nil old) }
 
 -- a growth by a text, then by a first part of what follows
 pub grew-after : (old between new first second : List ℕ) → between ≡ old ++ first → GrewByFirstPart between new second → GrewByFirstPart old new (first ++ second)
@@ -23,10 +19,6 @@ grew-longer old new first second p = record {
   whole = sym (append_assoc p.part p.rest second) ∙ ap (λ l. l ++ second) p.whole;
   grew = p.grew;
 }
-
--- two growths are one
-pub grown-twice : (old between new first second : List ℕ) → between ≡ old ++ first → new ≡ between ++ second → new ≡ old ++ (first ++ second)
-grown-twice old between new first second p q = q ∙ ap (λ l. l ++ second) p ∙ append_assoc old first second
 
 -- what holds of any answer, at a refusal
 pub at-exit : {T E P : Type 0} (r : Result T E) → P → OnErr r P

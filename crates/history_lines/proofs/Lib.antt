@@ -1,3 +1,4 @@
 pub mod Digits
 pub mod Growths
 pub mod Values
+pub mod Texts

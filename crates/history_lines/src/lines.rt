@@ -1,7 +1,7 @@
 // Whole lines.
 
 ghost use Rattle.std.specs.Prelude.{◌≡◌, ◌++◌, OnOk, OnErr, codes};
-ghost use Rattle.history_spec.specs.Line.{entry_text, kind_text, line, number_text, outcome_text, spaced, values_text};
+ghost use Rattle.history_spec.specs.Line.{entry_text, found_text, kind_text, line, number_text, outcome_text, with_space, values_text};
 ghost use Rattle.history_spec.specs.declared.entries.Entry.TheVariants.{Step, Trap};
 ghost use Rattle.history_lines.specs.Growth.{GrewByFirstPart};
 
@@ -10,8 +10,10 @@ use history_spec::{Entry, Outcome, TrapKind};
 use no_memory::NoMemory;
 use wasm_syntax::Val;
 
-/// Appends the line of an entry, with its line feed. After want of memory a first part of it is
-/// appended.
+/// Appends the line of an entry, with its line feed.
+///
+/// # Errors
+/// Where an allocation failed; a first part of the line may be appended then.
 pub fn print_entry(out: &mut Vec<u8>, entry: &Entry) -> Result<(), NoMemory>
     ensures ok { OnOk result (out.new.items ≡ out.old.items ++ line (entry_text entry.now)) }
     ensures refused { OnErr result
@@ -21,8 +23,10 @@ pub fn print_entry(out: &mut Vec<u8>, entry: &Entry) -> Result<(), NoMemory>
     put(out, b"\n")
 }
 
-/// Appends the line of an outcome, with its line feed. After want of memory a first part of it is
-/// appended.
+/// Appends the line of an outcome, with its line feed.
+///
+/// # Errors
+/// Where an allocation failed; a first part of the line may be appended then.
 pub fn print_outcome(out: &mut Vec<u8>, outcome: Outcome) -> Result<(), NoMemory>
     ensures ok { OnOk result (out.new.items ≡ out.old.items ++ line (outcome_text outcome)) }
     ensures refused { OnErr result
@@ -91,7 +95,7 @@ fn put_call(out: &mut Vec<u8>, name: &[u8], func: u32, values: &[Val]) -> Result
     put_values(out, values)
 }
 
-/// Appends the text of a function's begin.
+/// Appends the text of a function that the module enters.
 fn put_enter(out: &mut Vec<u8>, func: u32) -> Result<(), NoMemory>
     ensures ok { OnOk result
         (out.new.items ≡ out.old.items ++ (codes "enter" ++ number_text func)) }
@@ -100,6 +104,31 @@ fn put_enter(out: &mut Vec<u8>, func: u32) -> Result<(), NoMemory>
 {
     put(out, b"enter")?;
     put_number(out, func)
+}
+
+/// Appends what the texts of an instruction and of its trap begin with: a name, the function, and the
+/// instruction's number.
+fn put_instr(out: &mut Vec<u8>, name: &[u8], func: u32, number: u32) -> Result<(), NoMemory>
+    ensures ok { OnOk result
+        (out.new.items ≡ out.old.items ++ (name.now ++ (number_text func ++ number_text number))) }
+    ensures refused { OnErr result (GrewByFirstPart out.old.items out.new.items
+        (name.now ++ (number_text func ++ number_text number))) }
+{
+    put(out, name)?;
+    put_number(out, func)?;
+    put_number(out, number)
+}
+
+/// Appends what an instruction gave and found.
+fn put_results(out: &mut Vec<u8>, results: &[Val], found: Option<u32>) -> Result<(), NoMemory>
+    ensures ok { OnOk result (out.new.items
+        ≡ out.old.items ++ (codes " ->" ++ (values_text results.now ++ found_text found))) }
+    ensures refused { OnErr result (GrewByFirstPart out.old.items out.new.items
+        (codes " ->" ++ (values_text results.now ++ found_text found))) }
+{
+    put(out, b" ->")?;
+    put_values(out, results)?;
+    put_found(out, found)
 }
 
 /// Appends the text of an instruction.
@@ -116,12 +145,25 @@ fn put_step(
     ensures refused { OnErr result (GrewByFirstPart out.old.items out.new.items
         (entry_text (Step func number operands.now results.now found))) }
 {
-    put(out, b"step")?;
-    put_number(out, func)?;
-    put_number(out, number)?;
+    put_instr(out, b"step", func, number)?;
     put_values(out, operands)?;
-    put(out, b" ->")?;
-    put_values(out, results)?;
+    put_results(out, results, found)
+}
+
+/// Appends why an instruction traps, with its operands and what it found.
+fn put_cause(
+    out: &mut Vec<u8>,
+    kind: TrapKind,
+    operands: &[Val],
+    found: Option<u32>,
+) -> Result<(), NoMemory>
+    ensures ok { OnOk result (out.new.items ≡ out.old.items
+        ++ (with_space (kind_text kind) ++ (values_text operands.now ++ found_text found))) }
+    ensures refused { OnErr result (GrewByFirstPart out.old.items out.new.items
+        (with_space (kind_text kind) ++ (values_text operands.now ++ found_text found))) }
+{
+    put_kind(out, kind)?;
+    put_values(out, operands)?;
     put_found(out, found)
 }
 
@@ -139,19 +181,15 @@ fn put_trap(
     ensures refused { OnErr result (GrewByFirstPart out.old.items out.new.items
         (entry_text (Trap func number kind operands.now found))) }
 {
-    put(out, b"trap")?;
-    put_number(out, func)?;
-    put_number(out, number)?;
-    put_kind(out, kind)?;
-    put_values(out, operands)?;
-    put_found(out, found)
+    put_instr(out, b"trap", func, number)?;
+    put_cause(out, kind, operands, found)
 }
 
 /// Appends the name of a trap.
 fn put_kind(out: &mut Vec<u8>, kind: TrapKind) -> Result<(), NoMemory>
-    ensures ok { OnOk result (out.new.items ≡ out.old.items ++ spaced (kind_text kind)) }
+    ensures ok { OnOk result (out.new.items ≡ out.old.items ++ with_space (kind_text kind)) }
     ensures refused { OnErr result
-        (GrewByFirstPart out.old.items out.new.items (spaced (kind_text kind))) }
+        (GrewByFirstPart out.old.items out.new.items (with_space (kind_text kind))) }
 {
     match kind {
         TrapKind::Unreachable => put(out, b" unreachable"),

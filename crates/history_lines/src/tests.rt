@@ -19,7 +19,7 @@ fn vals(alloc: Global, values: &[Val]) -> Result<Vals, NoMemory> {
 }
 
 /// The lines of entries.
-fn printed(alloc: Global, entries: &[Entry]) -> Result<Vec<u8>, NoMemory> {
+fn lines_of(alloc: Global, entries: &[Entry]) -> Result<Vec<u8>, NoMemory> {
     let mut out = Vec::new(alloc);
     'entries: for entry in entries {
         print_entry(&mut out, entry)?;
@@ -30,7 +30,7 @@ fn printed(alloc: Global, entries: &[Entry]) -> Result<Vec<u8>, NoMemory> {
 #[test]
 fn calls_and_returns_have_their_lines(rt: HostRuntime) -> Result<(), Fail> {
     let alloc = rt.alloc();
-    let lines = printed(
+    let lines = lines_of(
         alloc,
         &[
             Entry::HostCall {
@@ -57,8 +57,13 @@ fn calls_and_returns_have_their_lines(rt: HostRuntime) -> Result<(), Fail> {
             Entry::HostTrap,
         ],
     )?;
-    let expected: &[u8] =
-        b"host-call 1\nimport-call 0 i32:000103f0 i32:00000004 i32:000103f8\nimport-return 0 i32:00000000\nenter 2\nexit 2 i32:0014d2d6\nhost-return 1 i32:0014d2d6\nhost-trap\n";
+    let expected: &[u8] = b"host-call 1\n\
+          import-call 0 i32:000103f0 i32:00000004 i32:000103f8\n\
+          import-return 0 i32:00000000\n\
+          enter 2\n\
+          exit 2 i32:0014d2d6\n\
+          host-return 1 i32:0014d2d6\n\
+          host-trap\n";
     assert!(rt; lines.as_slice() == expected);
     Ok(())
 }
@@ -84,7 +89,7 @@ fn instructions_have_their_lines(rt: HostRuntime) -> Result<(), Fail> {
             bits: 3,
         },
     ];
-    let lines = printed(
+    let lines = lines_of(
         alloc,
         &[
             Entry::Step {
@@ -117,8 +122,10 @@ fn instructions_have_their_lines(rt: HostRuntime) -> Result<(), Fail> {
             },
         ],
     )?;
-    let expected: &[u8] =
-        b"step 1 10 i32:000103f0 i32:00000004 i32:000103f8 ->\nstep 1 16 i32:000a6968 i32:00000003 -> i32:000a696b\nstep 1 18 i32:000a696b i32:00000001 -> found 2\nstep 4294967295 0 i64:fffffffffffffffe f32:7fc00001 f64:3ff0000000000000 funcref:0000000000000003 ->\n";
+    let expected: &[u8] = b"step 1 10 i32:000103f0 i32:00000004 i32:000103f8 ->\n\
+          step 1 16 i32:000a6968 i32:00000003 -> i32:000a696b\n\
+          step 1 18 i32:000a696b i32:00000001 -> found 2\n\
+          step 4294967295 0 i64:fffffffffffffffe f32:7fc00001 f64:3ff0000000000000 funcref:0000000000000003 ->\n";
     assert!(rt; lines.as_slice() == expected);
     Ok(())
 }

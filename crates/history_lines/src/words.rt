@@ -1,7 +1,7 @@
-// The words of a line, each behind a space.
+// The words of a line, each after a space.
 
 ghost use Rattle.std.specs.Prelude.{◌≡◌, ◌++◌, OnOk, OnErr};
-ghost use Rattle.history_spec.specs.Line.{found_text, hex_digits, number_text, spaced, value_text, values_text};
+ghost use Rattle.history_spec.specs.Line.{found_text, hex_digits, number_text, with_space, value_text, values_text};
 ghost use Rattle.history_lines.specs.Growth.{GrewByFirstPart};
 
 use itoa::Buffer;
@@ -20,7 +20,7 @@ pub(crate) fn put(out: &mut Vec<u8>, bytes: &[u8]) -> Result<(), NoMemory>
     Ok(())
 }
 
-/// Appends bytes, and others behind them.
+/// Appends bytes, and others after them.
 fn put_pair(out: &mut Vec<u8>, first: &[u8], second: &[u8]) -> Result<(), NoMemory>
     ensures ok { OnOk result (out.new.items ≡ out.old.items ++ (first.now ++ second.now)) }
     ensures refused { OnErr result
@@ -69,9 +69,9 @@ pub(crate) fn put_values(out: &mut Vec<u8>, values: &[Val]) -> Result<(), NoMemo
 
 /// Appends a value: its type, and its bits in hexadecimal.
 fn put_value(out: &mut Vec<u8>, value: Val) -> Result<(), NoMemory>
-    ensures ok { OnOk result (out.new.items ≡ out.old.items ++ spaced (value_text value)) }
+    ensures ok { OnOk result (out.new.items ≡ out.old.items ++ with_space (value_text value)) }
     ensures refused { OnErr result
-        (GrewByFirstPart out.old.items out.new.items (spaced (value_text value))) }
+        (GrewByFirstPart out.old.items out.new.items (with_space (value_text value))) }
 {
     match value.ty {
         ValType::I32 => put_pair(out, b" i32:", &digits::<8>(value.bits)),

@@ -11,4 +11,4 @@ pub mod Run
 pub mod Budget
 pub mod Line
 pub mod Projection
-pub mod Replayed
+pub mod Replay

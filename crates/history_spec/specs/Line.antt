@@ -11,7 +11,7 @@ use Rattle.history_spec.specs.declared.entries.TrapKind.TheVariants.{Unreachable
 use Rattle.history_spec.specs.declared.entries.Entry.{Entry}
 use Rattle.history_spec.specs.declared.entries.Entry.TheVariants.{HostCall, HostReturn, ImportCall, ImportReturn, Enter, Exit, Step, Trap, HostTrap}
 
--- a number's lowest digits in hexadecimal, the highest first
+-- the lowest digits of a number in hexadecimal, as many as `count`, the highest first
 abbrev pub hex_digits : (count number : ℕ) → List ℕ
 hex_digits zero number = []
 hex_digits (suc count) number =
@@ -29,16 +29,17 @@ typed_text FuncRef bits = codes "funcref:" ++ hex_digits 16 bits
 abbrev pub value_text : Val → List ℕ
 value_text value = typed_text value.ty value.bits
 
--- each word with a space in front
-abbrev pub spaced : List ℕ → List ℕ
-spaced word = codes " " ++ word
+-- a word with a space in front
+abbrev pub with_space : List ℕ → List ℕ
+with_space word = codes " " ++ word
 
--- a number, and values, each behind a space
+-- a number in decimal, after a space
 abbrev pub number_text : ℕ → List ℕ
-number_text number = spaced (decimal number)
+number_text number = with_space (decimal number)
 
+-- values, each after a space
 abbrev pub values_text : List Val → List ℕ
-values_text values = flat_map (λ value. spaced (value_text value)) values
+values_text values = flat_map (λ value. with_space (value_text value)) values
 
 -- what an instruction found, where it found something
 abbrev pub found_text : Option ℕ → List ℕ
@@ -55,7 +56,7 @@ kind_text Table = codes "table"
 kind_text Empty = codes "empty"
 kind_text Signature = codes "signature"
 
--- the line of an entry, and of an outcome
+-- the text of an entry
 abbrev pub entry_text : Entry → List ℕ
 entry_text (HostCall func args) = codes "host-call" ++ number_text func ++ values_text args
 entry_text (HostReturn func results) = codes "host-return" ++ number_text func ++ values_text results
@@ -64,11 +65,14 @@ entry_text (ImportReturn import results) = codes "import-return" ++ number_text 
 entry_text (Enter func) = codes "enter" ++ number_text func
 entry_text (Exit func results) = codes "exit" ++ number_text func ++ values_text results
 entry_text (Step func number operands results found) =
-    codes "step" ++ number_text func ++ number_text number ++ values_text operands ++ codes " ->" ++ values_text results ++ found_text found
+    codes "step" ++ number_text func ++ number_text number
+    ++ values_text operands ++ codes " ->" ++ values_text results ++ found_text found
 entry_text (Trap func number kind operands found) =
-    codes "trap" ++ number_text func ++ number_text number ++ spaced (kind_text kind) ++ values_text operands ++ found_text found
+    codes "trap" ++ number_text func ++ number_text number ++ with_space (kind_text kind)
+    ++ values_text operands ++ found_text found
 entry_text HostTrap = codes "host-trap"
 
+-- the text of an outcome
 abbrev pub outcome_text : Outcome → List ℕ
 outcome_text Ended = codes "ended"
 outcome_text Trapped = codes "trapped"

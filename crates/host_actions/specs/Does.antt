@@ -1,4 +1,4 @@
--- What an answer says that an action of the host did.
+-- What the result of `perform` says that an action of the host did.
 use Rattle.std.specs.Prelude.{◌≡◌, List, [], Bool, true, false, IsTrue, Result, Ok, Err}
 use Rattle.wasm_syntax.specs.declared.values.Val.{Val}
 use Rattle.host_script.specs.declared.scripts.Action.{Action}
@@ -6,13 +6,13 @@ use Rattle.host_script.specs.declared.scripts.Action.TheVariants.{Write, Copy, S
 use Rattle.history_spec.specs.Store.{Store}
 use Rattle.history_spec.specs.Code.{Code}
 use Rattle.history_spec.specs.Action as history
-use Rattle.history_spec.specs.Action.{Changes, Fails, act}
-use Rattle.host_actions.specs.declared.acts.Done.{Done}
-use Rattle.host_actions.specs.declared.acts.Done.TheVariants.{Changed, Enters}
-use Rattle.host_actions.specs.declared.acts.ActFault.{ActFault}
-use Rattle.host_actions.specs.declared.acts.ActFault.TheVariants.{Fault, Memory}
+use Rattle.history_spec.specs.Action.{Changes, Fails, perform}
+use Rattle.host_actions.specs.declared.actions.Done.{Done}
+use Rattle.host_actions.specs.declared.actions.Done.TheVariants.{Changed, Enters}
+use Rattle.host_actions.specs.declared.actions.ActionFault.{ActionFault}
+use Rattle.host_actions.specs.declared.actions.ActionFault.TheVariants.{Fault, Memory}
 
--- the arguments of a call
+-- the arguments of a call; other actions have none
 abbrev pub args_in : Action → List Val
 args_in (Write to bytes) = []
 args_in (Copy to source count) = []
@@ -32,10 +32,11 @@ takes_memory (Grow by) = true
 takes_memory (Call func given) = false
 takes_memory (CallTable index given) = false
 
--- the store is changed just so, or is as it was: the host calls this function with the action's arguments, or there
--- is this fault, or no memory was left
-abbrev pub Does : Code → List Val → Action → Result Done ActFault → (old new : Store) → Type 0
-Does code args action (Ok Changed) old new = act code old args action ≡ Changes new
-Does code args action (Ok (Enters func)) old new = (act code old args action ≡ history.Enters func (args_in action)) × (new ≡ old)
-Does code args action (Err (Fault kind)) old new = (act code old args action ≡ Fails kind) × (new ≡ old)
+-- the store is changed as the action says; or it is as it was, and the host calls this function with the action's
+-- arguments, or there is this fault, or an allocation failed
+abbrev pub Does : Code → List Val → Action → Result Done ActionFault → (old new : Store) → Type 0
+Does code args action (Ok Changed) old new = perform code old args action ≡ Changes new
+Does code args action (Ok (Enters func)) old new =
+    (perform code old args action ≡ history.Enters func (args_in action)) × (new ≡ old)
+Does code args action (Err (Fault kind)) old new = (perform code old args action ≡ Fails kind) × (new ≡ old)
 Does code args action (Err Memory) old new = IsTrue (takes_memory action) × (new ≡ old)

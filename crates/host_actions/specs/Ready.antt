@@ -2,14 +2,21 @@
 use Rattle.std.specs.Prelude.{◌≡◌, ℕ, ◌^◌, ◌<◌, ◌≤◌, List, length, Option, Some, None, IsSome, slice_get, option_and_then}
 use Rattle.wasm_syntax.specs.declared.signatures.FuncType.{FuncType}
 use Rattle.wasm_syntax.specs.declared.values.Val.{Val}
+use Rattle.wasm_syntax.specs.declared.modules.Module.{Module}
+use Rattle.wasm_syntax.specs.declared.values.ValType.{ValType}
+use Rattle.host_script.specs.Fits.{FitsAction, FitsAddress}
 use Rattle.host_script.specs.declared.scripts.Address.{Address}
 use Rattle.host_script.specs.declared.scripts.Address.TheVariants.{Fixed, Arg}
 use Rattle.host_script.specs.declared.scripts.Action.{Action}
 use Rattle.host_script.specs.declared.scripts.Action.TheVariants.{Write, Copy, SetTable, SetGlobal, Grow, Call, CallTable}
 use Rattle.history_spec.specs.Store.{Store}
-use Rattle.history_spec.specs.Code.{Code}
+use Rattle.history_spec.specs.Code.{Code, code_of}
 use Rattle.history_spec.specs.Action.{address_of}
 use Rattle.wasm_store.specs.Calls.{entry_at}
+use Rattle.type_safety.specs.Configurations.{IsTypedCode}
+use Rattle.type_safety.specs.Heights.{Heights}
+use Rattle.type_safety.specs.Stores.{IsStore, func_count}
+use Rattle.type_safety.specs.Values.{AreValues}
 use Rattle.host_actions.specs.declared.addresses.Addresses.{Addresses}
 use Rattle.host_actions.specs.declared.calls.Functions.{Functions}
 
@@ -29,6 +36,7 @@ abbrev pub IsThere : List Val → Address → Type 0
 IsThere args (Fixed address) = Unit {0}
 IsThere args (Arg number plus) = (value : Val) × (slice_get args number ≡ Some value) × (value.bits < 2 ^ 32)
 
+-- so is each argument that an action names
 abbrev pub AreThere : List Val → Action → Type 0
 AreThere args (Write to bytes) = IsThere args to
 AreThere args (Copy to source count) = IsThere args to × IsThere args source
@@ -41,7 +49,8 @@ AreThere args (CallTable index given) = Unit {0}
 -- where the ranges of an action begin, given the arguments of the call that is answered
 abbrev pub AreAddresses : List Val → Action → Addresses → Type 0
 AreAddresses args (Write to bytes) at = address_of args to ≡ Some at.to
-AreAddresses args (Copy to source count) at = (address_of args to ≡ Some at.to) × (address_of args source ≡ Some at.source)
+AreAddresses args (Copy to source count) at =
+    (address_of args to ≡ Some at.to) × (address_of args source ≡ Some at.source)
 AreAddresses args (SetTable index func) at = Unit {0}
 AreAddresses args (SetGlobal global value) at = Unit {0}
 AreAddresses args (Grow by) at = Unit {0}
@@ -63,3 +72,25 @@ IsReady functions store (SetGlobal global value) = global < length store.globals
 IsReady functions store (Grow by) = IsSome store.memory
 IsReady functions store (Call func given) = Unit {0}
 IsReady functions store (CallTable index given) = IsSome store.table × IsTyped functions (entry_at store index)
+
+-- ---- laws
+
+-- a well-typed store of a module has what an action needs that fits the module
+abbrev pub FittingActionsAreReady : Type 0
+FittingActionsAreReady =
+    (m : Module) (heights : Heights) (functions : Functions) (store : Store)
+    (params : List ValType) (args : List Val) (action : Action)
+    → IsTypedCode m heights → IsStore m store → AreValues (func_count m) params args → FitsAction m params action
+    → AreOf (code_of m) functions → IsReady functions store action
+
+-- the arguments that such an action names are there and have 32 bits
+abbrev pub FittingArgumentsAreThere : Type 0
+FittingArgumentsAreThere =
+    (m : Module) (params : List ValType) (args : List Val) (action : Action)
+    → AreValues (func_count m) params args → FitsAction m params action → AreThere args action
+
+-- so is the argument that one address names
+abbrev pub FittingArgumentIsThere : Type 0
+FittingArgumentIsThere =
+    (funcs : ℕ) (params : List ValType) (args : List Val) (address : Address)
+    → AreValues funcs params args → FitsAddress params address → IsThere args address

@@ -24,12 +24,12 @@ impl Addresses {
     {
         match action {
             Action::Write { to, .. } => Addresses {
-                to: resolved(*to, args),
+                to: address_value(*to, args),
                 source: 0,
             },
             Action::Copy { to, source, .. } => Addresses {
-                to: resolved(*to, args),
-                source: resolved(*source, args),
+                to: address_value(*to, args),
+                source: address_value(*source, args),
             },
             _ => Addresses { to: 0, source: 0 },
         }
@@ -37,7 +37,7 @@ impl Addresses {
 }
 
 /// An address, without wrapping.
-fn resolved(address: Address, args: &[Val]) -> u64
+fn address_value(address: Address, args: &[Val]) -> u64
     requires { IsThere args.now address }
     ensures { address_of args.now address ≡ Some result }
 {

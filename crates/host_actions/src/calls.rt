@@ -5,11 +5,12 @@ ghost use Rattle.wasm_syntax.specs.declared.signatures.FuncType.{FuncType};
 ghost use Rattle.wasm_syntax.specs.declared.values.Val.{Val};
 ghost use Rattle.wasm_syntax.specs.Alike as alike;
 ghost use Rattle.host_script.specs.declared.scripts.Action.TheVariants.{CallTable};
-ghost use Rattle.history_spec.specs.Action.{act as acted, Enters, Fails};
+ghost use Rattle.history_spec.specs.Action.{perform, Enters, Fails};
 ghost use Rattle.history_spec.specs.Code.{Code, types_of};
 ghost use Rattle.host_actions.specs.Ready.{AreOf, IsReady, type_of};
 
 use history_spec::FaultKind;
+use host_script::is_type;
 use wasm_store::Store;
 use wasm_syntax::{FuncTypes, Indices, Val, ValType};
 
@@ -22,7 +23,12 @@ pub struct Functions {
     pub imported: u32,
 }
 
-/// The function in an entry of the table, or why the host cannot call it with these arguments.
+/// The function in an entry of the table, or why the host cannot call it with these arguments (Core
+/// 1.0, 7.1.3).
+///
+/// # Errors
+/// `TableOutside` where there is no such entry, `EmptyEntry` where it is empty, `CallsOwn` where it
+/// holds an import, `EntryType` where the function takes other arguments.
 pub(crate) fn call_table(
     store: &Store,
     functions: &Functions,
@@ -31,9 +37,9 @@ pub(crate) fn call_table(
 ) -> Result<u32, FaultKind>
     requires { IsReady functions.now store.now (CallTable index args.now) }
     ensures ok { (code : Code) (given : List Val) → AreOf code functions.now → IfOk result
-        (λ func. acted code store.now given (CallTable index args.now) ≡ Enters func args.now) }
+        (λ func. perform code store.now given (CallTable index args.now) ≡ Enters func args.now) }
     ensures err { (code : Code) (given : List Val) → AreOf code functions.now → IfErr result
-        (λ kind. acted code store.now given (CallTable index args.now) ≡ Fails kind) }
+        (λ kind. perform code store.now given (CallTable index args.now) ≡ Fails kind) }
 {
     let Ok(entry) = store.entry(index) else {
         return Err(FaultKind::TableOutside);
@@ -78,17 +84,4 @@ fn are_of(values: &[Val], types: &[ValType]) -> bool
         }
     }
     true
-}
-
-fn is_type(a: ValType, b: ValType) -> bool
-    ensures { result ≡ alike.same_type a b }
-{
-    match (a, b) {
-        (ValType::I32, ValType::I32) => true,
-        (ValType::I64, ValType::I64) => true,
-        (ValType::F32, ValType::F32) => true,
-        (ValType::F64, ValType::F64) => true,
-        (ValType::FuncRef, ValType::FuncRef) => true,
-        _ => false,
-    }
 }

@@ -1,12 +1,12 @@
 //! What one action of the host does to a store, and which function it calls.
 #![tactic(auto)]
 
-mod acts;
+mod actions;
 mod addresses;
 mod calls;
 mod laws;
 
-pub use acts::{ActFault, Done, act};
+pub use actions::{ActionFault, Done, perform};
 pub use addresses::Addresses;
 pub use calls::Functions;
 pub use laws::fitting_actions;

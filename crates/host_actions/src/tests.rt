@@ -1,6 +1,6 @@
 //! Actions of the host, each once, and the faults of a script by their kinds.
 
-use crate::{ActFault, Addresses, Done, Functions, act};
+use crate::{ActionFault, Addresses, Done, Functions, perform};
 use history_spec::FaultKind;
 use host_script::{Action, Address};
 use std::alloc::Global;
@@ -45,37 +45,37 @@ fn functions(alloc: Global) -> Result<Functions, NoMemory> {
     })
 }
 
-fn fault(kind: FaultKind) -> Result<Done, ActFault> {
-    Err(ActFault::Fault { kind })
+fn fault(kind: FaultKind) -> Result<Done, ActionFault> {
+    Err(ActionFault::Fault { kind })
 }
 
-/// What an action on the memory answers, want of memory where there is none.
-fn written(
+/// What an action on the memory answers, out of memory where there is none.
+fn write_answer(
     store: &mut Store,
     functions: &Functions,
     at: u32,
     bytes: Vec<u8>,
-) -> Result<Done, ActFault> {
+) -> Result<Done, ActionFault> {
     if !store.has_memory() {
-        return Err(ActFault::Memory);
+        return Err(ActionFault::Memory);
     }
     let action = Action::Write {
         to: Address::Fixed(at),
         bytes: List::from_vec(bytes),
     };
     let addresses = Addresses::of(&action, &[]);
-    act(store, functions, addresses, &action)
+    perform(store, functions, addresses, &action)
 }
 
-fn copied(
+fn copy_answer(
     store: &mut Store,
     functions: &Functions,
     args: &[Val; 1],
     plus: u32,
     count: u32,
-) -> Result<Done, ActFault> {
+) -> Result<Done, ActionFault> {
     if !store.has_memory() || args[0].bits >= 0x1_0000_0000 {
-        return Err(ActFault::Memory);
+        return Err(ActionFault::Memory);
     }
     let action = Action::Copy {
         to: Address::Arg { number: 0, plus },
@@ -83,28 +83,28 @@ fn copied(
         count,
     };
     let addresses = Addresses::of(&action, args);
-    act(store, functions, addresses, &action)
+    perform(store, functions, addresses, &action)
 }
 
-fn grown(store: &mut Store, functions: &Functions, pages: u32) -> Result<Done, ActFault> {
+fn grow_answer(store: &mut Store, functions: &Functions, pages: u32) -> Result<Done, ActionFault> {
     if !store.has_memory() {
-        return Err(ActFault::Memory);
+        return Err(ActionFault::Memory);
     }
     let action = Action::Grow { pages };
-    act(store, functions, Addresses::of(&action, &[]), &action)
+    perform(store, functions, Addresses::of(&action, &[]), &action)
 }
 
-fn entry_set(
+fn set_answer(
     store: &mut Store,
     functions: &Functions,
     index: u32,
     func: Option<u32>,
-) -> Result<Done, ActFault> {
+) -> Result<Done, ActionFault> {
     if !store.has_table() {
-        return Err(ActFault::Memory);
+        return Err(ActionFault::Memory);
     }
     let action = Action::SetTable { index, func };
-    act(store, functions, Addresses::of(&action, &[]), &action)
+    perform(store, functions, Addresses::of(&action, &[]), &action)
 }
 
 #[test]
@@ -113,12 +113,14 @@ fn overlapping_bytes_are_copied_as_if_read_first(rt: HostRuntime) -> Result<(), 
     let mut store = store(alloc)?;
     let functions = functions(alloc)?;
     let bytes = Vec::from_slice(alloc, &[1, 2, 3, 4])?;
-    assert!(rt; written(&mut store, &functions, 8, bytes) == Ok(Done::Changed));
-    assert!(rt; copied(&mut store, &functions, &[i32(7)], 3, 4) == Ok(Done::Changed));
+    assert!(rt; write_answer(&mut store, &functions, 8, bytes) == Ok(Done::Changed));
+    assert!(rt; copy_answer(&mut store, &functions, &[i32(7)], 3, 4) == Ok(Done::Changed));
     assert!(rt; store.load_at(8, 8) == Ok(0x0000_0403_0201_0201));
-    assert!(rt; copied(&mut store, &functions, &[i32(65_530)], 4, 4) == fault(FaultKind::Outside));
+    assert!(rt;
+        copy_answer(&mut store, &functions, &[i32(65_530)], 4, 4) == fault(FaultKind::Outside)
+    );
     let bytes = Vec::from_slice(alloc, &[9, 9])?;
-    assert!(rt; written(&mut store, &functions, 65_535, bytes) == fault(FaultKind::Outside));
+    assert!(rt; write_answer(&mut store, &functions, 65_535, bytes) == fault(FaultKind::Outside));
     assert!(rt; store.load_at(65_535, 1) == Ok(0));
     Ok(())
 }
@@ -128,12 +130,12 @@ fn a_memory_and_a_table_are_changed_within_their_bounds(rt: HostRuntime) -> Resu
     let alloc = rt.alloc();
     let mut store = store(alloc)?;
     let functions = functions(alloc)?;
-    assert!(rt; grown(&mut store, &functions, 2) == fault(FaultKind::GrowRefused));
-    assert!(rt; grown(&mut store, &functions, 1) == Ok(Done::Changed));
+    assert!(rt; grow_answer(&mut store, &functions, 2) == fault(FaultKind::GrowRefused));
+    assert!(rt; grow_answer(&mut store, &functions, 1) == Ok(Done::Changed));
     assert!(rt; store.pages() == 2);
-    assert!(rt; entry_set(&mut store, &functions, 3, Some(2)) == Ok(Done::Changed));
+    assert!(rt; set_answer(&mut store, &functions, 3, Some(2)) == Ok(Done::Changed));
     assert!(rt; store.entry(3) == Ok(Some(2)));
-    assert!(rt; entry_set(&mut store, &functions, 4, None) == fault(FaultKind::TableOutside));
+    assert!(rt; set_answer(&mut store, &functions, 4, None) == fault(FaultKind::TableOutside));
     Ok(())
 }
 
@@ -155,27 +157,27 @@ fn a_function_in_the_table_is_called_where_its_type_fits(rt: HostRuntime) -> Res
     Ok(())
 }
 
-/// What a call of an entry answers; want of memory where there is no table or the function has no type.
+/// What a call of an entry answers; out of memory where there is no table or the function has no type.
 fn called(
     store: &mut Store,
     functions: &Functions,
     index: u32,
     args: Vec<Val>,
-) -> Result<Done, ActFault> {
+) -> Result<Done, ActionFault> {
     if !store.has_table() {
-        return Err(ActFault::Memory);
+        return Err(ActionFault::Memory);
     }
     if let Ok(Some(func)) = store.entry(index) {
         let Some(ty) = functions.indices.as_slice().get(func as usize) else {
-            return Err(ActFault::Memory);
+            return Err(ActionFault::Memory);
         };
         if *ty as usize >= functions.types.as_slice().len() {
-            return Err(ActFault::Memory);
+            return Err(ActionFault::Memory);
         }
     }
     let action = Action::CallTable {
         index,
         args: List::from_vec(args),
     };
-    act(store, functions, Addresses { to: 0, source: 0 }, &action)
+    perform(store, functions, Addresses { to: 0, source: 0 }, &action)
 }

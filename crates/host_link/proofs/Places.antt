@@ -9,19 +9,21 @@ use Rattle.wasm_syntax.specs.declared.modules.ElemSeg.{ElemSeg}
 use Rattle.wasm_syntax.specs.declared.modules.DataSeg.{DataSeg}
 use Rattle.history_spec.specs.Store.{Store}
 use Rattle.history_spec.specs.Instantiation.{data_fits, elem_fits, first_false, first_unfit}
-use Rattle.host_link.specs.Linked.{with_elems_in}
+use Rattle.host_link.specs.Link.{with_elems_in}
 
 -- one among the first
-first_before : (at place : ℕ) (xs ys : List Bool) → first_false at xs ≡ Some place → first_false at (xs ++ ys) ≡ Some place
+first_before : (at place : ℕ) (xs ys : List Bool) → first_false at xs ≡ Some place
+    → first_false at (xs ++ ys) ≡ Some place
 first_before at place [] ys is = cc
 first_before at place (true ∷ xs) ys is = first_before (at + 1) place xs ys is
 first_before at place (false ∷ xs) ys is = is
 
 -- none among the first
-first_behind : (at : ℕ) (xs ys : List Bool) → first_false at xs ≡ None → first_false at (xs ++ ys) ≡ first_false (at + length xs) ys
-first_behind at [] ys is = ap (λ k. first_false k ys) (omega arith)
-first_behind at (true ∷ xs) ys is = first_behind (at + 1) xs ys is ∙ ap (λ k. first_false k ys) (omega arith)
-first_behind at (false ∷ xs) ys is = cc
+first_after : (at : ℕ) (xs ys : List Bool) → first_false at xs ≡ None
+    → first_false at (xs ++ ys) ≡ first_false (at + length xs) ys
+first_after at [] ys is = ap (λ k. first_false k ys) (omega arith)
+first_after at (true ∷ xs) ys is = first_after (at + 1) xs ys is ∙ ap (λ k. first_false k ys) (omega arith)
+first_after at (false ∷ xs) ys is = cc
 
 -- none at all
 none_before : (at : ℕ) (xs ys : List Bool) → first_false at (xs ++ ys) ≡ None → first_false at xs ≡ None
@@ -30,17 +32,20 @@ none_before at (true ∷ xs) ys is = none_before (at + 1) xs ys is
 none_before at (false ∷ xs) ys is = is
 
 -- counted from another place
-first_later : (more at : ℕ) (ys : List Bool) → first_false (more + at) ys ≡ option_map (λ k. more + k) (first_false at ys)
+first_later : (more at : ℕ) (ys : List Bool)
+    → first_false (more + at) ys ≡ option_map (λ k. more + k) (first_false at ys)
 first_later more at [] = refl
 first_later more at (true ∷ ys) = ap (λ k. first_false k ys) (omega arith) ∙ first_later more (at + 1) ys
 first_later more at (false ∷ ys) = refl
 
 -- where none is false, it is true of all
-all_true : {X : Type 0} (p : X → Bool) (at : ℕ) (xs : List X) → first_false at (map p xs) ≡ None → All (λ x. IsTrue (p x)) xs
+all_true : {X : Type 0} (p : X → Bool) (at : ℕ) (xs : List X) → first_false at (map p xs) ≡ None
+    → All (λ x. IsTrue (p x)) xs
 all_true p at [] is = All-nil (λ x. IsTrue (p x))
 all_true p at (x ∷ xs) is = by (p x) refl is (all_true p (at + 1) xs)
   where
-    by : (b : Bool) → p x ≡ b → first_false at (b ∷ map p xs) ≡ None → (first_false (at + 1) (map p xs) ≡ None → All (λ x. IsTrue (p x)) xs) → All (λ x. IsTrue (p x)) (x ∷ xs)
+    by : (b : Bool) → p x ≡ b → first_false at (b ∷ map p xs) ≡ None
+        → (first_false (at + 1) (map p xs) ≡ None → All (λ x. IsTrue (p x)) xs) → All (λ x. IsTrue (p x)) (x ∷ xs)
     by true e i later = All-cons (λ x. IsTrue (p x)) x xs e (later i)
     by false e i later = cc
 
@@ -52,7 +57,8 @@ module _ (m : Module) (imported : List Val) (store : Store) (elems : List ElemSe
   data_tests datas = map (data_fits imported store) datas
 
   -- the segments of the module are these
-  unfit_is : (datas : List DataSeg) → datas ≡ m.datas → first_unfit m imported store ≡ first_false 0 (elem_tests ++ data_tests datas)
+  unfit_is : (datas : List DataSeg) → datas ≡ m.datas
+      → first_unfit m imported store ≡ first_false 0 (elem_tests ++ data_tests datas)
   unfit_is datas f =
       sym (ap (λ es. first_false 0 (map (elem_fits imported store) es ++ data_tests datas)) e
       ∙ ap (λ ds. first_false 0 (map (elem_fits imported store) m.elems ++ data_tests ds)) f)
@@ -62,23 +68,27 @@ module _ (m : Module) (imported : List Val) (store : Store) (elems : List ElemSe
   elem_unfit place is = sym (unfit_is m.datas refl ∙ first_before 0 place elem_tests (data_tests m.datas) (sym is))
 
   -- they all fit, and so do the data segments, or one of those does not
-  pub data_unfit : (datas : List DataSeg) (place : Option ℕ) → datas ≡ m.datas → None ≡ first_false 0 elem_tests → place ≡ first_false 0 (data_tests datas) → option_map (λ k. length elems + k) place ≡ first_unfit m imported store
+  pub data_unfit : (datas : List DataSeg) (place : Option ℕ) → datas ≡ m.datas → None ≡ first_false 0 elem_tests
+      → place ≡ first_false 0 (data_tests datas)
+      → option_map (λ k. length elems + k) place ≡ first_unfit m imported store
   data_unfit datas place f none is =
       ap (option_map (λ k. length elems + k)) is
       ∙ sym (unfit_is datas f
-      ∙ first_behind 0 elem_tests (data_tests datas) (sym none)
+      ∙ first_after 0 elem_tests (data_tests datas) (sym none)
       ∙ ap (λ k. first_false k (data_tests datas)) (omega (arith, length-map elems (elem_fits imported store)))
       ∙ first_later (length elems) 0 (data_tests datas))
 
   -- each fits
   pub elems_fit : first_unfit m imported store ≡ None → All (λ elem. IsTrue (elem_fits imported store elem)) elems
   elems_fit none =
-      all_true (elem_fits imported store) 0 elems (none_before 0 elem_tests (data_tests m.datas) (sym (unfit_is m.datas refl) ∙ none))
+      all_true (elem_fits imported store) 0 elems
+      (none_before 0 elem_tests (data_tests m.datas) (sym (unfit_is m.datas refl) ∙ none))
 
-  -- also behind the writing of element segments, which leaves the memory as it is
-  pub datas_fit : (datas : List DataSeg) (behind : Store) → datas ≡ m.datas → behind ≡ with_elems_in imported elems store → first_unfit m imported store ≡ None → All (λ segment. IsTrue (data_fits imported behind segment)) datas
-  datas_fit datas behind f written none =
+  -- also after the writing of element segments, which leaves the memory as it is
+  pub datas_fit : (datas : List DataSeg) (after : Store) → datas ≡ m.datas → after ≡ with_elems_in imported elems store
+      → first_unfit m imported store ≡ None → All (λ segment. IsTrue (data_fits imported after segment)) datas
+  datas_fit datas after f written none =
       let is = sym (unfit_is datas f) ∙ none in
       subst (λ s. All (λ segment. IsTrue (data_fits imported s segment)) datas) (sym written)
       (all_true (data_fits imported store) (0 + length elem_tests) datas
-      (sym (first_behind 0 elem_tests (data_tests datas) (none_before 0 elem_tests (data_tests datas) is)) ∙ is))
+      (sym (first_after 0 elem_tests (data_tests datas) (none_before 0 elem_tests (data_tests datas) is)) ∙ is))

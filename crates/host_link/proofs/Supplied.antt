@@ -1,29 +1,37 @@
 -- What follows from what a script supplies.
-use Rattle.std.proofs.Common.{◌≡◌, Option, Some, None, Result, Ok, Err, IfOk, IfErr, ap}
+use Rattle.std.proofs.Common.{◌≡◌, Option, Some, None, Result, Ok, Err, IfOk, IfErr, ap, subst, ◌∙◌}
 use Rattle.wasm_syntax.specs.declared.modules.Module.{Module}
 use Rattle.host_script.specs.declared.scripts.Script.{Script}
 use Rattle.host_script.specs.declared.scripts.Supply.{Supply}
 use Rattle.host_script.specs.declared.scripts.LinkFault.{LinkFault}
-use Rattle.host_script.specs.Supplied.{supply_for, supply_of, supply_unless}
+use Rattle.host_script.specs.Supply.{supply_for, supply_of, supply_unless}
+use Rattle.history_spec.specs.Store.{Store}
 use Rattle.history_spec.specs.Instantiation.{instantiate}
-use Rattle.history_spec.specs.Run.{opening, started, supplied}
-use Rattle.host_link.specs.Linked.{linked, with_supply}
+use Rattle.history_spec.specs.Run.{run_start, start_or_fault, start_with_supply}
+use Rattle.host_link.specs.Link.{link_result, with_supply}
 
 for_module : (o : Option LinkFault) (made supply : Supply) → supply_unless o made ≡ Ok supply → made ≡ supply
 for_module None made supply is = cc
 for_module (Some fault) made supply is = cc
 
 -- it is what is given
-pub supply_is : (m : Module) (script : Script) (supply : Supply) → supply_of m script ≡ Ok supply → supply_for m script ≡ supply
+pub supply_is : (m : Module) (script : Script) (supply : Supply) → supply_of m script ≡ Ok supply
+    → supply_for m script ≡ supply
 supply_is m script supply is = for_module _ (supply_for m script) supply is
 
--- the module links as it is instantiated
-pub linked_by : (m : Module) (script : Script) (supply : Supply) → supply_of m script ≡ Ok supply → linked m script ≡ instantiate m supply
-linked_by m script supply is = ap (with_supply m) is
+-- the module, which stands in two places, links as it is instantiated with what the script supplies
+pub links_by : (m same : Module) (script : Script) (supply : Supply) (made : Result Store LinkFault) → same ≡ m
+    → supply_of same script ≡ Ok supply → instantiate same supply ≡ made → link_result m script ≡ made
+links_by m same script supply made e supplies instantiates =
+    subst (λ x. link_result x script ≡ made) e (ap (with_supply same) supplies ∙ instantiates)
 
 -- so does its run start
-pub opened_by : (m : Module) (script : Script) (supply : Supply) → supply_of m script ≡ Ok supply → opening m script ≡ started m script (instantiate m supply)
-opened_by m script supply is = ap (supplied m script) is
+pub starts_by : (m same : Module) (script : Script) (supply : Supply) (made : Result Store LinkFault) → same ≡ m
+    → supply_of same script ≡ Ok supply → instantiate same supply ≡ made
+    → run_start m script ≡ start_or_fault m script made
+starts_by m same script supply made e supplies instantiates =
+    subst (λ x. run_start x script ≡ start_or_fault x script made) e
+    (ap (start_with_supply same script) supplies ∙ ap (start_or_fault same script) instantiates)
 
 -- what holds of any store, and of any fault
 pub at_ok : {T E : Type 0} {P Q : T → Type 0} (r : Result T E) → ((x : T) → P x → Q x) → IfOk r P → IfOk r Q

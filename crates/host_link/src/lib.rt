@@ -2,11 +2,11 @@
 #![tactic(auto)]
 
 mod constants;
-mod linking;
+mod links;
 mod segments;
 
 pub use host_script::LinkFault;
-pub use linking::link;
+pub use links::link;
 pub use no_memory::NoMemory;
 
 #[cfg(test)]

@@ -3,7 +3,7 @@
 ghost use Rattle.std.specs.Prelude.{◌≡◌, ◌+◌, [], ◌∷◌, All, IsTrue, None, map, nat_le};
 ghost use Rattle.history_spec.specs.Instantiation as history;
 ghost use Rattle.history_spec.specs.Instantiation.{data_fits, elem_fits, first_false};
-ghost use Rattle.host_link.specs.Linked.{with_datas_in, with_elems_in};
+ghost use Rattle.host_link.specs.Link.{with_datas_in, with_elems_in};
 
 use crate::constants::offset_of;
 use wasm_store::{OutOfBounds, OutOfTable, Store};
@@ -67,7 +67,7 @@ fn data_fits(store: &Store, imported: &[Val], segment: &DataSeg) -> bool
     is_within(offset, segment.bytes.as_slice().len(), store.bytes().len())
 }
 
-/// Whether so many bytes or entries from an offset on end within a size.
+/// Whether `count` bytes or entries from an offset on end within a size.
 fn is_within(offset: u64, count: usize, size: usize) -> bool
     ensures { result ≡ nat_le (offset + count) size }
 {

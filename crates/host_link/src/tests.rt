@@ -77,7 +77,11 @@ fn last_word(alloc: Global, first: DataSeg, second: DataSeg) -> Result<u64, Link
 }
 
 /// The same of these offsets and bytes.
-fn linked(alloc: Global, first: (u64, &[u8]), second: (u64, &[u8])) -> Result<u64, LinkFault> {
+fn last_word_of(
+    alloc: Global,
+    first: (u64, &[u8]),
+    second: (u64, &[u8]),
+) -> Result<u64, LinkFault> {
     let first = data(alloc, first.0, first.1)?;
     let second = data(alloc, second.0, second.1)?;
     last_word(alloc, first, second)
@@ -85,14 +89,14 @@ fn linked(alloc: Global, first: (u64, &[u8]), second: (u64, &[u8])) -> Result<u6
 
 #[test]
 fn segments_are_written_in_order_up_to_the_last_byte(rt: HostRuntime) -> Result<(), Fail> {
-    let word = linked(rt.alloc(), (65_532, &[1, 2, 3, 4]), (65_533, &[7, 8]));
+    let word = last_word_of(rt.alloc(), (65_532, &[1, 2, 3, 4]), (65_533, &[7, 8]));
     assert!(rt; word == Ok(0x0408_0701));
     Ok(())
 }
 
 #[test]
 fn the_first_segment_past_the_end_is_named(rt: HostRuntime) -> Result<(), Fail> {
-    let word = linked(rt.alloc(), (65_536, &[]), (65_533, &[7, 8, 9, 10]));
+    let word = last_word_of(rt.alloc(), (65_536, &[]), (65_533, &[7, 8, 9, 10]));
     assert!(rt; word == Err(LinkFault::Segment { number: 1 }));
     Ok(())
 }

@@ -7,13 +7,13 @@ use Rattle.std.proofs.lemmas.Bool.{cases_eq, eq-eqb, ne_eqb}
 use Rattle.wasm_syntax.specs.declared.values.Val.{Val}
 use Rattle.history_spec.specs.declared.entries.Entry.{Entry}
 use Rattle.history_spec.specs.declared.entries.Entry.TheVariants.{HostCall, HostReturn, ImportCall, ImportReturn, Enter, Exit, Step, Trap, HostTrap}
-use Rattle.wasm_interp.specs.Running.{IsOwn}
-use Rattle.host_play.specs.declared.deeds.Deed.{Deed}
-use Rattle.host_play.specs.declared.deeds.Deed.TheVariants as deed
-use Rattle.host_play.specs.Counting.{calls_import, host_calls, import_calls, is_host_call}
-use Rattle.host_play.specs.Deeds.{told_of}
+use Rattle.wasm_interp.specs.Calls.{IsOwn}
+use Rattle.host_play.specs.declared.host_steps.HostStep.{HostStep}
+use Rattle.host_play.specs.declared.host_steps.HostStep.TheVariants as host_step
+use Rattle.host_play.specs.CallCounts.{calls_import, host_calls, import_calls, is_host_call}
+use Rattle.host_play.specs.HostSteps.{entries_of}
 use Rattle.host_play.specs.Hosts.{kept}
-use Rattle.host_play.specs.Reached.{HasCounted}
+use Rattle.host_play.specs.RunsSoFar.{HasCounted}
 
 -- those that pass a test in two parts of a history
 both : (test : Entry → Bool) (first second : List Entry) → length (filter test (first ++ second)) ≡ length (filter test first) + length (filter test second)
@@ -105,22 +105,22 @@ counted_import imported counts new_counts calls index args history entries first
     })
 
 -- by what the host did
-no_import_by_host : (import : ℕ) (d : Deed) → import_calls import (told_of d) ≡ 0
-no_import_by_host import deed.Stays = refl
-no_import_by_host import (deed.Calls func args) = refl
-no_import_by_host import (deed.Returns other value) = refl
-no_import_by_host import deed.Traps = refl
-no_import_by_host import deed.Ends = refl
+no_import_by_host : (import : ℕ) (d : HostStep) → import_calls import (entries_of d) ≡ 0
+no_import_by_host import host_step.Stays = refl
+no_import_by_host import (host_step.Calls func args) = refl
+no_import_by_host import (host_step.Returns other value) = refl
+no_import_by_host import host_step.Traps = refl
+no_import_by_host import host_step.Ends = refl
 
-pub counted_host : (imported : ℕ) (counts : List ℕ) (calls new_calls : ℕ) (history : List Entry) (d : Deed) → new_calls ≡ kept (calls + host_calls (told_of d))
-    → HasCounted imported counts calls history → HasCounted imported counts new_calls (history ++ told_of d)
+pub counted_host : (imported : ℕ) (counts : List ℕ) (calls new_calls : ℕ) (history : List Entry) (d : HostStep) → new_calls ≡ kept (calls + host_calls (entries_of d))
+    → HasCounted imported counts calls history → HasCounted imported counts new_calls (history ++ entries_of d)
 counted_host imported counts calls new_calls history d is counted = record {
   imports = λ import there.
       counted.imports import there
-      ∙ ap kept (let same : import_calls import history ≡ import_calls import (history ++ told_of d) = sym (both (calls_import import) history (told_of d) ∙ ap (λ n. import_calls import history + n) (no_import_by_host import d) ∙ omega arith) in same);
+      ∙ ap kept (let same : import_calls import history ≡ import_calls import (history ++ entries_of d) = sym (both (calls_import import) history (entries_of d) ∙ ap (λ n. import_calls import history + n) (no_import_by_host import d) ∙ omega arith) in same);
   calls_are =
       is
-      ∙ ap (λ n. kept (n + host_calls (told_of d))) counted.calls_are
-      ∙ kept_both (host_calls history) (host_calls (told_of d))
-      ∙ ap kept (sym (both is_host_call history (told_of d)));
+      ∙ ap (λ n. kept (n + host_calls (entries_of d))) counted.calls_are
+      ∙ kept_both (host_calls history) (host_calls (entries_of d))
+      ∙ ap kept (sym (both is_host_call history (entries_of d)));
 }

@@ -20,8 +20,8 @@ both_some (Some x) f y h = (x, refl, h)
 pub all_at : {X : Type 0} (P : X → Type 0) (xs : List X) (i : ℕ) (x : X) → All P xs → slice_get xs i ≡ Some x → P x
 all_at P xs i x all is = subst P (get_or_from_slice_get xs i x x is) (All-get_or P xs i x (slice_get_within xs i x is) all)
 
--- an item of the second of two lists whose items belong together stands behind one of the first, which is also
--- that of the first with others behind it
+-- an item of the second of two lists whose items belong together stands beside one of the first, which is also
+-- that of the first with others after it
 zip_at : {A B : Type 0} (R : A → B → Type 0) (xs more : List A) (ys : List B) (i : ℕ) (y : B) → AllZip R xs ys → slice_get ys i ≡ Some y → (x : A) × (slice_get (xs ++ more) i ≡ Some x) × R x y
 zip_at R [] more [] i y all q = cc
 zip_at R [] more (b ∷ ys) i y all q = absurd all

@@ -3,7 +3,7 @@ use Rattle.std.proofs.Common.{◌≡◌, List, [], ◌∷◌, sym, subst}
 use Rattle.host_script.specs.declared.scripts.Script.{Script}
 use Rattle.history_spec.specs.Configuration.{Activation, InModule, InMain, InImport}
 use Rattle.flat_steps.specs.Follows.{AwaitsHost, outside_of}
-use Rattle.host_play.specs.declared.playing.Host.{Host}
+use Rattle.host_play.specs.declared.play_state.Host.{Host}
 use Rattle.host_play.specs.Hosts.{Plays}
 
 pub plays_outside : (script : Script) (stack : List Activation) (hosts : List Host) → Plays script stack hosts → Plays script (outside_of stack) hosts

@@ -2,7 +2,7 @@
 use Rattle.std.proofs.Common.{◌≡◌, ℕ, suc, ◌+◌, List, [], ◌∷◌, ◌++◌, length, take, sym, ap, ◌∙◌, arith}
 use Rattle.std.specs.Prelude.{reverse, slice_set, slice_index_or}
 use Rattle.std.proofs.lemmas.List.{reverse-append, set_split, drop_all, take_more, take_all}
-use Rattle.host_play.specs.declared.playing.Host.{Host}
+use Rattle.host_play.specs.declared.play_state.Host.{Host}
 use Rattle.host_play.specs.Hosts.{below_of}
 
 last_set : (xs : List Host) (n : ℕ) (y : Host) → n + 1 ≡ length xs → reverse (slice_set xs n y) ≡ y ∷ reverse (take n xs)

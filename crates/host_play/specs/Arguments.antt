@@ -29,9 +29,11 @@ AreKnown machine other = Unit {0}
 -- the address by that argument
 abbrev pub IsRead : State → Address → (at : ℕ) → Type 0
 IsRead machine (Fixed address) at = at ≡ address
-IsRead machine (Arg number plus) at = (value : Val) → argument_of machine.flat machine.frames machine.slots number ≡ Some value → at ≡ value.bits + plus
+IsRead machine (Arg number plus) at =
+    (value : Val) → argument_of machine.flat machine.frames machine.slots number ≡ Some value → at ≡ value.bits + plus
 
 abbrev pub AreRead : State → Action → Addresses → Type 0
 AreRead machine (Write to bytes) addresses = IsRead machine to addresses.to
-AreRead machine (Copy to source count) addresses = IsRead machine to addresses.to × IsRead machine source addresses.source
+AreRead machine (Copy to source count) addresses =
+    IsRead machine to addresses.to × IsRead machine source addresses.source
 AreRead machine other addresses = Unit {0}

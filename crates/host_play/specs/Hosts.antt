@@ -6,10 +6,10 @@ use Rattle.host_script.specs.declared.scripts.ResponseEnd.{ResponseEnd}
 use Rattle.host_script.specs.declared.scripts.Script.{Script}
 use Rattle.history_spec.specs.Configuration.{Activation, InModule, InMain, InImport}
 use Rattle.history_spec.specs.Step.{response_to}
-use Rattle.host_play.specs.declared.playing.Host.{Host}
-use Rattle.host_play.specs.declared.playing.Host.TheVariants as host
-use Rattle.host_play.specs.declared.playing.Refusal.{Refusal}
-use Rattle.host_play.specs.declared.playing.Refusal.TheVariants as refusal
+use Rattle.host_play.specs.declared.play_state.Host.{Host}
+use Rattle.host_play.specs.declared.play_state.Host.TheVariants as host
+use Rattle.host_play.specs.declared.play_state.Refusal.{Refusal}
+use Rattle.host_play.specs.declared.play_state.Refusal.TheVariants as refusal
 use Rattle.history_spec.specs.declared.entries.FaultKind.TheVariants.{NoResponse}
 
 -- a count in 64 bits stays at the greatest number
@@ -44,10 +44,10 @@ actions_of script (host.Answer import number next) = actions_in (response_to scr
 abbrev pub action_at : Script → Host → Option Action
 action_at script h = slice_get (actions_of script h) (next_of h)
 
--- an activation behind its next action
-abbrev pub behind_action : Host → Host
-behind_action (host.Main next) = host.Main (next + 1)
-behind_action (host.Answer import number next) = host.Answer import number (next + 1)
+-- an activation after its next action
+abbrev pub after_next_action : Host → Host
+after_next_action (host.Main next) = host.Main (next + 1)
+after_next_action (host.Answer import number next) = host.Answer import number (next + 1)
 
 -- the host at its own work: what is left of it
 abbrev pub IsMain : Script → List Action → Host → Type 0
@@ -56,7 +56,8 @@ IsMain script actions (host.Answer import number next) = ⊥
 
 -- the host in the answer to a call: to its import, by the response that was chosen when the call began; what is left
 -- of it, and how it ends
-pub record IsChosen (script : Script) (import : ℕ) (actions : List Action) («end» : ResponseEnd) (called number next : ℕ) : Type 0 where
+pub record IsChosen (script : Script) (import : ℕ) (actions : List Action) («end» : ResponseEnd)
+    (called number next : ℕ) : Type 0 where
   pub same : called ≡ import
   pub response : Response
   pub chosen : response_to script.imports import number ≡ Some response
@@ -65,7 +66,8 @@ pub record IsChosen (script : Script) (import : ℕ) (actions : List Action) («
 
 abbrev pub IsAnswer : Script → ℕ → List Action → ResponseEnd → Host → Type 0
 IsAnswer script import actions «end» (host.Main next) = ⊥
-IsAnswer script import actions «end» (host.Answer called number next) = IsChosen script import actions «end» called number next
+IsAnswer script import actions «end» (host.Answer called number next) =
+    IsChosen script import actions «end» called number next
 
 -- the module is topmost
 abbrev pub IsCaller : List Activation → Type 0
@@ -86,20 +88,26 @@ Plays script (InImport import args actions «end» ∷ below) (top ∷ hosts) =
 
 -- this is the response to a call of an import, whose number is kept as this
 abbrev pub IsResponse : Script → (import number : ℕ) → Option Response → Type 0
-IsResponse script import number found = (count : ℕ) → kept count ≡ number → response_to script.imports import count ≡ found
+IsResponse script import number found =
+    (count : ℕ) → kept count ≡ number → response_to script.imports import count ≡ found
 
 -- the host begins the answer to a call of an import, or there is no response to it
-pub record BeginsAnswer (script : Script) (hosts : List Host) (counts : List ℕ) (import : ℕ) (new_hosts : List Host) (new_counts : List ℕ) : Type 0 where
+pub record BeginsAnswer (script : Script) (hosts : List Host) (counts : List ℕ) (import : ℕ)
+    (new_hosts : List Host) (new_counts : List ℕ) : Type 0 where
   pub response : Response
   pub chosen : IsResponse script import (slice_index counts import) (Some response)
   pub pushed : new_hosts ≡ host.Answer import (slice_index counts import) 0 ∷ hosts
   pub counted : new_counts ≡ slice_set counts import (kept (slice_index counts import + 1))
 
--- that this is not the case for want of memory
+-- why this is not the case, where memory is not out
 abbrev pub HasNoResponse : Script → (counts : List ℕ) → (import : ℕ) → Refusal → Type 0
-HasNoResponse script counts import (refusal.Fault kind) = (kind ≡ NoResponse) × IsResponse script import (slice_index counts import) None
+HasNoResponse script counts import (refusal.Fault kind) =
+    (kind ≡ NoResponse) × IsResponse script import (slice_index counts import) None
 HasNoResponse script counts import refusal.Memory = Unit {0}
 
-abbrev pub BeginsBy : Script → List Host → (counts : List ℕ) → (import : ℕ) → Result (Unit {0}) Refusal → List Host → List ℕ → Type 0
-BeginsBy script hosts counts import (Ok done) new_hosts new_counts = BeginsAnswer script hosts counts import new_hosts new_counts
-BeginsBy script hosts counts import (Err refused) new_hosts new_counts = HasNoResponse script counts import refused
+abbrev pub BeginsBy : Script → List Host → (counts : List ℕ) → (import : ℕ)
+    → Result (Unit {0}) Refusal → List Host → List ℕ → Type 0
+BeginsBy script hosts counts import (Ok done) new_hosts new_counts =
+    BeginsAnswer script hosts counts import new_hosts new_counts
+BeginsBy script hosts counts import (Err refused) new_hosts new_counts =
+    HasNoResponse script counts import refused

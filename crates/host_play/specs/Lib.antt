@@ -1,9 +1,9 @@
 pub mod Arguments
-pub mod Deeds
-pub mod Beginning
+pub mod HostSteps
+pub mod Starts
 pub mod Hosts
-pub mod Telling
-pub mod Counting
-pub mod Standing
+pub mod ToldLines
+pub mod CallCounts
+pub mod Stands
 pub mod Results
-pub mod Reached
+pub mod RunsSoFar

@@ -4,21 +4,21 @@ ghost use Rattle.std.specs.Prelude.{◌≡◌, ℕ, ◌+◌, ◌^◌, ◌<◌, S
 ghost use Rattle.wasm_syntax.specs.declared.modules.Module.{Module};
 ghost use Rattle.wasm_syntax.specs.declared.values.Val.{Val};
 ghost use Rattle.history_spec.specs.Code.{Code};
-ghost use Rattle.history_spec.specs.Step.{Stepped};
+ghost use Rattle.history_spec.specs.Step.{StepResult};
 ghost use Rattle.host_actions.specs.Does.{Does, args_in};
 ghost use Rattle.host_actions.specs.Ready.{AreAddresses, AreOf, IsReady};
-ghost use Rattle.wasm_interp.specs.Lending.{with_store};
-ghost use Rattle.wasm_interp.specs.Running.{InvokesRun, IsCallable};
+ghost use Rattle.wasm_interp.specs.Loans.{with_store};
+ghost use Rattle.wasm_interp.specs.Calls.{InvokesRun, IsCallable};
 ghost use Rattle.wasm_interp.specs.State.{IsAtHost};
 ghost use Rattle.host_play.specs.Arguments.{AreKnown, AreRead, IsKnown, IsRead};
-ghost use Rattle.host_play.specs.Deeds.{by_host, stand_behind, told_of};
+ghost use Rattle.host_play.specs.HostSteps.{play_step_result, stand_after, entries_of};
 ghost use Rattle.host_play.specs.Hosts.{action_at, next_of, top_of};
-ghost use Rattle.host_play.specs.Standing.{IsPlayed, Leads, MakesStep, Standing, rest};
+ghost use Rattle.host_play.specs.Stands.{IsPlayed, Leads, MakesStep, StandsAt, rest};
 
-use crate::deeds::Deed;
-use crate::playing::{Host, Playing, Refusal, Stand};
+use crate::host_steps::HostStep;
+use crate::play_state::{Host, PlayState, Refusal, Stand};
 use crate::responses::response_to;
-use host_actions::{ActFault, Addresses, Done, Functions, act as do_act, fitting_actions};
+use host_actions::{ActionFault, Addresses, Done, Functions, fitting_actions, perform as do_act};
 use host_script::{Action, Address, ResponseEnd, Script};
 use no_memory::NoMemory;
 use std::alloc::Global;
@@ -27,7 +27,7 @@ use wasm_interp::{Machine, calls_are_ready, hosts_go_on};
 use wasm_syntax::{List, Vals};
 
 /// An address, without wrapping; an argument that it names is that of the call that is answered.
-fn resolved(machine: &Machine, address: Address) -> u64
+fn address_of(machine: &Machine, address: Address) -> u64
     requires { IsKnown machine.now address }
     ensures { IsRead machine.now address result }
 {
@@ -44,12 +44,12 @@ fn addresses_of(machine: &Machine, action: &Action) -> Addresses
 {
     match action {
         Action::Write { to, .. } => Addresses {
-            to: resolved(machine, *to),
+            to: address_of(machine, *to),
             source: 0,
         },
         Action::Copy { to, source, .. } => Addresses {
-            to: resolved(machine, *to),
-            source: resolved(machine, *source),
+            to: address_of(machine, *to),
+            source: address_of(machine, *source),
         },
         _ => Addresses { to: 0, source: 0 },
     }
@@ -61,9 +61,11 @@ fn change(
     functions: &Functions,
     addresses: Addresses,
     action: &Action,
-) -> Result<Done, ActFault>
+) -> Result<Done, ActionFault>
     requires { IsReady functions.now machine.old.store action.now }
-    ensures does { (code : Code) (args : List Val) → AreOf code functions.now → AreAddresses args action.now addresses → Does code args action.now result machine.old.store machine.new.store }
+    ensures does { (code : Code) (args : List Val)
+        → AreOf code functions.now → AreAddresses args action.now addresses
+        → Does code args action.now result machine.old.store machine.new.store }
     ensures rest { machine.new ≡ with_store machine.old machine.new.store }
 {
     do_act(machine.store_mut(), functions, addresses, action)
@@ -91,20 +93,22 @@ fn args_of(alloc: Global, action: &Action) -> Result<Vals, NoMemory>
 }
 
 /// The host's next action.
-pub(crate) fn act(
+pub(crate) fn perform(
     script: &Script,
     alloc: Global,
-    playing: &mut Playing,
+    playing: &mut PlayState,
     top: Host,
     action: &Action,
-) -> Result<Deed, Refusal>
+) -> Result<HostStep, Refusal>
     requires played { IsPlayed script.now Stand.Host playing.old }
     requires top { top_of playing.old.hosts ≡ Some top }
     requires next { action_at script.now top ≡ Some action.now }
     requires small { next_of top < 2 ^ 63 }
-    ensures makes { (m : Module) (s : Stepped) → Standing m script.now Stand.Host playing.old s → MakesStep m script.now s (by_host result) playing.new }
+    ensures makes { (m : Module) (s : StepResult) → StandsAt m script.now Stand.Host playing.old s
+        → MakesStep m script.now s (play_step_result result) playing.new }
     ensures counts { playing.new.counts.items ≡ playing.old.counts.items }
-    ensures less { IfOk result (λ deed. rest (stand_behind deed) playing.new < rest Stand.Host playing.old + 4) }
+    ensures less { IfOk result (λ host_step.
+        rest (stand_after host_step) playing.new < rest Stand.Host playing.old + 4) }
 {
     rules_hold();
     calls_are_ready();
@@ -115,8 +119,8 @@ pub(crate) fn act(
     match change(&mut playing.machine, &playing.functions, addresses, action) {
         Ok(done) => match done {
             Done::Changed => {
-                playing.hosts.put(top.behind_action());
-                Ok(Deed::Stays)
+                playing.hosts.replace_top(top.after_next_action());
+                Ok(HostStep::Stays)
             }
             Done::Enters { func } => {
                 let Ok(args) = args_of(alloc, action) else {
@@ -125,40 +129,41 @@ pub(crate) fn act(
                 let Ok(()) = call(&mut playing.machine, func, &args) else {
                     return Err(Refusal::Memory);
                 };
-                playing.hosts.put(top.behind_action());
-                Ok(Deed::Calls { func, args })
+                playing.hosts.replace_top(top.after_next_action());
+                Ok(HostStep::Calls { func, args })
             }
         },
         Err(fault) => match fault {
-            ActFault::Fault { kind } => Err(Refusal::Fault { kind }),
-            ActFault::Memory => Err(Refusal::Memory),
+            ActionFault::Fault { kind } => Err(Refusal::Fault { kind }),
+            ActionFault::Memory => Err(Refusal::Memory),
         },
     }
 }
 
 /// The end of what the topmost activation of the host has to do.
-pub(crate) fn end(script: &Script, playing: &mut Playing, top: Host) -> Deed
+pub(crate) fn end(script: &Script, playing: &mut PlayState, top: Host) -> HostStep
     requires played { IsPlayed script.now Stand.Host playing.old }
     requires top { top_of playing.old.hosts ≡ Some top }
     requires done { action_at script.now top ≡ None }
-    ensures leads { (m : Module) (s : Stepped) → Standing m script.now Stand.Host playing.old s → Leads m script.now s (told_of result) (stand_behind result) playing.new }
+    ensures leads { (m : Module) (s : StepResult) → StandsAt m script.now Stand.Host playing.old s
+        → Leads m script.now s (entries_of result) (stand_after result) playing.new }
     ensures counts { playing.new.counts.items ≡ playing.old.counts.items }
-    ensures less { rest (stand_behind result) playing.new < rest Stand.Host playing.old }
+    ensures less { rest (stand_after result) playing.new < rest Stand.Host playing.old }
 {
     calls_are_ready();
     hosts_go_on();
     match top {
-        Host::Main { .. } => Deed::Ends,
+        Host::Main { .. } => HostStep::Ends,
         Host::Answer { import, number, .. } => {
             let Some(response) = response_to(script, import, number) else {
                 unreachable!();
             };
             match response.end {
-                ResponseEnd::Trap => Deed::Traps,
+                ResponseEnd::Trap => HostStep::Traps,
                 ResponseEnd::Return(value) => {
                     playing.machine.resume(value);
                     playing.hosts.pop();
-                    Deed::Returns { import, value }
+                    HostStep::Returns { import, value }
                 }
             }
         }

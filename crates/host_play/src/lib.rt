@@ -3,11 +3,10 @@
 #![tactic(auto)]
 
 mod actions;
-pub mod deeds;
-pub mod journal;
+pub mod host_steps;
 mod laws;
 mod modules;
-pub mod playing;
+pub mod play_state;
 mod plays;
 mod responses;
 pub mod results;
@@ -15,6 +14,7 @@ mod runs;
 mod starts;
 mod steps;
 mod tells;
+pub mod told_text;
 
 pub use laws::calls_take_turns;
 pub use no_memory::NoMemory;

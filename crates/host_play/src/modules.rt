@@ -2,12 +2,12 @@
 
 ghost use Rattle.std.specs.Prelude.{◌≡◌, ◌≢◌, ℕ, ◌+◌, ◌<◌, ◌∷◌, length, map, IfOk, OnOk, IsErr, Err};
 ghost use Rattle.wasm_syntax.specs.declared.modules.Module.{Module};
-ghost use Rattle.history_spec.specs.Step.{Stepped};
+ghost use Rattle.history_spec.specs.Step.{StepResult};
 ghost use Rattle.host_play.specs.Hosts.{BeginsAnswer, BeginsBy};
-ghost use Rattle.host_play.specs.Standing.{IsPlayed, LeadsBy, MakesStep, Standing, rest};
+ghost use Rattle.host_play.specs.Stands.{IsPlayed, LeadsBy, MakesStep, StandsAt, rest};
 
-use crate::deeds::Moved;
-use crate::playing::{Host, Hosts, Playing, Refusal, Stand};
+use crate::host_steps::PlayStep;
+use crate::play_state::{Host, Hosts, PlayState, Refusal, Stand};
 use crate::responses::response_to;
 use flat_steps::stores_fit;
 use history_spec::{FaultKind, Outcome};
@@ -15,20 +15,21 @@ use host_script::Script;
 use wasm_interp::Pause;
 
 /// Makes the returns that are due.
-pub(crate) fn settle(script: &Script, playing: &mut Playing) -> Result<Moved, Refusal>
+pub(crate) fn settle(script: &Script, playing: &mut PlayState) -> Result<PlayStep, Refusal>
     requires { IsPlayed script.now Stand.Module playing.old }
-    ensures leads { (m : Module) (s : Stepped) → Standing m script.now Stand.Module playing.old s → LeadsBy m script.now s result playing.new }
+    ensures leads { (m : Module) (s : StepResult) → StandsAt m script.now Stand.Module playing.old s
+        → LeadsBy m script.now s result playing.new }
     ensures less { IfOk result (λ moved. rest moved.stand playing.new < rest Stand.Module playing.old) }
 {
     let _script = script;
     let turn = playing.machine.settle()?;
     let entries = turn.entries;
     match turn.pause {
-        None => Ok(Moved {
+        None => Ok(PlayStep {
             stand: Stand::Instruction,
             entries,
         }),
-        Some(_) => Ok(Moved {
+        Some(_) => Ok(PlayStep {
             stand: Stand::Host,
             entries,
         }),
@@ -36,25 +37,26 @@ pub(crate) fn settle(script: &Script, playing: &mut Playing) -> Result<Moved, Re
 }
 
 /// The next instruction.
-pub(crate) fn turn(script: &Script, playing: &mut Playing) -> Result<Moved, Refusal>
+pub(crate) fn turn(script: &Script, playing: &mut PlayState) -> Result<PlayStep, Refusal>
     requires { IsPlayed script.now Stand.Instruction playing.old }
-    ensures makes { (m : Module) (s : Stepped) → Standing m script.now Stand.Instruction playing.old s → MakesStep m script.now s result playing.new }
+    ensures makes { (m : Module) (s : StepResult) → StandsAt m script.now Stand.Instruction playing.old s
+        → MakesStep m script.now s result playing.new }
     ensures less { IfOk result (λ moved. rest moved.stand playing.new < rest Stand.Instruction playing.old + 4) }
 {
     stores_fit();
     let turn = playing.machine.turn()?;
     let entries = turn.entries;
     match turn.pause {
-        None => Ok(Moved {
+        None => Ok(PlayStep {
             stand: Stand::Instruction,
             entries,
         }),
         Some(pause) => match pause {
-            Pause::Returned => Ok(Moved {
+            Pause::Returned => Ok(PlayStep {
                 stand: Stand::Host,
                 entries,
             }),
-            Pause::Trapped => Ok(Moved {
+            Pause::Trapped => Ok(PlayStep {
                 stand: Stand::Over {
                     outcome: Outcome::Trapped,
                 },
@@ -62,7 +64,7 @@ pub(crate) fn turn(script: &Script, playing: &mut Playing) -> Result<Moved, Refu
             }),
             Pause::Import { index } => {
                 match begin_answer(script, &mut playing.hosts, &mut playing.counts, index) {
-                    Ok(()) => Ok(Moved {
+                    Ok(()) => Ok(PlayStep {
                         stand: Stand::Host,
                         entries,
                     }),

@@ -1,11 +1,11 @@
-// The run of a linked module.
+// The run of the instantiation of a module.
 
 ghost use Rattle.std.specs.Prelude.{◌≡◌, Ok};
 ghost use Rattle.wasm_syntax.specs.Validity.{IsValid};
 ghost use Rattle.wasm_syntax.specs.Profile.{IsSupported};
 ghost use Rattle.host_script.specs.Fits.{Fits};
-ghost use Rattle.history_spec.specs.Run.{opening, program_of, start_of};
-ghost use Rattle.history_spec.specs.Step.{Stepped};
+ghost use Rattle.history_spec.specs.Run.{run_start, program_of, start_in_store};
+ghost use Rattle.history_spec.specs.Step.{StepResult};
 ghost use Rattle.type_safety.specs.Stores.{IsStore};
 ghost use Rattle.wasm_flat.specs.Bounds.{IsBound};
 ghost use Rattle.wasm_flat.specs.FlatCode.{flat_of};
@@ -20,7 +20,7 @@ use wasm_flat::Flat;
 use wasm_store::Store;
 use wasm_syntax::Module;
 
-/// A module that is linked with a script: its flat code, and the store that its run begins with.
+/// The instantiation of a module under a script: its flat code, and the store that its run starts with.
 #[derive(Drop)]
 pub struct Play<'a> {
     pub code: &'a Module,
@@ -29,10 +29,14 @@ pub struct Play<'a> {
     pub store: Store,
 }
 
-/// The run of a module under a script within so many turns, with every entry of its history told. A
-/// fault of the script is found at the turn of the action that cannot be done, or of the call that has
-/// no response. The script fits the module, no instruction of which is refused, and the module links
-/// with it.
+/// The run of a module under a script within a number of turns, with every entry of its history told.
+/// The script fits the module, no instruction of which is refused, and the module links with it.
+///
+/// # Errors
+///
+/// `Fault` where the host cannot do what the script says: the turn is that of the action that cannot be
+/// done, or of the call that has no response. `Spent` where the run needs more turns. `Memory` where
+/// memory is out.
 pub fn tell(alloc: Global, play: Play, turns: u64) -> Result<Told, PlayFault>
     requires valid { IsValid play.code.now }
     requires supported { IsSupported play.code.now }
@@ -40,8 +44,10 @@ pub fn tell(alloc: Global, play: Play, turns: u64) -> Result<Told, PlayFault>
     requires flat { play.flat ≡ flat_of play.code.now }
     requires bound { IsBound play.flat }
     requires store { IsStore play.code.now play.store }
-    requires opened { opening play.code.now play.script.now ≡ Ok (start_of play.code.now play.script.now play.store) }
-    ensures { (begun : Stepped) → opening play.entry.code.now play.entry.script.now ≡ Ok begun → IsTold (program_of play.entry.code.now play.entry.script.now) begun turns result }
+    requires opened { run_start play.code.now play.script.now
+        ≡ Ok (start_in_store play.code.now play.script.now play.store) }
+    ensures { (initial : StepResult) → run_start play.entry.code.now play.entry.script.now ≡ Ok initial
+        → IsTold (program_of play.entry.code.now play.entry.script.now) initial turns result }
 {
     let Play {
         code,
@@ -53,6 +59,10 @@ pub fn tell(alloc: Global, play: Play, turns: u64) -> Result<Told, PlayFault>
 }
 
 /// The same run without its entries: the module goes on by many turns at once.
+///
+/// # Errors
+///
+/// As for `tell`.
 pub fn run(alloc: Global, play: Play, turns: u64) -> Result<Played, PlayFault>
     requires valid { IsValid play.code.now }
     requires supported { IsSupported play.code.now }
@@ -60,8 +70,10 @@ pub fn run(alloc: Global, play: Play, turns: u64) -> Result<Played, PlayFault>
     requires flat { play.flat ≡ flat_of play.code.now }
     requires bound { IsBound play.flat }
     requires store { IsStore play.code.now play.store }
-    requires opened { opening play.code.now play.script.now ≡ Ok (start_of play.code.now play.script.now play.store) }
-    ensures { (begun : Stepped) → opening play.entry.code.now play.entry.script.now ≡ Ok begun → IsPlayedOut (program_of play.entry.code.now play.entry.script.now) begun turns result }
+    requires opened { run_start play.code.now play.script.now
+        ≡ Ok (start_in_store play.code.now play.script.now play.store) }
+    ensures { (initial : StepResult) → run_start play.entry.code.now play.entry.script.now ≡ Ok initial
+        → IsPlayedOut (program_of play.entry.code.now play.entry.script.now) initial turns result }
 {
     let Play {
         code,

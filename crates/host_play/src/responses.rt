@@ -4,13 +4,17 @@ ghost use Rattle.std.specs.Prelude.{◌≡◌, ◌<◌, ◌^◌, None, Some, IsS
 ghost use Rattle.history_spec.specs.Step.{response_to};
 ghost use Rattle.host_play.specs.Hosts.{action_at, next_of, IsResponse};
 
-use crate::playing::Host;
+use crate::play_state::Host;
 use host_script::{Action, Response, Script};
 
 /// The response to the call of this number, counted from 0, of an import.
 pub(crate) fn response_to(script: &Script, import: u32, number: u64) -> Option<&Response>
-    ensures own { MatchOption result (response_to script.now.imports import number ≡ None) (λ response. response_to script.now.imports import number ≡ Some response.now) }
-    ensures kept { MatchOption result (IsResponse script.now import number None) (λ response. IsResponse script.now import number (Some response.now)) }
+    ensures own { MatchOption result
+        (response_to script.now.imports import number ≡ None)
+        (λ response. response_to script.now.imports import number ≡ Some response.now) }
+    ensures kept { MatchOption result
+        (IsResponse script.now import number None)
+        (λ response. IsResponse script.now import number (Some response.now)) }
 {
     let imports = script.imports.as_slice();
     let Some(Some(answer)) = imports.get(import as usize) else {
@@ -26,7 +30,9 @@ pub(crate) fn response_to(script: &Script, import: u32, number: u64) -> Option<&
 
 /// The next action of an activation of the host, where one is left.
 pub(crate) fn next_action(script: &Script, host: Host) -> Option<&Action>
-    ensures found { MatchOption result (action_at script.now host ≡ None) (λ action. action_at script.now host ≡ Some action.now) }
+    ensures found { MatchOption result
+        (action_at script.now host ≡ None)
+        (λ action. action_at script.now host ≡ Some action.now) }
     ensures small { IsSome result → next_of host < 2 ^ 63 }
 {
     match host {
@@ -44,7 +50,9 @@ pub(crate) fn next_action(script: &Script, host: Host) -> Option<&Action>
 
 /// An action by its number, where it is there.
 fn action_in(actions: &[Action], number: usize) -> Option<&Action>
-    ensures found { MatchOption result (slice_get actions.now number ≡ None) (λ action. slice_get actions.now number ≡ Some action.now) }
+    ensures found { MatchOption result
+        (slice_get actions.now number ≡ None)
+        (λ action. slice_get actions.now number ≡ Some action.now) }
     ensures small { IsSome result → number < 2 ^ 63 }
 {
     let _count = actions.len();

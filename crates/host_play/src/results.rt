@@ -9,8 +9,8 @@ use std::alloc::AllocError;
 use thiserror::Error;
 use wasm_syntax::{Bytes, List};
 
-/// A run that has an outcome: the lines of its history and of its outcome, how many entries the history has,
-/// and how many turns it took.
+/// A run that has an outcome: the lines of its history and of its outcome, how many entries the history
+/// has, and how many turns it took.
 #[derive(Debug, Drop)]
 pub struct Told {
     pub text: Bytes,
@@ -30,6 +30,13 @@ pub struct Played {
     pub turns: u64,
     pub imports: Counts,
     pub calls: u64,
+}
+
+/// How a run is over: its outcome, and how many turns it took.
+#[derive(Clone, Copy)]
+pub(crate) struct RunEnd {
+    pub(crate) outcome: Outcome,
+    pub(crate) turns: u64,
 }
 
 /// Why a run has no outcome.

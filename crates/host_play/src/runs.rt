@@ -1,24 +1,27 @@
 // A run without its entries.
 
-ghost use Rattle.std.specs.Prelude.{◌≡◌, ℕ, ◌+◌, ◌*◌, ◌<◌, ◌≤◌, IfOk, OnOk};
+ghost use Rattle.std.specs.Prelude.{◌≡◌, ℕ, ◌+◌, ◌*◌, ◌<◌, ◌≤◌, replicate, IfOk, OnOk};
+ghost use Rattle.wasm_syntax.specs.Index.{imported_funcs};
 ghost use Rattle.wasm_syntax.specs.Validity.{IsValid};
 ghost use Rattle.wasm_syntax.specs.Profile.{IsSupported};
 ghost use Rattle.wasm_syntax.specs.declared.modules.Module as syntax;
 ghost use Rattle.host_script.specs.Fits.{Fits};
-ghost use Rattle.history_spec.specs.Run.{program_of, start_of};
-ghost use Rattle.history_spec.specs.Step.{Stepped};
+ghost use Rattle.history_spec.specs.Run.{program_of, start_in_store};
+ghost use Rattle.history_spec.specs.Step.{StepResult};
 ghost use Rattle.type_safety.specs.Stores.{IsStore};
 ghost use Rattle.wasm_flat.specs.Bounds.{IsBound};
 ghost use Rattle.wasm_flat.specs.FlatCode.{flat_of};
-ghost use Rattle.host_play.specs.Standing.{IsPlayed, rest};
-ghost use Rattle.host_play.specs.Reached.{BeginsPart, CountsOn, CountsSoFar, IsOn};
+ghost use Rattle.host_play.specs.HostSteps.{entries_of, stand_after};
+ghost use Rattle.host_play.specs.Stands.{IsPlayed, Leads, rest};
+ghost use Rattle.host_play.specs.RunsSoFar.{BeginsPart, CountsOn, CountsSoFar, IsOn, UpToEnd};
 ghost use Rattle.host_play.specs.Results.{IsPlayedOut};
 
+use crate::host_steps::HostStep;
 use crate::modules::begin_answer;
-use crate::playing::{Playing, Stand};
-use crate::results::{PlayFault, Played};
+use crate::play_state::{PlayState, Stand};
+use crate::results::{PlayFault, Played, RunEnd};
 use crate::starts::start;
-use crate::steps::{go_host, refused};
+use crate::steps::{go_host, play_fault};
 use history_spec::Outcome;
 use host_script::Script;
 use std::alloc::Global;
@@ -30,14 +33,17 @@ use wasm_syntax::{List, Module};
 /// The module's part, by many turns at once: up to the host's next part, or an outcome.
 fn go_module(
     script: &Script,
-    playing: &mut Playing,
+    playing: &mut PlayState,
     turns: u64,
     left: &mut u64,
 ) -> Result<Stand, PlayFault>
     requires played { IsPlayed script.now Stand.Module playing.old }
     requires left { left.old ≤ turns }
-    ensures goes { (m : syntax.Module) (begun : Stepped) (calls : ℕ) → CountsSoFar m script.now begun turns calls Stand.Module playing.old left.old → CountsOn m script.now begun turns calls result playing.new left.new }
-    ensures less { IfOk result (λ next. 4 * left.new + rest next playing.new < 4 * left.old + rest Stand.Module playing.old) }
+    ensures goes { (m : syntax.Module) (initial : StepResult) (calls : ℕ)
+        → CountsSoFar m script.now initial turns calls Stand.Module playing.old left.old
+        → CountsOn m script.now initial turns calls result playing.new left.new }
+    ensures less { IfOk result (λ next.
+        4 * left.new + rest next playing.new < 4 * left.old + rest Stand.Module playing.old) }
     ensures part { IfOk result (λ next. BeginsPart next) }
     ensures left { OnOk result (left.new ≤ turns) }
 {
@@ -48,7 +54,7 @@ fn go_module(
         Pause::Import { index } => {
             match begin_answer(script, &mut playing.hosts, &mut playing.counts, index) {
                 Ok(()) => Ok(Stand::Host),
-                Err(refusal) => Err(refused(refusal, turns, *left)),
+                Err(refusal) => Err(play_fault(refusal, turns, *left)),
             }
         }
         Pause::Returned => Ok(Stand::Host),
@@ -63,7 +69,7 @@ fn go_module(
 fn run_on(
     script: &Script,
     alloc: Global,
-    playing: &mut Playing,
+    playing: &mut PlayState,
     calls: &mut u64,
     stand: Stand,
     turns: u64,
@@ -73,17 +79,20 @@ fn run_on(
     requires on { IsOn stand }
     requires part { BeginsPart stand }
     requires left { left.old ≤ turns }
-    ensures goes { (m : syntax.Module) (begun : Stepped) → CountsSoFar m script.now begun turns calls.old stand playing.old left.old → CountsOn m script.now begun turns calls.new result playing.new left.new }
-    ensures less { IfOk result (λ next. 4 * left.new + rest next playing.new < 4 * left.old + rest stand playing.old) }
+    ensures goes { (m : syntax.Module) (initial : StepResult)
+        → CountsSoFar m script.now initial turns calls.old stand playing.old left.old
+        → CountsOn m script.now initial turns calls.new result playing.new left.new }
+    ensures less { IfOk result (λ next.
+        4 * left.new + rest next playing.new < 4 * left.old + rest stand playing.old) }
     ensures part { IfOk result (λ next. BeginsPart next) }
     ensures left { OnOk result (left.new ≤ turns) }
 {
     match stand {
         Stand::Module => go_module(script, playing, turns, left),
         Stand::Host => match go_host(script, alloc, playing, turns, left) {
-            Ok(deed) => {
-                *calls = deed.counted(*calls);
-                Ok(deed.stand())
+            Ok(host_step) => {
+                *calls = host_step.calls_after(*calls);
+                Ok(host_step.stand())
             }
             Err(fault) => Err(fault),
         },
@@ -91,8 +100,8 @@ fn run_on(
     }
 }
 
-/// The run of a module under a script without its entries, within so many turns, by its flat code and
-/// from the store that it begins with.
+/// The run of a module under a script without its entries, within a number of turns, by its flat code
+/// and from the store that it starts with.
 pub(crate) fn run_from(
     alloc: Global,
     module: &Module,
@@ -107,25 +116,65 @@ pub(crate) fn run_from(
     requires bound { IsBound flat }
     requires store { IsStore «module».now store }
     requires fits { Fits «module».now script.now }
-    ensures { IsPlayedOut (program_of «module».now script.now) (start_of «module».now script.now store) turns result }
+    ensures { IsPlayedOut (program_of «module».now script.now) (start_in_store «module».now script.now store) turns
+        result }
 {
-    let (mut playing, deed) = start(alloc, module, flat, script, store)?;
-    let mut calls = deed.counted(0);
-    let mut stand = deed.stand();
+    let (playing, host_step) = start(alloc, module, flat, script, store)?;
+    run_start(script, alloc, playing, &host_step, turns)
+}
+
+/// The run from its start, with what the host did first, without its entries.
+fn run_start(
+    script: &Script,
+    alloc: Global,
+    playing: PlayState,
+    host_step: &HostStep,
+    turns: u64,
+) -> Result<Played, PlayFault>
+    requires leads { (m : syntax.Module) × (initial : StepResult)
+        × Leads m script.now initial (entries_of host_step.now) (stand_after host_step.now) playing
+        × (playing.counts.items ≡ replicate (imported_funcs m) 0) }
+    ensures { (m : syntax.Module) (initial : StepResult)
+        → Leads m script.now initial (entries_of host_step.now) (stand_after host_step.now) playing
+        → playing.counts.items ≡ replicate (imported_funcs m) 0
+        → IsPlayedOut (program_of m script.now) initial turns result }
+{
+    let mut playing = playing;
+    let mut calls = host_step.calls_after(0);
+    let first = host_step.stand();
+    match run_parts(script, alloc, &mut playing, &mut calls, first, turns) {
+        Ok(end) => Ok(played_run(playing, end, calls)),
+        Err(fault) => Err(fault),
+    }
+}
+
+/// Goes on from where control stands first until the run is over, with the host's calls counted.
+fn run_parts(
+    script: &Script,
+    alloc: Global,
+    playing: &mut PlayState,
+    calls: &mut u64,
+    first: Stand,
+    turns: u64,
+) -> Result<RunEnd, PlayFault>
+    requires so_far { (m : syntax.Module) × (initial : StepResult)
+        × CountsSoFar m script.now initial turns calls.old first playing.old turns }
+    requires part { BeginsPart first }
+    ensures { (m : syntax.Module) (initial : StepResult)
+        → CountsSoFar m script.now initial turns calls.old first playing.old turns
+        → UpToEnd (program_of m script.now) initial turns
+        (λ stand left. CountsSoFar m script.now initial turns calls.new stand playing.new left) result }
+{
+    let mut stand = first;
     let mut left = turns;
     'parts: loop {
         if let Stand::Over { outcome } = stand {
-            return Ok(played(playing, outcome, turns - left, calls));
+            return Ok(RunEnd {
+                outcome,
+                turns: turns - left,
+            });
         }
-        match run_on(
-            script,
-            alloc,
-            &mut playing,
-            &mut calls,
-            stand,
-            turns,
-            &mut left,
-        ) {
+        match run_on(script, alloc, playing, calls, stand, turns, &mut left) {
             Ok(next) => stand = next,
             Err(fault) => return Err(fault),
         }
@@ -133,18 +182,23 @@ pub(crate) fn run_from(
 }
 
 /// What a run that is over has counted.
-fn played(playing: Playing, outcome: Outcome, turns: u64, calls: u64) -> Played
-    ensures { result ≡ record { outcome = outcome; turns = turns; imports = playing.counts.items; calls = calls } }
+fn played_run(playing: PlayState, end: RunEnd, calls: u64) -> Played
+    ensures { result ≡ record {
+      outcome = end.outcome;
+      turns = end.turns;
+      imports = playing.counts.items;
+      calls = calls;
+    } }
 {
-    let Playing {
+    let PlayState {
         machine: _machine,
         functions: _functions,
         hosts: _hosts,
         counts,
     } = playing;
     Played {
-        outcome,
-        turns,
+        outcome: end.outcome,
+        turns: end.turns,
         imports: List::from_vec(counts),
         calls,
     }

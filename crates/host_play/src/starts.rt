@@ -1,23 +1,20 @@
-// What a run begins with.
+// The start of a run.
 
 ghost use Rattle.std.specs.Prelude.{◌≡◌, [], ◌∷◌, replicate, IfOk, false};
 ghost use Rattle.wasm_syntax.specs.Index.{imported_funcs};
 ghost use Rattle.wasm_syntax.specs.Validity.{IsValid};
 ghost use Rattle.wasm_syntax.specs.Profile.{IsSupported};
 ghost use Rattle.host_script.specs.Fits.{Fits};
-ghost use Rattle.history_spec.specs.Run.{start_of};
 ghost use Rattle.type_safety.specs.Stores.{IsStore};
 ghost use Rattle.wasm_flat.specs.Bounds.{IsBound};
 ghost use Rattle.wasm_flat.specs.FlatCode.{flat_of};
 ghost use Rattle.flat_steps.specs.Bounds.{FitsCode};
 ghost use Rattle.wasm_interp.specs.State.{state};
-ghost use Rattle.host_play.specs.Beginning.{Begins, CanBegin};
-ghost use Rattle.host_play.specs.Deeds.{stand_behind, told_of};
-ghost use Rattle.host_play.specs.Standing.{Leads};
+ghost use Rattle.host_play.specs.Starts.{CanStart, LeadsFirst, Starts, functions_in};
 
 use crate::actions::call;
-use crate::deeds::Deed;
-use crate::playing::{Host, Hosts, Playing};
+use crate::host_steps::HostStep;
+use crate::play_state::{Host, Hosts, PlayState};
 use flat_steps::stores_fit;
 use host_actions::Functions;
 use host_script::Script;
@@ -30,75 +27,138 @@ use wasm_store::Store;
 use wasm_syntax::{Indices, List, Module};
 
 /// A machine for a module's flat code with the host on top, and what the host does first, by the
-/// module and from the store that its run begins with.
+/// module and from the store that its run starts with.
+///
+/// # Errors
+///
+/// Where memory is out.
 pub(crate) fn start(
     alloc: Global,
     module: &Module,
     flat: Flat,
     script: &Script,
     store: Store,
-) -> Result<(Playing, Deed), NoMemory>
+) -> Result<(PlayState, HostStep), NoMemory>
     requires supported { IsSupported «module».now }
     requires valid { IsValid «module».now }
     requires flat { flat ≡ flat_of «module».now }
     requires bound { IsBound flat }
     requires store { IsStore «module».now store }
     requires fits { Fits «module».now script.now }
-    ensures leads { IfOk result (λ started. Leads «module».now script.now (start_of «module».now script.now store) (told_of started.1) (stand_behind started.1) started.0) }
-    ensures counts { IfOk result (λ started. started.0.counts.items ≡ replicate (imported_funcs «module».now) 0) }
+    ensures leads { IfOk result (λ started. LeadsFirst «module».now script.now store started.1 started.0) }
+    ensures counts { IfOk result (λ started.
+        started.0.counts.items ≡ replicate (imported_funcs «module».now) 0) }
 {
     typed_code();
     stores_fit();
     hosts_go_on();
     calls_are_ready();
     let _script = script;
-    let mut playing = new_playing(alloc, flat, store)?;
-    let deed = begin(alloc, &mut playing, module.start)?;
-    Ok((playing, deed))
+    let playing = new_play_state(alloc, flat, store)?;
+    with_first_step(alloc, playing, module.start)
+}
+
+/// A run under way with what the host does first.
+fn with_first_step(
+    alloc: Global,
+    playing: PlayState,
+    start: Option<u32>,
+) -> Result<(PlayState, HostStep), NoMemory>
+    requires { CanStart playing start }
+    ensures starts { IfOk result (λ started. Starts start playing started.1 started.0) }
+    ensures counts { IfOk result (λ started. started.0.counts.items ≡ playing.counts.items) }
+{
+    let mut playing = playing;
+    match first_step(alloc, &mut playing, start) {
+        Ok(host_step) => Ok((playing, host_step)),
+        Err(refused) => Err(refused),
+    }
 }
 
 /// What the host does first: its own work, or the call of the start function where the module
 /// defines it.
-fn begin(alloc: Global, playing: &mut Playing, start: Option<u32>) -> Result<Deed, NoMemory>
-    requires { CanBegin playing.old start }
-    ensures begins { IfOk result (λ deed. Begins start playing.old deed playing.new) }
+fn first_step(
+    alloc: Global,
+    playing: &mut PlayState,
+    start: Option<u32>,
+) -> Result<HostStep, NoMemory>
+    requires { CanStart playing.old start }
+    ensures starts { IfOk result (λ host_step. Starts start playing.old host_step playing.new) }
     ensures counts { playing.new.counts.items ≡ playing.old.counts.items }
 {
     match start {
         Some(func) if func >= playing.functions.imported => {
             let args = List::new(alloc);
             call(&mut playing.machine, func, &args)?;
-            Ok(Deed::Calls { func, args })
+            Ok(HostStep::Calls { func, args })
         }
-        _ => Ok(Deed::Stays),
+        _ => Ok(HostStep::Stays),
     }
 }
 
 /// A machine for flat code, and the host before its first action.
-fn new_playing(alloc: Global, flat: Flat, store: Store) -> Result<Playing, NoMemory>
+fn new_play_state(alloc: Global, flat: Flat, store: Store) -> Result<PlayState, NoMemory>
     requires bound { IsBound flat }
     requires fits { FitsCode flat store }
     ensures machine { IfOk result (λ playing. playing.machine ≡ state flat store [] [] false) }
-    ensures functions { IfOk result (λ playing. playing.functions ≡ record { types = flat.types; indices = flat.indices; imported = flat.imported }) }
+    ensures functions { IfOk result (λ playing. playing.functions ≡ functions_in flat) }
     ensures hosts { IfOk result (λ playing. playing.hosts ≡ Host.Main 0 ∷ []) }
     ensures counts { IfOk result (λ playing. playing.counts.items ≡ replicate flat.imported 0) }
 {
-    let functions = Functions {
-        types: flat.types.clone()?,
-        indices: copied(alloc, flat.indices.as_slice())?,
-        imported: flat.imported,
-    };
-    let mut counts = Vec::new(alloc);
-    counts.resize(flat.imported as usize, 0)?;
-    Ok(Playing {
-        machine: Machine::new(alloc, flat, store)?,
+    let functions = functions_of(alloc, &flat)?;
+    let (hosts, counts) = host_at_start(alloc, flat.imported)?;
+    with_machine(alloc, flat, store, functions, hosts, counts)
+}
+
+/// The machine beside what the host has.
+fn with_machine(
+    alloc: Global,
+    flat: Flat,
+    store: Store,
+    functions: Functions,
+    hosts: Hosts,
+    counts: Vec<u64>,
+) -> Result<PlayState, NoMemory>
+    requires bound { IsBound flat }
+    requires fits { FitsCode flat store }
+    ensures machine { IfOk result (λ playing. playing.machine ≡ state flat store [] [] false) }
+    ensures functions { IfOk result (λ playing. playing.functions ≡ functions) }
+    ensures hosts { IfOk result (λ playing. playing.hosts ≡ hosts) }
+    ensures counts { IfOk result (λ playing. playing.counts.items ≡ counts.items) }
+{
+    let machine = Machine::new(alloc, flat, store)?;
+    Ok(PlayState {
+        machine,
         functions,
-        hosts: Hosts::new(alloc)?,
+        hosts,
         counts,
     })
 }
 
-fn copied(alloc: Global, indices: &[u32]) -> Result<Indices, NoMemory>
+/// What flat code says of its functions.
+fn functions_of(alloc: Global, flat: &Flat) -> Result<Functions, NoMemory>
+    ensures { IfOk result (λ functions. functions ≡ functions_in flat.now) }
+{
+    let types = flat.types.clone()?;
+    Ok(Functions {
+        types,
+        indices: copy_of(alloc, flat.indices.as_slice())?,
+        imported: flat.imported,
+    })
+}
+
+/// The host before its first action, and no call of this number of imports.
+fn host_at_start(alloc: Global, imported: u32) -> Result<(Hosts, Vec<u64>), NoMemory>
+    ensures hosts { IfOk result (λ start. start.0 ≡ Host.Main 0 ∷ []) }
+    ensures counts { IfOk result (λ start. start.1.items ≡ replicate imported 0) }
+{
+    let hosts = Hosts::new(alloc)?;
+    let mut counts = Vec::new(alloc);
+    counts.resize(imported as usize, 0)?;
+    Ok((hosts, counts))
+}
+
+fn copy_of(alloc: Global, indices: &[u32]) -> Result<Indices, NoMemory>
     ensures { IfOk result (λ copy. copy ≡ indices.now) }
 {
     Ok(List::from_vec(Vec::from_slice(alloc, indices)?))

@@ -1,27 +1,24 @@
 // Steps of a run within a budget of turns.
 
 ghost use Rattle.std.specs.Prelude.{◌≡◌, ℕ, ◌+◌, ◌-◌, ◌*◌, ◌<◌, ◌≤◌, List, IfOk};
-ghost use Rattle.wasm_syntax.specs.declared.modules.Module as syntax;
-ghost use Rattle.history_spec.specs.declared.entries.Entry as entries;
-ghost use Rattle.history_spec.specs.Step.{Stepped};
-ghost use Rattle.host_play.specs.Deeds.{by_host, stand_behind};
-ghost use Rattle.host_play.specs.Standing.{IsPlayed, rest};
-ghost use Rattle.host_play.specs.Reached.{GoesBy, IsOn, Reached};
-ghost use Rattle.host_play.specs.Results.{refused};
+ghost use Rattle.host_play.specs.HostSteps.{play_step_result, stand_after};
+ghost use Rattle.host_play.specs.Stands.{IsPlayed, rest};
+ghost use Rattle.host_play.specs.RunsSoFar.{GoesFrom, IsOn};
+ghost use Rattle.host_play.specs.Results.{play_fault};
 
-use crate::actions::{act, end};
-use crate::deeds::{Deed, Moved};
+use crate::actions::{end, perform};
+use crate::host_steps::{HostStep, PlayStep};
 use crate::modules::{settle, turn};
-use crate::playing::{Playing, Refusal, Stand};
+use crate::play_state::{PlayState, Refusal, Stand};
 use crate::responses::next_action;
 use crate::results::PlayFault;
 use host_script::Script;
 use std::alloc::Global;
 
-/// A fault's turn, of so many turns of which these are left.
-pub(crate) fn refused(refusal: Refusal, turns: u64, left: u64) -> PlayFault
+/// Why a step is not made, with its turn: of a number of turns these are left.
+pub(crate) fn play_fault(refusal: Refusal, turns: u64, left: u64) -> PlayFault
     requires { left ≤ turns }
-    ensures { result ≡ refused refusal (turns - left) }
+    ensures { result ≡ play_fault refusal (turns - left) }
 {
     match refusal {
         Refusal::Fault { kind } => PlayFault::Fault {
@@ -36,15 +33,17 @@ pub(crate) fn refused(refusal: Refusal, turns: u64, left: u64) -> PlayFault
 pub(crate) fn go_host(
     script: &Script,
     alloc: Global,
-    playing: &mut Playing,
+    playing: &mut PlayState,
     turns: u64,
     left: &mut u64,
-) -> Result<Deed, PlayFault>
+) -> Result<HostStep, PlayFault>
     requires played { IsPlayed script.now Stand.Host playing.old }
     requires left { left.old ≤ turns }
-    ensures goes { (m : syntax.Module) (begun : Stepped) (history : List entries.Entry) → Reached m script.now begun turns history Stand.Host playing.old left.old → GoesBy m script.now begun turns history (by_host result) playing.new left.new }
+    ensures goes { GoesFrom script.now turns Stand.Host playing.old left.old
+        (play_step_result result) playing.new left.new }
     ensures counts { playing.new.counts.items ≡ playing.old.counts.items }
-    ensures less { IfOk result (λ deed. 4 * left.new + rest (stand_behind deed) playing.new < 4 * left.old + rest Stand.Host playing.old) }
+    ensures less { IfOk result (λ host_step.
+        4 * left.new + rest (stand_after host_step) playing.new < 4 * left.old + rest Stand.Host playing.old) }
     ensures left { left.new ≤ turns }
 {
     let Some(top) = playing.hosts.top() else {
@@ -57,9 +56,9 @@ pub(crate) fn go_host(
         return Err(PlayFault::Spent);
     }
     *left -= 1;
-    match act(script, alloc, playing, top, action) {
-        Ok(deed) => Ok(deed),
-        Err(refusal) => Err(refused(refusal, turns, *left)),
+    match perform(script, alloc, playing, top, action) {
+        Ok(host_step) => Ok(host_step),
+        Err(refusal) => Err(play_fault(refusal, turns, *left)),
     }
 }
 
@@ -67,16 +66,17 @@ pub(crate) fn go_host(
 pub(crate) fn go(
     script: &Script,
     alloc: Global,
-    playing: &mut Playing,
+    playing: &mut PlayState,
     stand: Stand,
     turns: u64,
     left: &mut u64,
-) -> Result<Moved, PlayFault>
+) -> Result<PlayStep, PlayFault>
     requires played { IsPlayed script.now stand playing.old }
     requires on { IsOn stand }
     requires left { left.old ≤ turns }
-    ensures goes { (m : syntax.Module) (begun : Stepped) (history : List entries.Entry) → Reached m script.now begun turns history stand playing.old left.old → GoesBy m script.now begun turns history result playing.new left.new }
-    ensures less { IfOk result (λ moved. 4 * left.new + rest moved.stand playing.new < 4 * left.old + rest stand playing.old) }
+    ensures goes { GoesFrom script.now turns stand playing.old left.old result playing.new left.new }
+    ensures less { IfOk result (λ moved.
+        4 * left.new + rest moved.stand playing.new < 4 * left.old + rest stand playing.old) }
     ensures left { left.new ≤ turns }
 {
     match stand {
@@ -87,15 +87,15 @@ pub(crate) fn go(
             *left -= 1;
             match turn(script, playing) {
                 Ok(moved) => Ok(moved),
-                Err(refusal) => Err(refused(refusal, turns, *left)),
+                Err(refusal) => Err(play_fault(refusal, turns, *left)),
             }
         }
         Stand::Module => match settle(script, playing) {
             Ok(moved) => Ok(moved),
-            Err(refusal) => Err(refused(refusal, turns, *left)),
+            Err(refusal) => Err(play_fault(refusal, turns, *left)),
         },
         Stand::Host => match go_host(script, alloc, playing, turns, left) {
-            Ok(deed) => match deed.moved(alloc) {
+            Ok(host_step) => match host_step.play_step(alloc) {
                 Ok(moved) => Ok(moved),
                 Err(_) => Err(PlayFault::Memory),
             },

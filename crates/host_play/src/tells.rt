@@ -1,27 +1,30 @@
 // A run, told.
 
-ghost use Rattle.std.specs.Prelude.{◌≡◌, ◌+◌, ◌*◌, ◌<◌, ◌≤◌, ◌++◌, IfOk};
+ghost use Rattle.std.specs.Prelude.{◌≡◌, ◌+◌, ◌*◌, ◌<◌, ◌≤◌, ◌++◌, IfOk, IfErr};
 ghost use Rattle.wasm_syntax.specs.Validity.{IsValid};
 ghost use Rattle.wasm_syntax.specs.Profile.{IsSupported};
 ghost use Rattle.wasm_syntax.specs.declared.modules.Module as syntax;
 ghost use Rattle.host_script.specs.Fits.{Fits};
 ghost use Rattle.history_spec.specs.Line.{line, outcome_text};
-ghost use Rattle.history_spec.specs.Run.{program_of, start_of};
-ghost use Rattle.history_spec.specs.Step.{Stepped};
+ghost use Rattle.history_spec.specs.Run.{program_of, start_in_store};
+ghost use Rattle.history_spec.specs.Step.{StepResult};
 ghost use Rattle.type_safety.specs.Stores.{IsStore};
 ghost use Rattle.wasm_flat.specs.Bounds.{IsBound};
 ghost use Rattle.wasm_flat.specs.FlatCode.{flat_of};
-ghost use Rattle.host_play.specs.Standing.{IsPlayed, rest};
-ghost use Rattle.host_play.specs.Reached.{IsOn, TellsOn, TellsSoFar};
+ghost use Rattle.host_play.specs.declared.results.PlayFault.TheVariants.{Memory};
+ghost use Rattle.host_play.specs.HostSteps.{entries_of, stand_after};
+ghost use Rattle.host_play.specs.Stands.{IsPlayed, Leads, rest};
+ghost use Rattle.host_play.specs.RunsSoFar.{IsOn, TellsOn, TellsSoFar, UpToEnd};
 ghost use Rattle.host_play.specs.Results.{IsTold};
+ghost use Rattle.host_play.specs.ToldLines.{Tells};
 
-use crate::journal::Journal;
-use crate::playing::{Playing, Stand};
-use crate::results::{PlayFault, Told};
+use crate::host_steps::HostStep;
+use crate::play_state::{PlayState, Stand};
+use crate::results::{PlayFault, RunEnd, Told};
 use crate::starts::start;
 use crate::steps::go;
+use crate::told_text::ToldText;
 use history_lines::print_outcome;
-use history_spec::Outcome;
 use host_script::Script;
 use no_memory::NoMemory;
 use std::alloc::Global;
@@ -29,8 +32,8 @@ use wasm_flat::Flat;
 use wasm_store::Store;
 use wasm_syntax::{List, Module};
 
-/// The run of a module under a script, within so many turns, by its flat code and from the store that
-/// it begins with.
+/// The run of a module under a script, within a number of turns, by its flat code and from the store
+/// that it starts with.
 pub(crate) fn tell_from(
     alloc: Global,
     module: &Module,
@@ -45,30 +48,74 @@ pub(crate) fn tell_from(
     requires bound { IsBound flat }
     requires store { IsStore «module».now store }
     requires fits { Fits «module».now script.now }
-    ensures { IsTold (program_of «module».now script.now) (start_of «module».now script.now store) turns result }
+    ensures { IsTold (program_of «module».now script.now) (start_in_store «module».now script.now store) turns result }
 {
-    let (mut playing, deed) = start(alloc, module, flat, script, store)?;
-    let mut journal = Journal::new(alloc);
+    let (mut playing, host_step) = start(alloc, module, flat, script, store)?;
+    tell_start(script, alloc, &mut playing, host_step, turns)
+}
+
+/// The run from its start, told, with what the host did first.
+fn tell_start(
+    script: &Script,
+    alloc: Global,
+    playing: &mut PlayState,
+    host_step: HostStep,
+    turns: u64,
+) -> Result<Told, PlayFault>
+    requires leads { (m : syntax.Module) × (initial : StepResult)
+        × Leads m script.now initial (entries_of host_step) (stand_after host_step) playing.old }
+    ensures { (m : syntax.Module) (initial : StepResult)
+        → Leads m script.now initial (entries_of host_step) (stand_after host_step) playing.old
+        → IsTold (program_of m script.now) initial turns result }
+{
+    let mut text_so_far = ToldText::new(alloc);
+    let stand = tell_first(alloc, &mut text_so_far, host_step)?;
+    match tell_steps(script, alloc, playing, &mut text_so_far, stand, turns) {
+        Ok(end) => told_run(text_so_far, end),
+        Err(fault) => Err(fault),
+    }
+}
+
+/// Tells what the host did first, and gives where control stands after it.
+fn tell_first(
+    alloc: Global,
+    text_so_far: &mut ToldText,
+    host_step: HostStep,
+) -> Result<Stand, NoMemory>
+    ensures stands { IfOk result (λ stand. stand ≡ stand_after host_step) }
+    ensures tells { IfOk result (λ stand. Tells text_so_far.old text_so_far.new (entries_of host_step)) }
+{
+    let step = host_step.play_step(alloc)?;
+    text_so_far.tell_all(step.entries.as_slice())?;
+    Ok(step.stand)
+}
+
+/// Goes on from where control stands first until the run is over, and tells the entries.
+fn tell_steps(
+    script: &Script,
+    alloc: Global,
+    playing: &mut PlayState,
+    text_so_far: &mut ToldText,
+    first: Stand,
+    turns: u64,
+) -> Result<RunEnd, PlayFault>
+    requires so_far { (m : syntax.Module) × (initial : StepResult)
+        × TellsSoFar m script.now initial turns text_so_far.old first playing.old turns }
+    ensures { (m : syntax.Module) (initial : StepResult)
+        → TellsSoFar m script.now initial turns text_so_far.old first playing.old turns
+        → UpToEnd (program_of m script.now) initial turns
+        (λ stand left. TellsSoFar m script.now initial turns text_so_far.new stand playing.new left) result }
+{
+    let mut stand = first;
     let mut left = turns;
-    let moved = deed.moved(alloc)?;
-    journal.tell_all(moved.entries.as_slice())?;
-    let mut stand = moved.stand;
     'steps: loop {
         if let Stand::Over { outcome } = stand {
-            let Ok(told) = told(journal, outcome, turns - left) else {
-                return Err(PlayFault::Memory);
-            };
-            return Ok(told);
+            return Ok(RunEnd {
+                outcome,
+                turns: turns - left,
+            });
         }
-        match tell_on(
-            script,
-            alloc,
-            &mut playing,
-            &mut journal,
-            stand,
-            turns,
-            &mut left,
-        ) {
+        match tell_on(script, alloc, playing, text_so_far, stand, turns, &mut left) {
             Ok(next) => stand = next,
             Err(fault) => return Err(fault),
         }
@@ -79,8 +126,8 @@ pub(crate) fn tell_from(
 fn tell_on(
     script: &Script,
     alloc: Global,
-    playing: &mut Playing,
-    journal: &mut Journal,
+    playing: &mut PlayState,
+    text_so_far: &mut ToldText,
     stand: Stand,
     turns: u64,
     left: &mut u64,
@@ -88,13 +135,16 @@ fn tell_on(
     requires played { IsPlayed script.now stand playing.old }
     requires on { IsOn stand }
     requires left { left.old ≤ turns }
-    ensures goes { (m : syntax.Module) (begun : Stepped) → TellsSoFar m script.now begun turns journal.old stand playing.old left.old → TellsOn m script.now begun turns result journal.new playing.new left.new }
-    ensures less { IfOk result (λ next. 4 * left.new + rest next playing.new < 4 * left.old + rest stand playing.old) }
+    ensures goes { (m : syntax.Module) (initial : StepResult)
+        → TellsSoFar m script.now initial turns text_so_far.old stand playing.old left.old
+        → TellsOn m script.now initial turns result text_so_far.new playing.new left.new }
+    ensures less { IfOk result (λ next.
+        4 * left.new + rest next playing.new < 4 * left.old + rest stand playing.old) }
     ensures left { left.new ≤ turns }
 {
     match go(script, alloc, playing, stand, turns, left) {
         Ok(moved) => {
-            let Ok(()) = journal.tell_all(moved.entries.as_slice()) else {
+            let Ok(()) = text_so_far.tell_all(moved.entries.as_slice()) else {
                 return Err(PlayFault::Memory);
             };
             Ok(moved.stand)
@@ -103,17 +153,20 @@ fn tell_on(
     }
 }
 
-/// What was told, with the line of the outcome.
-fn told(journal: Journal, outcome: Outcome, turns: u64) -> Result<Told, NoMemory>
-    ensures { IfOk result (λ told. (told.text ≡ journal.text ++ line (outcome_text outcome)) × (told.entries ≡ journal.entries) × (told.turns ≡ turns) × (told.outcome ≡ outcome)) }
+/// The run that was told, with the line of its outcome.
+fn told_run(text_so_far: ToldText, end: RunEnd) -> Result<Told, PlayFault>
+    ensures text { IfOk result (λ told. told.text ≡ text_so_far.text ++ line (outcome_text end.outcome)) }
+    ensures rest { IfOk result (λ told.
+        (told.entries ≡ text_so_far.entries) × (told.turns ≡ end.turns) × (told.outcome ≡ end.outcome)) }
+    ensures err { IfErr result (λ fault. fault ≡ Memory) }
 {
-    let Journal { text, entries } = journal;
+    let ToldText { text, entries } = text_so_far;
     let mut text = text;
-    print_outcome(&mut text, outcome)?;
+    print_outcome(&mut text, end.outcome)?;
     Ok(Told {
         text: List::from_vec(text),
         entries,
-        turns,
-        outcome,
+        turns: end.turns,
+        outcome: end.outcome,
     })
 }

@@ -1,2 +1,2 @@
-pub mod Supplied
+pub mod Supply
 pub mod Fits

@@ -8,6 +8,9 @@ use wasm_syntax::Item;
 
 impl Action {
     /// An equal action.
+    ///
+    /// # Errors
+    /// Where an allocation failed.
     pub fn clone(&self) -> Result<Action, NoMemory>
         ensures { IfOk result (λ copy. copy ≡ self.now) }
     {
@@ -46,13 +49,16 @@ impl Action {
 }
 
 impl Item for Action {
-    fn copied(&self) -> Result<Action, NoMemory> {
+    fn copy(&self) -> Result<Action, NoMemory> {
         self.clone()
     }
 }
 
 impl Response {
     /// An equal response.
+    ///
+    /// # Errors
+    /// Where an allocation failed.
     pub fn clone(&self) -> Result<Response, NoMemory>
         ensures { IfOk result (λ copy. copy ≡ self.now) }
     {
@@ -65,13 +71,16 @@ impl Response {
 }
 
 impl Item for Response {
-    fn copied(&self) -> Result<Response, NoMemory> {
+    fn copy(&self) -> Result<Response, NoMemory> {
         self.clone()
     }
 }
 
 impl Answer {
     /// An equal answer.
+    ///
+    /// # Errors
+    /// Where an allocation failed.
     pub fn clone(&self) -> Result<Answer, NoMemory>
         ensures { IfOk result (λ copy. copy ≡ self.now) }
     {

@@ -3,9 +3,11 @@
 
 mod copies;
 pub mod scripts;
+mod types;
 
 pub use no_memory::NoMemory;
 pub use scripts::{
     Action, Actions, Address, Answer, Answers, Given, LinkFault, Response, ResponseEnd, Responses,
     Script, Supply,
 };
+pub use types::is_type;

@@ -83,8 +83,10 @@ pub type Given = List<Option<Val>>;
 /// What a script answers for each imported function.
 pub type Answers = List<Option<Answer>>;
 
+/// Answers to calls, in order.
 pub type Responses = List<Response>;
 
+/// Actions, in order.
 pub type Actions = List<Action>;
 
 /// What the host supplies for imports: the limits of a memory of zeros and of an empty table, and
@@ -108,6 +110,7 @@ pub enum LinkFault {
     /// This segment passes its table or memory; element segments count before data segments.
     #[error("segment {number} does not fit")]
     Segment { number: u32 },
+    /// An allocation failed.
     #[error("out of memory")]
     Memory,
 }

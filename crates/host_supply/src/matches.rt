@@ -1,11 +1,10 @@
 // Whether what is supplied for an import matches it (Core 1.0, 4.5.2).
 
 ghost use Rattle.std.specs.Prelude.{◌≡◌, None};
-ghost use Rattle.wasm_syntax.specs.Alike.{same_type};
-ghost use Rattle.host_script.specs.Supplied.{is_within as within, keeps_max as max_kept, limits_match as limits_alike, supplied_limits, supplied_value, fault_or};
+ghost use Rattle.host_script.specs.Supply.{is_within as within, keeps_max as max_kept, limits_match as limits_alike, match_of_limits, match_of_value, fault_or};
 
-use host_script::LinkFault;
-use wasm_syntax::{GlobalType, Limits, Val, ValType};
+use host_script::{LinkFault, is_type};
+use wasm_syntax::{GlobalType, Limits, Val};
 
 /// Whether a size is at most a maximum, where there is one.
 fn is_within(size: u32, most: Option<u32>) -> bool
@@ -38,19 +37,6 @@ fn limits_match(most: u32, given: Limits, wanted: Limits) -> bool
         && given.min <= most
 }
 
-fn is_type(a: ValType, b: ValType) -> bool
-    ensures { result ≡ same_type a b }
-{
-    match (a, b) {
-        (ValType::I32, ValType::I32) => true,
-        (ValType::I64, ValType::I64) => true,
-        (ValType::F32, ValType::F32) => true,
-        (ValType::F64, ValType::F64) => true,
-        (ValType::FuncRef, ValType::FuncRef) => true,
-        _ => false,
-    }
-}
-
 /// The fault of an imported memory or table, where there is one.
 pub(crate) fn limits_fault(
     import: u32,
@@ -58,7 +44,7 @@ pub(crate) fn limits_fault(
     given: Option<Limits>,
     wanted: Limits,
 ) -> Option<LinkFault>
-    ensures { result ≡ fault_or (supplied_limits most given wanted) import None }
+    ensures { result ≡ fault_or (match_of_limits most given wanted) import None }
 {
     match given {
         None => Some(LinkFault::Missing { import }),
@@ -69,7 +55,7 @@ pub(crate) fn limits_fault(
 
 /// The fault of an imported global, where there is one.
 pub(crate) fn value_fault(import: u32, given: Option<Val>, wanted: GlobalType) -> Option<LinkFault>
-    ensures { result ≡ fault_or (supplied_value given wanted) import None }
+    ensures { result ≡ fault_or (match_of_value given wanted) import None }
 {
     match given {
         None => Some(LinkFault::Missing { import }),

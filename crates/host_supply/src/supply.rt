@@ -3,20 +3,15 @@
 ghost use Rattle.std.specs.Prelude.{◌≡◌, ◌≤◌, None, Some, Ok, Err, IfOk, IfErr, OnOk, option_and_then, slice_get, is_some};
 ghost use Rattle.std.specs.List.{list_any};
 ghost use Rattle.host_script.specs.declared.scripts.LinkFault.TheVariants.{Memory};
-ghost use Rattle.host_script.specs.Supplied.{supplied, globals_in as global_count, fault_or, first_fault, given_values as values_given, if_imported, supply_of as supply_meant};
+ghost use Rattle.host_script.specs.Supply.{import_match, globals_in as global_count, fault_or, first_fault, given_values as values_given, if_imported, supply_of as supply_meant};
 ghost use Rattle.wasm_syntax.specs.Index.{of_kind, memory_import, table_import};
 
 use crate::matches::{limits_fault, value_fault};
 use host_script::{LinkFault, Script, Supply};
 use no_memory::NoMemory;
 use std::alloc::Global;
+use wasm_syntax::limits::{MOST_ENTRIES, MOST_PAGES};
 use wasm_syntax::{Import, ImportKind, Limits, List, Module, Val, Vals};
-
-/// The most pages that a memory may begin with.
-const MOST_PAGES: u32 = 4096;
-
-/// The most entries that a table may begin with.
-const MOST_ENTRIES: u32 = 1_000_000;
 
 /// The value given for an imported global, by its place among these.
 fn given_at(script: &Script, global: usize) -> Option<Val>
@@ -28,9 +23,9 @@ fn given_at(script: &Script, global: usize) -> Option<Val>
     }
 }
 
-/// The fault of one import, where so many imported globals stand before it.
+/// The fault of one import that has `globals` imported globals before it.
 fn import_fault(script: &Script, globals: usize, import: u32, kind: ImportKind) -> Option<LinkFault>
-    ensures { result ≡ fault_or (supplied script.now globals kind) import None }
+    ensures { result ≡ fault_or (import_match script.now globals kind) import None }
 {
     match kind {
         ImportKind::Func(_) => None,
@@ -40,6 +35,7 @@ fn import_fault(script: &Script, globals: usize, import: u32, kind: ImportKind) 
     }
 }
 
+/// How many globals an import brings.
 fn globals_in(kind: ImportKind) -> usize
     ensures value { result ≡ global_count kind }
     ensures bound { result ≤ 1 }
@@ -50,7 +46,7 @@ fn globals_in(kind: ImportKind) -> usize
     }
 }
 
-/// Tests that each import is supplied, and alike.
+/// Tests that what is supplied for each import matches it.
 fn check_imports(imports: &[Import], script: &Script) -> Result<(), LinkFault>
     ensures ok { OnOk result (first_fault script.now imports.now 0 0 ≡ None) }
     ensures err { IfErr result (λ fault. (fault ≡ Memory → ⊥)
@@ -58,7 +54,7 @@ fn check_imports(imports: &[Import], script: &Script) -> Result<(), LinkFault>
 {
     let mut globals: usize = 0;
     'imports: for (index, import) in imports.iter().enumerate() {
-        // So many imports do not fit into memory.
+        // More imports than 32 bits count do not fit into memory.
         let Ok(number) = u32::try_from(index) else {
             return Err(LinkFault::Memory);
         };
@@ -84,6 +80,7 @@ fn given_values(alloc: Global, given: &[Option<Val>]) -> Result<Vals, NoMemory>
     Ok(List::from_vec(values))
 }
 
+/// Whether a memory is imported.
 fn imports_memory(imports: &[Import]) -> bool
     ensures { result ≡ list_any (λ import. is_some (memory_import import.kind)) imports.now }
 {
@@ -92,6 +89,7 @@ fn imports_memory(imports: &[Import]) -> bool
         .any(|import| matches!(import.kind, ImportKind::Memory(_)))
 }
 
+/// Whether a table is imported.
 fn imports_table(imports: &[Import]) -> bool
     ensures { result ≡ list_any (λ import. is_some (table_import import.kind)) imports.now }
 {
@@ -124,8 +122,11 @@ fn supplied_table(imports: &[Import], script: &Script) -> Option<Limits>
     }
 }
 
-/// What a script supplies for the imports of a module, or the first import, in order, that is not
-/// supplied or does not match: `Missing` or `Mismatch` with the import's place. Never `Segment`.
+/// What a script supplies for the imports of a module (Core 1.0, 4.5.2). The script fits the module.
+///
+/// # Errors
+/// `Missing` or `Mismatch` with its place, for the first import in order that is not supplied or does
+/// not match; `Memory` where an allocation failed. Never `Segment`.
 pub fn supply_of(alloc: Global, module: &Module, script: &Script) -> Result<Supply, LinkFault>
     ensures ok { IfOk result (λ supply. supply_meant «module».now script.now ≡ Ok supply) }
     ensures err { IfErr result (λ fault. (fault ≡ Memory → ⊥)

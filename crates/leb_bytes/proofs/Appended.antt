@@ -1,7 +1,8 @@
 -- Bytes that are appended one at a time.
 use Rattle.std.proofs.Common.{◌≡◌, ℕ, List, [], ◌∷◌, ◌++◌, ap, sym, ◌∙◌, append_assoc}
 
--- what is written and what is left are the whole, also behind one more byte
-pub appended : (out new bytes rest whole : List ℕ) (b : ℕ) → out ++ bytes ≡ whole → bytes ≡ b ∷ rest → new ≡ out ++ b ∷ [] → new ++ rest ≡ whole
+-- what is written and what is left are the whole, also after one more byte
+pub appended : (out new bytes rest whole : List ℕ) (b : ℕ) → out ++ bytes ≡ whole → bytes ≡ b ∷ rest
+    → new ≡ out ++ b ∷ [] → new ++ rest ≡ whole
 appended out new bytes rest whole b before first pushed =
     ap (λ x. x ++ rest) pushed ∙ append_assoc out (b ∷ []) rest ∙ ap (λ x. out ++ x) (sym first) ∙ before

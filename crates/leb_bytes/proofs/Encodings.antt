@@ -7,11 +7,12 @@ use Rattle.std.specs.Int.{Width, cast_signed, cast_unsigned}
 use Rattle.std.specs.Option.{option_map}
 use Rattle.std.proofs.Math.Facts.{Fits-of_z, sfits_to_z}
 use mir.Val.{bits}
+use Rattle.list_laws.proofs.Options.{map_some}
 use Rattle.leb_bytes.specs.Encoding.{IsPrefixFree, IsReadBy, IsShortest}
 use Rattle.leb_bytes.specs.Signed.{EncodesI32, EncodesI64, EncodesS32, EncodesS64, first_i32, first_i64, first_signed, first_s32, first_s64, i32_bytes, i64_bytes, s64_bytes}
 use Rattle.leb_bytes.specs.Unsigned.{EncodesU32, first_u32, u32_bytes}
 use Rattle.leb_bytes.proofs.SignedLaws.{found_signed, only_signed, range_signed, shortest_signed, least_signed, alone_signed}
-use Rattle.leb_bytes.proofs.UnsignedLaws.{found_unsigned, only_unsigned, range_unsigned, shortest_unsigned, least_unsigned, alone_unsigned, option_map_some}
+use Rattle.leb_bytes.proofs.UnsignedLaws.{found_unsigned, only_unsigned, range_unsigned, shortest_unsigned, least_unsigned, alone_unsigned}
 
 unsigned_fits : (w : Width) (z : ℤ) → FitsSigned w z → cast_unsigned w z < 2 ^ bits w
 unsigned_fits w z fits = (Fits-of_z fits).fits
@@ -20,7 +21,8 @@ signed_fits : (w : Width) (n : ℕ) → n < 2 ^ bits w → FitsSigned w (cast_si
 signed_fits w n fits = sfits_to_z (record { fits = fits })
 
 -- what a reading function reads has no encoding that begins another
-pub prefix_free : {A : Type 0} (Encodes : List ℕ → A → Type 0) (first : List ℕ → Option (A × List ℕ)) → IsReadBy Encodes first → IsPrefixFree Encodes
+pub prefix_free : {A : Type 0} (Encodes : List ℕ → A → Type 0) (first : List ℕ → Option (A × List ℕ))
+    → IsReadBy Encodes first → IsPrefixFree Encodes
 prefix_free Encodes first reads = record {
   one = λ a b x y m n h k e.
       let parts = some_pair_parts m n x y (sym (reads.only a x m h) ∙ ap first e ∙ reads.only b y n k) in
@@ -56,7 +58,8 @@ s32_read = record {
   only = λ bytes rest z h. only_signed 32 bytes rest z h.signed;
 }
 
-pub s32_range : (bytes : List ℕ) (z : ℤ) → EncodesS32 bytes z → FitsSigned w32 z × (0 < length bytes) × (length bytes ≤ 5)
+pub s32_range : (bytes : List ℕ) (z : ℤ) → EncodesS32 bytes z
+    → FitsSigned w32 z × (0 < length bytes) × (length bytes ≤ 5)
 s32_range bytes z h = let r = range_signed 32 bytes z (omega arith) h.signed in (record { sfits = r.0 }, r.1, omega (arith, r.2))
 
 pub s32_shortest : IsShortest EncodesS32 (λ z. FitsSigned w32 z) s64_bytes
@@ -89,7 +92,8 @@ s64_read = record {
   only = λ bytes rest z h. only_signed 64 bytes rest z h.signed;
 }
 
-pub s64_range : (bytes : List ℕ) (z : ℤ) → EncodesS64 bytes z → FitsSigned w64 z × (0 < length bytes) × (length bytes ≤ 10)
+pub s64_range : (bytes : List ℕ) (z : ℤ) → EncodesS64 bytes z
+    → FitsSigned w64 z × (0 < length bytes) × (length bytes ≤ 10)
 s64_range bytes z h = let r = range_signed 64 bytes z (omega arith) h.signed in (record { sfits = r.0 }, r.1, omega (arith, r.2))
 
 pub s64_shortest : IsShortest EncodesS64 (λ z. FitsSigned w64 z) s64_bytes
@@ -117,7 +121,7 @@ pub i32_read : IsReadBy EncodesI32 first_i32
 unfolding first_i32
 i32_read = record {
   found = λ input rest n e.
-      let read = option_map_some (λ (read : ℤ × List ℕ). (cast_unsigned w32 read.0, read.1)) (first_s32 input) (n, rest) e in
+      let read = map_some (λ (read : ℤ × List ℕ). (cast_unsigned w32 read.0, read.1)) (first_s32 input) (n, rest) e in
       let f = s32_read.found input read.0.1 read.0.0 read.1 in
       let bits : cast_unsigned w32 read.0.0 ≡ n = ap (λ (p : ℕ × List ℕ). p.0) read.2 in
       let behind : read.0.1 ≡ rest = ap (λ (p : ℕ × List ℕ). p.1) read.2 in
@@ -144,7 +148,7 @@ pub i64_read : IsReadBy EncodesI64 first_i64
 unfolding first_i64
 i64_read = record {
   found = λ input rest n e.
-      let read = option_map_some (λ (read : ℤ × List ℕ). (cast_unsigned w64 read.0, read.1)) (first_s64 input) (n, rest) e in
+      let read = map_some (λ (read : ℤ × List ℕ). (cast_unsigned w64 read.0, read.1)) (first_s64 input) (n, rest) e in
       let f = s64_read.found input read.0.1 read.0.0 read.1 in
       let bits : cast_unsigned w64 read.0.0 ≡ n = ap (λ (p : ℕ × List ℕ). p.0) read.2 in
       let behind : read.0.1 ≡ rest = ap (λ (p : ℕ × List ℕ). p.1) read.2 in

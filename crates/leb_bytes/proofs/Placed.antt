@@ -10,14 +10,17 @@ use Rattle.leb_bytes.specs.Place.{IsEncodedAt}
 module _ {A : Type 0} (Encodes : List ℕ → A → Type 0) (first : List ℕ → Option (A × List ℕ)) (reads : IsReadBy Encodes first)
     (bytes : List ℕ) (at : ℕ) where
   -- what is encoded at a place is read there
-  pub read_at : (next : ℕ) (x : A) → IsEncodedAt Encodes bytes at next x → first (drop at bytes) ≡ Some (x, drop next bytes)
+  pub read_at : (next : ℕ) (x : A) → IsEncodedAt Encodes bytes at next x
+      → first (drop at bytes) ≡ Some (x, drop next bytes)
   read_at next x h =
       let place : at + (next - at) ≡ next = omega (arith, h.begins) in
-      ap first (sym (take-append-drop (next - at) (drop at bytes))) ∙ reads.only (take (next - at) (drop at bytes)) (drop (next - at) (drop at bytes)) x h.encodes
+      ap first (sym (take-append-drop (next - at) (drop at bytes)))
+      ∙ reads.only (take (next - at) (drop at bytes)) (drop (next - at) (drop at bytes)) x h.encodes
       ∙ ap (λ rest. Some (x, rest)) (drop-drop (next - at) at bytes ∙ ap (λ n. drop n bytes) place)
 
   -- what is read at a place is encoded there
-  pub encoded_at : (next : ℕ) (x : A) → ((front : List ℕ) → Encodes front x → 0 < length front) → at ≤ length bytes → next ≤ length bytes
+  pub encoded_at : (next : ℕ) (x : A) → ((front : List ℕ) → Encodes front x → 0 < length front) → at ≤ length bytes
+      → next ≤ length bytes
       → first (drop at bytes) ≡ Some (x, drop next bytes) → IsEncodedAt Encodes bytes at next x
   encoded_at next x some inside within e =
       let f = reads.found (drop at bytes) (drop next bytes) x e in
@@ -30,7 +33,8 @@ module _ {A : Type 0} (Encodes : List ℕ → A → Type 0) (first : List ℕ �
       record { begins = omega arith; ends = within; encodes = rw (same) f.1 }
 
   -- no more than one is encoded there
-  pub same_at : {E : Type 0} (e : E) (next other : ℕ) (x y : A) → next ≤ length bytes → first (drop at bytes) ≡ Some (x, drop next bytes)
+  pub same_at : {E : Type 0} (e : E) (next other : ℕ) (x y : A) → next ≤ length bytes
+      → first (drop at bytes) ≡ Some (x, drop next bytes)
       → IsEncodedAt Encodes bytes at other y → ◌≡◌ {A = Result (A × ℕ) E} (Ok (x, next)) (Ok (y, other))
   same_at e next other x y within read h =
       let parts = some_pair_parts x y (drop next bytes) (drop other bytes) (sym read ∙ read_at other y h) in
@@ -42,13 +46,41 @@ module _ {A : Type 0} (Encodes : List ℕ → A → Type 0) (first : List ℕ �
   none_at next x none h = none-some _ (sym none ∙ read_at next x h)
 
   -- the same, where the bytes from the place on are given as a list, and the rest by its own place
-  pub front_at : (left : List ℕ) (taken : ℕ) (x : A) → left ≡ drop at bytes → at ≤ length bytes → taken ≤ length left → first left ≡ Some (x, drop taken left)
+  pub front_at : (left : List ℕ) (taken : ℕ) (x : A) → left ≡ drop at bytes → at ≤ length bytes → taken ≤ length left
+      → first left ≡ Some (x, drop taken left)
       → (at + taken ≤ length bytes) × (first (drop at bytes) ≡ Some (x, drop (at + taken) bytes))
   front_at left taken x same inside within e = (
     omega (arith, length-drop at bytes, ap length same),
-    sym (ap first same) ∙ e ∙ ap (λ rest. Some (x, drop taken rest)) same ∙ ap (λ rest. Some (x, rest)) (drop-drop taken at bytes),
+    sym (ap first same) ∙ e ∙ ap (λ rest. Some (x, drop taken rest)) same
+        ∙ ap (λ rest. Some (x, rest)) (drop-drop taken at bytes),
   )
 
--- all that is behind a place
+-- all that is after a place
 pub behind : (bytes : List ℕ) (at : ℕ) → take (length bytes - at) (drop at bytes) ≡ drop at bytes
 behind bytes at = ap (λ n. take n (drop at bytes)) (sym (length-drop at bytes)) ∙ take-length (drop at bytes)
+
+-- What is read at a place, by a reader of a front of the bytes: all that the calls say of it.
+pub record IsReadAt {A : Type 0} (Encodes : List ℕ → A → Type 0) (first : List ℕ → Option (A × List ℕ)) (E : Type 0)
+    (bytes : List ℕ) (at next : ℕ) (x : A) : Type 0 where
+  pub front : first (drop at bytes) ≡ Some (x, drop next bytes)
+  pub found : IsEncodedAt Encodes bytes at next x
+  pub only : (other : ℕ) (y : A) → IsEncodedAt Encodes bytes at other y
+      → ◌≡◌ {A = Result (A × ℕ) E} (Ok (x, next)) (Ok (y, other))
+
+pub read_there : {A E : Type 0} (Encodes : List ℕ → A → Type 0) (first : List ℕ → Option (A × List ℕ))
+    → IsReadBy Encodes first
+    → ((front : List ℕ) (x : A) → Encodes front x → 0 < length front) → E → (bytes : List ℕ) (at taken : ℕ) (x : A)
+    → at ≤ length bytes → taken ≤ length (take (length bytes - at) (drop at bytes))
+    → first (take (length bytes - at) (drop at bytes)) ≡ Some (x, drop taken (take (length bytes - at) (drop at bytes)))
+    → IsReadAt Encodes first E bytes at (at + taken) x
+read_there Encodes first reads some e bytes at taken x inside within is =
+    let p = front_at Encodes first reads bytes at (take (length bytes - at) (drop at bytes)) taken x (behind bytes at) inside within is in
+    record {
+      front = p.1;
+      found = encoded_at Encodes first reads bytes at (at + taken) x (λ front. some front x) inside p.0 p.1;
+      only = λ other y. same_at Encodes first reads bytes at e (at + taken) other x y p.0 p.1;
+    }
+
+pub none_there : {A : Type 0} (first : List ℕ → Option (A × List ℕ)) (bytes : List ℕ) (at : ℕ)
+    → first (take (length bytes - at) (drop at bytes)) ≡ None → first (drop at bytes) ≡ None
+none_there first bytes at is = ap first (sym (behind bytes at)) ∙ is

@@ -8,9 +8,9 @@ use Rattle.std.proofs.Math.Nat.{mul-le-mul_left}
 use Rattle.std.proofs.lemmas.Nat.{shr_below}
 use Rattle.std.specs.Int.Signed.{mag, shr_z}
 use Rattle.std.specs.Option.{option_map}
+use Rattle.list_laws.proofs.Options.{map_some}
 use Rattle.leb_bytes.specs.Signed.{EncodesSigned, first_signed, signed_bytes, s64_bytes, low_bits, high_bits, fits_seven_bits}
 use Rattle.leb_bytes.proofs.SignedSteps.{signed-plus, signed-minus, signed-large, signed-small, signed-long, signed-more, minus, below_negative}
-use Rattle.leb_bytes.proofs.UnsignedLaws.{option_map_some}
 
 -- a byte with its high bit set, before an encoding of the rest
 encode_more : (width b : ℕ) (m : ℤ) (bytes : List ℕ) → 2 ^ 7 ≤ b → b < 2 ^ 8 → 7 < width
@@ -22,7 +22,8 @@ signed-byte : (width b : ℕ) (bytes : List ℕ) → 2 ^ 8 ≤ b → first_signe
 signed-byte width b bytes large = grind (arith, nat_tests)
 
 -- a last byte, by what it says of the width
-last_signed : (width b n : ℕ) (input rest : List ℕ) (z : ℤ) → b < 2 ^ 7 → first_signed width (b ∷ input) ≡ Some (z, rest)
+last_signed : (width b n : ℕ) (input rest : List ℕ) (z : ℤ) → b < 2 ^ 7
+    → first_signed width (b ∷ input) ≡ Some (z, rest)
     → EncodesSigned width (b ∷ []) z × (input ≡ rest)
 last_signed width b n input rest z last e = elim (cases_lt b (2 ^ 6)) [
   | inl plus ↦ elim (cases_lt b (2 ^ (width - 1))) [
@@ -45,7 +46,7 @@ found_signed width (b ∷ input) rest z e = elim (cases_lt b (2 ^ 7)) [
   | inr more ↦ elim (cases_lt b (2 ^ 8)) [
     | inl byte ↦ elim (cases_lt 7 width) [
       | inl room ↦
-          let high = option_map_some (λ (high : ℤ × List ℕ). (pos (2 ^ 7) *ℤ high.0 +ℤ pos (b - 2 ^ 7), high.1)) (first_signed (width - 7) input) (z, rest)
+          let high = map_some (λ (high : ℤ × List ℕ). (pos (2 ^ 7) *ℤ high.0 +ℤ pos (b - 2 ^ 7), high.1)) (first_signed (width - 7) input) (z, rest)
           (sym (signed-more width b input more byte room) ∙ e) in
           let below = found_signed (width - 7) input high.0.1 high.0.0 high.1 in
           let value : pos (2 ^ 7) *ℤ high.0.0 +ℤ pos (b - 2 ^ 7) ≡ z = ap (λ (p : ℤ × List ℕ). p.0) high.2 in
@@ -60,7 +61,8 @@ found_signed width (b ∷ input) rest z e = elim (cases_lt b (2 ^ 7)) [
   ]
 ]
 
-pub only_signed : (width : ℕ) (bytes rest : List ℕ) (z : ℤ) → EncodesSigned width bytes z → first_signed width (bytes ++ rest) ≡ Some (z, rest)
+pub only_signed : (width : ℕ) (bytes rest : List ℕ) (z : ℤ) → EncodesSigned width bytes z
+    → first_signed width (bytes ++ rest) ≡ Some (z, rest)
 only_signed width [] rest z h = absurd h
 only_signed width (b ∷ []) rest z (inl h) = signed-plus width b rest h.0 h.1 ∙ ap (λ k. Some (k, rest)) (sym h.2)
 only_signed width (b ∷ []) rest z (inr h) = signed-minus width b rest h.0 h.1 h.2 ∙ ap (λ k. Some (k, rest)) (sym h.3)
@@ -73,7 +75,8 @@ top_seven : (width : ℕ) → 7 < width → 2 ^ 7 * 2 ^ (width - 7 - 1) ≡ 2 ^ 
 top_seven width room = sym (pow-add 2 7 (width - 7 - 1)) ∙ ap (λ k. 2 ^ k) (omega arith)
 
 -- seven bits below a number
-mag_more : (width b : ℕ) (m : ℤ) → 7 < width → b < 2 ^ 7 → mag m < 2 ^ (width - 7 - 1) → mag (pos (2 ^ 7) *ℤ m +ℤ pos b) < 2 ^ (width - 1)
+mag_more : (width b : ℕ) (m : ℤ) → 7 < width → b < 2 ^ 7 → mag m < 2 ^ (width - 7 - 1)
+    → mag (pos (2 ^ 7) *ℤ m +ℤ pos b) < 2 ^ (width - 1)
 mag_more width b (pos k) room digit below =
     let next : k + 1 ≤ 2 ^ (width - 7 - 1) = omega arith in
     omega (arith, mul-le-mul_left (2 ^ 7) next, top_seven width room)
@@ -125,10 +128,12 @@ mag_small (negsuc n) seven = grind (arith, nat_tests)
 -- a last byte has the low bits of a number that fits seven
 last_bits : (width b : ℕ) (z : ℤ) → EncodesSigned width (b ∷ []) z → (fits_seven_bits z ≡ true) × (low_bits z ≡ b)
 last_bits width b z (inl h) = rw (h.2) (small_mag (pos b) h.0, omega (arith, h.0))
-last_bits width b z (inr h) = rw (h.3, minus b h.1) (small_mag (negsuc (127 - b)) (omega (arith, h.0)), omega (arith, h.0, h.1))
+last_bits width b z (inr h) =
+    rw (h.3, minus b h.1) (small_mag (negsuc (127 - b)) (omega (arith, h.0)), omega (arith, h.0, h.1))
 
 -- a number that fits seven bits, in a last byte
-last_encodes : (width : ℕ) (z : ℤ) → fits_seven_bits z ≡ true → mag z < 2 ^ (width - 1) → EncodesSigned width (low_bits z ∷ []) z
+last_encodes : (width : ℕ) (z : ℤ) → fits_seven_bits z ≡ true → mag z < 2 ^ (width - 1)
+    → EncodesSigned width (low_bits z ∷ []) z
 last_encodes width (pos n) seven fits =
     let small : n < 2 ^ 6 = mag_small (pos n) seven in
     let low : n % 2 ^ 7 ≡ n = omega arith in
@@ -144,7 +149,8 @@ unfolding signed_bytes
 signed_bytes-last zero z seven = refl
 signed_bytes-last (suc more) z seven = rw (seven) refl
 
-pub signed_bytes-more : (more : ℕ) (z : ℤ) → fits_seven_bits z ≡ false → signed_bytes (suc more) z ≡ (low_bits z + 2 ^ 7) ∷ signed_bytes more (high_bits z)
+pub signed_bytes-more : (more : ℕ) (z : ℤ) → fits_seven_bits z ≡ false
+    → signed_bytes (suc more) z ≡ (low_bits z + 2 ^ 7) ∷ signed_bytes more (high_bits z)
 unfolding signed_bytes
 signed_bytes-more more z large = rw (large) refl
 
@@ -152,7 +158,8 @@ high_mag : (z : ℤ) (j : ℕ) → mag z < 2 ^ (j + 7) → mag (high_bits z) < 2
 high_mag (pos n) j fits = shr_below n j 7 fits
 high_mag (negsuc n) j fits = shr_below n j 7 fits
 
-pub shortest_signed : (width more : ℕ) (z : ℤ) → mag z < 2 ^ (width - 1) → mag z < 2 ^ (6 + 7 * more) → EncodesSigned width (signed_bytes more z) z
+pub shortest_signed : (width more : ℕ) (z : ℤ) → mag z < 2 ^ (width - 1) → mag z < 2 ^ (6 + 7 * more)
+    → EncodesSigned width (signed_bytes more z) z
 unfolding signed_bytes
 shortest_signed width zero z fits few = last_encodes width z (small_mag z few) fits
 shortest_signed width (suc more) z fits few = elim (cases_Bool (fits_seven_bits z)) [
@@ -176,7 +183,8 @@ shortest_signed width (suc more) z fits few = elim (cases_Bool (fits_seven_bits 
   ]
 ]
 
-pub least_signed : (width more : ℕ) (bytes : List ℕ) (z : ℤ) → EncodesSigned width bytes z → length (signed_bytes more z) ≤ length bytes
+pub least_signed : (width more : ℕ) (bytes : List ℕ) (z : ℤ) → EncodesSigned width bytes z
+    → length (signed_bytes more z) ≤ length bytes
 unfolding signed_bytes
 least_signed width more [] z h = absurd h
 least_signed width more (b ∷ []) z h = rw (signed_bytes-last more z (last_bits width b z h).0) (omega arith)
@@ -189,7 +197,8 @@ least_signed width (suc more) (b ∷ c ∷ bytes) z h = elim (cases_Bool (fits_s
       rw (signed_bytes-more more z large) (rw (rest) (omega (arith, least_signed (width - 7) more (c ∷ bytes) h.3 h.4)))
 ]
 
-pub alone_signed : (width more : ℕ) (bytes : List ℕ) (z : ℤ) → EncodesSigned width bytes z → length bytes ≡ length (signed_bytes more z) → bytes ≡ signed_bytes more z
+pub alone_signed : (width more : ℕ) (bytes : List ℕ) (z : ℤ) → EncodesSigned width bytes z
+    → length bytes ≡ length (signed_bytes more z) → bytes ≡ signed_bytes more z
 unfolding signed_bytes
 alone_signed width more [] z h e = absurd h
 alone_signed width more (b ∷ []) z h e =
@@ -209,7 +218,8 @@ alone_signed width (suc more) (b ∷ c ∷ bytes) z h e = elim (cases_Bool (fits
       ∙ sym (signed_bytes-more more z large ∙ ap (λ x. x ∷ signed_bytes more (high_bits z)) low ∙ ap (λ k. b ∷ signed_bytes more k) rest)
 ]
 
-signed_bytes-length : (more : ℕ) (z : ℤ) → (0 < length (signed_bytes more z)) × (length (signed_bytes more z) ≤ suc more)
+signed_bytes-length : (more : ℕ) (z : ℤ)
+    → (0 < length (signed_bytes more z)) × (length (signed_bytes more z) ≤ suc more)
 unfolding signed_bytes
 signed_bytes-length zero z = (omega arith, omega arith)
 signed_bytes-length (suc more) z = elim (cases_Bool (fits_seven_bits z)) [
@@ -234,7 +244,8 @@ pub s64-last : (z : ℤ) → fits_seven_bits z ≡ true → s64_bytes z ≡ low_
 unfolding s64_bytes
 s64-last z seven = signed_bytes-last 9 z seven
 
-pub s64-more : (z : ℤ) → fits_seven_bits z ≡ false → mag z < 2 ^ 63 → s64_bytes z ≡ (low_bits z + 2 ^ 7) ∷ s64_bytes (high_bits z)
+pub s64-more : (z : ℤ) → fits_seven_bits z ≡ false → mag z < 2 ^ 63
+    → s64_bytes z ≡ (low_bits z + 2 ^ 7) ∷ s64_bytes (high_bits z)
 unfolding s64_bytes
 s64-more z large fits =
     signed_bytes-more 8 z large

@@ -9,17 +9,20 @@ use Rattle.std.specs.Option.{option_map}
 use Rattle.leb_bytes.specs.Signed.{first_signed}
 use Rattle.leb_bytes.proofs.UnsignedSteps.{above, above_fits}
 
-pub signed-plus : (width b : ℕ) (bytes : List ℕ) → b < 2 ^ 6 → b < 2 ^ (width - 1) → first_signed width (b ∷ bytes) ≡ Some (pos b, bytes)
+pub signed-plus : (width b : ℕ) (bytes : List ℕ) → b < 2 ^ 6 → b < 2 ^ (width - 1)
+    → first_signed width (b ∷ bytes) ≡ Some (pos b, bytes)
 signed-plus width b bytes plus fits = grind (arith, nat_tests)
 
 pub signed-minus : (width b : ℕ) (bytes : List ℕ) → 2 ^ 6 ≤ b → b < 2 ^ 7 → 2 ^ 7 ≤ b + 2 ^ (width - 1)
     → first_signed width (b ∷ bytes) ≡ Some (pos b -ℤ pos (2 ^ 7), bytes)
 signed-minus width b bytes minus last fits = grind (arith, nat_tests)
 
-pub signed-large : (width b : ℕ) (bytes : List ℕ) → b < 2 ^ 6 → 2 ^ (width - 1) ≤ b → first_signed width (b ∷ bytes) ≡ None
+pub signed-large : (width b : ℕ) (bytes : List ℕ) → b < 2 ^ 6 → 2 ^ (width - 1) ≤ b
+    → first_signed width (b ∷ bytes) ≡ None
 signed-large width b bytes plus large = grind (arith, nat_tests)
 
-pub signed-small : (width b : ℕ) (bytes : List ℕ) → 2 ^ 6 ≤ b → b < 2 ^ 7 → b + 2 ^ (width - 1) < 2 ^ 7 → first_signed width (b ∷ bytes) ≡ None
+pub signed-small : (width b : ℕ) (bytes : List ℕ) → 2 ^ 6 ≤ b → b < 2 ^ 7 → b + 2 ^ (width - 1) < 2 ^ 7
+    → first_signed width (b ∷ bytes) ≡ None
 signed-small width b bytes minus last small = grind (arith, nat_tests)
 
 pub signed-long : (width b : ℕ) (bytes : List ℕ) → 2 ^ 7 ≤ b → width ≤ 7 → first_signed width (b ∷ bytes) ≡ None
@@ -121,7 +124,8 @@ module _ (low shift left b m : ℕ) (z : ℤ) (bits : low < 2 ^ shift) (room : (
 module _ (width : ℕ) (all : Option (ℤ × List ℕ)) (bytes : List ℕ) (i low k : ℕ) (inside : i < length bytes) (small : low < 2 ^ k)
     (before : all ≡ joined low (2 ^ k) (first_signed (width - k) (drop i bytes))) where
   -- any other byte gives seven bits
-  pub goes_on : (d : ℕ) → d ≡ get_or bytes i 0 - 2 ^ 7 → 2 ^ 7 ≤ get_or bytes i 0 → get_or bytes i 0 < 2 ^ 8 → k + 7 < width → width ≤ 64
+  pub goes_on : (d : ℕ) → d ≡ get_or bytes i 0 - 2 ^ 7 → 2 ^ 7 ≤ get_or bytes i 0 → get_or bytes i 0 < 2 ^ 8
+      → k + 7 < width → width ≤ 64
       → (bit_or low ((d * 2 ^ k) % 2 ^ 64) < 2 ^ (k + 7))
       × (all ≡ joined (bit_or low ((d * 2 ^ k) % 2 ^ 64)) (2 ^ (k + 7)) (first_signed (width - (k + 7)) (drop (i + 1) bytes)))
   goes_on d here more byte room most =

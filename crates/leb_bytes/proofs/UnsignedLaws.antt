@@ -6,6 +6,7 @@ use Rattle.std.proofs.lemmas.Option.{none-some, some_pair_parts, same_Some}
 use Rattle.std.proofs.Math.Nat.{mul-le-mul_left, mul-suc}
 use Rattle.std.proofs.lemmas.Nat.{shr_below, mod_below}
 use Rattle.std.specs.Option.{option_map}
+use Rattle.list_laws.proofs.Options.{map_some}
 use Rattle.leb_bytes.specs.Unsigned.{EncodesUnsigned, first_unsigned, unsigned_bytes, u32_bytes}
 use Rattle.leb_bytes.proofs.UnsignedSteps.{first-last, first-large, first-long, first-more}
 
@@ -14,10 +15,6 @@ encode_more : (width b m : ℕ) (bytes : List ℕ) → 2 ^ 7 ≤ b → b < 2 ^ 8
     → EncodesUnsigned (width - 7) bytes m → EncodesUnsigned width (b ∷ bytes) (2 ^ 7 * m + (b - 2 ^ 7))
 encode_more width b m [] more byte room high = absurd high
 encode_more width b m (c ∷ bytes) more byte room high = (more, byte, room, m, high, refl)
-
-pub option_map_some : {A B : Type 0} (f : A → B) (o : Option A) (y : B) → option_map f o ≡ Some y → (x : A) × (o ≡ Some x) × (f x ≡ y)
-option_map_some f None y e = absurd (none-some y e)
-option_map_some f (Some x) y e = (x, refl, same_Some (f x) y e)
 
 first-byte : (width b : ℕ) (bytes : List ℕ) → 2 ^ 8 ≤ b → first_unsigned width (b ∷ bytes) ≡ None
 first-byte width b bytes large = grind (arith, nat_tests)
@@ -34,7 +31,7 @@ found_unsigned width (b ∷ input) rest n e = elim (cases_lt b (2 ^ 7)) [
   | inr more ↦ elim (cases_lt b (2 ^ 8)) [
     | inl byte ↦ elim (cases_lt 7 width) [
       | inl room ↦
-          let high = option_map_some (λ (high : ℕ × List ℕ). (2 ^ 7 * high.0 + (b - 2 ^ 7), high.1)) (first_unsigned (width - 7) input) (n, rest)
+          let high = map_some (λ (high : ℕ × List ℕ). (2 ^ 7 * high.0 + (b - 2 ^ 7), high.1)) (first_unsigned (width - 7) input) (n, rest)
           (sym (first-more width b input more byte room) ∙ e) in
           let below = found_unsigned (width - 7) input high.0.1 high.0.0 high.1 in
           let value : 2 ^ 7 * high.0.0 + (b - 2 ^ 7) ≡ n = ap (λ (p : ℕ × List ℕ). p.0) high.2 in
@@ -49,7 +46,8 @@ found_unsigned width (b ∷ input) rest n e = elim (cases_lt b (2 ^ 7)) [
   ]
 ]
 
-pub only_unsigned : (width : ℕ) (bytes rest : List ℕ) (n : ℕ) → EncodesUnsigned width bytes n → first_unsigned width (bytes ++ rest) ≡ Some (n, rest)
+pub only_unsigned : (width : ℕ) (bytes rest : List ℕ) (n : ℕ) → EncodesUnsigned width bytes n
+    → first_unsigned width (bytes ++ rest) ≡ Some (n, rest)
 only_unsigned width [] rest n h = absurd h
 only_unsigned width (b ∷ []) rest n h = first-last width b rest h.0 h.1 ∙ ap (λ k. Some (k, rest)) (sym h.2)
 only_unsigned width (b ∷ c ∷ bytes) rest n h =
@@ -78,11 +76,13 @@ unfolding unsigned_bytes
 bytes-last zero n last = refl
 bytes-last (suc more) n last = grind (arith, nat_tests)
 
-pub bytes-more : (more n : ℕ) → 2 ^ 7 ≤ n → unsigned_bytes (suc more) n ≡ (n % 2 ^ 7 + 2 ^ 7) ∷ unsigned_bytes more (n / 2 ^ 7)
+pub bytes-more : (more n : ℕ) → 2 ^ 7 ≤ n
+    → unsigned_bytes (suc more) n ≡ (n % 2 ^ 7 + 2 ^ 7) ∷ unsigned_bytes more (n / 2 ^ 7)
 unfolding unsigned_bytes
 bytes-more more n large = grind (arith, nat_tests)
 
-pub shortest_unsigned : (width more n : ℕ) → n < 2 ^ width → n < 2 ^ (7 * suc more) → EncodesUnsigned width (unsigned_bytes more n) n
+pub shortest_unsigned : (width more n : ℕ) → n < 2 ^ width → n < 2 ^ (7 * suc more)
+    → EncodesUnsigned width (unsigned_bytes more n) n
 unfolding unsigned_bytes
 shortest_unsigned width zero n fits few = (few, fits, refl)
 shortest_unsigned width (suc more) n fits few = elim (cases_lt n (2 ^ 7)) [
@@ -102,7 +102,8 @@ shortest_unsigned width (suc more) n fits few = elim (cases_lt n (2 ^ 7)) [
   ]
 ]
 
-pub least_unsigned : (width more : ℕ) (bytes : List ℕ) (n : ℕ) → EncodesUnsigned width bytes n → length (unsigned_bytes more n) ≤ length bytes
+pub least_unsigned : (width more : ℕ) (bytes : List ℕ) (n : ℕ) → EncodesUnsigned width bytes n
+    → length (unsigned_bytes more n) ≤ length bytes
 unfolding unsigned_bytes
 least_unsigned width more [] n h = absurd h
 least_unsigned width more (b ∷ []) n h = let last : n < 2 ^ 7 = omega (arith, h.0, h.2) in rw (bytes-last more n last) (omega arith)
@@ -114,7 +115,8 @@ least_unsigned width (suc more) (b ∷ c ∷ bytes) n h = elim (cases_lt n (2 ^ 
       rw (bytes-more more n large) (rw (rest) (omega (arith, least_unsigned (width - 7) more (c ∷ bytes) h.3 h.4)))
 ]
 
-pub alone_unsigned : (width more : ℕ) (bytes : List ℕ) (n : ℕ) → EncodesUnsigned width bytes n → length bytes ≡ length (unsigned_bytes more n) → bytes ≡ unsigned_bytes more n
+pub alone_unsigned : (width more : ℕ) (bytes : List ℕ) (n : ℕ) → EncodesUnsigned width bytes n
+    → length bytes ≡ length (unsigned_bytes more n) → bytes ≡ unsigned_bytes more n
 unfolding unsigned_bytes
 alone_unsigned width more [] n h e = absurd h
 alone_unsigned width more (b ∷ []) n h e =

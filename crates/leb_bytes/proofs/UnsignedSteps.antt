@@ -7,7 +7,8 @@ use Rattle.std.proofs.Math.Nat.{mul-le-mul_left}
 use Rattle.std.specs.Option.{option_map}
 use Rattle.leb_bytes.specs.Unsigned.{first_unsigned}
 
-pub first-last : (width b : ℕ) (bytes : List ℕ) → b < 2 ^ 7 → b < 2 ^ width → first_unsigned width (b ∷ bytes) ≡ Some (b, bytes)
+pub first-last : (width b : ℕ) (bytes : List ℕ) → b < 2 ^ 7 → b < 2 ^ width
+    → first_unsigned width (b ∷ bytes) ≡ Some (b, bytes)
 first-last width b bytes last fits = grind (arith, nat_tests)
 
 pub first-large : (width b : ℕ) (bytes : List ℕ) → b < 2 ^ 7 → 2 ^ width ≤ b → first_unsigned width (b ∷ bytes) ≡ None
@@ -30,11 +31,13 @@ joined_more low place b None = refl
 joined_more low place b (Some read) = ap (λ n. Some (n, read.1)) (grind arith)
 
 -- the bits of one more byte, put above k bits
-pub above : (low b j k width : ℕ) → low < 2 ^ k → b < 2 ^ j → j + k ≤ width → bit_or low ((b * 2 ^ k) % 2 ^ width) ≡ low + 2 ^ k * b
+pub above : (low b j k width : ℕ) → low < 2 ^ k → b < 2 ^ j → j + k ≤ width
+    → bit_or low ((b * 2 ^ k) % 2 ^ width) ≡ low + 2 ^ k * b
 above low b j k width small digit room =
-    ap (bit_or low) (shl_whole b j k width digit room) ∙ or_comm low (b * 2 ^ k) ∙ or_shifted b k low small ∙ grind arith
+    ap (bit_or low) (shl_whole b j k width digit room) ∙ or_comm low (b * 2 ^ k) ∙ or_shifted b k low small
+    ∙ grind arith
 
--- so many more bits fit where they are put
+-- the bits fit where they are put
 pub above_fits : (low b k j : ℕ) → low < 2 ^ k → b < 2 ^ j → low + 2 ^ k * b < 2 ^ (k + j)
 above_fits low b k j small digit =
     let below : b + 1 ≤ 2 ^ j = omega arith in
@@ -53,12 +56,14 @@ module _ (all : Option (ℕ × List ℕ)) (bytes : List ℕ) (i low k : ℕ) (in
   pub stops : (b : ℕ) → b ≡ get_or bytes i 0 → b < 2 ^ 7 → b < 2 ^ (32 - k) → k ≤ 32
       → all ≡ Some (bit_or low ((b * 2 ^ k) % 2 ^ 32), drop (i + 1) bytes)
   stops b here last fits within =
-      before ∙ ap (λ left. joined low (2 ^ k) (first_unsigned (32 - k) left)) (drop_more bytes i 0 inside ∙ ap (λ x. x ∷ drop (i + 1) bytes) (sym here))
+      before
+      ∙ ap (λ left. joined low (2 ^ k) (first_unsigned (32 - k) left)) (drop_more bytes i 0 inside ∙ ap (λ x. x ∷ drop (i + 1) bytes) (sym here))
       ∙ ap (joined low (2 ^ k)) (first-last (32 - k) b (drop (i + 1) bytes) last fits)
       ∙ ap (λ n. Some (n, drop (i + 1) bytes)) (sym (above low b (32 - k) k 32 small fits (omega arith)))
 
   -- any other byte gives seven bits
-  pub goes_on : (d : ℕ) → d ≡ get_or bytes i 0 - 2 ^ 7 → 2 ^ 7 ≤ get_or bytes i 0 → get_or bytes i 0 < 2 ^ 8 → k + 7 < 32
+  pub goes_on : (d : ℕ) → d ≡ get_or bytes i 0 - 2 ^ 7 → 2 ^ 7 ≤ get_or bytes i 0 → get_or bytes i 0 < 2 ^ 8
+      → k + 7 < 32
       → (bit_or low ((d * 2 ^ k) % 2 ^ 32) < 2 ^ (k + 7))
       × (all ≡ joined (bit_or low ((d * 2 ^ k) % 2 ^ 32)) (2 ^ (k + 7)) (first_unsigned (32 - (k + 7)) (drop (i + 1) bytes)))
   goes_on d here more byte room =

@@ -3,7 +3,7 @@ use Rattle.std.specs.Prelude.{◌≡◌, ℕ, zero, suc, ◌+◌, ◌-◌, ◌/�
 use Rattle.std.specs.Option.{option_map}
 use Rattle.std.specs.Int.{w32, w64, cast_signed, cast_unsigned}
 
--- The bytes encode the signed number of so many bits. A byte below 2^7 is the last, and its seventh bit is the sign;
+-- The bytes encode the signed number of `width` bits. A byte below 2^7 is the last, and its seventh bit is the sign;
 -- one from 2^7 on has the low seven bits, and the bytes after it encode the rest.
 abbrev pub EncodesSigned : ℕ → List ℕ → ℤ → Type 0
 EncodesSigned width [] z = ⊥
@@ -38,7 +38,7 @@ abbrev pub fits_seven_bits : ℤ → Bool
 fits_seven_bits (pos n) = nat_lt n (2 ^ 6)
 fits_seven_bits (negsuc n) = nat_lt n (2 ^ 6)
 
--- the shortest encoding of a signed number, for which a byte and so many more are enough
+-- the shortest encoding of a signed number, for which a byte and `more` others are enough
 unfoldable pub signed_bytes : ℕ → ℤ → List ℕ
 signed_bytes zero z = low_bits z ∷ []
 signed_bytes (suc more) z =

@@ -2,7 +2,7 @@
 use Rattle.std.specs.Prelude.{◌≡◌, ℕ, zero, suc, ◌+◌, ◌-◌, ◌*◌, ◌/◌, ◌%◌, ◌^◌, ◌<◌, ◌≤◌, List, [], ◌∷◌, Option, Some, None, ◌&&◌, nat_lt, if◌then◌else◌}
 use Rattle.std.specs.Option.{option_map}
 
--- The bytes encode the unsigned number of so many bits. A byte below 2^7 is the last; one from 2^7 on has the low
+-- The bytes encode the unsigned number of `width` bits. A byte below 2^7 is the last; one from 2^7 on has the low
 -- seven bits, and the bytes after it encode the rest.
 abbrev pub EncodesUnsigned : ℕ → List ℕ → ℕ → Type 0
 EncodesUnsigned width [] n = ⊥
@@ -20,7 +20,7 @@ first_unsigned width (b ∷ bytes) =
     then option_map (λ high. (2 ^ 7 * high.0 + (b - 2 ^ 7), high.1)) (first_unsigned (width - 7) bytes)
     else None)
 
--- the shortest encoding of an unsigned number, for which a byte and so many more are enough
+-- the shortest encoding of an unsigned number, for which a byte and `more` others are enough
 unfoldable pub unsigned_bytes : ℕ → ℕ → List ℕ
 unsigned_bytes zero n = n ∷ []
 unsigned_bytes (suc more) n =

@@ -1,13 +1,13 @@
 //! What holds of the encodings, for the crates above.
-ghost use Rattle.std.specs.Prelude.{ℕ, ℤ, List, length, ◌<◌, ◌≤◌, ◌^◌, FitsSigned};
+ghost use Rattle.std.specs.Prelude.{ℕ, ℤ, List, ◌<◌, ◌^◌, FitsSigned};
 ghost use Rattle.std.specs.Int.{w32, w64, cast_unsigned};
-ghost use Rattle.leb_bytes.specs.Encoding.{IsPrefixFree, IsReadBy, IsShortest};
+ghost use Rattle.leb_bytes.specs.Encoding.{IsPrefixFree, IsReadBy, IsShortest, IsWithin};
 ghost use Rattle.leb_bytes.specs.Signed.{EncodesI32, EncodesI64, EncodesS32, EncodesS64, first_i32, first_i64, first_s32, first_s64, i32_bytes, i64_bytes, s64_bytes};
 ghost use Rattle.leb_bytes.specs.Unsigned.{EncodesU32, first_u32, u32_bytes};
 
 /// The encodings of a u32.
 pub fn u32_encoding()
-    ensures range { (bytes : List ℕ) (n : ℕ) → EncodesU32 bytes n → (n < 2 ^ 32) × (0 < length bytes) × (length bytes ≤ 5) }
+    ensures range { IsWithin EncodesU32 (λ n. n < 2 ^ 32) 5 }
     ensures prefix_free { IsPrefixFree EncodesU32 }
     ensures read { IsReadBy EncodesU32 first_u32 }
     ensures shortest { IsShortest EncodesU32 (λ n. n < 2 ^ 32) u32_bytes }
@@ -15,7 +15,7 @@ pub fn u32_encoding()
 
 /// The encodings of an s32.
 pub fn s32_encoding()
-    ensures range { (bytes : List ℕ) (z : ℤ) → EncodesS32 bytes z → FitsSigned w32 z × (0 < length bytes) × (length bytes ≤ 5) }
+    ensures range { IsWithin EncodesS32 (λ z. FitsSigned w32 z) 5 }
     ensures prefix_free { IsPrefixFree EncodesS32 }
     ensures read { IsReadBy EncodesS32 first_s32 }
     ensures shortest { IsShortest EncodesS32 (λ z. FitsSigned w32 z) s64_bytes }
@@ -23,7 +23,7 @@ pub fn s32_encoding()
 
 /// The encodings of an s64.
 pub fn s64_encoding()
-    ensures range { (bytes : List ℕ) (z : ℤ) → EncodesS64 bytes z → FitsSigned w64 z × (0 < length bytes) × (length bytes ≤ 10) }
+    ensures range { IsWithin EncodesS64 (λ z. FitsSigned w64 z) 10 }
     ensures prefix_free { IsPrefixFree EncodesS64 }
     ensures read { IsReadBy EncodesS64 first_s64 }
     ensures shortest { IsShortest EncodesS64 (λ z. FitsSigned w64 z) s64_bytes }

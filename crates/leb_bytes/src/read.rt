@@ -40,7 +40,8 @@ pub fn read_i32(bytes: &[u8], at: usize) -> Result<(i32, usize), BadLeb>
     // What is read is encoded there.
     ensures found { IfOk result (λ read. IsEncodedAt EncodesS32 bytes.now at read.1 read.0) }
     // What is encoded there is read.
-    ensures only { (next : ℕ) (number : ℤ) → IsEncodedAt EncodesS32 bytes.now at next number → result ≡ Ok (number, next) }
+    ensures only { (next : ℕ) (number : ℤ) → IsEncodedAt EncodesS32 bytes.now at next number
+        → result ≡ Ok (number, next) }
     // Where it is refused, nothing is encoded there.
     ensures bad { OnErr result ((next : ℕ) (number : ℤ) → IsEncodedAt EncodesS32 bytes.now at next number → ⊥) }
     // The same, as the front of what is left of the bytes.
@@ -61,7 +62,8 @@ pub fn read_i64(bytes: &[u8], at: usize) -> Result<(i64, usize), BadLeb>
     // What is read is encoded there.
     ensures found { IfOk result (λ read. IsEncodedAt EncodesS64 bytes.now at read.1 read.0) }
     // What is encoded there is read.
-    ensures only { (next : ℕ) (number : ℤ) → IsEncodedAt EncodesS64 bytes.now at next number → result ≡ Ok (number, next) }
+    ensures only { (next : ℕ) (number : ℤ) → IsEncodedAt EncodesS64 bytes.now at next number
+        → result ≡ Ok (number, next) }
     // Where it is refused, nothing is encoded there.
     ensures bad { OnErr result ((next : ℕ) (number : ℤ) → IsEncodedAt EncodesS64 bytes.now at next number → ⊥) }
     // The same, as the front of what is left of the bytes.
@@ -102,7 +104,7 @@ fn front_u32(bytes: &[u8]) -> Option<(u32, usize)>
     None
 }
 
-/// The signed number of so many bits that a front of the bytes encodes, and how many bytes it takes.
+/// The signed number of `width` bits that a front of the bytes encodes, and how many bytes it takes.
 #[inline(always)]
 fn front_signed(bytes: &[u8], width: u32) -> Option<(i64, usize)>
     requires { (0 < width) × (width ≤ 64) }

@@ -1,5 +1,5 @@
-//! Encodings that are written elsewhere: in the standard (Core 1.0, 5.2.2), in the DWARF standard (version 4, 7.6) and in
-//! descriptions of LEB128.
+//! Encodings that are written elsewhere: in the standard (Core 1.0, 5.2.2), in the DWARF standard (version 4, 7.6) and
+//! in descriptions of LEB128.
 use super::*;
 use std::alloc::Global;
 use std::test::Fail;
@@ -96,7 +96,7 @@ fn the_ends_of_s64(rt: HostRuntime) {
 }
 
 #[test]
-fn numbers_are_read_one_behind_another(rt: HostRuntime) {
+fn numbers_are_read_one_after_another(rt: HostRuntime) {
     let bytes = [0xe5, 0x8e, 0x26, 0x78, 0x00];
     assert_eq!(rt; read_u32(&bytes, 0), Ok((624_485, 3)));
     assert_eq!(rt; read_i32(&bytes, 3), Ok((-8, 4)));

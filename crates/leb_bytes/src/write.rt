@@ -27,7 +27,8 @@ pub fn push_u32(out: &mut Vec<u8>, number: u32) -> Result<(), NoMemory>
     Ok(())
 }
 
-/// Appends the shortest encoding of an s64, which is that of an s32 where the number is one. A refusal leaves the list as it was.
+/// Appends the shortest encoding of an s64, which is that of an s32 where the number is one. A refusal
+/// leaves the list as it was.
 #[inline]
 pub fn push_i64(out: &mut Vec<u8>, number: i64) -> Result<(), NoMemory>
     ensures ok { OnOk result (out.new.items ≡ out.old.items ++ s64_bytes number) }

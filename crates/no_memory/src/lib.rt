@@ -1,4 +1,4 @@
-//! Want of memory, the one answer that no contract of this project ties to a cause.
+//! Out of memory: the one answer that no contract of this project ties to a cause.
 #![tactic(auto)]
 
 use std::alloc::{AllocError, AllocFailed};

@@ -1,23 +1,16 @@
--- Bodies as they are written, a part behind another.
+-- Bodies as they are written, a part after another.
 use Rattle.std.proofs.Common.{◌≡◌, ℕ, zero, suc, ◌+◌, ◌<◌, List, [], ◌∷◌, ◌++◌, length, map, get_or, drop, replicate, None, refl, sym, ap, ◌∙◌, append_assoc}
 use Rattle.std.proofs.lemmas.List.{drop_more}
 use Rattle.wasm_syntax.specs.declared.signatures.FuncType.{FuncType}
 use Rattle.wasm_syntax.specs.declared.values.Val.{Val}
 use Rattle.wasm_syntax.specs.declared.instructions.Instr.{Instr}
 use Rattle.wasm_syntax.specs.declared.instructions.Instr.TheVariants.{Call, Drop}
-use Rattle.wasm_syntax.specs.declared.signatures.Limits.{Limits}
-use Rattle.wasm_syntax.specs.declared.modules.Import.{Import}
-use Rattle.wasm_syntax.specs.declared.modules.ElemSeg.{ElemSeg}
-use Rattle.wasm_syntax.specs.declared.modules.DataSeg.{DataSeg}
 use Rattle.wasm_syntax.specs.declared.modules.Func.{Func}
-use Rattle.wasm_syntax.specs.declared.modules.Global.{Global}
-use Rattle.wasm_syntax.specs.declared.modules.Export.{Export}
-use Rattle.wasm_syntax.specs.declared.modules.Custom.{Custom}
 use Rattle.wasm_syntax.specs.declared.modules.Module.{Module}
 use Rattle.wasm_syntax.specs.Nest.{Nest, flat}
 use Rattle.wasm_syntax.specs.Index.{func_type, imported_funcs}
-use Rattle.plain_replay.specs.Made.{drops, calls_nest, result_count, counter, answer_funcs, start_func, import_types, replay_module}
-use Rattle.plain_maker.specs.Parts.{host_call, start_type, start_export_at, layout_of_counts}
+use Rattle.plain_replay.specs.ReplayModule.{drops, calls_nest, result_count, counter, answer_funcs, start_func, import_types, replay_module}
+use Rattle.plain_maker.specs.Parts.{host_call, start_type, start_export_at, layout_of_counts, module_of_counts, module_of_parts}
 
 flat_drops : (count : ℕ) (rest : Nest) → flat (drops count rest) ≡ replicate count Drop ++ flat rest
 flat_drops zero rest = refl
@@ -40,22 +33,24 @@ counters_of : {X : Type 0} (xs : List X) → map (λ x. counter) xs ≡ replicat
 counters_of [] = refl
 counters_of (x ∷ xs) = ap (λ l. counter ∷ l) (counters_of xs)
 
+-- the same parts make the same module
+pub same_module : (answering : List Func) (start : Func) (types more_types : List FuncType) (funcs more_funcs : List Func) (imported more_imported defined more_defined : ℕ)
+    → types ≡ more_types → funcs ≡ more_funcs → imported ≡ more_imported → defined ≡ more_defined
+    → module_of_counts (types ++ start_type ∷ []) (answering ++ (funcs ++ start ∷ [])) imported defined
+    ≡ module_of_counts (more_types ++ start_type ∷ []) (answering ++ (more_funcs ++ start ∷ [])) more_imported more_defined
+same_module answering start types more_types funcs more_funcs imported more_imported defined more_defined types-are funcs-are imported-is defined-is =
+    ap (λ ts. module_of_counts (ts ++ start_type ∷ []) (answering ++ (funcs ++ start ∷ [])) imported defined) types-are
+    ∙ ap (λ fs. module_of_counts (more_types ++ start_type ∷ []) (answering ++ (fs ++ start ∷ [])) imported defined) funcs-are
+    ∙ ap (λ n. module_of_counts (more_types ++ start_type ∷ []) (answering ++ (more_funcs ++ start ∷ [])) n defined) imported-is
+    ∙ ap (module_of_counts (more_types ++ start_type ∷ []) (answering ++ (more_funcs ++ start ∷ [])) more_imported) defined-is
+
 -- a module of these parts is the replay module
-pub made_of : (m : Module) (table : List (List Val)) (calls : List ℕ) (types : List FuncType) (funcs answering : List Func) (start : Func) (globals : List Global) (exports : List Export) (customs : List Custom)
-    (imports : List Import) (tables memories : List Limits) (elems : List ElemSeg) (datas : List DataSeg)
-    → length m.imports ≡ imported_funcs m
-    → types ≡ m.types ++ start_type ∷ []
-    → answering ≡ answer_funcs table 0 (import_types m)
-    → start ≡ start_func m calls
-    → funcs ≡ answering ++ (m.funcs ++ start ∷ [])
-    → globals ≡ replicate (length m.imports) counter
-    → exports ≡ start_export_at (length m.imports + length m.funcs) ∷ []
-    → customs ≡ layout_of_counts (length m.imports) (length m.funcs) ∷ []
-    → imports ≡ [] → tables ≡ [] → memories ≡ [] → elems ≡ [] → datas ≡ []
-    → record { types = types; imports = imports; funcs = funcs; tables = tables; memories = memories; globals = globals; exports = exports; start = None; elems = elems; datas = datas; customs = customs } ≡ replay_module m table calls
-made_of m table calls types funcs answering start globals exports customs imports tables memories elems datas count types-are answering-are start-is funcs-are globals-are exports-are customs-are no-imports no-tables no-memories no-elems no-datas =
-    let made : funcs ≡ answer_funcs table 0 (import_types m) ++ (m.funcs ++ start_func m calls ∷ []) = funcs-are ∙ ap (λ l. l ++ (m.funcs ++ start ∷ [])) answering-are ∙ ap (λ s. answer_funcs table 0 (import_types m) ++ (m.funcs ++ s ∷ [])) start-is in
-    let counted : globals ≡ map (λ ty. counter) (import_types m) = globals-are ∙ ap (λ n. replicate n counter) count ∙ sym (counters_of (import_types m)) in
-    let exported : exports ≡ start_export_at (imported_funcs m + length m.funcs) ∷ [] = exports-are ∙ ap (λ n. start_export_at (n + length m.funcs) ∷ []) count in
-    let laid : customs ≡ layout_of_counts (imported_funcs m) (length m.funcs) ∷ [] = customs-are ∙ ap (λ n. layout_of_counts n (length m.funcs) ∷ []) count in
-    rw (types-are, made, counted, exported, laid, no-imports, no-tables, no-memories, no-elems, no-datas) refl
+pub made_of : (m : Module) (table : List (List Val)) (calls : List ℕ) (answering : List Func) (start : Func)
+    → length m.imports ≡ imported_funcs m → answering ≡ answer_funcs table 0 (import_types m) → start ≡ start_func m calls
+    → module_of_counts (m.types ++ start_type ∷ []) (answering ++ (m.funcs ++ start ∷ [])) (length m.imports) (length m.funcs) ≡ replay_module m table calls
+made_of m table calls answering start count answering-are start-is =
+    ap (λ fs. module_of_counts (m.types ++ start_type ∷ []) (fs ++ (m.funcs ++ start ∷ [])) (length m.imports) (length m.funcs)) answering-are
+    ∙ ap (λ s. module_of_counts (m.types ++ start_type ∷ []) (answer_funcs table 0 (import_types m) ++ (m.funcs ++ s ∷ [])) (length m.imports) (length m.funcs)) start-is
+    ∙ ap (λ n. module_of_counts (m.types ++ start_type ∷ []) (answer_funcs table 0 (import_types m) ++ (m.funcs ++ start_func m calls ∷ [])) n (length m.funcs)) count
+    ∙ ap (λ gs. module_of_parts (m.types ++ start_type ∷ []) (answer_funcs table 0 (import_types m) ++ (m.funcs ++ start_func m calls ∷ [])) gs (start_export_at (imported_funcs m + length m.funcs) ∷ []) (layout_of_counts (imported_funcs m) (length m.funcs) ∷ []))
+    (sym (counters_of (import_types m)))

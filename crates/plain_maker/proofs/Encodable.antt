@@ -15,7 +15,7 @@ use Rattle.wasm_syntax.specs.Nest.{Nest, IsNest, flat}
 use Rattle.wasm_syntax.specs.Index.{of_kind, func_import, imported_funcs, func_type}
 use Rattle.wasm_syntax.specs.Encoding.Encodable.{FitsU32, FitsFuncType, FitsConst, FitsInstr, FitsImport, FitsImportKind, FitsFunc, FitsGlobal, IsEncodable}
 use Rattle.plain_replay.specs.Forms.{IsAnswered, IsNumber}
-use Rattle.plain_replay.specs.Made.{tests, answer_nest, answer_func, values_of, answer_funcs, result_count, drops, calls_nest, start_func, counter, import_types, replay_module}
+use Rattle.plain_replay.specs.ReplayModule.{tests, answer_nest, answer_func, values_of, answer_funcs, result_count, drops, calls_nest, start_func, counter, import_types, replay_module}
 use Rattle.plain_maker.specs.Parts.{start_type}
 use Rattle.plain_maker.proofs.Imports.{AreAnswered, first_type}
 

@@ -2,8 +2,7 @@ pub mod Scans
 pub mod Imports
 pub mod Bodies
 pub mod Sizes
-pub mod Encodings
-pub mod MadeSizes
+pub mod ReplaySizes
 pub mod Encodable
 pub mod Plain
 pub mod PlainCalls

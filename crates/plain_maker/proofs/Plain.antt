@@ -3,7 +3,7 @@ use Rattle.std.proofs.Common.{◌≡◌, ℕ, ◌+◌, ◌^◌, ◌<◌, List, [
 use Rattle.std.specs.List.{AllByRecursion}
 use Rattle.std.proofs.lemmas.List.{length-append, length-map}
 use Rattle.std.proofs.lemmas.List.Elements.{recursion_from_All}
-use Rattle.std.proofs.lemmas.Option.{none-some, slice_get_within, get_or_from_slice_get, slice_get-get_or}
+use Rattle.std.proofs.lemmas.Option.{none-some, slice_get_within, slice_get-get_or}
 use Rattle.wasm_syntax.specs.declared.forms.Form.TheVariants.{Replay}
 use Rattle.wasm_syntax.specs.declared.values.Val.{Val}
 use Rattle.wasm_syntax.specs.declared.signatures.FuncType.{FuncType}
@@ -13,41 +13,17 @@ use Rattle.wasm_syntax.specs.Index.{of_kind, func_import, func_indices, imported
 use Rattle.wasm_syntax.specs.Encoding.Encodable.{FitsU32, IsEncodable}
 use Rattle.wasm_syntax.specs.Encoding.Shortest.{encoding_of}
 use Rattle.host_script.specs.declared.scripts.Script.{Script}
-use Rattle.host_script.specs.declared.scripts.Answer.{Answer}
-use Rattle.host_script.specs.declared.scripts.Response.{Response}
-use Rattle.host_script.specs.declared.scripts.ResponseEnd.TheVariants.{Return}
 use Rattle.host_script.specs.declared.scripts.Action.{Action}
 use Rattle.history_spec.specs.declared.entries.Entry.{Entry}
-use Rattle.history_spec.specs.Step.{response_to, response_of, response_or}
-use Rattle.plain_replay.specs.Forms.{IsIntegerCode, IsNumber, IsPlain, IsPlainAnswer, IsPlainCall, IsPlainResponse}
-use Rattle.plain_replay.specs.Made.{values_of, replay_module}
+use Rattle.plain_replay.specs.Forms.{IsIntegerCode, IsNumber, IsPlain, IsPlainAnswer, IsPlainCall}
+use Rattle.plain_replay.specs.ReplayModule.{values_of, replay_module}
 use Rattle.plain_replay.specs.Covers.{Covers, calling, returning}
+use Rattle.plain_replay.proofs.Plain.{plain_response, returned_number}
 use Rattle.plain_maker.proofs.Imports.{only_functions}
 use Rattle.plain_maker.proofs.Encodable.{made_encodable}
-use Rattle.plain_maker.proofs.Encodings.{few_parts}
+use Rattle.encoding_sizes.proofs.Lists.{few_parts}
 
 -- ---- answers
-
-at_place : {X : Type 0} (P : X → Type 0) (xs : List X) (i : ℕ) (x : X) → All P xs → slice_get xs i ≡ Some x → P x
-at_place P xs i x all found = subst P (get_or_from_slice_get xs i x x found) (all i x (slice_get_within xs i x found))
-
-plain_response : (answers : List (Option Answer)) (i k : ℕ) (response : Response) → All (λ answer. IfSome answer IsPlainAnswer) answers → response_to answers i k ≡ Some response → IsPlainResponse response
-plain_response answers i k response all h = go (slice_get answers i) refl h
-  where
-    inner : (answer : Answer) → IsPlainAnswer answer → (o : Option Response) → slice_get answer.calls k ≡ o → response_or o answer.rest ≡ Some response → IsPlainResponse response
-    inner answer plain None e q = absurd (none-some response (sym plain.rest ∙ q))
-    inner answer plain (Some found) e q = at_place IsPlainResponse answer.calls k response plain.calls (e ∙ q)
-
-    go : (o : Option (Option Answer)) → slice_get answers i ≡ o → option_and_then (λ answer. response_of answer k) (option_and_then (λ a. a) o) ≡ Some response → IsPlainResponse response
-    go None e q = absurd (none-some response q)
-    go (Some None) e q = absurd (none-some response q)
-    go (Some (Some answer)) e q = inner answer (at_place (λ answer. IfSome answer IsPlainAnswer) answers i (Some answer) all e) (slice_get answer.calls k) refl q
-
-returned_number : (value : Val) → IsPlainResponse (returning value) → IsNumber value
-returned_number value plain = let same : plain.value ≡ value = same_value plain.value value (sym plain.returns) in subst IsNumber same plain.number
-  where
-    same_value : (a b : Val) → Return (Some a) ≡ Return (Some b) → a ≡ b
-    same_value a b e = cc
 
 from_places : {X : Type 0} (P : X → Type 0) (xs : List X) → ((i : ℕ) (x : X) → slice_get xs i ≡ Some x → P x) → All P xs
 from_places P xs each k d within = each k (get_or xs k d) (slice_get-get_or xs k d within)
@@ -55,7 +31,7 @@ from_places P xs each k d within = each k (get_or xs k d) (slice_get-get_or xs k
 answers_numbers : (m : Module) (script : Script) (history : List Entry) (table : List (List Val)) (calls : List ℕ) → IsPlain m script → Covers script history table calls
     → (import : ℕ) → All IsNumber (values_of table import)
 answers_numbers m script history table calls plain covers import =
-    from_places IsNumber (values_of table import) (λ k value found. returned_number value (plain_response script.imports import k (returning value) plain.answers (covers.given import k value found)))
+    from_places IsNumber (values_of table import) (λ k value found. returned_number value (plain_response script.imports import k (returning value) (recursion_from_All (λ answer. IfSome answer IsPlainAnswer) script.imports plain.answers) (covers.given import k value found)))
 
 -- ---- calls
 

@@ -1,5 +1,5 @@
 -- What the code for plain scripts and their replay modules is made of.
-use Rattle.std.specs.Prelude.{◌≡◌, ℕ, List, [], ◌∷◌, ◌++◌, Option, Some, None, Bool, false, ◌&&◌, nat_eq, nat_le, codes, length, map, replicate}
+use Rattle.std.specs.Prelude.{◌≡◌, ℕ, ◌+◌, List, [], ◌∷◌, ◌++◌, Option, Some, None, Bool, false, ◌&&◌, nat_eq, nat_le, codes, length, map, replicate}
 use Rattle.std.specs.Prelude.{Vec}
 use Rattle.leb_bytes.specs.Unsigned.{u32_bytes}
 use Rattle.wasm_syntax.specs.declared.values.Val.{Val}
@@ -7,6 +7,8 @@ use Rattle.wasm_syntax.specs.declared.signatures.FuncType.{FuncType}
 use Rattle.wasm_syntax.specs.declared.instructions.Instr.{Instr}
 use Rattle.wasm_syntax.specs.declared.instructions.Instr.TheVariants.{If, End, Return as ReturnInstr, Call as CallInstr, Drop, LocalGet, LocalSet, GlobalGet, GlobalSet, Const}
 use Rattle.wasm_syntax.specs.declared.modules.Module.{Module}
+use Rattle.wasm_syntax.specs.declared.modules.Func.{Func as FuncCode}
+use Rattle.wasm_syntax.specs.declared.modules.Global.{Global as Counter}
 use Rattle.wasm_syntax.specs.declared.modules.Export.{Export}
 use Rattle.wasm_syntax.specs.declared.modules.ExportKind.TheVariants.{Func as ExportFunc}
 use Rattle.wasm_syntax.specs.declared.modules.Custom.{Custom}
@@ -18,7 +20,7 @@ use Rattle.host_script.specs.declared.scripts.Action.{Action}
 use Rattle.host_script.specs.declared.scripts.Action.TheVariants.{Call}
 use Rattle.history_spec.specs.Code.{i32_value}
 use Rattle.plain_replay.specs.Forms.{IsNumber}
-use Rattle.plain_replay.specs.Made.{i32_add, i32_eq, result_count}
+use Rattle.plain_replay.specs.ReplayModule.{counter, i32_add, i32_eq, result_count}
 
 -- ---- modules and scripts
 
@@ -48,7 +50,7 @@ abbrev pub takes_none : Option FuncType → Bool
 takes_none None = false
 takes_none (Some ty) = nat_eq (length ty.params) 0
 
--- a call without arguments of a function behind the imports that takes none
+-- a call without arguments of a function after the imports that takes none
 abbrev pub calls_plainly : Module → Action → Bool
 calls_plainly m (Call func args) =
     nat_eq (length args) 0 && (nat_le (length m.imports) func && takes_none (func_type m func))
@@ -86,3 +88,26 @@ start_export_at func = record { name = codes "_start"; kind = ExportFunc func }
 abbrev pub layout_of_counts : (imported defined : ℕ) → Custom
 layout_of_counts imported defined =
     record { name = codes "r3.layout"; bytes = u32_bytes imported ++ u32_bytes defined }
+
+-- the module of these parts, without any other
+abbrev pub module_of_parts : List FuncType → List FuncCode → List Counter → List Export → List Custom → Module
+module_of_parts types funcs globals exports customs =
+    record {
+      types = types;
+      imports = [];
+      funcs = funcs;
+      tables = [];
+      memories = [];
+      globals = globals;
+      exports = exports;
+      start = None;
+      elems = [];
+      datas = [];
+      customs = customs;
+    }
+
+-- the module of these types and functions, with a counter for each import, `_start` and the layout
+abbrev pub module_of_counts : List FuncType → List FuncCode → (imported defined : ℕ) → Module
+module_of_counts types funcs imported defined =
+    module_of_parts types funcs (replicate imported counter) (start_export_at (imported + defined) ∷ [])
+    (layout_of_counts imported defined ∷ [])

@@ -6,13 +6,14 @@ use Rattle.wasm_syntax.specs.Encoding.Modules.{Encodes}
 use Rattle.wasm_syntax.specs.Validity.{IsValid}
 use Rattle.trace_model.specs.declared.outcomes.Outcome.{Outcome}
 use Rattle.history_spec.specs.declared.entries.Entry.{Entry}
-use Rattle.history_spec.specs.Replayed.{Replays}
-use Rattle.plain_replay.specs.Made.{layout_of, entry_of}
+use Rattle.history_spec.specs.Replay.{Replays}
+use Rattle.plain_replay.specs.ReplayModule.{layout_of, entry_of}
 use Rattle.plain_replay.specs.Replay.{KeepsOriginals, StandsAlone}
 
 -- the bytes encode a valid module without imports that keeps the original's functions, and whose run
 -- shows exactly this history of the original and this outcome
-pub record IsReplay (m : Module) (history : List Entry) (outcome : Outcome) (replay : Module) (bytes : List ℕ) : Type 0 where
+pub record IsReplay (m : Module) (history : List Entry) (outcome : Outcome)
+    (replay : Module) (bytes : List ℕ) : Type 0 where
   pub encoded : Encodes ReplayForm bytes replay
   pub valid : IsValid replay
   pub originals : KeepsOriginals m replay

@@ -3,17 +3,13 @@
 ghost use Rattle.std.specs.Prelude.{◌≡◌, [], ◌∷◌, ◌++◌, ◌<◌, ◌≤◌, ◌^◌, IfOk, OnOk, length, map};
 ghost use Rattle.wasm_syntax.specs.declared.instructions.Instr.TheVariants.{Const};
 ghost use Rattle.history_spec.specs.Code.{i32_value};
-ghost use Rattle.plain_replay.specs.Made.{answer_func, one_i32};
+ghost use Rattle.plain_replay.specs.ReplayModule.{answer_func, one_i32};
 ghost use Rattle.plain_maker.specs.Parts.{arm, counting};
 
 use no_memory::NoMemory;
 use std::alloc::Global;
+use wasm_opcodes::{I32_ADD, I32_EQ};
 use wasm_syntax::{Func, Instr, List, Run, Runs, Val, ValType};
-
-/// The opcodes of `i32.eq` and `i32.add` (Core 1.0, 5.4.5).
-const EQUAL: u8 = 0x46;
-
-const ADD: u8 = 0x6a;
 
 /// The instructions beside the arms.
 const BESIDE_ARMS: usize = 8;
@@ -26,8 +22,8 @@ const IN_ARM: usize = 7;
 
 /// A function of this type that gives the answers in order, one a call: it reads the global that
 /// counts its calls into a local, moves the global on, and tests the local against each number of a
-/// call. Behind the last answer it traps.
-pub(crate) fn answering(
+/// call. After the last answer it traps.
+pub(crate) fn answer_func(
     alloc: Global,
     counter: u32,
     ty: u32,
@@ -71,7 +67,7 @@ fn push_counting(body: &mut Vec<Instr>, counter: u32) -> Result<(), NoMemory>
     body.push_reserved(Instr::LocalSet(0));
     body.push_reserved(Instr::LocalGet(0));
     body.push_reserved(constant(1));
-    body.push_reserved(Instr::Numeric(ADD));
+    body.push_reserved(Instr::Numeric(I32_ADD));
     body.push_reserved(Instr::GlobalSet(counter));
     Ok(())
 }
@@ -83,7 +79,7 @@ fn push_arm(body: &mut Vec<Instr>, number: u32, answer: u32) -> Result<(), NoMem
     body.reserve(IN_ARM)?;
     body.push_reserved(Instr::LocalGet(0));
     body.push_reserved(constant(number));
-    body.push_reserved(Instr::Numeric(EQUAL));
+    body.push_reserved(Instr::Numeric(I32_EQ));
     body.push_reserved(Instr::If(None));
     body.push_reserved(constant(answer));
     body.push_reserved(Instr::Return);

@@ -3,7 +3,7 @@
 ghost use Rattle.std.specs.Prelude.{◌≡◌, ◌++◌, ◌<◌, ◌^◌, IfOk, OnOk, length, option_map, slice_get};
 ghost use Rattle.wasm_syntax.specs.Index.{func_import, func_indices, func_type, type_at};
 ghost use Rattle.plain_replay.specs.Forms.{IsIntegerCode};
-ghost use Rattle.plain_replay.specs.Made.{result_count, start_func};
+ghost use Rattle.plain_replay.specs.ReplayModule.{result_count, start_func};
 ghost use Rattle.plain_maker.specs.Parts.{host_call};
 
 use no_memory::NoMemory;
@@ -11,8 +11,8 @@ use std::alloc::Global;
 use wasm_syntax::{Func, ImportKind, Instr, List, Module};
 
 /// A function that makes the host's calls in order and drops what they give. Its type is the one
-/// behind the module's own.
-pub(crate) fn calling(alloc: Global, module: &Module, calls: &[u32]) -> Result<Func, NoMemory>
+/// after the module's own.
+pub(crate) fn start_func(alloc: Global, module: &Module, calls: &[u32]) -> Result<Func, NoMemory>
     requires code { IsIntegerCode «module».now }
     requires few_types { length «module».now.types < 2 ^ 32 }
     ensures { IfOk result (λ func. func ≡ start_func «module».now calls.now) }

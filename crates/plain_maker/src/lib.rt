@@ -6,7 +6,7 @@ mod answers;
 mod calls;
 mod forms;
 mod laws;
-mod made;
+mod modules;
 mod plainness;
 mod scripts;
 #[cfg(test)]
@@ -14,6 +14,6 @@ mod tests;
 
 pub use forms::is_integer_code;
 pub use laws::{encoding_of_replay, replay_of_run, size_of_replay};
-pub use made::replay_module;
+pub use modules::replay_module;
 pub use no_memory::NoMemory;
 pub use plainness::is_plain;

@@ -3,6 +3,7 @@
 use super::*;
 use std::alloc::{AllocError, Global as Heap};
 use std::test::Fail;
+use wasm_opcodes::I32_ADD;
 use wasm_syntax::{
     Export, ExportKind, Func, FuncType, Import, ImportKind, Instr, List, Module, Name, ValType,
 };
@@ -21,7 +22,7 @@ fn adding(alloc: Heap) -> Result<Func, AllocError> {
     let body = vec![in alloc;
         Instr::Call(0),
         Instr::Call(0),
-        Instr::Numeric(0x6a),
+        Instr::Numeric(I32_ADD),
         Instr::End,
     ]?;
     Ok(Func {
@@ -79,19 +80,22 @@ fn replayed(alloc: Heap) -> Result<String, Fail> {
 }
 
 /// That module as it was worked out by hand.
-const WANTED: [&str; 15] = [
+const WANTED: [&str; 18] = [
     "Module { types: List { items: [FuncType { params: List { items: [] }, results: List { items: [I32] } }, ",
     "FuncType { params: List { items: [] }, results: List { items: [] } }] }, ",
     "imports: List { items: [] }, ",
     "funcs: List { items: [Func { ty: 0, locals: List { items: [Run { count: 1, ty: I32 }] }, body: List { items: [",
     "GlobalGet(0), LocalSet(0), LocalGet(0), Const(Val { ty: I32, bits: 1 }), Numeric(106), GlobalSet(0), ",
-    "LocalGet(0), Const(Val { ty: I32, bits: 0 }), Numeric(70), If(None), Const(Val { ty: I32, bits: 5 }), Return, End, ",
-    "LocalGet(0), Const(Val { ty: I32, bits: 1 }), Numeric(70), If(None), Const(Val { ty: I32, bits: 7 }), Return, End, ",
+    "LocalGet(0), Const(Val { ty: I32, bits: 0 }), Numeric(70), ",
+    "If(None), Const(Val { ty: I32, bits: 5 }), Return, End, ",
+    "LocalGet(0), Const(Val { ty: I32, bits: 1 }), Numeric(70), ",
+    "If(None), Const(Val { ty: I32, bits: 7 }), Return, End, ",
     "Unreachable, End] } }, ",
     "Func { ty: 0, locals: List { items: [] }, body: List { items: [Call(0), Call(0), Numeric(106), End] } }, ",
     "Func { ty: 1, locals: List { items: [] }, body: List { items: [Call(1), Drop, End] } }] }, ",
     "tables: List { items: [] }, memories: List { items: [] }, ",
-    "globals: List { items: [Global { ty: GlobalType { ty: I32, mutable: true }, init: List { items: [Const(Val { ty: I32, bits: 0 }), End] } }] }, ",
+    "globals: List { items: [Global { ty: GlobalType { ty: I32, mutable: true }, ",
+    "init: List { items: [Const(Val { ty: I32, bits: 0 }), End] } }] }, ",
     "exports: List { items: [Export { name: Name { text: \"_start\" }, kind: Func(2) }] }, ",
     "start: None, elems: List { items: [] }, datas: List { items: [] }, ",
     "customs: List { items: [Custom { name: Name { text: \"r3.layout\" }, bytes: List { items: [1, 1] } }] } }",

@@ -5,6 +5,7 @@ use Rattle.std.proofs.lemmas.List.Elements.{All-from_recursion}
 use Rattle.std.proofs.lemmas.Option.{none-some, same_Some}
 use Rattle.wasm_syntax.specs.declared.values.ValType.TheVariants.{I32}
 use Rattle.wasm_syntax.specs.declared.values.Val.{Val}
+use Rattle.wasm_opcodes.specs.declared.TheConstants.{I32_ADD, I32_EQZ, I32_SUB}
 use Rattle.wasm_syntax.specs.declared.instructions.Instr.TheVariants.{Unreachable, Loop, If, End, BrIf, Call as CallFunc, LocalGet, LocalSet, LocalTee, Const, Numeric}
 use Rattle.wasm_syntax.specs.declared.modules.Module.{Module}
 use Rattle.wasm_syntax.specs.declared.modules.Import.{Import}
@@ -20,39 +21,39 @@ use Rattle.history_spec.specs.declared.entries.Entry.{Entry}
 use Rattle.history_spec.specs.declared.entries.Entry.TheVariants.{HostCall, HostReturn, ImportCall, ImportReturn, Step, Trap}
 use Rattle.history_spec.specs.declared.entries.TrapKind.TheVariants.{Unreachable as ByUnreachable}
 use Rattle.history_spec.specs.Code.{i32_value}
-use Rattle.history_spec.specs.Step.{Stepped, Progress, Finished, response_to}
-use Rattle.history_spec.specs.Run.{Run, run_from, all_one, program_of, opening}
-use Rattle.history_spec.specs.Projection.{Shown, projection}
-use Rattle.history_spec.specs.Replayed.{Replays, instructions, program_alone, opening_alone}
+use Rattle.history_spec.specs.Step.{StepResult, Progress, Finished, response_to}
+use Rattle.history_spec.specs.Run.{Run, run_from, all_one, program_of, run_start}
+use Rattle.history_spec.specs.Projection.{Projection, projection}
+use Rattle.history_spec.specs.Replay.{Replays, instructions, program_alone, run_start_alone}
 use Rattle.plain_replay.specs.Forms.{IsIntegerCode, IsAnswered, IsDefined, IsNumber, IsPlainAnswer, IsPlainResponse, IsPlain, IsPlainCall}
-use Rattle.plain_replay.specs.Made.{values_of, replay_module, layout_of, entry_of}
+use Rattle.plain_replay.specs.ReplayModule.{values_of, replay_module, layout_of, entry_of}
 use Rattle.plain_replay.specs.Covers.{Covers, returning, answer_with, calling, import_calls}
 use Rattle.plain_replay.proofs.Plain.{replays}
 
 -- ---- what a run tells
 
-abbrev told_at : (List Entry → Outcome → Shown) → List Entry → Progress → Option Shown
+abbrev told_at : (List Entry → Outcome → Projection) → List Entry → Progress → Option Projection
 told_at show history (Finished outcome) = Some (show history outcome)
 told_at show history at = None
 
-abbrev told_run : (List Entry → Outcome → Shown) → Run → Option Shown
+abbrev told_run : (List Entry → Outcome → Projection) → Run → Option Projection
 told_run show run = told_at show run.history run.at
 
-abbrev told_from : (Stepped → Option Shown) → Result Stepped LinkFault → Option Shown
-told_from tell (Ok begun) = tell begun
+abbrev told_from : (StepResult → Option Projection) → Result StepResult LinkFault → Option Projection
+told_from tell (Ok initial) = tell initial
 told_from tell (Err fault) = None
 
-abbrev shown_as : List Entry → Outcome → Shown
+abbrev shown_as : List Entry → Outcome → Projection
 shown_as history outcome = record { history = history; outcome = outcome }
 
--- the history and outcome of a module's run under a script, within so many steps
-abbrev told : Module → Script → ℕ → Option Shown
-told m script steps = told_from (λ begun. told_run shown_as (run_from (program_of m script) all_one begun steps)) (opening m script)
+-- the history and outcome of a module's run under a script, within a number of steps
+abbrev told : Module → Script → ℕ → Option Projection
+told m script steps = told_from (λ initial. told_run shown_as (run_from (program_of m script) all_one initial steps)) (run_start m script)
 
 -- what its replay module shows
-abbrev told_again : Module → (table : List (List Val)) → (calls : List ℕ) → ℕ → Option Shown
+abbrev told_again : Module → (table : List (List Val)) → (calls : List ℕ) → ℕ → Option Projection
 told_again m table calls steps =
-    told_from (λ begun. told_run (projection (layout_of m)) (run_from (program_alone (replay_module m table calls)) instructions begun steps)) (opening_alone (replay_module m table calls) (entry_of m))
+    told_from (λ initial. told_run (projection (layout_of m)) (run_from (program_alone (replay_module m table calls)) instructions initial steps)) (run_start_alone (replay_module m table calls) (entry_of m))
 
 abbrev plain_script : (table : List (List Val)) → (calls : List ℕ) → Script
 plain_script table calls =
@@ -68,7 +69,7 @@ two_answers =
     record {
       types = record { params = []; results = I32 ∷ [] } ∷ [];
       imports = one_import ∷ [];
-      funcs = record { ty = 0; locals = []; body = CallFunc 0 ∷ CallFunc 0 ∷ Numeric 0x6A ∷ End ∷ [] } ∷ [];
+      funcs = record { ty = 0; locals = []; body = CallFunc 0 ∷ CallFunc 0 ∷ Numeric I32_ADD ∷ End ∷ [] } ∷ [];
       tables = [];
       memories = [];
       globals = [];
@@ -103,8 +104,8 @@ three_calls =
       funcs = record {
         ty = 1;
         locals = record { count = 1; ty = I32 } ∷ [];
-        body = Const (i32_value 3) ∷ LocalSet 0 ∷ Loop None ∷ CallFunc 0 ∷ Numeric 0x45 ∷ If None ∷ Unreachable ∷ End
-            ∷ LocalGet 0 ∷ Const (i32_value 1) ∷ Numeric 0x6B ∷ LocalTee 0 ∷ BrIf 0 ∷ End ∷ End ∷ [];
+        body = Const (i32_value 3) ∷ LocalSet 0 ∷ Loop None ∷ CallFunc 0 ∷ Numeric I32_EQZ ∷ If None ∷ Unreachable ∷ End
+            ∷ LocalGet 0 ∷ Const (i32_value 1) ∷ Numeric I32_SUB ∷ LocalTee 0 ∷ BrIf 0 ∷ End ∷ End ∷ [];
       } ∷ [];
       tables = [];
       memories = [];
@@ -140,10 +141,10 @@ three_calls_again : told_again three_calls used_answers (1 ∷ []) 80 ≡ Some (
 three_calls_again = refl
 
 -- one answer too few, and the generated code traps: the host's trap
-abbrev too_few : Option Shown
+abbrev too_few : Option Projection
 too_few = told_again three_calls ((i32_value 5 ∷ []) ∷ []) (1 ∷ []) 80
 
-three_calls_too_few : option_map (λ (s : Shown). s.outcome) too_few ≡ Some HostTrapped
+three_calls_too_few : option_map (λ (s : Projection). s.outcome) too_few ≡ Some HostTrapped
 three_calls_too_few = refl
 
 -- ---- the theorem at the second

@@ -1,5 +1,5 @@
 -- An activation of a function that two modules share does the same in both, in a store that has globals of
--- its own behind those of the other.
+-- its own after those of the other.
 use Rattle.std.proofs.Common.{◌≡◌, ℕ, zero, suc, ◌+◌, ◌-◌, List, [], ◌∷◌, ◌++◌, length, take, slice_get, slice_index_or, Option, Some, None, Bool, true, false, refl, sym, ap, ◌∙◌, subst, arith, length-append, length-take-le, length-set, ◌&&◌}
 use Rattle.wasm_syntax.specs.declared.values.ValType.{ValType}
 use Rattle.wasm_syntax.specs.declared.values.ValType.TheVariants.{I32, FuncRef}
@@ -10,19 +10,19 @@ use Rattle.wasm_syntax.specs.declared.instructions.Instr.TheVariants.{Unreachabl
 use Rattle.wasm_syntax.specs.Nest.{Nest, Empty, Plain, InBlock, InLoop, InIf, InIfElse}
 use Rattle.wasm_syntax.specs.Opcodes.{Access, numeric_shape, load_of, store_of}
 use Rattle.wasm_syntax.specs.Alike.{same_types, same_signature}
-use Rattle.history_spec.specs.Store.{Store, Memory, Table, grown, bytes_at, written, bytes_of, with_entry}
+use Rattle.history_spec.specs.Store.{Store, Memory, Table, grown_memory, bytes_at, with_bytes_at, bytes_of, with_entry}
 use Rattle.history_spec.specs.Code.{Code, signature}
 use Rattle.history_spec.specs.Numeric.{NumericValue, Computed, Undefined, Unsupported, numeric_value}
 use Rattle.history_spec.specs.Configuration.{Place, place, Label, Frame, topmost}
 use Rattle.history_spec.specs.Projection.{call_args}
-use Rattle.history_spec.specs.Instruction.{Effect, Goes, Calls, Returns, Executed, Did, Traps, NoRule, on, pop, takes, bits_at, gives, chosen, to_label, to_caller, branch_to, calls_if, calls_entry, loaded, stored, grows_to, entry_set, referred, computed, type_of_top, plain, execute_at, execute}
+use Rattle.history_spec.specs.Instruction.{Control, Goes, Calls, Returns, Execution, Did, Traps, NoRule, on, pop, takes, bits_at, gives, choice, to_label, to_caller, branch_to, calls_if, calls_entry, load_result, store_result, grow_result, table_result, referent, numeric_result, type_of_top, execute_plain, execute_at, execute}
 use Rattle.plain_replay.proofs.Lists.{get_front, set_front, topmost_length, popped_length, alike_length}
 
--- the store with more globals behind its own
+-- the store with more globals after its own
 abbrev pub beside : List Val → Store → Store
 beside own store = record store { globals = store.globals ++ own }
 
-abbrev pub effect_beside : List Val → Effect → Effect
+abbrev pub effect_beside : List Val → Control → Control
 effect_beside own (Goes store frame) = Goes (beside own store) frame
 effect_beside own (Calls frame func args) = Calls frame func args
 effect_beside own (Returns results) = Returns results
@@ -34,7 +34,7 @@ pub record AreArguments (code : Code) (func : ℕ) (args : List Val) : Type 0 wh
   pub number : length args ≡ length ty.params
 
 -- what an instruction of an activation leaves as it is
-abbrev pub Keeps : Code → Store → Frame → (operands : List Val) → (found : Option ℕ) → Effect → Type 0
+abbrev pub Keeps : Code → Store → Frame → (operands : List Val) → (found : Option ℕ) → Control → Type 0
 Keeps code store frame operands found (Goes after next) =
     (next.func ≡ frame.func) × (next.arity ≡ frame.arity) × (length after.globals ≡ length store.globals)
 Keeps code store frame operands found (Calls waiting func args) =
@@ -42,7 +42,7 @@ Keeps code store frame operands found (Calls waiting func args) =
 Keeps code store frame operands found (Returns results) = length results ≡ frame.arity
 
 -- where the one has a rule, the other does the same
-abbrev pub Follows : Code → List Val → Store → Frame → Executed → Executed → Type 0
+abbrev pub Follows : Code → List Val → Store → Frame → Execution → Execution → Type 0
 Follows code own store frame NoRule e = Unit {0}
 Follows code own store frame (Traps kind operands found) e = e ≡ Traps kind operands found
 Follows code own store frame (Did operands results found effect) e =
@@ -54,7 +54,7 @@ pub record Shares (original replay : Code) : Type 0 where
   pub signatures : (f : ℕ) (ty : FuncType) → signature original f ≡ Some ty → signature replay f ≡ Some ty
 
 module _ (original replay : Code) (shares : Shares original replay) (own : List Val) where
-  on_follows : {X : Type 0} (store : Store) (frame : Frame) (o o' : Option X) (go go' : X → Executed)
+  on_follows : {X : Type 0} (store : Store) (frame : Frame) (o o' : Option X) (go go' : X → Execution)
       → ((x : X) → o ≡ Some x → o' ≡ Some x)
       → ((x : X) → o ≡ Some x → Follows original own store frame (go x) (go' x))
       → Follows original own store frame (on o go) (on o' go')
@@ -62,7 +62,7 @@ module _ (original replay : Code) (shares : Shares original replay) (own : List 
   on_follows store frame (Some x) o' go go' there k =
       subst (λ o. Follows original own store frame (go x) (on o go')) (sym (there x refl)) (k x refl)
 
-  takes_follows : (store : Store) (frame : Frame) (types : List ValType) (go go' : List Val → List Val → Executed)
+  takes_follows : (store : Store) (frame : Frame) (types : List ValType) (go go' : List Val → List Val → Execution)
       → ((operands rest : List Val) → length operands ≡ length types → Follows original own store frame (go operands rest) (go' operands rest))
       → Follows original own store frame (takes frame types go) (takes frame types go')
   takes_follows store frame types go go' k =
@@ -88,8 +88,8 @@ module _ (original replay : Code) (shares : Shares original replay) (own : List 
   branch_follows store frame operands values (label ∷ labels) zero = label_follows store frame operands (topmost label.arity values) labels label
   branch_follows store frame operands values (label ∷ labels) (suc l) = branch_follows store frame operands values labels l
 
-  chosen_follows : (store : Store) (frame : Frame) (bits : ℕ) (a a' b b' : Executed) → Follows original own store frame a a' → Follows original own store frame b b'
-      → Follows original own store frame (chosen bits a b) (chosen bits a' b')
+  chosen_follows : (store : Store) (frame : Frame) (bits : ℕ) (a a' b b' : Execution) → Follows original own store frame a a' → Follows original own store frame b b'
+      → Follows original own store frame (choice bits a b) (choice bits a' b')
   chosen_follows store frame zero a a' b b' p q = q
   chosen_follows store frame (suc n) a a' b b' p q = p
 
@@ -127,27 +127,27 @@ module _ (original replay : Code) (shares : Shares original replay) (own : List 
   -- ---- memory, table, numbers
 
   loaded_follows : (store : Store) (frame : Frame) (next : Place) (memory : Memory) (access : Access) (operands rest : List Val) (o : Option (List ℕ))
-      → Follows original own store frame (loaded store frame next memory access operands rest o) (loaded (beside own store) frame next memory access operands rest o)
+      → Follows original own store frame (load_result store frame next memory access operands rest o) (load_result (beside own store) frame next memory access operands rest o)
   loaded_follows store frame next memory access operands rest None = refl
   loaded_follows store frame next memory access operands rest (Some bytes) = (refl, (refl, refl, refl))
 
   stored_follows : (store : Store) (frame : Frame) (next : Place) (memory : Memory) (operands rest : List Val) (o : Option (List ℕ))
-      → Follows original own store frame (stored store frame next memory operands rest o) (stored (beside own store) frame next memory operands rest o)
+      → Follows original own store frame (store_result store frame next memory operands rest o) (store_result (beside own store) frame next memory operands rest o)
   stored_follows store frame next memory operands rest None = refl
   stored_follows store frame next memory operands rest (Some bytes) = (refl, (refl, refl, refl))
 
   grows_follows : (store : Store) (frame : Frame) (next : Place) (memory : Memory) (operands rest : List Val) (o : Option Memory)
-      → Follows original own store frame (grows_to store frame next memory operands rest o) (grows_to (beside own store) frame next memory operands rest o)
+      → Follows original own store frame (grow_result store frame next memory operands rest o) (grow_result (beside own store) frame next memory operands rest o)
   grows_follows store frame next memory operands rest None = (refl, (refl, refl, refl))
   grows_follows store frame next memory operands rest (Some larger) = (refl, (refl, refl, refl))
 
   set_follows : (store : Store) (frame : Frame) (next : Place) (table : Table) (operands rest : List Val) (o : Option (List (Option ℕ)))
-      → Follows original own store frame (entry_set store frame next table operands rest o) (entry_set (beside own store) frame next table operands rest o)
+      → Follows original own store frame (table_result store frame next table operands rest o) (table_result (beside own store) frame next table operands rest o)
   set_follows store frame next table operands rest None = refl
   set_follows store frame next table operands rest (Some entries) = (refl, (refl, refl, refl))
 
   computed_follows : (store : Store) (frame : Frame) (next : Place) (ty : ValType) (operands rest : List Val) (value : NumericValue)
-      → Follows original own store frame (computed store frame next ty operands rest value) (computed (beside own store) frame next ty operands rest value)
+      → Follows original own store frame (numeric_result store frame next ty operands rest value) (numeric_result (beside own store) frame next ty operands rest value)
   computed_follows store frame next ty operands rest (Computed bits) = (refl, (refl, refl, refl))
   computed_follows store frame next ty operands rest (Undefined kind) = refl
   computed_follows store frame next ty operands rest Unsupported = tt
@@ -155,7 +155,7 @@ module _ (original replay : Code) (shares : Shares original replay) (own : List 
   -- ---- any one instruction
 
   plain_follows : (store : Store) (frame : Frame) (next : Place) (i : Instr)
-      → Follows original own store frame (plain original store frame next i) (plain replay (beside own store) frame next i)
+      → Follows original own store frame (execute_plain original store frame next i) (execute_plain replay (beside own store) frame next i)
   plain_follows store frame next Unreachable = refl
   plain_follows store frame next Nop = (refl, (refl, refl, refl))
   plain_follows store frame next (Br l) = branch_follows store frame [] frame.values frame.labels l
@@ -207,13 +207,13 @@ module _ (original replay : Code) (shares : Shares original replay) (own : List 
       on_follows store frame (store_of at.op) (store_of at.op) _ _ (λ x e. e) (λ access has.
       on_follows store frame store.memory store.memory _ _ (λ x e. e) (λ memory is.
       takes_follows store frame (I32 ∷ access.ty ∷ []) _ _ (λ operands rest e.
-      stored_follows store frame next memory operands rest (written memory.bytes (bits_at operands 0 + at.offset) (bytes_of access.width (bits_at operands 1))))))
+      stored_follows store frame next memory operands rest (with_bytes_at memory.bytes (bits_at operands 0 + at.offset) (bytes_of access.width (bits_at operands 1))))))
   plain_follows store frame next MemorySize =
       on_follows store frame store.memory store.memory _ _ (λ x e. e) (λ memory is. (refl, (refl, refl, refl)))
   plain_follows store frame next MemoryGrow =
       on_follows store frame store.memory store.memory _ _ (λ x e. e) (λ memory is.
       takes_follows store frame (I32 ∷ []) _ _ (λ operands rest e.
-      grows_follows store frame next memory operands rest (grown memory (bits_at operands 0))))
+      grows_follows store frame next memory operands rest (grown_memory memory (bits_at operands 0))))
   plain_follows store frame next (Const value) = (refl, (refl, refl, refl))
   plain_follows store frame next (Numeric op) =
       on_follows store frame (numeric_shape op) (numeric_shape op) _ _ (λ x e. e) (λ shape has.
@@ -224,7 +224,7 @@ module _ (original replay : Code) (shares : Shares original replay) (own : List 
   plain_follows store frame next (TableSet zero) =
       on_follows store frame store.table store.table _ _ (λ x e. e) (λ table is.
       takes_follows store frame (I32 ∷ FuncRef ∷ []) _ _ (λ operands rest e.
-      set_follows store frame next table operands rest (with_entry table.entries (bits_at operands 0) (referred (bits_at operands 1)))))
+      set_follows store frame next table operands rest (with_entry table.entries (bits_at operands 0) (referent (bits_at operands 1)))))
   plain_follows store frame next (TableSet (suc t)) = tt
   plain_follows store frame next i = tt
 

@@ -12,15 +12,15 @@ use Rattle.wasm_syntax.specs.declared.instructions.Instr.TheVariants.{If, End, R
 use Rattle.wasm_syntax.specs.declared.modules.Module.{Module}
 use Rattle.wasm_syntax.specs.declared.modules.Func.{Func}
 use Rattle.wasm_syntax.specs.declared.modules.Import.{Import}
-use Rattle.wasm_syntax.specs.Nest.{Nest, Empty, Read, Ended, Outside, flat, in_front, reading, whole, nest_of}
+use Rattle.wasm_syntax.specs.Nest.{Nest, Empty, Within, InEnd, Outside, flat, in_front, open_nest, closed_nest, nest_of}
 use Rattle.wasm_syntax.specs.Index.{of_kind, func_import, func_indices, imported_funcs, func_type, type_at}
 use Rattle.host_script.specs.declared.scripts.Response.{Response}
 use Rattle.history_spec.specs.Code.{Definition, code_of, definition_of, signature, definition, i32_value}
 use Rattle.history_spec.specs.Step.{Program, response_to, response_of, response_or}
-use Rattle.history_spec.specs.Replayed.{program_alone}
+use Rattle.history_spec.specs.Replay.{program_alone}
 use Rattle.history_spec.specs.Projection.{Original, side, side_from, side_past}
 use Rattle.plain_replay.specs.Forms.{answer_type, IsAnswered, IsIntegerCode}
-use Rattle.plain_replay.specs.Made.{tests, answer_nest, i32_eq, i32_add, body_of, answer_func, values_of, answer_funcs, drops, calls_nest, result_count, start_func, layout_of, entry_of, import_types, replay_module}
+use Rattle.plain_replay.specs.ReplayModule.{tests, answer_nest, i32_eq, i32_add, body_of, answer_func, values_of, answer_funcs, drops, calls_nest, result_count, start_func, layout_of, entry_of, import_types, replay_module}
 use Rattle.plain_replay.specs.Covers.{returning, answer_with}
 use Rattle.plain_replay.proofs.Lists.{get_front, get_behind}
 use Rattle.plain_replay.proofs.Mirrors.{Agrees}
@@ -28,7 +28,7 @@ use Rattle.plain_replay.proofs.Maker.{IsMade}
 
 -- ---- bodies
 
-reads_tests : (number : ℕ) (values : List Val) → reading (flat (tests number values) ++ End ∷ []) ≡ Read (tests number values) (Ended Outside Empty)
+reads_tests : (number : ℕ) (values : List Val) → open_nest (flat (tests number values) ++ End ∷ []) ≡ Within (tests number values) (InEnd Outside Empty)
 reads_tests number [] = refl
 reads_tests number (value ∷ values) =
     ap (λ r. in_front (LocalGet 0) (in_front (Const (i32_value number)) (in_front i32_eq (in_front (If None) (in_front (Const value) (in_front Return (in_front End r)))))))
@@ -36,14 +36,14 @@ reads_tests number (value ∷ values) =
 
 reads_answer : (counter : ℕ) (values : List Val) → nest_of (body_of (answer_nest counter values)) ≡ Some (answer_nest counter values)
 reads_answer counter values =
-    ap (λ r. whole (in_front (GlobalGet counter) (in_front (LocalSet 0) (in_front (LocalGet 0) (in_front (Const (i32_value 1)) (in_front i32_add (in_front (GlobalSet counter) r)))))))
+    ap (λ r. closed_nest (in_front (GlobalGet counter) (in_front (LocalSet 0) (in_front (LocalGet 0) (in_front (Const (i32_value 1)) (in_front i32_add (in_front (GlobalSet counter) r)))))))
     (reads_tests 0 values)
 
-reads_drops : (count : ℕ) (nest : Nest) → reading (flat nest ++ End ∷ []) ≡ Read nest (Ended Outside Empty) → reading (flat (drops count nest) ++ End ∷ []) ≡ Read (drops count nest) (Ended Outside Empty)
+reads_drops : (count : ℕ) (nest : Nest) → open_nest (flat nest ++ End ∷ []) ≡ Within nest (InEnd Outside Empty) → open_nest (flat (drops count nest) ++ End ∷ []) ≡ Within (drops count nest) (InEnd Outside Empty)
 reads_drops zero nest h = h
 reads_drops (suc count) nest h = ap (λ r. in_front Drop r) (reads_drops count nest h)
 
-reads_calls : (m : Module) (calls : List ℕ) → reading (flat (calls_nest m calls) ++ End ∷ []) ≡ Read (calls_nest m calls) (Ended Outside Empty)
+reads_calls : (m : Module) (calls : List ℕ) → open_nest (flat (calls_nest m calls) ++ End ∷ []) ≡ Within (calls_nest m calls) (InEnd Outside Empty)
 reads_calls m [] = refl
 reads_calls m (func ∷ calls) = ap (λ r. in_front (Call func) r) (reads_drops (result_count (func_type m func)) (calls_nest m calls) (reads_calls m calls))
 
@@ -51,7 +51,7 @@ pub defines_answer : (counter ty : ℕ) (values : List Val) → definition_of (a
 defines_answer counter ty values = ap (option_map (λ nest. record { locals = I32 ∷ []; body = nest })) (reads_answer counter values)
 
 pub defines_start : (m : Module) (calls : List ℕ) → definition_of (start_func m calls) ≡ Some (record { locals = []; body = calls_nest m calls })
-defines_start m calls = ap (λ r. option_map (λ nest. record { locals = []; body = nest }) (whole r)) (reads_calls m calls)
+defines_start m calls = ap (λ r. option_map (λ nest. record { locals = []; body = nest }) (closed_nest r)) (reads_calls m calls)
 
 -- ---- the functions in the imports' places
 

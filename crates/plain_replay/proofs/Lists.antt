@@ -7,7 +7,7 @@ use Rattle.wasm_syntax.specs.declared.values.ValType.{ValType}
 use Rattle.wasm_syntax.specs.Alike.{same_types, same_type}
 use Rattle.history_spec.specs.Configuration.{topmost}
 use Rattle.history_spec.specs.Code.{types_of}
-use Rattle.history_spec.specs.Instruction.{pop, popped_as, popped_if, Popped}
+use Rattle.history_spec.specs.Instruction.{pop, operands_as, operands_if, Operands}
 
 -- ---- items
 
@@ -37,15 +37,15 @@ topmost_length count values results h =
     let p = cond_some (nat_le count (length values)) (reverse (take count values)) results h in
     ap length (sym p.1) ∙ length-reverse (take count values) ∙ length-take-le count values (leb-true count (length values) p.0)
 
-popped_of : (types : List ValType) (values : List Val) (o : Option (List Val)) (p : Popped) → popped_as types values o ≡ Some p → (o ≡ Some p.operands) × (same_types types (types_of p.operands) ≡ true)
+popped_of : (types : List ValType) (values : List Val) (o : Option (List Val)) (p : Operands) → operands_as types values o ≡ Some p → (o ≡ Some p.operands) × (same_types types (types_of p.operands) ≡ true)
 popped_of types values None p h = absurd (none-some p h)
 popped_of types values (Some operands) p h = go (same_types types (types_of operands)) refl h
   where
-    go : (b : Bool) → same_types types (types_of operands) ≡ b → popped_if b (record { operands = operands; rest = drop (length types) values }) ≡ Some p → (Some operands ≡ Some p.operands) × (same_types types (types_of p.operands) ≡ true)
-    go true e q = let here = same_Some _ p q in (ap (λ (x : Popped). Some x.operands) here, subst (λ (x : Popped). same_types types (types_of x.operands) ≡ true) here e)
+    go : (b : Bool) → same_types types (types_of operands) ≡ b → operands_if b (record { operands = operands; rest = drop (length types) values }) ≡ Some p → (Some operands ≡ Some p.operands) × (same_types types (types_of p.operands) ≡ true)
+    go true e q = let here = same_Some _ p q in (ap (λ (x : Operands). Some x.operands) here, subst (λ (x : Operands). same_types types (types_of x.operands) ≡ true) here e)
     go false e q = absurd (none-some p q)
 
-pub popped_length : (types : List ValType) (values : List Val) (p : Popped) → pop types values ≡ Some p → length p.operands ≡ length types
+pub popped_length : (types : List ValType) (values : List Val) (p : Operands) → pop types values ≡ Some p → length p.operands ≡ length types
 popped_length types values p h = topmost_length (length types) values p.operands (popped_of types values (topmost (length types) values) p h).0
 
 pub alike_length : (xs ys : List ValType) → same_types xs ys ≡ true → length xs ≡ length ys

@@ -21,10 +21,10 @@ use Rattle.history_spec.specs.Code.{Definition, signature, definition, i32_value
 use Rattle.history_spec.specs.Configuration.{Place, place, Frame, Activation, InModule, InMain, InImport}
 use Rattle.history_spec.specs.Instruction.{Goes, Calls, Did, on, takes, gives, calls, execute}
 use Rattle.history_spec.specs.Settle.{deliver}
-use Rattle.history_spec.specs.Step.{Program, Goes_on, Finished, Stepped, stepped, after_entries, come_to_stand, entered, entered_as, response_to}
-use Rattle.history_spec.specs.Projection.{Layout, Appended, side, shown, return_shown, side_from}
+use Rattle.history_spec.specs.Step.{Program, Running, Finished, StepResult, step_result, after_entries, after_settling, enter_function, enter_defined, response_to}
+use Rattle.history_spec.specs.Projection.{Layout, Appended, side, shown_entries, shown_return, side_from}
 use Rattle.plain_replay.specs.Forms.{answer_type}
-use Rattle.plain_replay.specs.Made.{tests, answer_nest, i32_eq, i32_add, values_of, drops, calls_nest, result_count, layout_of, entry_of}
+use Rattle.plain_replay.specs.ReplayModule.{tests, answer_nest, i32_eq, i32_add, values_of, drops, calls_nest, result_count, layout_of, entry_of}
 use Rattle.plain_replay.specs.Covers.{calling}
 use Rattle.plain_replay.proofs.Follows.{AreArguments, beside}
 use Rattle.plain_replay.proofs.Lists.{no_items}
@@ -42,15 +42,15 @@ abbrev pub start_frame : Module → (values : List Val) → Nest → (number : �
 start_frame m values nest number =
     record { func = entry_of m; arity = 0; locals = []; values = values; labels = []; at = place nest number }
 
-abbrev standing_at : Store → Frame → List Activation → Stepped
-standing_at store frame rest = stepped [] (Goes_on (record { store = store; stack = InModule frame ∷ rest; counts = [] }))
+abbrev standing_at : Store → Frame → List Activation → StepResult
+standing_at store frame rest = step_result [] (Running (record { store = store; stack = InModule frame ∷ rest; counts = [] }))
 
 module _ (layout : Layout) (replay : Program) where
   -- the test for this call's number is found, and its value returned
   tests_lead : (values : List Val) (d number k n import : ℕ) (value : Val) (waiting : Frame) (below : List Activation) (store : Store) (args : List Val)
       → IsOutside (side layout import) → slice_get values d ≡ Some value → k ≡ number + d
       → (args' : List Val) × Leads layout replay (import ∷ funcs (InModule waiting ∷ below)) args (standing_at store (answer_frame import (i32_value k ∷ []) [] (tests number values) n) (InModule waiting ∷ below))
-      (import ∷ funcs (InModule waiting ∷ below)) args' (after_entries (Exit import (value ∷ []) ∷ []) (come_to_stand store [] (deliver (InModule waiting ∷ below) (value ∷ []))))
+      (import ∷ funcs (InModule waiting ∷ below)) args' (after_entries (Exit import (value ∷ []) ∷ []) (after_settling store [] (deliver (InModule waiting ∷ below) (value ∷ []))))
   tests_lead [] d number k n import value waiting below store args outside found is = absurd (none-some value found)
   tests_lead (v ∷ values) zero number k n import value waiting below store args outside found is = (
     [],
@@ -62,7 +62,7 @@ module _ (layout : Layout) (replay : Program) where
         (goes_leads layout replay (answer_frame import locals (i32_value 1 ∷ []) nest3 (n + 1 + 1 + 1)) (in_if [] body (n + 1 + 1 + 1 + 1)) rest store store _ (i32_value 1 ∷ []) [] None outside refl history o
         (goes_leads layout replay (in_if [] body (n + 1 + 1 + 1 + 1)) (in_if (v ∷ []) (Plain Returning Empty) (n + 1 + 1 + 1 + 1 + 1)) rest store store _ [] (v ∷ []) None outside refl history o
         (returns_leads layout replay (in_if (v ∷ []) (Plain Returning Empty) (n + 1 + 1 + 1 + 1 + 1)) rest store [] [] [] (v ∷ []) None outside refl history o
-        (subst (λ w. Shows layout replay (import ∷ funcs rest) [] (after_entries (Exit import (w ∷ []) ∷ []) (come_to_stand store [] (deliver rest (w ∷ [])))) history o) (sym (same_Some v value found)) shows)))))),
+        (subst (λ w. Shows layout replay (import ∷ funcs rest) [] (after_entries (Exit import (w ∷ []) ∷ []) (after_settling store [] (deliver rest (w ∷ [])))) history o) (sym (same_Some v value found)) shows)))))),
   )
     where
       rest : List Activation
@@ -83,7 +83,7 @@ module _ (layout : Layout) (replay : Program) where
       in_if : List Val → Nest → ℕ → Frame
       in_if values' nest number' =
           let next : Place = place (tests (number + 1) values) (n + 1 + 1 + 1 + 1 + 2) in
-          record { func = import; arity = 1; locals = locals; values = values'; labels = record { arity = 0; below = []; target = next; behind = next } ∷ []; at = place nest number' }
+          record { func = import; arity = 1; locals = locals; values = values'; labels = record { arity = 0; below = []; target = next; after_block = next } ∷ []; at = place nest number' }
 
       equal : truth (k == number) ≡ 1
       equal = let same : (k == number) ≡ true = grind (arith, nat_tests) in ap truth same
@@ -112,7 +112,7 @@ module _ (layout : Layout) (replay : Program) where
       past : Frame
       past =
           let next : Place = place (tests (number + 1) (w ∷ values)) (n + 1 + 1 + 1 + 1 + 2) in
-          record { func = import; arity = 1; locals = locals; values = []; labels = record { arity = 0; below = []; target = next; behind = next } ∷ []; at = place Empty (n + 1 + 1 + 1 + 1 + 2) }
+          record { func = import; arity = 1; locals = locals; values = []; labels = record { arity = 0; below = []; target = next; after_block = next } ∷ []; at = place Empty (n + 1 + 1 + 1 + 1 + 2) }
 
       differ : truth (k == number) ≡ 0
       differ = let apart : (k == number) ≡ false = grind (arith, nat_tests) in ap truth apart
@@ -138,7 +138,7 @@ module _ (layout : Layout) (replay : Program) where
   answer_leads : (values : List Val) (k import : ℕ) (value : Val) (waiting : Frame) (below : List Activation) (store : Store) (args : List Val)
       → IsOutside (side layout import) → slice_get store.globals import ≡ Some (i32_value k) → slice_get values k ≡ Some value
       → (args' : List Val) × Leads layout replay (import ∷ funcs (InModule waiting ∷ below)) args (standing_at store (answer_frame import (i32_value 0 ∷ []) [] (answer_nest import values) 0) (InModule waiting ∷ below))
-      (import ∷ funcs (InModule waiting ∷ below)) args' (after_entries (Exit import (value ∷ []) ∷ []) (come_to_stand (with_global store import (i32_value ((k + 1) % 2 ^ 32))) [] (deliver (InModule waiting ∷ below) (value ∷ []))))
+      (import ∷ funcs (InModule waiting ∷ below)) args' (after_entries (Exit import (value ∷ []) ∷ []) (after_settling (with_global store import (i32_value ((k + 1) % 2 ^ 32))) [] (deliver (InModule waiting ∷ below) (value ∷ []))))
   answer_leads [] k import value waiting below store args outside counter found = absurd (none-some value found)
   answer_leads (v ∷ values) k import value waiting below store args outside counter found =
       let next = tests_lead layout replay (v ∷ values) k 0 k 6 import value waiting below (with_global store import moved) (moved ∷ []) outside found (omega arith) in (
@@ -231,10 +231,10 @@ module _ (m : Module) (table : List (List Val)) (original replay : Program) (mad
   pub start_plays : (count : ℕ) (values : List Val) → length values ≡ count → (remaining : List ℕ) (number : ℕ) (counts : List ℕ) (own : List Val) (store : Store)
       → AreCalls m remaining → CountersOf original.code.imported counts own
       → Plays (layout_of m) original replay 0 (CountersOf original.code.imported) (WaitsFor m) counts store (entry_of m ∷ []) (InMain [] ∷ [])
-      (come_to_stand (beside own store) [] (deliver (InModule (start_frame m values (drops count (calls_nest m remaining)) number) ∷ InMain [] ∷ []) [])) (InMain (map calling remaining))
+      (after_settling (beside own store) [] (deliver (InModule (start_frame m values (drops count (calls_nest m remaining)) number) ∷ InMain [] ∷ []) [])) (InMain (map calling remaining))
   start_plays zero [] number_is [] number counts own store fit counters = λ args.
-      shows_entry (layout_of m) replay (entry_of m ∷ []) [] args args (HostReturn (entry_of m) []) [] (stepped [] (Finished Ended)) [] Ended
-      (λ rest. ap (λ callee. return_shown Appended callee (entry_of m) [] ++ shown (layout_of m) [] args rest) (appended m)) refl (shows_ended (layout_of m) replay [] args)
+      shows_entry (layout_of m) replay (entry_of m ∷ []) [] args args (HostReturn (entry_of m) []) [] (step_result [] (Finished Ended)) [] Ended
+      (λ rest. ap (λ callee. shown_return Appended callee (entry_of m) [] ++ shown_entries (layout_of m) [] args rest) (appended m)) refl (shows_ended (layout_of m) replay [] args)
   start_plays zero [] number_is (func ∷ remaining) number counts own store fit counters =
       let next = drops (result_count (func_type m func)) (calls_nest m remaining) in
       let waiting = start_frame m [] next (number + 1) in
@@ -265,37 +265,37 @@ module _ (m : Module) (table : List (List Val)) (original replay : Program) (mad
       let does : execute replay.code (beside own store) frame ≡ Did (value ∷ []) [] None (Goes (beside own store) after) =
       ap (λ o. on o (λ p. gives (beside own store) frame (place next (number + 1)) p.operands p.rest [])) (pop_one value values) in
       plays_earlier (layout_of m) replay original 0 (CountersOf original.code.imported) (WaitsFor m) (InMain (map calling remaining)) counts store (entry_of m ∷ []) (entry_of m ∷ []) (InMain [] ∷ [])
-      (standing_at (beside own store) frame (InMain [] ∷ [])) (come_to_stand (beside own store) [] (deliver (InModule after ∷ InMain [] ∷ []) []))
+      (standing_at (beside own store) frame (InMain [] ∷ [])) (after_settling (beside own store) [] (deliver (InModule after ∷ InMain [] ∷ []) []))
       (λ args. (value ∷ [], goes_leads (layout_of m) replay frame after (InMain [] ∷ []) (beside own store) (beside own store) args (value ∷ []) [] None outside_start does))
       (start_plays count values (omega (arith, number_is)) remaining (number + 1) counts own store fit counters)
 
   start_resumes : (actions : List Action) (count : ℕ) (frames rest : List Activation) (results : List Val) (counts : List ℕ) (own : List Val) (store : Store)
       → WaitsAt m actions count frames → rest ≡ InMain [] ∷ [] → length results ≡ count → CountersOf original.code.imported counts own
-      → Plays (layout_of m) original replay 0 (CountersOf original.code.imported) (WaitsFor m) counts store (funcs (frames ++ rest)) rest (come_to_stand (beside own store) [] (deliver (frames ++ rest) results)) (InMain actions)
+      → Plays (layout_of m) original replay 0 (CountersOf original.code.imported) (WaitsFor m) counts store (funcs (frames ++ rest)) rest (after_settling (beside own store) [] (deliver (frames ++ rest) results)) (InMain actions)
   start_resumes actions count frames rest results counts own store waits under number counters =
       let values = reverse results ++ [] in
       let as_many : length values ≡ count = ap length (append-nil (reverse results)) ∙ length-reverse results ∙ number in
       let plays = start_plays count values as_many waits.remaining waits.number counts own store waits.fit counters in
-      subst (λ below. Plays (layout_of m) original replay 0 (CountersOf original.code.imported) (WaitsFor m) counts store (funcs (frames ++ below)) below (come_to_stand (beside own store) [] (deliver (frames ++ below) results)) (InMain actions)) (sym under)
-      (subst (λ above. Plays (layout_of m) original replay 0 (CountersOf original.code.imported) (WaitsFor m) counts store (funcs (above ++ InMain [] ∷ [])) (InMain [] ∷ []) (come_to_stand (beside own store) [] (deliver (above ++ InMain [] ∷ []) results)) (InMain actions)) (sym waits.is)
-      (subst (λ work. Plays (layout_of m) original replay 0 (CountersOf original.code.imported) (WaitsFor m) counts store (entry_of m ∷ []) (InMain [] ∷ []) (come_to_stand (beside own store) [] (deliver (InModule (start_frame m [] (drops count (calls_nest m waits.remaining)) waits.number) ∷ InMain [] ∷ []) results)) (InMain work)) (sym waits.host) plays))
+      subst (λ below. Plays (layout_of m) original replay 0 (CountersOf original.code.imported) (WaitsFor m) counts store (funcs (frames ++ below)) below (after_settling (beside own store) [] (deliver (frames ++ below) results)) (InMain actions)) (sym under)
+      (subst (λ above. Plays (layout_of m) original replay 0 (CountersOf original.code.imported) (WaitsFor m) counts store (funcs (above ++ InMain [] ∷ [])) (InMain [] ∷ []) (after_settling (beside own store) [] (deliver (above ++ InMain [] ∷ []) results)) (InMain actions)) (sym waits.is)
+      (subst (λ work. Plays (layout_of m) original replay 0 (CountersOf original.code.imported) (WaitsFor m) counts store (entry_of m ∷ []) (InMain [] ∷ []) (after_settling (beside own store) [] (deliver (InModule (start_frame m [] (drops count (calls_nest m waits.remaining)) waits.number) ∷ InMain [] ∷ []) results)) (InMain work)) (sym waits.host) plays))
 
   -- a call of an import is answered
   import_answers : (import : ℕ) (args : List Val) (response : Response) (counts : List ℕ) (own : List Val) (store : Store) (waiting : Frame) (below : List Activation)
       → nat_lt import original.code.imported ≡ true → AreArguments original.code import args
       → response_to original.answers import (slice_index counts import) ≡ Some response → CountersOf original.code.imported counts own → length store.globals ≡ 0
       → Plays (layout_of m) original replay 0 (CountersOf original.code.imported) (WaitsFor m) (slice_set counts import (slice_index counts import + 1)) store (import ∷ funcs (InModule waiting ∷ below)) (InModule waiting ∷ below)
-      (entered replay.code (beside own store) [] import args (InModule waiting ∷ below)) (InImport import args response.actions response.end)
+      (enter_function replay.code (beside own store) [] import args (InModule waiting ∷ below)) (InImport import args response.actions response.end)
   import_answers import args response counts own store waiting below imported fit found counters known =
-      subst (λ actions. Plays (layout_of m) original replay 0 (CountersOf original.code.imported) (WaitsFor m) counts' store inside rest (entered replay.code (beside own store) [] import args rest) (InImport import args actions response.end)) (sym (made.actions import k response found))
-      (subst (λ end. Plays (layout_of m) original replay 0 (CountersOf original.code.imported) (WaitsFor m) counts' store inside rest (entered replay.code (beside own store) [] import args rest) (InImport import args [] end)) (sym given.1) (
+      subst (λ actions. Plays (layout_of m) original replay 0 (CountersOf original.code.imported) (WaitsFor m) counts' store inside rest (enter_function replay.code (beside own store) [] import args rest) (InImport import args actions response.end)) (sym (made.actions import k response found))
+      (subst (λ end. Plays (layout_of m) original replay 0 (CountersOf original.code.imported) (WaitsFor m) counts' store inside rest (enter_function replay.code (beside own store) [] import args rest) (InImport import args [] end)) (sym given.1) (
         own',
         (length-set counts import (k + 1) ∙ counters.0, ap (λ globals. slice_set globals import moved) counters.1 ∙ counter_set counts import (k + 1)),
         λ args0.
             let leads = answer_leads (layout_of m) replay (values_of table import) k import given.0 waiting below (beside own store) args0 outside counter given.2 in (
               leads.0,
-              subst (λ t. Leads (layout_of m) replay inside args0 t inside leads.0 (after_entries (Exit import (given.0 ∷ []) ∷ []) (come_to_stand (beside own' store) [] (deliver rest (given.0 ∷ []))))) (sym enters)
-                  (subst (λ after. Leads (layout_of m) replay inside args0 (standing_at (beside own store) (answer_frame import (i32_value 0 ∷ []) [] (answer_nest import (values_of table import)) 0) rest) inside leads.0 (after_entries (Exit import (given.0 ∷ []) ∷ []) (come_to_stand after [] (deliver rest (given.0 ∷ []))))) moves leads.1),
+              subst (λ t. Leads (layout_of m) replay inside args0 t inside leads.0 (after_entries (Exit import (given.0 ∷ []) ∷ []) (after_settling (beside own' store) [] (deliver rest (given.0 ∷ []))))) (sym enters)
+                  (subst (λ after. Leads (layout_of m) replay inside args0 (standing_at (beside own store) (answer_frame import (i32_value 0 ∷ []) [] (answer_nest import (values_of table import)) 0) rest) inside leads.0 (after_entries (Exit import (given.0 ∷ []) ∷ []) (after_settling after [] (deliver rest (given.0 ∷ []))))) moves leads.1),
             ),
       ))
     where
@@ -351,11 +351,11 @@ module _ (m : Module) (table : List (List Val)) (original replay : Program) (mad
       d : Definition
       d = record { locals = I32 ∷ []; body = answer_nest import (values_of table import) }
 
-      enters : entered replay.code (beside own store) [] import args rest ≡ standing_at (beside own store) (answer_frame import (i32_value 0 ∷ []) [] (answer_nest import (values_of table import)) 0) rest
+      enters : enter_function replay.code (beside own store) [] import args rest ≡ standing_at (beside own store) (answer_frame import (i32_value 0 ∷ []) [] (answer_nest import (values_of table import)) 0) rest
       enters =
-          ap (λ ty. entered_as ty (definition replay.code import) (beside own store) [] import args rest) (made.agrees.shares.signatures import answer_type (made.answer_types import imported))
-          ∙ ap (λ d. entered_as (Some answer_type) d (beside own store) [] import args rest) (made.answer_bodies import imported)
-          ∙ ap (λ args. entered_as (Some answer_type) (Some d) (beside own store) [] import args rest) no_args
+          ap (λ ty. enter_defined ty (definition replay.code import) (beside own store) [] import args rest) (made.agrees.shares.signatures import answer_type (made.answer_types import imported))
+          ∙ ap (λ d. enter_defined (Some answer_type) d (beside own store) [] import args rest) (made.answer_bodies import imported)
+          ∙ ap (λ args. enter_defined (Some answer_type) (Some d) (beside own store) [] import args rest) no_args
 
   pub player : IsPlayer (layout_of m) original replay 0 (CountersOf original.code.imported) (WaitsFor m)
   player = record { outside = outside; resumes = resumes; answers = import_answers }
@@ -368,7 +368,7 @@ module _ (m : Module) (table : List (List Val)) (original replay : Program) (mad
 
       resumes : (host : Activation) (count : ℕ) (frames rest : List Activation) (results : List Val) (counts : List ℕ) (own : List Val) (store : Store)
           → WaitsFor m host count frames → Under (layout_of m) host rest → length results ≡ count → CountersOf original.code.imported counts own → length store.globals ≡ 0
-          → Plays (layout_of m) original replay 0 (CountersOf original.code.imported) (WaitsFor m) counts store (funcs (frames ++ rest)) rest (come_to_stand (beside own store) [] (deliver (frames ++ rest) results)) host
+          → Plays (layout_of m) original replay 0 (CountersOf original.code.imported) (WaitsFor m) counts store (funcs (frames ++ rest)) rest (after_settling (beside own store) [] (deliver (frames ++ rest) results)) host
       resumes (InModule frame) count frames rest results counts own store waits under number counters known = absurd waits
       resumes (InMain actions) count frames rest results counts own store waits under number counters known =
           start_resumes actions count frames rest results counts own store waits under number counters

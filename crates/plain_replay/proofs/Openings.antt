@@ -14,17 +14,17 @@ use Rattle.host_script.specs.declared.scripts.Script.{Script}
 use Rattle.host_script.specs.declared.scripts.Supply.{Supply}
 use Rattle.host_script.specs.declared.scripts.LinkFault.{LinkFault}
 use Rattle.host_script.specs.declared.scripts.Action.TheVariants.{Call}
-use Rattle.host_script.specs.Supplied.{first_fault, fault_or, supplied as supplied_for, globals_in, given_values, if_imported, supply_unless, supply_for, supply_of}
+use Rattle.host_script.specs.Supply.{first_fault, fault_or, import_match as supplied_for, globals_in, given_values, if_imported, supply_unless, supply_for, supply_of}
 use Rattle.history_spec.specs.Store.{Store}
 use Rattle.history_spec.specs.Code.{i32_value}
 use Rattle.history_spec.specs.Configuration.{InMain}
 use Rattle.history_spec.specs.Settle.{settle}
-use Rattle.history_spec.specs.Step.{come_to_stand, start}
+use Rattle.history_spec.specs.Step.{after_settling, start}
 use Rattle.history_spec.specs.Instantiation.{instantiate, limits_of, new_memory, new_table, global_value, store_unless, first_false, elem_fits, data_fits, with_datas, with_elems}
-use Rattle.history_spec.specs.Run.{program_of, started, supplied, opening}
-use Rattle.history_spec.specs.Replayed.{alone, opening_alone}
+use Rattle.history_spec.specs.Run.{program_of, start_or_fault, start_with_supply, run_start}
+use Rattle.history_spec.specs.Replay.{alone, run_start_alone}
 use Rattle.plain_replay.specs.Forms.{IsAnswered, IsIntegerCode}
-use Rattle.plain_replay.specs.Made.{counter, import_types, replay_module}
+use Rattle.plain_replay.specs.ReplayModule.{counter, import_types, replay_module}
 use Rattle.plain_replay.proofs.Maker.{CountersOf}
 
 -- ---- a module of integer code
@@ -88,9 +88,9 @@ module _ (m : Module) (code : IsIntegerCode m) (script : Script) (none : script.
       ∙ ap (λ i. store_by [] [] [] [] [] [] i alone) code.datas
 
   -- the run begins with the host's own work
-  pub opens : opening m script ≡ Ok (come_to_stand empty_store (replicate (imported_funcs m) 0) (settle (InMain script.main ∷ [])))
-  opens =
-      ap (supplied m script) supplies ∙ ap (started m script) instantiates
+  pub starts : run_start m script ≡ Ok (after_settling empty_store (replicate (imported_funcs m) 0) (settle (InMain script.main ∷ [])))
+  starts =
+      ap (start_with_supply m script) supplies ∙ ap (start_or_fault m script) instantiates
       ∙ ap (λ func. Ok (start (program_of m script) func empty_store (replicate (imported_funcs m) 0) script.main)) code.start
 
 -- ---- the replay module
@@ -99,8 +99,8 @@ abbrev pub counters_at_first : Module → List Val
 counters_at_first m = map (global_value []) (map (λ ty. counter) (import_types m))
 
 pub opens_alone : (m : Module) (table : List (List Val)) (calls : List ℕ) (entry : ℕ)
-    → opening_alone (replay_module m table calls) entry
-    ≡ Ok (come_to_stand (record { memory = None; table = None; globals = counters_at_first m }) [] (settle (InMain (Call entry [] ∷ []) ∷ [])))
+    → run_start_alone (replay_module m table calls) entry
+    ≡ Ok (after_settling (record { memory = None; table = None; globals = counters_at_first m }) [] (settle (InMain (Call entry [] ∷ []) ∷ [])))
 opens_alone m table calls entry = refl
 
 all_zero : (types : List ℕ) → map (global_value []) (map (λ ty. counter) types) ≡ map (λ count. i32_value (count % 2 ^ 32)) (replicate (length types) 0)

@@ -19,16 +19,16 @@ use Rattle.history_spec.specs.declared.entries.Entry.{Entry}
 use Rattle.history_spec.specs.Code.{code_of}
 use Rattle.history_spec.specs.Configuration.{InMain}
 use Rattle.history_spec.specs.Settle.{settle}
-use Rattle.history_spec.specs.Step.{Stepped, Finished, come_to_stand, response_to, response_of, response_or}
-use Rattle.history_spec.specs.Run.{run_from, all_one, program_of, opening}
-use Rattle.history_spec.specs.Replayed.{Replays}
+use Rattle.history_spec.specs.Step.{StepResult, Finished, after_settling, response_to, response_of, response_or}
+use Rattle.history_spec.specs.Run.{run_from, all_one, program_of, run_start}
+use Rattle.history_spec.specs.Replay.{Replays}
 use Rattle.plain_replay.specs.Forms.{IsIntegerCode, IsUnreferring, IsNumber, IsPlain, IsPlainAnswer, IsPlainCall, IsPlainResponse}
-use Rattle.plain_replay.specs.Made.{values_of, layout_of, entry_of, replay_module}
+use Rattle.plain_replay.specs.ReplayModule.{values_of, layout_of, entry_of, replay_module}
 use Rattle.plain_replay.specs.Covers.{Covers, import_calls, calling, returning}
 use Rattle.plain_replay.specs.Replay.{KeepsOriginals, StandsAlone}
 use Rattle.plain_replay.proofs.Maker.{AreCalls, TakesNone}
 use Rattle.plain_replay.proofs.Functions.{original_at, types_shared, signatures_shared, start_type}
-use Rattle.plain_replay.proofs.Openings.{empty_store, opens}
+use Rattle.plain_replay.proofs.Openings.{empty_store, starts}
 use Rattle.plain_replay.proofs.Parts.{part_runs}
 use Rattle.plain_replay.proofs.Whole.{replays_own}
 use Rattle.plain_replay.proofs.Valid.{made_valid}
@@ -61,12 +61,12 @@ no_count (suc n) (suc i) = no_count n i
 
 -- ---- the theorem
 
-pub replays : (m : Module) (script : Script) (begun : Stepped) (k : ℕ) (outcome : Outcome) (table : List (List Val)) (calls : List ℕ)
-    → IsIntegerCode m → IsPlain m script → opening m script ≡ Ok begun
-    → (run_from (program_of m script) all_one begun k).at ≡ Finished outcome
-    → Covers script (run_from (program_of m script) all_one begun k).history table calls
-    → Replays (replay_module m table calls) (layout_of m) (entry_of m) (run_from (program_of m script) all_one begun k).history outcome
-replays m script begun k outcome table calls code plain opened ended covers =
+pub replays : (m : Module) (script : Script) (initial : StepResult) (k : ℕ) (outcome : Outcome) (table : List (List Val)) (calls : List ℕ)
+    → IsIntegerCode m → IsPlain m script → run_start m script ≡ Ok initial
+    → (run_from (program_of m script) all_one initial k).at ≡ Finished outcome
+    → Covers script (run_from (program_of m script) all_one initial k).history table calls
+    → Replays (replay_module m table calls) (layout_of m) (entry_of m) (run_from (program_of m script) all_one initial k).history outcome
+replays m script initial k outcome table calls code plain opened ended covers =
     subst (λ s. (run_from (program_of m script) all_one s k).at ≡ Finished outcome → Covers script (run_from (program_of m script) all_one s k).history table calls
     → Replays (replay_module m table calls) (layout_of m) (entry_of m) (run_from (program_of m script) all_one s k).history outcome) begins from_start ended covers
   where
@@ -76,17 +76,17 @@ replays m script begun k outcome table calls code plain opened ended covers =
     more : (more : List ℕ) × (covers.rest ≡ map calling more)
     more = made_calls m covers.rest (behind_calls m calls covers.rest main)
 
-    first : List Action → Stepped
-    first actions = come_to_stand empty_store (replicate (imported_funcs m) 0) (settle (InMain actions ∷ []))
+    first : List Action → StepResult
+    first actions = after_settling empty_store (replicate (imported_funcs m) 0) (settle (InMain actions ∷ []))
 
     all_calls : script.main ≡ map calling calls ++ map calling more.0
     all_calls = covers.made ∙ ap (λ l. map calling calls ++ l) more.1
 
-    same_ok : (opening : Result Stepped LinkFault) (s t : Stepped) → opening ≡ Ok s → opening ≡ Ok t → s ≡ t
-    same_ok opening s t e f = cc
+    same_ok : (run_start : Result StepResult LinkFault) (s t : StepResult) → run_start ≡ Ok s → run_start ≡ Ok t → s ≡ t
+    same_ok run_start s t e f = cc
 
-    begins : first (map calling calls ++ map calling more.0) ≡ begun
-    begins = ap first (sym all_calls) ∙ same_ok (opening m script) (first script.main) begun (opens m code script plain.globals) opened
+    begins : first (map calling calls ++ map calling more.0) ≡ initial
+    begins = ap first (sym all_calls) ∙ same_ok (run_start m script) (first script.main) initial (starts m code script plain.globals) opened
 
     from_start : (run_from (program_of m script) all_one (first (map calling calls ++ map calling more.0)) k).at ≡ Finished outcome
         → Covers script (run_from (program_of m script) all_one (first (map calling calls ++ map calling more.0)) k).history table calls
@@ -129,7 +129,7 @@ plain_response answers i k response all h = go (slice_get answers i) refl h
     go (Some None) e q = absurd (none-some response q)
     go (Some (Some answer)) e q = inner answer (at_place (λ answer. IfSome answer IsPlainAnswer) answers i (Some answer) all e) (slice_get answer.calls k) refl q
 
-returned_number : (value : Val) → IsPlainResponse (returning value) → IsNumber value
+pub returned_number : (value : Val) → IsPlainResponse (returning value) → IsNumber value
 returned_number value plain = let same : plain.value ≡ value = same_value plain.value value (sym plain.returns) in subst IsNumber same plain.number
   where
     same_value : (a b : Val) → Return (Some a) ≡ Return (Some b) → a ≡ b

@@ -17,9 +17,9 @@ use Rattle.history_spec.specs.declared.entries.TrapKind.{TrapKind}
 use Rattle.history_spec.specs.Store.{Store}
 use Rattle.history_spec.specs.Code.{Code, Definition, signature, definition}
 use Rattle.history_spec.specs.Configuration.{Frame, Activation, InModule, InMain, InImport, Config, with_results}
-use Rattle.history_spec.specs.Instruction.{Effect, Goes, Calls, Returns, Executed, Did, Traps, NoRule, execute}
+use Rattle.history_spec.specs.Instruction.{Control, Goes, Calls, Returns, Execution, Did, Traps, NoRule, execute}
 use Rattle.history_spec.specs.Settle.{AtEnd, Within, Gives, TooFew, at_end, return_entry, return_from, deliver}
-use Rattle.history_spec.specs.Step.{Program, Goes_on, Finished, Faulted, Stuck, Stepped, stepped, after_entries, come_to_stand, entered, entered_as, frame_of, response_to, answered, called, after_effect, after_instruction, step}
+use Rattle.history_spec.specs.Step.{Program, Running, Finished, Faulted, Stuck, StepResult, step_result, after_entries, after_settling, enter_function, enter_defined, frame_of, response_to, answer_call, call_function, after_control, after_instruction, step}
 use Rattle.history_spec.specs.Run.{run_from, all_one}
 use Rattle.plain_replay.specs.Forms.{IsPlainAnswer}
 use Rattle.plain_replay.specs.Covers.{import_calls, answers_in, calls_in, returning, calling}
@@ -55,32 +55,32 @@ module _ (code : Code) (answers : List (Option Answer)) (plain : AllByRecursion 
   none_used : (counts calls : List ℕ) → IsUsed counts calls []
   none_used counts calls = (λ i j value within found. absurd (none-some value found), λ i. refl, λ i past. refl, calls, refl)
 
-  abbrev Used : ℕ → List ℕ → List ℕ → Stepped → Type 0
+  abbrev Used : ℕ → List ℕ → List ℕ → StepResult → Type 0
   Used k counts calls s = (o : Outcome) → (run_from program all_one s k).at ≡ Finished o → IsUsed counts calls (run_from program all_one s k).history
 
-  used_entry : (k : ℕ) (counts counts' calls calls' : List ℕ) (entry : Entry) (s : Stepped)
+  used_entry : (k : ℕ) (counts counts' calls calls' : List ℕ) (entry : Entry) (s : StepResult)
       → ((history : List Entry) → IsUsed counts' calls' history → IsUsed counts calls (entry ∷ history)) → Used k counts' calls' s → Used k counts calls (after_entries (entry ∷ []) s)
   used_entry k counts counts' calls calls' entry s passes used o ended = passes (run_from program all_one s k).history (used o ended)
 
-  used_step : (k : ℕ) (counts calls : List ℕ) (config : Config) → Used k counts calls (step program config) → Used (suc k) counts calls (stepped [] (Goes_on config))
+  used_step : (k : ℕ) (counts calls : List ℕ) (config : Config) → Used k counts calls (step program config) → Used (suc k) counts calls (step_result [] (Running config))
   used_step k counts calls config used o ended = used o ended
 
-  used_zero : (counts calls : List ℕ) (config : Config) → Used zero counts calls (stepped [] (Goes_on config))
+  used_zero : (counts calls : List ℕ) (config : Config) → Used zero counts calls (step_result [] (Running config))
   used_zero counts calls config o ended = cc
 
-  used_stuck : (k : ℕ) (counts calls : List ℕ) → Used k counts calls (stepped [] Stuck)
+  used_stuck : (k : ℕ) (counts calls : List ℕ) → Used k counts calls (step_result [] Stuck)
   used_stuck zero counts calls o ended = cc
   used_stuck (suc k) counts calls o ended = cc
 
-  used_fault : (k : ℕ) (counts calls : List ℕ) (kind : FaultKind) → Used k counts calls (stepped [] (Faulted kind))
+  used_fault : (k : ℕ) (counts calls : List ℕ) (kind : FaultKind) → Used k counts calls (step_result [] (Faulted kind))
   used_fault zero counts calls kind o ended = cc
   used_fault (suc k) counts calls kind o ended = cc
 
-  used_ended : (k : ℕ) (counts calls : List ℕ) → Used k counts calls (stepped [] (Finished Ended))
+  used_ended : (k : ℕ) (counts calls : List ℕ) → Used k counts calls (step_result [] (Finished Ended))
   used_ended zero counts calls o ended = none_used counts calls
   used_ended (suc k) counts calls o ended = none_used counts calls
 
-  used_trap : (k : ℕ) (counts calls : List ℕ) (func number : ℕ) (kind : TrapKind) (operands : List Val) (found : Option ℕ) → Used k counts calls (stepped (Trap func number kind operands found ∷ []) (Finished Trapped))
+  used_trap : (k : ℕ) (counts calls : List ℕ) (func number : ℕ) (kind : TrapKind) (operands : List Val) (found : Option ℕ) → Used k counts calls (step_result (Trap func number kind operands found ∷ []) (Finished Trapped))
   used_trap zero counts calls func number kind operands found o ended = none_used counts calls
   used_trap (suc k) counts calls func number kind operands found o ended = none_used counts calls
 
@@ -94,30 +94,30 @@ module _ (code : Code) (answers : List (Option Answer)) (plain : AllByRecursion 
   abbrev Delivers : ℕ → Type 0
   Delivers k =
       (stack : List Activation) (results : List Val) (store : Store) (counts calls : List ℕ) → Bottom calls stack → length counts ≡ code.imported
-      → Used k counts calls (come_to_stand store counts (deliver stack results))
+      → Used k counts calls (after_settling store counts (deliver stack results))
 
   abbrev Runs : ℕ → Type 0
   Runs k =
       (frame : Frame) (below : List Activation) (store : Store) (counts calls : List ℕ) → Bottom calls below → length counts ≡ code.imported
-      → Used k counts calls (stepped [] (Goes_on (record { store = store; stack = InModule frame ∷ below; counts = counts })))
+      → Used k counts calls (step_result [] (Running (record { store = store; stack = InModule frame ∷ below; counts = counts })))
 
   enter_used : (k : ℕ) → Delivers k → (func : ℕ) (args : List Val) (stack : List Activation) (store : Store) (counts calls : List ℕ) → Bottom calls stack → length counts ≡ code.imported
-      → Used k counts calls (entered code store counts func args stack)
+      → Used k counts calls (enter_function code store counts func args stack)
   enter_used k delivers func args stack store counts calls bottom number = go (signature code func) (definition code func)
     where
-      go : (ty : Option FuncType) (d : Option Definition) → Used k counts calls (entered_as ty d store counts func args stack)
+      go : (ty : Option FuncType) (d : Option Definition) → Used k counts calls (enter_defined ty d store counts func args stack)
       go None d = used_stuck k counts calls
       go (Some ty) None = used_stuck k counts calls
       go (Some ty) (Some d) = delivers (InModule (frame_of func ty d args) ∷ stack) [] store counts calls bottom number
 
   main_used : (k : ℕ) → ((j : ℕ) → k ≡ suc j → Delivers j) → (below : List Activation) (results : List Val) (store : Store) (counts calls : List ℕ) → length counts ≡ code.imported
-      → Used k counts calls (come_to_stand store counts (deliver (InMain (map calling calls) ∷ below) results))
+      → Used k counts calls (after_settling store counts (deliver (InMain (map calling calls) ∷ below) results))
   main_used k earlier below results store counts [] number = used_ended k counts []
   main_used zero earlier below results store counts (func ∷ calls) number =
       used_zero counts (func ∷ calls) (record { store = store; stack = InMain (map calling (func ∷ calls)) ∷ below; counts = counts })
   main_used (suc k) earlier below results store counts (func ∷ calls) number =
       used_step k counts (func ∷ calls) (record { store = store; stack = InMain (map calling (func ∷ calls)) ∷ below; counts = counts })
-      (used_entry k counts counts (func ∷ calls) calls (HostCall func []) (entered code store counts func [] (InMain (map calling calls) ∷ below))
+      (used_entry k counts counts (func ∷ calls) calls (HostCall func []) (enter_function code store counts func [] (InMain (map calling calls) ∷ below))
       (λ history used. (used.0, used.1, used.2, used.3, ap (λ l. func ∷ l) used.4))
       (enter_used k (earlier k refl) func [] (InMain (map calling calls) ∷ below) store counts calls refl number))
 
@@ -132,14 +132,14 @@ module _ (code : Code) (answers : List (Option Answer)) (plain : AllByRecursion 
   deliver_used k runs earlier (InModule frame ∷ below) results store counts calls bottom number =
       go (λ rs. deliver_used k runs earlier below rs store counts calls bottom number) (at_end (with_results frame results))
     where
-      go : ((rs : List Val) → Used k counts calls (come_to_stand store counts (deliver below rs))) → (e : AtEnd)
-          → Used k counts calls (come_to_stand store counts (return_from e (with_results frame results) below (deliver below)))
+      go : ((rs : List Val) → Used k counts calls (after_settling store counts (deliver below rs))) → (e : AtEnd)
+          → Used k counts calls (after_settling store counts (return_from e (with_results frame results) below (deliver below)))
       go returns Within = runs (with_results frame results) below store counts calls bottom number
       go returns (Gives rs) =
-          used_entry k counts counts calls calls (return_entry frame.func rs below) (come_to_stand store counts (deliver below rs)) (return_passes counts calls frame.func rs below) (returns rs)
+          used_entry k counts counts calls calls (return_entry frame.func rs below) (after_settling store counts (deliver below rs)) (return_passes counts calls frame.func rs below) (returns rs)
       go returns TooFew = used_stuck k counts calls
   deliver_used k runs earlier (InMain actions ∷ below) results store counts calls bottom number =
-      subst (λ work. Used k counts calls (come_to_stand store counts (deliver (InMain work ∷ below) results))) (sym bottom)
+      subst (λ work. Used k counts calls (after_settling store counts (deliver (InMain work ∷ below) results))) (sym bottom)
       (main_used k earlier below results store counts calls number)
   deliver_used k runs earlier (InImport import args actions end ∷ below) results store counts calls bottom number = absurd bottom
 
@@ -180,42 +180,42 @@ module _ (code : Code) (answers : List (Option Answer)) (plain : AllByRecursion 
       none i false e past = used.2 i (omega (arith, past, as_many))
 
   answered_used : (k : ℕ) → Delivers k → (func : ℕ) (args : List Val) (stack : List Activation) (store : Store) (counts calls : List ℕ) → Bottom calls stack → length counts ≡ code.imported → func < code.imported
-      → (response : Option Response) → response_to answers func (slice_index counts func) ≡ response → Used k counts calls (answered response store counts func args stack)
+      → (response : Option Response) → response_to answers func (slice_index counts func) ≡ response → Used k counts calls (answer_call response store counts func args stack)
   answered_used k delivers func args stack store counts calls bottom number imported None e = used_fault k counts calls NoResponse
   answered_used k delivers func args stack store counts calls bottom number imported (Some response) e =
       let p = plain_response answers func (slice_index counts func) response plain e in
       let is : response ≡ returning p.value = ap (λ actions. record response { actions = actions }) p.actions ∙ ap (λ end. record (returning p.value) { end = end }) p.returns in
-      subst (λ (r : Response). Used k counts calls (answered (Some r) store counts func args stack)) (sym is)
-      (λ o ended. import_passes func args p.value counts calls (run_from program all_one (come_to_stand store (slice_set counts func (slice_index counts func + 1)) (deliver stack (p.value ∷ []))) k).history (omega (arith, number, imported)) (e ∙ ap Some is)
+      subst (λ (r : Response). Used k counts calls (answer_call (Some r) store counts func args stack)) (sym is)
+      (λ o ended. import_passes func args p.value counts calls (run_from program all_one (after_settling store (slice_set counts func (slice_index counts func + 1)) (deliver stack (p.value ∷ []))) k).history (omega (arith, number, imported)) (e ∙ ap Some is)
       (delivers stack (p.value ∷ []) store (slice_set counts func (slice_index counts func + 1)) calls bottom (length-set counts func (slice_index counts func + 1) ∙ number) o ended))
 
   called_used : (k : ℕ) → Delivers k → (b : Bool) (func : ℕ) → nat_lt func code.imported ≡ b → (args : List Val) (stack : List Activation) (store : Store) (counts calls : List ℕ) → Bottom calls stack → length counts ≡ code.imported
-      → Used k counts calls (called program b store counts func args stack)
+      → Used k counts calls (call_function program b store counts func args stack)
   called_used k delivers true func e args stack store counts calls bottom number =
       answered_used k delivers func args stack store counts calls bottom number (below func code.imported e) (response_to answers func (slice_index counts func)) refl
     where
       below : (a b : ℕ) → nat_lt a b ≡ true → a < b
       below a b h = grind (arith, nat_tests)
   called_used k delivers false func e args stack store counts calls bottom number =
-      used_entry k counts counts calls calls (Enter func) (entered code store counts func args stack) (λ history used. used)
+      used_entry k counts counts calls calls (Enter func) (enter_function code store counts func args stack) (λ history used. used)
       (enter_used k delivers func args stack store counts calls bottom number)
 
-  effect_used : (k : ℕ) → Delivers k → (frame : Frame) (below : List Activation) (store : Store) (counts calls : List ℕ) (effect : Effect) → Bottom calls below → length counts ≡ code.imported
-      → Used k counts calls (after_effect program (record { store = store; stack = InModule frame ∷ below; counts = counts }) frame below effect)
+  effect_used : (k : ℕ) → Delivers k → (frame : Frame) (below : List Activation) (store : Store) (counts calls : List ℕ) (effect : Control) → Bottom calls below → length counts ≡ code.imported
+      → Used k counts calls (after_control program (record { store = store; stack = InModule frame ∷ below; counts = counts }) frame below effect)
   effect_used k delivers frame below store counts calls (Goes after next) bottom number = delivers (InModule next ∷ below) [] after counts calls bottom number
   effect_used k delivers frame below store counts calls (Calls waiting func args) bottom number =
       called_used k delivers (nat_lt func code.imported) func refl args (InModule waiting ∷ below) store counts calls bottom number
   effect_used k delivers frame below store counts calls (Returns results) bottom number =
-      used_entry k counts counts calls calls (return_entry frame.func results below) (come_to_stand store counts (deliver below results)) (return_passes counts calls frame.func results below)
+      used_entry k counts counts calls calls (return_entry frame.func results below) (after_settling store counts (deliver below results)) (return_passes counts calls frame.func results below)
       (delivers below results store counts calls bottom number)
 
-  executed_used : (k : ℕ) → Delivers k → (frame : Frame) (below : List Activation) (store : Store) (counts calls : List ℕ) (e : Executed) → Bottom calls below → length counts ≡ code.imported
+  executed_used : (k : ℕ) → Delivers k → (frame : Frame) (below : List Activation) (store : Store) (counts calls : List ℕ) (e : Execution) → Bottom calls below → length counts ≡ code.imported
       → Used k counts calls (after_instruction program (record { store = store; stack = InModule frame ∷ below; counts = counts }) frame below e)
   executed_used k delivers frame below store counts calls NoRule bottom number = used_stuck k counts calls
   executed_used k delivers frame below store counts calls (Traps kind operands found) bottom number = used_trap k counts calls frame.func frame.at.number kind operands found
   executed_used k delivers frame below store counts calls (Did operands results found effect) bottom number =
       used_entry k counts counts calls calls (Step frame.func frame.at.number operands results found)
-      (after_effect program (record { store = store; stack = InModule frame ∷ below; counts = counts }) frame below effect) (λ history used. used)
+      (after_control program (record { store = store; stack = InModule frame ∷ below; counts = counts }) frame below effect) (λ history used. used)
       (effect_used k delivers frame below store counts calls effect bottom number)
 
   run_used : (k : ℕ) → Delivers k → Runs (suc k)
@@ -231,5 +231,5 @@ module _ (code : Code) (answers : List (Option Answer)) (plain : AllByRecursion 
   all_used (suc k) = let before = all_used k in deliver_used (suc k) (run_used k before) (λ j e. let here : k ≡ j = omega (arith, e) in subst Delivers here before)
 
   pub used_by : (k : ℕ) (store : Store) (counts calls : List ℕ) → length counts ≡ code.imported
-      → Used k counts calls (come_to_stand store counts (deliver (InMain (map calling calls) ∷ []) []))
+      → Used k counts calls (after_settling store counts (deliver (InMain (map calling calls) ∷ []) []))
   used_by k store counts calls number = all_used k (InMain (map calling calls) ∷ []) [] store counts calls refl number

@@ -16,11 +16,11 @@ use Rattle.history_spec.specs.declared.entries.Entry.TheVariants.{HostCall}
 use Rattle.history_spec.specs.Code.{code_of}
 use Rattle.history_spec.specs.Configuration.{InMain}
 use Rattle.history_spec.specs.Settle.{settle}
-use Rattle.history_spec.specs.Step.{Stepped, Finished, come_to_stand, response_to}
-use Rattle.history_spec.specs.Run.{run_from, all_one, program_of, opening}
+use Rattle.history_spec.specs.Step.{StepResult, Finished, after_settling, response_to}
+use Rattle.history_spec.specs.Run.{run_from, all_one, program_of, run_start}
 use Rattle.plain_replay.specs.Forms.{IsIntegerCode, IsPlain, IsPlainAnswer, IsPlainCall}
 use Rattle.plain_replay.specs.Covers.{Covers, FollowsScript, Uses, answers_in, calls_in, host_calls, returning, calling}
-use Rattle.plain_replay.proofs.Openings.{empty_store, opens, zeros_count}
+use Rattle.plain_replay.proofs.Openings.{empty_store, starts, zeros_count}
 use Rattle.plain_replay.proofs.Plain.{made_calls, no_count}
 use Rattle.plain_replay.proofs.Used.{used_by}
 
@@ -29,10 +29,10 @@ calls_counted [] = refl
 calls_counted (HostCall func args ∷ rest) = omega (arith, calls_counted rest)
 calls_counted (entry ∷ rest) = calls_counted rest
 
-pub follows : (m : Module) (script : Script) (begun : Stepped) (k : ℕ) (outcome : Outcome) → IsIntegerCode m → IsPlain m script → opening m script ≡ Ok begun
-    → (run_from (program_of m script) all_one begun k).at ≡ Finished outcome
-    → FollowsScript script (run_from (program_of m script) all_one begun k).history
-follows m script begun k outcome code plain opened ended =
+pub follows : (m : Module) (script : Script) (initial : StepResult) (k : ℕ) (outcome : Outcome) → IsIntegerCode m → IsPlain m script → run_start m script ≡ Ok initial
+    → (run_from (program_of m script) all_one initial k).at ≡ Finished outcome
+    → FollowsScript script (run_from (program_of m script) all_one initial k).history
+follows m script initial k outcome code plain opened ended =
     subst (λ s. (run_from (program_of m script) all_one s k).at ≡ Finished outcome → FollowsScript script (run_from (program_of m script) all_one s k).history) begins from_start ended
   where
     own : (calls : List ℕ) × (script.main ≡ map calling calls)
@@ -41,14 +41,14 @@ follows m script begun k outcome code plain opened ended =
     none_yet : List ℕ
     none_yet = replicate (imported_funcs m) 0
 
-    first : List Action → Stepped
-    first actions = come_to_stand empty_store none_yet (settle (InMain actions ∷ []))
+    first : List Action → StepResult
+    first actions = after_settling empty_store none_yet (settle (InMain actions ∷ []))
 
-    same_ok : (opening : Result Stepped LinkFault) (s t : Stepped) → opening ≡ Ok s → opening ≡ Ok t → s ≡ t
-    same_ok opening s t e f = cc
+    same_ok : (run_start : Result StepResult LinkFault) (s t : StepResult) → run_start ≡ Ok s → run_start ≡ Ok t → s ≡ t
+    same_ok run_start s t e f = cc
 
-    begins : first (map calling own.0) ≡ begun
-    begins = ap first (sym own.1) ∙ same_ok (opening m script) (first script.main) begun (opens m code script plain.globals) opened
+    begins : first (map calling own.0) ≡ initial
+    begins = ap first (sym own.1) ∙ same_ok (run_start m script) (first script.main) initial (starts m code script plain.globals) opened
 
     from_start : (run_from (program_of m script) all_one (first (map calling own.0)) k).at ≡ Finished outcome
         → FollowsScript script (run_from (program_of m script) all_one (first (map calling own.0)) k).history
@@ -70,17 +70,17 @@ follows m script begun k outcome code plain opened ended =
         given history found past import number value here (inl within) =
             let same : slice_index none_yet import + number ≡ number = omega (arith, no_count (imported_funcs m) import) in
             ap (response_to script.imports import) (sym same) ∙ found import number value (omega (arith, zeros_count (imported_funcs m), within)) here
-        given history found past import number value here (inr behind) =
-            absurd (none-some value (ap (λ l. slice_get l number) (sym (past import (omega (arith, zeros_count (imported_funcs m), behind)))) ∙ here))
+        given history found past import number value here (inr after_block) =
+            absurd (none-some value (ap (λ l. slice_get l number) (sym (past import (omega (arith, zeros_count (imported_funcs m), after_block)))) ∙ here))
 
-pub covers_used : (m : Module) (script : Script) (begun : Stepped) (k : ℕ) (outcome : Outcome) (table : List (List Val)) (calls : List ℕ)
-    → IsIntegerCode m → IsPlain m script → opening m script ≡ Ok begun
-    → (run_from (program_of m script) all_one begun k).at ≡ Finished outcome
-    → Uses (run_from (program_of m script) all_one begun k).history table calls
-    → Covers script (run_from (program_of m script) all_one begun k).history table calls
-covers_used m script begun k outcome table calls code plain opened ended uses =
-    let history = (run_from (program_of m script) all_one begun k).history in
-    let own = follows m script begun k outcome code plain opened ended in
+pub covers_used : (m : Module) (script : Script) (initial : StepResult) (k : ℕ) (outcome : Outcome) (table : List (List Val)) (calls : List ℕ)
+    → IsIntegerCode m → IsPlain m script → run_start m script ≡ Ok initial
+    → (run_from (program_of m script) all_one initial k).at ≡ Finished outcome
+    → Uses (run_from (program_of m script) all_one initial k).history table calls
+    → Covers script (run_from (program_of m script) all_one initial k).history table calls
+covers_used m script initial k outcome table calls code plain opened ended uses =
+    let history = (run_from (program_of m script) all_one initial k).history in
+    let own = follows m script initial k outcome code plain opened ended in
     record {
       given = λ import number value found. own.given import number value (ap (λ l. slice_get l number) (sym (uses.answers import)) ∙ found);
       answered = λ import. omega (arith, own.each import, ap (λ (l : List Val). length l) (uses.answers import));

@@ -22,7 +22,7 @@ use Rattle.wasm_syntax.specs.Typing.{Context, Moves, Leaves, Leads, is_number, i
 use Rattle.wasm_syntax.specs.Validity.{IsFuncType, IsImport, IsTable, IsMemory, IsElem, IsData, IsDeclaredFunc, IsGlobal, IsThere, IsValidOutside, IsTypedFunc, IsValid, body_context}
 use Rattle.history_spec.specs.Code.{i32_value}
 use Rattle.plain_replay.specs.Forms.{answer_type, IsAnswered, IsIntegerCode, IsUnreferring, is_unreferring, IsNumber}
-use Rattle.plain_replay.specs.Made.{tests, answer_nest, one_i32, answer_func, values_of, answer_funcs, drops, calls_nest, result_count, start_func, counter, start_export, import_types, replay_module}
+use Rattle.plain_replay.specs.ReplayModule.{tests, answer_nest, one_i32, answer_func, values_of, answer_funcs, drops, calls_nest, result_count, start_func, counter, start_export, import_types, replay_module}
 use Rattle.plain_replay.proofs.Lists.{get_behind}
 use Rattle.plain_replay.proofs.Maker.{AreCalls}
 use Rattle.plain_replay.proofs.Functions.{types_shared, signatures_shared, indices_are, answered_at}

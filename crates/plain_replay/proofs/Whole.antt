@@ -11,12 +11,12 @@ use Rattle.history_spec.specs.Store.{Store}
 use Rattle.history_spec.specs.Code.{code_of, definition}
 use Rattle.history_spec.specs.Configuration.{InModule, InMain}
 use Rattle.history_spec.specs.Settle.{settle, deliver}
-use Rattle.history_spec.specs.Step.{Stepped, Program, Finished, after_entries, come_to_stand, entered, entered_as}
+use Rattle.history_spec.specs.Step.{StepResult, Program, Finished, after_entries, after_settling, enter_function, enter_defined}
 use Rattle.history_spec.specs.Run.{run_from, all_one}
-use Rattle.history_spec.specs.Projection.{Appended, call_shown, shown, Shown}
-use Rattle.history_spec.specs.Replayed.{program_alone, instructions, Replays}
+use Rattle.history_spec.specs.Projection.{Appended, shown_call, shown_entries, Projection}
+use Rattle.history_spec.specs.Replay.{program_alone, instructions, Replays}
 use Rattle.plain_replay.specs.Forms.{IsIntegerCode}
-use Rattle.plain_replay.specs.Made.{values_of, calls_nest, layout_of, entry_of, replay_module}
+use Rattle.plain_replay.specs.ReplayModule.{values_of, calls_nest, layout_of, entry_of, replay_module}
 use Rattle.plain_replay.specs.Covers.{calling, answer_with}
 use Rattle.plain_replay.proofs.Shows.{Shows, shows_step, shows_entry}
 use Rattle.plain_replay.proofs.Maker.{CountersOf, WaitsFor, AreCalls, player, start_plays, start_frame, appended}
@@ -35,39 +35,39 @@ module _ (m : Module) (code : IsIntegerCode m) (table : List (List Val)) (calls 
   first_store = record { memory = None; table = None; globals = counters_at_first m }
 
   -- where control comes to `_start`
-  abbrev at_start : Stepped
-  at_start = come_to_stand first_store [] (deliver (InModule (start_frame m [] (calls_nest m calls) 0) ∷ InMain [] ∷ []) [])
+  abbrev at_start : StepResult
+  at_start = after_settling first_store [] (deliver (InModule (start_frame m [] (calls_nest m calls) 0) ∷ InMain [] ∷ []) [])
 
-  enters_start : entered replay.code first_store [] (entry_of m) [] (InMain [] ∷ []) ≡ at_start
+  enters_start : enter_function replay.code first_store [] (entry_of m) [] (InMain [] ∷ []) ≡ at_start
   enters_start =
-      ap (λ ty. entered_as ty (definition replay.code (entry_of m)) first_store [] (entry_of m) [] (InMain [] ∷ [])) (start_type m code table calls)
-      ∙ ap (λ d. entered_as (Some (record { params = []; results = [] })) d first_store [] (entry_of m) [] (InMain [] ∷ [])) (start_definition m code table calls)
+      ap (λ ty. enter_defined ty (definition replay.code (entry_of m)) first_store [] (entry_of m) [] (InMain [] ∷ [])) (start_type m code table calls)
+      ∙ ap (λ d. enter_defined (Some (record { params = []; results = [] })) d first_store [] (entry_of m) [] (InMain [] ∷ [])) (start_definition m code table calls)
 
   begins : (history : List Entry) (o : Outcome) → Shows (layout_of m) replay (entry_of m ∷ []) [] at_start history o
-      → Shows (layout_of m) replay [] [] (come_to_stand first_store [] (settle (InMain (Call (entry_of m) [] ∷ []) ∷ []))) history o
+      → Shows (layout_of m) replay [] [] (after_settling first_store [] (settle (InMain (Call (entry_of m) [] ∷ []) ∷ []))) history o
   begins history o shows =
       shows_step (layout_of m) replay [] [] (record { store = first_store; stack = InMain (Call (entry_of m) [] ∷ []) ∷ []; counts = [] }) history o
       (subst (λ t. Shows (layout_of m) replay [] [] (after_entries (HostCall (entry_of m) [] ∷ []) t) history o) (sym enters_start)
       (shows_entry (layout_of m) replay [] (entry_of m ∷ []) [] [] (HostCall (entry_of m) []) [] at_start history o
-      (λ rest. ap (λ s. call_shown Appended s (entry_of m) [] ++ shown (layout_of m) (entry_of m ∷ []) [] rest) (appended m)) refl shows))
+      (λ rest. ap (λ s. shown_call Appended s (entry_of m) [] ++ shown_entries (layout_of m) (entry_of m ∷ []) [] rest) (appended m)) refl shows))
 
-  replays_from : (history : List Entry) (o : Outcome) → Shows (layout_of m) replay [] [] (come_to_stand first_store [] (settle (InMain (Call (entry_of m) [] ∷ []) ∷ []))) history o
+  replays_from : (history : List Entry) (o : Outcome) → Shows (layout_of m) replay [] [] (after_settling first_store [] (settle (InMain (Call (entry_of m) [] ∷ []) ∷ []))) history o
       → Replays (replay_module m table calls) (layout_of m) (entry_of m) history o
   replays_from history o shows =
       record {
-        begun = come_to_stand first_store [] (settle (InMain (Call (entry_of m) [] ∷ []) ∷ []));
-        opens = opens_alone m table calls (entry_of m);
+        initial = after_settling first_store [] (settle (InMain (Call (entry_of m) [] ∷ []) ∷ []));
+        starts = opens_alone m table calls (entry_of m);
         count = shows.count;
-        run = run_from replay instructions (come_to_stand first_store [] (settle (InMain (Call (entry_of m) [] ∷ []) ∷ []))) shows.count;
+        run = run_from replay instructions (after_settling first_store [] (settle (InMain (Call (entry_of m) [] ∷ []) ∷ []))) shows.count;
         is_run = refl;
         own = shows.own;
         ends = shows.ended;
-        shows = ap₂ (λ (h : List Entry) (p : Outcome). let s : Shown = record { history = h; outcome = p } in s) shows.history_shown shows.outcome_is;
+        shows = ap₂ (λ (h : List Entry) (p : Outcome). let s : Projection = record { history = h; outcome = p } in s) shows.history_shown shows.outcome_is;
       }
 
   pub replays_own : (k : ℕ) (o : Outcome)
-      → (run_from original all_one (come_to_stand empty_store (replicate (imported_funcs m) 0) (settle (InMain (map calling calls) ∷ []))) k).at ≡ Finished o
-      → Replays (replay_module m table calls) (layout_of m) (entry_of m) (run_from original all_one (come_to_stand empty_store (replicate (imported_funcs m) 0) (settle (InMain (map calling calls) ∷ []))) k).history o
+      → (run_from original all_one (after_settling empty_store (replicate (imported_funcs m) 0) (settle (InMain (map calling calls) ∷ []))) k).at ≡ Finished o
+      → Replays (replay_module m table calls) (layout_of m) (entry_of m) (run_from original all_one (after_settling empty_store (replicate (imported_funcs m) 0) (settle (InMain (map calling calls) ∷ []))) k).history o
   replays_own k o ended =
       let made = is_made m code table calls few in
       let plays = start_plays m table original replay made 0 [] refl calls 0 (replicate (imported_funcs m) 0) (counters_at_first m) empty_store fit (counters_begin m) in

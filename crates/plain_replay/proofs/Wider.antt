@@ -11,7 +11,7 @@ use Rattle.wasm_syntax.specs.declared.instructions.Instr.{Instr}
 use Rattle.wasm_syntax.specs.declared.instructions.Instr.TheVariants.{Unreachable, Nop, Else, End, Br, BrIf, BrTable, Return, Call, CallIndirect, Drop, Select, LocalGet, LocalSet, LocalTee, GlobalGet, GlobalSet, Load, Store, MemorySize, MemoryGrow, Const, Numeric, RefNull, RefFunc, TableSet}
 use Rattle.wasm_syntax.specs.Nest.{Nest, Empty, Plain, InBlock, InLoop, InIf, InIfElse, flat}
 use Rattle.wasm_syntax.specs.Opcodes.{load_of, store_of}
-use Rattle.wasm_syntax.specs.Typing.{Context, Effect, Moves, Drops, Selects, Leaves, Switches, Switched, call_of, indirect_of, set_of, loading, storing, func_at, effect_of, Leads, results_of, inside, IsTyped}
+use Rattle.wasm_syntax.specs.Typing.{Context, InstrType, Moves, Drops, Selects, Leaves, Switches, IsSwitch, call_of, indirect_of, set_of, load_type, store_type, func_at, instr_type, Leads, results_of, inside, IsTyped}
 use Rattle.plain_replay.specs.Forms.{is_unreferring}
 
 -- what the one context knows, the other knows too, but for what may be named by `ref.func`
@@ -27,21 +27,21 @@ pub record Widens (ctx wider : Context) : Type 0 where
 
 -- ---- optional effects
 
-map_wider : {X : Type 0} (g : X → Effect) (o o' : Option X) (e : Effect) → ((x : X) → o ≡ Some x → o' ≡ Some x) → option_map g o ≡ Some e → option_map g o' ≡ Some e
+map_wider : {X : Type 0} (g : X → InstrType) (o o' : Option X) (e : InstrType) → ((x : X) → o ≡ Some x → o' ≡ Some x) → option_map g o ≡ Some e → option_map g o' ≡ Some e
 map_wider g None o' e there h = absurd (none-some e h)
 map_wider g (Some x) o' e there h = ap (option_map g) (there x refl) ∙ h
 
-then_wider : {X : Type 0} (g : X → Option Effect) (o o' : Option X) (e : Effect) → ((x : X) → o ≡ Some x → o' ≡ Some x) → option_and_then g o ≡ Some e → option_and_then g o' ≡ Some e
+then_wider : {X : Type 0} (g : X → Option InstrType) (o o' : Option X) (e : InstrType) → ((x : X) → o ≡ Some x → o' ≡ Some x) → option_and_then g o ≡ Some e → option_and_then g o' ≡ Some e
 then_wider g None o' e there h = absurd (none-some e h)
 then_wider g (Some x) o' e there h = ap (option_and_then g) (there x refl) ∙ h
 
-some_wider : (o o' : Option Limits) (body body' : Option Effect) (e : Effect) → ((l : Limits) → o ≡ Some l → o' ≡ Some l) → (body ≡ Some e → body' ≡ Some e)
+some_wider : (o o' : Option Limits) (body body' : Option InstrType) (e : InstrType) → ((l : Limits) → o ≡ Some l → o' ≡ Some l) → (body ≡ Some e → body' ≡ Some e)
     → cond (is_some o) body None ≡ Some e → cond (is_some o') body' None ≡ Some e
 some_wider None o' body body' e there inner h = absurd (none-some e h)
 some_wider (Some l) o' body body' e there inner h = ap (λ o. cond (is_some o) body' None) (there l refl) ∙ inner h
 
 module _ (ctx wider : Context) (widens : Widens ctx wider) where
-  effect_wider : (i : Instr) (e : Effect) → is_unreferring i ≡ true → effect_of ctx i ≡ Some e → effect_of wider i ≡ Some e
+  effect_wider : (i : Instr) (e : InstrType) → is_unreferring i ≡ true → instr_type ctx i ≡ Some e → instr_type wider i ≡ Some e
   effect_wider Unreachable e free h = h
   effect_wider Nop e free h = h
   effect_wider (Br l) e free h = ap (λ labels. option_map Leaves (slice_get labels l)) widens.labels ∙ h
@@ -60,9 +60,9 @@ module _ (ctx wider : Context) (widens : Widens ctx wider) where
   effect_wider (GlobalGet x) e free h = map_wider (λ g. Moves [] (g.ty ∷ [])) (slice_get ctx.globals x) (slice_get wider.globals x) e (widens.globals x) h
   effect_wider (GlobalSet x) e free h = then_wider set_of (slice_get ctx.globals x) (slice_get wider.globals x) e (widens.globals x) h
   effect_wider (Load arg) e free h =
-      some_wider (slice_get ctx.memories 0) (slice_get wider.memories 0) (option_and_then (loading arg) (load_of arg.op)) (option_and_then (loading arg) (load_of arg.op)) e (widens.memories 0) (λ q. q) h
+      some_wider (slice_get ctx.memories 0) (slice_get wider.memories 0) (option_and_then (load_type arg) (load_of arg.op)) (option_and_then (load_type arg) (load_of arg.op)) e (widens.memories 0) (λ q. q) h
   effect_wider (Store arg) e free h =
-      some_wider (slice_get ctx.memories 0) (slice_get wider.memories 0) (option_and_then (storing arg) (store_of arg.op)) (option_and_then (storing arg) (store_of arg.op)) e (widens.memories 0) (λ q. q) h
+      some_wider (slice_get ctx.memories 0) (slice_get wider.memories 0) (option_and_then (store_type arg) (store_of arg.op)) (option_and_then (store_type arg) (store_of arg.op)) e (widens.memories 0) (λ q. q) h
   effect_wider MemorySize e free h = some_wider (slice_get ctx.memories 0) (slice_get wider.memories 0) _ _ e (widens.memories 0) (λ q. q) h
   effect_wider MemoryGrow e free h = some_wider (slice_get ctx.memories 0) (slice_get wider.memories 0) _ _ e (widens.memories 0) (λ q. q) h
   effect_wider (Const v) e free h = h
@@ -72,17 +72,17 @@ module _ (ctx wider : Context) (widens : Widens ctx wider) where
   effect_wider (TableSet x) e free h = some_wider (slice_get ctx.tables x) (slice_get wider.tables x) _ _ e (widens.tables x) (λ q. q) h
   effect_wider i e free h = absurd (none-some e h)
 
-  same_effect : (e : Effect) (before after : List ValType) → Leads ctx (Some e) before after → Leads wider (Some e) before after
+  same_effect : (e : InstrType) (before after : List ValType) → Leads ctx (Some e) before after → Leads wider (Some e) before after
   same_effect (Moves operands results) before after leads = leads
   same_effect Drops before after leads = leads
   same_effect Selects before after leads = leads
   same_effect (Leaves operands) before after leads = leads
-  same_effect (Switches targets) before after leads = subst (λ labels. Switched labels targets before) (sym widens.labels) leads
+  same_effect (Switches targets) before after leads = subst (λ labels. IsSwitch labels targets before) (sym widens.labels) leads
 
-  leads_wider : (i : Instr) (before after : List ValType) → is_unreferring i ≡ true → Leads ctx (effect_of ctx i) before after → Leads wider (effect_of wider i) before after
-  leads_wider i before after free = go (effect_of ctx i) refl
+  leads_wider : (i : Instr) (before after : List ValType) → is_unreferring i ≡ true → Leads ctx (instr_type ctx i) before after → Leads wider (instr_type wider i) before after
+  leads_wider i before after free = go (instr_type ctx i) refl
     where
-      go : (e : Option Effect) → effect_of ctx i ≡ e → Leads ctx e before after → Leads wider (effect_of wider i) before after
+      go : (e : Option InstrType) → instr_type ctx i ≡ e → Leads ctx e before after → Leads wider (instr_type wider i) before after
       go None q leads = absurd leads
       go (Some e) q leads = subst (λ o. Leads wider o before after) (sym (effect_wider i e free q)) (same_effect e before after leads)
 

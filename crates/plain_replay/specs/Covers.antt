@@ -10,7 +10,7 @@ use Rattle.host_script.specs.declared.scripts.Action.TheVariants.{Call}
 use Rattle.history_spec.specs.declared.entries.Entry.{Entry}
 use Rattle.history_spec.specs.declared.entries.Entry.TheVariants.{HostCall, ImportCall, ImportReturn}
 use Rattle.history_spec.specs.Step.{response_to}
-use Rattle.plain_replay.specs.Made.{values_of}
+use Rattle.plain_replay.specs.ReplayModule.{values_of}
 
 -- how many calls of an import a history has, and how many calls by the host
 abbrev pub import_calls : (import : ℕ) → List Entry → ℕ
@@ -47,7 +47,8 @@ answer_with values = Some (record { calls = map returning values; rest = None })
 -- the answers are the script's to the first calls of each import, as many as the history has at least;
 -- the calls are the first ones that the script makes by itself, likewise
 pub record Covers (script : Script) (history : List Entry) (table : List (List Val)) (calls : List ℕ) : Type 0 where
-  pub given : (import number : ℕ) (value : Val) → slice_get (values_of table import) number ≡ Some value → response_to script.imports import number ≡ Some (returning value)
+  pub given : (import number : ℕ) (value : Val) → slice_get (values_of table import) number ≡ Some value
+      → response_to script.imports import number ≡ Some (returning value)
   pub answered : (import : ℕ) → import_calls import history ≤ length (values_of table import)
   pub number : (import : ℕ) → length (values_of table import) ≤ 2 ^ 32
   pub rest : List Action
@@ -60,10 +61,11 @@ pub record Uses (history : List Entry) (table : List (List Val)) (calls : List �
   pub number : (import : ℕ) → length (values_of table import) ≤ 2 ^ 32
   pub made : calls ≡ calls_in history
 
--- what a history has of answers and calls is the script's: its answers to the first calls of each import, one to each call,
--- and the first calls that it makes by itself
+-- what a history has of answers and calls is the script's: its answers to the first calls of each import, one to each
+-- call, and the first calls that it makes by itself
 pub record FollowsScript (script : Script) (history : List Entry) : Type 0 where
-  pub given : (import number : ℕ) (value : Val) → slice_get (answers_in import history) number ≡ Some value → response_to script.imports import number ≡ Some (returning value)
+  pub given : (import number : ℕ) (value : Val) → slice_get (answers_in import history) number ≡ Some value
+      → response_to script.imports import number ≡ Some (returning value)
   pub each : (import : ℕ) → length (answers_in import history) ≡ import_calls import history
   pub rest : List Action
   pub made : script.main ≡ map calling (calls_in history) ++ rest

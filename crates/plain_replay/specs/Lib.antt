@@ -1,4 +1,5 @@
 pub mod Forms
-pub mod Made
+pub mod ReplayModule
 pub mod Covers
 pub mod Replay
+pub mod Laws

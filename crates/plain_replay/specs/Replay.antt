@@ -4,14 +4,15 @@ use Rattle.wasm_syntax.specs.declared.signatures.FuncType.{FuncType}
 use Rattle.wasm_syntax.specs.declared.modules.Module.{Module}
 use Rattle.wasm_syntax.specs.declared.modules.Func.{Func}
 use Rattle.wasm_syntax.specs.Index.{imported_funcs, type_at, func_type}
-use Rattle.history_spec.specs.Replayed.{entry_function}
-use Rattle.plain_replay.specs.Made.{entry_of}
+use Rattle.history_spec.specs.Replay.{entry_function}
+use Rattle.plain_replay.specs.ReplayModule.{entry_of}
 
 -- types and functions keep their indices; a defined function keeps its type index, locals and body
 pub record KeepsOriginals (m replay : Module) : Type 0 where
   pub types : (t : ℕ) (ty : FuncType) → type_at m t ≡ Some ty → type_at replay t ≡ Some ty
   pub signatures : (f : ℕ) (ty : FuncType) → func_type m f ≡ Some ty → func_type replay f ≡ Some ty
-  pub funcs : (place : ℕ) (func : Func) → slice_get m.funcs place ≡ Some func → slice_get replay.funcs (imported_funcs m + place) ≡ Some func
+  pub funcs : (place : ℕ) (func : Func) → slice_get m.funcs place ≡ Some func
+      → slice_get replay.funcs (imported_funcs m + place) ≡ Some func
 
 -- nothing is imported, nothing is called at the start, and the one export is `_start`, which takes and
 -- gives nothing

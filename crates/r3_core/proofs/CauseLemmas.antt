@@ -5,15 +5,22 @@ use Rattle.std.specs.Option.{option_or, ForSome}
 use Rattle.std.proofs.lemmas.List.{length-map, map-append, take_more}
 use Rattle.std.proofs.lemmas.List.Elements.{Contains-append_left, Contains-append_right}
 use Rattle.std.proofs.lemmas.List.Folds.{find-append}
+use Rattle.r3_outside.specs.Count.{Rose, Took}
 use Rattle.r3_outside.specs.Contents.{FileMap, file_bytes}
 use Rattle.r3_core.specs.Words.{texts}
-use Rattle.r3_core.specs.Causes.{first_longer, IsLoadCause, AreBytesOf, AreWithin, all_bytes}
+use Rattle.r3_core.specs.Causes.{Reading, reading_of, first_longer, IsLoadCause, AreBytesOf, AreWithin, all_bytes}
 use Rattle.r3_faults.specs.declared.faults.Fault.{Fault}
 use Rattle.r3_faults.specs.declared.faults.Fault.TheVariants as faults
 
 module _ {Y : Type 0} where
-  -- the files before one, that one, and those behind it
-  pub files-at : (names : List (String Y)) (limits : List ℕ) (i : ℕ) (d : String Y) (e : ℕ) → i < length names → length names ≡ length limits → take i (zip (texts names) limits) ++ ((string_bytes (get_or names i d), get_or limits i e) ∷ drop (suc i) (zip (texts names) limits)) ≡ zip (texts names) limits
+  -- the files before one, that one, and those after it
+  pub files-at : (names : List (String Y)) (limits : List ℕ) (i : ℕ) (d : String Y) (e : ℕ) → i < length names
+      → length names ≡ length limits
+      → take i (zip (texts names) limits) ++ ((
+        string_bytes
+            (get_or names i d),
+        get_or limits i e,
+      ) ∷ drop (suc i) (zip (texts names) limits)) ≡ zip (texts names) limits
   files-at [] limits i d e h same = absurd (omega arith)
   files-at (n ∷ ns) [] i d e h same = absurd (omega arith)
   files-at (n ∷ ns) (l ∷ ls) zero d e h same = refl
@@ -21,7 +28,10 @@ module _ {Y : Type 0} where
       ap (λ files. (string_bytes n, l) ∷ files) (files-at ns ls i d e (omega arith) (omega arith))
 
   -- one more file
-  pub files-more : (names : List (String Y)) (limits : List ℕ) (i : ℕ) (d : String Y) (e : ℕ) → i < length names → length names ≡ length limits → take (suc i) (zip (texts names) limits) ≡ take i (zip (texts names) limits) ++ (string_bytes (get_or names i d), get_or limits i e) ∷ []
+  pub files-more : (names : List (String Y)) (limits : List ℕ) (i : ℕ) (d : String Y) (e : ℕ) → i < length names
+      → length names ≡ length limits
+      → take (suc i) (zip
+      (texts names) limits) ≡ take i (zip (texts names) limits) ++ (string_bytes (get_or names i d), get_or limits i e) ∷ []
   files-more [] limits i d e h same = absurd (omega arith)
   files-more (n ∷ ns) [] i d e h same = absurd (omega arith)
   files-more (n ∷ ns) (l ∷ ls) zero d e h same = refl
@@ -38,58 +48,83 @@ module _ {X : Type 0} (p : X → Bool) where
   first-of x y other true e = e
   first-of x y other false e = cc e
 
-  -- the first one behind others that don't pass
-  pub find-behind : (xs : List X) (x : X) (rest : List X) (y : X) → find p xs ≡ None → find p (x ∷ []) ≡ Some y → find p (xs ++ x ∷ rest) ≡ Some y
-  find-behind xs x rest y none here =
+  -- the first one after others that don't pass
+  pub find-after : (xs : List X) (x : X) (rest : List X) (y : X) → find p xs ≡ None → find p (x ∷ []) ≡ Some y
+      → find p (xs ++ x ∷ rest) ≡ Some y
+  find-after xs x rest y none here =
       find-append p xs (x ∷ rest) ∙ ap (λ found. option_or found (find p (x ∷ rest))) none ∙ first-of x y (find p rest) (p x) here
 
+-- a file was not loaded: it could not be read, or it is too long
+module _ (reading : Reading) (files : List (List ℕ × ℕ)) (P : Fault → Type 0)
+    (read : (name : List ℕ) → Contains (map (λ file. file.0) files) name → Rose reading.faults_before reading.faults_now → P (faults.Read name))
+    (too_long : (name : List ℕ) (limit : ℕ) → Contains files (name, limit) → Took reading.taken_before reading.taken_now (limit + 1) → ForSome reading.contents (λ told. first_longer told files ≡ Some (name, limit)) → P (faults.TooLong name limit)) where
+  pub load-cases : (fault : Fault) → IsLoadCause reading files fault → P fault
+  load-cases (faults.Read name) c = read name c.0 c.1
+  load-cases (faults.TooLong name limit) c = too_long name limit c.0 c.1 c.2
+  load-cases faults.Usage c = absurd c
+  load-cases (faults.Malformed at) c = absurd c
+  load-cases (faults.InvalidFunction func) c = absurd c
+  load-cases faults.InvalidModule c = absurd c
+  load-cases (faults.Unsupported func number feature) c = absurd c
+  load-cases (faults.Limit which value) c = absurd c
+  load-cases (faults.Reserved import) c = absurd c
+  load-cases faults.NotJson c = absurd c
+  load-cases (faults.Shape path) c = absurd c
+  load-cases (faults.UnknownName name) c = absurd c
+  load-cases (faults.WrongType name) c = absurd c
+  load-cases (faults.NoAccess name) c = absurd c
+  load-cases (faults.CallsOwn name) c = absurd c
+  load-cases (faults.Missing import) c = absurd c
+  load-cases (faults.Mismatch import) c = absurd c
+  load-cases (faults.Segment number) c = absurd c
+  load-cases (faults.Script turn kind) c = absurd c
+  load-cases (faults.Spent turns) c = absurd c
+  load-cases faults.Write c = absurd c
+  load-cases faults.Memory c = absurd c
+  load-cases faults.NotBuilt c = absurd c
+
 -- the cause of one file's fault, among files before it that are not too long
-pub IsLoadCause-among : (told : Option FileMap) (faults_before faults_between faults_now taken_before taken_between taken_now : ℕ) (before : List (List ℕ × ℕ)) (file : List ℕ × ℕ) (behind : List (List ℕ × ℕ)) → faults_before ≤ faults_between → taken_before ≤ taken_between → ForSome told (λ told. first_longer told before ≡ None) → (fault : Fault) → IsLoadCause (record { told = told; faults_before = faults_between; faults_now = faults_now; taken_before = taken_between; taken_now = taken_now }) (file ∷ []) fault → IsLoadCause (record { told = told; faults_before = faults_before; faults_now = faults_now; taken_before = taken_before; taken_now = taken_now }) (before ++ file ∷ behind) fault
-IsLoadCause-among told fb fm fn tb tm tn before file behind f t within faults.Usage c = absurd c
-IsLoadCause-among told fb fm fn tb tm tn before file behind f t within (faults.Read name) c = (
-  subst (λ names. Contains names name) (sym (map-append (λ file. file.0) before (file ∷ behind)))
-      (Contains-append_right (map (λ file. file.0) before) _ name (Contains-append_left (file.0 ∷ []) (map (λ file. file.0) behind) name c.0)),
-  omega (arith, c.1),
-)
-IsLoadCause-among told fb fm fn tb tm tn before file behind f t within (faults.TooLong name limit) c = (
-  Contains-append_right before _ (name, limit) (Contains-append_left (file ∷ []) behind (name, limit) c.0),
-  omega (arith, c.1),
-  λ files e. find-behind _ before file behind (name, limit) (within files e) (c.2 files e),
-)
-IsLoadCause-among told fb fm fn tb tm tn before file behind f t within (faults.Malformed at) c = absurd c
-IsLoadCause-among told fb fm fn tb tm tn before file behind f t within (faults.InvalidFunction func) c = absurd c
-IsLoadCause-among told fb fm fn tb tm tn before file behind f t within faults.InvalidModule c = absurd c
-IsLoadCause-among told fb fm fn tb tm tn before file behind f t within (faults.Unsupported func number feature) c = absurd c
-IsLoadCause-among told fb fm fn tb tm tn before file behind f t within (faults.Limit which value) c = absurd c
-IsLoadCause-among told fb fm fn tb tm tn before file behind f t within (faults.Reserved import) c = absurd c
-IsLoadCause-among told fb fm fn tb tm tn before file behind f t within faults.NotJson c = absurd c
-IsLoadCause-among told fb fm fn tb tm tn before file behind f t within (faults.Shape path) c = absurd c
-IsLoadCause-among told fb fm fn tb tm tn before file behind f t within (faults.UnknownName name) c = absurd c
-IsLoadCause-among told fb fm fn tb tm tn before file behind f t within (faults.WrongType name) c = absurd c
-IsLoadCause-among told fb fm fn tb tm tn before file behind f t within (faults.NoAccess name) c = absurd c
-IsLoadCause-among told fb fm fn tb tm tn before file behind f t within (faults.CallsOwn name) c = absurd c
-IsLoadCause-among told fb fm fn tb tm tn before file behind f t within (faults.Missing import) c = absurd c
-IsLoadCause-among told fb fm fn tb tm tn before file behind f t within (faults.Mismatch import) c = absurd c
-IsLoadCause-among told fb fm fn tb tm tn before file behind f t within (faults.Segment number) c = absurd c
-IsLoadCause-among told fb fm fn tb tm tn before file behind f t within (faults.Script turn kind) c = absurd c
-IsLoadCause-among told fb fm fn tb tm tn before file behind f t within (faults.Spent turns) c = absurd c
-IsLoadCause-among told fb fm fn tb tm tn before file behind f t within faults.Write c = absurd c
-IsLoadCause-among told fb fm fn tb tm tn before file behind f t within faults.Memory c = absurd c
-IsLoadCause-among told fb fm fn tb tm tn before file behind f t within faults.NotBuilt c = absurd c
+module _ (told : Option FileMap) (fb fm fn tb tm tn : ℕ) (before : List (List ℕ × ℕ)) (file : List ℕ × ℕ)
+    (after : List (List ℕ × ℕ)) (f : fb ≤ fm) (t : tb ≤ tm)
+    (within : ForSome told (λ told. first_longer told before ≡ None)) where
+  pub IsLoadCause-among : (fault : Fault) → IsLoadCause (reading_of told fm fn tm tn) (file ∷ []) fault
+      → IsLoadCause (reading_of told fb fn tb tn) (before ++ file ∷ after) fault
+  IsLoadCause-among =
+      load-cases (reading_of told fm fn tm tn) (file ∷ [])
+      (λ fault. IsLoadCause (reading_of told fb fn tb tn) (before ++ file ∷ after) fault)
+      (λ name listed rose. (
+        subst (λ names. Contains names name) (sym (map-append (λ file. file.0) before (file ∷ after)))
+            (Contains-append_right (map (λ file. file.0) before) _ name
+            (Contains-append_left (file.0 ∷ []) (map (λ file. file.0) after) name listed)),
+        omega (arith, rose, f),
+      ))
+      (λ name limit listed took first. (
+        Contains-append_right before _ (name, limit) (Contains-append_left (file ∷ []) after (name, limit) listed),
+        omega (arith, took, t),
+        λ files e. find-after _ before file after (name, limit) (within files e) (first files e),
+      ))
 
 module _ {Y : Type 0} (names : List (String Y)) (limits : List ℕ) where
   -- the cause of a fault of the file at `i`, where those before it are not too long
-  pub IsLoadCause-at : (i : ℕ) (d : String Y) (told told' : Option FileMap) (fb fm fn tb tm tn : ℕ) (name : List ℕ) → i < length names → length names ≡ length limits → name ≡ string_bytes (get_or names i d) → told' ≡ told → fb ≤ fm → tb ≤ tm → ForSome told (λ told. first_longer told (take i (zip (texts names) limits)) ≡ None) → (fault : Fault) → IsLoadCause (record { told = told'; faults_before = fm; faults_now = fn; taken_before = tm; taken_now = tn }) ((name, get_or limits i 0) ∷ []) fault → IsLoadCause (record { told = told; faults_before = fb; faults_now = fn; taken_before = tb; taken_now = tn }) (zip (texts names) limits) fault
+  pub IsLoadCause-at : (i : ℕ) (d : String Y) (told told' : Option FileMap) (fb fm fn tb tm tn : ℕ) (name : List ℕ)
+      → i < length names → length names ≡ length limits → name ≡ string_bytes (get_or names i d) → told' ≡ told
+      → fb ≤ fm → tb ≤ tm → ForSome told (λ told. first_longer told (take i (zip (texts names) limits)) ≡ None)
+      → (fault : Fault) → IsLoadCause (reading_of told' fm fn tm tn) ((name, get_or limits i 0) ∷ []) fault
+      → IsLoadCause (reading_of told fb fn tb tn) (zip (texts names) limits) fault
   IsLoadCause-at i d told told' fb fm fn tb tm tn name h same is_name same_told f t within fault cause =
-      let here : IsLoadCause (record { told = told; faults_before = fm; faults_now = fn; taken_before = tm; taken_now = tn }) ((string_bytes (get_or names i d), get_or limits i 0) ∷ []) fault =
-      subst (λ name. IsLoadCause (record { told = told; faults_before = fm; faults_now = fn; taken_before = tm; taken_now = tn }) ((name, get_or limits i 0) ∷ []) fault) is_name
-      (subst (λ told. IsLoadCause (record { told = told; faults_before = fm; faults_now = fn; taken_before = tm; taken_now = tn }) ((name, get_or limits i 0) ∷ []) fault) same_told cause)
+      let here : IsLoadCause (reading_of told fm fn tm tn) ((string_bytes (get_or names i d), get_or limits i 0) ∷ []) fault =
+      subst (λ name. IsLoadCause (reading_of told fm fn tm tn) ((name, get_or limits i 0) ∷ []) fault) is_name
+      (subst (λ told. IsLoadCause (reading_of told fm fn tm tn) ((name, get_or limits i 0) ∷ []) fault) same_told cause)
       in
-      subst (λ files. IsLoadCause (record { told = told; faults_before = fb; faults_now = fn; taken_before = tb; taken_now = tn }) files fault) (files-at names limits i d 0 h same)
+      subst (λ files. IsLoadCause (reading_of told fb fn tb tn) files fault) (files-at names limits i d 0 h same)
       (IsLoadCause-among told fb fm fn tb tm tn _ _ _ f t within fault here)
 
   -- no file up to the one at `i` is too long
-  pub first_longer-more : (told : FileMap) (i : ℕ) (d : String Y) (name : List ℕ) → i < length names → length names ≡ length limits → name ≡ string_bytes (get_or names i d) → first_longer told (take i (zip (texts names) limits)) ≡ None → first_longer told ((name, get_or limits i 0) ∷ []) ≡ None → first_longer told (take (i + 1) (zip (texts names) limits)) ≡ None
+  pub first_longer-more : (told : FileMap) (i : ℕ) (d : String Y) (name : List ℕ) → i < length names
+      → length names ≡ length limits → name ≡ string_bytes (get_or names i d)
+      → first_longer told (take i (zip (texts names) limits)) ≡ None
+      → first_longer told ((name, get_or limits i 0) ∷ []) ≡ None
+      → first_longer told (take (i + 1) (zip (texts names) limits)) ≡ None
   first_longer-more told i d name h same is_name before here =
       let here' = subst (λ name. first_longer told ((name, get_or limits i 0) ∷ []) ≡ None) is_name here in
       ap (λ n. first_longer told (take n (zip (texts names) limits))) (add-one i)
@@ -97,7 +132,8 @@ module _ {Y : Type 0} (names : List (String Y)) (limits : List ℕ) where
       ∙ find-more (λ file. nat_lt file.1 (length (file_bytes told file.0))) (take i (zip (texts names) limits)) (string_bytes (get_or names i d), get_or limits i 0) before here'
 
 -- all files
-pub files-all : {Y : Type 0} (names : List (String Y)) (limits : List ℕ) (i : ℕ) → length names ≤ i → take i (zip (texts names) limits) ≡ zip (texts names) limits
+pub files-all : {Y : Type 0} (names : List (String Y)) (limits : List ℕ) (i : ℕ) → length names ≤ i
+    → take i (zip (texts names) limits) ≡ zip (texts names) limits
 files-all [] limits zero h = refl
 files-all [] limits (suc i) h = refl
 files-all (n ∷ ns) [] zero h = refl
@@ -106,7 +142,10 @@ files-all (n ∷ ns) (l ∷ ls) zero h = absurd (omega arith)
 files-all (n ∷ ns) (l ∷ ls) (suc i) h = ap (λ files. (string_bytes n, l) ∷ files) (files-all ns ls i (omega arith))
 
 -- the bytes of one more file
-pub AreBytesOf-more : {Y Z : Type 0} (contents : Option FileMap) (names : List (String Y)) (i : ℕ) (d : String Y) (loaded more : List (Vec ℕ Z)) (bytes : Vec ℕ Z) → i < length names → more ≡ loaded ++ bytes ∷ [] → AreBytesOf contents (texts (take i names)) (all_bytes loaded) → ForSome contents (λ told. bytes.items ≡ file_bytes told (string_bytes (get_or names i d))) → AreBytesOf contents (texts (take (i + 1) names)) (all_bytes more)
+pub AreBytesOf-more : {Y Z : Type 0} (contents : Option FileMap) (names : List (String Y)) (i : ℕ) (d : String Y) (loaded more : List (Vec ℕ Z)) (bytes : Vec ℕ Z)
+    → i < length names → more ≡ loaded ++ bytes ∷ [] → AreBytesOf contents (texts (take i names)) (all_bytes loaded)
+    → ForSome contents (λ told. bytes.items ≡ file_bytes told (string_bytes (get_or names i d)))
+    → AreBytesOf contents (texts (take (i + 1) names)) (all_bytes more)
 AreBytesOf-more contents names i d loaded more bytes h pushed before here = λ told e.
     let one = string_bytes (get_or names i d) in
     ap all_bytes pushed
@@ -118,14 +157,17 @@ AreBytesOf-more contents names i d loaded more bytes h pushed before here = λ t
     ∙ ap (λ l. map (file_bytes told) (texts l)) (sym (take_more names i d h))
 
 -- one more list within its limit
-AreWithin-behind : (lists : List (List ℕ)) (bytes : List ℕ) (limits : List ℕ) → length lists < length limits → AreWithin lists limits → length bytes ≤ get_or limits (length lists) 0 → AreWithin (lists ++ bytes ∷ []) limits
-AreWithin-behind [] bytes [] h within short = absurd (omega (arith, h))
-AreWithin-behind [] bytes (limit ∷ limits) h within short = (short, tt)
-AreWithin-behind (list ∷ lists) bytes [] h within short = absurd (omega (arith, h))
-AreWithin-behind (list ∷ lists) bytes (limit ∷ limits) h within short = (within.0, AreWithin-behind lists bytes limits (omega (arith, h)) within.1 short)
+AreWithin-after : (lists : List (List ℕ)) (bytes : List ℕ) (limits : List ℕ) → length lists < length limits
+    → AreWithin lists limits → length bytes ≤ get_or limits (length lists) 0 → AreWithin (lists ++ bytes ∷ []) limits
+AreWithin-after [] bytes [] h within short = absurd (omega (arith, h))
+AreWithin-after [] bytes (limit ∷ limits) h within short = (short, tt)
+AreWithin-after (list ∷ lists) bytes [] h within short = absurd (omega (arith, h))
+AreWithin-after (list ∷ lists) bytes (limit ∷ limits) h within short = (within.0, AreWithin-after lists bytes limits (omega (arith, h)) within.1 short)
 
-pub AreWithin-more : {Y Z : Type 0} (names : List (String Y)) (loaded more : List (Vec ℕ Z)) (bytes : Vec ℕ Z) (limits : List ℕ) (i : ℕ) → more ≡ loaded ++ bytes ∷ [] → length loaded ≡ i → length names ≡ length limits → i < length names → AreWithin (all_bytes loaded) limits → length bytes.items ≤ get_or limits i 0 → AreWithin (all_bytes more) limits
+pub AreWithin-more : {Y Z : Type 0} (names : List (String Y)) (loaded more : List (Vec ℕ Z)) (bytes : Vec ℕ Z) (limits : List ℕ) (i : ℕ)
+    → more ≡ loaded ++ bytes ∷ [] → length loaded ≡ i → length names ≡ length limits → i < length names
+    → AreWithin (all_bytes loaded) limits → length bytes.items ≤ get_or limits i 0 → AreWithin (all_bytes more) limits
 AreWithin-more names loaded more bytes limits i pushed count each h before short =
     let listed : length (all_bytes loaded) ≡ i = length-map loaded (λ bytes. bytes.items) ∙ count in
     subst (λ lists. AreWithin lists limits) (sym (ap all_bytes pushed ∙ map-append (λ bytes. bytes.items) loaded (bytes ∷ [])))
-    (AreWithin-behind (all_bytes loaded) bytes.items limits (omega (arith, listed, each, h)) before (subst (λ k. length bytes.items ≤ get_or limits k 0) (sym listed) short))
+    (AreWithin-after (all_bytes loaded) bytes.items limits (omega (arith, listed, each, h)) before (subst (λ k. length bytes.items ≤ get_or limits k 0) (sym listed) short))

@@ -1,5 +1,5 @@
 -- The causes of faults in the words of a call, and their statuses.
-use Rattle.std.proofs.Common.{◌≡◌, ℕ, zero, suc, ◌+◌, ◌^◌, ◌<◌, List, [], ◌∷◌, ◌++◌, length, take, drop, decimal, refl, sym, ◌∙◌, ap, subst, arith, map, Option, Some, None, inl, inr, ◌⊎◌, Result, Ok, Err, IfErr}
+use Rattle.std.proofs.Common.{◌≡◌, ℕ, zero, suc, ◌+◌, ◌^◌, ◌<◌, List, [], ◌∷◌, ◌++◌, length, take, drop, decimal, refl, sym, ◌∙◌, ap, subst, arith, map, Option, Some, None, inl, inr, ◌⊎◌, Result, Ok, Err, IfErr, IsSome, zip, Bool, true, false, not, ◌||◌, ◌==◌, true≢false, ⊎_elim}
 use Rattle.std.specs.List.{Contains}
 use Rattle.std.proofs.Math.Seq.{take-append_seam, drop-append_seam}
 use Rattle.std.specs.Option.{ForSome}
@@ -28,92 +28,40 @@ use Rattle.r3_history.specs.Histories as histories
 use Rattle.r3_history.specs.Histories.{IsHistoryRefusal, IsUntold, OfRun, OfLink}
 use Rattle.r3_core.specs.declared.words.Command.{Command}
 use Rattle.r3_core.specs.declared.words.Command.TheVariants.{Make, Instrument, Record, Reduce, Build, History, Replay, Show, Load}
-use Rattle.r3_core.specs.Words.{form, IsBehind, Says, IsListed, IsUnbuilt, files_of}
-use Rattle.r3_core.specs.Causes.{Reading, first_longer, IsLoadCause, AreBytesOf, IsRefusal, IsDoable, IsRefused, IsCause, Unlisted, Unbuilt, Unloaded, Refused, Unwritten, Wanting, IsPrintCause, UnbuiltCommand, UnloadedFile, RefusedBytes, WantingMemory}
+use Rattle.r3_core.specs.Words.{form, is_built, IsAfterFiles, Says, IsListed, IsBuilt, IsUnbuilt, files_of}
+use Rattle.r3_core.specs.Causes.{Reading, first_longer, IsLoadCause, AreBytesOf, IsRefusal, IsDoable, IsRefused, IsCause, Unlisted, Unbuilt, Unloaded, Refused, Unwritten, OutOfMemory, IsPrintCause, UnbuiltCommand, UnloadedFile, RefusedBytes, NoMemoryLeft}
 use Rattle.r3_core.proofs.WordLemmas.{files_of-Says, Says-same}
+use Rattle.r3_core.proofs.CauseLemmas.{load-cases}
 
 -- ---- a file that is not loaded
 
 module _ (reading : Reading) (files : List (List ℕ × ℕ)) where
   -- a read fault: the count rose
-  pub load-status_read : (fault : Fault) → IsLoadCause reading files fault → status_of fault ≡ 3 → Rose reading.faults_before reading.faults_now
-  load-status_read faults.Usage c e = absurd c
-  load-status_read (faults.Read name) c e = c.1
-  load-status_read (faults.TooLong name limit) c e = absurd (omega arith)
-  load-status_read (faults.Malformed at) c e = absurd c
-  load-status_read (faults.InvalidFunction func) c e = absurd c
-  load-status_read faults.InvalidModule c e = absurd c
-  load-status_read (faults.Unsupported func number feature) c e = absurd c
-  load-status_read (faults.Limit which value) c e = absurd c
-  load-status_read (faults.Reserved import) c e = absurd c
-  load-status_read faults.NotJson c e = absurd c
-  load-status_read (faults.Shape path) c e = absurd c
-  load-status_read (faults.UnknownName name) c e = absurd c
-  load-status_read (faults.WrongType name) c e = absurd c
-  load-status_read (faults.NoAccess name) c e = absurd c
-  load-status_read (faults.CallsOwn name) c e = absurd c
-  load-status_read (faults.Missing import) c e = absurd c
-  load-status_read (faults.Mismatch import) c e = absurd c
-  load-status_read (faults.Segment number) c e = absurd c
-  load-status_read (faults.Script turn kind) c e = absurd c
-  load-status_read (faults.Spent turns) c e = absurd c
-  load-status_read faults.Write c e = absurd c
-  load-status_read faults.Memory c e = absurd c
-  load-status_read faults.NotBuilt c e = absurd c
+  pub load-status_read : (fault : Fault) → IsLoadCause reading files fault → status_of fault ≡ 3
+      → Rose reading.faults_before reading.faults_now
+  load-status_read =
+      load-cases reading files (λ fault. status_of fault ≡ 3 → Rose reading.faults_before reading.faults_now)
+      (λ name listed rose e. rose) (λ name limit listed took first e. absurd (omega (arith, e)))
 
   -- too long: the first file that is
-  pub load-status_too_long : (fault : Fault) → IsLoadCause reading files fault → status_of fault ≡ 4 → (file : List ℕ × ℕ) × Contains files file × Took reading.taken_before reading.taken_now (file.1 + 1) × ForSome reading.told (λ told. first_longer told files ≡ Some file)
-  load-status_too_long faults.Usage c e = absurd c
-  load-status_too_long (faults.Read name) c e = absurd (omega arith)
-  load-status_too_long (faults.TooLong name limit) c e = ((name, limit), c.0, c.1, c.2)
-  load-status_too_long (faults.Malformed at) c e = absurd c
-  load-status_too_long (faults.InvalidFunction func) c e = absurd c
-  load-status_too_long faults.InvalidModule c e = absurd c
-  load-status_too_long (faults.Unsupported func number feature) c e = absurd c
-  load-status_too_long (faults.Limit which value) c e = absurd c
-  load-status_too_long (faults.Reserved import) c e = absurd c
-  load-status_too_long faults.NotJson c e = absurd c
-  load-status_too_long (faults.Shape path) c e = absurd c
-  load-status_too_long (faults.UnknownName name) c e = absurd c
-  load-status_too_long (faults.WrongType name) c e = absurd c
-  load-status_too_long (faults.NoAccess name) c e = absurd c
-  load-status_too_long (faults.CallsOwn name) c e = absurd c
-  load-status_too_long (faults.Missing import) c e = absurd c
-  load-status_too_long (faults.Mismatch import) c e = absurd c
-  load-status_too_long (faults.Segment number) c e = absurd c
-  load-status_too_long (faults.Script turn kind) c e = absurd c
-  load-status_too_long (faults.Spent turns) c e = absurd c
-  load-status_too_long faults.Write c e = absurd c
-  load-status_too_long faults.Memory c e = absurd c
-  load-status_too_long faults.NotBuilt c e = absurd c
+  abbrev pub HasLongFile : Type 0
+  HasLongFile =
+      (file : List ℕ × ℕ) × Contains files file × Took reading.taken_before reading.taken_now (file.1 + 1)
+      × ForSome reading.contents (λ told. first_longer told files ≡ Some file)
+
+  pub load-status_too_long : (fault : Fault) → IsLoadCause reading files fault → status_of fault ≡ 4 → HasLongFile
+  load-status_too_long =
+      load-cases reading files (λ fault. status_of fault ≡ 4 → HasLongFile)
+      (λ name listed rose e. absurd (omega (arith, e))) (λ name limit listed took first e. ((name, limit), listed, took, first))
 
   pub load-statuses : (fault : Fault) → IsLoadCause reading files fault → (status_of fault ≡ 3) ⊎ (status_of fault ≡ 4)
-  load-statuses faults.Usage c = absurd c
-  load-statuses (faults.Read name) c = inl refl
-  load-statuses (faults.TooLong name limit) c = inr refl
-  load-statuses (faults.Malformed at) c = absurd c
-  load-statuses (faults.InvalidFunction func) c = absurd c
-  load-statuses faults.InvalidModule c = absurd c
-  load-statuses (faults.Unsupported func number feature) c = absurd c
-  load-statuses (faults.Limit which value) c = absurd c
-  load-statuses (faults.Reserved import) c = absurd c
-  load-statuses faults.NotJson c = absurd c
-  load-statuses (faults.Shape path) c = absurd c
-  load-statuses (faults.UnknownName name) c = absurd c
-  load-statuses (faults.WrongType name) c = absurd c
-  load-statuses (faults.NoAccess name) c = absurd c
-  load-statuses (faults.CallsOwn name) c = absurd c
-  load-statuses (faults.Missing import) c = absurd c
-  load-statuses (faults.Mismatch import) c = absurd c
-  load-statuses (faults.Segment number) c = absurd c
-  load-statuses (faults.Script turn kind) c = absurd c
-  load-statuses (faults.Spent turns) c = absurd c
-  load-statuses faults.Write c = absurd c
-  load-statuses faults.Memory c = absurd c
-  load-statuses faults.NotBuilt c = absurd c
+  load-statuses =
+      load-cases reading files (λ fault. (status_of fault ≡ 3) ⊎ (status_of fault ≡ 4))
+      (λ name listed rose. inl refl) (λ name limit listed took first. inr refl)
 
 -- a file that is not loaded: its status
-pub load-contains : (reading : Reading) (files : List (List ℕ × ℕ)) (fault : Fault) → (fault ≡ faults.Memory) ⊎ IsLoadCause reading files fault → Contains (3 ∷ 4 ∷ 14 ∷ []) (status_of fault)
+pub load-contains : (reading : Reading) (files : List (List ℕ × ℕ)) (fault : Fault)
+    → (fault ≡ faults.Memory) ⊎ IsLoadCause reading files fault → Contains (3 ∷ 4 ∷ 14 ∷ []) (status_of fault)
 load-contains reading files fault (inl memory) = (2, omega arith, sym (ap status_of memory))
 load-contains reading files fault (inr cause) =
     elim (load-statuses reading files fault cause) [ inl three ↦ (0, omega arith, sym three) | inr four ↦ (1, omega arith, sym four) ]
@@ -123,7 +71,9 @@ none-differs : (file : List ℕ × ℕ) (found : Option (List ℕ × ℕ)) → f
 none-differs file None none some = cc some
 none-differs file (Some other) none some = cc none
 
-pub load-refused : (reading : Reading) (files : List (List ℕ × ℕ)) (fault : Fault) (other : ℕ) (told : FileMap) → reading.told ≡ Some told → first_longer told files ≡ None → (fault ≡ faults.Memory) ⊎ IsLoadCause reading files fault → Contains (other ∷ 3 ∷ 14 ∷ []) (status_of fault)
+pub load-refused : (reading : Reading) (files : List (List ℕ × ℕ)) (fault : Fault) (other : ℕ) (told : FileMap)
+    → reading.contents ≡ Some told → first_longer told files ≡ None
+    → (fault ≡ faults.Memory) ⊎ IsLoadCause reading files fault → Contains (other ∷ 3 ∷ 14 ∷ []) (status_of fault)
 load-refused reading files fault other told e none (inl memory) = (2, omega arith, sym (ap status_of memory))
 load-refused reading files fault other told e none (inr cause) =
     elim (load-statuses reading files fault cause) [
@@ -131,7 +81,9 @@ load-refused reading files fault other told e none (inr cause) =
       | inr four ↦ (let long = load-status_too_long reading files fault cause four in absurd (none-differs long.0 (first_longer told files) none (long.3 told e)))
     ]
 
-pub load-done : (reading : Reading) (files : List (List ℕ × ℕ)) (fault : Fault) (told : FileMap) → reading.told ≡ Some told → first_longer told files ≡ None → (fault ≡ faults.Memory) ⊎ IsLoadCause reading files fault → Contains (3 ∷ 13 ∷ 14 ∷ []) (status_of fault)
+pub load-done : (reading : Reading) (files : List (List ℕ × ℕ)) (fault : Fault) (told : FileMap)
+    → reading.contents ≡ Some told → first_longer told files ≡ None
+    → (fault ≡ faults.Memory) ⊎ IsLoadCause reading files fault → Contains (3 ∷ 13 ∷ 14 ∷ []) (status_of fault)
 load-done reading files fault told e none (inl memory) = (2, omega arith, sym (ap status_of memory))
 load-done reading files fault told e none (inr cause) =
     elim (load-statuses reading files fault cause) [
@@ -145,91 +97,80 @@ load-done reading files fault told e none (inr cause) =
 abbrev IsOther : ℕ → Type 0
 IsOther status = (status ≡ 2 → ⊥) × (status ≡ 3 → ⊥) × (status ≡ 4 → ⊥) × (status ≡ 13 → ⊥) × (status ≡ 14 → ⊥)
 
+-- the same, as a test
+abbrev is_other : ℕ → Bool
+is_other status = not ((status == 2) || ((status == 3) || ((status == 4) || ((status == 13) || (status == 14)))))
+
+IsOther-from : (status : ℕ) → is_other status ≡ true → IsOther status
+IsOther-from status h = (differs 2 refl, differs 3 refl, differs 4 refl, differs 13 refl, differs 14 refl)
+  where
+    differs : (n : ℕ) → is_other n ≡ false → status ≡ n → ⊥
+    differs n none e = true≢false (sym h ∙ ap is_other e ∙ none)
+
 -- a fault that is named
-named-other : (fault other : Fault) → fault ≡ other → IsOther (status_of other) → IsOther (status_of fault)
-named-other fault other e is = subst (λ f. IsOther (status_of f)) (sym e) is
+named-other : (fault other : Fault) → fault ≡ other → is_other (status_of other) ≡ true → IsOther (status_of fault)
+named-other fault other e is = subst (λ f. IsOther (status_of f)) (sym e) (IsOther-from (status_of other) is)
 
-not-5 : IsOther 5
-not-5 = (λ e. absurd (omega (arith, e)), λ e. absurd (omega (arith, e)), λ e. absurd (omega (arith, e)), λ e. absurd (omega (arith, e)), λ e. absurd (omega (arith, e)))
+invalid-other : (place : Option ℕ) → is_other (status_of (invalid_fault place)) ≡ true
+invalid-other None = refl
+invalid-other (Some func) = refl
 
-not-6 : IsOther 6
-not-6 = (λ e. absurd (omega (arith, e)), λ e. absurd (omega (arith, e)), λ e. absurd (omega (arith, e)), λ e. absurd (omega (arith, e)), λ e. absurd (omega (arith, e)))
+profile-other : (refusal : Refusal) → is_other (status_of (refusal_fault refusal)) ≡ true
+profile-other (profile.Unsupported func number feature) = refl
+profile-other (profile.Limit which value) = refl
+profile-other (profile.Reserved import) = refl
 
-not-7 : IsOther 7
-not-7 = (λ e. absurd (omega (arith, e)), λ e. absurd (omega (arith, e)), λ e. absurd (omega (arith, e)), λ e. absurd (omega (arith, e)), λ e. absurd (omega (arith, e)))
-
-not-8 : IsOther 8
-not-8 = (λ e. absurd (omega (arith, e)), λ e. absurd (omega (arith, e)), λ e. absurd (omega (arith, e)), λ e. absurd (omega (arith, e)), λ e. absurd (omega (arith, e)))
-
-not-9 : IsOther 9
-not-9 = (λ e. absurd (omega (arith, e)), λ e. absurd (omega (arith, e)), λ e. absurd (omega (arith, e)), λ e. absurd (omega (arith, e)), λ e. absurd (omega (arith, e)))
-
-not-10 : IsOther 10
-not-10 = (λ e. absurd (omega (arith, e)), λ e. absurd (omega (arith, e)), λ e. absurd (omega (arith, e)), λ e. absurd (omega (arith, e)), λ e. absurd (omega (arith, e)))
-
-not-11 : IsOther 11
-not-11 = (λ e. absurd (omega (arith, e)), λ e. absurd (omega (arith, e)), λ e. absurd (omega (arith, e)), λ e. absurd (omega (arith, e)), λ e. absurd (omega (arith, e)))
-
-not-12 : IsOther 12
-not-12 = (λ e. absurd (omega (arith, e)), λ e. absurd (omega (arith, e)), λ e. absurd (omega (arith, e)), λ e. absurd (omega (arith, e)), λ e. absurd (omega (arith, e)))
-
-not-19 : IsOther 19
-not-19 = (λ e. absurd (omega (arith, e)), λ e. absurd (omega (arith, e)), λ e. absurd (omega (arith, e)), λ e. absurd (omega (arith, e)), λ e. absurd (omega (arith, e)))
-
-invalid-other : (place : Option ℕ) → IsOther (status_of (invalid_fault place))
-invalid-other None = not-6
-invalid-other (Some func) = not-6
-
-profile-other : (refusal : Refusal) → IsOther (status_of (refusal_fault refusal))
-profile-other (profile.Unsupported func number feature) = not-7
-profile-other (profile.Limit which value) = not-8
-profile-other (profile.Reserved import) = not-8
-
-script-other : (found : ScriptFault) → (found ≡ script.Memory → ⊥) → IsOther (status_of (script_fault found))
-script-other script.NotJson differs = not-9
-script-other (script.Shape path) differs = not-9
-script-other (script.UnknownName name) differs = not-9
-script-other (script.WrongType name) differs = not-9
-script-other (script.NoAccess name) differs = not-9
-script-other (script.CallsOwn name) differs = not-9
+script-other : (found : ScriptFault) → (found ≡ script.Memory → ⊥) → is_other (status_of (script_fault found)) ≡ true
+script-other script.NotJson differs = refl
+script-other (script.Shape path) differs = refl
+script-other (script.UnknownName name) differs = refl
+script-other (script.WrongType name) differs = refl
+script-other (script.NoAccess name) differs = refl
+script-other (script.CallsOwn name) differs = refl
 script-other script.Memory differs = absurd (differs refl)
 
 module-other : (bytes : List ℕ) (fault : Fault) → IsRefusedModule bytes fault → IsOther (status_of fault)
-module-other bytes fault (ByBytes malformed) = named-other fault (faults.Malformed malformed.at) malformed.named not-5
+module-other bytes fault (ByBytes malformed) = named-other fault (faults.Malformed malformed.at) malformed.named refl
 module-other bytes fault (ByRules m encoded invalid) = named-other fault (invalid_fault invalid.place) invalid.named (invalid-other invalid.place)
 module-other bytes fault (ByProfile m encoded valid refused) = named-other fault (refusal_fault refused.refusal) refused.named (profile-other refused.refusal)
 
-inputs-other : (module_bytes script_bytes : List ℕ) (fault : Fault) → AreRefused module_bytes script_bytes fault → IsOther (status_of fault)
+inputs-other : (module_bytes script_bytes : List ℕ) (fault : Fault) → AreRefused module_bytes script_bytes fault
+    → IsOther (status_of fault)
 inputs-other module_bytes script_bytes fault (ByModule refused) = module-other module_bytes fault refused
 inputs-other module_bytes script_bytes fault (ByScript m is refused) = named-other fault (script_fault refused.found) refused.named (script-other refused.found refused.differs)
 
-link-other : (found : LinkFault) → (found ≡ link.Memory → ⊥) → IsOther (status_of (unlinked.link_fault found))
-link-other (link.Missing import) differs = not-10
-link-other (link.Mismatch import) differs = not-10
-link-other (link.Segment number) differs = not-10
+link-other : (found : LinkFault) → (found ≡ link.Memory → ⊥) → is_other (status_of (unlinked.link_fault found)) ≡ true
+link-other (link.Missing import) differs = refl
+link-other (link.Mismatch import) differs = refl
+link-other (link.Segment number) differs = refl
 link-other link.Memory differs = absurd (differs refl)
 
-unmade-status : (m : Module) (played : Script) (turns : ℕ) (fault : Fault) → IsUnmade m played turns fault → IsOther (status_of fault)
+unmade-status : (m : Module) (played : Script) (turns : ℕ) (fault : Fault) → IsUnmade m played turns fault
+    → IsOther (status_of fault)
 unmade-status m played turns fault (refusals.OfLink u) = named-other fault (unlinked.link_fault u.found) u.named (link-other u.found u.differs)
-unmade-status m played turns fault (refusals.OfForm u) = named-other fault faults.NotBuilt u.named not-19
-unmade-status m played turns fault (refusals.OfRun built (runs.OfScript u)) = named-other fault (faults.Script u.turn u.kind) u.named not-11
-unmade-status m played turns fault (refusals.OfRun built (runs.OfTurns u)) = named-other fault (faults.Spent turns) u.named not-12
+unmade-status m played turns fault (refusals.OfForm u) = named-other fault faults.NotBuilt u.named refl
+unmade-status m played turns fault (refusals.OfRun built (runs.OfScript u)) = named-other fault (faults.Script u.turn u.kind) u.named refl
+unmade-status m played turns fault (refusals.OfRun built (runs.OfTurns u)) = named-other fault (faults.Spent turns) u.named refl
 
-make-status : (module_bytes script_bytes : List ℕ) (turns : ℕ) (fault : Fault) → IsMakeRefusal module_bytes script_bytes turns fault → IsOther (status_of fault)
+make-status : (module_bytes script_bytes : List ℕ) (turns : ℕ) (fault : Fault)
+    → IsMakeRefusal module_bytes script_bytes turns fault → IsOther (status_of fault)
 make-status m s turns fault (OfInputs refused) = inputs-other m s fault refused
 make-status m s turns fault (OfModule n played inputs unmade) = unmade-status n played turns fault unmade
 
-untold-status : (m : Module) (played : Script) (turns : ℕ) (fault : Fault) → IsUntold m played turns fault → IsOther (status_of fault)
+untold-status : (m : Module) (played : Script) (turns : ℕ) (fault : Fault) → IsUntold m played turns fault
+    → IsOther (status_of fault)
 untold-status m played turns fault (OfLink u) = named-other fault (unlinked.link_fault u.found) u.named (link-other u.found u.differs)
-untold-status m played turns fault (histories.OfForm u) = named-other fault faults.NotBuilt u.named not-19
-untold-status m played turns fault (histories.OfOutcome flat (runs.OfScript u)) = named-other fault (faults.Script u.turn u.kind) u.named not-11
-untold-status m played turns fault (histories.OfOutcome flat (runs.OfTurns u)) = named-other fault (faults.Spent turns) u.named not-12
+untold-status m played turns fault (histories.OfForm u) = named-other fault faults.NotBuilt u.named refl
+untold-status m played turns fault (histories.OfOutcome flat (runs.OfScript u)) = named-other fault (faults.Script u.turn u.kind) u.named refl
+untold-status m played turns fault (histories.OfOutcome flat (runs.OfTurns u)) = named-other fault (faults.Spent turns) u.named refl
 
-history-status : (module_bytes script_bytes : List ℕ) (turns : ℕ) (fault : Fault) → IsHistoryRefusal module_bytes script_bytes turns fault → IsOther (status_of fault)
+history-status : (module_bytes script_bytes : List ℕ) (turns : ℕ) (fault : Fault)
+    → IsHistoryRefusal module_bytes script_bytes turns fault → IsOther (status_of fault)
 history-status m s turns fault (histories.OfInputs refused) = inputs-other m s fault refused
 history-status m s turns fault (OfRun original played inputs untold) = untold-status original played turns fault untold
 
-refusal-status : (command : Command) (loaded : List (List ℕ)) (number : Option ℕ) (fault : Fault) → IsRefusal command loaded number fault → IsOther (status_of fault)
+refusal-status : (command : Command) (loaded : List (List ℕ)) (number : Option ℕ) (fault : Fault)
+    → IsRefusal command loaded number fault → IsOther (status_of fault)
 refusal-status Make [] number fault c = absurd c
 refusal-status Make (m ∷ []) number fault c = absurd c
 refusal-status Make (m ∷ s ∷ []) None fault c = absurd c
@@ -251,29 +192,25 @@ refusal-status Load loaded number fault c = absurd c
 -- ---- the cause of a call's fault
 
 module _ (words : List (List ℕ)) (reading : Reading) (before now : ℕ) (fault : Fault) where
-  listed-when_refused : IsRefused words reading.told fault → IsListed words
+  listed-when_refused : IsRefused words reading.contents fault → IsListed words
   listed-when_refused r = (r.command, r.call.names, r.number, r.call.says)
 
   listed-when_unbuilt : IsUnbuilt words → IsListed words
   listed-when_unbuilt u = (u.0, u.1, u.2, u.3)
 
-  pub status-usage : IsCause words reading before now fault → status_of fault ≡ 2 → ¬ (IsListed words)
-  status-usage (Unlisted is unlisted) e = unlisted
+  not-loaded : {P : Type 0} → IsLoadCause reading (files_of words) fault → (status_of fault ≡ 3 → P)
+      → (status_of fault ≡ 4 → P) → P
+  not-loaded cause read long = ⊎_elim read long (load-statuses reading (files_of words) fault cause)
+
+  pub status-usage : IsCause words reading before now fault → status_of fault ≡ 2
+      → (fault ≡ faults.Usage) × (¬ (IsListed words))
+  status-usage (Unlisted is unlisted) e = (is, unlisted)
   status-usage (Unbuilt is unbuilt) e = absurd (omega (arith, e, ap status_of is))
   status-usage (Unloaded listed cause) e =
-      elim (load-statuses reading (files_of words) fault cause) [ inl three ↦ absurd (omega (arith, e, three)) | inr four ↦ absurd (omega (arith, e, four)) ]
+      not-loaded cause (λ three. absurd (omega (arith, e, three))) (λ four. absurd (omega (arith, e, four)))
   status-usage (Refused r) e = absurd ((refusal-status r.command r.loaded r.number fault r.refusal).0 e)
   status-usage (Unwritten is listed rose) e = absurd (omega (arith, e, ap status_of is))
-  status-usage (Wanting is listed) e = absurd (omega (arith, e, ap status_of is))
-
-  pub fault-usage : IsCause words reading before now fault → status_of fault ≡ 2 → fault ≡ faults.Usage
-  fault-usage (Unlisted is unlisted) e = is
-  fault-usage (Unbuilt is unbuilt) e = absurd (omega (arith, e, ap status_of is))
-  fault-usage (Unloaded listed cause) e =
-      elim (load-statuses reading (files_of words) fault cause) [ inl three ↦ absurd (omega (arith, e, three)) | inr four ↦ absurd (omega (arith, e, four)) ]
-  fault-usage (Refused r) e = absurd ((refusal-status r.command r.loaded r.number fault r.refusal).0 e)
-  fault-usage (Unwritten is listed rose) e = absurd (omega (arith, e, ap status_of is))
-  fault-usage (Wanting is listed) e = absurd (omega (arith, e, ap status_of is))
+  status-usage (OutOfMemory is listed) e = absurd (omega (arith, e, ap status_of is))
 
   pub listed-unless_usage : IsCause words reading before now fault → (status_of fault ≡ 2) ⊎ IsListed words
   listed-unless_usage (Unlisted is unlisted) = inl (ap status_of is)
@@ -281,63 +218,73 @@ module _ (words : List (List ℕ)) (reading : Reading) (before now : ℕ) (fault
   listed-unless_usage (Unloaded listed cause) = inr listed
   listed-unless_usage (Refused r) = inr (listed-when_refused r)
   listed-unless_usage (Unwritten is listed rose) = inr listed
-  listed-unless_usage (Wanting is listed) = inr listed
+  listed-unless_usage (OutOfMemory is listed) = inr listed
 
-  pub status-read : IsCause words reading before now fault → status_of fault ≡ 3 → Rose reading.faults_before reading.faults_now
+  pub status-read : IsCause words reading before now fault → status_of fault ≡ 3
+      → Rose reading.faults_before reading.faults_now
   status-read (Unlisted is unlisted) e = absurd (omega (arith, e, ap status_of is))
   status-read (Unbuilt is unbuilt) e = absurd (omega (arith, e, ap status_of is))
   status-read (Unloaded listed cause) e = load-status_read reading (files_of words) fault cause e
   status-read (Refused r) e = absurd ((refusal-status r.command r.loaded r.number fault r.refusal).1 e)
   status-read (Unwritten is listed rose) e = absurd (omega (arith, e, ap status_of is))
-  status-read (Wanting is listed) e = absurd (omega (arith, e, ap status_of is))
+  status-read (OutOfMemory is listed) e = absurd (omega (arith, e, ap status_of is))
 
-  pub status-too_long : IsCause words reading before now fault → status_of fault ≡ 4 → (file : List ℕ × ℕ) × Contains (files_of words) file × Took reading.taken_before reading.taken_now (file.1 + 1) × ForSome reading.told (λ told. first_longer told (files_of words) ≡ Some file)
+  pub status-too_long : IsCause words reading before now fault → status_of fault ≡ 4
+      → HasLongFile reading (files_of words)
   status-too_long (Unlisted is unlisted) e = absurd (omega (arith, e, ap status_of is))
   status-too_long (Unbuilt is unbuilt) e = absurd (omega (arith, e, ap status_of is))
   status-too_long (Unloaded listed cause) e = load-status_too_long reading (files_of words) fault cause e
   status-too_long (Refused r) e = absurd ((refusal-status r.command r.loaded r.number fault r.refusal).2 e)
   status-too_long (Unwritten is listed rose) e = absurd (omega (arith, e, ap status_of is))
-  status-too_long (Wanting is listed) e = absurd (omega (arith, e, ap status_of is))
+  status-too_long (OutOfMemory is listed) e = absurd (omega (arith, e, ap status_of is))
 
-  pub status-write : IsCause words reading before now fault → status_of fault ≡ 13 → (fault ≡ faults.Write) × Rose before now
+  pub status-write : IsCause words reading before now fault → status_of fault ≡ 13
+      → (fault ≡ faults.Write) × Rose before now
   status-write (Unlisted is unlisted) e = absurd (omega (arith, e, ap status_of is))
   status-write (Unbuilt is unbuilt) e = absurd (omega (arith, e, ap status_of is))
   status-write (Unloaded listed cause) e =
-      elim (load-statuses reading (files_of words) fault cause) [ inl three ↦ absurd (omega (arith, e, three)) | inr four ↦ absurd (omega (arith, e, four)) ]
+      not-loaded cause (λ three. absurd (omega (arith, e, three))) (λ four. absurd (omega (arith, e, four)))
   status-write (Refused r) e = absurd ((refusal-status r.command r.loaded r.number fault r.refusal).3 e)
   status-write (Unwritten is listed rose) e = (is, rose)
-  status-write (Wanting is listed) e = absurd (omega (arith, e, ap status_of is))
+  status-write (OutOfMemory is listed) e = absurd (omega (arith, e, ap status_of is))
 
 -- why a command prints nothing, in the words of the call
-pub IsCause-printing : (words : List (List ℕ)) (command : Command) (names : List (List ℕ)) (given : Option ℕ) → Says words command names given → (reading : Reading) (before now : ℕ) (fault : Fault) → IsPrintCause reading command names given fault → IsCause words reading before now fault
+pub IsCause-printing : (words : List (List ℕ)) (command : Command) (names : List (List ℕ)) (given : Option ℕ)
+    → Says words command names given → (reading : Reading) (before now : ℕ) (fault : Fault)
+    → IsPrintCause reading command names given fault → IsCause words reading before now fault
 IsCause-printing words command names given says reading before now fault (UnbuiltCommand is unbuilt) =
     Unbuilt is (command, names, given, says, unbuilt)
 IsCause-printing words command names given says reading before now fault (UnloadedFile cause) =
     Unloaded (command, names, given, says) (subst (λ files. IsLoadCause reading files fault) (sym (files_of-Says words command names given says)) cause)
 IsCause-printing words command names given says reading before now fault (RefusedBytes loaded bytes refusal) =
     Refused (record { command = command; loaded = loaded; number = given; call = record { names = names; says = says; bytes = bytes }; refusal = refusal })
-IsCause-printing words command names given says reading before now fault (WantingMemory is) = Wanting is (command, names, given, says)
+IsCause-printing words command names given says reading before now fault (NoMemoryLeft is) = OutOfMemory is (command, names, given, says)
 
--- the answer to a refusal, want of memory apart
-pub IsErrAnd-refused : {T : Type 0} (r : Result T Fault) (fault : Fault) → (r ≡ Err fault) ⊎ (r ≡ Err faults.Memory) → IsErrAnd r (λ other. Contains (status_of fault ∷ 3 ∷ 14 ∷ []) (status_of other))
+-- the answer to a refusal, where memory lasts
+pub IsErrAnd-refused : {T : Type 0} (r : Result T Fault) (fault : Fault) → (r ≡ Err fault) ⊎ (r ≡ Err faults.Memory)
+    → IsErrAnd r (λ other. Contains (status_of fault ∷ 3 ∷ 14 ∷ []) (status_of other))
 IsErrAnd-refused r fault (inl e) = subst (λ r. IsErrAnd r (λ other. Contains (status_of fault ∷ 3 ∷ 14 ∷ []) (status_of other))) (sym e) (0, omega arith, refl)
 IsErrAnd-refused r fault (inr e) = subst (λ r. IsErrAnd r (λ other. Contains (status_of fault ∷ 3 ∷ 14 ∷ []) (status_of other))) (sym e) (2, omega arith, refl)
 
 -- a job that can be done
-pub IfErr-done : {T : Type 0} (r : Result T Fault) → IfErr r (λ fault. fault ≡ faults.Memory) → IfErr r (λ other. Contains (3 ∷ 13 ∷ 14 ∷ []) (status_of other))
+pub IfErr-done : {T : Type 0} (r : Result T Fault) → IfErr r (λ fault. fault ≡ faults.Memory)
+    → IfErr r (λ other. Contains (3 ∷ 13 ∷ 14 ∷ []) (status_of other))
 IfErr-done (Ok x) memory = tt
 IfErr-done (Err fault) memory = (2, omega arith, sym (ap status_of memory))
 
-pub done-behind : (status : ℕ) → Contains (3 ∷ 13 ∷ 14 ∷ []) status → Contains (0 ∷ 3 ∷ 13 ∷ 14 ∷ []) status
-done-behind status (zero, h, e) = (1, omega arith, e)
-done-behind status (suc zero, h, e) = (2, omega arith, e)
-done-behind status (suc (suc zero), h, e) = (3, omega arith, e)
-done-behind status (suc (suc (suc k)), h, e) = absurd (omega (arith, h))
+pub done-after : (status : ℕ) → Contains (3 ∷ 13 ∷ 14 ∷ []) status → Contains (0 ∷ 3 ∷ 13 ∷ 14 ∷ []) status
+done-after status (zero, h, e) = (1, omega arith, e)
+done-after status (suc zero, h, e) = (2, omega arith, e)
+done-after status (suc (suc zero), h, e) = (3, omega arith, e)
+done-after status (suc (suc (suc k)), h, e) = absurd (omega (arith, h))
 
 -- the cause of what is answered for the bytes of files
-pub IfErr-bytes : {T : Type 0} (r : Result T Fault) (reading : Reading) (command : Command) (names loaded : List (List ℕ)) (number : Option ℕ) → AreBytesOf reading.told names loaded → IfErr r (λ fault. (fault ≡ faults.Memory) ⊎ IsRefusal command loaded number fault) → IfErr r (λ fault. IsPrintCause reading command names number fault)
+pub IfErr-bytes : {T : Type 0} (r : Result T Fault) (reading : Reading) (command : Command) (names loaded : List (List ℕ)) (number : Option ℕ)
+    → AreBytesOf reading.contents names loaded
+    → IfErr r (λ fault. (fault ≡ faults.Memory) ⊎ IsRefusal command loaded number fault)
+    → IfErr r (λ fault. IsPrintCause reading command names number fault)
 IfErr-bytes (Ok x) reading command names loaded number bytes cause = tt
-IfErr-bytes (Err fault) reading command names loaded number bytes (inl memory) = WantingMemory memory
+IfErr-bytes (Err fault) reading command names loaded number bytes (inl memory) = NoMemoryLeft memory
 IfErr-bytes (Err fault) reading command names loaded number bytes (inr refusal) = RefusedBytes loaded bytes refusal
 
 -- ---- two readings of the words
@@ -359,8 +306,7 @@ decimal-one : (a b : ℕ) → a < 2 ^ 64 → b < 2 ^ 64 → decimal a ≡ decima
 decimal-one a b low high e = stable a b (λ differ.
     let none : Result ℕ (Unit {0}) = Err tt in
     let word : Result ℕ (Unit {0}) = Ok (digits_value 10 (without_leading_plus (decimal a))) in
-    let unread : none ≡ Ok a = parse-decimal 64 a (decimal a) none low low refl (λ numeral. differ
-    (ok-one a b word (parse-decimal 64 a (decimal a) word low low refl (numeral, refl)) (parse-decimal 64 b (decimal a) word high high e (numeral, refl))))
+    let unread : none ≡ Ok a = parse-decimal 64 a (decimal a) none low low refl (λ numeral. differ (ok-one a b word (parse-decimal 64 a (decimal a) word low low refl (numeral, refl)) (parse-decimal 64 b (decimal a) word high high e (numeral, refl))))
     in err-no_ok a none refl unread)
 
 -- each number that a command takes is small
@@ -380,82 +326,101 @@ most-IsSmall Replay = omega arith
 most-IsSmall Show = tt
 most-IsSmall Load = omega arith
 
--- one number behind the files
-IsBehind-one : (most : Option ℕ) (behind : List (List ℕ)) (a b : Option ℕ) → IsSmall most → IsBehind most behind a → IsBehind most behind b → b ≡ a
+-- one number after the files
+IsAfterFiles-one : (most : Option ℕ) (after : List (List ℕ)) (a b : Option ℕ) → IsSmall most → IsAfterFiles most after a
+    → IsAfterFiles most after b → b ≡ a
 unfolding IsSmall
-IsBehind-one None [] None None h p q = refl
-IsBehind-one (Some most) (word ∷ []) (Some a) (Some b) h p q = ap Some (decimal-one b a (omega (arith, h, q.high)) (omega (arith, h, p.high)) (sym q.digits ∙ p.digits))
-IsBehind-one None [] None (Some b) h p q = absurd q
-IsBehind-one None [] (Some a) b h p q = absurd p
-IsBehind-one None (w ∷ ws) a b h p q = absurd p
-IsBehind-one (Some most) [] a b h p q = absurd p
-IsBehind-one (Some most) (w ∷ []) None b h p q = absurd p
-IsBehind-one (Some most) (w ∷ []) (Some a) None h p q = absurd q
-IsBehind-one (Some most) (w ∷ v ∷ ws) a b h p q = absurd p
+IsAfterFiles-one None [] None None h p q = refl
+IsAfterFiles-one (Some most) (word ∷ []) (Some a) (Some b) h p q = ap Some (decimal-one b a (omega (arith, h, q.high)) (omega (arith, h, p.high)) (sym q.digits ∙ p.digits))
+IsAfterFiles-one None [] None (Some b) h p q = absurd q
+IsAfterFiles-one None [] (Some a) b h p q = absurd p
+IsAfterFiles-one None (w ∷ ws) a b h p q = absurd p
+IsAfterFiles-one (Some most) [] a b h p q = absurd p
+IsAfterFiles-one (Some most) (w ∷ []) None b h p q = absurd p
+IsAfterFiles-one (Some most) (w ∷ []) (Some a) None h p q = absurd q
+IsAfterFiles-one (Some most) (w ∷ v ∷ ws) a b h p q = absurd p
 
 -- the names of the files, of one reading and of another
-module _ (words : List (List ℕ)) (command : Command) (names : List (List ℕ)) (number : Option ℕ) (command' : Command) (names' : List (List ℕ)) (number' : Option ℕ) (says : Says words command names number) (again : Says words command' names' number') where
+module _ (words : List (List ℕ)) (command : Command) (names : List (List ℕ)) (number : Option ℕ) (command' : Command)
+    (names' : List (List ℕ)) (number' : Option ℕ) (says : Says words command names number)
+    (again : Says words command' names' number') where
   same-command : command' ≡ command
   same-command = Says-same words command names number says command' names' number' again
 
-  same-written : names ++ says.behind ≡ names' ++ again.behind
-  same-written = cc (sym says.written ∙ again.written)
+  same-written : names ++ says.after ≡ names' ++ again.after
+  same-written = cc (sym says.parts ∙ again.parts)
 
   same-length : length names ≡ length names'
   same-length = says.all_files ∙ sym (again.all_files ∙ ap (λ c. length (form c).limits) same-command)
 
   same-names : names' ≡ names
   same-names =
-      sym (take-append_seam names' again.behind) ∙ ap (take (length names')) (sym same-written)
-      ∙ ap (λ n. take n (names ++ says.behind)) (sym same-length) ∙ take-append_seam names says.behind
+      sym (take-append_seam names' again.after) ∙ ap (take (length names')) (sym same-written)
+      ∙ ap (λ n. take n (names ++ says.after)) (sym same-length) ∙ take-append_seam names says.after
 
-  same-behind : says.behind ≡ again.behind
-  same-behind =
-      sym (drop-append_seam names says.behind) ∙ ap (drop (length names)) same-written
-      ∙ ap (λ n. drop n (names' ++ again.behind)) same-length ∙ drop-append_seam names' again.behind
+  same-after : says.after ≡ again.after
+  same-after =
+      sym (drop-append_seam names says.after) ∙ ap (drop (length names)) same-written
+      ∙ ap (λ n. drop n (names' ++ again.after)) same-length ∙ drop-append_seam names' again.after
 
   same-number : number' ≡ number
   same-number =
-      IsBehind-one (form command).most says.behind number number' (most-IsSmall command) says.number
-      (subst (λ behind. IsBehind (form command).most behind number') (sym same-behind)
-      (subst (λ c. IsBehind (form c).most again.behind number') same-command again.number))
+      IsAfterFiles-one (form command).most says.after number number' (most-IsSmall command) says.number
+      (subst (λ after. IsAfterFiles (form command).most after number') (sym same-after)
+      (subst (λ c. IsAfterFiles (form c).most again.after number') same-command again.number))
 
   -- a refusal by one reading of the words is one by another
-  pub IsRefusal-said : (told : FileMap) (fault : Fault) → IsRefusal command' (map (file_bytes told) names') number' fault → IsRefusal command (map (file_bytes told) names) number fault
+  pub IsRefusal-said : (told : FileMap) (fault : Fault)
+      → IsRefusal command' (map (file_bytes told) names') number' fault
+      → IsRefusal command (map (file_bytes told) names) number fault
   IsRefusal-said told fault sure =
       subst (λ c. IsRefusal c (map (file_bytes told) names) number fault) same-command
       (subst (λ ns. IsRefusal command' (map (file_bytes told) ns) number fault) same-names
       (subst (λ k. IsRefusal command' (map (file_bytes told) names') k fault) same-number sure))
 
   -- so is a job that can be done
-  pub IsDoable-said : (told : FileMap) → IsDoable command' (map (file_bytes told) names') number' → IsDoable command (map (file_bytes told) names) number
+  pub IsDoable-said : (told : FileMap) → IsDoable command' (map (file_bytes told) names') number'
+      → IsDoable command (map (file_bytes told) names) number
   IsDoable-said told done =
       subst (λ c. IsDoable c (map (file_bytes told) names) number) same-command
       (subst (λ ns. IsDoable command' (map (file_bytes told) ns) number) same-names
       (subst (λ k. IsDoable command' (map (file_bytes told) names') k) same-number done))
 
+-- a file is too long by one reading of the words: the command is built, and the file is too long by another
+pub longer-said : (words : List (List ℕ)) (command : Command) (names : List (List ℕ)) (number : Option ℕ)
+    → Says words command names number → IsBuilt words → (told : FileMap) → IsSome (first_longer told (files_of words))
+    → (is_built command ≡ true) × IsSome (first_longer told (zip names (form command).limits))
+longer-said words command names number says built told longer = (
+  subst (λ command. is_built command ≡ true)
+      (Says-same words command names number says built.0 built.1 built.2 built.3) built.4,
+  subst (λ files. IsSome (first_longer told files)) (files_of-Says words command names number says) longer,
+)
+
 -- no fault has the status of a job that is done
 pub status-not_done : (fault : Fault) → status_of fault ≡ 0 → ⊥
-status-not_done faults.Usage e = omega (arith, e)
-status-not_done (faults.Read name) e = omega (arith, e)
-status-not_done (faults.TooLong name limit) e = omega (arith, e)
-status-not_done (faults.Malformed at) e = omega (arith, e)
-status-not_done (faults.InvalidFunction func) e = omega (arith, e)
-status-not_done faults.InvalidModule e = omega (arith, e)
-status-not_done (faults.Unsupported func number feature) e = omega (arith, e)
-status-not_done (faults.Limit which value) e = omega (arith, e)
-status-not_done (faults.Reserved import) e = omega (arith, e)
-status-not_done faults.NotJson e = omega (arith, e)
-status-not_done (faults.Shape path) e = omega (arith, e)
-status-not_done (faults.UnknownName name) e = omega (arith, e)
-status-not_done (faults.WrongType name) e = omega (arith, e)
-status-not_done (faults.NoAccess name) e = omega (arith, e)
-status-not_done (faults.CallsOwn name) e = omega (arith, e)
-status-not_done (faults.Missing import) e = omega (arith, e)
-status-not_done (faults.Mismatch import) e = omega (arith, e)
-status-not_done (faults.Segment number) e = omega (arith, e)
-status-not_done (faults.Script turn kind) e = omega (arith, e)
-status-not_done (faults.Spent turns) e = omega (arith, e)
-status-not_done faults.Write e = omega (arith, e)
-status-not_done faults.Memory e = omega (arith, e)
-status-not_done faults.NotBuilt e = omega (arith, e)
+status-not_done fault e = true≢false (sym (is_fault fault) ∙ ap (λ status. not (status == 0)) e)
+  where
+    is_fault : (fault : Fault) → not (status_of fault == 0) ≡ true
+    is_fault faults.Usage = refl
+    is_fault (faults.Read name) = refl
+    is_fault (faults.TooLong name limit) = refl
+    is_fault (faults.Malformed at) = refl
+    is_fault (faults.InvalidFunction func) = refl
+    is_fault faults.InvalidModule = refl
+    is_fault (faults.Unsupported func number feature) = refl
+    is_fault (faults.Limit which value) = refl
+    is_fault (faults.Reserved import) = refl
+    is_fault faults.NotJson = refl
+    is_fault (faults.Shape path) = refl
+    is_fault (faults.UnknownName name) = refl
+    is_fault (faults.WrongType name) = refl
+    is_fault (faults.NoAccess name) = refl
+    is_fault (faults.CallsOwn name) = refl
+    is_fault (faults.Missing import) = refl
+    is_fault (faults.Mismatch import) = refl
+    is_fault (faults.Segment number) = refl
+    is_fault (faults.Script turn kind) = refl
+    is_fault (faults.Spent turns) = refl
+    is_fault faults.Write = refl
+    is_fault faults.Memory = refl
+    is_fault faults.NotBuilt = refl

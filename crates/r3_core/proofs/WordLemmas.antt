@@ -6,7 +6,7 @@ use Rattle.std.proofs.lemmas.Bool.{false≢true}
 use Rattle.std.proofs.lemmas.List.{length-append, length-map, drop-map}
 use Rattle.std.proofs.lemmas.Slice.Eq.{bytes_eq-Decides}
 use Rattle.std.specs.Str.{bytes_eq}
-use Rattle.r3_core.specs.Words.{form, texts, command_named, IsBehind, Says, IsListed, files_of, EndsWithNumber}
+use Rattle.r3_core.specs.Words.{form, texts, command_of_name, IsAfterFiles, Says, IsListed, files_of}
 use Rattle.r3_core.specs.declared.words.Command.{Command}
 
 -- two texts that differ
@@ -19,37 +19,39 @@ bytes_eq-false xs ys differ =
 pub bytes_eq-same : (xs ys : List ℕ) → xs ≡ ys → bytes_eq xs ys ≡ true
 bytes_eq-same xs ys e = (bytes_eq-Decides xs ys).1 e
 
-module _ (name : List ℕ) (rest : List (List ℕ)) (command : Command) (named : command_named name ≡ Some command) (other : Command) (files : List (List ℕ)) (given : Option ℕ) (says : Says (name ∷ rest) other files given) where
+module _ (name : List ℕ) (rest : List (List ℕ)) (command : Command) (named : command_of_name name ≡ Some command)
+    (other : Command) (files : List (List ℕ)) (given : Option ℕ) (says : Says (name ∷ rest) other files given) where
   -- the command is the one that is named
   pub Says-command : other ≡ command
   Says-command =
-      let head : says.name ≡ name = cc says.written in
-      let e : Some other ≡ Some command = sym says.named ∙ ap command_named head ∙ named in
+      let head : says.name ≡ name = cc says.parts in
+      let e : Some other ≡ Some command = sym says.is_command ∙ ap command_of_name head ∙ named in
       cc e
 
-  -- the words behind the name are the files and what stands behind them
-  pub Says-rest : rest ≡ files ++ says.behind
-  Says-rest = cc says.written
+  -- the words after the name are the files and what stands after them
+  pub Says-rest : rest ≡ files ++ says.after
+  Says-rest = cc says.parts
 
   pub Says-enough : length (form command).limits ≤ length rest
   Says-enough =
       let count : length files ≡ length (form command).limits =
       says.all_files ∙ ap (λ c. length (form c).limits) Says-command
       in
-      omega (arith, count, ap length Says-rest, length-append files says.behind)
+      omega (arith, count, ap length Says-rest, length-append files says.after)
 
-  pub Says-behind : IsBehind (form command).most (drop (length (form command).limits) rest) given
-  Says-behind =
+  pub Says-after : IsAfterFiles (form command).most (drop (length (form command).limits) rest) given
+  Says-after =
       let count : length files ≡ length (form command).limits =
       says.all_files ∙ ap (λ c. length (form c).limits) Says-command
       in
-      let behind : drop (length (form command).limits) rest ≡ says.behind =
-      ap (λ n. drop n rest) (sym count) ∙ ap (drop (length files)) Says-rest ∙ drop-append_seam files says.behind
+      let after : drop (length (form command).limits) rest ≡ says.after =
+      ap (λ n. drop n rest) (sym count) ∙ ap (drop (length files)) Says-rest ∙ drop-append_seam files says.after
       in
-      subst (λ words. IsBehind (form command).most words given) (sym behind)
-      (subst (λ c. IsBehind (form c).most says.behind given) Says-command says.number)
+      subst (λ words. IsAfterFiles (form command).most words given) (sym after)
+      (subst (λ c. IsAfterFiles (form c).most says.after given) Says-command says.number)
 
-module _ {Y : Type 0} (words : List (String Y)) (name : String Y) (rest : List (String Y)) (command : Command) (split : words ≡ name ∷ rest) (named : command_named (string_bytes name) ≡ Some command) where
+module _ {Y : Type 0} (words : List (String Y)) (name : String Y) (rest : List (String Y)) (command : Command)
+    (split : words ≡ name ∷ rest) (named : command_of_name (string_bytes name) ≡ Some command) where
   -- too few words for the files
   pub unlisted-short : length rest < length (form command).limits → ¬ (IsListed (texts words))
   unlisted-short short = λ listed.
@@ -58,25 +60,16 @@ module _ {Y : Type 0} (words : List (String Y)) (name : String Y) (rest : List (
       in
       omega (arith, Says-enough _ _ command named _ _ _ says, length-map rest string_bytes)
 
-  -- other words behind the files than the command takes
-  pub unlisted-behind : (behind : List (String Y)) → behind ≡ drop (length (form command).limits) rest → ((number : Option ℕ) → ¬ (IsBehind (form command).most (texts behind) number)) → ¬ (IsListed (texts words))
-  unlisted-behind behind cut unfit = λ listed.
+  -- other words after the files than the command takes
+  pub unlisted-after : (after : List (String Y)) → after ≡ drop (length (form command).limits) rest
+      → ((number : Option ℕ) → ¬ (IsAfterFiles (form command).most (texts after) number)) → ¬ (IsListed (texts words))
+  unlisted-after after cut unfit = λ listed.
       let says : Says (string_bytes name ∷ texts rest) listed.0 listed.1 listed.2 =
       subst (λ words. Says (texts words) listed.0 listed.1 listed.2) split listed.3
       in
       let count = length (form command).limits in
-      let same : drop count (texts rest) ≡ texts behind = drop-map string_bytes count rest ∙ ap texts (sym cut) in
-      unfit listed.2 (subst (λ words. IsBehind (form command).most words listed.2) same (Says-behind _ _ command named _ _ _ says))
-
--- a name of no command
-pub unlisted-name : {Y : Type 0} (words : List (String Y)) (name : String Y) (rest : List (String Y)) → words ≡ name ∷ rest → command_named (string_bytes name) ≡ None → ¬ (IsListed (texts words))
-unlisted-name words name rest split unnamed = λ listed.
-    let says : Says (string_bytes name ∷ texts rest) listed.0 listed.1 listed.2 =
-    subst (λ words. Says (texts words) listed.0 listed.1 listed.2) split listed.3
-    in
-    let head : says.name ≡ string_bytes name = cc says.written in
-    let e : Some listed.0 ≡ None = sym says.named ∙ ap command_named head ∙ unnamed in
-    elim (false≢true (sym (ap is_some e))) [ ]
+      let same : drop count (texts rest) ≡ texts after = drop-map string_bytes count rest ∙ ap texts (sym cut) in
+      unfit listed.2 (subst (λ words. IsAfterFiles (form command).most words listed.2) same (Says-after _ _ command named _ _ _ says))
 
 -- what holds of any error
 pub IfErr-always : {T E P : Type 0} (r : Result T E) → P → IfErr r (λ _. P)
@@ -84,36 +77,26 @@ IfErr-always (Ok x) p = tt
 IfErr-always (Err e) p = p
 
 -- what one reading of words says of the words
-module _ (words : List (List ℕ)) (command : Command) (files : List (List ℕ)) (given : Option ℕ) (says : Says words command files given) where
+module _ (words : List (List ℕ)) (command : Command) (files : List (List ℕ)) (given : Option ℕ)
+    (says : Says words command files given) where
   -- another reading has the same command
-  pub Says-same : (other : Command) (others : List (List ℕ)) (number : Option ℕ) → Says words other others number → other ≡ command
+  pub Says-same : (other : Command) (others : List (List ℕ)) (number : Option ℕ) → Says words other others number
+      → other ≡ command
   Says-same other others number again =
-      Says-command says.name (files ++ says.behind) command says.named other others number
-      (subst (λ words. Says words other others number) says.written again)
+      Says-command says.name (files ++ says.after) command says.is_command other others number
+      (subst (λ words. Says words other others number) says.parts again)
 
-  zip-all : (names behind : List (List ℕ)) (limits : List ℕ) → length names ≡ length limits → zip (names ++ behind) limits ≡ zip names limits
+  zip-all : (names after : List (List ℕ)) (limits : List ℕ) → length names ≡ length limits
+      → zip (names ++ after) limits ≡ zip names limits
   zip-all [] [] [] h = refl
   zip-all [] (b ∷ bs) [] h = refl
-  zip-all [] behind (l ∷ ls) h = absurd (omega arith)
-  zip-all (n ∷ ns) behind [] h = absurd (omega arith)
-  zip-all (n ∷ ns) behind (l ∷ ls) h = ap (λ files. (n, l) ∷ files) (zip-all ns behind ls (omega arith))
+  zip-all [] after (l ∷ ls) h = absurd (omega arith)
+  zip-all (n ∷ ns) after [] h = absurd (omega arith)
+  zip-all (n ∷ ns) after (l ∷ ls) h = ap (λ files. (n, l) ∷ files) (zip-all ns after ls (omega arith))
 
   -- the files with their limits
   pub files_of-Says : files_of words ≡ zip files (form command).limits
   files_of-Says =
-      ap files_of says.written
-      ∙ ap (λ named. option_map_or (λ command. zip (files ++ says.behind) (form command).limits) named []) says.named
-      ∙ zip-all files says.behind (form command).limits says.all_files
-
-  ends : (most : Option ℕ) (behind : List (List ℕ)) (number : ℕ) → IsBehind most behind (Some number) → behind ≡ decimal number ∷ []
-  ends None [] number h = absurd h
-  ends None (w ∷ ws) number h = absurd h
-  ends (Some most) [] number h = absurd h
-  ends (Some most) (w ∷ []) number h = ap (λ word. word ∷ []) h.digits
-  ends (Some most) (w ∷ v ∷ ws) number h = absurd h
-
-  -- the number stands last
-  pub EndsWithNumber-Says : (number : ℕ) → given ≡ Some number → EndsWithNumber words number
-  EndsWithNumber-Says number e =
-      let behind = ends (form command).most says.behind number (subst (IsBehind (form command).most says.behind) e says.number) in
-      (says.name ∷ files, says.written ∙ ap (λ behind. says.name ∷ (files ++ behind)) behind)
+      ap files_of says.parts
+      ∙ ap (λ named. option_map_or (λ command. zip (files ++ says.after) (form command).limits) named []) says.is_command
+      ∙ zip-all files says.after (form command).limits says.all_files

@@ -20,11 +20,20 @@ first_longer told files = find (λ file. nat_lt file.1 (length (file_bytes told 
 
 -- what files told when a call began, and their counts then and now
 pub record Reading : Type 0 where
-  pub told : Option FileMap
+  pub contents : Option FileMap
   pub faults_before : ℕ
   pub faults_now : ℕ
   pub taken_before : ℕ
   pub taken_now : ℕ
+
+abbrev pub reading_of : Option FileMap → (faults_before faults_now taken_before taken_now : ℕ) → Reading
+reading_of contents faults_before faults_now taken_before taken_now = record {
+  contents = contents;
+  faults_before = faults_before;
+  faults_now = faults_now;
+  taken_before = taken_before;
+  taken_now = taken_now;
+}
 
 -- why one of these files, each with its limit, was not loaded
 abbrev pub IsLoadCause : Reading → List (List ℕ × ℕ) → Fault → Type 0
@@ -32,7 +41,7 @@ IsLoadCause reading files (Read name) =
     Contains (map (λ file. file.0) files) name × Rose reading.faults_before reading.faults_now
 IsLoadCause reading files (TooLong name limit) =
     Contains files (name, limit) × Took reading.taken_before reading.taken_now (limit + 1)
-    × ForSome reading.told (λ told. first_longer told files ≡ Some (name, limit))
+    × ForSome reading.contents (λ told. first_longer told files ≡ Some (name, limit))
 IsLoadCause reading files fault = ⊥
 
 -- the bytes of the files of these names, where the files tell what they hold
@@ -53,26 +62,32 @@ AreWithin (bytes ∷ lists) (limit ∷ limits) = (length bytes ≤ limit) × Are
 
 -- a command refuses them
 abbrev pub IsRefusal : Command → (loaded : List (List ℕ)) → (number : Option ℕ) → Fault → Type 0
-IsRefusal Make (module_bytes ∷ script_bytes ∷ []) (Some turns) fault = IsMakeRefusal module_bytes script_bytes turns fault
-IsRefusal History (module_bytes ∷ script_bytes ∷ []) (Some turns) fault = IsHistoryRefusal module_bytes script_bytes turns fault
+IsRefusal Make (module_bytes ∷ script_bytes ∷ []) (Some turns) fault =
+    IsMakeRefusal module_bytes script_bytes turns fault
+IsRefusal History (module_bytes ∷ script_bytes ∷ []) (Some turns) fault =
+    IsHistoryRefusal module_bytes script_bytes turns fault
 IsRefusal command loaded number fault = ⊥
 
 -- a command does its job for them
 abbrev pub IsDoable : Command → (loaded : List (List ℕ)) → (number : Option ℕ) → Type 0
 IsDoable Make (module_bytes ∷ script_bytes ∷ []) (Some turns) = AreReplayable module_bytes script_bytes turns
-IsDoable History (module_bytes ∷ script_bytes ∷ []) (Some turns) = (text : List ℕ) × IsHistory module_bytes script_bytes turns text
+IsDoable History (module_bytes ∷ script_bytes ∷ []) (Some turns) =
+    (text : List ℕ) × IsHistory module_bytes script_bytes turns text
 IsDoable command loaded number = ⊥
 
 -- a command prints these bytes for them
 abbrev pub Prints : Command → (loaded : List (List ℕ)) → (number : Option ℕ) → (printed : List ℕ) → Type 0
-Prints Make (module_bytes ∷ script_bytes ∷ []) (Some turns) printed = IsPrinted module_bytes script_bytes turns printed
-Prints History (module_bytes ∷ script_bytes ∷ []) (Some turns) printed = IsHistory module_bytes script_bytes turns printed
+Prints Make (module_bytes ∷ script_bytes ∷ []) (Some turns) printed =
+    IsPrinted module_bytes script_bytes turns printed
+Prints History (module_bytes ∷ script_bytes ∷ []) (Some turns) printed =
+    IsHistory module_bytes script_bytes turns printed
 Prints command loaded number printed = ⊥
 
 -- ---- calls
 
 -- what a call's words say, and the bytes of its files
-pub record IsCall (words : List (List ℕ)) (contents : Option FileMap) (command : Command) (loaded : List (List ℕ)) (number : Option ℕ) : Type 0 where
+pub record IsCall (words : List (List ℕ)) (contents : Option FileMap) (command : Command) (loaded : List (List ℕ))
+    (number : Option ℕ) : Type 0 where
   pub names : List (List ℕ)
   pub says : Says words command names number
   pub bytes : AreBytesOf contents names loaded
@@ -94,17 +109,27 @@ pub record IsPrintedFor (words : List (List ℕ)) (contents : Option FileMap) (p
   pub prints : Prints command loaded number printed
 
 -- why a call with these words ends with this fault
-pub data IsCause (words : List (List ℕ)) (reading : Reading) (writes_before writes_now : ℕ) (fault : Fault) : Type 0 where
-  Unlisted : (is_usage : fault ≡ Usage) (unlisted : ¬ (IsListed words)) → IsCause words reading writes_before writes_now fault
-  Unbuilt : (is_not_built : fault ≡ NotBuilt) (unbuilt : IsUnbuilt words) → IsCause words reading writes_before writes_now fault
-  Unloaded : (listed : IsListed words) (cause : IsLoadCause reading (files_of words) fault) → IsCause words reading writes_before writes_now fault
-  Refused : (refused : IsRefused words reading.told fault) → IsCause words reading writes_before writes_now fault
-  Unwritten : (is_write : fault ≡ Write) (listed : IsListed words) (rose : Rose writes_before writes_now) → IsCause words reading writes_before writes_now fault
-  Wanting : (is_memory : fault ≡ Memory) (listed : IsListed words) → IsCause words reading writes_before writes_now fault
+pub data IsCause (words : List (List ℕ)) (reading : Reading) (writes_before writes_now : ℕ) (fault : Fault)
+    : Type 0 where
+  Unlisted : (is_usage : fault ≡ Usage) (unlisted : ¬ (IsListed words))
+      → IsCause words reading writes_before writes_now fault
+  Unbuilt : (is_not_built : fault ≡ NotBuilt) (unbuilt : IsUnbuilt words)
+      → IsCause words reading writes_before writes_now fault
+  Unloaded : (listed : IsListed words) (cause : IsLoadCause reading (files_of words) fault)
+      → IsCause words reading writes_before writes_now fault
+  Refused : (refused : IsRefused words reading.contents fault) → IsCause words reading writes_before writes_now fault
+  Unwritten : (is_write : fault ≡ Write) (listed : IsListed words) (rose : Rose writes_before writes_now)
+      → IsCause words reading writes_before writes_now fault
+  OutOfMemory : (is_memory : fault ≡ Memory) (listed : IsListed words)
+      → IsCause words reading writes_before writes_now fault
 
 -- why a command over files prints nothing
-pub data IsPrintCause (reading : Reading) (command : Command) (names : List (List ℕ)) (number : Option ℕ) (fault : Fault) : Type 0 where
-  UnbuiltCommand : (is_not_built : fault ≡ NotBuilt) (unbuilt : is_built command ≡ false) → IsPrintCause reading command names number fault
-  UnloadedFile : (cause : IsLoadCause reading (zip names (form command).limits) fault) → IsPrintCause reading command names number fault
-  RefusedBytes : (loaded : List (List ℕ)) (bytes : AreBytesOf reading.told names loaded) (refusal : IsRefusal command loaded number fault) → IsPrintCause reading command names number fault
-  WantingMemory : (is_memory : fault ≡ Memory) → IsPrintCause reading command names number fault
+pub data IsPrintCause (reading : Reading) (command : Command) (names : List (List ℕ)) (number : Option ℕ)
+    (fault : Fault) : Type 0 where
+  UnbuiltCommand : (is_not_built : fault ≡ NotBuilt) (unbuilt : is_built command ≡ false)
+      → IsPrintCause reading command names number fault
+  UnloadedFile : (cause : IsLoadCause reading (zip names (form command).limits) fault)
+      → IsPrintCause reading command names number fault
+  RefusedBytes : (loaded : List (List ℕ)) (bytes : AreBytesOf reading.contents names loaded)
+      (refusal : IsRefusal command loaded number fault) → IsPrintCause reading command names number fault
+  NoMemoryLeft : (is_memory : fault ≡ Memory) → IsPrintCause reading command names number fault

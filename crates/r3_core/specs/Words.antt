@@ -1,10 +1,11 @@
--- The words of a call: a command's name, its files, each with a limit in bytes, and behind them a number.
+-- The words of a call: a command's name, its files, each with a limit in bytes, and after them a number.
 use Rattle.std.specs.Prelude.{◌≡◌, ℕ, ◌≤◌, Bool, true, false, List, [], ◌∷◌, ◌++◌, length, map, find, Option, Some, None, codes, decimal, String, string_bytes}
 use Rattle.std.specs.List.{zip}
 use Rattle.std.specs.Option.{option_map_or}
 use Rattle.std.specs.Str.{bytes_eq}
 use Rattle.r3_core.specs.declared.words.Command.{Command}
 use Rattle.r3_core.specs.declared.words.Command.TheVariants.{Make, Instrument, Record, Reduce, Build, History, Replay, Show, Load}
+use Rattle.r3_core.specs.Limits.{module_bytes, script_bytes, hooked_bytes, trace_bytes, binary_bytes, most_turns, most_record_turns, most_load}
 
 -- a command's name, the limit of each of its files, and the greatest number where it takes one
 pub record Form : Type 0 where
@@ -13,15 +14,15 @@ pub record Form : Type 0 where
   pub most : Option ℕ
 
 abbrev pub form : Command → Form
-form Make = record { name = codes "make"; limits = 8388608 ∷ 8388608 ∷ []; most = Some 2000000 }
-form Instrument = record { name = codes "instrument"; limits = 8388608 ∷ []; most = None }
-form Record = record { name = codes "record"; limits = 134217728 ∷ 8388608 ∷ []; most = Some 20000000 }
-form Reduce = record { name = codes "reduce"; limits = 268435456 ∷ []; most = None }
-form Build = record { name = codes "build"; limits = 8388608 ∷ 8388608 ∷ 268435456 ∷ []; most = None }
-form History = record { name = codes "history"; limits = 8388608 ∷ 8388608 ∷ []; most = Some 2000000 }
-form Replay = record { name = codes "replay"; limits = 536870912 ∷ []; most = Some 20000000 }
-form Show = record { name = codes "show"; limits = 268435456 ∷ []; most = None }
-form Load = record { name = codes "load"; limits = []; most = Some 60000 }
+form Make = record { name = codes "make"; limits = module_bytes ∷ script_bytes ∷ []; most = Some most_turns }
+form Instrument = record { name = codes "instrument"; limits = module_bytes ∷ []; most = None }
+form Record = record { name = codes "record"; limits = hooked_bytes ∷ script_bytes ∷ []; most = Some most_record_turns }
+form Reduce = record { name = codes "reduce"; limits = trace_bytes ∷ []; most = None }
+form Build = record { name = codes "build"; limits = module_bytes ∷ script_bytes ∷ trace_bytes ∷ []; most = None }
+form History = record { name = codes "history"; limits = module_bytes ∷ script_bytes ∷ []; most = Some most_turns }
+form Replay = record { name = codes "replay"; limits = binary_bytes ∷ []; most = Some most_record_turns }
+form Show = record { name = codes "show"; limits = trace_bytes ∷ []; most = None }
+form Load = record { name = codes "load"; limits = []; most = Some most_load }
 
 -- the bytes of each word
 abbrev pub texts : {Y : Type 0} → List (String Y) → List (List ℕ)
@@ -30,8 +31,8 @@ texts words = map string_bytes words
 abbrev pub commands : List Command
 commands = Make ∷ Instrument ∷ Record ∷ Reduce ∷ Build ∷ History ∷ Replay ∷ Show ∷ Load ∷ []
 
-abbrev pub command_named : List ℕ → Option Command
-command_named name = find (λ command. bytes_eq (form command).name name) commands
+abbrev pub command_of_name : List ℕ → Option Command
+command_of_name name = find (λ command. bytes_eq (form command).name name) commands
 
 -- the word is the number in decimal, without a sign and leading zeros, and the number is from 1 to `most`
 pub record IsNumber (most : ℕ) (word : List ℕ) (number : ℕ) : Type 0 where
@@ -39,23 +40,25 @@ pub record IsNumber (most : ℕ) (word : List ℕ) (number : ℕ) : Type 0 where
   pub low : 1 ≤ number
   pub high : number ≤ most
 
--- the words behind the files: one number where the command takes one, else none
-abbrev pub IsBehind : Option ℕ → List (List ℕ) → Option ℕ → Type 0
-IsBehind None [] None = Unit {0}
-IsBehind (Some most) (word ∷ []) (Some number) = IsNumber most word number
-IsBehind most words number = ⊥
+-- the words after the files: one number where the command takes one, else none
+abbrev pub IsAfterFiles : Option ℕ → List (List ℕ) → Option ℕ → Type 0
+IsAfterFiles None [] None = Unit {0}
+IsAfterFiles (Some most) (word ∷ []) (Some number) = IsNumber most word number
+IsAfterFiles most words number = ⊥
 
--- what words say: a command by its name, its files in order, any words, and the number behind them
-pub record Says (words : List (List ℕ)) (command : Command) (files : List (List ℕ)) (given : Option ℕ) : Type 0 where
+-- what words say: a command by its name, its files in order, any words, and the number after them
+pub record Says (words : List (List ℕ)) (command : Command) (files : List (List ℕ)) (given : Option ℕ)
+    : Type 0 where
   pub name : List ℕ
-  pub behind : List (List ℕ)
-  pub written : words ≡ name ∷ (files ++ behind)
-  pub named : command_named name ≡ Some command
+  pub after : List (List ℕ)
+  pub parts : words ≡ name ∷ (files ++ after)
+  pub is_command : command_of_name name ≡ Some command
   pub all_files : length files ≡ length (form command).limits
-  pub number : IsBehind (form command).most behind given
+  pub number : IsAfterFiles (form command).most after given
 
 abbrev pub IsListed : List (List ℕ) → Type 0
-IsListed words = (command : Command) × (files : List (List ℕ)) × (number : Option ℕ) × Says words command files number
+IsListed words =
+    (command : Command) × (files : List (List ℕ)) × (number : Option ℕ) × Says words command files number
 
 -- whether this program does the command
 abbrev pub is_built : Command → Bool
@@ -65,16 +68,16 @@ is_built command = false
 
 -- listed words of a command that this program does, and of one that it does not do yet
 abbrev pub IsBuilt : List (List ℕ) → Type 0
-IsBuilt words = (command : Command) × (files : List (List ℕ)) × (number : Option ℕ) × Says words command files number × (is_built command ≡ true)
+IsBuilt words =
+    (command : Command) × (files : List (List ℕ)) × (number : Option ℕ) × Says words command files number
+    × (is_built command ≡ true)
 
 abbrev pub IsUnbuilt : List (List ℕ) → Type 0
-IsUnbuilt words = (command : Command) × (files : List (List ℕ)) × (number : Option ℕ) × Says words command files number × (is_built command ≡ false)
+IsUnbuilt words =
+    (command : Command) × (files : List (List ℕ)) × (number : Option ℕ) × Says words command files number
+    × (is_built command ≡ false)
 
 -- the files that the words name, in order, each with its limit
 abbrev pub files_of : List (List ℕ) → List (List ℕ × ℕ)
 files_of [] = []
-files_of (name ∷ words) = option_map_or (λ command. zip words (form command).limits) (command_named name) []
-
--- the last word is the number in decimal
-abbrev pub EndsWithNumber : List (List ℕ) → ℕ → Type 0
-EndsWithNumber words number = (front : List (List ℕ)) × (words ≡ front ++ decimal number ∷ [])
+files_of (name ∷ words) = option_map_or (λ command. zip words (form command).limits) (command_of_name name) []

@@ -5,22 +5,21 @@ ghost use Rattle.std.specs.Prelude.{◌≡◌, ◌≢◌, ℕ, ◌+◌, ◌≤�
 ghost use Rattle.std.specs.Option.{ForSome};
 ghost use Rattle.r3_outside.specs.Contents.{file_bytes};
 ghost use Rattle.r3_outside.specs.Count.{Rose, Took};
-ghost use Rattle.r3_outside.specs.Written.{Grew, GrewByPrefix};
+ghost use Rattle.r3_outside.specs.Growth.{Grew, GrewByPrefix};
 ghost use Rattle.r3_faults.specs.Lines.{status_of, line_of, IsTold};
 ghost use Rattle.r3_faults.specs.declared.faults.Fault.{Fault};
 ghost use Rattle.r3_faults.specs.declared.faults.Fault.TheVariants.{NotBuilt, Memory, Write as WriteFault};
-ghost use Rattle.r3_core.specs.Words.{form, texts, is_built, files_of, IsBehind, IsListed, IsBuilt, IsUnbuilt, Says};
-ghost use Rattle.r3_core.specs.Causes.{Reading, first_longer, AreBytesOf, Prints, IsRefusal, IsDoable, IsPrintedFor, IsPrintCause, IsCause, AreWithin, all_bytes};
+ghost use Rattle.r3_core.specs.Words.{form, texts, is_built, files_of, IsAfterFiles, IsListed, IsBuilt, IsUnbuilt, Says};
+ghost use Rattle.r3_core.specs.Causes.{reading_of, first_longer, AreBytesOf, Prints, IsRefusal, IsDoable, IsPrintedFor, IsPrintCause, IsCause, AreWithin, all_bytes};
 
-use loading::load_files;
+use loads::load_files;
 use r3_outside::{Files, Sink, put_all};
 use std::alloc::Global;
 use words::{Call, Command, call_of};
 
-mod loading;
+mod limits;
+mod loads;
 mod sure;
-#[cfg(test)]
-mod tests;
 mod words;
 
 pub use r3_faults::Fault;
@@ -28,7 +27,7 @@ pub use r3_history::history;
 pub use r3_make::make;
 pub use sure::r3_in_memory;
 
-/// Does what the words behind the program's name say, and answers the status that the program ends
+/// Does what the words after the program's name say, and answers the status that the program ends
 /// with.
 ///
 /// Nothing is written to `out` before all other work is done. A status other than 0 writes one line
@@ -84,14 +83,10 @@ pub fn r3<F: Files, O: Sink, E: Sink>(
     // The line of error.
     ensures silent { result ≡ 0 → err.new ≡ err.old }
     ensures told { result ≢ 0 → (fault : Fault) × (status_of fault ≡ result)
-        × (let reading : Reading = record {
-          told = F.contents files.old;
-          faults_before = F.faults files.old;
-          faults_now = F.faults files.new;
-          taken_before = F.taken files.old;
-          taken_now = F.taken files.new;
-        } in
-        IsCause (texts words.now) reading (O.faults out.old) (O.faults out.new) fault)
+        × IsCause (texts words.now)
+        (reading_of (F.contents files.old)
+        (F.faults files.old) (F.faults files.new) (F.taken files.old) (F.taken files.new))
+        (O.faults out.old) (O.faults out.new) fault
         × IsTold (E.written err.old) (E.written err.new) (E.faults err.old) (E.faults err.new)
         (line_of fault) }
 {
@@ -135,24 +130,19 @@ fn run<F: Files, O: Sink>(
         × IsPrintedFor (texts words.now) (F.contents files.old) bytes
         × GrewByPrefix (O.written out.old) (O.written out.new) bytes }
     ensures nothing_printed { IfErr result (λ fault. fault ≢ WriteFault → out.new ≡ out.old) }
-    ensures cause { IfErr result (λ fault.
-        let reading : Reading = record {
-          told = F.contents files.old;
-          faults_before = F.faults files.old;
-          faults_now = F.faults files.new;
-          taken_before = F.taken files.old;
-          taken_now = F.taken files.new;
-        } in
-        IsCause (texts words.now) reading (O.faults out.old) (O.faults out.new) fault) }
+    ensures cause { IfErr result (λ fault. IsCause (texts words.now)
+        (reading_of (F.contents files.old)
+        (F.faults files.old) (F.faults files.new) (F.taken files.old) (F.taken files.new))
+        (O.faults out.old) (O.faults out.new) fault) }
 {
     let call = call_of(words)?;
-    let printed = printed_by(alloc, &call, files)?;
+    let printed = output_of_call(alloc, &call, files)?;
     put_all(out, &printed)?;
     Ok(())
 }
 
 /// The bytes that a command prints.
-fn printed_by<F: Files>(alloc: Global, call: &Call<'_>, files: &mut F) -> Result<Vec<u8>, Fault>
+fn output_of_call<F: Files>(alloc: Global, call: &Call<'_>, files: &mut F) -> Result<Vec<u8>, Fault>
     requires { (words : List (List ℕ)) × Says words call.now.command (texts call.now.names.now) call.now.number }
 
     ensures contents_unchanged { F.contents files.new ≡ F.contents files.old }
@@ -172,25 +162,20 @@ fn printed_by<F: Files>(alloc: Global, call: &Call<'_>, files: &mut F) -> Result
     ensures printed { IfOk result (λ bytes. (loaded : List (List ℕ))
         × AreBytesOf (F.contents files.old) (texts call.now.names.now) loaded
         × Prints call.now.command loaded call.now.number bytes.items) }
-    ensures cause { IfErr result (λ fault.
-        let reading : Reading = record {
-          told = F.contents files.old;
-          faults_before = F.faults files.old;
-          faults_now = F.faults files.new;
-          taken_before = F.taken files.old;
-          taken_now = F.taken files.new;
-        } in
-        IsPrintCause reading call.now.command (texts call.now.names.now) call.now.number fault) }
+    ensures cause { IfErr result (λ fault. IsPrintCause
+        (reading_of (F.contents files.old)
+        (F.faults files.old) (F.faults files.new) (F.taken files.old) (F.taken files.new))
+        call.now.command (texts call.now.names.now) call.now.number fault) }
 {
     if !call.command.is_built() {
         return Err(Fault::NotBuilt);
     }
     let loaded = load_files(alloc, files, call.names, call.command.limits())?;
-    printed_for(alloc, call.command, &loaded, call.number)
+    output_of_command(alloc, call.command, &loaded, call.number)
 }
 
 /// The bytes that a command that is built prints for the bytes of its files.
-fn printed_for(
+fn output_of_command(
     alloc: Global,
     command: Command,
     loaded: &[Vec<u8>],
@@ -199,7 +184,7 @@ fn printed_for(
     requires built { is_built command ≡ true }
     requires files { length loaded.now ≡ length (form command).limits }
     requires within { AreWithin (all_bytes loaded.now) (form command).limits }
-    requires behind { (behind : List (List ℕ)) × IsBehind (form command).most behind number }
+    requires after { (after : List (List ℕ)) × IsAfterFiles (form command).most after number }
 
     ensures printed { IfOk result (λ bytes. Prints command (all_bytes loaded.now) number bytes.items) }
     ensures cause { IfErr result (λ fault.

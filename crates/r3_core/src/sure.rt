@@ -2,7 +2,7 @@
 
 ghost use Rattle.std.specs.Prelude.{◌≡◌, ◌≢◌, ◌⊎◌, ℕ, List, map, Option, Some, None, IsSome};
 ghost use Rattle.r3_outside.specs.Contents.{file_bytes};
-ghost use Rattle.r3_outside.specs.Written.{Grew};
+ghost use Rattle.r3_outside.specs.Growth.{Grew};
 ghost use Rattle.r3_faults.specs.declared.faults.Fault.{Fault};
 ghost use Rattle.r3_faults.specs.Lines.{status_of};
 ghost use Rattle.r3_core.specs.Words.{texts, files_of, IsBuilt, Says};
@@ -15,7 +15,7 @@ use std::alloc::Global;
 
 /// [`r3`] over files and sinks in memory, which never fail: no status speaks of a fault of theirs. Where
 /// the words are those of a command that is built and its files are within their limits, the status is 0
-/// where the job can be done and that of the refusal where it can't, and 14 for want of memory alone.
+/// where the job can be done and that of the refusal where it can't, and 14 only where an allocation failed.
 pub fn r3_in_memory(
     alloc: Global,
     words: &[String],

@@ -1,13 +1,17 @@
 // What the words of a call say.
 
 ghost use Rattle.std.specs.Prelude.{◌≡◌, ℕ, Option, IfOk, IfErr, MatchOption};
-ghost use Rattle.r3_core.specs.Words.{form, texts, command_named, is_built, IsNumber, IsBehind, IsListed, Says};
+ghost use Rattle.r3_core.specs.Words.{form, texts, command_of_name, is_built, IsNumber, IsAfterFiles, IsListed, Says};
 
+use crate::limits::{
+    BINARY_BYTES, HOOKED_BYTES, LOAD_NUMBER, MODULE_BYTES, RECORD_TURNS, SCRIPT_BYTES, TRACE_BYTES,
+    TURNS,
+};
 use itoa::Buffer;
 use r3_faults::Fault;
 
 /// A command of the program.
-#[derive(Clone, Copy, PartialEq, Eq, Debug)]
+#[derive(Clone, Copy)]
 pub(crate) enum Command {
     Make,
     Instrument,
@@ -20,20 +24,10 @@ pub(crate) enum Command {
     Load,
 }
 
-/// The most bytes of each kind of file.
-const MODULE: u64 = 8_388_608;
-
-const SCRIPT: u64 = 8_388_608;
-
-const HOOKED: u64 = 134_217_728;
-
-const TRACE: u64 = 268_435_456;
-
-const BINARY: u64 = 536_870_912;
-
 impl Command {
-    fn named(name: &str) -> Option<Command>
-        ensures { result ≡ command_named name.now }
+    /// The command of a name.
+    fn of_name(name: &str) -> Option<Command>
+        ensures { result ≡ command_of_name name.now }
     {
         match name {
             "make" => Some(Command::Make),
@@ -54,24 +48,24 @@ impl Command {
         ensures { result.now ≡ (form self).limits }
     {
         match self {
-            Command::Make | Command::History => &[MODULE, SCRIPT],
-            Command::Instrument => &[MODULE],
-            Command::Record => &[HOOKED, SCRIPT],
-            Command::Reduce | Command::Show => &[TRACE],
-            Command::Build => &[MODULE, SCRIPT, TRACE],
-            Command::Replay => &[BINARY],
+            Command::Make | Command::History => &[MODULE_BYTES, SCRIPT_BYTES],
+            Command::Instrument => &[MODULE_BYTES],
+            Command::Record => &[HOOKED_BYTES, SCRIPT_BYTES],
+            Command::Reduce | Command::Show => &[TRACE_BYTES],
+            Command::Build => &[MODULE_BYTES, SCRIPT_BYTES, TRACE_BYTES],
+            Command::Replay => &[BINARY_BYTES],
             Command::Load => &[],
         }
     }
 
-    /// The greatest number that the command takes behind its files, where it takes one.
+    /// The greatest number that the command takes after its files, where it takes one.
     fn most(self) -> Option<u64>
         ensures { result ≡ (form self).most }
     {
         match self {
-            Command::Make | Command::History => Some(2_000_000),
-            Command::Record | Command::Replay => Some(20_000_000),
-            Command::Load => Some(60_000),
+            Command::Make | Command::History => Some(TURNS),
+            Command::Record | Command::Replay => Some(RECORD_TURNS),
+            Command::Load => Some(LOAD_NUMBER),
             Command::Instrument | Command::Reduce | Command::Build | Command::Show => None,
         }
     }
@@ -92,7 +86,7 @@ pub(crate) struct Call<'a> {
     pub(crate) number: Option<u64>,
 }
 
-/// Reads the words behind the program's name. The only fault is `Usage`. Takes no memory.
+/// Reads the words after the program's name. The only fault is `Usage`. Takes no memory.
 pub(crate) fn call_of(words: &[String]) -> Result<Call<'_>, Fault>
     ensures listed { IfOk result
         (λ call. Says (texts words.now) call.command (texts call.names.now) call.number) }
@@ -102,15 +96,15 @@ pub(crate) fn call_of(words: &[String]) -> Result<Call<'_>, Fault>
     let Some((name, arguments)) = words.split_first() else {
         return Err(Fault::Usage);
     };
-    let Some(command) = Command::named(name.as_str()) else {
+    let Some(command) = Command::of_name(name.as_str()) else {
         return Err(Fault::Usage);
     };
     let count = command.limits().len();
     if arguments.len() < count {
         return Err(Fault::Usage);
     }
-    let (names, behind) = arguments.split_at(count);
-    let number = number_behind(behind, command.most())?;
+    let (names, after) = arguments.split_at(count);
+    let number = number_after(after, command.most())?;
     Ok(Call {
         command,
         names,
@@ -118,12 +112,12 @@ pub(crate) fn call_of(words: &[String]) -> Result<Call<'_>, Fault>
     })
 }
 
-/// Reads the words behind the files: one number where the command takes one, else none.
-fn number_behind(words: &[String], most: Option<u64>) -> Result<Option<u64>, Fault>
-    ensures fits { IfOk result (λ number. IsBehind most (texts words.now) number) }
+/// Reads the words after the files: one number where the command takes one, else none.
+fn number_after(words: &[String], most: Option<u64>) -> Result<Option<u64>, Fault>
+    ensures fits { IfOk result (λ number. IsAfterFiles most (texts words.now) number) }
     ensures usage { IfErr result (λ fault. fault ≡ Fault.Usage) }
     ensures unfit { IfErr result
-        (λ _. (number : Option ℕ) → ¬ (IsBehind most (texts words.now) number)) }
+        (λ _. (number : Option ℕ) → ¬ (IsAfterFiles most (texts words.now) number)) }
 {
     match (words, most) {
         ([], None) => Ok(None),

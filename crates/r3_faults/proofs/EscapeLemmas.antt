@@ -15,7 +15,8 @@ escaped-plain byte plain =
     ap (λ t. cond t (byte ∷ []) (92 ∷ hex_digit (byte / 16) ∷ hex_digit (byte % 16) ∷ []) ++ []) plain
 
 -- one more plain byte
-pub escaped-plain_more : (text : List ℕ) (i : ℕ) → i < length text → escaped (take i text) ≡ take i text → is_plain (get_or text i 0) ≡ true → escaped (take (i + 1) text) ≡ take (i + 1) text
+pub escaped-plain_more : (text : List ℕ) (i : ℕ) → i < length text → escaped (take i text) ≡ take i text
+    → is_plain (get_or text i 0) ≡ true → escaped (take (i + 1) text) ≡ take (i + 1) text
 escaped-plain_more text i h before plain =
     let byte = get_or text i 0 in
     ap escaped (take_more text i 0 h)
@@ -25,18 +26,22 @@ escaped-plain_more text i h before plain =
     ∙ sym (take_more text i 0 h)
 
 -- a first byte that is not plain
-pub escaped-first : (text : List ℕ) → 0 < length text → is_plain (get_or text 0 0) ≡ false → escaped (take 1 text) ≡ 92 ∷ hex_digit (get_or text 0 0 / 16) ∷ hex_digit (get_or text 0 0 % 16) ∷ []
+pub escaped-first : (text : List ℕ) → 0 < length text → is_plain (get_or text 0 0) ≡ false
+    → escaped (take 1 text) ≡ 92 ∷ hex_digit (get_or text 0 0 / 16) ∷ hex_digit (get_or text 0 0 % 16) ∷ []
 escaped-first [] h e = absurd (omega arith)
 escaped-first (byte ∷ bytes) h e =
     ap (λ t. cond t (byte ∷ []) (92 ∷ hex_digit (byte / 16) ∷ hex_digit (byte % 16) ∷ []) ++ []) e
 
 -- the next part of a text
-pub escaped-more : (text : List ℕ) (done count : ℕ) → escaped (take done text) ++ escaped (take count (drop done text)) ≡ escaped (take (done + count) text)
+pub escaped-more : (text : List ℕ) (done count : ℕ)
+    → escaped (take done text) ++ escaped (take count (drop done text)) ≡ escaped (take (done + count) text)
 escaped-more text done count =
-    sym (flat_map-append escaped_byte (take done text) (take count (drop done text))) ∙ ap escaped (sym (take-add done count text))
+    sym (flat_map-append escaped_byte (take done text) (take count (drop done text)))
+    ∙ ap escaped (sym (take-add done count text))
 
 -- no plain byte stands in front
-pub not-plain_first : (text : List ℕ) (count : ℕ) → count ≤ 0 → 0 < length text → (count < length text → is_plain (get_or text count 0) ≡ false) → is_plain (get_or text 0 0) ≡ false
+pub not-plain_first : (text : List ℕ) (count : ℕ) → count ≤ 0 → 0 < length text
+    → (count < length text → is_plain (get_or text count 0) ≡ false) → is_plain (get_or text 0 0) ≡ false
 not-plain_first text count none some ends =
     let e : count ≡ 0 = omega arith in
     subst (λ k. is_plain (get_or text k 0) ≡ false) e (ends (omega arith))

@@ -1,7 +1,7 @@
 -- What each fault is answered by: a status, and a line on the error stream.
 use Rattle.std.specs.Prelude.{ℕ, ◌+◌, ◌/◌, ◌%◌, ◌==◌, ◌&&◌, Bool, not, nat_lt, List, [], ◌∷◌, ◌++◌, flat_map, codes, decimal, if◌then◌else◌, ◌⊎◌, Option}
 use Rattle.r3_outside.specs.Count.{Rose}
-use Rattle.r3_outside.specs.Written.{Grew, GrewByPrefix}
+use Rattle.r3_outside.specs.Growth.{Grew, GrewByPrefix}
 use Rattle.wasm_syntax.specs.declared.profile.Feature.{Feature}
 use Rattle.wasm_syntax.specs.declared.profile.Feature.TheVariants.{FloatComparison, FloatArithmetic, FloatConversion}
 use Rattle.wasm_syntax.specs.declared.profile.Which.{Which}
@@ -85,7 +85,8 @@ line_of (Malformed at) = with_number (codes "malformed: at ") at
 line_of (InvalidFunction func) = with_number (codes "invalid: function ") func
 line_of InvalidModule = codes "invalid: module\n"
 line_of (Unsupported func number feature) =
-    codes "unsupported: function " ++ (decimal func ++ (codes " instruction " ++ (decimal number ++ (feature_text feature ++ codes "\n"))))
+    codes "unsupported: function "
+    ++ (decimal func ++ (codes " instruction " ++ (decimal number ++ (feature_text feature ++ codes "\n"))))
 line_of (Limit which value) = with_number (limit_text which) value
 line_of (Reserved import) = with_number (codes "reserved: import ") import
 line_of NotJson = codes "script: not json\n"

@@ -8,100 +8,120 @@ use history_spec::FaultKind;
 use no_memory::NoMemory;
 use r3_outside::PutFault;
 use std::alloc::{AllocError, AllocFailed};
-use thiserror::Error;
+use std::error::Error;
+use std::fmt;
 use wasm_syntax::{Feature, Name, Which};
 
 /// Why a call ends without its job done: one variant for each line of error, in the order of their
-/// statuses. Functions, imports, segments and instructions are named by their numbers, bytes and
-/// turns are counted from the begin.
-#[derive(Debug, Drop, Error)]
+/// statuses. Functions, imports, segments and instructions are named by their numbers from 0 on; `at`
+/// is a number of bytes, `turn` and `turns` are numbers of turns, `limit` and `value` are in the
+/// unit of what they limit.
+#[derive(Drop)]
 pub enum Fault {
-    #[error("the words have no listed form")]
+    /// The words have no listed form.
     Usage,
-    #[error("a read of a file failed")]
+    /// A read of a file failed.
     Read {
         name: Name,
     },
-    #[error("a file is longer than its limit")]
+    /// A file is longer than its limit.
     TooLong {
         name: Name,
         limit: u64,
     },
-    #[error("the bytes encode no module")]
+    /// The bytes encode no module.
     Malformed {
         at: u64,
     },
-    #[error("a function's body has no typing")]
+    /// A function's body has no typing.
     InvalidFunction {
         func: u64,
     },
-    #[error("the module is invalid outside of its bodies")]
+    /// The module is invalid outside of its bodies.
     InvalidModule,
-    #[error("an instruction that is not supported")]
+    /// An instruction that is not supported.
     Unsupported {
         func: u64,
         number: u64,
         feature: Feature,
     },
-    #[error("a quantity is past its limit")]
+    /// A quantity is past its limit.
     Limit {
         which: Which,
         value: u64,
     },
-    #[error("an import from a module whose name is reserved")]
+    /// An import from a module whose name is reserved.
     Reserved {
         import: u64,
     },
-    #[error("the script is no JSON text")]
+    /// The script is no JSON text.
     NotJson,
-    #[error("a value of the script has another form")]
+    /// A value of the script has another form.
     Shape {
         path: Name,
     },
-    #[error("the script names what is not there")]
+    /// The script names what is not there.
     UnknownName {
         name: Name,
     },
-    #[error("a value of the script has another type")]
+    /// A value of the script has another type.
     WrongType {
         name: Name,
     },
-    #[error("the script uses what the module does not share")]
+    /// The script uses what the module does not share.
     NoAccess {
         name: Name,
     },
-    #[error("the script calls an import")]
+    /// The script calls an import.
     CallsOwn {
         name: Name,
     },
-    #[error("an import is not supplied")]
+    /// An import is not supplied.
     Missing {
         import: u64,
     },
-    #[error("what is supplied for an import does not match it")]
+    /// What is supplied for an import does not match it.
     Mismatch {
         import: u64,
     },
-    #[error("a segment passes its table or memory")]
+    /// A segment passes its table or memory.
     Segment {
         number: u64,
     },
-    #[error("the host cannot do what the script says")]
+    /// The host cannot do what the script says.
     Script {
         turn: u64,
         kind: FaultKind,
     },
-    #[error("all turns are used")]
+    /// All turns are used.
     Spent {
         turns: u64,
     },
-    #[error("a write failed")]
+    /// A write failed.
     Write,
-    #[error("out of memory")]
+    /// Out of memory.
     Memory,
-    #[error("a form that is not built yet")]
+    /// A form that is not built yet.
     NotBuilt,
 }
+
+// What a failed test shows. The program prints a fault by its line; derived texts of each variant
+// would be proved for nothing.
+impl fmt::Debug for Fault {
+    fn fmt<W: fmt::Write>(&self, f: &mut fmt::Formatter<W>) -> fmt::Result {
+        let status = self.status();
+        write!(f, "a fault of status {status}")
+    }
+}
+
+impl fmt::Display for Fault {
+    fn fmt<W: fmt::Write>(&self, f: &mut fmt::Formatter<W>) -> fmt::Result {
+        let status = self.status();
+        write!(f, "a fault of status {status}")
+    }
+}
+
+impl Error for Fault {}
 
 impl From<NoMemory> for Fault {
     ghost from_gives = { λ _ fault. fault ≡ Memory };

@@ -2,7 +2,7 @@
 
 ghost use Rattle.std.specs.Prelude.{◌≡◌, ◌<◌, ◌≤◌, ◌/◌, ◌%◌, false, [], ◌∷◌, ◌++◌, length, take, flat_map, slice_index, OnOk, OnErr, IfOk, codes, decimal};
 ghost use Rattle.r3_outside.specs.Count.{Rose};
-ghost use Rattle.r3_outside.specs.Written.{Grew, GrewByPrefix};
+ghost use Rattle.r3_outside.specs.Growth.{Grew, GrewByPrefix};
 ghost use Rattle.r3_faults.specs.Lines.{line_of, escaped, is_plain, hex_digit, feature_text, kind_text, limit_text};
 
 use crate::faults::Fault;
@@ -12,8 +12,11 @@ use r3_outside::{PutFault, Sink, put_all, put_parts};
 use wasm_syntax::{Feature, Name, Which};
 
 impl Fault {
-    /// Writes the line of this fault. After a fault of `err` a first part of it is written. Takes
-    /// no memory.
+    /// Writes the line of this fault. Takes no memory.
+    ///
+    /// # Errors
+    ///
+    /// `Failed` where a write to `err` failed; a first part of the line is then written.
     pub fn put_line<E: Sink>(&self, err: &mut E) -> Result<(), PutFault>
         ensures faults_never_fall { E.faults err.old ≤ E.faults err.new }
         ensures failed { OnErr result (Rose (E.faults err.old) (E.faults err.new)) }
@@ -146,7 +149,7 @@ fn feature_text(feature: Feature) -> &'static [u8]
     }
 }
 
-/// The begin of the line of a quantity past its limit.
+/// The beginning of the line of a quantity past its limit.
 fn limit_text(which: Which) -> &'static [u8]
     ensures { result.now ≡ limit_text which }
 {
@@ -163,18 +166,18 @@ fn put_name<E: Sink>(
     err: &mut E,
     before: &[u8],
     name: &Name,
-    behind: &[&[u8]],
+    after: &[&[u8]],
 ) -> Result<(), PutFault>
     ensures faults_never_fall { E.faults err.old ≤ E.faults err.new }
     ensures failed { OnErr result (Rose (E.faults err.old) (E.faults err.new)) }
     ensures wrote { OnOk result (Grew (E.written err.old) (E.written err.new)
-        (before.now ++ (escaped name.now ++ flat_map (λ part. part.now) behind.now))) }
+        (before.now ++ (escaped name.now ++ flat_map (λ part. part.now) after.now))) }
     ensures wrote_prefix { OnErr result (GrewByPrefix (E.written err.old) (E.written err.new)
-        (before.now ++ (escaped name.now ++ flat_map (λ part. part.now) behind.now))) }
+        (before.now ++ (escaped name.now ++ flat_map (λ part. part.now) after.now))) }
 {
     put_all(err, before)?;
     put_escaped(err, name.as_str().as_bytes())?;
-    put_parts(err, behind)
+    put_parts(err, after)
 }
 
 /// Writes a text in runs: plain bytes as they are, any other one escaped.

@@ -1,2 +1,1 @@
-mod Deciding
-mod Answered
+mod OneAnswer

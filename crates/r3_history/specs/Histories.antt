@@ -4,8 +4,8 @@ use Rattle.wasm_syntax.specs.declared.modules.Module.{Module}
 use Rattle.host_script.specs.declared.scripts.Script.{Script}
 use Rattle.script_text.specs.Plain.{is_flat}
 use Rattle.trace_model.specs.declared.outcomes.Outcome.{Outcome}
-use Rattle.history_spec.specs.Step.{Stepped}
-use Rattle.history_spec.specs.Run.{Run, opening}
+use Rattle.history_spec.specs.Step.{StepResult}
+use Rattle.history_spec.specs.Run.{Run, run_start}
 use Rattle.history_spec.specs.Line.{history_text}
 use Rattle.accepted_runs.specs.Unlinked.{IsUnlinkedFor}
 use Rattle.accepted_runs.specs.Runs.{HasOutcome, HasNoOutcome}
@@ -26,8 +26,8 @@ pub record IsHistoryOf (m : Module) (script : Script) (turns : ℕ) (text : List
 -- it links, and a response calls a function
 pub record HasCalls (m : Module) (script : Script) (fault : Fault) : Type 0 where
   pub named : fault ≡ NotBuilt
-  pub begun : Stepped
-  pub opens : opening m script ≡ Ok begun
+  pub initial : StepResult
+  pub starts : run_start m script ≡ Ok initial
   pub calls : is_flat script ≡ false
 
 -- why there is no history of it: it does not link, a response calls, or none does and the run has no outcome
@@ -47,5 +47,7 @@ pub record IsHistory (module_bytes script_bytes : List ℕ) (turns : ℕ) (text 
 
 -- they are refused, or there is no history of the run
 pub data IsHistoryRefusal (module_bytes script_bytes : List ℕ) (turns : ℕ) (fault : Fault) : Type 0 where
-  OfInputs : (refused : AreRefused module_bytes script_bytes fault) → IsHistoryRefusal module_bytes script_bytes turns fault
-  OfRun : (m : Module) (script : Script) (inputs : AreInputs module_bytes script_bytes m script) (untold : IsUntold m script turns fault) → IsHistoryRefusal module_bytes script_bytes turns fault
+  OfInputs : (refused : AreRefused module_bytes script_bytes fault)
+      → IsHistoryRefusal module_bytes script_bytes turns fault
+  OfRun : (m : Module) (script : Script) (inputs : AreInputs module_bytes script_bytes m script)
+      (untold : IsUntold m script turns fault) → IsHistoryRefusal module_bytes script_bytes turns fault

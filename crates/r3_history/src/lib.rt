@@ -2,6 +2,6 @@
 #![tactic(auto)]
 
 mod histories;
-mod telling;
+mod lines;
 
 pub use histories::history;

@@ -8,10 +8,8 @@ use Rattle.wasm_syntax.specs.declared.modules.Module.{Module}
 use Rattle.wasm_syntax.specs.declared.modules.Func.{Func}
 use Rattle.wasm_syntax.specs.Encoding.Modules.{Encodes, IsFaultPlace}
 use Rattle.wasm_syntax.specs.Validity.{IsValid, IsInvalidAt}
-use Rattle.wasm_syntax.specs.Deciding.{invalid_at}
+use Rattle.wasm_syntax.specs.ValidityTests.{invalid_at}
 use Rattle.wasm_syntax.specs.Profile.{Refusal, IsAccepted, first_refusal}
-use Rattle.wasm_profile.specs.Sizes.{HasShortLists, IsShortFunc}
-use Rattle.encoding_sizes.specs.Within.{HasListsWithin}
 use Rattle.r3_faults.specs.declared.faults.Fault.{Fault}
 use Rattle.r3_faults.specs.declared.faults.Fault.TheVariants.{Malformed, Memory}
 use Rattle.r3_inputs.specs.Inputs.{invalid_fault, refusal_fault, IsModuleOf, IsMalformed, IsInvalidFor, IsUnacceptedFor, IsRefusedModule, ByBytes, ByRules, ByProfile}
@@ -29,32 +27,41 @@ no-refusal m refusal accepted first =
     none-some (first_refusal false m) refusal (ap (λ refusals. slice_get refusals 0) accepted.none_refused) first
 
 module _ (one : (form : Form) (bytes : List ℕ) (m n : Module) → Encodes form bytes m → Encodes form bytes n → m ≡ n)
-    (place-one : (form : Form) (bytes : List ℕ) (a b : ℕ) → IsFaultPlace form bytes a → IsFaultPlace form bytes b → a ≡ b)
+    (place-one : (form : Form) (bytes : List ℕ) (a b : ℕ) → IsFaultPlace form bytes a → IsFaultPlace form bytes b → a
+    ≡ b)
     (valid-decided : (m : Module) → IsValid m ↔ (invalid_at m ≡ None))
     (invalid-decided : (m : Module) (place : Option ℕ) → IsInvalidAt m place ↔ (invalid_at m ≡ Some place)) where
   -- a valid module is invalid nowhere
   not-both : (m : Module) (place : Option ℕ) → IsValid m → IsInvalidAt m place → ⊥
-  not-both m place valid invalid = none-some (invalid_at m) place ((valid-decided m).0 valid) ((invalid-decided m place).0 invalid)
+  not-both m place valid invalid =
+      none-some (invalid_at m) place ((valid-decided m).0 valid) ((invalid-decided m place).0 invalid)
 
   -- a refused module is not taken
-  refused-not_taken : (bytes : List ℕ) (fault : Fault) (m : Module) → IsRefusedModule bytes fault → IsModuleOf bytes m → ⊥
+  refused-not_taken : (bytes : List ℕ) (fault : Fault) (m : Module) → IsRefusedModule bytes fault → IsModuleOf bytes m
+      → ⊥
   refused-not_taken bytes fault m (ByBytes malformed) taken = malformed.none m taken.encoded
   refused-not_taken bytes fault m (ByRules n encoded invalid) taken =
-      not-both n invalid.place (subst IsValid (one Core bytes m n taken.encoded encoded) taken.accepted.valid) invalid.invalid
+      not-both n invalid.place (subst IsValid (one Core bytes m n taken.encoded encoded) taken.accepted.valid)
+      invalid.invalid
   refused-not_taken bytes fault m (ByProfile n encoded valid refused) taken =
-      no-refusal n refused.refusal (subst (IsAccepted false) (one Core bytes m n taken.encoded encoded) taken.accepted) refused.first
+      no-refusal n refused.refusal
+      (subst (IsAccepted false) (one Core bytes m n taken.encoded encoded) taken.accepted) refused.first
 
   -- a module is refused for one fault
   refusal-one : (bytes : List ℕ) (f g : Fault) → IsRefusedModule bytes f → IsRefusedModule bytes g → f ≡ g
-  refusal-one bytes f g (ByBytes a) (ByBytes b) = a.named ∙ ap Malformed (place-one Core bytes a.at b.at a.place b.place) ∙ sym b.named
+  refusal-one bytes f g (ByBytes a) (ByBytes b) =
+      a.named ∙ ap Malformed (place-one Core bytes a.at b.at a.place b.place) ∙ sym b.named
   refusal-one bytes f g (ByBytes a) (ByRules m encoded b) = absurd (a.none m encoded)
   refusal-one bytes f g (ByBytes a) (ByProfile m encoded valid b) = absurd (a.none m encoded)
   refusal-one bytes f g (ByRules m encoded a) (ByBytes b) = absurd (b.none m encoded)
   refusal-one bytes f g (ByRules m encoded a) (ByRules n other b) =
       let same = subst (λ m. IsInvalidAt m a.place) (one Core bytes m n encoded other) a.invalid in
-      a.named ∙ ap invalid_fault (some-one (invalid_at n) a.place b.place ((invalid-decided n a.place).0 same) ((invalid-decided n b.place).0 b.invalid)) ∙ sym b.named
+      a.named ∙ ap invalid_fault
+      (some-one (invalid_at n) a.place b.place ((invalid-decided n a.place).0 same)
+      ((invalid-decided n b.place).0 b.invalid)) ∙ sym b.named
   refusal-one bytes f g (ByRules m encoded a) (ByProfile n other valid b) =
-      absurd (not-both n a.place valid (subst (λ m. IsInvalidAt m a.place) (one Core bytes m n encoded other) a.invalid))
+      absurd (not-both n a.place valid
+      (subst (λ m. IsInvalidAt m a.place) (one Core bytes m n encoded other) a.invalid))
   refusal-one bytes f g (ByProfile m encoded valid a) (ByBytes b) = absurd (b.none m encoded)
   refusal-one bytes f g (ByProfile m encoded valid a) (ByRules n other b) =
       absurd (not-both n b.place (subst IsValid (one Core bytes m n encoded other) valid) b.invalid)
@@ -63,31 +70,16 @@ module _ (one : (form : Form) (bytes : List ℕ) (m n : Module) → Encodes form
       a.named ∙ ap refusal_fault (some-one (first_refusal false n) a.refusal b.refusal same b.first) ∙ sym b.named
 
   -- what an answer with its cause says of a refusal, and of a module that is taken
-  pub refused-answered : (r : Result Module Fault) (bytes : List ℕ) (fault : Fault) → IfOk r (λ m. IsModuleOf bytes m) → IfErr r (λ f. (f ≡ Memory) ⊎ IsRefusedModule bytes f) → IsRefusedModule bytes fault → (r ≡ Err fault) ⊎ (r ≡ Err Memory)
+  pub refused-answered : (r : Result Module Fault) (bytes : List ℕ) (fault : Fault) → IfOk r (λ m. IsModuleOf bytes m)
+      → IfErr r (λ f. (f ≡ Memory) ⊎ IsRefusedModule bytes f) → IsRefusedModule bytes fault
+      → (r ≡ Err fault) ⊎ (r ≡ Err Memory)
   refused-answered (Ok m) bytes fault taken cause refused = absurd (refused-not_taken bytes fault m refused taken)
   refused-answered (Err f) bytes fault taken (inl memory) refused = inr (ap Err memory)
-  refused-answered (Err f) bytes fault taken (inr other) refused = inl (ap Err (refusal-one bytes f fault other refused))
+  refused-answered (Err f) bytes fault taken (inr other) refused =
+      inl (ap Err (refusal-one bytes f fault other refused))
 
-  pub accepted-answered : (r : Result Module Fault) (bytes : List ℕ) (m : Module) → IfOk r (λ m. IsModuleOf bytes m) → IfErr r (λ f. (f ≡ Memory) ⊎ IsRefusedModule bytes f) → IsModuleOf bytes m → (r ≡ Ok m) ⊎ (r ≡ Err Memory)
+  pub accepted-answered : (r : Result Module Fault) (bytes : List ℕ) (m : Module) → IfOk r (λ m. IsModuleOf bytes m)
+      → IfErr r (λ f. (f ≡ Memory) ⊎ IsRefusedModule bytes f) → IsModuleOf bytes m → (r ≡ Ok m) ⊎ (r ≡ Err Memory)
   accepted-answered (Ok n) bytes m taken cause is = inl (ap Ok (one Core bytes n m taken.encoded is.encoded))
   accepted-answered (Err f) bytes m taken (inl memory) is = inr (ap Err memory)
   accepted-answered (Err f) bytes m taken (inr refused) is = absurd (refused-not_taken bytes f m refused is)
-
--- ---- short lists
-
-funcs-short : (most : ℕ) (funcs : List Func) → most < 2 ^ 31 → All (λ (func : Func). length func.locals ≤ most) funcs → All (λ (func : Func). length func.body ≤ most) funcs → AllByRecursion IsShortFunc funcs
-funcs-short most [] h locals bodies = tt
-funcs-short most (func ∷ funcs) h locals bodies = (
-  record {
-    body = omega (arith, h, All-head (λ (func : Func). length func.body ≤ most) func funcs bodies);
-    locals = omega (arith, h, All-head (λ (func : Func). length func.locals ≤ most) func funcs locals);
-  },
-  funcs-short most funcs h (All-tail (λ (func : Func). length func.locals ≤ most) func funcs locals) (All-tail (λ (func : Func). length func.body ≤ most) func funcs bodies),
-)
-
-pub short-lists : (most : ℕ) (m : Module) → most ≤ 8388608 → HasListsWithin most m → HasShortLists m
-short-lists most m h within = record {
-  imports = omega (arith, h, within.parts);
-  funcs = omega (arith, h, within.funcs);
-  each_func = funcs-short most m.funcs (omega (arith, h)) within.locals within.bodies;
-}

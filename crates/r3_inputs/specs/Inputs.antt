@@ -66,7 +66,8 @@ pub record IsUnacceptedFor (m : Module) (fault : Fault) : Type 0 where
 pub data IsRefusedModule (bytes : List ℕ) (fault : Fault) : Type 0 where
   ByBytes : (malformed : IsMalformed bytes fault) → IsRefusedModule bytes fault
   ByRules : (m : Module) (encoded : Encodes Core bytes m) (invalid : IsInvalidFor m fault) → IsRefusedModule bytes fault
-  ByProfile : (m : Module) (encoded : Encodes Core bytes m) (valid : IsValid m) (refused : IsUnacceptedFor m fault) → IsRefusedModule bytes fault
+  ByProfile : (m : Module) (encoded : Encodes Core bytes m) (valid : IsValid m) (refused : IsUnacceptedFor m fault)
+      → IsRefusedModule bytes fault
 
 -- ---- scripts
 
@@ -87,4 +88,5 @@ pub record AreInputs (module_bytes script_bytes : List ℕ) (m : Module) (script
 -- the module is refused, or the script for it
 pub data AreRefused (module_bytes script_bytes : List ℕ) (fault : Fault) : Type 0 where
   ByModule : (refused : IsRefusedModule module_bytes fault) → AreRefused module_bytes script_bytes fault
-  ByScript : (m : Module) (is_module : IsModuleOf module_bytes m) (refused : IsRefusedScript m script_bytes fault) → AreRefused module_bytes script_bytes fault
+  ByScript : (m : Module) (is_module : IsModuleOf module_bytes m) (refused : IsRefusedScript m script_bytes fault)
+      → AreRefused module_bytes script_bytes fault

@@ -1,10 +1,13 @@
 // Bytes as modules and scripts.
 
 ghost use Rattle.std.specs.Prelude.{◌≡◌, ◌<◌, ◌≤◌, ◌⊎◌, ◌^◌, false, Ok, Err, length, All, IfOk, IfErr, OnOk};
+ghost use Rattle.wasm_syntax.specs.declared.limits.TheConstants.{MOST_FILE_BYTES};
 ghost use Rattle.wasm_syntax.specs.declared.forms.Form.TheVariants.{Core};
 ghost use Rattle.wasm_syntax.specs.Encoding.Modules.{Encodes};
 ghost use Rattle.wasm_syntax.specs.Index.{func_indices};
-ghost use Rattle.wasm_syntax.specs.Profile.{IsAccepted};
+ghost use Rattle.wasm_syntax.specs.Profile.{IsAccepted, IsSupported};
+ghost use Rattle.encoding_sizes.specs.Within.{HasListsWithin};
+ghost use Rattle.wasm_flat.specs.Sizes.{IsShort};
 ghost use Rattle.wasm_profile.specs.Sizes.{HasShortLists};
 ghost use Rattle.wasm_syntax.specs.declared.modules.Module.{Module};
 ghost use Rattle.wasm_syntax.specs.Validity.{IsValid};
@@ -15,7 +18,6 @@ ghost use Rattle.r3_faults.specs.declared.faults.Fault.{Fault};
 ghost use Rattle.r3_faults.specs.declared.faults.Fault.TheVariants.{Memory};
 ghost use Rattle.r3_inputs.specs.Inputs.{IsModuleOf, IsMalformed, IsInvalidFor, IsUnacceptedFor, IsRefusedModule, IsRefusedScript};
 
-use encoding_sizes::lists_of_encoding;
 use fitting_scripts::scripts_that_are_read_fit;
 use host_script::Script;
 use r3_faults::Fault;
@@ -26,41 +28,56 @@ use wasm_profile::{ProfileFault, accept};
 use wasm_syntax::{Form, Module, fault_places, module_encoding, validity_is_decided};
 use wasm_validate::{Checked, InvalidFault, validate};
 
-/// The module that bytes encode in the form Core, where it is valid and accepted.
+/// The module that bytes encode in the form Core, where it is valid and accepted. There are at most
+/// `MOST_FILE_BYTES` of them.
+///
+/// # Errors
+///
+/// Why the bytes are refused, the first of: they are malformed, the module is invalid, it is not
+/// accepted. `Memory` where memory runs out.
 pub fn module_of(alloc: Global, bytes: &[u8]) -> Result<Checked, Fault>
-    requires { length bytes.now ≤ 8388608 }
+    requires { length bytes.now ≤ MOST_FILE_BYTES }
     ensures taken { IfOk result (λ checked. IsModuleOf bytes.now checked) }
     ensures bytes { IfOk result (λ checked. All (λ segment. All (λ byte. byte < 256) segment.bytes) checked.datas) }
+    // What running asks for: no instruction is refused, and its lists are short.
+    ensures supported { IfOk result (λ checked. IsSupported checked) }
+    ensures short { IfOk result (λ checked. IsShort checked) }
+    // No list of it is longer than the bytes.
+    ensures within { IfOk result (λ checked. HasListsWithin (length bytes.now) checked) }
     ensures cause { IfErr result (λ fault. (fault ≡ Memory) ⊎ IsRefusedModule bytes.now fault) }
     ensures refused { (fault : Fault) → IsRefusedModule bytes.now fault
         → (result ≡ Err fault) ⊎ (result ≡ Err Memory) }
     ensures accepted { (m : Module) → IsModuleOf bytes.now m
         → (result ≡ Ok m) ⊎ (result ≡ Err Memory) }
 {
+    // Bytes encode one module at most, and are refused for one fault at most.
     module_encoding();
     fault_places();
     validity_is_decided();
-    taken_module(alloc, bytes)
+    accepted_module(alloc, bytes)
 }
 
 /// The same, with what it is or why it is refused.
-fn taken_module(alloc: Global, bytes: &[u8]) -> Result<Checked, Fault>
-    requires { length bytes.now ≤ 8388608 }
+fn accepted_module(alloc: Global, bytes: &[u8]) -> Result<Checked, Fault>
+    requires { length bytes.now ≤ MOST_FILE_BYTES }
     ensures taken { IfOk result (λ checked. IsModuleOf bytes.now checked) }
     ensures bytes { IfOk result (λ checked. All (λ segment. All (λ byte. byte < 256) segment.bytes) checked.datas) }
+    ensures supported { IfOk result (λ checked. IsSupported checked) }
+    ensures short { IfOk result (λ checked. IsShort checked) }
+    ensures within { IfOk result (λ checked. HasListsWithin (length bytes.now) checked) }
     ensures cause { IfErr result (λ fault. (fault ≡ Memory) ⊎ IsRefusedModule bytes.now fault) }
 {
-    lists_of_encoding();
-    let module = decoded(alloc, bytes)?;
-    let checked = validated(alloc, module)?;
-    accepted(&checked)?;
+    let module = decoded_module(alloc, bytes)?;
+    let checked = valid_module(alloc, module)?;
+    acceptance(&checked)?;
     Ok(checked)
 }
 
 /// The module that bytes encode in the form Core.
-fn decoded(alloc: Global, bytes: &[u8]) -> Result<Module, Fault>
+fn decoded_module(alloc: Global, bytes: &[u8]) -> Result<Module, Fault>
     ensures found { IfOk result (λ m. Encodes Core bytes.now m) }
     ensures bytes { IfOk result (λ m. All (λ segment. All (λ byte. byte < 256) segment.bytes) m.datas) }
+    ensures within { IfOk result (λ m. HasListsWithin (length bytes.now) m) }
     ensures cause { IfErr result (λ fault. (fault ≡ Memory) ⊎ IsMalformed bytes.now fault) }
 {
     match decode(alloc, bytes, Form::Core) {
@@ -71,7 +88,7 @@ fn decoded(alloc: Global, bytes: &[u8]) -> Result<Module, Fault>
 }
 
 /// A module, with the knowledge that it is valid.
-fn validated(alloc: Global, module: Module) -> Result<Checked, Fault>
+fn valid_module(alloc: Global, module: Module) -> Result<Checked, Fault>
     requires { length (func_indices «module») < 2 ^ 32 }
     ensures same { IfOk result (λ checked. checked ≡ «module») }
     ensures valid { IfOk result (λ _. IsValid «module») }
@@ -87,8 +104,8 @@ fn validated(alloc: Global, module: Module) -> Result<Checked, Fault>
     }
 }
 
-/// Takes a valid module that is accepted.
-fn accepted(checked: &Checked) -> Result<(), Fault>
+/// Whether a valid module is accepted, and why it is not.
+fn acceptance(checked: &Checked) -> Result<(), Fault>
     requires { HasShortLists checked.now }
     ensures taken { OnOk result (IsAccepted false checked.now) }
     ensures cause { IfErr result (λ fault. IsUnacceptedFor checked.now fault) }
@@ -114,6 +131,10 @@ fn accepted(checked: &Checked) -> Result<(), Fault>
 }
 
 /// The script that bytes are for a module, which fits the module.
+///
+/// # Errors
+///
+/// The first fault of the walk over the text, or `Memory` where memory runs out.
 pub fn script_of(alloc: Global, bytes: &[u8], checked: &Checked) -> Result<Script, Fault>
     ensures taken { IfOk result (λ script. script_of_text checked.now bytes.now ≡ Ok script) }
     ensures fits { IfOk result (λ script. Fits checked.now script) }

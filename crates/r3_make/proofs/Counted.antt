@@ -6,10 +6,10 @@ use Rattle.std.proofs.lemmas.List.Sums.{sum_by-cons}
 use Rattle.wasm_syntax.specs.declared.values.Val.{Val}
 use Rattle.history_spec.specs.declared.entries.Entry.{Entry}
 use Rattle.history_spec.specs.declared.entries.Entry.TheVariants.{HostCall, ImportCall}
-use Rattle.host_play.specs.Counting.{calls_import, is_host_call, is_call, import_calls, host_calls, all_calls}
+use Rattle.host_play.specs.CallCounts.{calls_import, is_host_call, is_call, import_calls, host_calls, all_calls}
 use Rattle.plain_replay.specs.Covers as covers
 use Rattle.plain_replay.specs.Covers.{calls_in}
-use Rattle.plain_replay.specs.Made.{values_of}
+use Rattle.plain_replay.specs.ReplayModule.{values_of}
 
 bit : Bool → ℕ
 bit true = 1

@@ -1,5 +1,4 @@
-mod Answered
 mod Used
-mod Deciding
+mod OneAnswer
 mod Counted
 mod OfRun

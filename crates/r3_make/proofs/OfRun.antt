@@ -10,10 +10,10 @@ use Rattle.host_script.specs.Fits.{Fits, FitsImport}
 use Rattle.plain_replay.specs.Forms.{IsIntegerCode}
 use Rattle.trace_model.specs.declared.outcomes.Outcome.{Outcome}
 use Rattle.history_spec.specs.Store.{Store}
-use Rattle.history_spec.specs.Step.{Program, Stepped, Finished, start}
-use Rattle.history_spec.specs.Run.{Run, all_one, opening, program_of, run_from, start_of}
+use Rattle.history_spec.specs.Step.{Program, StepResult, Finished, start}
+use Rattle.history_spec.specs.Run.{Run, all_one, run_start, program_of, run_from, start_in_store}
 use Rattle.host_play.specs.declared.results.Played.{Played}
-use Rattle.host_play.specs.Counting.{all_calls}
+use Rattle.host_play.specs.CallCounts.{all_calls}
 use Rattle.host_play.specs.Results.{PlaysRun}
 use Rattle.plain_replay.specs.Covers.{FollowsScript, Uses, calling}
 use Rattle.r3_make.specs.Parts.{first_values, AreOfRun}
@@ -34,23 +34,23 @@ one-each m script fits = zip-length (FitsImport m) (of_kind func_import m.import
 -- no start function is called
 pub begins-without : (m : Module) (script : Script) (store : Store) → IsIntegerCode m
     → ((program : Program) (store : Store) (counts : List ℕ) (main : List Action) → all_calls (start program None store counts main).entries ≡ 0)
-    → all_calls (start_of m script store).entries ≡ 0
+    → all_calls (start_in_store m script store).entries ≡ 0
 begins-without m script store code none =
     ap (λ func. all_calls (start (program_of m script) func store (replicate (program_of m script).code.imported 0) script.main).entries) code.start
     ∙ none (program_of m script) store (replicate (program_of m script).code.imported 0) script.main
 
-pub of-run : (m : Module) (script : Script) (turns : ℕ) (begun : Stepped) (played : Played) (table : List (List Val)) (calls : List ℕ)
-    → IsBuilt m script → turns ≤ 2000000 → opening m script ≡ Ok begun → PlaysRun (program_of m script) begun turns played
-    → ((steps : ℕ) (outcome : Outcome) → (run_from (program_of m script) all_one begun steps).at ≡ Finished outcome → FollowsScript script (run_from (program_of m script) all_one begun steps).history)
-    → ((steps : ℕ) → all_calls (run_from (program_of m script) all_one begun steps).history ≤ all_calls begun.entries + (run_from (program_of m script) all_one begun steps).turns)
-    → all_calls begun.entries ≡ 0
+pub of-run : (m : Module) (script : Script) (turns : ℕ) (initial : StepResult) (played : Played) (table : List (List Val)) (calls : List ℕ)
+    → IsBuilt m script → turns ≤ 2000000 → run_start m script ≡ Ok initial → PlaysRun (program_of m script) initial turns played
+    → ((steps : ℕ) (outcome : Outcome) → (run_from (program_of m script) all_one initial steps).at ≡ Finished outcome → FollowsScript script (run_from (program_of m script) all_one initial steps).history)
+    → ((steps : ℕ) → all_calls (run_from (program_of m script) all_one initial steps).history ≤ all_calls initial.entries + (run_from (program_of m script) all_one initial steps).turns)
+    → all_calls initial.entries ≡ 0
     → length script.imports ≡ imported_funcs m
     → table ≡ first_values played.imports script.imports → map calling calls ≡ take played.calls script.main
     → AreOfRun m script turns table calls
-of-run m script turns begun played table calls built few opens plays follows take-turns none each same made = record {
+of-run m script turns initial played table calls built few starts plays follows take-turns none each same made = record {
   run = run;
   outcome = played.outcome;
-  ends = record { begun = begun; opens = opens; within = plays.within; ends = plays.outcome };
+  ends = record { initial = initial; starts = starts; within = plays.within; ends = plays.outcome };
   uses = uses;
   counted = omega (
     arith,
@@ -64,7 +64,7 @@ of-run m script turns begun played table calls built few opens plays follows tak
     run : Run
     run = plays.run
 
-    is_run : run_from (program_of m script) all_one begun plays.within.count ≡ run
+    is_run : run_from (program_of m script) all_one initial plays.within.count ≡ run
     is_run = plays.within.is_run
 
     own : FollowsScript script run.history
@@ -74,7 +74,7 @@ of-run m script turns begun played table calls built few opens plays follows tak
     some : all_calls run.history ≤ turns
     some = omega (
       arith,
-      subst (λ (r : Run). all_calls r.history ≤ all_calls begun.entries + r.turns) is_run (take-turns plays.within.count),
+      subst (λ (r : Run). all_calls r.history ≤ all_calls initial.entries + r.turns) is_run (take-turns plays.within.count),
       none,
       plays.within.in_budget,
     )

@@ -12,11 +12,11 @@ use Rattle.host_script.specs.declared.scripts.Answer.{Answer}
 use Rattle.host_script.specs.declared.scripts.Response.{Response}
 use Rattle.history_spec.specs.declared.entries.Entry.{Entry}
 use Rattle.history_spec.specs.Step.{response_to, response_of, response_or}
-use Rattle.host_play.specs.Counting.{import_calls, host_calls, all_calls}
+use Rattle.host_play.specs.CallCounts.{import_calls, host_calls, all_calls}
 use Rattle.host_play.specs.Hosts.{kept}
 use Rattle.plain_replay.specs.Covers.{Uses, FollowsScript, answers_in, calls_in, calling, returning}
 use Rattle.plain_replay.specs.Forms.{IsPlainAnswer}
-use Rattle.plain_replay.specs.Made.{values_of}
+use Rattle.plain_replay.specs.ReplayModule.{values_of}
 use Rattle.r3_make.specs.Parts.{values_in, returned, first_values}
 use Rattle.r3_make.proofs.Counted.{imports_agree, host_agrees, import_within, host_within}
 

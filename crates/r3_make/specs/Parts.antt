@@ -10,7 +10,7 @@ use Rattle.host_script.specs.declared.scripts.Script.{Script}
 use Rattle.trace_model.specs.declared.outcomes.Outcome.{Outcome}
 use Rattle.history_spec.specs.Code.{i32_value}
 use Rattle.history_spec.specs.Run.{Run}
-use Rattle.host_play.specs.Counting.{all_calls}
+use Rattle.host_play.specs.CallCounts.{all_calls}
 use Rattle.plain_replay.specs.Covers.{Uses}
 use Rattle.accepted_runs.specs.Runs.{HasOutcome}
 
@@ -25,14 +25,14 @@ abbrev pub values_in : Option Answer → List Val
 values_in None = []
 values_in (Some answer) = map (λ (response : Response). returned response.end) answer.calls
 
--- of each import the values that its first calls are answered by, so many
+-- of each import the values that a number of its first calls are answered by
 abbrev pub first_values : (counts : List ℕ) → List (Option Answer) → List (List Val)
 first_values [] answers = []
 first_values (count ∷ counts) [] = []
 first_values (count ∷ counts) (answer ∷ answers) = take count (values_in answer) ∷ first_values counts answers
 
--- the run has an outcome within the turns; these are its answers and its host's calls, no more than its history has calls,
--- and those no more than the turns
+-- the run has an outcome within the turns; these are its answers and its host's calls, no more than its history has
+-- calls, and those no more than the turns
 pub record AreOfRun (m : Module) (script : Script) (turns : ℕ) (table : List (List Val)) (calls : List ℕ) : Type 0 where
   pub run : Run
   pub outcome : Outcome

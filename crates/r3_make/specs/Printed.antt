@@ -6,18 +6,18 @@ use Rattle.wasm_syntax.specs.Index.{imported_funcs}
 use Rattle.host_script.specs.declared.scripts.Script.{Script}
 use Rattle.trace_model.specs.declared.outcomes.Outcome.{Outcome}
 use Rattle.history_spec.specs.Run.{Run}
-use Rattle.host_play.specs.Counting.{all_calls}
+use Rattle.host_play.specs.CallCounts.{all_calls}
 use Rattle.plain_replay.specs.Covers.{Uses}
-use Rattle.plain_replay.specs.Made.{replay_module}
+use Rattle.plain_replay.specs.ReplayModule.{replay_module}
 use Rattle.plain_maker.specs.Replay.{IsReplay}
 use Rattle.accepted_runs.specs.Runs.{HasOutcome}
 use Rattle.r3_inputs.specs.Inputs.{AreInputs}
 use Rattle.r3_make.specs.Refusals.{IsBuilt}
 
--- the module of so many bytes and the script are built, and their run has an outcome within the turns; the bytes that are
--- printed encode a valid module without imports that keeps the original's functions, and whose run shows exactly the
--- history and the outcome of that run: the replay module of its answers and its host's calls. They are at most 64 more for
--- each import, 32 for each call of an import and each call by the host that the history has, and 1,024
+-- the module, of this number of bytes, and the script are built, and their run has an outcome within the turns; the
+-- bytes that are printed encode a valid module without imports that keeps the original's functions, and whose run shows
+-- exactly the history and the outcome of that run: the replay module of its answers and its host's calls. They are at
+-- most 64 more for each import, 32 for each call of an import and each call by the host that the history has, and 1,024
 pub record IsReplayFor (m : Module) (script : Script) (turns size : ℕ) (printed : List ℕ) : Type 0 where
   pub built : IsBuilt m script
   pub run : Run

@@ -3,8 +3,8 @@ use Rattle.std.specs.Prelude.{◌≡◌, ℕ, List, Ok}
 use Rattle.host_script.specs.declared.scripts.Script.{Script}
 use Rattle.wasm_syntax.specs.declared.modules.Module.{Module}
 use Rattle.trace_model.specs.declared.outcomes.Outcome.{Outcome}
-use Rattle.history_spec.specs.Run.{Run, opening}
-use Rattle.history_spec.specs.Step.{Stepped}
+use Rattle.history_spec.specs.Run.{Run, run_start}
+use Rattle.history_spec.specs.Step.{StepResult}
 use Rattle.plain_replay.specs.Forms.{IsIntegerCode, IsPlain}
 use Rattle.accepted_runs.specs.Unlinked.{IsUnlinkedFor}
 use Rattle.accepted_runs.specs.Runs.{HasOutcome, HasNoOutcome}
@@ -29,8 +29,8 @@ pub record IsReplayable (m : Module) (script : Script) (turns : ℕ) : Type 0 wh
 -- the module links, and one of the two has another form
 pub record IsOtherForm (m : Module) (script : Script) (fault : Fault) : Type 0 where
   pub named : fault ≡ NotBuilt
-  pub begun : Stepped
-  pub opens : opening m script ≡ Ok begun
+  pub initial : StepResult
+  pub starts : run_start m script ≡ Ok initial
   pub other : ¬ (IsBuilt m script)
 
 -- why there is no replay module of it
@@ -50,5 +50,7 @@ pub record AreReplayable (module_bytes script_bytes : List ℕ) (turns : ℕ) : 
 
 -- they are refused, or there is no replay module of the run
 pub data IsMakeRefusal (module_bytes script_bytes : List ℕ) (turns : ℕ) (fault : Fault) : Type 0 where
-  OfInputs : (refused : AreRefused module_bytes script_bytes fault) → IsMakeRefusal module_bytes script_bytes turns fault
-  OfModule : (m : Module) (script : Script) (inputs : AreInputs module_bytes script_bytes m script) (unmade : IsUnmade m script turns fault) → IsMakeRefusal module_bytes script_bytes turns fault
+  OfInputs : (refused : AreRefused module_bytes script_bytes fault)
+      → IsMakeRefusal module_bytes script_bytes turns fault
+  OfModule : (m : Module) (script : Script) (inputs : AreInputs module_bytes script_bytes m script)
+      (unmade : IsUnmade m script turns fault) → IsMakeRefusal module_bytes script_bytes turns fault

@@ -1,8 +1,8 @@
 //! The replay module of the bytes of a module and of a script.
 #![tactic(auto)]
 
-mod making;
+mod makes;
 mod parts;
-mod replaying;
+mod replays;
 
-pub use making::make;
+pub use makes::make;

@@ -19,8 +19,8 @@ pub(crate) struct Parts {
     pub(crate) calls: Vec<u32>,
 }
 
-/// Those of a plain script for the first calls of each import, so many, and for so many first calls by
-/// the host.
+/// Those of a plain script for a number of first calls of each import and a number of first calls by the
+/// host.
 pub(crate) fn parts_of(
     alloc: Global,
     script: &Script,
@@ -29,7 +29,8 @@ pub(crate) fn parts_of(
 ) -> Result<Parts, AllocError>
     requires plain { (m : Module) × IsPlain m script.now }
     requires each { length imports.now ≡ length script.now.imports }
-    ensures answers { IfOk result (λ parts. table_of parts.answers.items ≡ first_values imports.now script.now.imports) }
+    ensures answers { IfOk result (λ parts.
+        table_of parts.answers.items ≡ first_values imports.now script.now.imports) }
     ensures calls { IfOk result (λ parts. map calling parts.calls.items ≡ take calls script.now.main) }
 {
     Ok(Parts {
@@ -87,7 +88,7 @@ fn calls_of(alloc: Global, script: &Script, count: u64) -> Result<Vec<u32>, Allo
     Ok(calls)
 }
 
-/// The first items, at most so many.
+/// The first items, at most this number of them.
 fn first<T>(items: &[T], count: u64) -> &[T]
     ensures { result.now ≡ take count items.now }
 {

@@ -1,3 +1,3 @@
 pub mod ContentsLemmas
 pub mod TableLemmas
-pub mod WrittenLemmas
+pub mod GrowthLemmas

@@ -5,7 +5,7 @@ use Rattle.std.specs.Prelude.{ℕ, ◌+◌, ◌-◌, ◌^◌, ◌≤◌, min}
 abbrev pub Rose : ℕ → ℕ → Type 0
 Rose before now = min (before + 1) (2 ^ 64 - 1) ≤ now
 
--- at least so many bytes were taken between two moments, or the count stands at the greatest number of 64 bits
+-- at least this number of bytes was taken between two moments, or the count stands at the greatest number of 64 bits
 abbrev pub Took : ℕ → ℕ → ℕ → Type 0
 Took before now bytes = min (before + bytes) (2 ^ 64 - 1) ≤ now
 

@@ -1,4 +1,4 @@
 pub mod Count
 pub mod Contents
-pub mod Stored
-pub mod Written
+pub mod Stores
+pub mod Growth

@@ -6,7 +6,7 @@ ghost use Rattle.std.specs.Prelude.{◌≡◌, ℕ, ◌<◌, ◌≤◌, List, le
 ghost use Rattle.std.specs.Option.{ForSome};
 ghost use Rattle.r3_outside.specs.Count.{Rose, saturating_add};
 ghost use Rattle.r3_outside.specs.Contents.{FileMap, file_bytes, IsPiece};
-ghost use Rattle.r3_outside.specs.Written.{Grew};
+ghost use Rattle.r3_outside.specs.Growth.{Grew};
 
 use thiserror::Error;
 
@@ -42,9 +42,12 @@ pub trait Files {
     // How many bytes were taken.
     ghost taken: { Self → ℕ };
 
-    /// Reads at most `into.len()` bytes of a file, from its byte `at` on, into the front of
-    /// `into`, and answers how many. It reads none only where no byte stands at `at`. After
-    /// `Failed` `into` may hold any bytes.
+    /// Reads at most `into.len()` bytes of a file, from its byte `at` on (counted from 0), into the
+    /// front of `into`, and answers how many. It reads none only where no byte stands at `at`.
+    ///
+    /// # Errors
+    ///
+    /// `Failed` where the read failed; `into` may then hold any bytes.
     fn read_at(&mut self, name: &str, at: u64, into: &mut [u8]) -> Result<usize, Failed>
         requires { 0 < length into.old }
 
@@ -63,7 +66,7 @@ pub trait Files {
             (λ files. IsPiece (file_bytes files name.now) at k into.new)) };
 }
 
-/// Where bytes are written, one behind the other.
+/// Where bytes are written, one after the other.
 pub trait Sink {
     // All bytes that were written, where this sink tells them.
     ghost written: { Self → Option (List ℕ) };
@@ -72,6 +75,10 @@ pub trait Sink {
     ghost faults: { Self → ℕ };
 
     /// Writes the first bytes of `piece`, at least one, and answers how many.
+    ///
+    /// # Errors
+    ///
+    /// `Failed` where the write failed; nothing of `piece` is then written.
     fn write(&mut self, piece: &[u8]) -> Result<usize, Failed>
         requires { 0 < length piece.now }
 

@@ -1,8 +1,10 @@
+// Files and a sink in memory, of whose calls some fail.
+
 ghost use Rattle.std.specs.Prelude.{◌≡◌, ℕ, ◌+◌, ◌<◌, ◌≤◌, List, [], ◌++◌, length, min, take, Some, OnOk, OnErr, IfOk, IsErr, IsTrue, ◌↔◌};
 ghost use Rattle.std.specs.FinMap as map;
 ghost use Rattle.r3_outside.specs.Count.{saturating_add};
 ghost use Rattle.r3_outside.specs.Contents.{FileMap, file_bytes, piece_length, IsPiece};
-ghost use Rattle.r3_outside.specs.Stored.{is_failing_read, is_failing_write};
+ghost use Rattle.r3_outside.specs.Stores.{is_failing_read, is_failing_write};
 
 use crate::table::{Table, copy_piece};
 use crate::{Failed, Files, NoMemory, Sink};
@@ -23,7 +25,7 @@ pub struct MemFiles {
 }
 
 impl Model for MemFiles {
-    ghost use Rattle.r3_outside.specs.Stored.{MemStore, mem_store_code};
+    ghost use Rattle.r3_outside.specs.Stores.{MemStore, mem_store_code};
 
     ghost Value = { MemStore };
 
@@ -59,6 +61,10 @@ impl MemFiles {
     }
 
     /// Adds a file, in place of one of the same name.
+    ///
+    /// # Errors
+    ///
+    /// `NoMemory` where memory runs out; the files are then as they were.
     pub fn add(&mut self, name: &str, bytes: &[u8]) -> Result<(), NoMemory>
         ensures ok { OnOk result
             (self.new ≡ record self.old { files = map.insert self.old.files name.now bytes.now }) }
@@ -123,7 +129,7 @@ pub struct MemSink {
 
 impl Model for MemSink {
     ghost use Rattle.std.specs.Prelude.{◌≤◌};
-    ghost use Rattle.r3_outside.specs.Stored.{MemOutput, mem_output_code};
+    ghost use Rattle.r3_outside.specs.Stores.{MemOutput, mem_output_code};
 
     ghost Value = { MemOutput };
 

@@ -1,3 +1,5 @@
+// Reading whole files.
+
 ghost use Rattle.std.specs.Prelude.{◌≡◌, ℕ, ◌+◌, ◌<◌, ◌≤◌, length, IfOk, IsErrOf, vec_len};
 ghost use Rattle.std.specs.Option.{ForSome};
 ghost use Rattle.r3_outside.specs.Count.{Rose, Took};
@@ -40,7 +42,10 @@ const PIECE: usize = 65_536;
 
 /// Reads a whole file of at most `limit` bytes, by as many calls as it needs.
 ///
-/// A file of which `limit + 1` bytes were taken is too long.
+/// # Errors
+///
+/// `Failed` where a read failed, `TooLong` where `limit + 1` bytes were taken, `Memory` where memory
+/// runs out.
 pub fn load<F: Files>(
     alloc: Global,
     files: &mut F,
@@ -61,7 +66,8 @@ pub fn load<F: Files>(
 
     ensures failed { IsErrOf result LoadFault.Failed → Rose (F.faults files.old) (F.faults files.new) }
 
-    ensures too_long { IsErrOf result LoadFault.TooLong → Took (F.taken files.old) (F.taken files.new) (limit + 1) }
+    ensures too_long { IsErrOf result LoadFault.TooLong →
+        Took (F.taken files.old) (F.taken files.new) (limit + 1) }
     ensures longer { IsErrOf result LoadFault.TooLong → ForSome (F.contents files.old)
         (λ told. limit < length (file_bytes told name.now)) }
 {
@@ -70,6 +76,7 @@ pub fn load<F: Files>(
     load_by_pieces(alloc, files, name, most, &mut piece)
 }
 
+/// A list of `count` zeros.
 fn zeros(alloc: Global, count: usize) -> Result<Vec<u8>, AllocError>
     ensures { IfOk result (λ zeros. vec_len zeros ≡ count) }
 {

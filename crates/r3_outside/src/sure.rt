@@ -1,9 +1,11 @@
+// Files and a sink in memory that never fail.
+
 ghost use Rattle.std.specs.Prelude.{◌≡◌, ℕ, ◌<◌, ◌≤◌, List, [], ◌++◌, length, Option, Some, OnOk, OnErr, IfOk};
 ghost use Rattle.std.specs.Option.{option_copied};
 ghost use Rattle.std.specs.FinMap as map;
 ghost use Rattle.r3_outside.specs.Count.{saturating_add};
 ghost use Rattle.r3_outside.specs.Contents.{FileMap, file_bytes, piece_length, IsPiece};
-ghost use Rattle.r3_outside.specs.Written.{Grew};
+ghost use Rattle.r3_outside.specs.Growth.{Grew};
 
 use crate::table::{Table, copy_piece};
 use crate::{Failed, Files, NoMemory, Sink};
@@ -18,7 +20,7 @@ pub struct SureFiles {
 }
 
 impl Model for SureFiles {
-    ghost use Rattle.r3_outside.specs.Stored.{SureStore, sure_store_code};
+    ghost use Rattle.r3_outside.specs.Stores.{SureStore, sure_store_code};
 
     ghost Value = { SureStore };
 
@@ -28,6 +30,7 @@ impl Model for SureFiles {
 }
 
 impl SureFiles {
+    /// No files yet. Takes no memory.
     pub fn new(alloc: Global) -> SureFiles
         ensures { result ≡ record { files = map.empty; taken = 0 } }
     {
@@ -38,6 +41,10 @@ impl SureFiles {
     }
 
     /// Adds a file, in place of one of the same name.
+    ///
+    /// # Errors
+    ///
+    /// `NoMemory` where memory runs out; the files are then as they were.
     pub fn add(&mut self, name: &str, bytes: &[u8]) -> Result<(), NoMemory>
         ensures ok { OnOk result
             (self.new ≡ record self.old { files = map.insert self.old.files name.now bytes.now }) }
@@ -69,8 +76,8 @@ impl Files for SureFiles {
     }
 }
 
-/// A sink in memory that never fails. Where there is no memory for what it is given, it drops its
-/// bytes and no longer tells them.
+/// A sink in memory that never fails. Where memory runs out, it drops its bytes and no longer tells
+/// them.
 #[derive(Drop)]
 pub struct SureSink {
     bytes: Option<Vec<u8>>,
@@ -86,6 +93,7 @@ impl Model for SureSink {
 }
 
 impl SureSink {
+    /// A sink to which nothing was written yet. Takes no memory.
     pub fn new(alloc: Global) -> SureSink
         ensures { result ≡ Some [] }
     {

@@ -1,3 +1,5 @@
+// The files and streams of the system.
+
 ghost use Rattle.std.specs.Prelude.{◌≡◌, ◌≤◌, length, None, IfOk};
 
 use crate::{Failed, Files, Sink};
@@ -18,7 +20,7 @@ pub struct DiskFiles<R: rt::Files + AllocGlobal + Drop> {
 }
 
 impl<R: rt::Files + AllocGlobal + Drop> Model for DiskFiles<R> {
-    ghost use Rattle.r3_outside.specs.Stored.{Counts};
+    ghost use Rattle.r3_outside.specs.Stores.{Counts};
 
     ghost Value = { Counts };
 
@@ -26,6 +28,7 @@ impl<R: rt::Files + AllocGlobal + Drop> Model for DiskFiles<R> {
 }
 
 impl<R: rt::Files + AllocGlobal + Drop> DiskFiles<R> {
+    /// The files that a runtime reaches. Takes no memory.
     pub fn new(rt: R) -> DiskFiles<R>
         ensures { result ≡ record { faults = 0; taken = 0 } }
     {
@@ -79,6 +82,7 @@ impl<R: rt::Files + AllocGlobal + Drop> Reader<R> {
         Ok(count)
     }
 
+    /// Opens a file at its beginning.
     fn open(&self, name: &str) -> io::Result<OpenFile<R::File>> {
         Ok(OpenFile {
             name: String::from_str(self.rt.alloc(), name)?,
@@ -127,6 +131,7 @@ impl<W: Write + Drop> Model for StdSink<W> {
 }
 
 impl<W: Write + Drop> StdSink<W> {
+    /// A writer as a sink. Takes no memory.
     pub fn new(writer: W) -> StdSink<W>
         ensures { result ≡ 0 }
     {

@@ -1,3 +1,5 @@
+// Files by name, in memory.
+
 ghost use Rattle.std.specs.Prelude.{◌≡◌, ℕ, ◌<◌, List, length, OnOk, OnErr};
 ghost use Rattle.std.specs.Option.{option_copied};
 ghost use Rattle.std.specs.FinMap as map;
@@ -17,7 +19,7 @@ pub(crate) struct Table {
 
 impl Model for Table {
     ghost use Rattle.r3_outside.specs.Contents.{FileMap};
-    ghost use Rattle.r3_outside.specs.Stored.{file_map_code, file_map};
+    ghost use Rattle.r3_outside.specs.Stores.{file_map_code, file_map};
 
     ghost Value = { FileMap };
 
@@ -27,6 +29,7 @@ impl Model for Table {
 }
 
 impl Table {
+    /// No files. Takes no memory.
     pub(crate) fn new(alloc: Global) -> Table
         ensures { result ≡ map.empty }
     {
@@ -36,7 +39,8 @@ impl Table {
         }
     }
 
-    /// Puts bytes under a name, in place of those that may stand there.
+    /// Puts bytes under a name, in place of those that may stand there. Where memory runs out the
+    /// table is as it was.
     pub(crate) fn insert(&mut self, name: &str, bytes: &[u8]) -> Result<(), NoMemory>
         ensures ok { OnOk result (self.new ≡ map.insert self.old name.now bytes.now) }
         ensures err { OnErr result (self.new ≡ self.old) }
@@ -47,6 +51,7 @@ impl Table {
         Ok(())
     }
 
+    /// The bytes under a name; none where there are none.
     pub(crate) fn get(&self, name: &str) -> Option<&[u8]>
         ensures { option_copied result ≡ map.get self.now name.now }
     {

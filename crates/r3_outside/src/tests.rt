@@ -131,7 +131,7 @@ fn what_is_no_file_of_the_system_fails(rt: HostRuntime) {
     }
 }
 
-/// A writer that takes at most two bytes a call, and behind its fifth none, or answers an error.
+/// A writer that takes at most two bytes a call, and after its fifth none, or answers an error.
 #[derive(Drop)]
 struct Narrow {
     bytes: Vec<u8>,

@@ -1,7 +1,9 @@
+// Writing whole lists of bytes.
+
 ghost use Rattle.std.specs.Prelude.{◌≡◌, ℕ, ◌≤◌, List, map, OnOk, OnErr};
 ghost use Rattle.std.specs.List.{flat_map};
 ghost use Rattle.r3_outside.specs.Count.{Rose};
-ghost use Rattle.r3_outside.specs.Written.{Grew, GrewByPrefix};
+ghost use Rattle.r3_outside.specs.Growth.{Grew, GrewByPrefix};
 ghost use Rattle.r3_outside.specs.declared.writing.PutFault.TheVariants.{Failed as WriteFailed};
 
 use crate::{Failed, Sink};
@@ -22,8 +24,11 @@ impl From<Failed> for PutFault {
     }
 }
 
-/// Writes all of `bytes`, by as many calls as it needs, and takes no memory. After a fault a first
-/// part of them is written.
+/// Writes all of `bytes`, by as many calls as it needs, and takes no memory.
+///
+/// # Errors
+///
+/// `Failed` where a write failed; a first part of the bytes is then written.
 pub fn put_all<S: Sink>(sink: &mut S, bytes: &[u8]) -> Result<(), PutFault>
     ensures faults_never_fall { S.faults sink.old ≤ S.faults sink.new }
     ensures failed { OnErr result (Rose (S.faults sink.old) (S.faults sink.new)) }
@@ -37,7 +42,11 @@ pub fn put_all<S: Sink>(sink: &mut S, bytes: &[u8]) -> Result<(), PutFault>
     Ok(())
 }
 
-/// Writes all parts, one behind the other, as `put_all` writes one.
+/// Writes all parts, one after the other, as `put_all` writes one.
+///
+/// # Errors
+///
+/// `Failed` where a write failed; a first part of all their bytes is then written.
 pub fn put_parts<S: Sink>(sink: &mut S, parts: &[&[u8]]) -> Result<(), PutFault>
     ensures faults_never_fall { S.faults sink.old ≤ S.faults sink.new }
     ensures failed { OnErr result (Rose (S.faults sink.old) (S.faults sink.new)) }

@@ -1,9 +1,9 @@
-// What is generated for a replay module.
+// What is generated for a replay module of any module.
 
 use wasm_syntax::{FuncTypes, Funcs, Globals, Indices};
 
-/// What a replay module has beside the original's own parts: a body for each imported function, in
-/// order; helper functions, types and globals behind all of the original's; the index of the helper
+/// What the `replay_module` of module_merge has beside the original's own parts: a body for each imported function, in
+/// order; helper functions, types and globals after all of the original's; the index of the helper
 /// that is exported as `_start`; and the functions that bodies refer to by `ref.func`.
 #[derive(Debug, Drop)]
 pub struct Fragment {

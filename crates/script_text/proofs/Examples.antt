@@ -68,9 +68,9 @@ unfolding script_on_literals
 calls_own = refl
 
 -- the order of the walk
-missing_behind_fault : fault_of_two_answers (codes "{\"main\":[{\"write\":\"x\"}]}") (Shape (codes "/main/0/write"))
+missing_after_fault : fault_of_two_answers (codes "{\"main\":[{\"write\":\"x\"}]}") (Shape (codes "/main/0/write"))
 unfolding script_on_literals
-missing_behind_fault = refl
+missing_after_fault = refl
 
 missing_before_fault : fault_of_two_answers (codes "{\"main\":[{\"copy\":0,\"count\":\"x\"}]}") (Shape (codes "/main/0"))
 unfolding script_on_literals

@@ -1,11 +1,6 @@
-pub mod Lists
-pub mod Firsts
-pub mod Named
-pub mod ImportLoops
-pub mod Spaces
-pub mod FirstNamed
+pub mod SameNames
 pub mod Checks
-pub mod InCommon
+pub mod CommonTypes
 pub mod Meanings
 pub mod Loops
 pub mod Listed

@@ -11,12 +11,14 @@ use Rattle.script_text.specs.Walk.{◌>>=◌, Fails, at_index, items_from}
 abbrev pub with_front : {A : Type 0} → List A → Result (List A) ScriptFault → Result (List A) ScriptFault
 with_front front read = read >>= λ others. Ok (front ++ others)
 
-regroup : {A : Type 0} (front : List A) (a : A) (read : Result (List A) ScriptFault) → with_front front (read >>= λ others. Ok (a ∷ others)) ≡ with_front (front ++ a ∷ []) read
+regroup : {A : Type 0} (front : List A) (a : A) (read : Result (List A) ScriptFault)
+    → with_front front (read >>= λ others. Ok (a ∷ others)) ≡ with_front (front ++ a ∷ []) read
 regroup front a (Ok others) = ap Ok (simp append_assoc)
 regroup front a (Err fault) = refl
 
--- the item at an index, and those behind it
-pub at : (vs : List Value) (i : ℕ) (v : Value) → i < length vs → v ≡ get_or vs i v → items_view (drop i vs) ≡ item (view v) (items_view (drop (i + 1) vs))
+-- the item at an index, and those after it
+pub at : (vs : List Value) (i : ℕ) (v : Value) → i < length vs → v ≡ get_or vs i v
+    → items_view (drop i vs) ≡ item (view v) (items_view (drop (i + 1) vs))
 at vs i v lt is =
     let e : drop i vs ≡ get_or vs i v ∷ drop (suc i) vs = drop-cons vs i v lt in
     let f : drop i vs ≡ v ∷ drop (suc i) vs = rw (sym is) at e in

@@ -8,7 +8,8 @@ use Rattle.wasm_syntax.specs.declared.modules.Module.{Module}
 use Rattle.script_text.specs.declared.faults.ScriptFault.TheVariants.{NotJson}
 use Rattle.script_text.specs.Texts.{script_of, script_in, script_of_text}
 
-pub text_read : (m : Module) (bytes : List ℕ) (d : Data) → IsUtf8 bytes → read bytes ≡ Some d → script_of_text m bytes ≡ script_of m d
+pub text_read : (m : Module) (bytes : List ℕ) (d : Data) → IsUtf8 bytes → read bytes ≡ Some d
+    → script_of_text m bytes ≡ script_of m d
 text_read m bytes d text is = rw (is_utf8-from_IsUtf8 bytes text, is) refl
 
 pub no_text : (m : Module) (bytes : List ℕ) → (IsUtf8 bytes → read bytes ≡ None) → script_of_text m bytes ≡ Err NotJson

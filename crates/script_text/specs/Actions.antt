@@ -23,7 +23,7 @@ use Rattle.script_text.specs.declared.leads.Lead.{Lead}
 use Rattle.script_text.specs.declared.leads.Lead.TheVariants.{Write, Copy, SetTable, SetGlobal, Grow, Call, CallTable}
 use Rattle.script_text.specs.Walk.{◌>>=◌, below, only, under, under_or, list_of}
 use Rattle.script_text.specs.Values.{u32_of, value_of, values_under, text_of, text_or_null, bytes_of}
-use Rattle.script_text.specs.Names.{imports_from, imported_global, exported_func, exported_global, reaches_memory, reaches_table}
+use Rattle.module_names.specs.Names.{imports_from, imported_global, exported_func, exported_global, reaches_memory, reaches_table}
 
 -- where an action stands: in `main`, or in a response to calls of the functions imported under two names,
 -- of which these are the second name and the types
@@ -65,13 +65,18 @@ takes_i32 number ty = is_i32 (slice_get ty.params number)
 unfoldable pub fits_address : Place → Address → Result ⊤ ScriptFault
 fits_address place (Fixed address) = Ok tt
 fits_address InMain (Arg number plus) = Err (Shape [])
-fits_address (InResponse name types) (Arg number plus) = if list_all (takes_i32 number) types then Ok tt else Err (WrongType name)
+fits_address (InResponse name types) (Arg number plus) =
+    if list_all (takes_i32 number) types then Ok tt else Err (WrongType name)
+
+-- what is reached or not, and its name
+abbrev pub access_to : Bool → List ℕ → Result ⊤ ScriptFault
+access_to reached name = if reached then Ok tt else Err (NoAccess name)
 
 unfoldable pub memory_access : Module → Result ⊤ ScriptFault
-memory_access m = if reaches_memory m then Ok tt else Err (NoAccess (codes "memory"))
+memory_access m = access_to (reaches_memory m) (codes "memory")
 
 unfoldable pub table_access : Module → Result ⊤ ScriptFault
-table_access m = if reaches_table m then Ok tt else Err (NoAccess (codes "table"))
+table_access m = access_to (reaches_table m) (codes "table")
 
 -- ---- actions
 
@@ -96,13 +101,13 @@ copy_of m place d = do
   Ok (actions.Copy to source count)
 
 -- what a name stands for
-abbrev pub known : List ℕ → Option ℕ → Result ℕ ScriptFault
-known name None = Err (UnknownName name)
-known name (Some index) = Ok index
+abbrev pub index_or_unknown : List ℕ → Option ℕ → Result ℕ ScriptFault
+index_or_unknown name None = Err (UnknownName name)
+index_or_unknown name (Some index) = Ok index
 
 -- the function of a name
 unfoldable pub func_named : Module → List ℕ → Result ℕ ScriptFault
-func_named m name = known name (exported_func m name)
+func_named m name = index_or_unknown name (exported_func m name)
 
 -- a function, or none to empty an entry
 unfoldable pub entry_named : Module → Option (List ℕ) → Result (Option ℕ) ScriptFault
@@ -152,12 +157,13 @@ target_of d = if is_some (as_object d) then import_target d else exported_target
 
 -- the global of a target
 abbrev pub global_from : Bool → (from name : List ℕ) → Option ℕ → Result ℕ ScriptFault
-global_from true from name global = known name global
+global_from true from name global = index_or_unknown name global
 global_from false from name global = Err (UnknownName from)
 
 unfoldable pub global_at : Module → Target → Result ℕ ScriptFault
-global_at m (Exported name) = known name (exported_global m name)
-global_at m (Imported from name) = global_from (imports_from global_import m from) from name (imported_global m from name)
+global_at m (Exported name) = index_or_unknown name (exported_global m name)
+global_at m (Imported from name) =
+    global_from (imports_from global_import m from) from name (imported_global m from name)
 
 -- the name that a fault of a target gives
 abbrev pub name_of : Target → List ℕ

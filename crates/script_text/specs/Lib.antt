@@ -1,9 +1,8 @@
 pub mod Walk
 pub mod Values
-pub mod Names
-pub mod Indexed
 pub mod Actions
-pub mod Placed
+pub mod Places
 pub mod Texts
-pub mod InCommon
+pub mod ImportTexts
+pub mod CommonTypes
 pub mod Plain

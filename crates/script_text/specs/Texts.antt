@@ -25,7 +25,7 @@ use Rattle.script_text.specs.declared.faults.ScriptFault.{ScriptFault}
 use Rattle.script_text.specs.declared.faults.ScriptFault.TheVariants.{NotJson, Shape, UnknownName, WrongType}
 use Rattle.script_text.specs.Walk.{◌>>=◌, below, only, under_or, under_if_there, list_of}
 use Rattle.script_text.specs.Values.{value_of, limits_of}
-use Rattle.script_text.specs.Names.{imports_with, imports_from, imports_named, func_types_named}
+use Rattle.module_names.specs.Names.{imports_with, imports_from, imports_named, func_types_named}
 use Rattle.script_text.specs.Actions.{InMain, InResponse, actions_under}
 
 -- ---- responses
@@ -52,7 +52,8 @@ return_of name types d = do
   Ok (Return value)
 
 -- by what stands under `return` and under `trap`: not both
-abbrev pub end_by : (name : List ℕ) (types : List FuncType) → (returned trapped : Option Data) → Data → Result ResponseEnd ScriptFault
+abbrev pub end_by : (name : List ℕ) (types : List FuncType) → (returned trapped : Option Data) → Data
+    → Result ResponseEnd ScriptFault
 end_by name types (Some r) (Some t) d = Err (Shape [])
 end_by name types None (Some t) d = below (codes "trap") (trap_of t)
 end_by name types returned None d = return_of name types d
@@ -96,7 +97,8 @@ in_order (Ok a) = Ok tt
 in_order (Err fault) = Err fault
 
 -- the names of imports of one kind, under the names of their modules
-abbrev pub each_import : {K : Type 0} → (ImportKind → Option K) → Module → (look : (from name : List ℕ) → Data → Result ⊤ ScriptFault) → Data → Result ⊤ ScriptFault
+abbrev pub each_import : {K : Type 0} → (ImportKind → Option K) → Module
+    → (look : (from name : List ℕ) → Data → Result ⊤ ScriptFault) → Data → Result ⊤ ScriptFault
 each_import pick m look d =
     each_in (imports_from pick m)
     (λ from names. each_in (imports_named pick m from) (look from) (as_object names))
@@ -109,17 +111,19 @@ look_value from name d = in_order (value_of d)
 abbrev pub look_answer : Module → (from name : List ℕ) → Data → Result ⊤ ScriptFault
 look_answer m from name d = in_order (answer_of m name (func_types_named m from name) d)
 
--- what stands under the names of an import
-abbrev pub given_for : Option Data → Import → Option Data
-given_for d import = option_and_then (get import.name) (option_and_then (get import.«module») d)
+-- what a JSON value holds under the names of an import
+abbrev pub member_for : Option Data → Import → Option Data
+member_for d import = option_and_then (get import.name) (option_and_then (get import.«module») d)
 
 -- an imported global takes the value under its names, and an imported function the answers
 abbrev pub value_for : Option Data → Import → Option Val
-value_for d import = option_and_then (λ v. result_ok (value_of v)) (given_for d import)
+value_for d import = option_and_then (λ v. result_ok (value_of v)) (member_for d import)
 
 abbrev pub answer_for : Module → Option Data → Import → Option Answer
 answer_for m d import =
-    option_and_then (λ a. result_ok (answer_of m import.name (func_types_named m import.«module» import.name) a)) (given_for d import)
+    option_and_then
+    (λ a. result_ok (answer_of m import.name (func_types_named m import.«module» import.name) a))
+    (member_for d import)
 
 -- ---- scripts
 

@@ -10,7 +10,7 @@ use Rattle.serde_json.specs.Data.{Data, null, string, Members}
 use Rattle.serde_json.specs.Find.{get, as_object, as_number, as_str, as_integer}
 use Rattle.script_text.specs.declared.faults.ScriptFault.{ScriptFault}
 use Rattle.script_text.specs.declared.faults.ScriptFault.TheVariants.{Shape}
-use Rattle.script_text.specs.Walk.{◌>>=◌, below, formed, only, under, under_or, under_if_there, list_of, keys_of}
+use Rattle.script_text.specs.Walk.{◌>>=◌, below, or_shape, only, under, under_or, under_if_there, list_of, keys_of}
 
 -- ---- numbers
 
@@ -24,7 +24,7 @@ bits_from least width (pos n) = if nat_lt n (2 ^ width) then Some n else None
 bits_from least width (negsuc n) = if int_le least (negsuc n) then Some (2 ^ width - suc n) else None
 
 abbrev pub bits_of : (least : ℤ) (width : ℕ) → Data → Result ℕ ScriptFault
-bits_of least width d = formed (option_and_then (bits_from least width) (integer_of d))
+bits_of least width d = or_shape (option_and_then (bits_from least width) (integer_of d))
 
 -- a number below 2 ^ 32
 abbrev pub u32_of : Data → Result ℕ ScriptFault
@@ -33,18 +33,18 @@ u32_of d = bits_of (pos 0) 32 d
 -- ---- values
 
 -- the bits under the name of a type
-abbrev pub typed : List ℕ → ValType → (least : ℤ) (width : ℕ) → Data → Result Val ScriptFault
-typed key ty least width d = do
+abbrev pub val_of_type : List ℕ → ValType → (least : ℤ) (width : ℕ) → Data → Result Val ScriptFault
+val_of_type key ty least width d = do
   bits ← below key (bits_of least width d)
   Ok (record { ty = ty; bits = bits })
 
 -- by what stands under the name of each type; an i32 is from -2 ^ 31 on, an i64 from -2 ^ 63 on, and
 -- bits stand for an f32 or an f64
 abbrev pub value_by : (i32 i64 f32 f64 : Option Data) → Result Val ScriptFault
-value_by (Some d) i64 f32 f64 = typed (codes "i32") I32 (negsuc (2 ^ 31 - 1)) 32 d
-value_by None (Some d) f32 f64 = typed (codes "i64") I64 (negsuc (2 ^ 63 - 1)) 64 d
-value_by None None (Some d) f64 = typed (codes "f32") F32 (pos 0) 32 d
-value_by None None None (Some d) = typed (codes "f64") F64 (pos 0) 64 d
+value_by (Some d) i64 f32 f64 = val_of_type (codes "i32") I32 (negsuc (2 ^ 31 - 1)) 32 d
+value_by None (Some d) f32 f64 = val_of_type (codes "i64") I64 (negsuc (2 ^ 63 - 1)) 64 d
+value_by None None (Some d) f64 = val_of_type (codes "f32") F32 (pos 0) 32 d
+value_by None None None (Some d) = val_of_type (codes "f64") F64 (pos 0) 64 d
 value_by None None None None = Err (Shape [])
 
 -- an object with one key
@@ -66,7 +66,7 @@ values_under key d = under_or key [] (list_of value_of) d
 -- ---- texts
 
 abbrev pub text_of : Data → Result (List ℕ) ScriptFault
-text_of d = formed (as_str d)
+text_of d = or_shape (as_str d)
 
 -- a text, or null
 abbrev pub text_or_null : Data → Result (Option (List ℕ)) ScriptFault
@@ -76,7 +76,7 @@ text_or_null d = Err (Shape [])
 
 -- the bytes of a hexadecimal text, with digits of either case
 abbrev pub bytes_of : Data → Result (List ℕ) ScriptFault
-bytes_of d = formed (option_and_then (λ text. result_ok (decode_of text)) (as_str d))
+bytes_of d = or_shape (option_and_then (λ text. result_ok (decode_of text)) (as_str d))
 
 -- ---- limits
 

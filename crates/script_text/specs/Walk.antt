@@ -13,7 +13,7 @@ abbrev pub ◌>>=◌ : {A B : Type 0} → Result A ScriptFault → (A → Result
 (Ok a) >>= next = next a
 (Err fault) >>= next = Err fault
 
--- what a call answers is what is meant, unless memory is wanting
+-- what a call answers is what is meant, unless an allocation failed
 abbrev pub Fails : {B : Type 0} → ScriptFault → Result B ScriptFault → Type 0
 Fails fault meant = (fault ≡ Memory → ⊥) → meant ≡ Err fault
 
@@ -43,9 +43,9 @@ below step (Err fault) = Err (fault_below step fault)
 -- ---- forms
 
 -- a value that is read, or is of the wrong form itself
-abbrev pub formed : {A : Type 0} → Option A → Result A ScriptFault
-formed None = Err (Shape [])
-formed (Some a) = Ok a
+abbrev pub or_shape : {A : Type 0} → Option A → Result A ScriptFault
+or_shape None = Err (Shape [])
+or_shape (Some a) = Ok a
 
 -- what stands under a key that is needed, where a missing key is a fault of the object's form
 abbrev pub read_some : {A : Type 0} → List ℕ → (Data → Result A ScriptFault) → Option Data → Result A ScriptFault

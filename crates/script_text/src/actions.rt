@@ -4,11 +4,10 @@ ghost use Rattle.std.specs.Prelude.{◌≡◌, ◌≤◌, option_map, OnOk};
 ghost use Rattle.serde_json.specs.View.{view};
 ghost use Rattle.wasm_syntax.specs.Index.{imported_funcs};
 ghost use Rattle.script_text.specs.Walk.{Gives};
-ghost use Rattle.script_text.specs.Actions.{memory_access as memory_reached, table_access as table_reached, write_of, copy_of, func_named as func_under, entry_named as entry_under, set_table_of, grow_of, is_defined as defined_func, fits_params as fitting_params, call_of, call_table_of};
-ghost use Rattle.script_text.specs.Placed.{place_of};
+ghost use Rattle.script_text.specs.Actions.{access_to as access_where, memory_access as memory_reached, table_access as table_reached, write_of, copy_of, func_named as func_under, entry_named as entry_under, set_table_of, grow_of, is_defined as defined_func, fits_params as fitting_params, call_of, call_table_of};
+ghost use Rattle.script_text.specs.Places.{place_of};
 
 use crate::faults::ScriptFault;
-use crate::module_names::ModuleNames;
 use crate::objects::{bytes_under, only, text_or_null_under, text_under};
 use crate::places::{
     Place, address_under, calls_own, fits_address, no_access, unknown_name, wrong_type,
@@ -16,30 +15,34 @@ use crate::places::{
 use crate::types::are_of_types;
 use crate::values::{u32_under, values_under};
 use host_script::Action;
+use module_names::ModuleNames;
 use serde_json::Value;
 use std::alloc::Global;
 use wasm_syntax::Vals;
+
+/// Tests that what has this name is reached.
+fn access_to(alloc: Global, reached: bool, name: &str) -> Result<(), ScriptFault>
+    ensures { Gives (λ u. u) result (access_where reached name.now) }
+{
+    if reached {
+        Ok(())
+    } else {
+        Err(no_access(alloc, name))
+    }
+}
 
 #[tactic(auto, unfolding(crate::specs::Actions::memory_access))]
 fn memory_access(alloc: Global, names: &ModuleNames<'_>) -> Result<(), ScriptFault>
     ensures { Gives (λ u. u) result (memory_reached names.now) }
 {
-    if names.reaches_memory() {
-        Ok(())
-    } else {
-        Err(no_access(alloc, "memory"))
-    }
+    access_to(alloc, names.reaches_memory(), "memory")
 }
 
 #[tactic(auto, unfolding(crate::specs::Actions::table_access))]
 fn table_access(alloc: Global, names: &ModuleNames<'_>) -> Result<(), ScriptFault>
     ensures { Gives (λ u. u) result (table_reached names.now) }
 {
-    if names.reaches_table() {
-        Ok(())
-    } else {
-        Err(no_access(alloc, "table"))
-    }
+    access_to(alloc, names.reaches_table(), "table")
 }
 
 #[tactic(auto, unfolding(crate::specs::Actions::write_of))]

@@ -4,7 +4,7 @@ ghost use Rattle.std.specs.Prelude.{◌≡◌, map, IfOk};
 ghost use Rattle.std.specs.List.{list_all, range_with_len};
 ghost use Rattle.script_text.specs.Actions.{takes_i32 as type_takes_i32};
 ghost use Rattle.script_text.specs.Texts.{returns as type_returns};
-ghost use Rattle.script_text.specs.InCommon.{params_of_first, value_of_types as value_of_so_many, HoldsTaken, HoldsReturned};
+ghost use Rattle.script_text.specs.CommonTypes.{params_of_first, value_of_types as value_of_few, HoldsFlags, HoldsReturns};
 
 use crate::types::{are_of_types, is_type};
 use no_memory::NoMemory;
@@ -18,23 +18,23 @@ use wasm_syntax::{FuncType, Val, ValType};
 pub(crate) struct CommonTypes<'l, 't> {
     types: &'l [&'t FuncType],
     /// Of each parameter of the first type, whether it is an i32 in all of them.
-    taken: Vec<bool>,
+    i32_flags: Vec<bool>,
     /// Whether all of them return what the first returns.
-    returned_alike: bool,
+    same_returns: bool,
 }
 
 impl<'l, 't> Model for CommonTypes<'l, 't> {
     ghost use Rattle.std.specs.Prelude.{List, map};
     ghost use Rattle.wasm_syntax.specs.declared.signatures.FuncType.{FuncType};
-    ghost use Rattle.script_text.specs.InCommon.{HoldsTaken, HoldsReturned};
+    ghost use Rattle.script_text.specs.CommonTypes.{HoldsFlags, HoldsReturns};
 
     ghost Value = { List FuncType };
 
     ghost view = { λ common. map (λ ty. ty.now) common.types.now };
 
     ghost invariant = { λ common.
-        HoldsTaken common.taken.items (map (λ ty. ty.now) common.types.now)
-        × HoldsReturned common.returned_alike (map (λ ty. ty.now) common.types.now) };
+        HoldsFlags common.i32_flags.items (map (λ ty. ty.now) common.types.now)
+        × HoldsReturns common.same_returns (map (λ ty. ty.now) common.types.now) };
 }
 
 impl<'l, 't> CommonTypes<'l, 't> {
@@ -45,11 +45,11 @@ impl<'l, 't> CommonTypes<'l, 't> {
     ) -> Result<CommonTypes<'l, 't>, NoMemory>
         ensures { IfOk result (λ common. common ≡ map (λ ty. ty.now) types.now) }
     {
-        let taken = taken_by_all(alloc, types)?;
+        let i32_flags = common_flags(alloc, types)?;
         Ok(CommonTypes {
             types,
-            taken,
-            returned_alike: return_alike(types),
+            i32_flags,
+            same_returns: return_the_same(types),
         })
     }
 
@@ -57,8 +57,8 @@ impl<'l, 't> CommonTypes<'l, 't> {
     pub(crate) fn take_i32(&self, number: u32) -> bool
         ensures { result ≡ list_all (type_takes_i32 number) self.now }
     {
-        match self.taken.get(number as usize) {
-            Some(taken) => *taken,
+        match self.i32_flags.get(number as usize) {
+            Some(flag) => *flag,
             None => self.types.is_empty(),
         }
     }
@@ -68,7 +68,7 @@ impl<'l, 't> CommonTypes<'l, 't> {
         ensures { result ≡ list_all (type_returns value) self.now }
     {
         match self.types {
-            [first, ..] => self.returned_alike && returns(first, value),
+            [first, ..] => self.same_returns && returns(first, value),
             [] => true,
         }
     }
@@ -95,16 +95,16 @@ fn all_take_i32(types: &[&FuncType], number: usize) -> bool
     true
 }
 
-/// Of so many parameters, whether each is an i32 in all of these types.
-fn taken_up_to(alloc: Global, types: &[&FuncType], count: usize) -> Result<Vec<bool>, NoMemory>
-    ensures { IfOk result (λ taken. taken.items
+/// For a given number of parameters, whether each is an i32 in all of these types.
+fn flags_up_to(alloc: Global, types: &[&FuncType], count: usize) -> Result<Vec<bool>, NoMemory>
+    ensures { IfOk result (λ flags. flags.items
         ≡ map (λ number. list_all (type_takes_i32 number) (map (λ ty. ty.now) types.now)) (range_with_len 0 count)) }
 {
-    let mut taken = Vec::new(alloc);
+    let mut flags = Vec::new(alloc);
     'numbers: for number in 0..count {
-        taken.push(all_take_i32(types, number))?;
+        flags.push(all_take_i32(types, number))?;
     }
-    Ok(taken)
+    Ok(flags)
 }
 
 /// How many parameters the first of these types has.
@@ -118,10 +118,10 @@ fn count_of_first(types: &[&FuncType]) -> usize
 }
 
 /// Of each parameter of the first of these types, whether it is an i32 in all of them.
-fn taken_by_all(alloc: Global, types: &[&FuncType]) -> Result<Vec<bool>, NoMemory>
-    ensures { IfOk result (λ taken. HoldsTaken taken.items (map (λ ty. ty.now) types.now)) }
+fn common_flags(alloc: Global, types: &[&FuncType]) -> Result<Vec<bool>, NoMemory>
+    ensures { IfOk result (λ flags. HoldsFlags flags.items (map (λ ty. ty.now) types.now)) }
 {
-    taken_up_to(alloc, types, count_of_first(types))
+    flags_up_to(alloc, types, count_of_first(types))
 }
 
 fn returns(ty: &FuncType, value: Option<Val>) -> bool
@@ -147,7 +147,7 @@ fn all_return(types: &[&FuncType], value: Option<Val>) -> bool
 
 /// A value of these types, or none, where they are no more than one.
 fn value_of_types(types: &[ValType]) -> Option<Option<Val>>
-    ensures { result ≡ value_of_so_many types.now }
+    ensures { result ≡ value_of_few types.now }
 {
     match types {
         [] => Some(None),
@@ -157,8 +157,8 @@ fn value_of_types(types: &[ValType]) -> Option<Option<Val>>
 }
 
 /// Whether all of these functions return what the first returns.
-fn return_alike(types: &[&FuncType]) -> bool
-    ensures { HoldsReturned result (map (λ ty. ty.now) types.now) }
+fn return_the_same(types: &[&FuncType]) -> bool
+    ensures { HoldsReturns result (map (λ ty. ty.now) types.now) }
 {
     match types {
         [first, ..] => match value_of_types(first.results.as_slice()) {

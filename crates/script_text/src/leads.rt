@@ -1,7 +1,7 @@
 // The keys that tell one action from another.
 
 /// The lead key of an action.
-#[derive(Clone, Copy, PartialEq, Eq, Debug)]
+#[derive(Clone, Copy)]
 pub enum Lead {
     Write,
     Copy,

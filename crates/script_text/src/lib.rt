@@ -4,12 +4,9 @@
 
 mod actions;
 mod common_types;
-mod exports;
 pub mod faults;
 mod import_texts;
-mod imports;
 pub mod leads;
-mod module_names;
 mod objects;
 mod paths;
 mod places;

@@ -4,7 +4,7 @@ ghost use Rattle.std.specs.Prelude.{◌≡◌, IfOk};
 ghost use Rattle.serde_json.specs.View.{view};
 ghost use Rattle.script_text.specs.Walk.{Gives, under};
 ghost use Rattle.script_text.specs.Actions.{address_of, argument_of, fits_address as fitting_address, Place as PlaceOf};
-ghost use Rattle.script_text.specs.Placed.{place_of};
+ghost use Rattle.script_text.specs.Places.{place_of};
 ghost use Rattle.script_text.specs.declared.faults.ScriptFault.TheVariants.{WrongType, UnknownName, NoAccess, CallsOwn, Memory as NoMemoryLeft};
 
 use crate::common_types::CommonTypes;

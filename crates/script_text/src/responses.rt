@@ -5,8 +5,8 @@ ghost use Rattle.serde_json.specs.Find.{get};
 ghost use Rattle.serde_json.specs.View.{view, items_view};
 ghost use Rattle.script_text.specs.Walk.{Gives, under_or, under_if_there, list_of, items_from, at_index};
 ghost use Rattle.script_text.specs.Actions.{key_of, leads_in, action_with, action_of, actions_under as actions_below};
-ghost use Rattle.script_text.specs.Placed.{place_of};
-ghost use Rattle.script_text.specs.Names.{func_types_named};
+ghost use Rattle.script_text.specs.Places.{place_of};
+ghost use Rattle.module_names.specs.Names.{func_types_named};
 ghost use Rattle.script_text.specs.Texts.{fits_results as fitting_results, trap_of, return_of, end_of, response_of, answer_of};
 
 use crate::actions::{
@@ -15,13 +15,13 @@ use crate::actions::{
 use crate::common_types::CommonTypes;
 use crate::faults::ScriptFault;
 use crate::leads::Lead;
-use crate::module_names::ModuleNames;
 use crate::objects::only;
 use crate::paths::{below, below_index, shape};
 use crate::places::{Place, wrong_type};
 use crate::targets::read_set_global;
 use crate::values::value_if_there;
 use host_script::{Action, Actions, Answer, Response, ResponseEnd, Responses};
+use module_names::ModuleNames;
 use serde_json::Value;
 use std::alloc::Global;
 use wasm_syntax::{FuncType, List, Val};

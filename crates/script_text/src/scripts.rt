@@ -2,30 +2,29 @@
 
 ghost use Rattle.std.specs.Prelude.{◌≡◌, map, option_map, option_and_then, option_copied, slice_get, codes, IfSome};
 ghost use Rattle.serde_json.specs.View.{view};
-ghost use Rattle.wasm_syntax.specs.Index.{func_import, global_import};
 ghost use Rattle.script_text.specs.Walk.{Gives, under_or};
-ghost use Rattle.script_text.specs.Indexed.{under_names};
+ghost use Rattle.module_names.specs.Indexes.{under_names, HoldsFirsts};
 ghost use Rattle.script_text.specs.Actions.{InMain, actions_under as actions_below};
-ghost use Rattle.script_text.specs.Texts.{each_import, look_value, look_answer, given_for as given_to, value_for as value_given, answer_for as answer_given, script_of, script_of_text};
+ghost use Rattle.script_text.specs.ImportTexts.{look_at_all};
+ghost use Rattle.script_text.specs.Texts.{member_for as member_under, value_for as import_value, answer_for as import_answer, script_of, script_of_text};
 
 use crate::faults::ScriptFault;
-use crate::import_texts::{look_at_answers, look_at_values};
-use crate::imports::{FirstsByNames, firsts_by_names};
-use crate::module_names::ModuleNames;
+use crate::import_texts::{ImportTexts, look_at_imports};
 use crate::objects::{limits_if_there, only};
 use crate::paths::below;
 use crate::places::Place;
 use crate::responses::{actions_under, answer_under};
 use crate::values::read_value;
 use host_script::{Actions, Answer, Answers, Given, Script};
+use module_names::{FirstsByNames, ModuleNames, firsts_by_names};
 use serde_json::Value;
 use std::alloc::Global;
 use wasm_syntax::{Import, List, Module, Val};
 
 /// What stands under the names of an import.
-fn given_for<'v>(texts: Option<&'v Value>, import: &Import) -> Option<&'v Value>
+fn member_for<'v>(texts: Option<&'v Value>, import: &Import) -> Option<&'v Value>
     ensures { option_map (λ v. view v.now) result
-        ≡ given_to (option_map (λ v. view v.now) texts.entry) import.now }
+        ≡ member_under (option_map (λ v. view v.now) texts.entry) import.now }
 {
     texts?
         .get(import.module.as_str())?
@@ -39,9 +38,9 @@ fn value_for(
     import: &Import,
 ) -> Result<Option<Val>, ScriptFault>
     ensures { Gives (λ v. v) result
-        (Ok (value_given (option_map (λ v. view v.now) texts.entry) import.now)) }
+        (Ok (import_value (option_map (λ v. view v.now) texts.entry) import.now)) }
 {
-    let Some(value) = given_for(texts, import) else {
+    let Some(value) = member_for(texts, import) else {
         return Ok(None);
     };
     match read_value(alloc, value) {
@@ -59,9 +58,9 @@ fn answer_for<'a>(
     import: &'a Import,
 ) -> Result<Option<Answer>, ScriptFault>
     ensures { Gives (λ a. a) result
-        (Ok (answer_given names.now (option_map (λ v. view v.now) texts.entry) import.now)) }
+        (Ok (import_answer names.now (option_map (λ v. view v.now) texts.entry) import.now)) }
 {
-    let Some(value) = given_for(texts, import) else {
+    let Some(value) = member_for(texts, import) else {
         return Ok(None);
     };
     let from = import.module.as_str();
@@ -79,7 +78,7 @@ fn values_for(
     imports: &[&Import],
 ) -> Result<Given, ScriptFault>
     ensures { Gives (λ given. given) result (Ok (map
-        (value_given (option_map (λ v. view v.now) texts.entry))
+        (import_value (option_map (λ v. view v.now) texts.entry))
         (map (λ import. import.now) imports.now))) }
 {
     let mut given = Vec::new(alloc);
@@ -90,7 +89,7 @@ fn values_for(
 }
 
 /// The answers that an import before this one takes under the same names.
-fn taken_before<'a, 's>(
+fn earlier_answer<'a, 's>(
     firsts: &FirstsByNames<'a>,
     answers: &'s [Option<Answer>],
     import: &'a Import,
@@ -103,7 +102,7 @@ fn taken_before<'a, 's>(
 }
 
 /// The answers that an imported function takes, or a copy of those of an import before it.
-fn read_or_copied<'a>(
+fn answer_or_copy<'a>(
     alloc: Global,
     names: &ModuleNames<'a>,
     texts: Option<&'a Value>,
@@ -111,15 +110,38 @@ fn read_or_copied<'a>(
     before: Option<&Option<Answer>>,
 ) -> Result<Option<Answer>, ScriptFault>
     requires { IfSome before (λ answer. answer.now
-        ≡ answer_given names.now (option_map (λ v. view v.now) texts) import.now) }
+        ≡ import_answer names.now (option_map (λ v. view v.now) texts) import.now) }
     ensures { Gives (λ a. a) result
-        (Ok (answer_given names.now (option_map (λ v. view v.now) texts.entry) import.now)) }
+        (Ok (import_answer names.now (option_map (λ v. view v.now) texts.entry) import.now)) }
 {
     match before {
         Some(Some(answer)) => Ok(Some(answer.clone()?)),
         Some(None) => Ok(None),
         None => answer_for(alloc, names, texts, import),
     }
+}
+
+/// What each imported function takes, with the index of the first import under two names.
+fn answers_by<'a>(
+    alloc: Global,
+    names: &ModuleNames<'a>,
+    texts: Option<&'a Value>,
+    imports: &[&'a Import],
+    firsts: &FirstsByNames<'a>,
+) -> Result<Answers, ScriptFault>
+    requires { HoldsFirsts firsts.now.entries (map (λ import. import.now) imports.now) }
+    ensures { Gives (λ answers. answers) result (Ok (map
+        (import_answer names.now (option_map (λ v. view v.now) texts.entry))
+        (map (λ import. import.now) imports.now))) }
+{
+    let mut answers = Vec::new(alloc);
+    'imports: for import in imports {
+        let import: &'a Import = *import;
+        let before = earlier_answer(firsts, answers.as_slice(), import);
+        let answer = answer_or_copy(alloc, names, texts, import, before)?;
+        answers.push(answer)?;
+    }
+    Ok(List::from_vec(answers))
 }
 
 /// What each imported function takes. Of imports under the same names the first one's answers are read,
@@ -131,46 +153,26 @@ fn answers_for<'a>(
     imports: &[&'a Import],
 ) -> Result<Answers, ScriptFault>
     ensures { Gives (λ answers. answers) result (Ok (map
-        (answer_given names.now (option_map (λ v. view v.now) texts.entry))
+        (import_answer names.now (option_map (λ v. view v.now) texts.entry))
         (map (λ import. import.now) imports.now))) }
 {
     let firsts = firsts_by_names(alloc, imports)?;
-    let mut answers = Vec::new(alloc);
-    'imports: for import in imports {
-        let import: &'a Import = *import;
-        let before = taken_before(&firsts, answers.as_slice(), import);
-        let answer = read_or_copied(alloc, names, texts, import, before)?;
-        answers.push(answer)?;
-    }
-    Ok(List::from_vec(answers))
+    answers_by(alloc, names, texts, imports, &firsts)
 }
 
-/// Looks at the values of globals, where there are any.
-fn globals_if_there<'a>(
+/// Looks at what stands under the names of imports, where the script has a key for it.
+fn look_if_there<'a>(
     alloc: Global,
     names: &ModuleNames<'a>,
+    texts: ImportTexts,
     object: &'a Value,
+    key: &str,
 ) -> Result<(), ScriptFault>
     ensures { Gives (λ u. u) result
-        (under_or (codes "globals") tt (each_import global_import names.now look_value) (view object.now)) }
+        (under_or key.now tt (look_at_all texts names.now) (view object.now)) }
 {
-    match object.get("globals") {
-        Some(value) => below(alloc, "globals", look_at_values(alloc, names, value)),
-        None => Ok(()),
-    }
-}
-
-/// Looks at the answers of functions, where there are any.
-fn imports_if_there<'a>(
-    alloc: Global,
-    names: &ModuleNames<'a>,
-    object: &'a Value,
-) -> Result<(), ScriptFault>
-    ensures { Gives (λ u. u) result
-        (under_or (codes "imports") tt (each_import func_import names.now (look_answer names.now)) (view object.now)) }
-{
-    match object.get("imports") {
-        Some(value) => below(alloc, "imports", look_at_answers(alloc, names, value)),
+    match object.get(key) {
+        Some(value) => below(alloc, key, look_at_imports(alloc, names, texts, value)),
         None => Ok(()),
     }
 }
@@ -206,8 +208,8 @@ fn read_value_of_script<'a>(
     )?;
     let memory = limits_if_there(alloc, value, "memory", "pages")?;
     let table = limits_if_there(alloc, value, "table", "size")?;
-    globals_if_there(alloc, names, value)?;
-    imports_if_there(alloc, names, value)?;
+    look_if_there(alloc, names, ImportTexts::Values, value, "globals")?;
+    look_if_there(alloc, names, ImportTexts::Answers, value, "imports")?;
     let main = read_main(alloc, names, value)?;
     let globals = values_for(alloc, value.get("globals"), names.globals())?;
     let imports = answers_for(alloc, names, value.get("imports"), names.funcs())?;
@@ -231,7 +233,11 @@ fn read_for_module<'a>(
     read_value_of_script(alloc, &names, value)
 }
 
-/// The script that a text is for a module, or the first fault of the walk over it.
+/// The script that a text, in JSON, is for a module.
+///
+/// # Errors
+///
+/// The first fault of the walk over the text, or `Memory` where an allocation failed.
 pub fn read_script(alloc: Global, bytes: &[u8], module: &Module) -> Result<Script, ScriptFault>
     ensures { Gives (λ script. script) result (script_of_text «module».now bytes.now) }
 {

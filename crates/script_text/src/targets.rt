@@ -4,16 +4,16 @@ ghost use Rattle.serde_json.specs.View.{view};
 ghost use Rattle.script_text.specs.Walk.{Gives, under};
 ghost use Rattle.script_text.specs.Values.{value_of};
 ghost use Rattle.script_text.specs.Actions.{target_of, import_target, import_names, global_at, fits_global as fitting_global, set_global_of};
-ghost use Rattle.script_text.specs.Placed.{target_from};
+ghost use Rattle.script_text.specs.Places.{target_from};
 
 use crate::faults::ScriptFault;
-use crate::module_names::ModuleNames;
 use crate::objects::{only, read_text};
 use crate::paths::{below, shape};
 use crate::places::{no_access, unknown_name, wrong_type};
 use crate::types::is_type;
 use crate::values::{read_value, value_under};
 use host_script::Action;
+use module_names::ModuleNames;
 use serde_json::Value;
 use std::alloc::Global;
 use wasm_syntax::Val;
@@ -99,7 +99,7 @@ fn global_of<'a>(
             match names.imported_global(from, target.name) {
                 Some(place) => match u32::try_from(place) {
                     Ok(global) => Ok(global),
-                    // So many imports do not fit into memory.
+                    // More than 2^32 imports do not fit into memory.
                     Err(_) => Err(ScriptFault::Memory),
                 },
                 None => Err(unknown_name(alloc, target.name)),

@@ -4,7 +4,7 @@ ghost use Rattle.std.specs.Prelude.{◌≡◌, ◌≤◌, ◌<◌, ◌^◌, ◌-
 ghost use Rattle.serde_json.specs.View.{view, items_view, members_view};
 ghost use Rattle.serde_json.specs.Find.{as_object};
 ghost use Rattle.script_text.specs.Walk.{Gives, under, under_if_there, under_or, items_from, at_index, keys_of};
-ghost use Rattle.script_text.specs.Values.{integer_of, bits_from, bits_of, u32_of, value_of, typed, has_one_key as one_key, values_under as values_below};
+ghost use Rattle.script_text.specs.Values.{integer_of, bits_from, bits_of, u32_of, value_of, val_of_type, has_one_key as one_key, values_under as values_below};
 
 use crate::faults::ScriptFault;
 use crate::paths::{below, below_index, shape};
@@ -102,7 +102,7 @@ fn read_typed(
 ) -> Result<Val, ScriptFault>
     requires width { width ≤ 64 }
     requires least { negsuc (2 ^ width - 1) ≤ℤ least }
-    ensures { Gives (λ v. v) result (typed key.now ty least width (view value.now)) }
+    ensures { Gives (λ v. v) result (val_of_type key.now ty least width (view value.now)) }
 {
     let bits = below(alloc, key, read_bits(alloc, value, least, width))?;
     Ok(Val { ty, bits })

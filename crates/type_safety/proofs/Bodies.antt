@@ -3,10 +3,11 @@ use Rattle.std.proofs.Common.{◌≡◌, ℕ, suc, zero, ◌+◌, List, [], ◌�
 use Rattle.std.specs.Prelude.{IsTrue, filter, filter_map, flat_map}
 use Rattle.std.specs.List.{enumerate_from, cons_option}
 use Rattle.std.proofs.lemmas.List.{append_assoc}
+use Rattle.list_laws.proofs.Lists.{nil_parts}
 use Rattle.wasm_syntax.specs.declared.instructions.Instr.{Instr}
 use Rattle.wasm_syntax.specs.declared.instructions.Instr.TheVariants.{Block, Loop, If, Else, End, Numeric}
 use Rattle.wasm_syntax.specs.declared.modules.Func.{Func}
-use Rattle.wasm_syntax.specs.Nest.{Nest, Empty, Plain, InBlock, InLoop, InIf, InIfElse, is_plain, IsNest, flat, IsBody, Open, Outside, Ended, Parted, Read, in_front, reading, whole, nest_of}
+use Rattle.wasm_syntax.specs.Nest.{Nest, Empty, Plain, InBlock, InLoop, InIf, InIfElse, is_plain, IsNest, flat, IsBody, Open, Outside, InEnd, InElse, Within, in_front, open_nest, closed_nest, nest_of}
 use Rattle.wasm_syntax.specs.Profile.{Unsupported, refused_feature, is_numbered, refused_in}
 use Rattle.type_safety.specs.Frames.{HasNoneRefused}
 
@@ -29,7 +30,8 @@ joined-empty (InLoop ty body rest) = ap (InLoop ty body) (joined-empty rest)
 joined-empty (InIf ty body rest) = ap (InIf ty body) (joined-empty rest)
 joined-empty (InIfElse ty body other rest) = ap (InIfElse ty body other) (joined-empty rest)
 
-plain_in_front : (i : Instr) (first : Nest) (around : Open) → IsTrue (is_plain i) → in_front i (Read first around) ≡ Read (Plain i first) around
+plain_in_front : (i : Instr) (first : Nest) (around : Open) → IsTrue (is_plain i)
+    → in_front i (Within first around) ≡ Within (Plain i first) around
 plain_in_front (Block ty) first around h = cc
 plain_in_front (Loop ty) first around h = cc
 plain_in_front (If ty) first around h = cc
@@ -38,39 +40,56 @@ plain_in_front End first around h = cc
 plain_in_front i first around h = refl
 
 -- what is read of a block's body and its end
-body_read : (t : Nest) (more : List Instr) (first : Nest) (around : Open) → (reading (flat t ++ End ∷ more) ≡ Read (joined t Empty) (Ended around first)) → reading (flat t ++ End ∷ more) ≡ Read t (Ended around first)
-body_read t more first around is = is ∙ ap (λ u. Read u (Ended around first)) (joined-empty t)
+body_read : (t : Nest) (more : List Instr) (first : Nest) (around : Open)
+    → (open_nest (flat t ++ End ∷ more) ≡ Within (joined t Empty) (InEnd around first))
+    → open_nest (flat t ++ End ∷ more) ≡ Within t (InEnd around first)
+body_read t more first around is = is ∙ ap (λ u. Within u (InEnd around first)) (joined-empty t)
 
 -- what is read of a tree in front of a list
-nest_read : (t : Nest) (more : List Instr) (first : Nest) (around : Open) → IsNest t → reading more ≡ Read first around → reading (flat t ++ more) ≡ Read (joined t first) around
+nest_read : (t : Nest) (more : List Instr) (first : Nest) (around : Open) → IsNest t
+    → open_nest more ≡ Within first around → open_nest (flat t ++ more) ≡ Within (joined t first) around
 nest_read Empty more first around nested is = is
 nest_read (Plain i rest) more first around nested is =
-    ap (in_front i) (nest_read rest more first around nested.1 is) ∙ plain_in_front i (joined rest first) around nested.0
+    ap (in_front i) (nest_read rest more first around nested.1 is)
+    ∙ plain_in_front i (joined rest first) around nested.0
 nest_read (InBlock ty body rest) more first around nested is =
-    let behind = ap (in_front End) (nest_read rest more first around nested.1 is) in
-    let inner = body_read body (flat rest ++ more) (joined rest first) around (nest_read body (End ∷ (flat rest ++ more)) Empty (Ended around (joined rest first)) nested.0 behind) in
-    ap (λ l. in_front (Block ty) (reading l)) (append_assoc (flat body) (End ∷ flat rest) more) ∙ ap (in_front (Block ty)) inner
+    let rest_read = ap (in_front End) (nest_read rest more first around nested.1 is) in
+    let inner = body_read body (flat rest ++ more) (joined rest first) around
+    (nest_read body (End ∷ (flat rest ++ more)) Empty (InEnd around (joined rest first)) nested.0 rest_read) in
+    ap (λ l. in_front (Block ty) (open_nest l)) (append_assoc (flat body) (End ∷ flat rest) more)
+    ∙ ap (in_front (Block ty)) inner
 nest_read (InLoop ty body rest) more first around nested is =
-    let behind = ap (in_front End) (nest_read rest more first around nested.1 is) in
-    let inner = body_read body (flat rest ++ more) (joined rest first) around (nest_read body (End ∷ (flat rest ++ more)) Empty (Ended around (joined rest first)) nested.0 behind) in
-    ap (λ l. in_front (Loop ty) (reading l)) (append_assoc (flat body) (End ∷ flat rest) more) ∙ ap (in_front (Loop ty)) inner
+    let rest_read = ap (in_front End) (nest_read rest more first around nested.1 is) in
+    let inner = body_read body (flat rest ++ more) (joined rest first) around
+    (nest_read body (End ∷ (flat rest ++ more)) Empty (InEnd around (joined rest first)) nested.0 rest_read) in
+    ap (λ l. in_front (Loop ty) (open_nest l)) (append_assoc (flat body) (End ∷ flat rest) more)
+    ∙ ap (in_front (Loop ty)) inner
 nest_read (InIf ty body rest) more first around nested is =
-    let behind = ap (in_front End) (nest_read rest more first around nested.1 is) in
-    let inner = body_read body (flat rest ++ more) (joined rest first) around (nest_read body (End ∷ (flat rest ++ more)) Empty (Ended around (joined rest first)) nested.0 behind) in
-    ap (λ l. in_front (If ty) (reading l)) (append_assoc (flat body) (End ∷ flat rest) more) ∙ ap (in_front (If ty)) inner
+    let rest_read = ap (in_front End) (nest_read rest more first around nested.1 is) in
+    let inner = body_read body (flat rest ++ more) (joined rest first) around
+    (nest_read body (End ∷ (flat rest ++ more)) Empty (InEnd around (joined rest first)) nested.0 rest_read) in
+    ap (λ l. in_front (If ty) (open_nest l)) (append_assoc (flat body) (End ∷ flat rest) more)
+    ∙ ap (in_front (If ty)) inner
 nest_read (InIfElse ty body other rest) more first around nested is =
-    let behind = ap (in_front End) (nest_read rest more first around nested.2 is) in
-    let second = body_read other (flat rest ++ more) (joined rest first) around (nest_read other (End ∷ (flat rest ++ more)) Empty (Ended around (joined rest first)) nested.1 behind) in
+    let rest_read = ap (in_front End) (nest_read rest more first around nested.2 is) in
+    let second =
+    body_read other (flat rest ++ more) (joined rest first) around
+    (nest_read other (End ∷ (flat rest ++ more)) Empty (InEnd around (joined rest first)) nested.1 rest_read) in
     let parted = ap (in_front Else) second in
-    let inner = nest_read body (Else ∷ (flat other ++ End ∷ (flat rest ++ more))) Empty (Parted around other (joined rest first)) nested.0 parted in
-    let whole' = inner ∙ ap (λ u. Read u (Parted around other (joined rest first))) (joined-empty body) in
-    ap (λ l. in_front (If ty) (reading l)) (append_assoc (flat body) (Else ∷ (flat other ++ End ∷ flat rest)) more ∙ ap (λ l. flat body ++ Else ∷ l) (append_assoc (flat other) (End ∷ flat rest) more)) ∙ ap (in_front (If ty)) whole'
+    let inner = nest_read body (Else ∷ (flat other ++ End ∷ (flat rest ++ more))) Empty
+    (InElse around other (joined rest first)) nested.0 parted in
+    let whole' = inner ∙ ap (λ u. Within u (InElse around other (joined rest first))) (joined-empty body) in
+    ap (λ l. in_front (If ty) (open_nest l))
+    (append_assoc (flat body) (Else ∷ (flat other ++ End ∷ flat rest)) more
+    ∙ ap (λ l. flat body ++ Else ∷ l) (append_assoc (flat other) (End ∷ flat rest) more)) ∙ ap (in_front
+    (If ty)) whole'
 
 -- the tree of a body is read off it
 pub body_nest : (t : Nest) (body : List Instr) → IsBody t body → nest_of body ≡ Some t
 body_nest t body is =
-    let read = nest_read t (End ∷ []) Empty (Ended Outside Empty) is.nested refl in
-    subst (λ l. nest_of l ≡ Some t) is.written (ap whole (read ∙ ap (λ u. Read u (Ended Outside Empty)) (joined-empty t)))
+    let read = nest_read t (End ∷ []) Empty (InEnd Outside Empty) is.nested refl in
+    subst (λ l. nest_of l ≡ Some t) is.written
+    (ap closed_nest (read ∙ ap (λ u. Within u (InEnd Outside Empty)) (joined-empty t)))
 
 -- ---- refused instructions
 
@@ -85,20 +104,25 @@ none_in_nest (Plain i rest) more h =
     let p = none_in_nest rest more h.1 in
     ((h.0, p.0), p.1)
 none_in_nest (InBlock ty body rest) more h =
-    let p = none_in_nest body (End ∷ (flat rest ++ more)) (subst NoneIn (append_assoc (flat body) (End ∷ flat rest) more) h.1) in
+    let p = none_in_nest body (End ∷ (flat rest ++ more))
+    (subst NoneIn (append_assoc (flat body) (End ∷ flat rest) more) h.1) in
     let q = none_in_nest rest more p.1.1 in
     ((p.0, q.0), q.1)
 none_in_nest (InLoop ty body rest) more h =
-    let p = none_in_nest body (End ∷ (flat rest ++ more)) (subst NoneIn (append_assoc (flat body) (End ∷ flat rest) more) h.1) in
+    let p = none_in_nest body (End ∷ (flat rest ++ more))
+    (subst NoneIn (append_assoc (flat body) (End ∷ flat rest) more) h.1) in
     let q = none_in_nest rest more p.1.1 in
     ((p.0, q.0), q.1)
 none_in_nest (InIf ty body rest) more h =
-    let p = none_in_nest body (End ∷ (flat rest ++ more)) (subst NoneIn (append_assoc (flat body) (End ∷ flat rest) more) h.1) in
+    let p = none_in_nest body (End ∷ (flat rest ++ more))
+    (subst NoneIn (append_assoc (flat body) (End ∷ flat rest) more) h.1) in
     let q = none_in_nest rest more p.1.1 in
     ((p.0, q.0), q.1)
 none_in_nest (InIfElse ty body other rest) more h =
-    let p = none_in_nest body (Else ∷ ((flat other ++ End ∷ flat rest) ++ more)) (subst NoneIn (append_assoc (flat body) (Else ∷ (flat other ++ End ∷ flat rest)) more) h.1) in
-    let o = none_in_nest other (End ∷ (flat rest ++ more)) (subst NoneIn (append_assoc (flat other) (End ∷ flat rest) more) p.1.1) in
+    let p = none_in_nest body (Else ∷ ((flat other ++ End ∷ flat rest) ++ more))
+    (subst NoneIn (append_assoc (flat body) (Else ∷ (flat other ++ End ∷ flat rest)) more) h.1) in
+    let o = none_in_nest other (End ∷ (flat rest ++ more))
+    (subst NoneIn (append_assoc (flat other) (End ∷ flat rest) more) p.1.1) in
     let q = none_in_nest rest more o.1.1 in
     ((p.0, o.0, q.0), q.1)
 
@@ -109,43 +133,55 @@ unnumbered (Numeric op) h = cc
 unnumbered i h = refl
 
 -- an item of nothing
-none_of : {X Y : Type 0} (f : X → Y) (o : Option X) (later : List Y) → cons_option (option_map f o) later ≡ [] → (o ≡ None) × (later ≡ [])
+none_of : {X Y : Type 0} (f : X → Y) (o : Option X) (later : List Y) → cons_option (option_map f o) later ≡ []
+    → (o ≡ None) × (later ≡ [])
 none_of f None later h = (refl, h)
 none_of f (Some x) later h = cc
 
-none_in_body : (func start : ℕ) (body : List Instr) → filter_map (λ (i : ℕ × Instr). option_map (Unsupported func i.0) (refused_feature i.1)) (enumerate_from start (filter is_numbered body)) ≡ [] → NoneIn body
+none_in_body : (func start : ℕ) (body : List Instr)
+    → filter_map (λ (i : ℕ × Instr). option_map (Unsupported func i.0) (refused_feature i.1))
+    (enumerate_from start (filter is_numbered body)) ≡ [] → NoneIn body
 none_in_body func start [] h = tt
 none_in_body func start (i ∷ is) h = by (is_numbered i) refl (λ k g. none_in_body func k is g)
   where
     by : (b : Bool) → is_numbered i ≡ b
-        → ((k : ℕ) → filter_map (λ (j : ℕ × Instr). option_map (Unsupported func j.0) (refused_feature j.1)) (enumerate_from k (filter is_numbered is)) ≡ [] → NoneIn is)
+        → ((k : ℕ) → filter_map (λ (j : ℕ × Instr). option_map (Unsupported func j.0) (refused_feature j.1))
+        (enumerate_from k (filter is_numbered is)) ≡ [] → NoneIn is)
         → NoneIn (i ∷ is)
     by true e later =
-        let own : filter_map (λ (j : ℕ × Instr). option_map (Unsupported func j.0) (refused_feature j.1)) (enumerate_from start (cond true (i ∷ filter is_numbered is) (filter is_numbered is))) ≡ [] =
-        subst (λ b. filter_map (λ (j : ℕ × Instr). option_map (Unsupported func j.0) (refused_feature j.1)) (enumerate_from start (cond b (i ∷ filter is_numbered is) (filter is_numbered is))) ≡ []) e h in
-        let p = none_of (Unsupported func start) (refused_feature i) (filter_map (λ (j : ℕ × Instr). option_map (Unsupported func j.0) (refused_feature j.1)) (enumerate_from (start + 1) (filter is_numbered is))) own in
+        let own : filter_map (λ (j : ℕ × Instr). option_map (Unsupported func j.0) (refused_feature j.1))
+        (enumerate_from start (cond true (i ∷ filter is_numbered is) (filter is_numbered is))) ≡ [] =
+        subst (λ b. filter_map (λ (j : ℕ × Instr). option_map (Unsupported func j.0) (refused_feature j.1))
+        (enumerate_from start (cond b (i ∷ filter is_numbered is) (filter is_numbered is))) ≡ []) e h in
+        let p = none_of (Unsupported func start) (refused_feature i)
+        (filter_map (λ (j : ℕ × Instr). option_map (Unsupported func j.0) (refused_feature j.1))
+        (enumerate_from (start + 1) (filter is_numbered is))) own in
         (p.0, later (start + 1) p.1)
     by false e later =
-        let own : filter_map (λ (j : ℕ × Instr). option_map (Unsupported func j.0) (refused_feature j.1)) (enumerate_from start (cond false (i ∷ filter is_numbered is) (filter is_numbered is))) ≡ [] =
-        subst (λ b. filter_map (λ (j : ℕ × Instr). option_map (Unsupported func j.0) (refused_feature j.1)) (enumerate_from start (cond b (i ∷ filter is_numbered is) (filter is_numbered is))) ≡ []) e h in
+        let own : filter_map (λ (j : ℕ × Instr). option_map (Unsupported func j.0) (refused_feature j.1))
+        (enumerate_from start (cond false (i ∷ filter is_numbered is) (filter is_numbered is))) ≡ [] =
+        subst (λ b. filter_map (λ (j : ℕ × Instr). option_map (Unsupported func j.0) (refused_feature j.1))
+        (enumerate_from start (cond b (i ∷ filter is_numbered is) (filter is_numbered is))) ≡ []) e h in
         (unnumbered i e, later start own)
 
-pub nil_parts : {X : Type 0} (xs ys : List X) → xs ++ ys ≡ [] → (xs ≡ []) × (ys ≡ [])
-nil_parts [] ys h = (refl, h)
-nil_parts (x ∷ xs) ys h = cc
-
 -- where no instruction of a module is refused, none of any function's is
-none_at : (start : ℕ) (funcs : List Func) (k : ℕ) (func : Func) → flat_map (λ (f : ℕ × Func). refused_in f.0 f.1) (enumerate_from start funcs) ≡ [] → slice_get funcs k ≡ Some func → (index : ℕ) × (refused_in index func ≡ [])
+none_at : (start : ℕ) (funcs : List Func) (k : ℕ) (func : Func)
+    → flat_map (λ (f : ℕ × Func). refused_in f.0 f.1) (enumerate_from start funcs) ≡ []
+    → slice_get funcs k ≡ Some func → (index : ℕ) × (refused_in index func ≡ [])
 none_at start [] k func h is = cc
 none_at start (f ∷ funcs) zero func h is =
     let here : f ≡ func = cc in
-    let p = nil_parts (refused_in start f) (flat_map (λ (g : ℕ × Func). refused_in g.0 g.1) (enumerate_from (start + 1) funcs)) h in
+    let p = nil_parts (refused_in start f)
+    (flat_map (λ (g : ℕ × Func). refused_in g.0 g.1) (enumerate_from (start + 1) funcs)) h in
     (start, subst (λ g. refused_in start g ≡ []) here p.0)
 none_at start (f ∷ funcs) (suc k) func h is =
-    let p = nil_parts (refused_in start f) (flat_map (λ (g : ℕ × Func). refused_in g.0 g.1) (enumerate_from (start + 1) funcs)) h in
+    let p = nil_parts (refused_in start f)
+    (flat_map (λ (g : ℕ × Func). refused_in g.0 g.1) (enumerate_from (start + 1) funcs)) h in
     none_at (start + 1) funcs k func p.1 is
 
-pub body_supported : (start : ℕ) (funcs : List Func) (k : ℕ) (func : Func) (t : Nest) → flat_map (λ (f : ℕ × Func). refused_in f.0 f.1) (enumerate_from start funcs) ≡ [] → slice_get funcs k ≡ Some func → IsBody t func.body → HasNoneRefused t
+pub body_supported : (start : ℕ) (funcs : List Func) (k : ℕ) (func : Func) (t : Nest)
+    → flat_map (λ (f : ℕ × Func). refused_in f.0 f.1) (enumerate_from start funcs) ≡ []
+    → slice_get funcs k ≡ Some func → IsBody t func.body → HasNoneRefused t
 body_supported start funcs k func t h is body =
     let p = none_at start funcs k func h is in
     let none = none_in_body p.0 0 func.body p.1 in

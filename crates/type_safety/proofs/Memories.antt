@@ -7,17 +7,20 @@ use Rattle.std.proofs.lemmas.Nat.{pow_pos}
 use Rattle.std.proofs.lemmas.Bool.{leb-true}
 use Rattle.std.proofs.lemmas.List.{length-append, length-take, length-drop, length-replicate}
 use Rattle.std.proofs.lemmas.List.Elements.{All-head, All-tail, All-cons, All-nil, All-append, All-take, All-drop, All-replicate}
+use Rattle.list_laws.proofs.Lists.{item_passes}
+use Rattle.list_laws.proofs.Booleans.{and_parts}
+use Rattle.wasm_syntax.specs.declared.limits.TheConstants.{MOST_PAGES, PAGE_SIZE}
+use Rattle.host_script.specs.Supply.{is_within}
 use Rattle.wasm_syntax.specs.declared.values.ValType.{ValType}
 use Rattle.wasm_syntax.specs.declared.values.ValType.TheVariants.{I32, I64, F32, F64, FuncRef}
 use Rattle.wasm_syntax.specs.declared.signatures.Limits.{Limits}
 use Rattle.wasm_syntax.specs.Opcodes.{is_from, Access, load_table, load_of}
 use Rattle.wasm_syntax.specs.Typing.{is_number, bits_of}
 use Rattle.wasm_numeric.specs.Integer.{modulo, signed}
-use Rattle.history_spec.specs.Store.{Memory, page_size, most_pages, pages, zeros, is_within, grown_if, grown, bytes_at, replaced, written, number_of, bytes_of}
-use Rattle.history_spec.specs.Numeric.{extended_if, extended}
+use Rattle.history_spec.specs.Store.{Memory, pages, zeros, grown_memory_if, grown_memory, bytes_at, with_items_at, with_bytes_at, number_of, bytes_of}
+use Rattle.history_spec.specs.Numeric.{extend_if, loaded_number}
 use Rattle.type_safety.specs.Values.{count_of}
 use Rattle.type_safety.specs.Stores.{IsMemory, MayBeMemory}
-use Rattle.type_safety.proofs.Types.{both_true, entry_passes}
 
 abbrev AreBytes : List ℕ → Type 0
 AreBytes bytes = All (λ byte. byte < 256) bytes
@@ -32,7 +35,8 @@ pub record MemoryThere (limits : List Limits) (o : Option Memory) : Type 0 where
   pub good : IsMemory own memory
   pub change : (new : Memory) → ((l : Limits) → IsMemory l memory → IsMemory l new) → MayBeMemory limits (Some new)
 
-pub memory_there : (limits : List Limits) (o : Option Memory) → is_some (slice_get limits 0) ≡ true → MayBeMemory limits o → MemoryThere limits o
+pub memory_there : (limits : List Limits) (o : Option Memory) → is_some (slice_get limits 0) ≡ true
+    → MayBeMemory limits o → MemoryThere limits o
 memory_there [] o there may = cc
 memory_there (l ∷ more) None there may = absurd may
 memory_there (l ∷ more) (Some memory) there may =
@@ -69,7 +73,8 @@ number_count n F32 h = refl
 number_count n F64 h = refl
 number_count n FuncRef h = cc
 
-extended_fits : (b : Bool) (to from number most : ℕ) → number < most → most ≤ 2 ^ to → extended_if b to from number < 2 ^ to
+extended_fits : (b : Bool) (to from number most : ℕ) → number < most → most ≤ 2 ^ to
+    → extend_if b to from number < 2 ^ to
 extended_fits false to from number most below within = omega arith
 extended_fits true to from number most below within = modulo_fits to (signed from number)
 
@@ -77,71 +82,105 @@ pub load_is_narrow : (op : ℕ) (access : Access) → load_of op ≡ Some access
 load_is_narrow op access is = by (is_from 0x28 0x35 op) is
   where
     by : (b : Bool) → cond b (slice_get load_table (op - 0x28)) None ≡ Some access → is_narrow access ≡ true
-    by true e = entry_passes is_narrow load_table (op - 0x28) access loads_narrow e
+    by true e = item_passes is_narrow load_table (op - 0x28) access loads_narrow e
     by false e = cc
 
-pub load_fits : (n : ℕ) (access : Access) (bytes : List ℕ) → is_narrow access ≡ true → AreBytes bytes → length bytes ≡ access.width
-    → extended access (number_of bytes) < count_of n access.ty
+pub load_fits : (n : ℕ) (access : Access) (bytes : List ℕ) → is_narrow access ≡ true → AreBytes bytes
+    → length bytes ≡ access.width
+    → loaded_number access (number_of bytes) < count_of n access.ty
 load_fits n access bytes narrow all count =
-    let p = both_true (is_number access.ty) (nat_le (256 ^ access.width) (2 ^ bits_of access.ty)) narrow in
-    let within : 256 ^ access.width ≤ 2 ^ bits_of access.ty = leb-true (256 ^ access.width) (2 ^ bits_of access.ty) p.1 in
-    let number : number_of bytes < 256 ^ access.width = subst (λ k. number_of bytes < 256 ^ k) count (number_of_fits bytes all) in
-    subst (λ c. extended access (number_of bytes) < c) (sym (number_count n access.ty p.0))
-    (extended_fits access.signed (bits_of access.ty) (8 * access.width) (number_of bytes) (256 ^ access.width) number within)
+    let p = and_parts (is_number access.ty) (nat_le (256 ^ access.width) (2 ^ bits_of access.ty)) narrow in
+    let within : 256 ^ access.width ≤ 2 ^ bits_of access.ty =
+    leb-true (256 ^ access.width) (2 ^ bits_of access.ty) p.1 in
+    let number : number_of bytes < 256 ^ access.width =
+    subst (λ k. number_of bytes < 256 ^ k) count (number_of_fits bytes all) in
+    subst (λ c. loaded_number access (number_of bytes) < c) (sym (number_count n access.ty p.0))
+    (extended_fits access.signed (bits_of access.ty) (8 * access.width) (number_of bytes) (256 ^ access.width) number
+    within)
 
-pub bytes_at_fits : (bytes : List ℕ) (address count : ℕ) (read : List ℕ) → AreBytes bytes → bytes_at bytes address count ≡ Some read → AreBytes read × (length read ≡ count)
+pub bytes_at_fits : (bytes : List ℕ) (address count : ℕ) (read : List ℕ) → AreBytes bytes
+    → bytes_at bytes address count ≡ Some read → AreBytes read × (length read ≡ count)
 bytes_at_fits bytes address count read all is =
     let p = cond_some (nat_le (address + count) (length bytes)) (take count (drop address bytes)) read is in
     let within : address + count ≤ length bytes = leb-true (address + count) (length bytes) p.0 in
-    let size : length (take count (drop address bytes)) ≡ count = omega (arith, length-take count (drop address bytes), length-drop address bytes) in
-    (subst AreBytes p.1 (All-take (λ byte. byte < 256) count (drop address bytes) (All-drop (λ byte. byte < 256) address bytes all)), subst (λ l. length l ≡ count) p.1 size)
+    let size : length (take count (drop address bytes)) ≡ count =
+    omega (arith, length-take count (drop address bytes), length-drop address bytes) in (
+      subst AreBytes p.1
+          (All-take (λ byte. byte < 256) count (drop address bytes) (All-drop (λ byte. byte < 256) address bytes all)),
+      subst (λ l. length l ≡ count) p.1 size,
+    )
 
 -- ---- what stores write
 
 pub bytes_of_fit : (count number : ℕ) → AreBytes (bytes_of count number)
 bytes_of_fit zero number = All-nil (λ byte. byte < 256)
-bytes_of_fit (suc count) number = All-cons (λ byte. byte < 256) (number % 256) (bytes_of count (number / 256)) (mod-lt number (omega arith)) (bytes_of_fit count (number / 256))
+bytes_of_fit (suc count) number =
+    All-cons (λ byte. byte < 256) (number % 256) (bytes_of count (number / 256)) (mod-lt number (omega arith))
+    (bytes_of_fit count (number / 256))
 
-pub written_fits : (bytes : List ℕ) (address : ℕ) (news new : List ℕ) → AreBytes bytes → AreBytes news → written bytes address news ≡ Some new → AreBytes new × (length new ≡ length bytes)
+pub written_fits : (bytes : List ℕ) (address : ℕ) (news new : List ℕ) → AreBytes bytes → AreBytes news
+    → with_bytes_at bytes address news ≡ Some new → AreBytes new × (length new ≡ length bytes)
 written_fits bytes address news new all more is =
-    let p = cond_some (nat_le (address + length news) (length bytes)) (replaced bytes address news) new is in
+    let p = cond_some (nat_le (address + length news) (length bytes)) (with_items_at bytes address news) new is in
     let within : address + length news ≤ length bytes = leb-true (address + length news) (length bytes) p.0 in
-    let size : length (replaced bytes address news) ≡ length bytes = omega (arith, length-append (take address bytes) (news ++ drop (address + length news) bytes), length-append news (drop (address + length news) bytes), length-take address bytes, length-drop (address + length news) bytes) in
-    let each = All-append (λ byte. byte < 256) (take address bytes) (news ++ drop (address + length news) bytes) (All-take (λ byte. byte < 256) address bytes all)
-    (All-append (λ byte. byte < 256) news (drop (address + length news) bytes) more (All-drop (λ byte. byte < 256) (address + length news) bytes all)) in
+    let size : length (with_items_at bytes address news) ≡ length bytes =
+    omega (
+      arith,
+      length-append (take address bytes) (news ++ drop (address + length news) bytes),
+      length-append
+          news (drop (address + length news) bytes),
+      length-take address bytes,
+      length-drop (address + length news)
+          bytes,
+    ) in
+    let each = All-append (λ byte. byte < 256) (take address bytes) (news ++ drop (address + length news) bytes)
+    (All-take (λ byte. byte < 256) address bytes all)
+    (All-append (λ byte. byte < 256) news (drop (address + length news) bytes) more
+    (All-drop (λ byte. byte < 256) (address + length news) bytes all)) in
     (subst AreBytes p.1 each, subst (λ l. length l ≡ length bytes) p.1 size)
 
-pub memory_written : (limits : Limits) (memory : Memory) (new : List ℕ) → IsMemory limits memory → AreBytes new → length new ≡ length memory.bytes → IsMemory limits (record memory { bytes = new })
+pub memory_written : (limits : Limits) (memory : Memory) (new : List ℕ) → IsMemory limits memory → AreBytes new
+    → length new ≡ length memory.bytes → IsMemory limits (record memory { bytes = new })
 memory_written limits memory new good all size = record {
   bytes = all;
-  whole = subst (λ k. k ≡ k / page_size * page_size) (sym size) good.whole;
-  least = subst (λ k. limits.min ≤ k / page_size) (sym size) good.least;
-  within = subst (λ k. IsTrue (is_within (k / page_size) memory.max)) (sym size) good.within;
-  most = subst (λ k. k / page_size ≤ most_pages) (sym size) good.most;
+  whole = subst (λ k. k ≡ k / PAGE_SIZE * PAGE_SIZE) (sym size) good.whole;
+  least = subst (λ k. limits.min ≤ k / PAGE_SIZE) (sym size) good.least;
+  within = subst (λ k. IsTrue (is_within (k / PAGE_SIZE) memory.max)) (sym size) good.within;
+  most = subst (λ k. k / PAGE_SIZE ≤ MOST_PAGES) (sym size) good.most;
 }
 
 -- ---- growth
 
-pub memory_grown : (limits : Limits) (memory : Memory) (by : ℕ) (new : Memory) → IsMemory limits memory → grown memory by ≡ Some new → IsMemory limits new
-memory_grown limits memory by new good is = from (is_within (pages memory + by) memory.max && nat_le (pages memory + by) most_pages) refl is
+pub memory_grown : (limits : Limits) (memory : Memory) (by : ℕ) (new : Memory) → IsMemory limits memory
+    → grown_memory memory by ≡ Some new → IsMemory limits new
+memory_grown limits memory by new good is =
+    from (is_within (pages memory + by) memory.max && nat_le (pages memory + by) MOST_PAGES) refl is
   where
     larger : Memory
-    larger = record memory { bytes = memory.bytes ++ zeros (by * page_size) }
+    larger = record memory { bytes = memory.bytes ++ zeros (by * PAGE_SIZE) }
 
-    size : length (memory.bytes ++ zeros (by * page_size)) ≡ (pages memory + by) * page_size
-    size = omega (arith, length-append memory.bytes (zeros (by * page_size)), length-replicate {A = ℕ} (by * page_size) 0, good.whole)
+    size : length (memory.bytes ++ zeros (by * PAGE_SIZE)) ≡ (pages memory + by) * PAGE_SIZE
+    size = omega (
+      arith,
+      length-append memory.bytes (zeros (by * PAGE_SIZE)),
+      length-replicate {A = ℕ} (by * PAGE_SIZE) 0,
+      good.whole,
+    )
 
-    from : (b : Bool) → (is_within (pages memory + by) memory.max && nat_le (pages memory + by) most_pages) ≡ b → grown_if b memory by ≡ Some new → IsMemory limits new
+    from : (b : Bool) → (is_within (pages memory + by) memory.max && nat_le (pages memory + by) MOST_PAGES) ≡ b
+        → grown_memory_if b memory by ≡ Some new → IsMemory limits new
     from true e made =
-        let tests = both_true (is_within (pages memory + by) memory.max) (nat_le (pages memory + by) most_pages) e in
-        let now : pages memory + by ≡ length (memory.bytes ++ zeros (by * page_size)) / page_size = omega (arith, size) in
-        let within : pages memory + by ≤ most_pages = leb-true (pages memory + by) most_pages tests.1 in
+        let tests = and_parts (is_within (pages memory + by) memory.max) (nat_le (pages memory + by) MOST_PAGES) e in
+        let now : pages memory + by ≡ length (memory.bytes ++ zeros (by * PAGE_SIZE)) / PAGE_SIZE =
+        omega (arith, size) in
+        let within : pages memory + by ≤ MOST_PAGES = leb-true (pages memory + by) MOST_PAGES tests.1 in
         let it : larger ≡ new = cc in
         subst (λ new'. IsMemory limits new') it (record {
-          bytes = All-append (λ byte. byte < 256) memory.bytes (zeros (by * page_size)) good.bytes (All-replicate (λ byte. byte < 256) (by * page_size) 0 (omega arith));
-          whole = subst (λ k. length (memory.bytes ++ zeros (by * page_size)) ≡ k * page_size) now size;
+          bytes = All-append (λ byte. byte < 256) memory.bytes (zeros (by * PAGE_SIZE)) good.bytes
+              (All-replicate (λ byte. byte < 256) (by * PAGE_SIZE) 0 (omega arith));
+          whole = subst (λ k. length (memory.bytes ++ zeros (by * PAGE_SIZE)) ≡ k * PAGE_SIZE) now size;
           least = subst (λ k. limits.min ≤ k) now (omega (arith, good.least));
           within = subst (λ k. IsTrue (is_within k memory.max)) now tests.0;
-          most = subst (λ k. k ≤ most_pages) now within;
+          most = subst (λ k. k ≤ MOST_PAGES) now within;
         })
     from false e made = cc

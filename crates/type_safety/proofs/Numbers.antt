@@ -4,6 +4,8 @@ use Rattle.std.proofs.Common.{◌≡◌, ℕ, ◌^◌, ◌<◌, ◌≤◌, List,
 use Rattle.std.specs.Prelude.{nat_lt, nat_le, reverse}
 use Rattle.std.specs.List.{list_all}
 use Rattle.std.proofs.lemmas.Bool.{ltb-true, leb-true}
+use Rattle.wasm_syntax.proofs.ValTypes.{type_same, types_same}
+use Rattle.list_laws.proofs.Booleans.{and_parts, all_below, passes_below}
 use Rattle.wasm_syntax.specs.declared.values.ValType.{ValType}
 use Rattle.wasm_syntax.specs.declared.values.ValType.TheVariants.{I32, I64, F32, F64}
 use Rattle.wasm_syntax.specs.declared.values.Val.{Val}
@@ -15,15 +17,29 @@ use Rattle.wasm_numeric.specs.Integer.{BinaryValue, Bits, DivideByZero, Overflow
 use Rattle.wasm_numeric.specs.Opcode.{NumType, I32 as N32, I64 as N64, F32 as NF32, F64 as NF64, Kind, Test, Compare, Unary, Binary, Convert, FloatComparison, FloatArithmetic, FloatConversion, NotNumeric, width, kind_of, row_of, result_of, width_of, test_of, compare_of, unary_of, binary_of, convert_of}
 use Rattle.history_spec.specs.Numeric.{NumericValue, Computed, Undefined, Unsupported, of_binary, of_one, of_two, numeric_value}
 use Rattle.type_safety.specs.Values.{count_of, AreValues}
-use Rattle.type_safety.proofs.Types.{both_true, type_same, types_same, all_below, below_passes}
 
 -- the law of the operations that the proofs below rest on
 pub record ResultsFit : Type 0 where
   pub test : (op a : ℕ) → test_of op a ≤ 1
   pub compare : (op a b : ℕ) → compare_of op a b ≤ 1
   pub unary : (op a : ℕ) → kind_of op ≡ Unary → unary_of op a < 2 ^ width (result_of op)
-  pub binary : (op a b n : ℕ) → kind_of op ≡ Binary → a < 2 ^ width_of op → binary_of op a b ≡ Bits n → n < 2 ^ width (result_of op)
+  pub binary : (op a b n : ℕ) → kind_of op ≡ Binary → a < 2 ^ width_of op → binary_of op a b ≡ Bits n
+      → n < 2 ^ width (result_of op)
   pub convert : (op a : ℕ) → kind_of op ≡ Convert → a < 2 ^ width_of op → convert_of op a < 2 ^ width (result_of op)
+
+pub results_fit : ((op a : ℕ) → test_of op a ≤ 1)
+    → ((op a b : ℕ) → compare_of op a b ≤ 1)
+    → ((op a : ℕ) → kind_of op ≡ Unary → unary_of op a < 2 ^ width (result_of op))
+    → ((op a b n : ℕ) → kind_of op ≡ Binary → a < 2 ^ width_of op → binary_of op a b ≡ Bits n → n < 2 ^ width (result_of op))
+    → ((op a : ℕ) → kind_of op ≡ Convert → a < 2 ^ width_of op → convert_of op a < 2 ^ width (result_of op))
+    → ResultsFit
+results_fit test compare unary binary convert = record {
+  test = test;
+  compare = compare;
+  unary = unary;
+  binary = binary;
+  convert = convert;
+}
 
 -- ---- the two tables agree
 
@@ -34,10 +50,12 @@ val_type NF32 = F32
 val_type NF64 = F64
 
 abbrev takes_one : (operand result : NumType) → Shape → Bool
-takes_one operand result shape = same_types shape.operands (val_type operand ∷ []) && same_type shape.result (val_type result)
+takes_one operand result shape =
+    same_types shape.operands (val_type operand ∷ []) && same_type shape.result (val_type result)
 
 abbrev takes_two : (operand result : NumType) → Shape → Bool
-takes_two operand result shape = same_types shape.operands (val_type operand ∷ val_type operand ∷ []) && same_type shape.result (val_type result)
+takes_two operand result shape =
+    same_types shape.operands (val_type operand ∷ val_type operand ∷ []) && same_type shape.result (val_type result)
 
 abbrev agree : Kind → (operand result : NumType) → Shape → Bool
 agree Test operand result shape = takes_one operand result shape
@@ -60,26 +78,29 @@ all_agree = refl
 
 -- an opcode with a row is a byte
 
-below_high : (rows : List Row) (op : ℕ) (shape : Shape) → list_all (λ row. nat_lt row.high 256) rows ≡ true → shape_among rows op ≡ Some shape → op < 256
+pub below_high : (rows : List Row) (op : ℕ) (shape : Shape) → list_all (λ row. nat_lt row.high 256) rows ≡ true
+    → shape_among rows op ≡ Some shape → op < 256
 below_high [] op shape all is = cc
 below_high (row ∷ rows) op shape all is = by (is_from row.low row.high op) refl (below_high rows op shape p.1)
   where
     p : (nat_lt row.high 256 ≡ true) × (list_all (λ r. nat_lt r.high 256) rows ≡ true)
-    p = both_true (nat_lt row.high 256) (list_all (λ r. nat_lt r.high 256) rows) all
+    p = and_parts (nat_lt row.high 256) (list_all (λ r. nat_lt r.high 256) rows) all
 
     by : (b : Bool) → is_from row.low row.high op ≡ b → (shape_among rows op ≡ Some shape → op < 256) → op < 256
     by true e later =
-        let q = both_true (nat_le row.low op) (nat_le op row.high) e in
+        let q = and_parts (nat_le row.low op) (nat_le op row.high) e in
         let high : row.high < 256 = ltb-true row.high 256 p.0 in
         let within : op ≤ row.high = leb-true op row.high q.1 in
         omega arith
     by false e later = later (subst (λ b. cond b (Some row.shape) (shape_among rows op) ≡ Some shape) e is)
 
-agree_at : (op : ℕ) (shape : Shape) → numeric_shape op ≡ Some shape → feature_of op ≡ None → agree (kind_of op) (row_of op).operand (row_of op).result shape ≡ true
+agree_at : (op : ℕ) (shape : Shape) → numeric_shape op ≡ Some shape → feature_of op ≡ None
+    → agree (kind_of op) (row_of op).operand (row_of op).result shape ≡ true
 agree_at op shape is supported =
     let below : op < 256 = below_high numeric_rows op shape refl is in
-    let passes : agrees op ≡ true = below_passes agrees 256 op all_agree below in
-    subst (λ f. agrees_as op (Some shape) f ≡ true) supported (subst (λ o. agrees_as op o (feature_of op) ≡ true) is passes)
+    let passes : agrees op ≡ true = passes_below 256 agrees all_agree op below in
+    subst (λ f. agrees_as op (Some shape) f ≡ true) supported
+    (subst (λ o. agrees_as op o (feature_of op) ≡ true) is passes)
 
 -- ---- values
 
@@ -101,7 +122,8 @@ IsNumber n t (Computed bits) = bits < count_of n t
 IsNumber n t (Undefined kind) = Unit {0}
 IsNumber n t Unsupported = ⊥
 
-binary_number : (n : ℕ) (t : NumType) (value : BinaryValue) → ((bits : ℕ) → value ≡ Bits bits → bits < 2 ^ width t) → IsNumber n (val_type t) (of_binary value)
+binary_number : (n : ℕ) (t : NumType) (value : BinaryValue) → ((bits : ℕ) → value ≡ Bits bits → bits < 2 ^ width t)
+    → IsNumber n (val_type t) (of_binary value)
 binary_number n t (Bits bits) fits = subst (λ k. bits < k) (sym (count_is n t)) (fits bits refl)
 binary_number n t DivideByZero fits = tt
 binary_number n t Overflow fits = tt
@@ -116,31 +138,40 @@ module _ (laws : ResultsFit) (n op : ℕ) where
   -- of one operand, and of two, by kind
   one_number : (k : Kind) → kind_of op ≡ k → (shape : Shape) → takes_one operand result shape ≡ true
       → ((a : ℕ) → a < 2 ^ width operand → IsNumber n (val_type result) (of_one k op a))
-      → (operands : List Val) → AreValues n shape.operands operands → IsNumber n shape.result (numeric_value op operands)
+      → (operands : List Val) → AreValues n shape.operands operands
+      → IsNumber n shape.result (numeric_value op operands)
   one_number k is shape agree' value operands p =
-      let q = both_true (same_types shape.operands (val_type operand ∷ [])) (same_type shape.result (val_type result)) agree' in
+      let q = and_parts (same_types shape.operands (val_type operand ∷ [])) (same_type shape.result (val_type result))
+      agree' in
       let types = types_same shape.operands (val_type operand ∷ []) q.0 in
       let to = type_same shape.result (val_type result) q.1 in
-      subst (λ t. IsNumber n t (numeric_value op operands)) (sym to) (by operands (subst (λ ts. AreValues n ts operands) types p))
+      subst (λ t. IsNumber n t (numeric_value op operands)) (sym to)
+      (by operands (subst (λ ts. AreValues n ts operands) types p))
     where
       by : (vs : List Val) → AreValues n (val_type operand ∷ []) vs → IsNumber n (val_type result) (numeric_value op vs)
       by [] h = absurd h
-      by (a ∷ []) h = subst (λ kind. IsNumber n (val_type result) (of_one kind op a.bits)) (sym is) (value a.bits (subst (λ c. a.bits < c) (count_is n operand) h.0.in_range))
+      by (a ∷ []) h = subst (λ kind. IsNumber n (val_type result) (of_one kind op a.bits)) (sym is)
+          (value a.bits (subst (λ c. a.bits < c) (count_is n operand) h.0.in_range))
       by (a ∷ b ∷ vs) h = absurd h.1
 
   two_number : (k : Kind) → kind_of op ≡ k → (shape : Shape) → takes_two operand result shape ≡ true
       → ((a b : ℕ) → a < 2 ^ width operand → IsNumber n (val_type result) (of_two k op a b))
-      → (operands : List Val) → AreValues n shape.operands operands → IsNumber n shape.result (numeric_value op operands)
+      → (operands : List Val) → AreValues n shape.operands operands
+      → IsNumber n shape.result (numeric_value op operands)
   two_number k is shape agree' value operands p =
-      let q = both_true (same_types shape.operands (val_type operand ∷ val_type operand ∷ [])) (same_type shape.result (val_type result)) agree' in
+      let q = and_parts (same_types shape.operands (val_type operand ∷ val_type operand ∷ []))
+      (same_type shape.result (val_type result)) agree' in
       let types = types_same shape.operands (val_type operand ∷ val_type operand ∷ []) q.0 in
       let to = type_same shape.result (val_type result) q.1 in
-      subst (λ t. IsNumber n t (numeric_value op operands)) (sym to) (by operands (subst (λ ts. AreValues n ts operands) types p))
+      subst (λ t. IsNumber n t (numeric_value op operands)) (sym to)
+      (by operands (subst (λ ts. AreValues n ts operands) types p))
     where
-      by : (vs : List Val) → AreValues n (val_type operand ∷ val_type operand ∷ []) vs → IsNumber n (val_type result) (numeric_value op vs)
+      by : (vs : List Val) → AreValues n (val_type operand ∷ val_type operand ∷ []) vs
+          → IsNumber n (val_type result) (numeric_value op vs)
       by [] h = absurd h
       by (a ∷ []) h = absurd h.1
-      by (a ∷ b ∷ []) h = subst (λ kind. IsNumber n (val_type result) (of_two kind op a.bits b.bits)) (sym is) (value a.bits b.bits (subst (λ c. a.bits < c) (count_is n operand) h.0.in_range))
+      by (a ∷ b ∷ []) h = subst (λ kind. IsNumber n (val_type result) (of_two kind op a.bits b.bits)) (sym is)
+          (value a.bits b.bits (subst (λ c. a.bits < c) (count_is n operand) h.0.in_range))
       by (a ∷ b ∷ c ∷ vs) h = absurd h.1.1
 
   small : (bits : ℕ) → bits ≤ 1 → bits < count_of n (val_type result)
@@ -150,33 +181,45 @@ module _ (laws : ResultsFit) (n op : ℕ) where
   in_width bits h = subst (λ c. bits < c) (sym (count_is n result)) h
 
   by_kind : (k : Kind) → kind_of op ≡ k → (shape : Shape) → agree k operand result shape ≡ true
-      → (operands : List Val) → AreValues n shape.operands operands → IsNumber n shape.result (numeric_value op operands)
+      → (operands : List Val) → AreValues n shape.operands operands
+      → IsNumber n shape.result (numeric_value op operands)
   by_kind Test is shape agree' = one_number Test is shape agree' (λ a h. small (test_of op a) (laws.test op a))
-  by_kind Compare is shape agree' = two_number Compare is shape agree' (λ a b h. small (compare_of op a b) (laws.compare op a b))
-  by_kind Unary is shape agree' = one_number Unary is shape agree' (λ a h. in_width (unary_of op a) (laws.unary op a is))
-  by_kind Binary is shape agree' = two_number Binary is shape agree' (λ a b h. binary_number n result (binary_of op a b) (λ bits e. laws.binary op a b bits is h e))
-  by_kind Convert is shape agree' = one_number Convert is shape agree' (λ a h. in_width (convert_of op a) (laws.convert op a is h))
+  by_kind Compare is shape agree' =
+      two_number Compare is shape agree' (λ a b h. small (compare_of op a b) (laws.compare op a b))
+  by_kind Unary is shape agree' =
+      one_number Unary is shape agree' (λ a h. in_width (unary_of op a) (laws.unary op a is))
+  by_kind Binary is shape agree' =
+      two_number Binary is shape agree'
+      (λ a b h. binary_number n result (binary_of op a b) (λ bits e. laws.binary op a b bits is h e))
+  by_kind Convert is shape agree' =
+      one_number Convert is shape agree' (λ a h. in_width (convert_of op a) (laws.convert op a is h))
   by_kind FloatComparison is shape agree' = cc
   by_kind FloatArithmetic is shape agree' = cc
   by_kind FloatConversion is shape agree' = cc
   by_kind NotNumeric is shape agree' = cc
 
   pub number_fine : (shape : Shape) → numeric_shape op ≡ Some shape → feature_of op ≡ None
-      → (operands : List Val) → AreValues n shape.operands operands → IsNumber n shape.result (numeric_value op operands)
+      → (operands : List Val) → AreValues n shape.operands operands
+      → IsNumber n shape.result (numeric_value op operands)
   number_fine shape is supported = by_kind (kind_of op) refl shape (agree_at op shape is supported)
 
 -- the operands of a numeric instruction are of one type
-one_reversed : (operand result : NumType) (shape : Shape) → takes_one operand result shape ≡ true → reverse shape.operands ≡ shape.operands
+one_reversed : (operand result : NumType) (shape : Shape) → takes_one operand result shape ≡ true
+    → reverse shape.operands ≡ shape.operands
 one_reversed operand result shape h =
-    let q = both_true (same_types shape.operands (val_type operand ∷ [])) (same_type shape.result (val_type result)) h in
+    let q = and_parts (same_types shape.operands (val_type operand ∷ [])) (same_type shape.result (val_type result))
+    h in
     subst (λ ts. reverse ts ≡ ts) (sym (types_same shape.operands (val_type operand ∷ []) q.0)) refl
 
-two_reversed : (operand result : NumType) (shape : Shape) → takes_two operand result shape ≡ true → reverse shape.operands ≡ shape.operands
+two_reversed : (operand result : NumType) (shape : Shape) → takes_two operand result shape ≡ true
+    → reverse shape.operands ≡ shape.operands
 two_reversed operand result shape h =
-    let q = both_true (same_types shape.operands (val_type operand ∷ val_type operand ∷ [])) (same_type shape.result (val_type result)) h in
+    let q = and_parts (same_types shape.operands (val_type operand ∷ val_type operand ∷ []))
+    (same_type shape.result (val_type result)) h in
     subst (λ ts. reverse ts ≡ ts) (sym (types_same shape.operands (val_type operand ∷ val_type operand ∷ []) q.0)) refl
 
-reversed_as : (k : Kind) (operand result : NumType) (shape : Shape) → agree k operand result shape ≡ true → reverse shape.operands ≡ shape.operands
+reversed_as : (k : Kind) (operand result : NumType) (shape : Shape) → agree k operand result shape ≡ true
+    → reverse shape.operands ≡ shape.operands
 reversed_as Test operand result shape h = one_reversed operand result shape h
 reversed_as Compare operand result shape h = two_reversed operand result shape h
 reversed_as Unary operand result shape h = one_reversed operand result shape h
@@ -184,5 +227,7 @@ reversed_as Binary operand result shape h = two_reversed operand result shape h
 reversed_as Convert operand result shape h = one_reversed operand result shape h
 reversed_as k operand result shape h = cc
 
-pub operands_reversed : (op : ℕ) (shape : Shape) → numeric_shape op ≡ Some shape → feature_of op ≡ None → reverse shape.operands ≡ shape.operands
-operands_reversed op shape is supported = reversed_as (kind_of op) (row_of op).operand (row_of op).result shape (agree_at op shape is supported)
+pub operands_reversed : (op : ℕ) (shape : Shape) → numeric_shape op ≡ Some shape → feature_of op ≡ None
+    → reverse shape.operands ≡ shape.operands
+operands_reversed op shape is supported =
+    reversed_as (kind_of op) (row_of op).operand (row_of op).result shape (agree_at op shape is supported)

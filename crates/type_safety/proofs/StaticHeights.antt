@@ -10,10 +10,12 @@ use Rattle.history_spec.specs.Configuration.{Frame, Activation, InModule, Config
 use Rattle.type_safety.specs.Stores.{func_count}
 use Rattle.type_safety.specs.Heights.{height, Heights}
 use Rattle.type_safety.specs.Frames.{context, base_of, height_of}
-use Rattle.type_safety.specs.Configurations.{scope, Accept, IsGoing, IsStanding, IsConfig}
+use Rattle.type_safety.specs.Configurations.{scope, Accept, IsGoing, IsAtStep, IsConfig}
+use Rattle.type_safety.specs.Laws.{HeightsAtCalls, HeightsAtSteps}
 use Rattle.type_safety.proofs.Values.{length_values}
 
-first_height : (ctx : Context) (rest : Nest) (before after : List ValType) (typed : IsTyped ctx rest before after) → height ctx rest before after typed 0 ≡ length before
+first_height : (ctx : Context) (rest : Nest) (before after : List ValType) (typed : IsTyped ctx rest before after)
+    → height ctx rest before after typed 0 ≡ length before
 first_height ctx Empty before after typed = refl
 first_height ctx (Plain i rest) before after typed = refl
 first_height ctx (InBlock ty body rest) before after typed = refl
@@ -29,21 +31,24 @@ going_size (InLoop ty body rest) going = omega arith
 going_size (InIf ty body rest) going = omega arith
 going_size (InIfElse ty body other rest) going = omega arith
 
-pub waiting_height : (m : Module) (heights : Heights) (frame : Frame) (below : List Activation) (results : List ValType) → Accept m heights (InModule frame ∷ below) results → IsGoing frame.at.rest
-    → height_of frame + length results ≡ heights frame.func frame.at.number
+pub waiting_height : HeightsAtCalls
 waiting_height m heights frame below results a going =
     let s = scope m heights frame.func a.0 a.1 in
     let f = a.2 in
     let here = f.code.heights 0 (going_size frame.at.rest going) in
-    let own : height (context s f.labels) frame.at.rest (reverse results ++ f.types) f.given f.code.typed 0 ≡ length (reverse results ++ f.types) = first_height (context s f.labels) frame.at.rest (reverse results ++ f.types) f.given f.code.typed in
+    let own : height (context s f.labels) frame.at.rest (reverse results ++ f.types) f.given f.code.typed 0
+    ≡ length (reverse results ++ f.types) =
+    first_height (context s f.labels) frame.at.rest (reverse results ++ f.types) f.given f.code.typed in
     let count : length frame.values ≡ length f.types = length_values (func_count m) f.types frame.values f.values in
-    let parts : length (reverse results ++ f.types) ≡ length results + length f.types = length-append (reverse results) f.types ∙ ap (λ k. k + length f.types) (length-reverse results) in
+    let parts : length (reverse results ++ f.types) ≡ length results + length f.types =
+    length-append (reverse results) f.types ∙ ap (λ k. k + length f.types) (length-reverse results) in
     let from : frame.at.number + 0 ≡ frame.at.number = omega arith in
-    let all : heights frame.func frame.at.number ≡ base_of frame.labels + length (reverse results ++ f.types) = ap (heights frame.func) (sym from) ∙ here ∙ ap (λ k. base_of frame.labels + k) own in
+    let all : heights frame.func frame.at.number ≡ base_of frame.labels + length (reverse results ++ f.types) =
+    ap (heights frame.func) (sym from) ∙ here ∙ ap (λ k. base_of frame.labels + k) own in
     omega (arith, all, parts, count)
 
-pub standing_height : (m : Module) (heights : Heights) (config : Config) (frame : Frame) (below : List Activation) → IsConfig m heights config → config.stack ≡ InModule frame ∷ below
-    → height_of frame ≡ heights frame.func frame.at.number
+pub standing_height : HeightsAtSteps
 standing_height m heights config frame below c is =
-    let it = waiting_height m heights frame below [] (subst (λ stack. Accept m heights stack []) is c.stack) (subst IsStanding is c.standing) in
+    let it = waiting_height m heights frame below [] (subst (λ stack. Accept m heights stack []) is c.stack)
+    (subst IsAtStep is c.at_step) in
     omega (arith, it)

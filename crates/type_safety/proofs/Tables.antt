@@ -4,21 +4,13 @@ use Rattle.std.specs.Prelude.{nat_lt, is_some, IsTrue, IfSome, All, slice_set, s
 use Rattle.std.proofs.lemmas.List.{length-set}
 use Rattle.std.proofs.lemmas.List.Elements.{All-head, All-tail, All-get_or, All-set}
 use Rattle.std.proofs.lemmas.Option.{slice_get_within, get_or_from_slice_get}
+use Rattle.wasm_syntax.specs.declared.limits.TheConstants.{MOST_ENTRIES}
+use Rattle.host_script.specs.Supply.{is_within}
 use Rattle.wasm_syntax.specs.declared.signatures.Limits.{Limits}
-use Rattle.host_script.specs.Supplied.{most_entries}
-use Rattle.history_spec.specs.Store.{Table, is_within, with_entry}
-use Rattle.history_spec.specs.Instruction.{referred}
+use Rattle.history_spec.specs.Store.{Table, with_entry}
+use Rattle.history_spec.specs.Instruction.{referent}
 use Rattle.type_safety.specs.Stores.{IsTable, MayBeTable}
 use Rattle.type_safety.proofs.Memories.{cond_some}
-
-pub all_at : {X : Type 0} (P : X → Type 0) (xs : List X) (i : ℕ) (x : X) → All P xs → slice_get xs i ≡ Some x → P x
-all_at P xs i x all is = subst P (get_or_from_slice_get xs i x x is) (All-get_or P xs i x (slice_get_within xs i x is) all)
-
--- what holds of each item and of one more holds of the item at any place, or else of that one
-pub all_or : {X : Type 0} (P : X → Type 0) (xs : List X) (i : ℕ) (d : X) → All P (xs ++ d ∷ []) → P (slice_index_or xs i d)
-all_or P [] i d all = All-head P d [] all
-all_or P (x ∷ xs) zero d all = All-head P x (xs ++ d ∷ []) all
-all_or P (x ∷ xs) (suc i) d all = all_or P xs i d (All-tail P x (xs ++ d ∷ []) all)
 
 -- a table that is there, and that may be changed to another that is well typed where the first is
 pub record TableThere (n : ℕ) (limits : List Limits) (o : Option Table) : Type 0 where
@@ -28,7 +20,8 @@ pub record TableThere (n : ℕ) (limits : List Limits) (o : Option Table) : Type
   pub good : IsTable n own table
   pub change : (new : Table) → ((l : Limits) → IsTable n l table → IsTable n l new) → MayBeTable n limits (Some new)
 
-pub table_there : (n : ℕ) (limits : List Limits) (o : Option Table) → is_some (slice_get limits 0) ≡ true → MayBeTable n limits o → TableThere n limits o
+pub table_there : (n : ℕ) (limits : List Limits) (o : Option Table) → is_some (slice_get limits 0) ≡ true
+    → MayBeTable n limits o → TableThere n limits o
 table_there n [] o there may = cc
 table_there n (l ∷ more) None there may = absurd may
 table_there n (l ∷ more) (Some table) there may =
@@ -37,7 +30,8 @@ table_there n (l ∷ more) (Some table) there may =
 abbrev IsEntry : ℕ → Option ℕ → Type 0
 IsEntry n entry = IfSome entry (λ func. func < n)
 
-pub entry_set_fits : (n : ℕ) (limits : Limits) (table : Table) (index : ℕ) (entry : Option ℕ) (entries : List (Option ℕ)) → IsTable n limits table → IfSome entry (λ func. func < n)
+pub entry_set_fits : (n : ℕ) (limits : Limits) (table : Table) (index : ℕ) (entry : Option ℕ)
+    (entries : List (Option ℕ)) → IsTable n limits table → IfSome entry (λ func. func < n)
     → with_entry table.entries index entry ≡ Some entries → IsTable n limits (record table { entries = entries })
 entry_set_fits n limits table index entry entries good fits is =
     let p = cond_some (nat_lt index (length table.entries)) (slice_set table.entries index entry) entries is in
@@ -46,9 +40,9 @@ entry_set_fits n limits table index entry entries good fits is =
       entries = subst (λ es. All (IsEntry n) es) p.1 (All-set (IsEntry n) table.entries index entry fits good.entries);
       least = subst (λ k. limits.min ≤ k) size good.least;
       within = subst (λ k. IsTrue (is_within k table.max)) size good.within;
-      most = subst (λ k. k ≤ most_entries) size good.most;
+      most = subst (λ k. k ≤ MOST_ENTRIES) size good.most;
     }
 
-pub referred_fits : (n bits : ℕ) → bits < n + 1 → IfSome (referred bits) (λ func. func < n)
+pub referred_fits : (n bits : ℕ) → bits < n + 1 → IfSome (referent bits) (λ func. func < n)
 referred_fits n zero h = tt
 referred_fits n (suc func) h = omega arith

@@ -5,6 +5,8 @@ use Rattle.std.specs.List.{cons_option, AllByRecursion}
 use Rattle.std.proofs.lemmas.Bool.{le-ltb}
 use Rattle.std.proofs.lemmas.List.Elements.{All-head, All-tail, All-nil, All-cons, All-append, All-map, All-weaker, recursion_from_All}
 use Rattle.std.proofs.lemmas.Option.{slice_get-map}
+use Rattle.list_laws.proofs.Lists.{get_after, all_at, item_there}
+use Rattle.list_laws.proofs.Options.{and_then_some, map_some}
 use Rattle.wasm_syntax.specs.declared.signatures.FuncType.{FuncType}
 use Rattle.wasm_syntax.specs.declared.modules.Module.{Module}
 use Rattle.wasm_syntax.specs.declared.modules.Func.{Func}
@@ -20,18 +22,19 @@ use Rattle.type_safety.specs.Stores.{func_count}
 use Rattle.type_safety.specs.Frames.{IsCode}
 use Rattle.type_safety.specs.Heights.{Heights, IsTypedWith, AreHeights, height}
 use Rattle.type_safety.specs.Configurations.{scope, IsTypedCode}
+use Rattle.type_safety.specs.Laws.{ValidCodeHasHeights}
 use Rattle.type_safety.proofs.Bodies.{body_nest, body_supported}
-use Rattle.type_safety.proofs.Answers.{both_some}
-use Rattle.type_safety.proofs.Tables.{all_at}
 
 -- ---- heights by the functions' typings
 
 abbrev heights_in : (m : Module) (funcs : List Func) → AllByRecursion (IsTypedFunc m) funcs → (place number : ℕ) → ℕ
 heights_in m [] all k number = 0
-heights_in m (f ∷ funcs) all zero number = height (body_context m all.0.ty f) all.0.nest [] (reverse all.0.ty.results) all.0.typed number
+heights_in m (f ∷ funcs) all zero number =
+    height (body_context m all.0.ty f) all.0.nest [] (reverse all.0.ty.results) all.0.typed number
 heights_in m (f ∷ funcs) all (suc k) number = heights_in m funcs all.1 k number
 
-typed_at : (m : Module) (funcs : List Func) (all : AllByRecursion (IsTypedFunc m) funcs) (k : ℕ) (f : Func) → slice_get funcs k ≡ Some f → IsTypedWith m (heights_in m funcs all k) f
+typed_at : (m : Module) (funcs : List Func) (all : AllByRecursion (IsTypedFunc m) funcs) (k : ℕ) (f : Func)
+    → slice_get funcs k ≡ Some f → IsTypedWith m (heights_in m funcs all k) f
 typed_at m [] all k f is = cc
 typed_at m (g ∷ funcs) all zero f is =
     let here : g ≡ f = cc in
@@ -41,65 +44,62 @@ typed_at m (g ∷ funcs) all (suc k) f is = typed_at m funcs all.1 k f is
 
 -- ---- signatures
 
-imports_typed : (m : Module) (imports : List Import) → All (λ i. IsImport m i.kind) imports → All (λ t. t < length m.types) (of_kind func_import imports)
+imports_typed : (m : Module) (imports : List Import) → All (λ i. IsImport m i.kind) imports
+    → All (λ t. t < length m.types) (of_kind func_import imports)
 imports_typed m [] all = All-nil (λ t. t < length m.types)
-imports_typed m (i ∷ imports) all = by i.kind (All-head (λ j. IsImport m j.kind) i imports all) (imports_typed m imports (All-tail (λ j. IsImport m j.kind) i imports all))
+imports_typed m (i ∷ imports) all =
+    by i.kind (All-head (λ j. IsImport m j.kind) i imports all)
+    (imports_typed m imports (All-tail (λ j. IsImport m j.kind) i imports all))
   where
-    by : (kind : ImportKind) → IsImport m kind → All (λ t. t < length m.types) (of_kind func_import imports) → All (λ t. t < length m.types) (cons_option (func_import kind) (of_kind func_import imports))
+    by : (kind : ImportKind) → IsImport m kind → All (λ t. t < length m.types) (of_kind func_import imports)
+        → All (λ t. t < length m.types) (cons_option (func_import kind) (of_kind func_import imports))
     by (import.Func t) own later = All-cons (λ u. u < length m.types) t (of_kind func_import imports) own later
     by (import.Table limits) own later = later
     by (import.Memory limits) own later = later
     by (import.Global ty) own later = later
 
-first_of : {X : Type 0} (xs : List X) (i : ℕ) → i < length xs → (x : X) × (slice_get xs i ≡ Some x)
-first_of [] i below = absurd (omega arith)
-first_of (x ∷ xs) zero below = (x, refl)
-first_of (x ∷ xs) (suc i) below = first_of xs i (omega arith)
-
-pub signatures : (m : Module) → IsValid m → (func : ℕ) → func < func_count m → (ty : FuncType) × (signature (code_of m) func ≡ Some ty)
+pub signatures : (m : Module) → IsValid m → (func : ℕ) → func < func_count m
+    → (ty : FuncType) × (signature (code_of m) func ≡ Some ty)
 signatures m valid func below =
     let each : All (λ t. t < length m.types) (func_indices m) =
-    All-append (λ t. t < length m.types) (of_kind func_import m.imports) (map (λ f. f.ty) m.funcs) (imports_typed m m.imports valid.outside.imports)
-    (All-map (λ t. t < length m.types) (λ (f : Func). f.ty) m.funcs (All-weaker (IsDeclaredFunc m) (λ f. f.ty < length m.types) (λ f d. d.type_there) m.funcs valid.outside.funcs)) in
-    let index = first_of (func_indices m) func below in
-    let there : index.0 < length m.types = all_at (λ t. t < length m.types) (func_indices m) func index.0 each index.1 in
-    let ty = first_of m.types index.0 there in
+    All-append (λ t. t < length m.types) (of_kind func_import m.imports) (map (λ f. f.ty) m.funcs)
+    (imports_typed m m.imports valid.outside.imports)
+    (All-map (λ t. t < length m.types) (λ (f : Func). f.ty) m.funcs
+    (All-weaker (IsDeclaredFunc m) (λ f. f.ty < length m.types) (λ f d. d.type_there) m.funcs
+    valid.outside.funcs)) in
+    let index = item_there (func_indices m) func below in
+    let there : index.0 < length m.types =
+    all_at (λ t. t < length m.types) (func_indices m) func index.0 each index.1 in
+    let ty = item_there m.types index.0 there in
     (ty.0, ap (option_and_then (λ t. slice_get m.types t)) index.1 ∙ ty.1)
 
 -- ---- definitions
 
-get_back : {A : Type 0} (xs ys : List A) (i : ℕ) → length xs ≤ i → slice_get (xs ++ ys) i ≡ slice_get ys (i - length xs)
-get_back [] ys i past = let e : i - 0 ≡ i = omega arith in sym (ap (slice_get ys) e)
-get_back (x ∷ xs) ys zero past = absurd (omega arith)
-get_back (x ∷ xs) ys (suc i) past =
-    let e : suc i - suc (length xs) ≡ i - length xs = omega arith in
-    get_back xs ys i (omega arith) ∙ sym (ap (slice_get ys) e)
-
-mapped : {A B : Type 0} (f : A → B) (o : Option A) (y : B) → option_map f o ≡ Some y → (x : A) × (o ≡ Some x) × (f x ≡ y)
-mapped f None y h = cc
-mapped f (Some x) y h = (x, refl, cc)
-
 -- a valid module has heights
-pub heights_there : (m : Module) → IsValid m → (heights : Heights) × AreHeights m heights
+pub heights_there : ValidCodeHasHeights
 heights_there m valid =
     let all = recursion_from_All (IsTypedFunc m) m.funcs valid.bodies in (
       λ func number. heights_in m m.funcs all (func - imported_funcs m) number,
       λ k f is.
           let back : imported_funcs m + k - imported_funcs m ≡ k = omega arith in
-          subst (λ i. IsTypedWith m (λ number. heights_in m m.funcs all i number) f) (sym back) (typed_at m m.funcs all k f is),
+          subst (λ i. IsTypedWith m (λ number. heights_in m m.funcs all i number) f) (sym back)
+          (typed_at m m.funcs all k f is),
     )
 
-module _ (m : Module) (heights : Heights) (valid : IsValid m) (supported : IsSupported m) (are : AreHeights m heights) where
+module _ (m : Module) (heights : Heights) (valid : IsValid m) (supported : IsSupported m)
+    (are : AreHeights m heights) where
   body_typed : (func : ℕ) (ty : FuncType) → imported_funcs m ≤ func → signature (code_of m) func ≡ Some ty
-      → (body : Definition) × (definition (code_of m) func ≡ Some body) × IsCode (scope m heights func ty body) [] (place body.body 0) 0 [] (reverse ty.results)
+      → (body : Definition) × (definition (code_of m) func ≡ Some body)
+      × IsCode (scope m heights func ty body) [] (place body.body 0) 0 [] (reverse ty.results)
   body_typed func ty own is = (body, defined, code)
     where
       index : (t : ℕ) × (slice_get (func_indices m) func ≡ Some t) × (slice_get m.types t ≡ Some ty)
-      index = both_some (slice_get (func_indices m) func) (λ t. slice_get m.types t) ty is
+      index = and_then_some (slice_get (func_indices m) func) (λ t. slice_get m.types t) ty is
 
       found : (f : Func) × (slice_get m.funcs (func - imported_funcs m) ≡ Some f) × (f.ty ≡ index.0)
-      found = mapped (λ (f : Func). f.ty) (slice_get m.funcs (func - imported_funcs m)) index.0
-          (sym (slice_get-map (λ (f : Func). f.ty) m.funcs (func - imported_funcs m)) ∙ sym (get_back (of_kind func_import m.imports) (map (λ f. f.ty) m.funcs) func own) ∙ index.1)
+      found = map_some (λ (f : Func). f.ty) (slice_get m.funcs (func - imported_funcs m)) index.0
+          (sym (slice_get-map (λ (f : Func). f.ty) m.funcs (func - imported_funcs m))
+          ∙ sym (get_after (of_kind func_import m.imports) (map (λ f. f.ty) m.funcs) func own) ∙ index.1)
 
       at : IsTypedWith m (heights func) found.0
       at =
@@ -107,29 +107,39 @@ module _ (m : Module) (heights : Heights) (valid : IsValid m) (supported : IsSup
           subst (λ i. IsTypedWith m (heights i) found.0) back (are (func - imported_funcs m) found.0 found.1)
 
       same : at.typed.ty ≡ ty
-      same = let both : Some at.typed.ty ≡ Some ty = sym at.typed.has_type ∙ ap (slice_get m.types) found.2 ∙ index.2 in cc
+      same = let both : Some at.typed.ty ≡ Some ty = sym at.typed.has_type ∙ ap (slice_get m.types) found.2
+          ∙ index.2 in cc
 
       body : Definition
       body = record { locals = each_local found.0.locals; body = at.typed.nest }
 
       defined : definition (code_of m) func ≡ Some body
       defined =
-          ap (λ b. cond b None (option_and_then (λ d. d) (slice_get (map definition_of m.funcs) (func - imported_funcs m)))) (le-ltb func (imported_funcs m) own)
-          ∙ ap (option_and_then (λ d. d)) (slice_get-map definition_of m.funcs (func - imported_funcs m) ∙ ap (option_map definition_of) found.1)
-          ∙ ap (option_map (λ nest. record { locals = each_local found.0.locals; body = nest })) (body_nest at.typed.nest found.0.body at.typed.is_body)
+          ap (λ b. cond b None
+          (option_and_then (λ d. d) (slice_get (map definition_of m.funcs) (func - imported_funcs m)))) (le-ltb
+          func (imported_funcs m) own)
+          ∙ ap (option_and_then (λ d. d))
+          (slice_get-map definition_of m.funcs (func - imported_funcs m) ∙ ap (option_map definition_of) found.1)
+          ∙ ap (option_map (λ nest. record { locals = each_local found.0.locals; body = nest }))
+          (body_nest at.typed.nest found.0.body at.typed.is_body)
 
-      own_code : IsCode (scope m heights func at.typed.ty body) [] (place at.typed.nest 0) 0 [] (reverse at.typed.ty.results)
+      own_code : IsCode (scope m heights func at.typed.ty body) [] (place at.typed.nest 0) 0 []
+          (reverse at.typed.ty.results)
       own_code = record {
         typed = at.typed.typed;
-        supported = body_supported (imported_funcs m) m.funcs (func - imported_funcs m) found.0 at.typed.nest supported.instructions found.1 at.typed.is_body;
+        supported = body_supported (imported_funcs m) m.funcs (func - imported_funcs m) found.0 at.typed.nest
+            supported.instructions found.1 at.typed.is_body;
         heights = λ j below.
             let from : 0 + j ≡ j = omega arith in
-            let to : height (body_context m at.typed.ty found.0) at.typed.nest [] (reverse at.typed.ty.results) at.typed.typed j ≡ 0 + height (body_context m at.typed.ty found.0) at.typed.nest [] (reverse at.typed.ty.results) at.typed.typed j = omega arith in
+            let to : height (body_context m at.typed.ty found.0) at.typed.nest [] (reverse at.typed.ty.results)
+            at.typed.typed j ≡ 0 + height (body_context m at.typed.ty found.0) at.typed.nest []
+            (reverse at.typed.ty.results) at.typed.typed j = omega arith in
             ap (heights func) from ∙ at.same j ∙ to;
       }
 
       code : IsCode (scope m heights func ty body) [] (place at.typed.nest 0) 0 [] (reverse ty.results)
-      code = subst (λ t. IsCode (scope m heights func t body) [] (place at.typed.nest 0) 0 [] (reverse t.results)) same own_code
+      code = subst (λ t. IsCode (scope m heights func t body) [] (place at.typed.nest 0) 0 [] (reverse t.results))
+          same own_code
 
   pub typed_code : IsTypedCode m heights
   typed_code = record { has_type = signatures m valid; bodies = body_typed }

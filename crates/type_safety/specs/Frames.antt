@@ -46,12 +46,14 @@ HasNoneRefused (InLoop ty body rest) = HasNoneRefused body × HasNoneRefused res
 HasNoneRefused (InIf ty body rest) = HasNoneRefused body × HasNoneRefused rest
 HasNoneRefused (InIfElse ty body other rest) = HasNoneRefused body × HasNoneRefused other × HasNoneRefused rest
 
--- what comes next within these labels, with so many values below: it leads from values of some types to
--- values of others, no instruction is refused, and its heights are those of the function
-pub record IsCode (s : Scope) (labels : List (List ValType)) (next : Place) (base : ℕ) (before after : List ValType) : Type 0 where
+-- what comes next within these labels, with `base` values below: it leads from values of some types to values of
+-- others, no instruction is refused, and its heights are those of the function
+pub record IsCode (s : Scope) (labels : List (List ValType)) (next : Place) (base : ℕ)
+    (before after : List ValType) : Type 0 where
   pub typed : IsTyped (context s labels) next.rest before after
   pub supported : HasNoneRefused next.rest
-  pub heights : (k : ℕ) → k < size next.rest → s.heights (next.number + k) ≡ base + height (context s labels) next.rest before after typed k
+  pub heights : (k : ℕ) → k < size next.rest
+      → s.heights (next.number + k) ≡ base + height (context s labels) next.rest before after typed k
 
 -- how many values stand below the innermost block
 abbrev pub base_of : List Label → ℕ
@@ -62,13 +64,14 @@ base_of (label ∷ labels) = base_of labels + length label.below
 abbrev pub height_of : Frame → ℕ
 height_of frame = base_of frame.labels + length frame.values
 
--- a label that takes values of some types, in others: a branch to it goes on with what it takes, the end of
--- its block with what the block gives, each on the values below
-pub record IsLabel (s : Scope) (labels : List (List ValType)) (base : ℕ) (taken given below after : List ValType) (label : Label) : Type 0 where
+-- a label within others: a branch to it goes on with values of the types that it takes, the end of its block with
+-- values of the types that the block gives, each on the values below
+pub record IsLabel (s : Scope) (labels : List (List ValType)) (base : ℕ)
+    (taken given below after : List ValType) (label : Label) : Type 0 where
   pub arity : label.arity ≡ length taken
   pub values : AreValues (func_count s.m) below label.below
   pub target : IsCode s labels label.target base (taken ++ below) after
-  pub behind : IsCode s labels label.behind base (given ++ below) after
+  pub after_block : IsCode s labels label.after_block base (given ++ below) after
 
 -- labels that take values of these types, where the innermost block gives values of others
 abbrev pub AreLabels : Scope → List (List ValType) → List ValType → List Label → Type 0
@@ -76,7 +79,8 @@ AreLabels s [] given [] = given ≡ reverse s.ty.results
 AreLabels s [] given (label ∷ labels) = ⊥
 AreLabels s (taken ∷ types) given [] = ⊥
 AreLabels s (taken ∷ types) given (label ∷ labels) =
-    (below after : List ValType) × IsLabel s types (base_of labels) taken given below after label × AreLabels s types after labels
+    (below after : List ValType)
+    × IsLabel s types (base_of labels) taken given below after label × AreLabels s types after labels
 
 -- the function is a defined one
 pub record IsScope (s : Scope) : Type 0 where

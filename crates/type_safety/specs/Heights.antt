@@ -37,15 +37,19 @@ height ctx (InIfElse ty body other rest) before after typed (suc number) =
     (length typed.0 + height (inside (results_of ty) ctx) other [] (results_of ty) typed.4 (number - size body))
     (height ctx rest (results_of ty ++ typed.0) after typed.5 (number - size body - size other)))
 
--- by function and number
+-- heights of all instructions, by function and number
 abbrev pub Heights : Type 0
 Heights = (func number : ℕ) → ℕ
 
 -- a function has a typing that gives these heights
 pub record IsTypedWith (m : Module) (heights : ℕ → ℕ) (f : Func) : Type 0 where
   pub typed : IsTypedFunc m f
-  pub same : (number : ℕ) → heights number ≡ height (body_context m typed.ty f) typed.nest [] (reverse typed.ty.results) typed.typed number
+  pub same : (number : ℕ)
+      → heights number
+      ≡ height (body_context m typed.ty f) typed.nest [] (reverse typed.ty.results) typed.typed number
 
 -- each defined function has a typing that gives its heights
 abbrev pub AreHeights : Module → Heights → Type 0
-AreHeights m heights = (place : ℕ) (f : Func) → slice_get m.funcs place ≡ Some f → IsTypedWith m (heights (imported_funcs m + place)) f
+AreHeights m heights =
+    (place : ℕ) (f : Func)
+    → slice_get m.funcs place ≡ Some f → IsTypedWith m (heights (imported_funcs m + place)) f

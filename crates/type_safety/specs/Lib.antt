@@ -2,6 +2,7 @@ pub mod Values
 pub mod Stores
 pub mod Heights
 pub mod Frames
-pub mod Effects
+pub mod Results
 pub mod Configurations
 pub mod Supplies
+pub mod Laws

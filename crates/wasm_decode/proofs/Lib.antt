@@ -1,13 +1,15 @@
-pub mod Answered
-pub mod Begun
-pub mod Drafted
-pub mod Following
-pub mod Joining
-pub mod Looped
-pub mod Repeated
+pub mod DecodeLemmas
+pub mod PreambleLemmas
+pub mod DraftLemmas
+pub mod InstructionLemmas
+pub mod Counts
+pub mod SectionLemmas
+pub mod ItemLemmas
 pub mod Segments
-pub mod Shorter
-pub mod Small
-pub mod Text
-pub mod Whole
-pub mod Zipped
+pub mod RestLengths
+pub mod ByteLemmas
+pub mod NameLemmas
+pub mod ModuleLemmas
+pub mod FuncLemmas
+pub mod OpcodeLemmas
+mod SectionRows

@@ -25,8 +25,8 @@ section_of (read.Code codes) = CodeSection codes
 section_of (read.Data datas) = DataSection datas
 
 -- what is there before any section
-abbrev pub nothing : Draft
-nothing = record {
+abbrev pub empty_draft : Draft
+empty_draft = record {
   types = [];
   imports = [];
   functions = [];
@@ -41,25 +41,25 @@ nothing = record {
   customs = [];
 }
 
--- with a section: a custom one behind the others, any other in its place
-abbrev pub put : grammar.Section → Draft → Draft
-put (CustomSection custom) draft = record draft { customs = draft.customs ++ custom ∷ [] }
-put (TypeSection types) draft = record draft { types = types }
-put (ImportSection imports) draft = record draft { imports = imports }
-put (FunctionSection types) draft = record draft { functions = types }
-put (TableSection tables) draft = record draft { tables = tables }
-put (MemorySection memories) draft = record draft { memories = memories }
-put (GlobalSection globals) draft = record draft { globals = globals }
-put (ExportSection exports) draft = record draft { exports = exports }
-put (StartSection func) draft = record draft { start = Some func }
-put (ElementSection elems) draft = record draft { elems = elems }
-put (CodeSection codes) draft = record draft { codes = codes }
-put (DataSection datas) draft = record draft { datas = datas }
+-- with a section: a custom one after the others, any other in its place
+abbrev pub draft_with : grammar.Section → Draft → Draft
+draft_with (CustomSection custom) draft = record draft { customs = draft.customs ++ custom ∷ [] }
+draft_with (TypeSection types) draft = record draft { types = types }
+draft_with (ImportSection imports) draft = record draft { imports = imports }
+draft_with (FunctionSection types) draft = record draft { functions = types }
+draft_with (TableSection tables) draft = record draft { tables = tables }
+draft_with (MemorySection memories) draft = record draft { memories = memories }
+draft_with (GlobalSection globals) draft = record draft { globals = globals }
+draft_with (ExportSection exports) draft = record draft { exports = exports }
+draft_with (StartSection func) draft = record draft { start = Some func }
+draft_with (ElementSection elems) draft = record draft { elems = elems }
+draft_with (CodeSection codes) draft = record draft { codes = codes }
+draft_with (DataSection datas) draft = record draft { datas = datas }
 
 -- with sections, one after another
-abbrev pub put_all : List grammar.Section → Draft → Draft
-put_all [] draft = draft
-put_all (section ∷ sections) draft = put_all sections (put section draft)
+abbrev pub draft_with_all : List grammar.Section → Draft → Draft
+draft_with_all [] draft = draft
+draft_with_all (section ∷ sections) draft = draft_with_all sections (draft_with section draft)
 
 -- the module of a draft; none where the functions and the code sections differ in number
 abbrev pub module_from : Draft → List Func → Module
@@ -77,9 +77,9 @@ module_from draft funcs = record {
   customs = draft.customs;
 }
 
-abbrev pub finished : Draft → Option Module
-finished draft = option_map (module_from draft) (funcs_of draft.functions draft.codes)
+abbrev pub module_of_draft : Draft → Option Module
+module_of_draft draft = option_map (module_from draft) (funcs_of draft.functions draft.codes)
 
--- with sections that were read, and what is left behind them
-abbrev pub put_read : Draft → List grammar.Section × List ℕ → Draft × List ℕ
-put_read draft read = (put_all read.0 draft, read.1)
+-- with sections that were read, and what is left after them
+abbrev pub draft_with_read : Draft → List grammar.Section × List ℕ → Draft × List ℕ
+draft_with_read draft read = (draft_with_all read.0 draft, read.1)

@@ -1,3 +1,3 @@
-pub mod Decoded
+pub mod DecodeResults
 pub mod Drafts
-pub mod Given
+pub mod ReadResults

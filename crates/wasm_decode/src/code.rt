@@ -2,7 +2,7 @@
 
 ghost use Rattle.std.specs.Prelude.{◌≡◌};
 ghost use Rattle.wasm_syntax.specs.Encoding.Readers.{first_code};
-ghost use Rattle.wasm_decode.specs.Given.{Gives};
+ghost use Rattle.wasm_decode.specs.ReadResults.{Gives};
 
 use crate::expressions::first_expr;
 use crate::locals::first_locals;
@@ -14,7 +14,7 @@ use std::marker::Model;
 use wasm_syntax::{Body, Form, Runs};
 
 /// The locals and the body of a function.
-#[derive(Debug, Drop)]
+#[derive(Drop)]
 pub(crate) struct CodeItem {
     locals: Runs,
     body: Body,

@@ -1,7 +1,7 @@
 // The module under construction.
 
 ghost use Rattle.std.specs.Prelude.{◌≡◌, IfOk};
-ghost use Rattle.wasm_decode.specs.Drafts.{finished, nothing, put, section_of};
+ghost use Rattle.wasm_decode.specs.Drafts.{module_of_draft, empty_draft, draft_with, section_of};
 
 use crate::code::CodeItem;
 use crate::funcs::funcs_of;
@@ -14,7 +14,7 @@ use wasm_syntax::{
 };
 
 /// What the sections that were read so far hold: one list for each kind of section.
-#[derive(Debug, Drop)]
+#[derive(Drop)]
 pub(crate) struct Draft {
     pub(crate) types: FuncTypes,
     pub(crate) imports: Imports,
@@ -33,7 +33,7 @@ pub(crate) struct Draft {
 impl Draft {
     /// What is there before any section. Takes no memory.
     pub(crate) fn new(alloc: Global) -> Draft
-        ensures { result ≡ nothing }
+        ensures { result ≡ empty_draft }
     {
         Draft {
             types: List::new(alloc),
@@ -51,9 +51,9 @@ impl Draft {
         }
     }
 
-    /// With a section: a custom one behind the others, any other in its place, which was empty.
+    /// With a section: a custom one after the others, any other in its place, which was empty.
     pub(crate) fn with(self, section: Section) -> Result<Draft, NoMemory>
-        ensures { IfOk result (λ draft. draft ≡ put (section_of section) self) }
+        ensures { IfOk result (λ draft. draft ≡ draft_with (section_of section) self) }
     {
         match section {
             Section::Custom(custom) => {
@@ -78,10 +78,11 @@ impl Draft {
             Section::Data(datas) => Ok(Draft { datas, ..self }),
         }
     }
+
     /// The module; none where the function and the code section differ in number (Core 1.0,
     /// 5.5.15).
     pub(crate) fn finish(self, alloc: Global) -> Result<Option<Module>, NoMemory>
-        ensures { IfOk result (λ m. m ≡ finished self) }
+        ensures { IfOk result (λ m. m ≡ module_of_draft self) }
     {
         let Some(funcs) = funcs_of(alloc, self.functions, self.codes)? else {
             return Ok(None);

@@ -1,8 +1,8 @@
 // Readers of expressions (Core 1.0, 5.4.6).
 
 ghost use Rattle.std.specs.Prelude.{◌≢◌, [], reverse};
-ghost use Rattle.wasm_syntax.specs.Encoding.Readers.{first_expr, open_behind};
-ghost use Rattle.wasm_decode.specs.Given.{Gives};
+ghost use Rattle.wasm_syntax.specs.Encoding.Readers.{first_expr, open_after};
+ghost use Rattle.wasm_decode.specs.ReadResults.{Gives};
 
 use crate::instructions::first_instr;
 use crate::unread::Unread;
@@ -21,10 +21,10 @@ pub(crate) fn first_expr(alloc: Global, form: Form, bytes: &[u8]) -> Result<(Bod
     let mut rest = bytes;
     // Each instruction takes a byte at least.
     for _ in 0..bytes.len() {
-        let (instr, behind) = first_instr(alloc, form, rest)?;
+        let (instr, after) = first_instr(alloc, form, rest)?;
         follow(&mut open_blocks, &instr)?;
         instrs.push(instr)?;
-        rest = behind;
+        rest = after;
         if open_blocks.is_empty() {
             return Ok((Body::from_vec(instrs), rest));
         }
@@ -32,10 +32,11 @@ pub(crate) fn first_expr(alloc: Global, form: Form, bytes: &[u8]) -> Result<(Bod
     Err(Unread::NotThere)
 }
 
-/// Changes the open blocks to those behind an instruction.
+/// Changes the open blocks to those after an instruction.
 fn follow(open_blocks: &mut Vec<bool>, instr: &Instr) -> Result<(), Unread>
     requires { [] ≢ reverse open_blocks.old.items }
-    ensures { Gives (λ _. reverse open_blocks.new.items) result (open_behind instr.now (reverse open_blocks.old.items)) }
+    ensures { Gives (λ _. reverse open_blocks.new.items) result
+        (open_after instr.now (reverse open_blocks.old.items)) }
 {
     match instr {
         Instr::Block(_) | Instr::Loop(_) => open_blocks.push(false)?,

@@ -1,18 +1,45 @@
 // Readers of instructions (Core 1.0, 5.4).
 
-ghost use Rattle.std.specs.Prelude.{◌≡◌, ◌≤◌, ◌<◌, ◌⊎◌, [], ◌∷◌};
+ghost use Rattle.std.specs.Prelude.{◌≡◌, ◌≤◌, ◌<◌, [], ◌∷◌};
 ghost use Rattle.leb_bytes.specs.Unsigned.{first_u32};
-ghost use Rattle.wasm_syntax.specs.Encoding.Reading.{by_mark, first_exactly, first_then, as_read};
-ghost use Rattle.wasm_syntax.specs.Encoding.Readers.{first_instr, instr_at, const, mem_arg};
-ghost use Rattle.wasm_syntax.specs.declared.forms.Form.TheVariants.{Replay};
-ghost use Rattle.wasm_decode.specs.Given.{Gives};
+ghost use Rattle.wasm_syntax.specs.Encoding.Combinators.{by_mark, first_exactly, first_then, map_read};
+ghost use Rattle.wasm_syntax.specs.Encoding.Readers.{first_indices, first_instr, instr_at, const, mem_arg};
+ghost use Rattle.wasm_syntax.specs.declared.forms.Form.TheVariants.{Core, Replay};
+ghost use Rattle.wasm_syntax.specs.declared.instructions.Instr.TheVariants.{BrTable};
+ghost use Rattle.wasm_decode.specs.ReadResults.{Gives};
+ghost use Rattle.wasm_opcodes.specs.declared.TheConstants.{BR, ELSE, END, F64_CONST, F64_REINTERPRET_I64, GLOBAL_SET, I32_LOAD, LOCAL_GET, MEMORY_SIZE, SELECT, TABLE_SET};
 
 use crate::types::first_block_type;
 use crate::unread::Unread;
 use crate::values::{first_byte, first_f32, first_f64, first_i32, first_i64, first_u32};
 use crate::vectors::first_vector;
 use std::alloc::Global;
+use wasm_opcodes::marks::TYPE_FUNCREF;
+use wasm_opcodes::{
+    BLOCK, BR, BR_IF, BR_TABLE, CALL, CALL_INDIRECT, DROP, ELSE, END, F32_CONST, F64_CONST,
+    F64_REINTERPRET_I64, GLOBAL_GET, GLOBAL_SET, I32_CONST, I32_EQZ, I32_LOAD, I32_STORE,
+    I64_CONST, I64_LOAD32_U, I64_STORE32, IF, LOCAL_GET, LOCAL_SET, LOCAL_TEE, LOOP, MEMORY_GROW,
+    MEMORY_SIZE, NOP, REF_FUNC, REF_NULL, RETURN, SELECT, TABLE_SET, UNREACHABLE,
+};
 use wasm_syntax::{Form, Instr, MemArg, Val, ValType};
+
+// The opcodes between those of `else` and `end`, which no instruction has.
+const AFTER_ELSE: u8 = 0x06;
+
+const BEFORE_END: u8 = 0x0a;
+
+// The opcodes between those of `select` and `local.get`, which no instruction has.
+const AFTER_SELECT: u8 = 0x1c;
+
+const BEFORE_LOCAL_GET: u8 = 0x1f;
+
+// The opcodes between those of `global.set` and `i32.load`: the replay form has one of them.
+const AFTER_GLOBAL_SET: u8 = 0x25;
+
+const BEFORE_I32_LOAD: u8 = 0x27;
+
+/// The byte that ends `call_indirect`, `memory.size` and `memory.grow` (Core 1.0, 5.4.1 and 5.4.4).
+const RESERVED: u8 = 0x00;
 
 /// An instruction; `Else` and `End` are read as such.
 #[tactic(auto, unfolding(wasm_syntax::specs::Encoding::Readers::first_instr))]
@@ -21,131 +48,155 @@ pub(crate) fn first_instr(alloc: Global, form: Form, bytes: &[u8]) -> Result<(In
 {
     let (op, rest) = first_byte(bytes)?;
     match op {
-        0x45..=0xbf => Ok((Instr::Numeric(op), rest)),
-        0x28..=0x35 => {
+        I32_EQZ..=F64_REINTERPRET_I64 => Ok((Instr::Numeric(op), rest)),
+        I32_LOAD..=I64_LOAD32_U => {
             let (access, rest) = mem_arg_of(op, rest)?;
             Ok((Instr::Load(access), rest))
         }
-        0x36..=0x3e => {
+        I32_STORE..=I64_STORE32 => {
             let (access, rest) = mem_arg_of(op, rest)?;
             Ok((Instr::Store(access), rest))
         }
-        0x00..=0x0b => block_instr(form, op, rest),
-        0x0c..=0x1b => control_instr(alloc, form, op, rest),
-        0x20..=0x24 => variable_instr(form, op, rest),
-        0x3f..=0x44 => constant_instr(form, op, rest),
-        0x26 | 0xc0.. if form == Form::Replay => reference_instr(op, rest),
-        _ => Err(Unread::NotThere),
+        UNREACHABLE..=ELSE => block_instr(form, op, rest),
+        AFTER_ELSE..=BEFORE_END => no_block_instr(form, op, rest),
+        END => Ok((Instr::End, rest)),
+        BR..=SELECT => control_instr(alloc, form, op, rest),
+        LOCAL_GET..=GLOBAL_SET => variable_instr(form, op, rest),
+        MEMORY_SIZE..=F64_CONST => constant_instr(form, op, rest),
+        AFTER_SELECT..=BEFORE_LOCAL_GET => no_parametric_instr(form, op, rest),
+        AFTER_GLOBAL_SET..=BEFORE_I32_LOAD => table_instr(form, op, rest),
+        _ => reference_instr(form, op, rest),
     }
+}
+
+/// No instruction has an opcode between those of `select` and `local.get`.
+fn no_parametric_instr(form: Form, op: u8, bytes: &[u8]) -> Result<(Instr, &[u8]), Unread>
+    requires low { SELECT < op }
+    requires high { op < LOCAL_GET }
+    ensures { Gives (λ read. (read.0, read.1.now)) result (by_mark (instr_at form) (op ∷ bytes.now)) }
+{
+    Err(Unread::NotThere)
 }
 
 /// The operand of the load or store of an opcode (Core 1.0, 5.4.4).
 fn mem_arg_of(op: u8, bytes: &[u8]) -> Result<(MemArg, &[u8]), Unread>
     ensures { Gives (λ read. (read.0, read.1.now)) result
-        (as_read (mem_arg op) (first_then first_u32 first_u32) bytes.now) }
+        (map_read (mem_arg op) (first_then first_u32 first_u32) bytes.now) }
 {
     let (align, rest) = first_u32(bytes)?;
     let (offset, rest) = first_u32(rest)?;
     Ok((MemArg { op, align, offset }, rest))
 }
 
-/// The instruction of an opcode up to 0x0b.
+/// No instruction has an opcode between those of `else` and `end`.
+fn no_block_instr(form: Form, op: u8, bytes: &[u8]) -> Result<(Instr, &[u8]), Unread>
+    requires low { ELSE < op }
+    requires high { op < END }
+    ensures { Gives (λ read. (read.0, read.1.now)) result (by_mark (instr_at form) (op ∷ bytes.now)) }
+{
+    Err(Unread::NotThere)
+}
+
+/// The instruction of an opcode up to that of `else`.
 fn block_instr(form: Form, op: u8, bytes: &[u8]) -> Result<(Instr, &[u8]), Unread>
-    requires { op ≤ 0x0b }
+    requires { op ≤ ELSE }
     ensures { Gives (λ read. (read.0, read.1.now)) result (by_mark (instr_at form) (op ∷ bytes.now)) }
 {
     match op {
-        0x00 => Ok((Instr::Unreachable, bytes)),
-        0x01 => Ok((Instr::Nop, bytes)),
-        0x02 => {
+        UNREACHABLE => Ok((Instr::Unreachable, bytes)),
+        NOP => Ok((Instr::Nop, bytes)),
+        BLOCK => {
             let (ty, rest) = first_block_type(bytes)?;
             Ok((Instr::Block(ty), rest))
         }
-        0x03 => {
+        LOOP => {
             let (ty, rest) = first_block_type(bytes)?;
             Ok((Instr::Loop(ty), rest))
         }
-        0x04 => {
+        IF => {
             let (ty, rest) = first_block_type(bytes)?;
             Ok((Instr::If(ty), rest))
         }
-        0x05 => Ok((Instr::Else, bytes)),
-        0x0b => Ok((Instr::End, bytes)),
-        _ => Err(Unread::NotThere),
+        _ => Ok((Instr::Else, bytes)),
     }
 }
 
-/// The instruction of an opcode from 0x0c to 0x1b.
+/// The operands of `br_table`.
 #[tactic(auto, unfolding(wasm_syntax::specs::Encoding::Readers::first_indices))]
+fn br_table_instr(alloc: Global, form: Form, bytes: &[u8]) -> Result<(Instr, &[u8]), Unread>
+    ensures { Gives (λ read. (read.0, read.1.now)) result
+        (map_read (λ labels. BrTable labels.0 labels.1) (first_then first_indices first_u32) bytes.now) }
+{
+    let (labels, rest) = first_vector::<u32>(alloc, form, bytes)?;
+    let (default, rest) = first_u32(rest)?;
+    Ok((Instr::BrTable(labels, default), rest))
+}
+
+/// The instruction of an opcode from that of `br` to that of `select`.
 fn control_instr(alloc: Global, form: Form, op: u8, bytes: &[u8]) -> Result<(Instr, &[u8]), Unread>
-    requires low { 0x0c ≤ op }
-    requires high { op ≤ 0x1b }
+    requires low { BR ≤ op }
+    requires high { op ≤ SELECT }
     ensures { Gives (λ read. (read.0, read.1.now)) result (by_mark (instr_at form) (op ∷ bytes.now)) }
 {
     match op {
-        0x0c => {
+        BR => {
             let (label, rest) = first_u32(bytes)?;
             Ok((Instr::Br(label), rest))
         }
-        0x0d => {
+        BR_IF => {
             let (label, rest) = first_u32(bytes)?;
             Ok((Instr::BrIf(label), rest))
         }
-        0x0e => {
-            let (labels, rest) = first_vector::<u32>(alloc, form, bytes)?;
-            let (default, rest) = first_u32(rest)?;
-            Ok((Instr::BrTable(labels, default), rest))
-        }
-        0x0f => Ok((Instr::Return, bytes)),
-        0x10 => {
+        BR_TABLE => br_table_instr(alloc, form, bytes),
+        RETURN => Ok((Instr::Return, bytes)),
+        CALL => {
             let (func, rest) = first_u32(bytes)?;
             Ok((Instr::Call(func), rest))
         }
-        0x11 => {
+        CALL_INDIRECT => {
             let (ty, rest) = first_u32(bytes)?;
-            Ok((Instr::CallIndirect(ty), behind(0x00, rest)?))
+            Ok((Instr::CallIndirect(ty), rest_after(RESERVED, rest)?))
         }
-        0x1a => Ok((Instr::Drop, bytes)),
-        0x1b => Ok((Instr::Select, bytes)),
+        DROP => Ok((Instr::Drop, bytes)),
+        SELECT => Ok((Instr::Select, bytes)),
         _ => Err(Unread::NotThere),
     }
 }
 
-/// The instruction of an opcode from 0x20 to 0x24.
+/// The instruction of an opcode from that of `local.get` to that of `global.set`.
 fn variable_instr(form: Form, op: u8, bytes: &[u8]) -> Result<(Instr, &[u8]), Unread>
-    requires low { 0x20 ≤ op }
-    requires high { op ≤ 0x24 }
+    requires low { LOCAL_GET ≤ op }
+    requires high { op ≤ GLOBAL_SET }
     ensures { Gives (λ read. (read.0, read.1.now)) result (by_mark (instr_at form) (op ∷ bytes.now)) }
 {
     let (index, rest) = first_u32(bytes)?;
-    let instr = match op {
-        0x20 => Instr::LocalGet(index),
-        0x21 => Instr::LocalSet(index),
-        0x22 => Instr::LocalTee(index),
-        0x23 => Instr::GlobalGet(index),
-        _ => Instr::GlobalSet(index),
-    };
-    Ok((instr, rest))
+    match op {
+        LOCAL_GET => Ok((Instr::LocalGet(index), rest)),
+        LOCAL_SET => Ok((Instr::LocalSet(index), rest)),
+        LOCAL_TEE => Ok((Instr::LocalTee(index), rest)),
+        GLOBAL_GET => Ok((Instr::GlobalGet(index), rest)),
+        _ => Ok((Instr::GlobalSet(index), rest)),
+    }
 }
 
-/// The instruction of an opcode from 0x3f to 0x44.
+/// The instruction of an opcode from that of `memory.size` to that of `f64.const`.
 fn constant_instr(form: Form, op: u8, bytes: &[u8]) -> Result<(Instr, &[u8]), Unread>
-    requires low { 0x3f ≤ op }
-    requires high { op ≤ 0x44 }
+    requires low { MEMORY_SIZE ≤ op }
+    requires high { op ≤ F64_CONST }
     ensures { Gives (λ read. (read.0, read.1.now)) result (by_mark (instr_at form) (op ∷ bytes.now)) }
 {
     match op {
-        0x3f => Ok((Instr::MemorySize, behind(0x00, bytes)?)),
-        0x40 => Ok((Instr::MemoryGrow, behind(0x00, bytes)?)),
-        0x41 => {
+        MEMORY_SIZE => Ok((Instr::MemorySize, rest_after(RESERVED, bytes)?)),
+        MEMORY_GROW => Ok((Instr::MemoryGrow, rest_after(RESERVED, bytes)?)),
+        I32_CONST => {
             let (bits, rest) = first_i32(bytes)?;
             Ok((constant(ValType::I32, u64::from(bits)), rest))
         }
-        0x42 => {
+        I64_CONST => {
             let (bits, rest) = first_i64(bytes)?;
             Ok((constant(ValType::I64, bits), rest))
         }
-        0x43 => {
+        F32_CONST => {
             let (bits, rest) = first_f32(bytes)?;
             Ok((constant(ValType::F32, u64::from(bits)), rest))
         }
@@ -156,18 +207,59 @@ fn constant_instr(form: Form, op: u8, bytes: &[u8]) -> Result<(Instr, &[u8]), Un
     }
 }
 
-/// The instruction of an opcode that the replay form alone has.
-fn reference_instr(op: u8, bytes: &[u8]) -> Result<(Instr, &[u8]), Unread>
-    requires { (op ≡ 0x26) ⊎ (0xbf < op) }
-    ensures { Gives (λ read. (read.0, read.1.now)) result (by_mark (instr_at Replay) (op ∷ bytes.now)) }
+/// The instruction of an opcode between those of `global.set` and `i32.load`: `table.set` alone.
+fn table_instr(form: Form, op: u8, bytes: &[u8]) -> Result<(Instr, &[u8]), Unread>
+    requires low { GLOBAL_SET < op }
+    requires high { op < I32_LOAD }
+    ensures { Gives (λ read. (read.0, read.1.now)) result (by_mark (instr_at form) (op ∷ bytes.now)) }
 {
-    match op {
-        0x26 => {
+    if op == TABLE_SET {
+        return table_set_instr(form, bytes);
+    }
+    Err(Unread::NotThere)
+}
+
+/// The instruction of the opcode of `table.set`, which the replay form alone has.
+fn table_set_instr(form: Form, bytes: &[u8]) -> Result<(Instr, &[u8]), Unread>
+    ensures { Gives (λ read. (read.0, read.1.now)) result
+        (by_mark (instr_at form) (TABLE_SET ∷ bytes.now)) }
+{
+    match form {
+        Form::Core => Err(Unread::NotThere),
+        Form::Replay => {
             let (table, rest) = first_u32(bytes)?;
             Ok((Instr::TableSet(table), rest))
         }
-        0xd0 => Ok((Instr::RefNull, behind(0x70, bytes)?)),
-        0xd2 => {
+    }
+}
+
+/// The instruction of an opcode after those of the numeric instructions: the replay form alone has some.
+fn reference_instr(form: Form, op: u8, bytes: &[u8]) -> Result<(Instr, &[u8]), Unread>
+    requires { F64_REINTERPRET_I64 < op }
+    ensures { Gives (λ read. (read.0, read.1.now)) result (by_mark (instr_at form) (op ∷ bytes.now)) }
+{
+    match form {
+        Form::Core => no_core_instr(op, bytes),
+        Form::Replay => replay_reference_instr(op, bytes),
+    }
+}
+
+/// The core form has no instruction after the numeric ones.
+fn no_core_instr(op: u8, bytes: &[u8]) -> Result<(Instr, &[u8]), Unread>
+    requires { F64_REINTERPRET_I64 < op }
+    ensures { Gives (λ read. (read.0, read.1.now)) result (by_mark (instr_at Core) (op ∷ bytes.now)) }
+{
+    Err(Unread::NotThere)
+}
+
+/// The instruction of an opcode after those of the numeric instructions, in the replay form.
+fn replay_reference_instr(op: u8, bytes: &[u8]) -> Result<(Instr, &[u8]), Unread>
+    requires { F64_REINTERPRET_I64 < op }
+    ensures { Gives (λ read. (read.0, read.1.now)) result (by_mark (instr_at Replay) (op ∷ bytes.now)) }
+{
+    match op {
+        REF_NULL => Ok((Instr::RefNull, rest_after(TYPE_FUNCREF, bytes)?)),
+        REF_FUNC => {
             let (func, rest) = first_u32(bytes)?;
             Ok((Instr::RefFunc(func), rest))
         }
@@ -182,8 +274,8 @@ fn constant(ty: ValType, bits: u64) -> Instr
     Instr::Const(Val { ty, bits })
 }
 
-/// The bytes behind just this one.
-fn behind(byte: u8, bytes: &[u8]) -> Result<&[u8], Unread>
+/// What comes after this byte, where it comes first.
+fn rest_after(byte: u8, bytes: &[u8]) -> Result<&[u8], Unread>
     ensures { Gives (λ rest. (tt, rest.now)) result (first_exactly (byte ∷ []) bytes.now) }
 {
     let (found, rest) = first_byte(bytes)?;

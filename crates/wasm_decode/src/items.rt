@@ -1,11 +1,12 @@
 // Readers of the items of sections (Core 1.0, 5.5).
 
 ghost use Rattle.std.specs.Prelude.{[], ◌∷◌};
-ghost use Rattle.wasm_syntax.specs.Encoding.Reading.{as_read, by_mark, first_sized, first_then, row_at};
+ghost use Rattle.wasm_syntax.specs.Encoding.Combinators.{map_read, by_mark, first_sized, first_then, row_at};
 ghost use Rattle.wasm_syntax.specs.Encoding.Readers.{first_indices, first_import_kind, first_import, first_global, first_export_kind, first_export, first_expr, active_of, first_elem, first_data};
 ghost use Rattle.wasm_syntax.specs.declared.modules.ElemSeg.TheVariants.{Declared};
 ghost use Rattle.wasm_syntax.specs.Encoding.ReadModules.{custom_of};
-ghost use Rattle.wasm_decode.specs.Given.{Gives};
+ghost use Rattle.wasm_decode.specs.ReadResults.{Gives};
+ghost use Rattle.wasm_opcodes.specs.declared.marks.TheConstants.{ELEMENT_FUNCS};
 
 use crate::expressions::first_expr;
 use crate::types::{first_global_type, first_limits, first_table_type};
@@ -13,9 +14,16 @@ use crate::unread::Unread;
 use crate::values::{copy_of, first_byte, first_bytes, first_name, first_sized, first_u32};
 use crate::vectors::{Kind, first_vector};
 use std::alloc::Global;
+use wasm_opcodes::marks::{
+    ELEMENT_DECLARED, ELEMENT_FUNCS, EXTERNAL_FUNC, EXTERNAL_GLOBAL, EXTERNAL_MEMORY,
+    EXTERNAL_TABLE,
+};
 use wasm_syntax::{
     Custom, DataSeg, ElemSeg, Export, ExportKind, Form, Global as GlobalItem, Import, ImportKind,
 };
+
+/// The number that a declared segment begins with, in place of its table.
+const DECLARED: u32 = ELEMENT_DECLARED as u32;
 
 /// What an import brings in (Core 1.0, 5.5.5).
 #[tactic(auto, unfolding(wasm_syntax::specs::Encoding::Readers::first_import_kind))]
@@ -24,19 +32,19 @@ pub(crate) fn first_import_kind(bytes: &[u8]) -> Result<(ImportKind, &[u8]), Unr
 {
     let (mark, rest) = first_byte(bytes)?;
     match mark {
-        0x00 => {
+        EXTERNAL_FUNC => {
             let (ty, rest) = first_u32(rest)?;
             Ok((ImportKind::Func(ty), rest))
         }
-        0x01 => {
+        EXTERNAL_TABLE => {
             let (limits, rest) = first_table_type(rest)?;
             Ok((ImportKind::Table(limits), rest))
         }
-        0x02 => {
+        EXTERNAL_MEMORY => {
             let (limits, rest) = first_limits(rest)?;
             Ok((ImportKind::Memory(limits), rest))
         }
-        0x03 => {
+        EXTERNAL_GLOBAL => {
             let (ty, rest) = first_global_type(rest)?;
             Ok((ImportKind::Global(ty), rest))
         }
@@ -75,14 +83,14 @@ pub(crate) fn first_export_kind(bytes: &[u8]) -> Result<(ExportKind, &[u8]), Unr
     ensures { Gives (λ read. (read.0, read.1.now)) result (first_export_kind bytes.now) }
 {
     let (mark, rest) = first_byte(bytes)?;
-    if mark > 0x03 {
+    if mark > EXTERNAL_GLOBAL {
         return Err(Unread::NotThere);
     }
     let (index, rest) = first_u32(rest)?;
     let kind = match mark {
-        0x00 => ExportKind::Func(index),
-        0x01 => ExportKind::Table(index),
-        0x02 => ExportKind::Memory(index),
+        EXTERNAL_FUNC => ExportKind::Func(index),
+        EXTERNAL_TABLE => ExportKind::Table(index),
+        EXTERNAL_MEMORY => ExportKind::Memory(index),
         _ => ExportKind::Global(index),
     };
     Ok((kind, rest))
@@ -111,7 +119,7 @@ pub(crate) fn first_elem(
     let (kind, rest) = first_u32(bytes)?;
     match (form, kind) {
         (Form::Core, _) | (Form::Replay, 0) => active_elem(alloc, form, kind, rest),
-        (Form::Replay, 3) => declared_elem(alloc, form, rest),
+        (Form::Replay, DECLARED) => declared_elem(alloc, form, rest),
         (Form::Replay, _) => Err(Unread::NotThere),
     }
 }
@@ -125,7 +133,7 @@ fn active_elem(
     bytes: &[u8],
 ) -> Result<(ElemSeg, &[u8]), Unread>
     ensures { Gives (λ read. (read.0, read.1.now)) result
-        (as_read (active_of table) (first_then (first_expr form) first_indices) bytes.now) }
+        (map_read (active_of table) (first_then (first_expr form) first_indices) bytes.now) }
 {
     let (offset, rest) = first_expr(alloc, form, bytes)?;
     let (funcs, rest) = first_vector::<u32>(alloc, form, rest)?;
@@ -139,14 +147,14 @@ fn active_elem(
     ))
 }
 
-/// The functions of a declared segment, behind the kind of their references.
+/// The functions of a declared segment, after the kind of their references.
 #[tactic(auto, unfolding(wasm_syntax::specs::Encoding::Readers::first_indices))]
 fn declared_elem(alloc: Global, form: Form, bytes: &[u8]) -> Result<(ElemSeg, &[u8]), Unread>
     ensures { Gives (λ read. (read.0, read.1.now)) result
-        (by_mark (row_at ((0x00, as_read Declared first_indices) ∷ [])) bytes.now) }
+        (by_mark (row_at ((ELEMENT_FUNCS, map_read Declared first_indices) ∷ [])) bytes.now) }
 {
     let (mark, rest) = first_byte(bytes)?;
-    if mark != 0x00 {
+    if mark != ELEMENT_FUNCS {
         return Err(Unread::NotThere);
     }
     let (funcs, rest) = first_vector::<u32>(alloc, form, rest)?;

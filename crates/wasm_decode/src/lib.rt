@@ -11,6 +11,7 @@ mod locals;
 mod modules;
 #[cfg(test)]
 mod reader_tests;
+mod section_contents;
 mod sections;
 #[cfg(test)]
 mod tests;

@@ -3,7 +3,7 @@
 ghost use Rattle.std.specs.Prelude.{◌≡◌, ◌+◌, ◌<◌, ◌≤◌, ◌^◌, List, ◌∷◌, ◌++◌, sum_by, nat_lt, IfOk};
 ghost use Rattle.wasm_syntax.specs.Encoding.Readers.{first_run, first_locals, runs_of};
 ghost use Rattle.wasm_syntax.specs.declared.modules.Run.{Run};
-ghost use Rattle.wasm_decode.specs.Given.{Gives};
+ghost use Rattle.wasm_decode.specs.ReadResults.{Gives};
 
 use crate::types::first_val_type;
 use crate::unread::Unread;
@@ -81,7 +81,7 @@ fn runs_of(alloc: Global, written: &[Run]) -> Result<Runs, NoMemory>
 }
 
 /// The run that may still grow once another one comes; where that one can't be joined, the last one
-/// is put behind the runs.
+/// is put after the runs.
 fn joined(runs: &mut Vec<Run>, last: Run, run: Run) -> Result<Run, NoMemory>
     requires { last.count + run.count < 2 ^ 32 }
     ensures same { IfOk result (λ next. (rest : List Run) →

@@ -6,12 +6,14 @@ ghost use Rattle.wasm_syntax.specs.Encoding.Modules.{Encodes};
 ghost use Rattle.wasm_syntax.specs.Encoding.ReadModules.{lawful_sections};
 ghost use Rattle.wasm_syntax.specs.declared.forms.Form.TheVariants.{Core};
 ghost use Rattle.wasm_syntax.specs.declared.modules.Module.{Module};
-ghost use Rattle.wasm_decode.specs.Decoded.{IsRead, IsFaultOf};
-ghost use Rattle.wasm_decode.specs.Drafts.{nothing, put_read};
+ghost use Rattle.encoding_sizes.specs.Within.{HasListsWithin};
+ghost use Rattle.wasm_decode.specs.DecodeResults.{IsRead, IsFaultOf};
+ghost use Rattle.wasm_decode.specs.Drafts.{empty_draft, draft_with_read};
 ghost use Rattle.wasm_decode.specs.declared.modules.DecodeFault.TheVariants.{Memory as DecodeMemory};
 
 use crate::draft::Draft;
 use crate::sections::next_section;
+use encoding_sizes::lists_of_encoding;
 use no_memory::NoMemory;
 use std::alloc::Global;
 use thiserror::Error;
@@ -42,22 +44,33 @@ const PREAMBLE: [u8; 8] = [0x00, 0x61, 0x73, 0x6d, 0x01, 0x00, 0x00, 0x00];
 
 /// Decodes a module: all of the bytes, by the binary format of Core 1.0 (section 5), or by that of
 /// replay binaries, which has a few forms of Core 2.0 besides.
+///
+/// # Errors
+///
+/// `Malformed` where the bytes encode no module of the form, and there alone, with the place of the
+/// fault; `Memory` where memory runs out.
 pub fn decode(alloc: Global, bytes: &[u8], form: Form) -> Result<Module, DecodeFault>
     // What is decoded is encoded by the bytes.
     ensures found { IfOk result (λ m. Encodes form bytes.now m) }
     // What the bytes encode is decoded, unless memory runs out.
-    ensures only { (m : Module) → Encodes form bytes.now m → (result ≡ Ok m) ⊎ (result ≡ Err DecodeFault.Memory) }
+    ensures only { (m : Module) → Encodes form bytes.now m
+        → (result ≡ Ok m) ⊎ (result ≡ Err DecodeFault.Memory) }
     // Where they are malformed, they encode no module of the form, and `at` is the place of the fault.
     ensures fault { IfErr result (λ fault. IsFaultOf form bytes.now fault) }
     // What is decoded in the form Core is of it.
     ensures core { IfOk result (λ m. form ≡ Core → IsCoreModule m) }
     // Data segments hold bytes.
     ensures bytes { IfOk result (λ m. All (λ segment. All (λ byte. byte < 256) segment.bytes) m.datas) }
+    // No list of it is longer than the bytes.
+    ensures within { IfOk result (λ m. HasListsWithin (length bytes.now) m) }
 {
+    // What the plain program of the grammar and of the place of a fault answers, and what holds of
+    // each module that bytes encode.
     module_encoding();
     fault_places();
     shortest_encoding();
     encoding_forms();
+    lists_of_encoding();
     read(alloc, bytes, form)
 }
 
@@ -65,10 +78,10 @@ pub fn decode(alloc: Global, bytes: &[u8], form: Form) -> Result<Module, DecodeF
 fn read(alloc: Global, bytes: &[u8], form: Form) -> Result<Module, DecodeFault>
     ensures { IsRead form bytes.now result }
 {
-    let Some(behind) = bytes.strip_prefix(&PREAMBLE) else {
+    let Some(after) = bytes.strip_prefix(&PREAMBLE) else {
         return Err(DecodeFault::Malformed { at: 0 });
     };
-    let (draft, rest) = lawful_sections(alloc, form, behind)?;
+    let (draft, rest) = lawful_sections(alloc, form, after)?;
     let at = (bytes.len() - rest.len()) as u64;
     if !rest.is_empty() {
         return Err(DecodeFault::Malformed { at });
@@ -79,20 +92,20 @@ fn read(alloc: Global, bytes: &[u8], form: Form) -> Result<Module, DecodeFault>
     }
 }
 
-/// The sections behind the preamble, as long as they are whole and in lawful order, put into a
+/// The sections after the preamble, as long as they are whole and in lawful order, put into a
 /// draft; and the bytes that are left.
 fn lawful_sections(alloc: Global, form: Form, bytes: &[u8]) -> Result<(Draft, &[u8]), NoMemory>
     ensures read { IfOk result (λ it. (most : ℕ) → length bytes.now ≤ most
-        → (it.0, it.1.now) ≡ put_read nothing (lawful_sections form most 0 bytes.now)) }
+        → (it.0, it.1.now) ≡ draft_with_read empty_draft (lawful_sections form most 0 bytes.now)) }
     ensures shorter { IfOk result (λ it. length it.1.now ≤ length bytes.now) }
 {
     let mut draft = Draft::new(alloc);
     let mut last = 0;
     let mut rest = bytes;
-    while let Some((section, id, behind)) = next_section(alloc, form, last, rest)? {
+    while let Some((section, id, after)) = next_section(alloc, form, last, rest)? {
         draft = draft.with(section)?;
         last = id;
-        rest = behind;
+        rest = after;
     }
     Ok((draft, rest))
 }

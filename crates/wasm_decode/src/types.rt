@@ -1,25 +1,29 @@
 // Readers of types (Core 1.0, 5.3).
 
 ghost use Rattle.wasm_syntax.specs.Encoding.Readers.{first_val_type, first_block_type, first_func_type, first_limits, first_table_type, first_mutability, first_global_type};
-ghost use Rattle.wasm_decode.specs.Given.{Gives};
+ghost use Rattle.wasm_decode.specs.ReadResults.{Gives};
 
 use crate::unread::Unread;
 use crate::values::{first_byte, first_u32};
 use crate::vectors::{Kind, first_vector};
 use std::alloc::Global;
+use wasm_opcodes::marks::{
+    LIMITS_MIN, LIMITS_MIN_MAX, MUTABILITY_CONST, MUTABILITY_VAR, TYPE_EMPTY, TYPE_F32, TYPE_F64,
+    TYPE_FUNC, TYPE_FUNCREF, TYPE_I32, TYPE_I64,
+};
 use wasm_syntax::{Form, FuncType, GlobalType, Limits, ValType};
 
-/// A value type.
+/// A value type (Core 1.0, 5.3.1).
 #[tactic(auto, unfolding(wasm_syntax::specs::Encoding::Readers::first_val_type))]
 pub(crate) fn first_val_type(bytes: &[u8]) -> Result<(ValType, &[u8]), Unread>
     ensures { Gives (λ read. (read.0, read.1.now)) result (first_val_type bytes.now) }
 {
     let (mark, rest) = first_byte(bytes)?;
     match mark {
-        0x7f => Ok((ValType::I32, rest)),
-        0x7e => Ok((ValType::I64, rest)),
-        0x7d => Ok((ValType::F32, rest)),
-        0x7c => Ok((ValType::F64, rest)),
+        TYPE_I32 => Ok((ValType::I32, rest)),
+        TYPE_I64 => Ok((ValType::I64, rest)),
+        TYPE_F32 => Ok((ValType::F32, rest)),
+        TYPE_F64 => Ok((ValType::F64, rest)),
         _ => Err(Unread::NotThere),
     }
 }
@@ -31,16 +35,16 @@ pub(crate) fn first_block_type(bytes: &[u8]) -> Result<(Option<ValType>, &[u8]),
 {
     let (mark, rest) = first_byte(bytes)?;
     match mark {
-        0x40 => Ok((None, rest)),
-        0x7f => Ok((Some(ValType::I32), rest)),
-        0x7e => Ok((Some(ValType::I64), rest)),
-        0x7d => Ok((Some(ValType::F32), rest)),
-        0x7c => Ok((Some(ValType::F64), rest)),
+        TYPE_EMPTY => Ok((None, rest)),
+        TYPE_I32 => Ok((Some(ValType::I32), rest)),
+        TYPE_I64 => Ok((Some(ValType::I64), rest)),
+        TYPE_F32 => Ok((Some(ValType::F32), rest)),
+        TYPE_F64 => Ok((Some(ValType::F64), rest)),
         _ => Err(Unread::NotThere),
     }
 }
 
-/// A function type.
+/// A function type (Core 1.0, 5.3.3).
 #[tactic(auto, unfolding(wasm_syntax::specs::Encoding::Readers::first_func_type))]
 pub(crate) fn first_func_type(
     alloc: Global,
@@ -50,7 +54,7 @@ pub(crate) fn first_func_type(
     ensures { Gives (λ read. (read.0, read.1.now)) result (first_func_type bytes.now) }
 {
     let (mark, rest) = first_byte(bytes)?;
-    if mark != 0x60 {
+    if mark != TYPE_FUNC {
         return Err(Unread::NotThere);
     }
     let (params, rest) = first_vector::<ValType>(alloc, form, rest)?;
@@ -58,18 +62,18 @@ pub(crate) fn first_func_type(
     Ok((FuncType { params, results }, rest))
 }
 
-/// Limits.
+/// Limits (Core 1.0, 5.3.4).
 #[tactic(auto, unfolding(wasm_syntax::specs::Encoding::Readers::first_limits))]
 pub(crate) fn first_limits(bytes: &[u8]) -> Result<(Limits, &[u8]), Unread>
     ensures { Gives (λ read. (read.0, read.1.now)) result (first_limits bytes.now) }
 {
     let (mark, rest) = first_byte(bytes)?;
     match mark {
-        0x00 => {
+        LIMITS_MIN => {
             let (min, rest) = first_u32(rest)?;
             Ok((Limits { min, max: None }, rest))
         }
-        0x01 => {
+        LIMITS_MIN_MAX => {
             let (min, rest) = first_u32(rest)?;
             let (max, rest) = first_u32(rest)?;
             Ok((
@@ -84,32 +88,32 @@ pub(crate) fn first_limits(bytes: &[u8]) -> Result<(Limits, &[u8]), Unread>
     }
 }
 
-/// A table type.
+/// A table type (Core 1.0, 5.3.6).
 #[tactic(auto, unfolding(wasm_syntax::specs::Encoding::Readers::first_table_type))]
 pub(crate) fn first_table_type(bytes: &[u8]) -> Result<(Limits, &[u8]), Unread>
     ensures { Gives (λ read. (read.0, read.1.now)) result (first_table_type bytes.now) }
 {
     let (mark, rest) = first_byte(bytes)?;
-    if mark != 0x70 {
+    if mark != TYPE_FUNCREF {
         return Err(Unread::NotThere);
     }
     first_limits(rest)
 }
 
-/// Whether a global is mutable.
+/// Whether a global is mutable (Core 1.0, 5.3.7).
 #[tactic(auto, unfolding(wasm_syntax::specs::Encoding::Readers::first_mutability))]
 pub(crate) fn first_mutability(bytes: &[u8]) -> Result<(bool, &[u8]), Unread>
     ensures { Gives (λ read. (read.0, read.1.now)) result (first_mutability bytes.now) }
 {
     let (mark, rest) = first_byte(bytes)?;
     match mark {
-        0x00 => Ok((false, rest)),
-        0x01 => Ok((true, rest)),
+        MUTABILITY_CONST => Ok((false, rest)),
+        MUTABILITY_VAR => Ok((true, rest)),
         _ => Err(Unread::NotThere),
     }
 }
 
-/// A global type.
+/// A global type (Core 1.0, 5.3.7).
 #[tactic(auto, unfolding(wasm_syntax::specs::Encoding::Readers::first_global_type))]
 pub(crate) fn first_global_type(bytes: &[u8]) -> Result<(GlobalType, &[u8]), Unread>
     ensures { Gives (λ read. (read.0, read.1.now)) result (first_global_type bytes.now) }

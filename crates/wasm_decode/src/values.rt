@@ -1,12 +1,12 @@
 // Readers of values, bytes and names (Core 1.0, 5.2). Each takes the bytes that are left, and gives
-// what a front of them encodes with the bytes behind it.
+// what a front of them encodes with the bytes after it.
 
 ghost use Rattle.std.specs.Prelude.{◌≡◌, [], ◌∷◌, Some, IfOk, MatchResult};
 ghost use Rattle.leb_bytes.specs.Unsigned.{first_u32};
 ghost use Rattle.leb_bytes.specs.Signed.{first_i32, first_i64};
-ghost use Rattle.wasm_syntax.specs.Encoding.Reading.{first_sized};
+ghost use Rattle.wasm_syntax.specs.Encoding.Combinators.{first_sized};
 ghost use Rattle.wasm_syntax.specs.Encoding.Readers.{first_f32, first_f64, first_bytes, first_name, first_raw};
-ghost use Rattle.wasm_decode.specs.Given.{Gives};
+ghost use Rattle.wasm_decode.specs.ReadResults.{Gives};
 ghost use Rattle.wasm_decode.specs.declared.unread.Unread.TheVariants.{NotThere};
 
 use crate::unread::Unread;
@@ -28,7 +28,7 @@ pub(crate) fn first_byte(bytes: &[u8]) -> Result<(u8, &[u8]), Unread>
     }
 }
 
-/// So many bytes as they are.
+/// A given number of bytes as they are.
 pub(crate) fn first_raw(count: usize, bytes: &[u8]) -> Result<(&[u8], &[u8]), Unread>
     ensures { Gives (λ read. (read.0.now, read.1.now)) result (first_raw count bytes.now) }
 {

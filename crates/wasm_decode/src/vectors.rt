@@ -1,8 +1,8 @@
 // Vectors (Core 1.0, 5.1.3), and content of a size.
 
 ghost use Rattle.leb_bytes.specs.Unsigned as unsigned;
-ghost use Rattle.wasm_syntax.specs.Encoding.Reading.{first_vector, first_sized, whole};
-ghost use Rattle.wasm_decode.specs.Given.{Gives};
+ghost use Rattle.wasm_syntax.specs.Encoding.Combinators.{first_vector, first_sized, whole};
+ghost use Rattle.wasm_decode.specs.ReadResults.{Gives};
 
 use crate::unread::Unread;
 use crate::values::{first_sized, first_u32};
@@ -46,9 +46,9 @@ pub(crate) fn first_vector<K: Kind>(
     let (count, mut rest) = first_u32(bytes)?;
     let mut items = Vec::new(alloc);
     for _ in 0..count {
-        let (item, behind) = K::first(alloc, form, rest)?;
+        let (item, after) = K::first(alloc, form, rest)?;
         items.push(item)?;
-        rest = behind;
+        rest = after;
     }
     Ok((List::from_vec(items), rest))
 }

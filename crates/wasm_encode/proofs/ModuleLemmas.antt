@@ -5,6 +5,7 @@ use Rattle.std.proofs.lemmas.Grind.{flat_map-append}
 use Rattle.std.proofs.lemmas.List.{length-append, length-map}
 use Rattle.std.proofs.lemmas.List.Folds.{flat_map-map}
 use Rattle.leb_bytes.specs.Unsigned.{u32_bytes}
+use Rattle.wasm_opcodes.specs.declared.marks.TheConstants.{SECTION_TYPE, SECTION_IMPORT, SECTION_FUNCTION, SECTION_TABLE, SECTION_MEMORY, SECTION_GLOBAL, SECTION_EXPORT, SECTION_ELEMENT, SECTION_CODE, SECTION_DATA}
 use Rattle.wasm_encode.specs.Parts.{declarations_of, definitions_of}
 use Rattle.wasm_encode.specs.Vectors.{start_section, vector_section}
 use Rattle.wasm_syntax.specs.Encoding.Modules.{code_of, preamble}
@@ -20,7 +21,7 @@ use Rattle.wasm_syntax.specs.declared.modules.Module.{Module}
 use Rattle.wasm_syntax.specs.declared.signatures.FuncType.{FuncType}
 use Rattle.wasm_syntax.specs.declared.signatures.Limits.{Limits}
 
--- the bytes of sections, one behind another
+-- the bytes of sections, one after another
 abbrev all_bytes : List Section → List ℕ
 all_bytes = flat_map section_bytes
 
@@ -45,50 +46,66 @@ unfolding section_bytes content_bytes
 start_listed None = refl
 start_listed (Some func) = append-nil (section_bytes (StartSection func))
 
-types_listed : (xs : List FuncType) → all_bytes (unless_empty TypeSection xs) ≡ vector_section 1 func_type_bytes xs
+types_listed : (xs : List FuncType)
+    → all_bytes (unless_empty TypeSection xs) ≡ vector_section SECTION_TYPE func_type_bytes xs
 unfolding section_bytes content_bytes
-types_listed = listed TypeSection 1 func_type_bytes (λ xs. refl)
+types_listed = listed TypeSection SECTION_TYPE func_type_bytes (λ xs. refl)
 
-imports_listed : (xs : List Import) → all_bytes (unless_empty ImportSection xs) ≡ vector_section 2 import_bytes xs
+imports_listed : (xs : List Import)
+    → all_bytes (unless_empty ImportSection xs) ≡ vector_section SECTION_IMPORT import_bytes xs
 unfolding section_bytes content_bytes
-imports_listed = listed ImportSection 2 import_bytes (λ xs. refl)
+imports_listed = listed ImportSection SECTION_IMPORT import_bytes (λ xs. refl)
 
-functions_listed : (xs : List Func) → all_bytes (unless_empty FunctionSection (map (λ func. func.ty) xs)) ≡ vector_section 3 (λ func. u32_bytes func.ty) xs
+functions_listed : (xs : List Func)
+    → all_bytes (unless_empty FunctionSection (map (λ func. func.ty) xs))
+    ≡ vector_section SECTION_FUNCTION (λ func. u32_bytes func.ty) xs
 unfolding section_bytes content_bytes
 functions_listed xs =
-    listed FunctionSection 3 u32_bytes (λ ys. refl) (map (λ func. func.ty) xs) ∙ of_parts 3 u32_bytes (λ (func : Func). func.ty) xs
+    listed FunctionSection SECTION_FUNCTION u32_bytes (λ ys. refl) (map (λ func. func.ty) xs)
+    ∙ of_parts SECTION_FUNCTION u32_bytes (λ (func : Func). func.ty) xs
 
-tables_listed : (xs : List Limits) → all_bytes (unless_empty TableSection xs) ≡ vector_section 4 table_type_bytes xs
+tables_listed : (xs : List Limits)
+    → all_bytes (unless_empty TableSection xs) ≡ vector_section SECTION_TABLE table_type_bytes xs
 unfolding section_bytes content_bytes
-tables_listed = listed TableSection 4 table_type_bytes (λ xs. refl)
+tables_listed = listed TableSection SECTION_TABLE table_type_bytes (λ xs. refl)
 
-memories_listed : (xs : List Limits) → all_bytes (unless_empty MemorySection xs) ≡ vector_section 5 limits_bytes xs
+memories_listed : (xs : List Limits)
+    → all_bytes (unless_empty MemorySection xs) ≡ vector_section SECTION_MEMORY limits_bytes xs
 unfolding section_bytes content_bytes
-memories_listed = listed MemorySection 5 limits_bytes (λ xs. refl)
+memories_listed = listed MemorySection SECTION_MEMORY limits_bytes (λ xs. refl)
 
-globals_listed : (xs : List Global) → all_bytes (unless_empty GlobalSection xs) ≡ vector_section 6 global_bytes xs
+globals_listed : (xs : List Global)
+    → all_bytes (unless_empty GlobalSection xs) ≡ vector_section SECTION_GLOBAL global_bytes xs
 unfolding section_bytes content_bytes
-globals_listed = listed GlobalSection 6 global_bytes (λ xs. refl)
+globals_listed = listed GlobalSection SECTION_GLOBAL global_bytes (λ xs. refl)
 
-exports_listed : (xs : List Export) → all_bytes (unless_empty ExportSection xs) ≡ vector_section 7 export_bytes xs
+exports_listed : (xs : List Export)
+    → all_bytes (unless_empty ExportSection xs) ≡ vector_section SECTION_EXPORT export_bytes xs
 unfolding section_bytes content_bytes
-exports_listed = listed ExportSection 7 export_bytes (λ xs. refl)
+exports_listed = listed ExportSection SECTION_EXPORT export_bytes (λ xs. refl)
 
-elems_listed : (xs : List ElemSeg) → all_bytes (unless_empty ElementSection xs) ≡ vector_section 9 elem_bytes xs
+elems_listed : (xs : List ElemSeg)
+    → all_bytes (unless_empty ElementSection xs) ≡ vector_section SECTION_ELEMENT elem_bytes xs
 unfolding section_bytes content_bytes
-elems_listed = listed ElementSection 9 elem_bytes (λ xs. refl)
+elems_listed = listed ElementSection SECTION_ELEMENT elem_bytes (λ xs. refl)
 
-codes_listed : (xs : List Func) → all_bytes (unless_empty CodeSection (map code_of xs)) ≡ vector_section 10 (λ func. code_bytes (code_of func)) xs
+codes_listed : (xs : List Func)
+    → all_bytes (unless_empty CodeSection (map code_of xs))
+    ≡ vector_section SECTION_CODE (λ func. code_bytes (code_of func)) xs
 unfolding section_bytes content_bytes
-codes_listed xs = listed CodeSection 10 code_bytes (λ ys. refl) (map code_of xs) ∙ of_parts 10 code_bytes code_of xs
+codes_listed xs =
+    listed CodeSection SECTION_CODE code_bytes (λ ys. refl) (map code_of xs)
+    ∙ of_parts SECTION_CODE code_bytes code_of xs
 
-datas_listed : (xs : List DataSeg) → all_bytes (unless_empty DataSection xs) ≡ vector_section 11 data_bytes xs
+datas_listed : (xs : List DataSeg) → all_bytes (unless_empty DataSection xs) ≡ vector_section SECTION_DATA data_bytes xs
 unfolding section_bytes content_bytes
-datas_listed = listed DataSection 11 data_bytes (λ xs. refl)
+datas_listed = listed DataSection SECTION_DATA data_bytes (λ xs. refl)
 
 -- sections in front of others
-behind : (xs ys : List Section) (a b : List ℕ) → all_bytes xs ≡ a → all_bytes ys ≡ b → all_bytes (xs ++ ys) ≡ a ++ b
-behind xs ys a b front rest = flat_map-append section_bytes xs ys ∙ ap (λ x. x ++ all_bytes ys) front ∙ ap (λ y. a ++ y) rest
+all_bytes-append : (xs ys : List Section) (a b : List ℕ) → all_bytes xs ≡ a → all_bytes ys ≡ b
+    → all_bytes (xs ++ ys) ≡ a ++ b
+all_bytes-append xs ys a b front rest =
+    flat_map-append section_bytes xs ys ∙ ap (λ x. x ++ all_bytes ys) front ∙ ap (λ y. a ++ y) rest
 
 regrouped : (a b c d e rest : List ℕ) → a ++ (b ++ (c ++ (d ++ (e ++ rest)))) ≡ (a ++ (b ++ (c ++ (d ++ e)))) ++ rest
 regrouped a b c d e rest = sym (simp append_assoc)
@@ -98,56 +115,61 @@ pub encoding_parts : (m : Module) → encoding_of m ≡ preamble ++ (declaration
 unfolding encoding_of sections_of declarations_of definitions_of
 encoding_parts m =
     ap (λ x. preamble ++ x)
-    (behind _ _ _ _ (types_listed m.types)
-    (behind _ _ _ _ (imports_listed m.imports)
-    (behind _ _ _ _ (functions_listed m.funcs)
-    (behind _ _ _ _ (tables_listed m.tables)
-    (behind _ _ _ _ (memories_listed m.memories)
-    (behind _ _ _ _ (globals_listed m.globals)
-    (behind _ _ _ _ (exports_listed m.exports)
-    (behind _ _ _ _ (start_listed m.start)
-    (behind _ _ _ _ (elems_listed m.elems)
-    (behind _ _ _ _ (codes_listed m.funcs)
-    (behind _ _ _ _ (datas_listed m.datas) (flat_map-map section_bytes CustomSection m.customs)))))))))))
-    ∙ regrouped (vector_section 1 func_type_bytes m.types) (vector_section 2 import_bytes m.imports)
-    (vector_section 3 (λ func. u32_bytes func.ty) m.funcs) (vector_section 4 table_type_bytes m.tables)
-    (vector_section 5 limits_bytes m.memories) _)
+    (all_bytes-append _ _ _ _ (types_listed m.types)
+    (all_bytes-append _ _ _ _ (imports_listed m.imports)
+    (all_bytes-append _ _ _ _ (functions_listed m.funcs)
+    (all_bytes-append _ _ _ _ (tables_listed m.tables)
+    (all_bytes-append _ _ _ _ (memories_listed m.memories)
+    (all_bytes-append _ _ _ _ (globals_listed m.globals)
+    (all_bytes-append _ _ _ _ (exports_listed m.exports)
+    (all_bytes-append _ _ _ _ (start_listed m.start)
+    (all_bytes-append _ _ _ _ (elems_listed m.elems)
+    (all_bytes-append _ _ _ _ (codes_listed m.funcs)
+    (all_bytes-append _ _ _ _ (datas_listed m.datas) (flat_map-map section_bytes CustomSection m.customs)))))))))))
+    ∙ regrouped (vector_section SECTION_TYPE func_type_bytes m.types)
+    (vector_section SECTION_IMPORT import_bytes m.imports)
+    (vector_section SECTION_FUNCTION (λ func. u32_bytes func.ty) m.funcs)
+    (vector_section SECTION_TABLE table_type_bytes m.tables)
+    (vector_section SECTION_MEMORY limits_bytes m.memories) _)
 
 -- what was appended of a list was appended of an equal one
-pub of_equal : {A : Type 0} (write : List A → List ℕ) (out new : List ℕ) (xs ys : List A) → xs ≡ ys → new ≡ out ++ write xs → new ≡ out ++ write ys
+pub of_equal : {A : Type 0} (write : List A → List ℕ) (out new : List ℕ) (xs ys : List A) → xs ≡ ys
+    → new ≡ out ++ write xs → new ≡ out ++ write ys
 of_equal write out new xs ys same h = h ∙ ap (λ zs. out ++ write zs) same
 
--- the second part, of seven pieces that were appended one behind the other
+-- the second part, of seven pieces that were appended one after the other
 pub definitions_appended : (m : Module) (out a b c d e f all : List ℕ)
-    → a ≡ out ++ vector_section 6 global_bytes m.globals
-    → b ≡ a ++ vector_section 7 export_bytes m.exports
+    → a ≡ out ++ vector_section SECTION_GLOBAL global_bytes m.globals
+    → b ≡ a ++ vector_section SECTION_EXPORT export_bytes m.exports
     → c ≡ b ++ start_section m.start
-    → d ≡ c ++ vector_section 9 elem_bytes m.elems
-    → e ≡ d ++ vector_section 10 (λ func. code_bytes (code_of func)) m.funcs
-    → f ≡ e ++ vector_section 11 data_bytes m.datas
+    → d ≡ c ++ vector_section SECTION_ELEMENT elem_bytes m.elems
+    → e ≡ d ++ vector_section SECTION_CODE (λ func. code_bytes (code_of func)) m.funcs
+    → f ≡ e ++ vector_section SECTION_DATA data_bytes m.datas
     → all ≡ f ++ flat_map (λ custom. section_bytes (CustomSection custom)) m.customs
     → all ≡ out ++ definitions_of m
 unfolding definitions_of
 definitions_appended m out a b c d e f all ha hb hc hd he hf h =
     h ∙ ap (λ x. x ++ flat_map (λ custom. section_bytes (CustomSection custom)) m.customs)
-    (hf ∙ ap (λ x. x ++ vector_section 11 data_bytes m.datas)
-    (he ∙ ap (λ x. x ++ vector_section 10 (λ func. code_bytes (code_of func)) m.funcs)
-    (hd ∙ ap (λ x. x ++ vector_section 9 elem_bytes m.elems)
+    (hf ∙ ap (λ x. x ++ vector_section SECTION_DATA data_bytes m.datas)
+    (he ∙ ap (λ x. x ++ vector_section SECTION_CODE (λ func. code_bytes (code_of func)) m.funcs)
+    (hd ∙ ap (λ x. x ++ vector_section SECTION_ELEMENT elem_bytes m.elems)
     (hc ∙ ap (λ x. x ++ start_section m.start)
-    (hb ∙ ap (λ x. x ++ vector_section 7 export_bytes m.exports) ha)))))
+    (hb ∙ ap (λ x. x ++ vector_section SECTION_EXPORT export_bytes m.exports) ha)))))
     ∙ simp append_assoc
 
 -- the whole, of three pieces
-pub encoding_appended : (m : Module) (out front behind all : List ℕ) → front ≡ out ++ preamble → behind ≡ front ++ declarations_of m
-    → all ≡ behind ++ definitions_of m → all ≡ out ++ encoding_of m
-encoding_appended m out front behind all h hd hf =
+pub encoding_appended : (m : Module) (out front all_bytes-append all : List ℕ) → front ≡ out ++ preamble
+    → all_bytes-append ≡ front ++ declarations_of m
+    → all ≡ all_bytes-append ++ definitions_of m → all ≡ out ++ encoding_of m
+encoding_appended m out front all_bytes-append all h hd hf =
     hf ∙ ap (λ x. x ++ definitions_of m) (hd ∙ ap (λ x. x ++ declarations_of m) h)
     ∙ append_assoc (out ++ preamble) (declarations_of m) (definitions_of m)
     ∙ append_assoc out preamble (declarations_of m ++ definitions_of m)
     ∙ ap (λ x. out ++ x) (sym (encoding_parts m))
 
 -- how long the encoding is, by its parts
-pub encoding_length : (m : Module) → length (encoding_of m) ≡ 8 + (length (declarations_of m) + length (definitions_of m))
+pub encoding_length : (m : Module)
+    → length (encoding_of m) ≡ 8 + (length (declarations_of m) + length (definitions_of m))
 encoding_length m =
     omega (
       arith,

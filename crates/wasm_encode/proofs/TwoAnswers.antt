@@ -38,7 +38,8 @@ f_is_text = IsUtf8-from_ascii _ (search rules)
 g_is_text : IsUtf8 (103 ∷ [])
 g_is_text = IsUtf8-from_ascii _ (search rules)
 
-pub type_fits : (params results : List ValType) → params ≡ [] → results ≡ I32 ∷ [] → FitsFuncType (record { params = params; results = results })
+pub type_fits : (params results : List ValType) → params ≡ [] → results ≡ I32 ∷ []
+    → FitsFuncType (record { params = params; results = results })
 type_fits params results none one = (all_none FitsValType params none, all_one FitsValType results I32 one tt)
 
 pub import_fits : (module_name name : List ℕ) → module_name ≡ 104 ∷ [] → name ≡ 102 ∷ []
@@ -61,19 +62,22 @@ func_fits locals body none is =
     (omega arith, subst FitsLocals (sym none) (tt, tt, omega arith), subst (FitsBody Replay) (sym is) body_fits)
 
 pub encodable : (m : Module) (ty : FuncType) (i : Import) (func : Func) (e : Export)
-    → m.types ≡ ty ∷ [] → FitsFuncType ty → m.imports ≡ i ∷ [] → FitsImport i → m.funcs ≡ func ∷ [] → FitsFunc Replay func
+    → m.types ≡ ty ∷ [] → FitsFuncType ty → m.imports ≡ i ∷ [] → FitsImport i → m.funcs ≡ func ∷ []
+    → FitsFunc Replay func
     → m.exports ≡ e ∷ [] → FitsExport e → m.tables ≡ [] → m.memories ≡ [] → m.globals ≡ [] → m.start ≡ None
     → m.elems ≡ [] → m.datas ≡ [] → m.customs ≡ [] → IsEncodable Replay m
-encodable m ty i func e types type_ok imports import_ok funcs func_ok exports export_ok tables memories globals start elems datas customs = record {
-  types = all_one _ _ _ types type_ok;
-  imports = all_one _ _ _ imports import_ok;
-  funcs = all_one _ _ _ funcs func_ok;
-  tables = all_none _ _ tables;
-  memories = all_none _ _ memories;
-  globals = all_none _ _ globals;
-  exports = all_one _ _ _ exports export_ok;
-  start = subst (λ o. IfSome o FitsU32) (sym start) tt;
-  elems = all_none _ _ elems;
-  datas = all_none _ _ datas;
-  customs = all_none _ _ customs;
-}
+encodable m ty i func e types type_ok imports import_ok funcs func_ok exports export_ok tables memories globals start
+    elems datas customs =
+    record {
+      types = all_one _ _ _ types type_ok;
+      imports = all_one _ _ _ imports import_ok;
+      funcs = all_one _ _ _ funcs func_ok;
+      tables = all_none _ _ tables;
+      memories = all_none _ _ memories;
+      globals = all_none _ _ globals;
+      exports = all_one _ _ _ exports export_ok;
+      start = subst (λ o. IfSome o FitsU32) (sym start) tt;
+      elems = all_none _ _ elems;
+      datas = all_none _ _ datas;
+      customs = all_none _ _ customs;
+    }

@@ -68,10 +68,15 @@ instr_some other fits = omega arith
 numbered_some : (n : ℕ) (rest : List ℕ) → 0 < length (u32_bytes n ++ rest)
 numbered_some n rest = omega (arith, length-append (u32_bytes n) rest, u32_some n)
 
--- or with bytes behind their number
+-- or with bytes after their number
 sized_some : (content rest : List ℕ) → 0 < length (sized_bytes content ++ rest)
 sized_some content rest =
-    omega (arith, length-append (sized_bytes content) rest, length-append (u32_bytes (length content)) content, u32_some (length content))
+    omega (
+      arith,
+      length-append (sized_bytes content) rest,
+      length-append (u32_bytes (length content)) content,
+      u32_some (length content),
+    )
 
 pub run_some : (run : Run) → FitsRun run → 0 < length (run_bytes run)
 run_some run fits = numbered_some run.count (val_type_bytes run.ty)

@@ -1,7 +1,7 @@
 // What stands in lists of a module.
 
 ghost use Rattle.std.specs.Prelude.{◌≡◌, ℕ, ◌^◌, ◌<◌, ◌++◌, List, length, OnOk};
-ghost use Rattle.wasm_encode.specs.Lengths.{kept};
+ghost use Rattle.wasm_encode.specs.Lengths.{at_most_u64};
 
 use no_memory::NoMemory;
 
@@ -18,7 +18,7 @@ pub(crate) trait Encoding {
     /// How many bytes the encoding of an item has.
     fn length(item: &Self::Item) -> u64
         requires { fits item.now }
-        ensures { result ≡ kept (length (bytes item.now)) };
+        ensures { result ≡ at_most_u64 (length (bytes item.now)) };
 
     /// Appends the encoding of an item.
     fn write(item: &Self::Item, out: &mut Vec<u8>) -> Result<(), NoMemory>

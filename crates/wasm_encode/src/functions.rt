@@ -1,7 +1,7 @@
 // Functions, which two sections share (Core 1.0, 5.5.6 and 5.5.13).
 
 ghost use Rattle.std.specs.Prelude.{◌≡◌, ℕ, ◌^◌, ◌<◌, ◌++◌, length, OnOk};
-ghost use Rattle.wasm_encode.specs.Lengths.{kept};
+ghost use Rattle.wasm_encode.specs.Lengths.{at_most_u64};
 ghost use Rattle.wasm_encode.specs.NotEmpty.{code_some, run_some, u32_some};
 ghost use Rattle.wasm_syntax.specs.Encoding.Encodable.{FitsFunc, FitsRun};
 ghost use Rattle.wasm_syntax.specs.Encoding.Modules.{code_of};
@@ -89,7 +89,7 @@ impl Encoding for Runs {
 /// How many bytes the locals and the body of a function have, without the size in front.
 fn code_length(func: &Func) -> u64
     requires { FitsFunc Replay func.now }
-    ensures { result ≡ kept
+    ensures { result ≡ at_most_u64
         (length (vector_bytes run_bytes func.now.locals ++ body_bytes func.now.body)) }
 {
     let locals = vector_length::<Runs>(func.locals.as_slice());

@@ -3,8 +3,9 @@
 ghost use Rattle.std.specs.Prelude.{◌≡◌, ℕ, ◌^◌, ◌<◌, ◌≤◌, ◌++◌, ◌∷◌, [], length, OnOk};
 ghost use Rattle.std.specs.Int.{w32, cast_signed};
 ghost use Rattle.std.specs.List.{AllByRecursion};
+ghost use Rattle.leb_bytes.specs.Signed.{i32_bytes, i64_bytes};
 ghost use Rattle.leb_bytes.specs.Unsigned.{u32_bytes};
-ghost use Rattle.wasm_encode.specs.Lengths.{kept};
+ghost use Rattle.wasm_encode.specs.Lengths.{at_most_u64};
 ghost use Rattle.wasm_encode.specs.NotEmpty.{instr_some};
 ghost use Rattle.wasm_syntax.specs.Encoding.Encodable.{FitsConst, FitsInstr, FitsU32};
 ghost use Rattle.wasm_syntax.specs.Encoding.Shortest.{access_bytes, body_bytes, const_bytes, instr_bytes};
@@ -18,9 +19,18 @@ use crate::types::block_type_byte;
 use crate::vectors::{Indices, items_length, vector_length, write_items, write_vector};
 use leb_bytes::{push_i64, push_u32};
 use no_memory::NoMemory;
+use wasm_opcodes::marks::TYPE_FUNCREF;
+use wasm_opcodes::{
+    BLOCK, BR, BR_IF, BR_TABLE, CALL, CALL_INDIRECT, DROP, ELSE, END, F32_CONST, F64_CONST,
+    GLOBAL_GET, GLOBAL_SET, I32_CONST, I64_CONST, IF, LOCAL_GET, LOCAL_SET, LOCAL_TEE, LOOP,
+    MEMORY_GROW, MEMORY_SIZE, NOP, REF_FUNC, REF_NULL, RETURN, SELECT, TABLE_SET, UNREACHABLE,
+};
 use wasm_syntax::{Body, Instr, Labels, MemArg, Val, ValType};
 
-/// Instructions.
+/// The byte that ends `call_indirect`, `memory.size` and `memory.grow` (Core 1.0, 5.4.1 and 5.4.4).
+const RESERVED: u8 = 0x00;
+
+/// Instructions (Core 1.0, 5.4).
 pub(crate) struct Instrs;
 
 #[tactic(auto, unfolding(wasm_syntax::specs::Encoding::Shortest::instr_bytes))]
@@ -55,34 +65,34 @@ impl Encoding for Instrs {
 
     fn write(item: &Instr, out: &mut Vec<u8>) -> Result<(), NoMemory> {
         match item {
-            Instr::Unreachable => push_byte(out, 0x00),
-            Instr::Nop => push_byte(out, 0x01),
-            Instr::Block(ty) => push_pair(out, 0x02, block_type_byte(*ty)),
-            Instr::Loop(ty) => push_pair(out, 0x03, block_type_byte(*ty)),
-            Instr::If(ty) => push_pair(out, 0x04, block_type_byte(*ty)),
-            Instr::Else => push_byte(out, 0x05),
-            Instr::End => push_byte(out, 0x0b),
-            Instr::Br(label) => push_marked(out, 0x0c, *label),
-            Instr::BrIf(label) => push_marked(out, 0x0d, *label),
+            Instr::Unreachable => push_byte(out, UNREACHABLE),
+            Instr::Nop => push_byte(out, NOP),
+            Instr::Block(ty) => push_pair(out, BLOCK, block_type_byte(*ty)),
+            Instr::Loop(ty) => push_pair(out, LOOP, block_type_byte(*ty)),
+            Instr::If(ty) => push_pair(out, IF, block_type_byte(*ty)),
+            Instr::Else => push_byte(out, ELSE),
+            Instr::End => push_byte(out, END),
+            Instr::Br(label) => push_marked(out, BR, *label),
+            Instr::BrIf(label) => push_marked(out, BR_IF, *label),
             Instr::BrTable(labels, default) => write_table(labels, *default, out),
-            Instr::Return => push_byte(out, 0x0f),
-            Instr::Call(func) => push_marked(out, 0x10, *func),
+            Instr::Return => push_byte(out, RETURN),
+            Instr::Call(func) => push_marked(out, CALL, *func),
             Instr::CallIndirect(ty) => write_call_indirect(*ty, out),
-            Instr::Drop => push_byte(out, 0x1a),
-            Instr::Select => push_byte(out, 0x1b),
-            Instr::LocalGet(local) => push_marked(out, 0x20, *local),
-            Instr::LocalSet(local) => push_marked(out, 0x21, *local),
-            Instr::LocalTee(local) => push_marked(out, 0x22, *local),
-            Instr::GlobalGet(global) => push_marked(out, 0x23, *global),
-            Instr::GlobalSet(global) => push_marked(out, 0x24, *global),
+            Instr::Drop => push_byte(out, DROP),
+            Instr::Select => push_byte(out, SELECT),
+            Instr::LocalGet(local) => push_marked(out, LOCAL_GET, *local),
+            Instr::LocalSet(local) => push_marked(out, LOCAL_SET, *local),
+            Instr::LocalTee(local) => push_marked(out, LOCAL_TEE, *local),
+            Instr::GlobalGet(global) => push_marked(out, GLOBAL_GET, *global),
+            Instr::GlobalSet(global) => push_marked(out, GLOBAL_SET, *global),
             Instr::Load(access) | Instr::Store(access) => write_access(*access, out),
-            Instr::MemorySize => push_pair(out, 0x3f, 0x00),
-            Instr::MemoryGrow => push_pair(out, 0x40, 0x00),
+            Instr::MemorySize => push_pair(out, MEMORY_SIZE, RESERVED),
+            Instr::MemoryGrow => push_pair(out, MEMORY_GROW, RESERVED),
             Instr::Const(value) => write_const(*value, out),
             Instr::Numeric(op) => push_byte(out, *op),
-            Instr::TableSet(table) => push_marked(out, 0x26, *table),
-            Instr::RefNull => push_pair(out, 0xd0, 0x70),
-            Instr::RefFunc(func) => push_marked(out, 0xd2, *func),
+            Instr::TableSet(table) => push_marked(out, TABLE_SET, *table),
+            Instr::RefNull => push_pair(out, REF_NULL, TYPE_FUNCREF),
+            Instr::RefFunc(func) => push_marked(out, REF_FUNC, *func),
         }
     }
 
@@ -92,7 +102,7 @@ impl Encoding for Instrs {
 /// How many bytes a body has.
 pub(crate) fn body_length(body: &Body) -> u64
     requires { AllByRecursion (FitsInstr Replay) body.now }
-    ensures { result ≡ kept (length (body_bytes body.now)) }
+    ensures { result ≡ at_most_u64 (length (body_bytes body.now)) }
 {
     items_length::<Instrs>(body.as_slice())
 }
@@ -110,7 +120,7 @@ pub(crate) fn write_body(body: &Body, out: &mut Vec<u8>) -> Result<(), NoMemory>
 #[tactic(auto, unfolding(wasm_syntax::specs::Encoding::Shortest::instr_bytes))]
 fn table_length(labels: &Labels, default: u32) -> u64
     requires { AllByRecursion FitsU32 labels.now }
-    ensures { result ≡ kept (length (instr_bytes (BrTable labels.now default))) }
+    ensures { result ≡ at_most_u64 (length (instr_bytes (BrTable labels.now default))) }
 {
     let last = u32_length(u64::from(default));
     vector_length::<Indices>(labels.as_slice()).saturating_add(1 + last)
@@ -124,7 +134,7 @@ fn write_table(labels: &Labels, default: u32, out: &mut Vec<u8>) -> Result<(), N
     ensures { OnOk result
         (out.new.items ≡ out.old.items ++ instr_bytes (BrTable labels.now default)) }
 {
-    push_byte(out, 0x0e)?;
+    push_byte(out, BR_TABLE)?;
     write_vector::<Indices>(labels.as_slice(), out)?;
     push_u32(out, default)
 }
@@ -134,8 +144,8 @@ fn write_table(labels: &Labels, default: u32, out: &mut Vec<u8>) -> Result<(), N
 fn write_call_indirect(ty: u32, out: &mut Vec<u8>) -> Result<(), NoMemory>
     ensures { OnOk result (out.new.items ≡ out.old.items ++ instr_bytes (CallIndirect ty)) }
 {
-    push_marked(out, 0x11, ty)?;
-    push_byte(out, 0x00)
+    push_marked(out, CALL_INDIRECT, ty)?;
+    push_byte(out, RESERVED)
 }
 
 /// How many bytes a load or a store has.
@@ -155,15 +165,15 @@ fn write_access(access: MemArg, out: &mut Vec<u8>) -> Result<(), NoMemory>
 }
 
 /// How many bytes a constant has.
-#[tactic(auto, unfolding(wasm_syntax::specs::Encoding::Shortest::const_bytes, leb_bytes::specs::Signed::i32_bytes, leb_bytes::specs::Signed::i64_bytes))]
+#[tactic(auto, unfolding(wasm_syntax::specs::Encoding::Shortest::const_bytes))]
 fn const_length(value: Val) -> u64
     requires { FitsConst value.ty value.bits }
     ensures length { result ≡ length (const_bytes value.ty value.bits) }
     ensures few { result ≤ 11 }
 {
     match value.ty {
-        ValType::I32 => 1 + i64_length(signed_of_i32(value.bits)),
-        ValType::I64 => 1 + i64_length(value.bits.cast_signed()),
+        ValType::I32 => 1 + i32_bits_length(value.bits),
+        ValType::I64 => 1 + i64_bits_length(value.bits),
         ValType::F32 => 5,
         ValType::F64 => 9,
         ValType::FuncRef => 0,
@@ -171,32 +181,68 @@ fn const_length(value: Val) -> u64
 }
 
 /// Appends a constant.
-#[tactic(auto, unfolding(wasm_syntax::specs::Encoding::Shortest::const_bytes, leb_bytes::specs::Signed::i32_bytes, leb_bytes::specs::Signed::i64_bytes))]
+#[tactic(auto, unfolding(wasm_syntax::specs::Encoding::Shortest::const_bytes))]
 fn write_const(value: Val, out: &mut Vec<u8>) -> Result<(), NoMemory>
     requires { FitsConst value.ty value.bits }
     ensures { OnOk result (out.new.items ≡ out.old.items ++ const_bytes value.ty value.bits) }
 {
     match value.ty {
         ValType::I32 => {
-            push_byte(out, 0x41)?;
-            push_i64(out, signed_of_i32(value.bits))
+            push_byte(out, I32_CONST)?;
+            push_i32_bits(out, value.bits)
         }
         ValType::I64 => {
-            push_byte(out, 0x42)?;
-            push_i64(out, value.bits.cast_signed())
+            push_byte(out, I64_CONST)?;
+            push_i64_bits(out, value.bits)
         }
         ValType::F32 => {
-            push_byte(out, 0x43)?;
+            push_byte(out, F32_CONST)?;
             out.extend_from_slice(&(value.bits as u32).to_le_bytes())?;
             Ok(())
         }
         ValType::F64 => {
-            push_byte(out, 0x44)?;
+            push_byte(out, F64_CONST)?;
             out.extend_from_slice(&value.bits.to_le_bytes())?;
             Ok(())
         }
         ValType::FuncRef => Ok(()),
     }
+}
+
+/// How many bytes the bits of an i32 have, as an s32.
+#[tactic(auto, unfolding(leb_bytes::specs::Signed::i32_bytes))]
+fn i32_bits_length(bits: u64) -> u64
+    requires { bits < 2 ^ 32 }
+    ensures length { result ≡ length (i32_bytes bits) }
+    ensures few { result ≤ 10 }
+{
+    i64_length(signed_of_i32(bits))
+}
+
+/// How many bytes the bits of an i64 have, as an s64.
+#[tactic(auto, unfolding(leb_bytes::specs::Signed::i64_bytes))]
+fn i64_bits_length(bits: u64) -> u64
+    ensures length { result ≡ length (i64_bytes bits) }
+    ensures few { result ≤ 10 }
+{
+    i64_length(bits.cast_signed())
+}
+
+/// Appends the bits of an i32, as an s32.
+#[tactic(auto, unfolding(leb_bytes::specs::Signed::i32_bytes))]
+fn push_i32_bits(out: &mut Vec<u8>, bits: u64) -> Result<(), NoMemory>
+    requires { bits < 2 ^ 32 }
+    ensures { OnOk result (out.new.items ≡ out.old.items ++ i32_bytes bits) }
+{
+    push_i64(out, signed_of_i32(bits))
+}
+
+/// Appends the bits of an i64, as an s64.
+#[tactic(auto, unfolding(leb_bytes::specs::Signed::i64_bytes))]
+fn push_i64_bits(out: &mut Vec<u8>, bits: u64) -> Result<(), NoMemory>
+    ensures { OnOk result (out.new.items ≡ out.old.items ++ i64_bytes bits) }
+{
+    push_i64(out, bits.cast_signed())
 }
 
 /// The number that the bits of an i32 are in two's complement.

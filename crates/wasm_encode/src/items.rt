@@ -1,7 +1,7 @@
 // Items of sections (Core 1.0, 5.5).
 
 ghost use Rattle.std.specs.Prelude.{◌≡◌, ℕ, ◌^◌, ◌<◌, ◌++◌, length, OnOk, IsUtf8};
-ghost use Rattle.wasm_encode.specs.Lengths.{kept};
+ghost use Rattle.wasm_encode.specs.Lengths.{at_most_u64};
 ghost use Rattle.wasm_encode.specs.NotEmpty.{custom_some, data_some, elem_some, export_some, global_some, import_some};
 ghost use Rattle.wasm_syntax.specs.Encoding.Encodable.{FitsDataSeg, FitsElemSeg, FitsExport, FitsGlobal, FitsImport};
 ghost use Rattle.wasm_syntax.specs.Encoding.Sections.{CustomSection};
@@ -12,14 +12,18 @@ use crate::encoding::Encoding;
 use crate::instructions::{body_length, write_body};
 use crate::lengths::{sized_length, u32_length};
 use crate::parts::{push_byte, push_marked, push_pair, push_sized};
-use crate::types::{limits_length, write_global_type, write_limits};
+use crate::types::{global_type_length, limits_length, write_global_type, write_limits};
 use crate::vectors::{Indices, vector_length, write_vector};
 use leb_bytes::push_u32;
 use no_memory::NoMemory;
+use wasm_opcodes::marks::{
+    ELEMENT_DECLARED, ELEMENT_FUNCS, EXTERNAL_FUNC, EXTERNAL_GLOBAL, EXTERNAL_MEMORY,
+    EXTERNAL_TABLE, SECTION_CUSTOM, TYPE_FUNCREF,
+};
 use wasm_syntax::{Custom, DataSeg, ElemSeg, Export, ExportKind, Global, Import, ImportKind, Name};
 
 /// The number that a declared segment begins with (Core 2.0, 5.5.12).
-const DECLARED: u32 = 3;
+const DECLARED: u32 = ELEMENT_DECLARED as u32;
 
 /// Imports (Core 1.0, 5.5.5).
 pub(crate) struct Imports;
@@ -62,7 +66,7 @@ impl Encoding for Imports {
     ghost some = { import_some };
 }
 
-#[tactic(auto, unfolding(wasm_syntax::specs::Encoding::Shortest::global_bytes, wasm_syntax::specs::Encoding::Shortest::global_type_bytes))]
+#[tactic(auto, unfolding(wasm_syntax::specs::Encoding::Shortest::global_bytes))]
 impl Encoding for Globals {
     type Item = Global;
 
@@ -71,7 +75,7 @@ impl Encoding for Globals {
     ghost fits = { FitsGlobal Replay };
 
     fn length(item: &Global) -> u64 {
-        body_length(&item.init).saturating_add(2)
+        body_length(&item.init).saturating_add(global_type_length(item.ty))
     }
 
     fn write(item: &Global, out: &mut Vec<u8>) -> Result<(), NoMemory> {
@@ -141,7 +145,7 @@ impl Encoding for ElemSegs {
             }
             ElemSeg::Declared { funcs } => {
                 push_u32(out, DECLARED)?;
-                push_byte(out, 0x00)?;
+                push_byte(out, ELEMENT_FUNCS)?;
                 write_vector::<Indices>(funcs.as_slice(), out)
             }
         }
@@ -187,7 +191,7 @@ impl Encoding for CustomSections {
 
     fn write(item: &Custom, out: &mut Vec<u8>) -> Result<(), NoMemory> {
         let name = item.name.as_str();
-        push_marked(out, 0x00, custom_length(item) as u32)?;
+        push_marked(out, SECTION_CUSTOM, custom_length(item) as u32)?;
         push_sized(out, name.as_bytes())?;
         out.extend_from_slice(item.bytes.as_slice())?;
         Ok(())
@@ -198,7 +202,7 @@ impl Encoding for CustomSections {
 
 /// How many bytes a name has (Core 1.0, 5.2.4).
 fn name_length(name: &Name) -> u64
-    ensures { result ≡ kept (length (sized_bytes name.now)) }
+    ensures { result ≡ at_most_u64 (length (sized_bytes name.now)) }
 {
     sized_length(name.as_str().len() as u64)
 }
@@ -206,13 +210,12 @@ fn name_length(name: &Name) -> u64
 /// How many bytes the content of a custom section has.
 #[tactic(auto, unfolding(wasm_syntax::specs::Encoding::Shortest::custom_bytes))]
 fn custom_length(custom: &Custom) -> u64
-    ensures { result ≡ kept (length (custom_bytes custom.now)) }
+    ensures { result ≡ at_most_u64 (length (custom_bytes custom.now)) }
 {
     name_length(&custom.name).saturating_add(custom.bytes.as_slice().len() as u64)
 }
 
 /// How many bytes the kind of an import has.
-#[tactic(auto, unfolding(wasm_syntax::specs::Encoding::Shortest::global_type_bytes))]
 fn import_kind_length(kind: ImportKind) -> u64
     ensures length { result ≡ length (import_kind_bytes kind) }
     ensures few { result < 2 ^ 9 }
@@ -221,7 +224,7 @@ fn import_kind_length(kind: ImportKind) -> u64
         ImportKind::Func(ty) => 1 + u32_length(u64::from(ty)),
         ImportKind::Table(limits) => 2 + limits_length(&limits),
         ImportKind::Memory(limits) => 1 + limits_length(&limits),
-        ImportKind::Global(_) => 3,
+        ImportKind::Global(ty) => 1 + global_type_length(ty),
     }
 }
 
@@ -230,17 +233,17 @@ fn write_import_kind(kind: ImportKind, out: &mut Vec<u8>) -> Result<(), NoMemory
     ensures { OnOk result (out.new.items ≡ out.old.items ++ import_kind_bytes kind) }
 {
     match kind {
-        ImportKind::Func(ty) => push_marked(out, 0x00, ty),
+        ImportKind::Func(ty) => push_marked(out, EXTERNAL_FUNC, ty),
         ImportKind::Table(limits) => {
-            push_pair(out, 0x01, 0x70)?;
+            push_pair(out, EXTERNAL_TABLE, TYPE_FUNCREF)?;
             write_limits(&limits, out)
         }
         ImportKind::Memory(limits) => {
-            push_byte(out, 0x02)?;
+            push_byte(out, EXTERNAL_MEMORY)?;
             write_limits(&limits, out)
         }
         ImportKind::Global(ty) => {
-            push_byte(out, 0x03)?;
+            push_byte(out, EXTERNAL_GLOBAL)?;
             write_global_type(ty, out)
         }
     }
@@ -264,9 +267,9 @@ fn write_export_kind(kind: ExportKind, out: &mut Vec<u8>) -> Result<(), NoMemory
     ensures { OnOk result (out.new.items ≡ out.old.items ++ export_kind_bytes kind) }
 {
     match kind {
-        ExportKind::Func(func) => push_marked(out, 0x00, func),
-        ExportKind::Table(table) => push_marked(out, 0x01, table),
-        ExportKind::Memory(memory) => push_marked(out, 0x02, memory),
-        ExportKind::Global(global) => push_marked(out, 0x03, global),
+        ExportKind::Func(func) => push_marked(out, EXTERNAL_FUNC, func),
+        ExportKind::Table(table) => push_marked(out, EXTERNAL_TABLE, table),
+        ExportKind::Memory(memory) => push_marked(out, EXTERNAL_MEMORY, memory),
+        ExportKind::Global(global) => push_marked(out, EXTERNAL_GLOBAL, global),
     }
 }

@@ -1,47 +1,49 @@
 // How many bytes numbers and sized contents have.
 
-ghost use Rattle.std.specs.Prelude.{◌≡◌, ℕ, ◌≤◌, List, length};
+ghost use Rattle.std.specs.Prelude.{◌≡◌, ℕ, ◌-◌, ◌≤◌, List, length};
 ghost use Rattle.leb_bytes.specs.Signed.{s64_bytes};
 ghost use Rattle.leb_bytes.specs.Unsigned.{u32_bytes};
-ghost use Rattle.wasm_encode.specs.Lengths.{kept, magnitude};
+ghost use Rattle.wasm_encode.specs.Lengths.{byte_count, at_most_u64, magnitude};
 ghost use Rattle.wasm_syntax.specs.Encoding.Shortest.{sized_bytes};
 
-/// How many bytes the shortest encoding of a u32 has; five past the u32s, too.
+/// What seven bits hold is less than this: a byte of an unsigned number.
+const SEVEN_BITS: u64 = 0x80;
+
+/// What six bits hold is less than this: the last byte of a signed number, its sign left out.
+const SIX_BITS: u64 = 0x40;
+
+/// How many bytes the shortest encoding of a u32 has (Core 1.0, 5.2.2); five past the u32s, too.
 pub(crate) fn u32_length(number: u64) -> u64
     ensures length { result ≡ length (u32_bytes number) }
     ensures few { result ≤ 5 }
 {
-    if number < 0x80 {
-        1
-    } else if number < 0x4000 {
-        2
-    } else if number < 0x20_0000 {
-        3
-    } else if number < 0x1000_0000 {
-        4
-    } else {
-        5
-    }
+    byte_count(number, SEVEN_BITS, 5)
 }
 
-/// How many bytes the shortest encoding of an s64 has.
+/// How many bytes the shortest encoding of an s64 has (Core 1.0, 5.2.2).
 pub(crate) fn i64_length(number: i64) -> u64
     ensures length { result ≡ length (s64_bytes number) }
     ensures few { result ≤ 10 }
 {
-    let size = magnitude(number);
-    match size {
-        0..0x40 => 1,
-        0x40..0x2000 => 2,
-        0x2000..0x10_0000 => 3,
-        0x10_0000..0x800_0000 => 4,
-        0x800_0000..0x4_0000_0000 => 5,
-        0x4_0000_0000..0x200_0000_0000 => 6,
-        0x200_0000_0000..0x1_0000_0000_0000 => 7,
-        0x1_0000_0000_0000..0x80_0000_0000_0000 => 8,
-        0x80_0000_0000_0000..0x4000_0000_0000_0000 => 9,
-        _ => 10,
+    byte_count(magnitude(number), SIX_BITS, 10)
+}
+
+/// How many bytes of seven bits a number takes, of which the last holds what is less than `last`; at
+/// most `most`.
+fn byte_count(number: u64, last: u64, most: u64) -> u64
+    requires { 1 ≤ most }
+    ensures { result ≡ byte_count (most - 1) last number }
+{
+    let mut count = 1;
+    let mut left = number;
+    'bytes: while count < most {
+        if left < last {
+            return count;
+        }
+        left /= SEVEN_BITS;
+        count += 1;
     }
+    count
 }
 
 /// What a number has besides its sign, in two's complement.
@@ -57,8 +59,8 @@ fn magnitude(number: i64) -> u64
 
 /// How many bytes these have with their number in front.
 pub(crate) fn sized_length(content: u64) -> u64
-    ensures { (bytes : List ℕ) → content ≡ kept (length bytes)
-        → result ≡ kept (length (sized_bytes bytes)) }
+    ensures { (bytes : List ℕ) → content ≡ at_most_u64 (length bytes)
+        → result ≡ at_most_u64 (length (sized_bytes bytes)) }
 {
     u32_length(content).saturating_add(content)
 }

@@ -42,10 +42,13 @@ impl From<AllocError> for EncodeFault {
     }
 }
 
-/// The shortest encoding of a module in at most so many bytes (Core 1.0, 5): each number in its
+/// The shortest encoding of a module in at most `most` bytes (Core 1.0, 5): each number in its
 /// fewest bytes, no section that is empty, custom sections last. The module is to have an encoding
-/// in the form of replay binaries, where counts and sizes may be any numbers. `TooLong` exactly
-/// where these bytes are more than `most`.
+/// in the form of replay binaries, where counts and sizes may be any numbers.
+///
+/// # Errors
+///
+/// `TooLong` exactly where these bytes are more than `most`; `Memory` where memory runs out.
 pub fn encode(alloc: Global, module: &Module, most: u32) -> Result<Vec<u8>, EncodeFault>
     requires { IsEncodable Replay «module».now }
     ensures shortest { IfOk result (λ bytes. bytes.items ≡ encoding_of «module».now) }
@@ -56,6 +59,7 @@ pub fn encode(alloc: Global, module: &Module, most: u32) -> Result<Vec<u8>, Enco
     ensures core { IfOk result (λ bytes.
         IsCoreModule «module».now → Encodes Core bytes.items «module».now) }
 {
+    // What is written is an encoding, in the form Core too where the module is of it.
     shortest_encoding();
     encoding_forms();
     let length = module_length(module);

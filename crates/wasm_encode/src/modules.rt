@@ -1,7 +1,7 @@
 // Modules (Core 1.0, 5.5.15).
 
 ghost use Rattle.std.specs.Prelude.{◌≡◌, ℕ, ◌^◌, ◌<◌, ◌++◌, length, OnOk};
-ghost use Rattle.wasm_encode.specs.Lengths.{kept};
+ghost use Rattle.wasm_encode.specs.Lengths.{at_most_u64};
 ghost use Rattle.wasm_encode.specs.Parts.{declarations_of, definitions_of};
 ghost use Rattle.wasm_syntax.specs.Encoding.Encodable.{IsEncodable};
 ghost use Rattle.wasm_syntax.specs.Encoding.Shortest.{encoding_of};
@@ -13,13 +13,17 @@ use crate::sections::{section_length, start_length, write_section, write_start};
 use crate::types::{FuncTypes, MemoryTypes, TableTypes};
 use crate::vectors::{items_length, write_items};
 use no_memory::NoMemory;
+use wasm_opcodes::marks::{
+    SECTION_CODE, SECTION_DATA, SECTION_ELEMENT, SECTION_EXPORT, SECTION_FUNCTION, SECTION_GLOBAL,
+    SECTION_IMPORT, SECTION_MEMORY, SECTION_TABLE, SECTION_TYPE,
+};
 use wasm_syntax::Module;
 
 /// How many bytes the shortest encoding of a module has.
 #[tactic(auto, using(crate::proofs::ModuleLemmas::encoding_parts))]
 pub(crate) fn module_length(module: &Module) -> u64
     requires { IsEncodable Replay «module».now }
-    ensures { result ≡ kept (length (encoding_of «module».now)) }
+    ensures { result ≡ at_most_u64 (length (encoding_of «module».now)) }
 {
     declarations_length(module)
         .saturating_add(definitions_length(module))
@@ -30,7 +34,7 @@ pub(crate) fn module_length(module: &Module) -> u64
 #[tactic(auto, unfolding(crate::specs::Parts::declarations_of))]
 fn declarations_length(module: &Module) -> u64
     requires { IsEncodable Replay «module».now }
-    ensures { result ≡ kept (length (declarations_of «module».now)) }
+    ensures { result ≡ at_most_u64 (length (declarations_of «module».now)) }
 {
     section_length::<FuncTypes>(module.types.as_slice())
         .saturating_add(section_length::<Imports>(module.imports.as_slice()))
@@ -39,11 +43,11 @@ fn declarations_length(module: &Module) -> u64
         .saturating_add(section_length::<MemoryTypes>(module.memories.as_slice()))
 }
 
-/// How many bytes the sections behind the memory section have.
+/// How many bytes the sections after the memory section have.
 #[tactic(auto, unfolding(crate::specs::Parts::definitions_of))]
 fn definitions_length(module: &Module) -> u64
     requires { IsEncodable Replay «module».now }
-    ensures { result ≡ kept (length (definitions_of «module».now)) }
+    ensures { result ≡ at_most_u64 (length (definitions_of «module».now)) }
 {
     section_length::<Globals>(module.globals.as_slice())
         .saturating_add(section_length::<Exports>(module.exports.as_slice()))
@@ -74,26 +78,26 @@ fn write_declarations(module: &Module, out: &mut Vec<u8>) -> Result<(), NoMemory
     requires sizes { length (declarations_of «module».now) < 2 ^ 32 }
     ensures { OnOk result (out.new.items ≡ out.old.items ++ declarations_of «module».now) }
 {
-    write_section::<FuncTypes>(1, module.types.as_slice(), out)?;
-    write_section::<Imports>(2, module.imports.as_slice(), out)?;
-    write_section::<TypesOfFuncs>(3, module.funcs.as_slice(), out)?;
-    write_section::<TableTypes>(4, module.tables.as_slice(), out)?;
-    write_section::<MemoryTypes>(5, module.memories.as_slice(), out)
+    write_section::<FuncTypes>(SECTION_TYPE, module.types.as_slice(), out)?;
+    write_section::<Imports>(SECTION_IMPORT, module.imports.as_slice(), out)?;
+    write_section::<TypesOfFuncs>(SECTION_FUNCTION, module.funcs.as_slice(), out)?;
+    write_section::<TableTypes>(SECTION_TABLE, module.tables.as_slice(), out)?;
+    write_section::<MemoryTypes>(SECTION_MEMORY, module.memories.as_slice(), out)
 }
 
-/// Appends the sections behind the memory section.
+/// Appends the sections after the memory section.
 #[tactic(auto, unfolding(crate::specs::Parts::definitions_of))]
 fn write_definitions(module: &Module, out: &mut Vec<u8>) -> Result<(), NoMemory>
     requires fits { IsEncodable Replay «module».now }
     requires sizes { length (definitions_of «module».now) < 2 ^ 32 }
     ensures { OnOk result (out.new.items ≡ out.old.items ++ definitions_of «module».now) }
 {
-    write_section::<Globals>(6, module.globals.as_slice(), out)?;
-    write_section::<Exports>(7, module.exports.as_slice(), out)?;
+    write_section::<Globals>(SECTION_GLOBAL, module.globals.as_slice(), out)?;
+    write_section::<Exports>(SECTION_EXPORT, module.exports.as_slice(), out)?;
     write_start(module.start, out)?;
-    write_section::<ElemSegs>(9, module.elems.as_slice(), out)?;
-    write_section::<Codes>(10, module.funcs.as_slice(), out)?;
-    write_section::<DataSegs>(11, module.datas.as_slice(), out)?;
+    write_section::<ElemSegs>(SECTION_ELEMENT, module.elems.as_slice(), out)?;
+    write_section::<Codes>(SECTION_CODE, module.funcs.as_slice(), out)?;
+    write_section::<DataSegs>(SECTION_DATA, module.datas.as_slice(), out)?;
     write_items::<CustomSections>(module.customs.as_slice(), out)?;
     Ok(())
 }

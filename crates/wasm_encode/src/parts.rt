@@ -26,7 +26,7 @@ pub(crate) fn push_pair(out: &mut Vec<u8>, first: u8, second: u8) -> Result<(), 
     Ok(())
 }
 
-/// Appends a byte and a number behind it.
+/// Appends a byte and a number after it.
 #[inline]
 pub(crate) fn push_marked(out: &mut Vec<u8>, mark: u8, number: u32) -> Result<(), NoMemory>
     ensures { OnOk result (out.new.items ≡ out.old.items ++ mark ∷ u32_bytes number) }
@@ -35,7 +35,7 @@ pub(crate) fn push_marked(out: &mut Vec<u8>, mark: u8, number: u32) -> Result<()
     push_u32(out, number)
 }
 
-/// Appends bytes behind their number.
+/// Appends bytes after their number.
 pub(crate) fn push_sized(out: &mut Vec<u8>, bytes: &[u8]) -> Result<(), NoMemory>
     requires { length bytes.now < 2 ^ 32 }
     ensures { OnOk result (out.new.items ≡ out.old.items ++ sized_bytes bytes.now) }

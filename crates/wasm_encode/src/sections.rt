@@ -2,7 +2,7 @@
 
 ghost use Rattle.std.specs.Prelude.{◌≡◌, ℕ, ◌^◌, ◌<◌, ◌++◌, length, OnOk, map, flat_map, option_to_list, Option};
 ghost use Rattle.std.specs.List.{AllByRecursion};
-ghost use Rattle.wasm_encode.specs.Lengths.{kept};
+ghost use Rattle.wasm_encode.specs.Lengths.{at_most_u64};
 ghost use Rattle.wasm_encode.specs.Vectors.{start_section, vector_section};
 
 use crate::encoding::Encoding;
@@ -11,11 +11,12 @@ use crate::parts::push_marked;
 use crate::vectors::{vector_length, write_vector};
 use leb_bytes::push_u32;
 use no_memory::NoMemory;
+use wasm_opcodes::marks::SECTION_START;
 
 /// How many bytes the section of a list has, whatever its id: none where the list is empty.
 pub(crate) fn section_length<E: Encoding>(items: &[E::Item]) -> u64
     requires { AllByRecursion E.fits items.now }
-    ensures { (id : ℕ) → result ≡ kept (length (vector_section id E.bytes items.now)) }
+    ensures { (id : ℕ) → result ≡ at_most_u64 (length (vector_section id E.bytes items.now)) }
 {
     if items.is_empty() {
         0
@@ -43,7 +44,7 @@ pub(crate) fn write_section<E: Encoding>(
 
 /// How many bytes the start section has (Core 1.0, 5.5.11).
 pub(crate) fn start_length(start: Option<u32>) -> u64
-    ensures { result ≡ kept (length (start_section start)) }
+    ensures { result ≡ at_most_u64 (length (start_section start)) }
 {
     match start {
         None => 0,
@@ -58,7 +59,7 @@ pub(crate) fn write_start(start: Option<u32>, out: &mut Vec<u8>) -> Result<(), N
     match start {
         None => Ok(()),
         Some(func) => {
-            push_marked(out, 0x08, u32_length(u64::from(func)) as u32)?;
+            push_marked(out, SECTION_START, u32_length(u64::from(func)) as u32)?;
             push_u32(out, func)
         }
     }

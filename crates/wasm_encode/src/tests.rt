@@ -1,6 +1,7 @@
 //! A module in bytes that were written by hand, with ample memory.
 
 ghost use Rattle.std.specs.Prelude.{◌≡◌, ◌∷◌, [], IfOk};
+ghost use Rattle.wasm_opcodes.specs.declared.TheConstants.{I32_ADD};
 ghost use Rattle.wasm_syntax.specs.Encoding.Encodable.{IsEncodable};
 ghost use Rattle.wasm_syntax.specs.declared.forms.Form.TheVariants.{Replay};
 ghost use Rattle.wasm_syntax.specs.declared.instructions.Instr.TheVariants.{Call, End, Numeric};
@@ -8,11 +9,13 @@ ghost use Rattle.wasm_syntax.specs.declared.instructions.Instr.TheVariants.{Call
 use super::*;
 use std::alloc::{AllocError, Global as Heap};
 use std::test::Fail;
+use wasm_opcodes::I32_ADD;
 use wasm_syntax::{
     Body, Export, ExportKind, Func, FuncType, Import, ImportKind, Instr, List, Module, Name,
     ValType,
 };
 
+// examples/two_answers.wat
 const TWO_ANSWERS: [u8; 46] = [
     0x00, 0x61, 0x73, 0x6d, 0x01, 0x00, 0x00, 0x00, // preamble
     0x01, 0x05, 0x01, 0x60, 0x00, 0x01, 0x7f, // types
@@ -37,12 +40,12 @@ fn one<T: Drop>(alloc: Heap, item: T) -> Result<List<T>, AllocError>
 }
 
 fn both_answers(alloc: Heap) -> Result<Body, AllocError>
-    ensures { IfOk result (λ body. body ≡ Call 0 ∷ Call 0 ∷ Numeric 0x6A ∷ End ∷ []) }
+    ensures { IfOk result (λ body. body ≡ Call 0 ∷ Call 0 ∷ Numeric I32_ADD ∷ End ∷ []) }
 {
     let mut body = Vec::new(alloc);
     body.push(Instr::Call(0))?;
     body.push(Instr::Call(0))?;
-    body.push(Instr::Numeric(0x6a))?;
+    body.push(Instr::Numeric(I32_ADD))?;
     body.push(Instr::End)?;
     Ok(List::from_vec(body))
 }

@@ -1,8 +1,8 @@
 // Types (Core 1.0, 5.3).
 
-ghost use Rattle.std.specs.Prelude.{◌≡◌, ℕ, ◌^◌, ◌<◌, ◌++◌, ◌∷◌, [], length, OnOk};
+ghost use Rattle.std.specs.Prelude.{◌≡◌, ℕ, ◌^◌, ◌<◌, ◌≤◌, ◌++◌, ◌∷◌, [], length, OnOk};
 ghost use Rattle.std.proofs.Common.{rules};
-ghost use Rattle.wasm_encode.specs.Lengths.{kept};
+ghost use Rattle.wasm_encode.specs.Lengths.{at_most_u64};
 ghost use Rattle.wasm_encode.specs.NotEmpty.{func_type_some, limits_some};
 ghost use Rattle.wasm_syntax.specs.Encoding.Encodable.{FitsFuncType, FitsLimits, FitsValType};
 ghost use Rattle.wasm_syntax.specs.Encoding.Shortest.{block_type_bytes, func_type_bytes, global_type_bytes, limits_bytes, table_type_bytes, val_type_byte, val_type_bytes};
@@ -13,6 +13,10 @@ use crate::parts::{push_byte, push_marked, push_pair};
 use crate::vectors::{vector_length, write_vector};
 use leb_bytes::push_u32;
 use no_memory::NoMemory;
+use wasm_opcodes::marks::{
+    LIMITS_MIN, LIMITS_MIN_MAX, TYPE_EMPTY, TYPE_F32, TYPE_F64, TYPE_FUNC, TYPE_FUNCREF, TYPE_I32,
+    TYPE_I64,
+};
 use wasm_syntax::{FuncType, GlobalType, Limits, ValType};
 
 /// Value types (Core 1.0, 5.3.1).
@@ -60,7 +64,7 @@ impl Encoding for FuncTypes {
     }
 
     fn write(item: &FuncType, out: &mut Vec<u8>) -> Result<(), NoMemory> {
-        push_byte(out, 0x60)?;
+        push_byte(out, TYPE_FUNC)?;
         write_vector::<ValTypes>(item.params.as_slice(), out)?;
         write_vector::<ValTypes>(item.results.as_slice(), out)
     }
@@ -81,7 +85,7 @@ impl Encoding for TableTypes {
     }
 
     fn write(item: &Limits, out: &mut Vec<u8>) -> Result<(), NoMemory> {
-        push_byte(out, 0x70)?;
+        push_byte(out, TYPE_FUNCREF)?;
         write_limits(item, out)
     }
 
@@ -126,12 +130,21 @@ pub(crate) fn write_limits(limits: &Limits, out: &mut Vec<u8>) -> Result<(), NoM
     ensures { OnOk result (out.new.items ≡ out.old.items ++ limits_bytes limits.now) }
 {
     match limits.max {
-        None => push_marked(out, 0x00, limits.min),
+        None => push_marked(out, LIMITS_MIN, limits.min),
         Some(most) => {
-            push_marked(out, 0x01, limits.min)?;
+            push_marked(out, LIMITS_MIN_MAX, limits.min)?;
             push_u32(out, most)
         }
     }
+}
+
+/// How many bytes the type of a global has.
+#[tactic(auto, unfolding(wasm_syntax::specs::Encoding::Shortest::global_type_bytes))]
+pub(crate) fn global_type_length(_ty: GlobalType) -> u64
+    ensures length { result ≡ length (global_type_bytes _ty) }
+    ensures few { result ≤ 2 }
+{
+    2
 }
 
 /// Appends the type of a global (Core 1.0, 5.3.7).
@@ -147,7 +160,7 @@ pub(crate) fn block_type_byte(ty: Option<ValType>) -> u8
     ensures { block_type_bytes ty ≡ result ∷ [] }
 {
     match ty {
-        None => 0x40,
+        None => TYPE_EMPTY,
         Some(result_type) => val_type_byte(result_type),
     }
 }
@@ -157,10 +170,10 @@ pub(crate) fn val_type_byte(ty: ValType) -> u8
     ensures { result ≡ val_type_byte ty }
 {
     match ty {
-        ValType::I32 => 0x7f,
-        ValType::I64 => 0x7e,
-        ValType::F32 => 0x7d,
-        ValType::F64 => 0x7c,
-        ValType::FuncRef => 0x70,
+        ValType::I32 => TYPE_I32,
+        ValType::I64 => TYPE_I64,
+        ValType::F32 => TYPE_F32,
+        ValType::F64 => TYPE_F64,
+        ValType::FuncRef => TYPE_FUNCREF,
     }
 }

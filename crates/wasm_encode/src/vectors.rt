@@ -3,7 +3,7 @@
 ghost use Rattle.std.specs.Prelude.{◌≡◌, ℕ, ◌^◌, ◌<◌, ◌++◌, List, length, OnOk, flat_map};
 ghost use Rattle.std.specs.List.{AllByRecursion};
 ghost use Rattle.leb_bytes.specs.Unsigned.{u32_bytes};
-ghost use Rattle.wasm_encode.specs.Lengths.{kept};
+ghost use Rattle.wasm_encode.specs.Lengths.{at_most_u64};
 ghost use Rattle.wasm_encode.specs.NotEmpty.{u32_some};
 ghost use Rattle.wasm_syntax.specs.Encoding.Encodable.{FitsU32};
 ghost use Rattle.wasm_syntax.specs.Encoding.Shortest.{vector_bytes};
@@ -37,7 +37,7 @@ impl Encoding for Indices {
 /// How many bytes the encodings of the items have together.
 pub(crate) fn items_length<E: Encoding>(items: &[E::Item]) -> u64
     requires { AllByRecursion E.fits items.now }
-    ensures { result ≡ kept (length (flat_map E.bytes items.now)) }
+    ensures { result ≡ at_most_u64 (length (flat_map E.bytes items.now)) }
 {
     let mut total: u64 = 0;
     'items: for item in items {
@@ -61,7 +61,7 @@ pub(crate) fn write_items<E: Encoding>(items: &[E::Item], out: &mut Vec<u8>) -> 
 /// How many bytes the vector of the items has (Core 1.0, 5.1.3).
 pub(crate) fn vector_length<E: Encoding>(items: &[E::Item]) -> u64
     requires { AllByRecursion E.fits items.now }
-    ensures { result ≡ kept (length (vector_bytes E.bytes items.now)) }
+    ensures { result ≡ at_most_u64 (length (vector_bytes E.bytes items.now)) }
 {
     u32_length(items.len() as u64).saturating_add(items_length::<E>(items))
 }

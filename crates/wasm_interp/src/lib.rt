@@ -1,27 +1,25 @@
 //! The machine: flat code run over a store, turn by turn (Core 1.0, 4.4).
 #![tactic(auto)]
 
-mod acts;
 mod advances;
 mod calls;
-pub mod deeds;
+pub mod control;
+mod form_advances;
+mod form_calls;
+mod form_steps;
+mod form_walks;
 mod host;
+mod instructions;
 mod laws;
-mod leaving;
 pub mod machine;
 mod memory;
 mod numeric;
 mod operands;
 mod plain;
-pub mod quick;
-mod quick_acts;
-mod quick_advances;
-mod quick_calls;
-mod quick_walks;
 mod returns;
-mod shorten;
 mod signatures;
 mod stack;
+mod stretch_ends;
 mod turns;
 mod values;
 mod walks;

@@ -5,32 +5,37 @@ ghost use Rattle.wasm_syntax.specs.Opcodes.{load_of, store_of, numeric_shape};
 ghost use Rattle.wasm_flat.specs.Slots as slot_types;
 ghost use Rattle.wasm_flat.specs.Slots.{operands_of_shape, result_of_shape, types_of_access, params_of};
 ghost use Rattle.wasm_numeric.specs.Opcode.{Test, Compare, Unary, Binary, Convert, kind_of};
-ghost use Rattle.wasm_interp.specs.OpcodeTypes.{operand_by, result_by, is_integer};
+ghost use Rattle.wasm_interp.specs.OpcodeTypes.{operand_by, result_by, is_integer, takes_one, takes_two};
 ghost use Rattle.wasm_interp.specs.Steps.{IsTypedOp};
 
 use crate::values::param_types;
 use no_memory::NoMemory;
 use std::alloc::Global;
 use wasm_flat::{Flat, Op};
+use wasm_opcodes::{
+    F32_LOAD, F32_REINTERPRET_I32, F32_STORE, F64_GE, F64_LOAD, F64_REINTERPRET_I64, F64_STORE,
+    I32_GE_U, I32_LOAD, I32_LOAD8_S, I32_LOAD8_U, I32_LOAD16_S, I32_LOAD16_U, I32_REINTERPRET_F32,
+    I32_ROTR, I32_STORE, I32_STORE8, I32_STORE16, I32_WRAP_I64, I64_REINTERPRET_F64, I64_ROTR,
+};
 use wasm_syntax::ValType;
 
 /// The type of each operand of a numeric instruction on integers.
 fn operand_type(opcode: u8) -> ValType
     ensures { result ≡ operand_by opcode }
 {
-    if opcode <= 0x4F {
+    if opcode <= I32_GE_U {
         ValType::I32
-    } else if opcode <= 0x66 {
+    } else if opcode <= F64_GE {
         ValType::I64
-    } else if opcode <= 0x78 {
+    } else if opcode <= I32_ROTR {
         ValType::I32
-    } else if opcode <= 0x8A {
+    } else if opcode <= I64_ROTR {
         ValType::I64
-    } else if opcode == 0xA7 || opcode == 0xBF {
+    } else if opcode == I32_WRAP_I64 || opcode == F64_REINTERPRET_I64 {
         ValType::I64
-    } else if opcode == 0xBC {
+    } else if opcode == I32_REINTERPRET_F32 {
         ValType::F32
-    } else if opcode == 0xBD {
+    } else if opcode == I64_REINTERPRET_F64 {
         ValType::F64
     } else {
         ValType::I32
@@ -41,36 +46,21 @@ fn operand_type(opcode: u8) -> ValType
 fn result_type(opcode: u8) -> ValType
     ensures { result ≡ result_by opcode }
 {
-    if opcode <= 0x66 {
+    if opcode <= F64_GE {
         ValType::I32
-    } else if opcode <= 0x78 {
+    } else if opcode <= I32_ROTR {
         ValType::I32
-    } else if opcode <= 0x8A {
+    } else if opcode <= I64_ROTR {
         ValType::I64
-    } else if opcode == 0xA7 || opcode == 0xBC {
+    } else if opcode == I32_WRAP_I64 || opcode == I32_REINTERPRET_F32 {
         ValType::I32
-    } else if opcode == 0xBE {
+    } else if opcode == F32_REINTERPRET_I32 {
         ValType::F32
-    } else if opcode == 0xBF {
+    } else if opcode == F64_REINTERPRET_I64 {
         ValType::F64
     } else {
         ValType::I64
     }
-}
-
-/// The types of one operand of a numeric instruction.
-fn one(alloc: Global, opcode: u8) -> Result<Vec<ValType>, NoMemory>
-    ensures { IfOk result (λ types. types.items ≡ operand_by opcode ∷ []) }
-{
-    Ok(Vec::from_slice(alloc, &[operand_type(opcode)])?)
-}
-
-/// The types of its two operands.
-fn two(alloc: Global, opcode: u8) -> Result<Vec<ValType>, NoMemory>
-    ensures { IfOk result (λ types. types.items ≡ operand_by opcode ∷ operand_by opcode ∷ []) }
-{
-    let ty = operand_type(opcode);
-    Ok(Vec::from_slice(alloc, &[ty, ty])?)
 }
 
 /// The type of the value that a load reads.
@@ -79,9 +69,9 @@ fn load_type(opcode: u8) -> ValType
     ensures { types_of_access (load_of opcode) ≡ result ∷ [] }
 {
     match opcode {
-        0x28 | 0x2C | 0x2D | 0x2E | 0x2F => ValType::I32,
-        0x2A => ValType::F32,
-        0x2B => ValType::F64,
+        I32_LOAD | I32_LOAD8_S | I32_LOAD8_U | I32_LOAD16_S | I32_LOAD16_U => ValType::I32,
+        F32_LOAD => ValType::F32,
+        F64_LOAD => ValType::F64,
         _ => ValType::I64,
     }
 }
@@ -92,15 +82,15 @@ fn store_type(opcode: u8) -> ValType
     ensures { types_of_access (store_of opcode) ≡ result ∷ [] }
 {
     match opcode {
-        0x36 | 0x3A | 0x3B => ValType::I32,
-        0x38 => ValType::F32,
-        0x39 => ValType::F64,
+        I32_STORE | I32_STORE8 | I32_STORE16 => ValType::I32,
+        F32_STORE => ValType::F32,
+        F64_STORE => ValType::F64,
         _ => ValType::I64,
     }
 }
 
 /// The types of the operands of a call through the table.
-fn indirect(alloc: Global, params: &[ValType]) -> Result<Vec<ValType>, NoMemory>
+fn indirect_types(alloc: Global, params: &[ValType]) -> Result<Vec<ValType>, NoMemory>
     ensures { IfOk result (λ types. types.items ≡ params.now ++ ValType.I32 ∷ []) }
 {
     let mut types = Vec::from_slice(alloc, params)?;
@@ -114,21 +104,22 @@ pub(crate) fn operand_types(alloc: Global, flat: &Flat, op: &Op) -> Result<Vec<V
     ensures { IfOk result (λ types. types.items ≡ slot_types.operand_types flat.now.types flat.now.indices op.now) }
 {
     match op {
-        Op::Choose { .. } | Op::Branch { .. } | Op::Switch { .. } => listed(alloc, &[ValType::I32]),
-        Op::Load { .. } | Op::MemoryGrow => listed(alloc, &[ValType::I32]),
-        Op::Call { func } => listed(alloc, param_types(flat, *func)),
-        Op::CallIndirect { ty } => indirect(alloc, params_at(flat, *ty)),
-        Op::Drop { ty } | Op::GlobalSet { ty, .. } => listed(alloc, &[*ty]),
-        Op::LocalSet { ty, .. } | Op::LocalTee { ty, .. } => listed(alloc, &[*ty]),
-        Op::Select { ty } => listed(alloc, &[*ty, *ty, ValType::I32]),
-        Op::Store { op, .. } => listed(alloc, &[ValType::I32, store_type(*op)]),
-        Op::Test { op } => one_test(alloc, *op),
-        Op::Compare { op } => two_compare(alloc, *op),
-        Op::Unary { op } => one_unary(alloc, *op),
-        Op::Binary { op } => two_binary(alloc, *op),
-        Op::Convert { op } => one_convert(alloc, *op),
-        Op::TableSet => listed(alloc, &[ValType::I32, ValType::FuncRef]),
-        _ => listed(alloc, &[]),
+        Op::Choose { .. } | Op::Branch { .. } | Op::Switch { .. } => list_of_types(
+            alloc,
+            &[ValType::I32],
+        ),
+        Op::Load { .. } | Op::MemoryGrow => list_of_types(alloc, &[ValType::I32]),
+        Op::Call { func } => list_of_types(alloc, param_types(flat, *func)),
+        Op::CallIndirect { ty } => indirect_types(alloc, params_at(flat, *ty)),
+        Op::Drop { ty } | Op::GlobalSet { ty, .. } => list_of_types(alloc, &[*ty]),
+        Op::LocalSet { ty, .. } | Op::LocalTee { ty, .. } => list_of_types(alloc, &[*ty]),
+        Op::Select { ty } => list_of_types(alloc, &[*ty, *ty, ValType::I32]),
+        Op::Store { op, .. } => list_of_types(alloc, &[ValType::I32, store_type(*op)]),
+        Op::Test { op } | Op::Unary { op } => one_operand(alloc, *op),
+        Op::Convert { op } => one_operand(alloc, *op),
+        Op::Compare { op } | Op::Binary { op } => two_operands(alloc, *op),
+        Op::TableSet => list_of_types(alloc, &[ValType::I32, ValType::FuncRef]),
+        _ => list_of_types(alloc, &[]),
     }
 }
 
@@ -138,21 +129,21 @@ pub(crate) fn result_types(alloc: Global, op: &Op) -> Result<Vec<ValType>, NoMem
     ensures { IfOk result (λ types. types.items ≡ slot_types.result_types op.now) }
 {
     match op {
-        Op::Select { ty } | Op::LocalGet { ty, .. } => listed(alloc, &[*ty]),
-        Op::LocalTee { ty, .. } | Op::GlobalGet { ty, .. } => listed(alloc, &[*ty]),
-        Op::Load { op, .. } => listed(alloc, &[load_type(*op)]),
-        Op::MemorySize | Op::MemoryGrow => listed(alloc, &[ValType::I32]),
-        Op::Const { value } => listed(alloc, &[value.ty]),
-        Op::Test { op } | Op::Compare { op } => given(alloc, *op),
-        Op::Unary { op } | Op::Binary { op } => given(alloc, *op),
-        Op::Convert { op } => given(alloc, *op),
-        _ => listed(alloc, &[]),
+        Op::Select { ty } | Op::LocalGet { ty, .. } => list_of_types(alloc, &[*ty]),
+        Op::LocalTee { ty, .. } | Op::GlobalGet { ty, .. } => list_of_types(alloc, &[*ty]),
+        Op::Load { op, .. } => list_of_types(alloc, &[load_type(*op)]),
+        Op::MemorySize | Op::MemoryGrow => list_of_types(alloc, &[ValType::I32]),
+        Op::Const { value } => list_of_types(alloc, &[value.ty]),
+        Op::Test { op } | Op::Compare { op } => numeric_result(alloc, *op),
+        Op::Unary { op } | Op::Binary { op } => numeric_result(alloc, *op),
+        Op::Convert { op } => numeric_result(alloc, *op),
+        _ => list_of_types(alloc, &[]),
     }
 }
 
 /// The types of a list.
-fn listed(alloc: Global, types: &[ValType]) -> Result<Vec<ValType>, NoMemory>
-    ensures { IfOk result (λ listed. listed.items ≡ types.now) }
+fn list_of_types(alloc: Global, types: &[ValType]) -> Result<Vec<ValType>, NoMemory>
+    ensures { IfOk result (λ list_of_types. list_of_types.items ≡ types.now) }
 {
     Ok(Vec::from_slice(alloc, types)?)
 }
@@ -168,55 +159,29 @@ fn params_at(flat: &Flat, ty: u32) -> &[ValType]
 }
 
 /// The type of the result of a numeric instruction.
-#[tactic(auto, using(crate::proofs::Opcodes::given_at))]
-fn given(alloc: Global, opcode: u8) -> Result<Vec<ValType>, NoMemory>
+#[tactic(auto, using(crate::proofs::Opcodes::numeric_result))]
+fn numeric_result(alloc: Global, opcode: u8) -> Result<Vec<ValType>, NoMemory>
     requires { is_integer (kind_of opcode) ≡ true }
     ensures { IfOk result (λ types. types.items ≡ result_of_shape (numeric_shape opcode)) }
 {
-    listed(alloc, &[result_type(opcode)])
+    list_of_types(alloc, &[result_type(opcode)])
 }
 
-/// The types of the operands of a test.
-#[tactic(auto, using(crate::proofs::Opcodes::test_types))]
-fn one_test(alloc: Global, opcode: u8) -> Result<Vec<ValType>, NoMemory>
-    requires { kind_of opcode ≡ Test }
+/// The types of the operands of a numeric instruction that takes one.
+#[tactic(auto, using(crate::proofs::Opcodes::one_operand))]
+fn one_operand(alloc: Global, opcode: u8) -> Result<Vec<ValType>, NoMemory>
+    requires { takes_one (kind_of opcode) ≡ true }
     ensures { IfOk result (λ types. types.items ≡ operands_of_shape (numeric_shape opcode)) }
 {
-    one(alloc, opcode)
+    list_of_types(alloc, &[operand_type(opcode)])
 }
 
-/// The types of the operands of a comparison.
-#[tactic(auto, using(crate::proofs::Opcodes::compare_types))]
-fn two_compare(alloc: Global, opcode: u8) -> Result<Vec<ValType>, NoMemory>
-    requires { kind_of opcode ≡ Compare }
+/// The types of the operands of a numeric instruction that takes two.
+#[tactic(auto, using(crate::proofs::Opcodes::two_operands))]
+fn two_operands(alloc: Global, opcode: u8) -> Result<Vec<ValType>, NoMemory>
+    requires { takes_two (kind_of opcode) ≡ true }
     ensures { IfOk result (λ types. types.items ≡ operands_of_shape (numeric_shape opcode)) }
 {
-    two(alloc, opcode)
-}
-
-/// The types of the operands of a unary.
-#[tactic(auto, using(crate::proofs::Opcodes::unary_types))]
-fn one_unary(alloc: Global, opcode: u8) -> Result<Vec<ValType>, NoMemory>
-    requires { kind_of opcode ≡ Unary }
-    ensures { IfOk result (λ types. types.items ≡ operands_of_shape (numeric_shape opcode)) }
-{
-    one(alloc, opcode)
-}
-
-/// The types of the operands of a binary.
-#[tactic(auto, using(crate::proofs::Opcodes::binary_types))]
-fn two_binary(alloc: Global, opcode: u8) -> Result<Vec<ValType>, NoMemory>
-    requires { kind_of opcode ≡ Binary }
-    ensures { IfOk result (λ types. types.items ≡ operands_of_shape (numeric_shape opcode)) }
-{
-    two(alloc, opcode)
-}
-
-/// The types of the operands of a conversion.
-#[tactic(auto, using(crate::proofs::Opcodes::convert_types))]
-fn one_convert(alloc: Global, opcode: u8) -> Result<Vec<ValType>, NoMemory>
-    requires { kind_of opcode ≡ Convert }
-    ensures { IfOk result (λ types. types.items ≡ operands_of_shape (numeric_shape opcode)) }
-{
-    one(alloc, opcode)
+    let ty = operand_type(opcode);
+    list_of_types(alloc, &[ty, ty])
 }

@@ -5,12 +5,13 @@ ghost use Rattle.wasm_syntax.specs.Alike as alike;
 ghost use Rattle.wasm_flat.specs.Slots.{params_of, type_in};
 ghost use Rattle.wasm_store.specs.Calls.{entry_at};
 ghost use Rattle.flat_steps.specs.FlatStep.{same_types_there, calls_entry};
-ghost use Rattle.wasm_interp.specs.Deeds.{deed_of};
+ghost use Rattle.wasm_interp.specs.Controls.{control_of};
 
-use crate::deeds::Deed;
+use crate::control::Control;
 use crate::memory::entry;
 use history_spec::TrapKind;
 use wasm_flat::Flat;
+use wasm_opcodes::marks::{TYPE_F32, TYPE_F64, TYPE_FUNCREF, TYPE_I32, TYPE_I64};
 use wasm_store::Store;
 use wasm_syntax::{FuncType, ValType};
 
@@ -19,11 +20,11 @@ fn type_byte(ty: ValType) -> u8
     ensures { result ≡ alike.type_byte ty }
 {
     match ty {
-        ValType::I32 => 0x7F,
-        ValType::I64 => 0x7E,
-        ValType::F32 => 0x7D,
-        ValType::F64 => 0x7C,
-        ValType::FuncRef => 0x70,
+        ValType::I32 => TYPE_I32,
+        ValType::I64 => TYPE_I64,
+        ValType::F32 => TYPE_F32,
+        ValType::F64 => TYPE_F64,
+        ValType::FuncRef => TYPE_FUNCREF,
     }
 }
 
@@ -77,24 +78,24 @@ fn has_type(flat: &Flat, ty: u32, func: u32) -> bool
 }
 
 /// A call of the function in an entry of the table, which has this type.
-pub(crate) fn call_entry(flat: &Flat, store: &Store, ty: u32, index: u64) -> Deed
+pub(crate) fn call_entry(flat: &Flat, store: &Store, ty: u32, index: u64) -> Control
     requires { ty < length flat.now.types }
-    ensures { result ≡ deed_of (calls_entry flat.now store.now ty (entry_at store.now index)) }
+    ensures { result ≡ control_of (calls_entry flat.now store.now ty (entry_at store.now index)) }
 {
     match entry(store, index) {
-        None => Deed::Traps {
+        None => Control::Traps {
             kind: TrapKind::Table,
             found: Some(store.table_size()),
         },
-        Some(None) => Deed::traps(TrapKind::Empty),
+        Some(None) => Control::traps(TrapKind::Empty),
         Some(Some(func)) => {
             if has_type(flat, ty, func) {
-                Deed::Calls {
+                Control::Calls {
                     func,
                     found: Some(func),
                 }
             } else {
-                Deed::Traps {
+                Control::Traps {
                     kind: TrapKind::Signature,
                     found: Some(func),
                 }

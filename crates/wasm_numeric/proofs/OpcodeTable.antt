@@ -1,53 +1,37 @@
 -- Which opcodes each kind has, and how wide its operands are: a test that is computed over the table, and what it says at each opcode.
 use Rattle.std.proofs.Common.{◌≡◌, ℕ, zero, suc, ◌<◌, ◌≤◌, ◌⊎◌, ◌≢◌, Bool, true, false, ◌&&◌, ◌||◌, List, [], ◌∷◌, nat_le, nat_lt, if◌then◌else◌, ◌==◌, refl, sym, subst, arith, inl, inr}
-use Rattle.std.proofs.Math.Nat.{eq-or-lt_of_le}
 use Rattle.std.proofs.lemmas.Bool.{eqb-true, ltb-true, lt-leb, and_right, cases_lt}
 use Rattle.std.proofs.lemmas.Bool.Decides.{nat_tests}
+use Rattle.list_laws.proofs.Booleans.{all_below, and_parts, passes_below}
+use Rattle.wasm_opcodes.specs.declared.TheConstants.{I32_EQ, I32_GE_U, I64_EQ, I64_GE_U, I32_CLZ, I32_POPCNT, I64_CLZ, I64_POPCNT, I32_ADD, I32_ROTR, I64_ADD, I64_ROTR, I32_WRAP_I64, I64_EXTEND_I32_S}
 use Rattle.wasm_numeric.specs.Opcode.{Row, Kind, Compare, Unary, Binary, Convert, NotNumeric, kind_of, width, width_of, result_of, rows, row_among}
 
--- each number below n passes the test
-abbrev all_below : ℕ → (ℕ → Bool) → Bool
-all_below zero test = true
-all_below (suc n) test = test n && all_below n test
-
-both : (x y : Bool) → (x && y) ≡ true → (x ≡ true) × (y ≡ true)
-both true y h = (refl, h)
-both false y h = absurd (cc)
-
-at : (n : ℕ) (test : ℕ → Bool) → all_below n test ≡ true → (i : ℕ) → i < n → test i ≡ true
-at zero test all i h = absurd (omega arith)
-at (suc n) test all i h =
-    let (here, below) = both (test n) (all_below n test) all in
-    elim (eq-or-lt_of_le (let within : i ≤ n = omega arith in within)) [
-      | inl same ↦ subst (λ k. test k ≡ true) (sym same) here
-      | inr less ↦ at n test below i less
-    ]
-
 -- each row ends below 256
-abbrev ends : List Row → Bool
-ends [] = true
-ends (r ∷ rs) = nat_lt r.last 256 && ends rs
+abbrev pub are_bytes : List Row → Bool
+are_bytes [] = true
+are_bytes (r ∷ rs) = nat_lt r.last 256 && are_bytes rs
 
-past : (rs : List Row) (op : ℕ) → ends rs ≡ true → 256 ≤ op → (row_among rs op).kind ≡ NotNumeric
-past [] op within far = refl
-past (r ∷ rs) op within far =
-    let (here, below) = both (nat_lt r.last 256) (ends rs) within in
+pub past_rows : (rs : List Row) (op : ℕ) → are_bytes rs ≡ true → 256 ≤ op → (row_among rs op).kind ≡ NotNumeric
+past_rows [] op within far = refl
+past_rows (r ∷ rs) op within far =
+    let (here, below) = and_parts (nat_lt r.last 256) (are_bytes rs) within in
     let outside : nat_le op r.last ≡ false = lt-leb op r.last (omega (arith, ltb-true r.last 256 here)) in
-    rw (and_right (nat_le r.first op) (nat_le op r.last) outside) (past rs op below far)
+    rw (and_right (nat_le r.first op) (nat_le op r.last) outside) (past_rows rs op below far)
 
 -- a test that each byte passes, and each opcode that is not numeric
-everywhere : (test : ℕ → Bool) → all_below 256 test ≡ true → ((op : ℕ) → kind_of op ≡ NotNumeric → test op ≡ true) → (op : ℕ) → test op ≡ true
+pub everywhere : (test : ℕ → Bool) → all_below 256 test ≡ true → ((op : ℕ) → kind_of op ≡ NotNumeric → test op ≡ true)
+    → (op : ℕ) → test op ≡ true
 everywhere test bytes others op =
-    elim (cases_lt op 256) [ inl byte ↦ at 256 test bytes op byte | inr far ↦ others op (past rows op refl far) ]
+    elim (cases_lt op 256) [ inl byte ↦ passes_below 256 test bytes op byte | inr far ↦ others op (past_rows rows op refl far) ]
 
 abbrev lies : (first last op : ℕ) → Bool
 lies first last op = nat_le first op && nat_le op last
 
 -- what the table says of an opcode of a kind whose operands have w bits
 abbrev says : Kind → (w op : ℕ) → Bool
-says Compare w op = (lies 0x46 0x4F op && w == 32) || (lies 0x51 0x5A op && w == 64)
-says Unary w op = (lies 0x67 0x69 op && w == 32) || (lies 0x79 0x7B op && w == 64)
-says Binary w op = (lies 0x6A 0x78 op && w == 32) || (lies 0x7C 0x8A op && w == 64)
+says Compare w op = (lies I32_EQ I32_GE_U op && w == 32) || (lies I64_EQ I64_GE_U op && w == 64)
+says Unary w op = (lies I32_CLZ I32_POPCNT op && w == 32) || (lies I64_CLZ I64_POPCNT op && w == 64)
+says Binary w op = (lies I32_ADD I32_ROTR op && w == 32) || (lies I64_ADD I64_ROTR op && w == 64)
 says _ w op = true
 
 said : (op : ℕ) (kind : Kind) → kind_of op ≡ kind → says kind (width_of op) op ≡ true
@@ -65,22 +49,24 @@ in_ranges : (first32 last32 first64 last64 w op : ℕ)
     → InRanges first32 last32 first64 last64 w op
 in_ranges first32 last32 first64 last64 w op h = grind (arith, nat_tests)
 
-pub compare_opcodes : (op : ℕ) → kind_of op ≡ Compare → InRanges 0x46 0x4F 0x51 0x5A (width_of op) op
-compare_opcodes op is = in_ranges 0x46 0x4F 0x51 0x5A (width_of op) op (said op Compare is)
+pub compare_opcodes : (op : ℕ) → kind_of op ≡ Compare → InRanges I32_EQ I32_GE_U I64_EQ I64_GE_U (width_of op) op
+compare_opcodes op is = in_ranges I32_EQ I32_GE_U I64_EQ I64_GE_U (width_of op) op (said op Compare is)
 
-pub unary_opcodes : (op : ℕ) → kind_of op ≡ Unary → InRanges 0x67 0x69 0x79 0x7B (width_of op) op
-unary_opcodes op is = in_ranges 0x67 0x69 0x79 0x7B (width_of op) op (said op Unary is)
+pub unary_opcodes : (op : ℕ) → kind_of op ≡ Unary → InRanges I32_CLZ I32_POPCNT I64_CLZ I64_POPCNT (width_of op) op
+unary_opcodes op is = in_ranges I32_CLZ I32_POPCNT I64_CLZ I64_POPCNT (width_of op) op (said op Unary is)
 
-pub binary_opcodes : (op : ℕ) → kind_of op ≡ Binary → InRanges 0x6A 0x78 0x7C 0x8A (width_of op) op
-binary_opcodes op is = in_ranges 0x6A 0x78 0x7C 0x8A (width_of op) op (said op Binary is)
+pub binary_opcodes : (op : ℕ) → kind_of op ≡ Binary → InRanges I32_ADD I32_ROTR I64_ADD I64_ROTR (width_of op) op
+binary_opcodes op is = in_ranges I32_ADD I32_ROTR I64_ADD I64_ROTR (width_of op) op (said op Binary is)
 
 -- an opcode past the first range has operands of 64 bits
-pub width_past : {first32 last32 first64 last64 w op : ℕ} → InRanges first32 last32 first64 last64 w op → last32 < op → w ≡ 64
+pub width_past : {first32 last32 first64 last64 w op : ℕ} → InRanges first32 last32 first64 last64 w op → last32 < op
+    → w ≡ 64
 width_past (inl low) h = absurd (omega (arith, low.1))
 width_past (inr high) h = high.2
 
 -- an opcode below the second range has operands of 32 bits
-pub width_within : {first32 last32 first64 last64 w op : ℕ} → InRanges first32 last32 first64 last64 w op → op < first64 → w ≡ 32
+pub width_within : {first32 last32 first64 last64 w op : ℕ} → InRanges first32 last32 first64 last64 w op → op < first64
+    → w ≡ 32
 width_within (inl low) h = low.2
 width_within (inr high) h = absurd (omega (arith, high.0))
 
@@ -90,7 +76,8 @@ width_within (inr high) h = absurd (omega (arith, high.0))
 abbrev turns : Kind → (w r op : ℕ) → Bool
 turns Unary w r op = w == r
 turns Binary w r op = w == r && nat_lt 0 w
-turns Convert w r op = (if op == 0xA7 then r == 32 else nat_le w r) && (if op == 0xAC then r == 64 else true)
+turns Convert w r op =
+    (if op == I32_WRAP_I64 then r == 32 else nat_le w r) && (if op == I64_EXTEND_I32_S then r == 64 else true)
 turns _ w r op = true
 
 turned : (op : ℕ) (kind : Kind) → kind_of op ≡ kind → turns kind (width_of op) (width (result_of op)) op ≡ true
@@ -112,9 +99,9 @@ pub binary_wide : (op : ℕ) → kind_of op ≡ Binary → 0 < width_of op
 binary_wide op is = (binaries (width_of op) (width (result_of op)) (turned op Binary is)).1
 
 pub record ConvertWidths (w r op : ℕ) : Type 0 where
-  pub wraps : op ≡ 0xA7 → r ≡ 32
-  pub extends : op ≡ 0xAC → r ≡ 64
-  pub keeps : op ≢ 0xA7 → w ≤ r
+  pub wraps : op ≡ I32_WRAP_I64 → r ≡ 32
+  pub extends : op ≡ I64_EXTEND_I32_S → r ≡ 64
+  pub keeps : op ≢ I32_WRAP_I64 → w ≤ r
 
 conversions : (w r op : ℕ) → turns Convert w r op ≡ true → ConvertWidths w r op
 conversions w r op h =

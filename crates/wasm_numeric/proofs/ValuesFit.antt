@@ -4,6 +4,7 @@ use Rattle.std.proofs.Math.Nat.{mod-lt, mod-le, div-le_self, mul-le-mul_right, p
 use Rattle.std.proofs.Math.Pow.{pow_mono}
 use Rattle.std.proofs.lemmas.Bool.{cases_eq, eq-eqb, ne_eqb}
 use Rattle.std.proofs.lemmas.Nat.{pow_pos, or_lt}
+use Rattle.wasm_opcodes.specs.declared.TheConstants.{I32_WRAP_I64, I64_EXTEND_I32_S}
 use Rattle.wasm_numeric.specs.declared.operation.UnaryOp.{UnaryOp}
 use Rattle.wasm_numeric.specs.declared.operation.UnaryOp.TheVariants.{Clz, Ctz, Popcnt}
 use Rattle.wasm_numeric.specs.declared.operation.BinaryOp.{BinaryOp}
@@ -13,7 +14,7 @@ use Rattle.wasm_numeric.specs.Opcode.{Unary, Binary, Convert, kind_of, width, wi
 use Rattle.wasm_numeric.proofs.OpcodeTable.{unary_result, binary_result, binary_wide, ConvertWidths, convert_result}
 use Rattle.wasm_numeric.proofs.Rotations.{rotl_is}
 
-modulo_fits : (w : ℕ) (z : ℤ) → modulo w z < 2 ^ w
+pub modulo_fits : (w : ℕ) (z : ℤ) → modulo w z < 2 ^ w
 modulo_fits w (pos n) = mod-lt n (pow_pos w)
 modulo_fits w (negsuc n) = omega (arith, pow_pos w)
 
@@ -51,7 +52,8 @@ count_fits w a n within =
 
 pub unary_value_fits : (operation : UnaryOp) (w a : ℕ) → unary_value operation w a < 2 ^ w
 unary_value_fits Clz w a = count_fits w a (w - 1 - greatest_below w (λ i. nat_le (2 ^ i) a)) (omega arith)
-unary_value_fits Ctz w a = count_fits w a (greatest_below w (λ i. a % 2 ^ i == 0)) (greatest_below-le w (λ i. a % 2 ^ i == 0))
+unary_value_fits Ctz w a =
+    count_fits w a (greatest_below w (λ i. a % 2 ^ i == 0)) (greatest_below-le w (λ i. a % 2 ^ i == 0))
 unary_value_fits Popcnt w a = omega (arith, sum_of_bits w a, width_fits w)
 
 -- the value, if there is one, has w bits
@@ -91,7 +93,8 @@ binary_value_fits And w a b wide p =
     number_of_bits_fits w (λ i. bit a i * bit b i) (λ i. both_bits (bit a i) (bit b i) (one_bit (a / 2 ^ i)) (one_bit (b / 2 ^ i)))
 binary_value_fits Or w a b wide p =
     number_of_bits_fits w (λ i. max (bit a i) (bit b i)) (λ i. omega (arith, one_bit (a / 2 ^ i), one_bit (b / 2 ^ i)))
-binary_value_fits Xor w a b wide p = number_of_bits_fits w (λ i. (bit a i + bit b i) % 2) (λ i. one_bit (bit a i + bit b i))
+binary_value_fits Xor w a b wide p =
+    number_of_bits_fits w (λ i. (bit a i + bit b i) % 2) (λ i. one_bit (bit a i + bit b i))
 binary_value_fits Shl w a b wide p = mod-lt (a * 2 ^ (b % w)) (pow_pos w)
 binary_value_fits ShrS w a b wide p = modulo_fits w (floor_quotient (signed w a) (2 ^ (b % w)))
 binary_value_fits ShrU w a b wide p = omega (arith, div-le_self a (2 ^ (b % w)))
@@ -110,29 +113,30 @@ pub unary_fits : (op a : ℕ) → kind_of op ≡ Unary → unary_of op a < 2 ^ w
 unary_fits op a is =
     subst (λ w. unary_of op a < 2 ^ w) (sym (unary_result op is)) (unary_value_fits (unary_op_of op) (width_of op) a)
 
-pub binary_fits : (op a b : ℕ) → kind_of op ≡ Binary → a < 2 ^ width_of op → FitsIn (width (result_of op)) (binary_of op a b)
+pub binary_fits : (op a b : ℕ) → kind_of op ≡ Binary → a < 2 ^ width_of op
+    → FitsIn (width (result_of op)) (binary_of op a b)
 binary_fits op a b is p =
     subst (λ w. FitsIn w (binary_of op a b)) (sym (binary_result op is))
     (binary_value_fits (binary_op_of op) (width_of op) a b (binary_wide op is) p)
 
 -- for an opcode, the width of its operand and that of its result
-converted : (op a w r : ℕ) → ConvertWidths w r op → a < 2 ^ w → convert_of op a < 2 ^ r
-converted op a w r widths p =
-    elim (cases_eq op 0xA7) [
+convert_by_widths : (op a w r : ℕ) → ConvertWidths w r op → a < 2 ^ w → convert_of op a < 2 ^ r
+convert_by_widths op a w r widths p =
+    elim (cases_eq op I32_WRAP_I64) [
       | inl wraps ↦
-          rw (eq-eqb op 0xA7 wraps)
+          rw (eq-eqb op I32_WRAP_I64 wraps)
           (subst (λ k. wrap a < 2 ^ k) (sym (widths.wraps wraps)) (mod-lt a (pow_pos 32)))
       | inr keeps ↦
-          rw (ne_eqb op 0xA7 keeps)
-          (elim (cases_eq op 0xAC) [
+          rw (ne_eqb op I32_WRAP_I64 keeps)
+          (elim (cases_eq op I64_EXTEND_I32_S) [
             | inl extends ↦
-                rw (eq-eqb op 0xAC extends)
+                rw (eq-eqb op I64_EXTEND_I32_S extends)
                 (subst (λ k. extend_s a < 2 ^ k) (sym (widths.extends extends)) (modulo_fits 64 (signed 32 a)))
             | inr same ↦
-                rw (ne_eqb op 0xAC same) (omega (arith, p, pow_mono (widths.keeps keeps)))
+                rw (ne_eqb op I64_EXTEND_I32_S same) (omega (arith, p, pow_mono (widths.keeps keeps)))
           ])
     ]
 
 pub convert_fits : (op a : ℕ) → kind_of op ≡ Convert → a < 2 ^ width_of op → convert_of op a < 2 ^ width (result_of op)
 convert_fits op a is p =
-    converted op a (width_of op) (width (result_of op)) (convert_result op is) p
+    convert_by_widths op a (width_of op) (width (result_of op)) (convert_result op is) p

@@ -12,7 +12,8 @@ use Rattle.wasm_numeric.specs.Integer.{greatest_below, sum_below, number_of_bits
 use Rattle.wasm_numeric.proofs.Bitwise.{number_of_bits-bit}
 
 -- the greatest i below n that passes the test
-greatest_below-is : (n j : ℕ) (test : ℕ → Bool) → j < n → test j ≡ true → ((i : ℕ) → j < i → test i ≡ false) → greatest_below n test ≡ j
+greatest_below-is : (n j : ℕ) (test : ℕ → Bool) → j < n → test j ≡ true → ((i : ℕ) → j < i → test i ≡ false)
+    → greatest_below n test ≡ j
 greatest_below-is zero j test q passes fails = absurd (omega arith)
 greatest_below-is (suc n) j test q passes fails =
     elim (eq-or-lt_of_le (let here : j ≤ n = omega arith in here)) [

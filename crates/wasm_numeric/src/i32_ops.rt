@@ -1,7 +1,7 @@
 //! The operations on `i32` (Core 1.0, 4.3.2).
-ghost use Rattle.std.specs.Prelude.{◌≡◌, ◌≤◌};
+ghost use Rattle.std.specs.Prelude.{◌≡◌};
 ghost use Rattle.wasm_numeric.specs.Integer.{unary_value, binary_value, compare_value, div_s, rem_s};
-ghost use Rattle.wasm_numeric.specs.Opcode.{Compare, Unary, Binary, kind_of, unary_op_of, binary_op_of, compare_op_of, answer_of};
+ghost use Rattle.wasm_numeric.specs.Opcode.{answer_of};
 
 use crate::NumTrap;
 use crate::operation::{BinaryOp, CompareOp, UnaryOp};
@@ -86,69 +86,5 @@ fn i32_rem_s(a: u32, b: u32) -> Result<u32, NumTrap>
     } else {
         let left = a.cast_signed().wrapping_rem(b.cast_signed());
         Ok(left.cast_unsigned())
-    }
-}
-
-/// The operation of an opcode of `i32`, such as that of `i32.clz`.
-#[inline]
-pub fn i32_unary_op(op: u8) -> UnaryOp
-    requires kind { kind_of op ≡ Unary }
-    requires on_i32 { op ≤ 0x69 }
-    ensures { result ≡ unary_op_of op }
-{
-    match op {
-        0x67 => UnaryOp::Clz,
-        0x68 => UnaryOp::Ctz,
-        0x69 => UnaryOp::Popcnt,
-        _ => unreachable!(),
-    }
-}
-
-/// The operation of an opcode of `i32`, such as that of `i32.eq`.
-#[inline]
-pub fn i32_compare_op(op: u8) -> CompareOp
-    requires kind { kind_of op ≡ Compare }
-    requires on_i32 { op ≤ 0x4F }
-    ensures { result ≡ compare_op_of op }
-{
-    match op {
-        0x46 => CompareOp::Eq,
-        0x47 => CompareOp::Ne,
-        0x48 => CompareOp::LtS,
-        0x49 => CompareOp::LtU,
-        0x4A => CompareOp::GtS,
-        0x4B => CompareOp::GtU,
-        0x4C => CompareOp::LeS,
-        0x4D => CompareOp::LeU,
-        0x4E => CompareOp::GeS,
-        0x4F => CompareOp::GeU,
-        _ => unreachable!(),
-    }
-}
-
-/// The operation of an opcode of `i32`, such as that of `i32.add`.
-#[inline]
-pub fn i32_binary_op(op: u8) -> BinaryOp
-    requires kind { kind_of op ≡ Binary }
-    requires on_i32 { op ≤ 0x78 }
-    ensures { result ≡ binary_op_of op }
-{
-    match op {
-        0x6A => BinaryOp::Add,
-        0x6B => BinaryOp::Sub,
-        0x6C => BinaryOp::Mul,
-        0x6D => BinaryOp::DivS,
-        0x6E => BinaryOp::DivU,
-        0x6F => BinaryOp::RemS,
-        0x70 => BinaryOp::RemU,
-        0x71 => BinaryOp::And,
-        0x72 => BinaryOp::Or,
-        0x73 => BinaryOp::Xor,
-        0x74 => BinaryOp::Shl,
-        0x75 => BinaryOp::ShrS,
-        0x76 => BinaryOp::ShrU,
-        0x77 => BinaryOp::Rotl,
-        0x78 => BinaryOp::Rotr,
-        _ => unreachable!(),
     }
 }

@@ -1,7 +1,7 @@
 //! The operations on `i64` (Core 1.0, 4.3.2).
-ghost use Rattle.std.specs.Prelude.{◌≡◌, ◌≤◌};
+ghost use Rattle.std.specs.Prelude.{◌≡◌};
 ghost use Rattle.wasm_numeric.specs.Integer.{unary_value, binary_value, compare_value, div_s, rem_s};
-ghost use Rattle.wasm_numeric.specs.Opcode.{Compare, Unary, Binary, kind_of, unary_op_of, binary_op_of, compare_op_of, answer_of};
+ghost use Rattle.wasm_numeric.specs.Opcode.{answer_of};
 
 use crate::NumTrap;
 use crate::operation::{BinaryOp, CompareOp, UnaryOp};
@@ -86,69 +86,5 @@ fn i64_rem_s(a: u64, b: u64) -> Result<u64, NumTrap>
     } else {
         let left = a.cast_signed().wrapping_rem(b.cast_signed());
         Ok(left.cast_unsigned())
-    }
-}
-
-/// The operation of an opcode of `i64`, such as that of `i64.clz`.
-#[inline]
-pub fn i64_unary_op(op: u8) -> UnaryOp
-    requires kind { kind_of op ≡ Unary }
-    requires on_i64 { 0x79 ≤ op }
-    ensures { result ≡ unary_op_of op }
-{
-    match op {
-        0x79 => UnaryOp::Clz,
-        0x7A => UnaryOp::Ctz,
-        0x7B => UnaryOp::Popcnt,
-        _ => unreachable!(),
-    }
-}
-
-/// The operation of an opcode of `i64`, such as that of `i64.eq`.
-#[inline]
-pub fn i64_compare_op(op: u8) -> CompareOp
-    requires kind { kind_of op ≡ Compare }
-    requires on_i64 { 0x51 ≤ op }
-    ensures { result ≡ compare_op_of op }
-{
-    match op {
-        0x51 => CompareOp::Eq,
-        0x52 => CompareOp::Ne,
-        0x53 => CompareOp::LtS,
-        0x54 => CompareOp::LtU,
-        0x55 => CompareOp::GtS,
-        0x56 => CompareOp::GtU,
-        0x57 => CompareOp::LeS,
-        0x58 => CompareOp::LeU,
-        0x59 => CompareOp::GeS,
-        0x5A => CompareOp::GeU,
-        _ => unreachable!(),
-    }
-}
-
-/// The operation of an opcode of `i64`, such as that of `i64.add`.
-#[inline]
-pub fn i64_binary_op(op: u8) -> BinaryOp
-    requires kind { kind_of op ≡ Binary }
-    requires on_i64 { 0x7C ≤ op }
-    ensures { result ≡ binary_op_of op }
-{
-    match op {
-        0x7C => BinaryOp::Add,
-        0x7D => BinaryOp::Sub,
-        0x7E => BinaryOp::Mul,
-        0x7F => BinaryOp::DivS,
-        0x80 => BinaryOp::DivU,
-        0x81 => BinaryOp::RemS,
-        0x82 => BinaryOp::RemU,
-        0x83 => BinaryOp::And,
-        0x84 => BinaryOp::Or,
-        0x85 => BinaryOp::Xor,
-        0x86 => BinaryOp::Shl,
-        0x87 => BinaryOp::ShrS,
-        0x88 => BinaryOp::ShrU,
-        0x89 => BinaryOp::Rotl,
-        0x8A => BinaryOp::Rotr,
-        _ => unreachable!(),
     }
 }

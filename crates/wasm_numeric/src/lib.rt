@@ -10,21 +10,11 @@ pub mod i32_ops;
 pub mod i64_ops;
 pub mod operation;
 
-use i32_ops::{i32_binary, i32_binary_op, i32_compare, i32_compare_op, i32_unary, i32_unary_op};
-use i64_ops::{i64_binary, i64_binary_op, i64_compare, i64_compare_op, i64_unary, i64_unary_op};
+use i32_ops::{i32_binary, i32_compare, i32_unary};
+use i64_ops::{i64_binary, i64_compare, i64_unary};
+use operation::{binary_op, compare_op, unary_op};
 use thiserror::Error;
-
-// The last opcode of each kind on `i32`; the same kind on `i64` comes later.
-const I32_GE_U: u8 = 0x4F;
-
-const I32_POPCNT: u8 = 0x69;
-
-const I32_ROTR: u8 = 0x78;
-
-// The conversions that change bits.
-const I32_WRAP_I64: u8 = 0xA7;
-
-const I64_EXTEND_I32_S: u8 = 0xAC;
+use wasm_opcodes::{I32_GE_U, I32_POPCNT, I32_ROTR, I32_WRAP_I64, I64_EXTEND_I32_S};
 
 /// Why an integer operation has no value.
 #[derive(Clone, Copy, PartialEq, Eq, Debug, Error)]
@@ -53,10 +43,11 @@ pub fn compare(op: u8, a: u64, b: u64) -> u32
     requires right_fits { b < 2 ^ width_of op }
     ensures { result ≡ compare_of op a b }
 {
+    let operation = compare_op(op);
     if op <= I32_GE_U {
-        i32_compare(i32_compare_op(op), a as u32, b as u32)
+        i32_compare(operation, a as u32, b as u32)
     } else {
-        i64_compare(i64_compare_op(op), a, b)
+        i64_compare(operation, a, b)
     }
 }
 
@@ -68,10 +59,11 @@ pub fn unary(op: u8, a: u64) -> u64
     ensures value { result ≡ unary_of op a }
     ensures fits { result < 2 ^ width (result_of op) }
 {
+    let operation = unary_op(op);
     if op <= I32_POPCNT {
-        u64::from(i32_unary(i32_unary_op(op), a as u32))
+        u64::from(i32_unary(operation, a as u32))
     } else {
-        i64_unary(i64_unary_op(op), a)
+        i64_unary(operation, a)
     }
 }
 
@@ -85,11 +77,12 @@ pub fn binary(op: u8, a: u64, b: u64) -> Result<u64, NumTrap>
     ensures value { result ≡ answer_of (binary_of op a b) }
     ensures fits { IfOk result (λ value. value < 2 ^ width (result_of op)) }
 {
+    let operation = binary_op(op);
     if op <= I32_ROTR {
-        let value = i32_binary(i32_binary_op(op), a as u32, b as u32)?;
+        let value = i32_binary(operation, a as u32, b as u32)?;
         Ok(u64::from(value))
     } else {
-        i64_binary(i64_binary_op(op), a, b)
+        i64_binary(operation, a, b)
     }
 }
 

@@ -15,7 +15,8 @@ use Rattle.wasm_syntax.specs.declared.modules.ImportKind.{ImportKind}
 abbrev pub first : {A : Type 0} → List A → Option A
 first xs = slice_get xs 0
 
-pub from_here : {A : Type 0} (xs : List A) (i : ℕ) (x : A) → i < length xs → x ≡ get_or xs i x → drop i xs ≡ x ∷ drop (i + 1) xs
+pub from_here : {A : Type 0} (xs : List A) (i : ℕ) (x : A) → i < length xs → x ≡ get_or xs i x
+    → drop i xs ≡ x ∷ drop (i + 1) xs
 from_here xs i x within is =
     let next : suc i ≡ i + 1 = omega arith in
     drop-cons xs i x within ∙ ap (λ y. y ∷ drop (suc i) xs) (sym is) ∙ ap (λ n. x ∷ drop n xs) next
@@ -27,7 +28,7 @@ pub place_next : {A : Type 0} (k : ℕ) (xs : List A) (i : ℕ) (x : A) → i < 
 place_next k xs i x within is =
     ap (enumerate_from (k + i)) (from_here xs i x within is) ∙ ap (λ n. (k + i, x) ∷ enumerate_from n (drop (i + 1) xs)) (add_assoc k i 1)
 
--- ---- lists of refusals, one behind another
+-- ---- lists of refusals, one after another
 
 pub first_of_front : (xs ys : List Refusal) (r : Refusal) → Some r ≡ first xs → Some r ≡ first (xs ++ ys)
 first_of_front [] ys r is = cc
@@ -37,19 +38,21 @@ pub none_first : (xs : List Refusal) → None ≡ first xs → xs ≡ []
 none_first [] is = refl
 none_first (x ∷ xs) is = cc
 
-pub first_behind : (xs ys : List Refusal) (o : Option Refusal) → None ≡ first xs → o ≡ first ys → o ≡ first (xs ++ ys)
-first_behind xs ys o none is = is ∙ ap (λ zs. first (zs ++ ys)) (sym (none_first xs none))
+pub first_after : (xs ys : List Refusal) (o : Option Refusal) → None ≡ first xs → o ≡ first ys → o ≡ first (xs ++ ys)
+first_after xs ys o none is = is ∙ ap (λ zs. first (zs ++ ys)) (sym (none_first xs none))
 
 -- ---- functions with their indices
 
-pub func_passed : (k : ℕ) (all : List Refusal) (xs : List Func) (i : ℕ) (x : Func) → all ≡ refused_of_all (enumerate_from (k + i) (drop i xs))
+pub func_passed : (k : ℕ) (all : List Refusal) (xs : List Func) (i : ℕ) (x : Func)
+    → all ≡ refused_of_all (enumerate_from (k + i) (drop i xs))
     → i < length xs → x ≡ get_or xs i x → None ≡ first (refused_in (k + i) x)
     → all ≡ refused_of_all (enumerate_from (k + (i + 1)) (drop (i + 1) xs))
 func_passed k all xs i x so_far within is none =
     so_far ∙ ap refused_of_all (place_next k xs i x within is)
     ∙ ap (λ front. front ++ refused_of_all (enumerate_from (k + (i + 1)) (drop (i + 1) xs))) (none_first _ none)
 
-pub func_found : (k : ℕ) (all : List Refusal) (xs : List Func) (i : ℕ) (x : Func) (r : Refusal) → all ≡ refused_of_all (enumerate_from (k + i) (drop i xs))
+pub func_found : (k : ℕ) (all : List Refusal) (xs : List Func) (i : ℕ) (x : Func) (r : Refusal)
+    → all ≡ refused_of_all (enumerate_from (k + i) (drop i xs))
     → i < length xs → x ≡ get_or xs i x → Some r ≡ first (refused_in (k + i) x) → Some r ≡ first all
 func_found k all xs i x r so_far within is some =
     first_of_front _ _ r some ∙ sym (ap first (so_far ∙ ap refused_of_all (place_next k xs i x within is)))
@@ -66,12 +69,14 @@ pub count_next : {K : Type 0} (pick : ImportKind → Option K) (n total : ℕ) (
 count_next pick n total xs i x so_far within is =
     omega (arith, so_far, ap (λ ys. length (of_kind pick ys)) (from_here xs i x within is), counted (pick x.kind) (of_kind pick (drop (i + 1) xs)))
 
--- ---- what is picked of two lists, one behind the other
+-- ---- what is picked of two lists, one after the other
 
-pub picked_of_front : {A : Type 0} (h : A → Option Refusal) (xs ys : List A) (r : Refusal) → Some r ≡ first (filter_map h xs)
+pub picked_of_front : {A : Type 0} (h : A → Option Refusal) (xs ys : List A) (r : Refusal)
+    → Some r ≡ first (filter_map h xs)
     → Some r ≡ first (filter_map h (xs ++ ys))
 picked_of_front h xs ys r is = first_of_front _ (filter_map h ys) r is ∙ ap first (sym (filter_map-append h xs ys))
 
-pub picked_behind : {A : Type 0} (h : A → Option Refusal) (xs ys : List A) (o : Option Refusal) → None ≡ first (filter_map h xs)
+pub picked_after : {A : Type 0} (h : A → Option Refusal) (xs ys : List A) (o : Option Refusal)
+    → None ≡ first (filter_map h xs)
     → o ≡ first (filter_map h ys) → o ≡ first (filter_map h (xs ++ ys))
-picked_behind h xs ys o none is = first_behind (filter_map h xs) (filter_map h ys) o none is ∙ ap first (sym (filter_map-append h xs ys))
+picked_after h xs ys o none is = first_after (filter_map h xs) (filter_map h ys) o none is ∙ ap first (sym (filter_map-append h xs ys))

@@ -30,7 +30,7 @@ pub fn accept(checked: &Checked, hooked: bool) -> Result<(), ProfileFault>
 }
 
 /// Refuses what is not in the profile.
-#[tactic(auto, using(crate::proofs::Scans::first_behind, crate::proofs::Scans::first_of_front))]
+#[tactic(auto, using(crate::proofs::Scans::first_after, crate::proofs::Scans::first_of_front))]
 pub(crate) fn refuse(module: &Module, hooked: bool) -> Result<(), ProfileFault>
     requires { HasShortLists «module».now }
     ensures { refusal_in result ≡ slice_get (refusals hooked «module».now) 0 }

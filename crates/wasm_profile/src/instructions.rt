@@ -8,6 +8,10 @@ ghost use Rattle.wasm_syntax.specs.Index.{func_import, of_kind};
 ghost use Rattle.wasm_syntax.specs.Profile.{feature_of, is_numbered, refused_feature, refused_in, refused_instructions};
 
 use crate::faults::ProfileFault;
+use wasm_opcodes::{
+    F32_ABS, F32_EQ, F64_COPYSIGN, F64_GE, F64_PROMOTE_F32, I32_TRUNC_F32_S, I32_TRUNC_F64_U,
+    I64_TRUNC_F32_S,
+};
 use wasm_syntax::{Feature, Func, Import, ImportKind, Instr, Module};
 
 /// Refuses the first refused instruction, by function and number.
@@ -73,7 +77,7 @@ fn refuse_body(index: u32, func: &Func) -> Result<(), ProfileFault>
     Ok(())
 }
 
-/// The number of the instruction behind one: `else` and `end` have none of their own.
+/// The number of the instruction after one: `else` and `end` have none of their own.
 fn next_number(number: u32, instr: &Instr) -> u32
     requires { number < list_limit }
     ensures { result ≡ (if is_numbered instr.now then number + 1 else number) }
@@ -99,9 +103,11 @@ fn feature_of(op: u8) -> Option<Feature>
     ensures { result ≡ feature_of op }
 {
     match op {
-        0x5b..=0x66 => Some(Feature::FloatComparison),
-        0x8b..=0xa6 => Some(Feature::FloatArithmetic),
-        0xa8..=0xab | 0xae..=0xbb => Some(Feature::FloatConversion),
+        F32_EQ..=F64_GE => Some(Feature::FloatComparison),
+        F32_ABS..=F64_COPYSIGN => Some(Feature::FloatArithmetic),
+        I32_TRUNC_F32_S..=I32_TRUNC_F64_U | I64_TRUNC_F32_S..=F64_PROMOTE_F32 => {
+            Some(Feature::FloatConversion)
+        }
         _ => None,
     }
 }

@@ -1,33 +1,22 @@
 // Quantities past their limits.
 
-ghost use Rattle.std.specs.Prelude.{◌≡◌, ◌<◌, length, slice_get, filter_map, option_and_then};
+ghost use Rattle.std.specs.Prelude.{◌≡◌, ◌<◌, ◌++◌, length, slice_get, filter_map, option_and_then};
 ghost use Rattle.std.specs.List.{AllByRecursion};
-ghost use Rattle.wasm_profile.specs.Answers.{refusal_in};
+ghost use Rattle.wasm_profile.specs.Answers.{refusal_in, limits_import, past_minimum};
 ghost use Rattle.wasm_profile.specs.Sizes.{HasShortLists, IsShortFunc};
-ghost use Rattle.wasm_syntax.specs.Index.{all_memories, all_tables, memory_import, of_kind, table_import};
+ghost use Rattle.wasm_syntax.specs.Index.{all_memories, all_tables, of_kind};
 ghost use Rattle.wasm_syntax.specs.Profile.{count_of_locals, most_locals, past, quantities_past};
+ghost use Rattle.wasm_syntax.specs.declared.limits.TheConstants.{MOST_ENTRIES, MOST_PAGES, MOST_PARAMETERS};
 ghost use Rattle.wasm_syntax.specs.declared.profile.Which.TheVariants.{Parameters, Table, Memory, Locals};
 
 use crate::faults::ProfileFault;
+use wasm_syntax::limits::{
+    MOST_ENTRIES, MOST_LOCALS, MOST_LOCALS_HOOKED, MOST_PAGES, MOST_PARAMETERS,
+};
 use wasm_syntax::{Func, FuncType, Import, ImportKind, Limits, Module, Which};
 
-/// The most parameters of a function type.
-const MOST_PARAMETERS: u64 = 1_000;
-
-/// The most entries that a table begins with.
-const MOST_ENTRIES: u64 = 1_000_000;
-
-/// The most pages that a memory begins with.
-const MOST_PAGES: u64 = 4_096;
-
-/// The most locals of a function, its parameters left out.
-const MOST_LOCALS: u64 = 50_000;
-
-/// The most locals of a function of an instrumented module.
-const MOST_LOCALS_HOOKED: u64 = 50_005;
-
 /// Refuses the first quantity past its limit.
-#[tactic(auto, using(crate::proofs::Scans::first_behind, crate::proofs::Scans::first_of_front))]
+#[tactic(auto, using(crate::proofs::Scans::first_after, crate::proofs::Scans::first_of_front))]
 pub(crate) fn refuse_quantities(module: &Module, hooked: bool) -> Result<(), ProfileFault>
     requires { HasShortLists «module».now }
     ensures { refusal_in result ≡ slice_get (quantities_past hooked «module».now) 0 }
@@ -41,7 +30,7 @@ pub(crate) fn refuse_quantities(module: &Module, hooked: bool) -> Result<(), Pro
 /// Refuses the first type with too many parameters.
 pub(crate) fn refuse_parameters(types: &[FuncType]) -> Result<(), ProfileFault>
     ensures { refusal_in result ≡ slice_get
-        (filter_map (λ ty. past 1000 Parameters (length ty.params)) types.now) 0 }
+        (filter_map (λ ty. past MOST_PARAMETERS Parameters (length ty.params)) types.now) 0 }
 {
     'types: for ty in types {
         let count = ty.params.as_slice().len() as u64;
@@ -51,77 +40,74 @@ pub(crate) fn refuse_parameters(types: &[FuncType]) -> Result<(), ProfileFault>
 }
 
 /// Refuses the first table that begins with too many entries, imported ones first.
-#[tactic(auto, using(crate::proofs::Scans::picked_behind, crate::proofs::Scans::picked_of_front))]
 fn refuse_tables(module: &Module) -> Result<(), ProfileFault>
     ensures { refusal_in result ≡ slice_get
-        (filter_map (λ limits. past 1000000 Table limits.min) (all_tables «module».now)) 0 }
+        (filter_map (λ limits. past MOST_ENTRIES Table limits.min) (all_tables «module».now)) 0 }
 {
-    refuse_imported_tables(module.imports.as_slice())?;
-    refuse_limits(MOST_ENTRIES, Which::Table, module.tables.as_slice())
-}
-
-/// Refuses the first imported table that begins with too many entries.
-fn refuse_imported_tables(imports: &[Import]) -> Result<(), ProfileFault>
-    ensures { refusal_in result ≡ slice_get
-        (filter_map (λ limits. past 1000000 Table limits.min) (of_kind table_import imports.now)) 0 }
-{
-    'imports: for import in imports {
-        refuse_imported_table(import.kind)?;
-    }
-    Ok(())
-}
-
-/// Refuses an imported table that begins with too many entries.
-pub(crate) fn refuse_imported_table(kind: ImportKind) -> Result<(), ProfileFault>
-    ensures { refusal_in result
-        ≡ option_and_then (λ limits. past 1000000 Table limits.min) (table_import kind) }
-{
-    match kind {
-        ImportKind::Table(limits) => {
-            refuse_past(MOST_ENTRIES, Which::Table, u64::from(limits.min))
-        }
-        _ => Ok(()),
-    }
+    let imports = module.imports.as_slice();
+    refuse_all(
+        MOST_ENTRIES,
+        Which::Table,
+        imports,
+        module.tables.as_slice(),
+    )
 }
 
 /// Refuses the first memory that begins with too many pages, imported ones first.
-#[tactic(auto, using(crate::proofs::Scans::picked_behind, crate::proofs::Scans::picked_of_front))]
 fn refuse_memories(module: &Module) -> Result<(), ProfileFault>
     ensures { refusal_in result ≡ slice_get
-        (filter_map (λ limits. past 4096 Memory limits.min) (all_memories «module».now)) 0 }
+        (filter_map (λ limits. past MOST_PAGES Memory limits.min) (all_memories «module».now)) 0 }
 {
-    refuse_imported_memories(module.imports.as_slice())?;
-    refuse_limits(MOST_PAGES, Which::Memory, module.memories.as_slice())
+    let imports = module.imports.as_slice();
+    refuse_all(
+        MOST_PAGES,
+        Which::Memory,
+        imports,
+        module.memories.as_slice(),
+    )
 }
 
-/// Refuses the first imported memory that begins with too many pages.
-fn refuse_imported_memories(imports: &[Import]) -> Result<(), ProfileFault>
-    ensures { refusal_in result ≡ slice_get
-        (filter_map (λ limits. past 4096 Memory limits.min) (of_kind memory_import imports.now)) 0 }
+/// Refuses the first of these quantities of tables or of memories, imported ones first.
+#[tactic(auto, using(crate::proofs::Scans::picked_after, crate::proofs::Scans::picked_of_front))]
+fn refuse_all(
+    most: u32,
+    which: Which,
+    imports: &[Import],
+    all: &[Limits],
+) -> Result<(), ProfileFault>
+    ensures { refusal_in result
+        ≡ slice_get (filter_map (past_minimum most which) (of_kind (limits_import which) imports.now ++ all.now)) 0 }
+{
+    refuse_imports(most, which, imports)?;
+    refuse_limits(most, which, all)
+}
+
+/// Refuses the first of these quantities of imported tables or memories.
+fn refuse_imports(most: u32, which: Which, imports: &[Import]) -> Result<(), ProfileFault>
+    ensures { refusal_in result
+        ≡ slice_get (filter_map (past_minimum most which) (of_kind (limits_import which) imports.now)) 0 }
 {
     'imports: for import in imports {
-        refuse_imported_memory(import.kind)?;
+        refuse_import(most, which, import.kind)?;
     }
     Ok(())
 }
 
-/// Refuses an imported memory that begins with too many pages.
-pub(crate) fn refuse_imported_memory(kind: ImportKind) -> Result<(), ProfileFault>
-    ensures { refusal_in result
-        ≡ option_and_then (λ limits. past 4096 Memory limits.min) (memory_import kind) }
+/// Refuses this quantity of an imported table or memory.
+pub(crate) fn refuse_import(most: u32, which: Which, kind: ImportKind) -> Result<(), ProfileFault>
+    ensures { refusal_in result ≡ option_and_then (past_minimum most which) (limits_import which kind) }
 {
-    match kind {
-        ImportKind::Memory(limits) => {
-            refuse_past(MOST_PAGES, Which::Memory, u64::from(limits.min))
+    match (which, kind) {
+        (Which::Table, ImportKind::Table(limits)) | (Which::Memory, ImportKind::Memory(limits)) => {
+            refuse_past(most, which, u64::from(limits.min))
         }
         _ => Ok(()),
     }
 }
 
 /// Refuses the first limits with too large a minimum.
-fn refuse_limits(most: u64, which: Which, all: &[Limits]) -> Result<(), ProfileFault>
-    ensures { refusal_in result ≡ slice_get
-        (filter_map (λ limits. past most which limits.min) all.now) 0 }
+fn refuse_limits(most: u32, which: Which, all: &[Limits]) -> Result<(), ProfileFault>
+    ensures { refusal_in result ≡ slice_get (filter_map (past_minimum most which) all.now) 0 }
 {
     'all: for limits in all {
         refuse_past(most, which, u64::from(limits.min))?;
@@ -130,7 +116,7 @@ fn refuse_limits(most: u64, which: Which, all: &[Limits]) -> Result<(), ProfileF
 }
 
 /// Refuses the first function with too many locals.
-pub(crate) fn refuse_locals(funcs: &[Func], most: u64) -> Result<(), ProfileFault>
+pub(crate) fn refuse_locals(funcs: &[Func], most: u32) -> Result<(), ProfileFault>
     requires { AllByRecursion IsShortFunc funcs.now }
     ensures { refusal_in result ≡ slice_get
         (filter_map (λ func. past most Locals (count_of_locals func)) funcs.now) 0 }
@@ -142,7 +128,7 @@ pub(crate) fn refuse_locals(funcs: &[Func], most: u64) -> Result<(), ProfileFaul
 }
 
 /// The most locals of a function.
-pub(crate) fn most_locals(hooked: bool) -> u64
+pub(crate) fn most_locals(hooked: bool) -> u32
     ensures { result ≡ most_locals hooked }
 {
     if hooked {
@@ -165,10 +151,10 @@ fn count_of_locals(func: &Func) -> u64
 }
 
 /// Refuses a quantity past what it may be at most.
-fn refuse_past(most: u64, which: Which, value: u64) -> Result<(), ProfileFault>
+fn refuse_past(most: u32, which: Which, value: u64) -> Result<(), ProfileFault>
     ensures { refusal_in result ≡ past most which value }
 {
-    if value > most {
+    if value > u64::from(most) {
         Err(ProfileFault::Limit { which, value })
     } else {
         Ok(())

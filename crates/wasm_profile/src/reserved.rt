@@ -1,6 +1,6 @@
 // Reserved imports.
 
-ghost use Rattle.std.specs.Prelude.{◌≡◌, ◌<◌, length, slice_get};
+ghost use Rattle.std.specs.Prelude.{◌≡◌, ◌<◌, slice_get};
 ghost use Rattle.wasm_profile.specs.Answers.{refusal_in};
 ghost use Rattle.wasm_profile.specs.Sizes.{HasShortLists};
 ghost use Rattle.wasm_syntax.specs.Profile.{reserved_imports};

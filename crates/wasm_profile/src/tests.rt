@@ -5,11 +5,11 @@ ghost use Rattle.wasm_profile.specs.Sizes.{IsShortFunc};
 
 use crate::ProfileFault;
 use crate::instructions::refuse_bodies;
-use crate::quantities::{
-    most_locals, refuse_imported_memory, refuse_imported_table, refuse_locals, refuse_parameters,
-};
+use crate::quantities::{most_locals, refuse_import, refuse_locals, refuse_parameters};
 use std::alloc::{AllocError, Global};
 use std::test::Fail;
+use wasm_opcodes::F64_ADD;
+use wasm_syntax::limits::{MOST_ENTRIES, MOST_PAGES};
 use wasm_syntax::{
     Feature, Func, FuncType, ImportKind, Instr, Limits, List, Run, Val, ValType, Which,
 };
@@ -72,19 +72,35 @@ fn entries_and_pages(rt: HostRuntime) {
         value: 4_097,
     };
     assert_eq!(rt;
-        refuse_imported_table(ImportKind::Table(of_at_least(1_000_000))),
+        refuse_import(
+            MOST_ENTRIES,
+            Which::Table,
+            ImportKind::Table(of_at_least(1_000_000))
+        ),
         Ok(())
     );
     assert_eq!(rt;
-        refuse_imported_table(ImportKind::Table(of_at_least(1_000_001))),
+        refuse_import(
+            MOST_ENTRIES,
+            Which::Table,
+            ImportKind::Table(of_at_least(1_000_001))
+        ),
         Err(entries)
     );
     assert_eq!(rt;
-        refuse_imported_memory(ImportKind::Memory(of_at_least(4_096))),
+        refuse_import(
+            MOST_PAGES,
+            Which::Memory,
+            ImportKind::Memory(of_at_least(4_096))
+        ),
         Ok(())
     );
     assert_eq!(rt;
-        refuse_imported_memory(ImportKind::Memory(of_at_least(4_097))),
+        refuse_import(
+            MOST_PAGES,
+            Which::Memory,
+            ImportKind::Memory(of_at_least(4_097))
+        ),
         Err(pages)
     );
 }
@@ -111,7 +127,7 @@ fn float_addition_in_the_third_function(rt: HostRuntime) -> Result<(), Fail> {
     adding.push(Instr::Nop)?;
     adding.push(Instr::Const(zero))?;
     adding.push(Instr::Const(zero))?;
-    adding.push(Instr::Numeric(0xa0))?;
+    adding.push(Instr::Numeric(F64_ADD))?;
     adding.push(Instr::Drop)?;
     adding.push(Instr::End)?;
     let first = func(rt.alloc(), vec![in rt.alloc(); Instr::End]?);

@@ -1,24 +1,26 @@
 -- What a store is kept as, and the store that this stands for.
 use Rattle.std.specs.Prelude.{◌≡◌, ℕ, ◌*◌, ◌≤◌, List, length, Option, Some, None, Bool, true, false}
+use Rattle.wasm_syntax.specs.declared.limits.TheConstants.{MOST_ENTRIES, MOST_PAGES, PAGE_SIZE}
 use Rattle.wasm_syntax.specs.declared.values.Val.{Val}
 use Rattle.wasm_syntax.specs.declared.signatures.Limits.{Limits}
-use Rattle.host_script.specs.Supplied.{most_entries}
-use Rattle.history_spec.specs.Store.{Store, Memory, Table, page_size, most_pages}
+use Rattle.history_spec.specs.Store.{Store, Memory, Table}
 
 -- how many pages or entries there are at first, 0 where there is no memory or no table
 abbrev pub minimum_of : Option Limits → ℕ
 minimum_of None = 0
 minimum_of (Some limits) = limits.min
 
--- the memory of these bytes, and the table of these entries, where there is one with these limits
+-- the memory of these bytes, where there is one with these limits
 abbrev pub memory_of : List ℕ → Option Limits → Option Memory
 memory_of bytes None = None
 memory_of bytes (Some limits) = Some (record { bytes = bytes; max = limits.max })
 
+-- the table of these entries, where there is one with these limits
 abbrev pub table_of : List (Option ℕ) → Option Limits → Option Table
 table_of entries None = None
 table_of entries (Some limits) = Some (record { entries = entries; max = limits.max })
 
+-- the store of these parts
 abbrev pub store_of : List ℕ → Option Limits → List (Option ℕ) → Option Limits → List Val → Store
 store_of bytes memory entries table globals =
     record { memory = memory_of bytes memory; table = table_of entries table; globals = globals }
@@ -28,11 +30,12 @@ abbrev pub size_if : Bool → ℕ → Option ℕ
 size_if true size = Some size
 size_if false size = None
 
--- bytes of so many whole pages, and entries, within the limits, and none where there is no memory or
--- no table
-pub record IsSized (bytes : List ℕ) (pages : ℕ) (memory : Option Limits) (entries : List (Option ℕ)) (table : Option Limits) : Type 0 where
-  pub whole : length bytes ≡ pages * page_size
-  pub few_pages : pages ≤ most_pages
-  pub few_entries : length entries ≤ most_entries
+-- the bytes are that many whole pages, pages and entries are within the limits of this project, and there are none
+-- where there is no memory or no table
+pub record IsSized (bytes : List ℕ) (pages : ℕ) (memory : Option Limits)
+    (entries : List (Option ℕ)) (table : Option Limits) : Type 0 where
+  pub whole : length bytes ≡ pages * PAGE_SIZE
+  pub few_pages : pages ≤ MOST_PAGES
+  pub few_entries : length entries ≤ MOST_ENTRIES
   pub no_bytes : memory ≡ None → length bytes ≡ 0
   pub no_entries : table ≡ None → length entries ≡ 0

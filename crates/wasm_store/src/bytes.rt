@@ -1,13 +1,13 @@
-// Numbers and ranges in a slice of bytes. Each is one range of the slice behind one test, which the
+// Numbers and ranges in a slice of bytes. Each is one range of the slice after one test, which the
 // compiler makes one instruction of where the width is known.
 
 ghost use Rattle.std.specs.Prelude.{◌≡◌, ℕ, ◌+◌, ◌^◌, ◌<◌, ◌≤◌, List, length, Option, Some, None, IsTrue, IfOk, OnOk, OnErr, option_map};
-ghost use Rattle.history_spec.specs.Store.{bytes_at, written, number_of, bytes_of};
+ghost use Rattle.history_spec.specs.Store.{bytes_at, with_bytes_at, number_of, bytes_of};
 ghost use Rattle.wasm_store.specs.Calls.{is_width};
 
 use crate::bounds::OutOfBounds;
 
-/// The place behind the `count` bytes at `addr`, where a length has them all.
+/// The place after the `count` bytes at `addr`, where a length has them all.
 #[inline(always)]
 pub(crate) fn end_of(length: usize, addr: u64, count: u64) -> Result<usize, OutOfBounds>
     ensures place { IfOk result (λ end. end ≡ addr + count) }
@@ -35,7 +35,7 @@ pub(crate) fn load(bytes: &[u8], addr: u64, width: usize) -> Result<u64, OutOfBo
     Ok(u64::from_le_bytes(word))
 }
 
-/// The same of a width that is known only when it runs.
+/// The same, of a width that is known only at run time.
 #[inline(always)]
 pub(crate) fn load_width(bytes: &[u8], addr: u64, width: u32) -> Result<u64, OutOfBounds>
     requires { IsTrue (is_width width) }
@@ -70,8 +70,8 @@ pub(crate) fn store<const N: usize>(
     addr: u64,
     word: [u8; N],
 ) -> Result<(), OutOfBounds>
-    ensures ok { OnOk result (written bytes.old addr word.entry ≡ Some bytes.new) }
-    ensures err { OnErr result (written bytes.old addr word.entry ≡ None) }
+    ensures ok { OnOk result (with_bytes_at bytes.old addr word.entry ≡ Some bytes.new) }
+    ensures err { OnErr result (with_bytes_at bytes.old addr word.entry ≡ None) }
     ensures same { OnErr result (bytes.new ≡ bytes.old) }
 {
     let end = end_of(bytes.len(), addr, N as u64)?;
@@ -79,7 +79,7 @@ pub(crate) fn store<const N: usize>(
     Ok(())
 }
 
-/// Writes the lowest bytes of a number, as many as a width that is known only when it runs.
+/// Writes the lowest bytes of a number, as many as a width that is known only at run time.
 #[inline(always)]
 pub(crate) fn store_width(
     bytes: &mut [u8],
@@ -88,8 +88,8 @@ pub(crate) fn store_width(
     bits: u64,
 ) -> Result<(), OutOfBounds>
     requires { IsTrue (is_width width) }
-    ensures ok { OnOk result (written bytes.old addr (bytes_of width bits) ≡ Some bytes.new) }
-    ensures err { OnErr result (written bytes.old addr (bytes_of width bits) ≡ None) }
+    ensures ok { OnOk result (with_bytes_at bytes.old addr (bytes_of width bits) ≡ Some bytes.new) }
+    ensures err { OnErr result (with_bytes_at bytes.old addr (bytes_of width bits) ≡ None) }
     ensures same { OnErr result (bytes.new ≡ bytes.old) }
 {
     let [a, b, c, d, e, f, g, h] = bits.to_le_bytes();
@@ -104,8 +104,8 @@ pub(crate) fn store_width(
 /// Writes bytes.
 #[inline(always)]
 pub(crate) fn put(bytes: &mut [u8], addr: u64, news: &[u8]) -> Result<(), OutOfBounds>
-    ensures ok { OnOk result (written bytes.old addr news.now ≡ Some bytes.new) }
-    ensures err { OnErr result (written bytes.old addr news.now ≡ None) }
+    ensures ok { OnOk result (with_bytes_at bytes.old addr news.now ≡ Some bytes.new) }
+    ensures err { OnErr result (with_bytes_at bytes.old addr news.now ≡ None) }
     ensures same { OnErr result (bytes.new ≡ bytes.old) }
 {
     let end = end_of(bytes.len(), addr, news.len() as u64)?;

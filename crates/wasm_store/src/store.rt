@@ -1,8 +1,9 @@
 // The store of a run.
 
 ghost use Rattle.std.specs.Prelude.{◌≡◌, ℕ, ◌+◌, ◌*◌, ◌^◌, ◌<◌, ◌≤◌, List, length, Option, Some, None, IsTrue, IfOk, OnOk, OnErr, IfSome, IfNone, IsSome, OnSome, ◌&&◌, nat_le, is_some, option_map, slice_get};
-ghost use Rattle.host_script.specs.Supplied.{most_entries};
-ghost use Rattle.history_spec.specs.Store.{page_size, most_pages, is_within, bytes_of, with_global};
+ghost use Rattle.wasm_syntax.specs.declared.limits.TheConstants.{MOST_ENTRIES, MOST_PAGES, PAGE_SIZE};
+ghost use Rattle.host_script.specs.Supply.{is_within};
+ghost use Rattle.history_spec.specs.Store.{bytes_of, with_global};
 ghost use Rattle.history_spec.specs.Instantiation.{new_memory, new_table};
 ghost use Rattle.wasm_store.specs.Parts.{minimum_of, size_if};
 ghost use Rattle.wasm_store.specs.Calls as calls;
@@ -12,13 +13,8 @@ use crate::{bytes, table};
 use no_memory::NoMemory;
 use std::alloc::Global;
 use std::marker::Model;
+use wasm_syntax::limits::{MOST_PAGES, PAGE_SIZE};
 use wasm_syntax::{Limits, Val};
-
-/// Bytes of a page (Core 1.0, 4.2.8).
-const PAGE_SIZE: usize = 65_536;
-
-/// The most pages that any memory may have.
-const MOST_PAGES: u32 = 4_096;
 
 /// A memory, a table and globals (Core 1.0, 4.2.3). There may be no memory and no table.
 #[derive(Drop)]
@@ -52,20 +48,20 @@ fn minimum(limits: Option<Limits>) -> u32
     }
 }
 
-/// How many bytes so many pages have.
+/// How many bytes a number of pages has (Core 1.0, 4.2.8).
 fn byte_count(pages: u32) -> usize
-    requires { pages ≤ most_pages }
-    ensures { result ≡ pages * page_size }
+    requires { pages ≤ MOST_PAGES }
+    ensures { result ≡ pages * PAGE_SIZE }
 {
-    pages as usize * PAGE_SIZE
+    pages as usize * PAGE_SIZE as usize
 }
 
 /// The size of a memory with `by` pages more, where neither its maximum nor the most pages of any
 /// memory forbid it.
 fn grown_size(pages: u32, max: Option<u32>, by: u32) -> Option<u32>
-    requires { pages ≤ most_pages }
+    requires { pages ≤ MOST_PAGES }
     ensures { let size = pages + by
-        in result ≡ size_if (is_within size max && nat_le size most_pages) size }
+        in result ≡ size_if (is_within size max && nat_le size MOST_PAGES) size }
 {
     let size = pages.checked_add(by)?;
     let is_within = match max {
@@ -82,14 +78,17 @@ fn grown_size(pages: u32, max: Option<u32>, by: u32) -> Option<u32>
 impl Store {
     /// The store of zeros and empty entries, with the minimum of pages and of entries, and with
     /// these globals (Core 1.0, 4.5.3). The minima are within the limits of this project.
+    ///
+    /// # Errors
+    /// Where an allocation failed.
     pub fn new(
         alloc: Global,
         pages: Option<Limits>,
         entries: Option<Limits>,
         globals: Vec<Val>,
     ) -> Result<Store, NoMemory>
-        requires pages { minimum_of pages ≤ most_pages }
-        requires entries { minimum_of entries ≤ most_entries }
+        requires pages { minimum_of pages ≤ MOST_PAGES }
+        requires entries { minimum_of entries ≤ MOST_ENTRIES }
         ensures { IfOk result (λ store. store ≡ record {
           memory = option_map new_memory pages;
           table = option_map new_table entries;
@@ -111,6 +110,9 @@ impl Store {
     }
 
     /// An equal store.
+    ///
+    /// # Errors
+    /// Where an allocation failed.
     pub fn clone(&self) -> Result<Store, NoMemory>
         ensures { IfOk result (λ copy. copy ≡ self.now) }
     {
@@ -142,15 +144,18 @@ impl Store {
     /// The size of the memory in pages of 65,536 bytes, 0 where there is no memory.
     pub fn pages(&self) -> u32
         ensures size { result ≡ calls.pages_in self.now }
-        ensures whole { length (calls.bytes_in self.now) ≡ result * page_size }
-        ensures most { result ≤ most_pages }
+        ensures whole { length (calls.bytes_in self.now) ≡ result * PAGE_SIZE }
+        ensures most { result ≤ MOST_PAGES }
     {
         self.pages
     }
 
-    /// Adds pages of zeros to the memory, which is there, and answers its old size (Core 1.0,
-    /// 4.5.3). None, and nothing is changed, where its maximum or the most pages of any memory
-    /// forbid the new size. Nothing is changed for want of memory either.
+    /// Adds pages of zeros to the memory, which is there, and answers its old size in pages (Core
+    /// 1.0, 4.5.3). None, and nothing is changed, where its maximum or the most pages of any memory
+    /// forbid the new size.
+    ///
+    /// # Errors
+    /// Where an allocation failed; nothing is changed then.
     pub fn grow(&mut self, pages: u32) -> Result<Option<u32>, NoMemory>
         requires { IsSome self.old.memory }
         ensures grown { IfOk result
@@ -175,8 +180,11 @@ impl Store {
         Ok(Some(old))
     }
 
-    /// The number that `width` bytes at `addr` stand for, the lowest first (Core 1.0, 4.4.4).
-    /// `OutOfBounds` where they are not all within the memory. The width is 1, 2, 4 or 8.
+    /// The number that `width` bytes at `addr` stand for, the lowest first (Core 1.0, 4.4.4). The
+    /// width is 1, 2, 4 or 8.
+    ///
+    /// # Errors
+    /// Where these bytes are not all within the memory.
     #[inline(always)]
     pub fn load_at(&self, addr: u64, width: u32) -> Result<u64, OutOfBounds>
         requires { IsTrue (calls.is_width width) }
@@ -187,9 +195,11 @@ impl Store {
         bytes::load_width(self.bytes.as_slice(), addr, width)
     }
 
-    /// Writes the lowest `width` bytes of `bits` at `addr`, the lowest first (Core 1.0, 4.4.4).
-    /// `OutOfBounds` where they are not all within the memory; nothing is changed then. The width
-    /// is 1, 2, 4 or 8.
+    /// Writes the lowest `width` bytes of `bits` at `addr`, the lowest first (Core 1.0, 4.4.4). The
+    /// width is 1, 2, 4 or 8.
+    ///
+    /// # Errors
+    /// Where these bytes are not all within the memory; nothing is changed then.
     #[inline(always)]
     pub fn store_at(&mut self, addr: u64, width: u32, bits: u64) -> Result<(), OutOfBounds>
         requires { IsTrue (calls.is_width width) }
@@ -201,8 +211,10 @@ impl Store {
         bytes::store_width(self.bytes.as_mut_slice(), addr, width, bits)
     }
 
-    /// Writes bytes at `addr`. `OutOfBounds` where they are not all within the memory; nothing is
-    /// changed then.
+    /// Writes bytes at `addr`.
+    ///
+    /// # Errors
+    /// Where these are not all within the memory; nothing is changed then.
     pub fn put_bytes(&mut self, addr: u64, bytes: &[u8]) -> Result<(), OutOfBounds>
         ensures ok { OnOk result (calls.put_bytes self.old addr bytes.now ≡ Some self.new) }
         ensures err { OnErr result (calls.put_bytes self.old addr bytes.now ≡ None) }
@@ -212,7 +224,9 @@ impl Store {
     }
 
     /// Writes at `to` the `count` bytes that stand at `from`, as if all were read first.
-    /// `OutOfBounds` where either range is not within the memory; nothing is changed then.
+    ///
+    /// # Errors
+    /// Where either range is not within the memory; nothing is changed then.
     pub fn move_bytes(&mut self, to: u64, from: u64, count: u64) -> Result<(), OutOfBounds>
         ensures ok { OnOk result (calls.move_bytes self.old to from count ≡ Some self.new) }
         ensures err { OnErr result (calls.move_bytes self.old to from count ≡ None) }
@@ -235,13 +249,15 @@ impl Store {
     /// The number of entries of the table, 0 where there is no table.
     pub fn table_size(&self) -> u32
         ensures size { result ≡ length (calls.entries_in self.now) }
-        ensures most { result ≤ most_entries }
+        ensures most { result ≤ MOST_ENTRIES }
     {
         self.entries.len() as u32
     }
 
-    /// The function in an entry of the table, or none. `OutOfTable` where the index is not below
-    /// the table's size.
+    /// The function in an entry of the table, or none where the entry is empty.
+    ///
+    /// # Errors
+    /// Where the index is not below the table's size.
     #[inline(always)]
     pub fn entry(&self, index: u32) -> Result<Option<u32>, OutOfTable>
         ensures ok { IfOk result (λ entry. calls.entry_at self.now index ≡ Some entry) }
@@ -253,8 +269,10 @@ impl Store {
         }
     }
 
-    /// Puts a function into an entry of the table, or empties it. `OutOfTable` where the index is
-    /// not below the table's size; nothing is changed then.
+    /// Puts a function into an entry of the table, or empties it (Core 2.0, 4.4.6).
+    ///
+    /// # Errors
+    /// Where the index is not below the table's size; nothing is changed then.
     pub fn set_entry(&mut self, index: u32, func: Option<u32>) -> Result<(), OutOfTable>
         ensures ok { OnOk result (calls.set_entry self.old index func ≡ Some self.new) }
         ensures err { OnErr result (calls.set_entry self.old index func ≡ None) }

@@ -1,7 +1,7 @@
 // Ranges of a table's entries.
 
 ghost use Rattle.std.specs.Prelude.{◌≡◌, ℕ, ◌+◌, ◌≤◌, List, length, Option, Some, None, OnOk, OnErr, map};
-ghost use Rattle.wasm_store.specs.Calls.{funcs_written};
+ghost use Rattle.wasm_store.specs.Calls.{with_funcs_at};
 
 use crate::bounds::OutOfTable;
 use crate::bytes::end_of;
@@ -22,8 +22,8 @@ pub(crate) fn put_funcs(
     index: u64,
     funcs: &[u32],
 ) -> Result<(), OutOfTable>
-    ensures ok { OnOk result (funcs_written entries.old index funcs.now ≡ Some entries.new) }
-    ensures err { OnErr result (funcs_written entries.old index funcs.now ≡ None) }
+    ensures ok { OnOk result (with_funcs_at entries.old index funcs.now ≡ Some entries.new) }
+    ensures err { OnErr result (with_funcs_at entries.old index funcs.now ≡ None) }
     ensures same { OnErr result (entries.new ≡ entries.old) }
 {
     let Ok(end) = end_of(entries.len(), index, funcs.len() as u64) else {

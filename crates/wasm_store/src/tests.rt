@@ -1,5 +1,5 @@
 ghost use Rattle.std.specs.Prelude.{◌≤◌, IsTrue};
-ghost use Rattle.history_spec.specs.Store.{most_pages};
+ghost use Rattle.wasm_syntax.specs.declared.limits.TheConstants.{MOST_PAGES};
 ghost use Rattle.wasm_store.specs.Calls.{is_width};
 
 use crate::{OutOfBounds, OutOfTable, Store};
@@ -14,7 +14,7 @@ fn store_of(
     max: Option<u32>,
     globals: Vec<Val>,
 ) -> Result<Store, NoMemory>
-    requires { pages ≤ most_pages }
+    requires { pages ≤ MOST_PAGES }
 {
     let entries = Limits { min: 4, max: None };
     Store::new(
@@ -26,7 +26,7 @@ fn store_of(
 }
 
 /// What a growth answers, 9,999 where it is none.
-fn grown(store: &mut Store, pages: u32) -> Result<u32, NoMemory> {
+fn grow_answer(store: &mut Store, pages: u32) -> Result<u32, NoMemory> {
     if !store.has_memory() {
         return Ok(9_999);
     }
@@ -36,14 +36,14 @@ fn grown(store: &mut Store, pages: u32) -> Result<u32, NoMemory> {
     }
 }
 
-fn loaded(store: &Store, addr: u64, width: u32) -> Option<u64>
+fn number_at(store: &Store, addr: u64, width: u32) -> Option<u64>
     requires { IsTrue (is_width width) }
 {
     store.load_at(addr, width).ok()
 }
 
 /// Whether the number was written.
-fn stored(store: &mut Store, addr: u64, width: u32, bits: u64) -> bool
+fn is_stored(store: &mut Store, addr: u64, width: u32, bits: u64) -> bool
     requires { IsTrue (is_width width) }
 {
     store.store_at(addr, width, bits).is_ok()
@@ -53,18 +53,18 @@ fn stored(store: &mut Store, addr: u64, width: u32, bits: u64) -> bool
 fn an_access_ends_at_the_last_byte_at_most(rt: HostRuntime) -> Result<(), Fail> {
     let alloc = rt.alloc();
     let mut store = store_of(alloc, 1, None, Vec::new(alloc))?;
-    assert!(rt; stored(&mut store, 65_532, 4, 0xFFFF_FFFF_0403_0201));
-    assert!(rt; loaded(&store, 65_532, 4) == Some(0x0403_0201));
-    assert!(rt; loaded(&store, 65_528, 8) == Some(0x0403_0201_0000_0000));
-    assert!(rt; loaded(&store, 65_534, 2) == Some(0x0403));
-    assert!(rt; loaded(&store, 65_535, 1) == Some(4));
-    assert!(rt; loaded(&store, 65_533, 4) == None);
-    assert!(rt; loaded(&store, 65_536, 1) == None);
-    assert!(rt; loaded(&store, 0x1_0000_0000, 1) == None);
-    assert!(rt; loaded(&store, u64::MAX, 8) == None);
-    assert!(rt; !stored(&mut store, 65_529, 8, 1));
+    assert!(rt; is_stored(&mut store, 65_532, 4, 0xFFFF_FFFF_0403_0201));
+    assert!(rt; number_at(&store, 65_532, 4) == Some(0x0403_0201));
+    assert!(rt; number_at(&store, 65_528, 8) == Some(0x0403_0201_0000_0000));
+    assert!(rt; number_at(&store, 65_534, 2) == Some(0x0403));
+    assert!(rt; number_at(&store, 65_535, 1) == Some(4));
+    assert!(rt; number_at(&store, 65_533, 4) == None);
+    assert!(rt; number_at(&store, 65_536, 1) == None);
+    assert!(rt; number_at(&store, 0x1_0000_0000, 1) == None);
+    assert!(rt; number_at(&store, u64::MAX, 8) == None);
+    assert!(rt; !is_stored(&mut store, 65_529, 8, 1));
     assert!(rt; store.put_bytes(65_534, &[1, 2, 3]) == Err(OutOfBounds));
-    assert!(rt; loaded(&store, 65_532, 4) == Some(0x0403_0201));
+    assert!(rt; number_at(&store, 65_532, 4) == Some(0x0403_0201));
     Ok(())
 }
 
@@ -74,9 +74,9 @@ fn overlapping_bytes_are_moved_both_ways(rt: HostRuntime) -> Result<(), Fail> {
     let mut store = store_of(alloc, 1, None, Vec::new(alloc))?;
     assert!(rt; store.put_bytes(8, &[1, 2, 3, 4, 5, 6]).is_ok());
     assert!(rt; store.move_bytes(10, 8, 4).is_ok());
-    assert!(rt; loaded(&store, 8, 8) == Some(0x0000_0403_0201_0201));
+    assert!(rt; number_at(&store, 8, 8) == Some(0x0000_0403_0201_0201));
     assert!(rt; store.move_bytes(8, 9, 5).is_ok());
-    assert!(rt; loaded(&store, 8, 8) == Some(0x0000_0404_0302_0102));
+    assert!(rt; number_at(&store, 8, 8) == Some(0x0000_0404_0302_0102));
     assert!(rt; store.move_bytes(65_533, 8, 4) == Err(OutOfBounds));
     assert!(rt; store.move_bytes(8, 65_533, 4) == Err(OutOfBounds));
     Ok(())
@@ -86,16 +86,16 @@ fn overlapping_bytes_are_moved_both_ways(rt: HostRuntime) -> Result<(), Fail> {
 fn a_memory_grows_to_its_maximum(rt: HostRuntime) -> Result<(), Fail> {
     let alloc = rt.alloc();
     let mut store = store_of(alloc, 1, Some(3), Vec::new(alloc))?;
-    assert!(rt; stored(&mut store, 65_535, 1, 7));
-    assert!(rt; grown(&mut store, 1)? == 1);
-    assert!(rt; loaded(&store, 65_535, 4) == Some(7));
-    assert!(rt; grown(&mut store, 2)? == 9_999);
-    assert!(rt; grown(&mut store, u32::MAX)? == 9_999);
-    assert!(rt; grown(&mut store, 1)? == 2);
+    assert!(rt; is_stored(&mut store, 65_535, 1, 7));
+    assert!(rt; grow_answer(&mut store, 1)? == 1);
+    assert!(rt; number_at(&store, 65_535, 4) == Some(7));
+    assert!(rt; grow_answer(&mut store, 2)? == 9_999);
+    assert!(rt; grow_answer(&mut store, u32::MAX)? == 9_999);
+    assert!(rt; grow_answer(&mut store, 1)? == 2);
     assert!(rt; store.pages() == 3);
     let mut store = store_of(alloc, 1, Some(65_536), Vec::new(alloc))?;
-    assert!(rt; grown(&mut store, 4_096)? == 9_999);
-    assert!(rt; grown(&mut store, 0)? == 1);
+    assert!(rt; grow_answer(&mut store, 4_096)? == 9_999);
+    assert!(rt; grow_answer(&mut store, 0)? == 1);
     Ok(())
 }
 
@@ -128,7 +128,7 @@ fn a_store_may_have_no_memory_and_no_table(rt: HostRuntime) -> Result<(), Fail> 
     assert!(rt; store.pages() == 0 && store.table_size() == 0);
     assert!(rt; store.put_bytes(0, &[]).is_ok());
     assert!(rt; store.put_bytes(1, &[]) == Err(OutOfBounds));
-    assert!(rt; loaded(&store, 0, 1) == None);
+    assert!(rt; number_at(&store, 0, 1) == None);
     assert!(rt; store.entry(0) == Err(OutOfTable));
     Ok(())
 }

@@ -15,7 +15,7 @@ pub mod Writing
 pub mod BestTypes
 pub mod BestItems
 pub mod BestSections
-pub mod Arranged
+pub mod Arrangements
 pub mod BestModules
 pub mod Encodable
 pub mod Forms

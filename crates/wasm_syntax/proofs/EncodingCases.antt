@@ -4,7 +4,7 @@ use Rattle.std.specs.Str.{is_utf8, chars}
 use Rattle.leb_bytes.specs.Unsigned.{first_u32}
 use Rattle.leb_bytes.specs.Signed.{first_s32, first_s64, first_i32, first_i64}
 use Rattle.wasm_syntax.specs.Encoding.Modules.{preamble}
-use Rattle.wasm_syntax.specs.Encoding.Reading.{whole}
+use Rattle.wasm_syntax.specs.Encoding.Combinators.{whole}
 use Rattle.wasm_syntax.specs.Encoding.Readers.{first_f32, first_f64, first_bytes, first_name, first_indices, first_val_type, first_block_type, first_func_type, first_limits, first_table_type, first_mutability, first_global_type, first_instr, first_instrs, first_expr, first_import_kind, first_import, first_global, first_export_kind, first_export, first_elem, first_data, first_run, first_locals, first_code}
 use Rattle.wasm_syntax.specs.Encoding.ReadModules.{first_section, next_section, lawful_sections, read_sections, fault_place}
 use Rattle.wasm_syntax.specs.declared.forms.Form.{Form}
@@ -168,7 +168,7 @@ twice : place Core (preamble ++ 0x01 ∷ 0x01 ∷ 0x00 ∷ 0x01 ∷ 0x01 ∷ 0x0
 unfolding place
 twice = refl
 
--- custom sections of an empty name stand before, between and behind
+-- custom sections of an empty name stand before, between and after
 customs : place Core (preamble ++ 0x00 ∷ 0x01 ∷ 0x00 ∷ 0x01 ∷ 0x01 ∷ 0x00 ∷ 0x00 ∷ 0x02 ∷ 0x00 ∷ 0xFF ∷ 0x05 ∷ 0x01 ∷ 0x00 ∷ 0x00 ∷ 0x01 ∷ 0x00 ∷ []) ≡ 24
 unfolding place
 customs = refl

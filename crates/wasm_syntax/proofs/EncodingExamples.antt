@@ -10,11 +10,8 @@ use Rattle.wasm_syntax.specs.Encoding.Readers.{first_f32, first_f64, first_bytes
 use Rattle.wasm_syntax.specs.Encoding.ReadModules.{first_section, next_section, lawful_sections, read_sections, read_module, fault_place}
 use Rattle.wasm_syntax.specs.declared.forms.Form.{Form}
 use Rattle.wasm_syntax.specs.declared.forms.Form.TheVariants.{Core, Replay}
-use Rattle.wasm_syntax.specs.declared.values.ValType.TheVariants.{I32}
-use Rattle.wasm_syntax.specs.declared.instructions.Instr.TheVariants.{Call, Numeric, End}
 use Rattle.wasm_syntax.specs.declared.modules.Module.{Module}
-use Rattle.wasm_syntax.specs.declared.modules.ImportKind.TheVariants as imports
-use Rattle.wasm_syntax.specs.declared.modules.ExportKind.TheVariants as exports
+use Rattle.wasm_syntax.proofs.ModuleExamples.{blank, two_answers}
 
 -- reading, and writing, with all of their parts open
 read : Form → List ℕ → Option Module
@@ -27,45 +24,15 @@ write m = encoding_of m
 
 -- ---- the empty module
 
-empty : Module
-empty = record {
-  types = [];
-  imports = [];
-  funcs = [];
-  tables = [];
-  memories = [];
-  globals = [];
-  exports = [];
-  start = None;
-  elems = [];
-  datas = [];
-  customs = [];
-}
-
-empty_read : read_module Core preamble ≡ Some empty
-unfolding empty read
+empty_read : read_module Core preamble ≡ Some blank
+unfolding read
 empty_read = refl
 
-empty_written : encoding_of empty ≡ preamble
-unfolding empty write
+empty_written : encoding_of blank ≡ preamble
+unfolding write
 empty_written = refl
 
 -- ---- the module whose one function adds the results of two calls of its import
-
-two_answers : Module
-two_answers = record {
-  types = record { params = []; results = I32 ∷ [] } ∷ [];
-  imports = record { «module» = 0x68 ∷ []; name = 0x66 ∷ []; kind = imports.Func 0 } ∷ [];
-  funcs = record { ty = 0; locals = []; body = Call 0 ∷ Call 0 ∷ Numeric 0x6A ∷ End ∷ [] } ∷ [];
-  tables = [];
-  memories = [];
-  globals = [];
-  exports = record { name = 0x67 ∷ []; kind = exports.Func 1 } ∷ [];
-  start = None;
-  elems = [];
-  datas = [];
-  customs = [];
-}
 
 two_answers_bytes : List ℕ
 two_answers_bytes =
@@ -73,15 +40,15 @@ two_answers_bytes =
     0x03 ∷ 0x02 ∷ 0x01 ∷ 0x00 ∷ 0x07 ∷ 0x05 ∷ 0x01 ∷ 0x01 ∷ 0x67 ∷ 0x00 ∷ 0x01 ∷ 0x0A ∷ 0x09 ∷ 0x01 ∷ 0x07 ∷ 0x00 ∷ 0x10 ∷ 0x00 ∷ 0x10 ∷ 0x00 ∷ 0x6A ∷ 0x0B ∷ []
 
 two_answers_read : read_module Core two_answers_bytes ≡ Some two_answers
-unfolding two_answers two_answers_bytes read
+unfolding two_answers_bytes read
 two_answers_read = refl
 
 two_answers_written : encoding_of two_answers ≡ two_answers_bytes
-unfolding two_answers two_answers_bytes write
+unfolding two_answers_bytes write
 two_answers_written = refl
 
 two_answers_length : length (encoding_of two_answers) ≡ 46
-unfolding two_answers write
+unfolding write
 two_answers_length = refl
 
 -- its first 40 bytes end within the section that begins at 35
@@ -107,7 +74,7 @@ too_long_number =
     0x00 ∷ 0x6A ∷ 0x0B ∷ []
 
 long_number_read : read_module Core long_number ≡ Some two_answers
-unfolding long_number two_answers read
+unfolding long_number read
 long_number_read = refl
 
 too_long_number_read : read_module Core too_long_number ≡ None

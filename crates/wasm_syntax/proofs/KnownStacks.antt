@@ -1,88 +1,64 @@
 -- What pushing and popping on known stacks means for the stacks of which this is known.
 use Rattle.std.proofs.Common.{◌≡◌, List, [], ◌∷◌, ◌++◌, Option, Some, None, Bool, true, false, cond, ◌&&◌, option_and_then, refl, sym, ap, ◌∙◌, subst}
 use Rattle.std.proofs.lemmas.List.{append-nil}
+use Rattle.list_laws.proofs.Options.{and_then_some, cond_some}
+use Rattle.wasm_syntax.proofs.ValTypes.{type_same, type_own}
 use Rattle.wasm_syntax.specs.declared.values.ValType.{ValType}
 use Rattle.wasm_syntax.specs.declared.values.ValType.TheVariants.{I32, I64, F32, F64, FuncRef}
-use Rattle.wasm_syntax.specs.Checking.{Known, known, anything, IsSlot, AreSlots, Fits, same_type, may_be, pushed, pop_from, pop, pops, none_left, is_over, ends}
-
--- ---- options and tests
-
-pub both_some : {A B : Type 0} (o : Option A) (f : A → Option B) (y : B) → option_and_then f o ≡ Some y → (x : A) × (o ≡ Some x) × (f x ≡ Some y)
-both_some None f y h = cc
-both_some (Some x) f y h = (x, refl, h)
-
-pub cond_some : {A : Type 0} (b : Bool) (o : Option A) (y : A) → cond b o None ≡ Some y → (b ≡ true) × (o ≡ Some y)
-cond_some true o y h = (refl, h)
-cond_some false o y h = cc
-
-pub both_true : (a b : Bool) → (a && b) ≡ true → (a ≡ true) × (b ≡ true)
-both_true true b h = (refl, h)
-both_true false b h = cc
-
-pub and_true : (a b : Bool) → a ≡ true → b ≡ true → (a && b) ≡ true
-and_true a b p q = rw (p, q) refl
+use Rattle.wasm_syntax.specs.KnownStacks.{Known, known_stack, anything, IsSlot, AreSlots, Fits, same_type, may_be, push_types, pop_from, pop, pops, none_left, is_over, ends}
 
 -- ---- one operand
 
-pub same : (t u : ValType) → same_type t u ≡ true → t ≡ u
-same I32 I32 h = refl
-same I64 I64 h = refl
-same F32 F32 h = refl
-same F64 F64 h = refl
-same FuncRef FuncRef h = refl
-same t u h = cc
-
-pub own : (t : ValType) → same_type t t ≡ true
-own I32 = refl
-own I64 = refl
-own F32 = refl
-own F64 = refl
-own FuncRef = refl
-
 pub slot_true : (slot : Option ValType) (t : ValType) → IsSlot slot t → may_be t slot ≡ true
 slot_true None t h = h
-slot_true (Some u) t h = rw h (own u)
+slot_true (Some u) t h = rw h (type_own u)
 
 pub slot_from_true : (slot : Option ValType) (t : ValType) → may_be t slot ≡ true → IsSlot slot t
 slot_from_true None t h = h
-slot_from_true (Some u) t h = sym (same u t h)
+slot_from_true (Some u) t h = sym (type_same u t h)
 
-pub pop_fits : (t : ValType) (slots : List (Option ValType)) (free : Bool) (types : List ValType) → AreSlots slots free (t ∷ types) → (below : Known) × (pop_from t slots free ≡ Some below) × Fits below types
+pub pop_fits : (t : ValType) (slots : List (Option ValType)) (free : Bool) (types : List ValType)
+    → AreSlots slots free (t ∷ types) → (below : Known) × (pop_from t slots free ≡ Some below) × Fits below types
 pop_fits t [] true types h = (anything, refl, tt)
 pop_fits t [] false types h = cc
-pop_fits t (slot ∷ slots) free types h = (known slots free, rw (slot_true slot t h.0) refl, h.1)
+pop_fits t (slot ∷ slots) free types h = (known_stack slots free, rw (slot_true slot t h.0) refl, h.1)
 
-pub pop_from_fits : (t : ValType) (slots : List (Option ValType)) (free : Bool) (below : Known) (types : List ValType) → pop_from t slots free ≡ Some below → Fits below types → AreSlots slots free (t ∷ types)
+pub pop_from_fits : (t : ValType) (slots : List (Option ValType)) (free : Bool) (below : Known) (types : List ValType)
+    → pop_from t slots free ≡ Some below → Fits below types → AreSlots slots free (t ∷ types)
 pop_from_fits t [] true below types e h = tt
 pop_from_fits t [] false below types e h = cc
 pop_from_fits t (slot ∷ slots) free below types e h =
-    let p = cond_some (may_be t slot) (Some (known slots free)) below e in
-    let is_below : known slots free ≡ below = cc in
+    let p = cond_some (may_be t slot) (Some (known_stack slots free)) below e in
+    let is_below : known_stack slots free ≡ below = cc in
     (slot_from_true slot t p.0, subst (λ k. Fits k types) (sym is_below) h)
 
 -- ---- several operands
 
-pub pops_fits : (operands : List ValType) (stack : Known) (types : List ValType) → Fits stack (operands ++ types) → (below : Known) × (pops operands stack ≡ Some below) × Fits below types
+pub pops_fits : (operands : List ValType) (stack : Known) (types : List ValType) → Fits stack (operands ++ types)
+    → (below : Known) × (pops operands stack ≡ Some below) × Fits below types
 pops_fits [] stack types h = (stack, refl, h)
 pops_fits (t ∷ operands) stack types h =
     let first = pop_fits t stack.slots stack.free (operands ++ types) h in
     let others = pops_fits operands first.0 types first.2 in
     (others.0, ap (option_and_then (λ below. pops operands below)) first.1 ∙ others.1, others.2)
 
-pub pops_from_fits : (operands : List ValType) (stack below : Known) (types : List ValType) → pops operands stack ≡ Some below → Fits below types → Fits stack (operands ++ types)
+pub pops_from_fits : (operands : List ValType) (stack below : Known) (types : List ValType)
+    → pops operands stack ≡ Some below → Fits below types → Fits stack (operands ++ types)
 pops_from_fits [] stack below types e h =
     let same_stack : stack ≡ below = cc in
     subst (λ k. Fits k types) (sym same_stack) h
 pops_from_fits (t ∷ operands) stack below types e h =
-    let p = both_some (pop t stack) (λ s. pops operands s) below e in
+    let p = and_then_some (pop t stack) (λ s. pops operands s) below e in
     pop_from_fits t stack.slots stack.free p.0 (operands ++ types) p.1 (pops_from_fits operands p.0 below types p.2 h)
 
-pub pushed_fits : (results : List ValType) (stack : Known) (types : List ValType) → Fits stack types → Fits (pushed results stack) (results ++ types)
+pub pushed_fits : (results : List ValType) (stack : Known) (types : List ValType) → Fits stack types
+    → Fits (push_types results stack) (results ++ types)
 pushed_fits [] stack types h = h
 pushed_fits (t ∷ results) stack types h = (refl, pushed_fits results stack types h)
 
 -- what is known after a push is known of the stack below
-pub below_pushed : (results : List ValType) (stack : Known) (types : List ValType) → Fits (pushed results stack) types → (below : List ValType) × (types ≡ results ++ below) × Fits stack below
+pub below_pushed : (results : List ValType) (stack : Known) (types : List ValType)
+    → Fits (push_types results stack) types → (below : List ValType) × (types ≡ results ++ below) × Fits stack below
 below_pushed [] stack types h = (types, refl, h)
 below_pushed (t ∷ results) stack [] h = absurd h
 below_pushed (t ∷ results) stack (u ∷ types) h =
@@ -122,10 +98,12 @@ ends_fits types stack h =
     let p = pops_fits types stack [] (subst (λ l. Fits stack l) (sym (append-nil types)) h) in
     ap is_over p.1 ∙ left_none p.0.slots p.0.free p.2
 
-pub fits_from_ends : (types : List ValType) (stack : Option Known) → ends types stack ≡ true → (s : Known) × (stack ≡ Some s) × Fits s types
+pub fits_from_ends : (types : List ValType) (stack : Option Known) → ends types stack ≡ true
+    → (s : Known) × (stack ≡ Some s) × Fits s types
 fits_from_ends types None h = cc
 fits_from_ends types (Some stack) h = by (pops types stack) refl h
   where
-    by : (o : Option Known) → pops types stack ≡ o → is_over o ≡ true → (s : Known) × (Some stack ≡ Some s) × Fits s types
+    by : (o : Option Known) → pops types stack ≡ o → is_over o ≡ true
+        → (s : Known) × (Some stack ≡ Some s) × Fits s types
     by None e over = cc
     by (Some below) e over = (stack, refl, subst (λ l. Fits stack l) (append-nil types) (pops_from_fits types stack below [] e (none_fits below.slots below.free over)))

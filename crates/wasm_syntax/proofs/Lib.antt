@@ -1,9 +1,9 @@
-mod Behind
-mod Checked
-mod Decided
+mod InstrTypes
+mod NestTypes
+mod ValidityTests
 mod KnownStacks
 mod ModuleExamples
-mod NestsRead
+pub mod Nests
 mod OpcodeExamples
 mod Places
 mod ProfileExamples
@@ -13,3 +13,4 @@ mod TypingExamples
 mod ValidityExamples
 mod EncodingCases
 pub mod Encoding
+pub mod ValTypes

@@ -68,7 +68,7 @@ overwrite = record blank {
       ∷ [];
 }
 
--- a store behind the first page
+-- a store past the first page
 abbrev pub grow_access : Module
 grow_access = record blank {
   types = func_type [] [] ∷ [];

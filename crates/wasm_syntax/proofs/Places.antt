@@ -9,8 +9,8 @@ use Rattle.wasm_syntax.specs.declared.modules.Module.{Module}
 use Rattle.wasm_syntax.specs.declared.modules.Func.{Func}
 use Rattle.wasm_syntax.specs.Index.{imported_funcs}
 use Rattle.wasm_syntax.specs.Validity.{IsValidOutside, IsTypedFunc, IsValid, IsFirstUntyped, IsInvalidAt}
-use Rattle.wasm_syntax.specs.Deciding.{is_valid_outside, is_typed_func, invalid_at}
-use Rattle.wasm_syntax.proofs.Decided.{outside_decides, bodies_decide}
+use Rattle.wasm_syntax.specs.ValidityTests.{is_valid_outside, is_typed_func, invalid_at}
+use Rattle.wasm_syntax.proofs.ValidityTests.{outside_decides, bodies_decide}
 
 not_true : (b : Bool) → not b ≡ false → b ≡ true
 not_true true h = refl
@@ -27,7 +27,8 @@ untyped_of : (m : Module) (f : Func) → not (is_typed_func m f) ≡ true → ¬
 untyped_of m f h = not_from_Decides (is_typed_func m f) (bodies_decide m f) (not_false (is_typed_func m f) h)
 
 -- the function that the test finds, with any function for a default
-first_untyped_by : (m : Module) (place : ℕ) (d : Func) → position (λ f. not (is_typed_func m f)) m.funcs ≡ Some place → IsFirstUntyped m place
+first_untyped_by : (m : Module) (place : ℕ) (d : Func) → position (λ f. not (is_typed_func m f)) m.funcs ≡ Some place
+    → IsFirstUntyped m place
 first_untyped_by m place d e =
     let p = position-Some (λ f. not (is_typed_func m f)) m.funcs place d e in
     record {
@@ -43,7 +44,8 @@ some_default p [] place e = cc
 some_default p (f ∷ funcs) place e = f
 
 -- where no item is found, each fails
-none_found : {X : Type 0} (p : X → Bool) (xs : List X) (k : ℕ) (d : X) → position p xs ≡ None → k < length xs → p (get_or xs k d) ≡ false
+none_found : {X : Type 0} (p : X → Bool) (xs : List X) (k : ℕ) (d : X) → position p xs ≡ None → k < length xs
+    → p (get_or xs k d) ≡ false
 none_found p xs k d e below =
     let before : k < position_or_len p xs = grind (arith, nat_tests) in
     fails_before_first p xs k d before
@@ -69,8 +71,10 @@ place_found m = by (is_valid_outside m) refl
 -- ---- a module is not both, and has one place at most
 
 -- one that is found passes what all pass
-at_found : (P : Func → Type 0) (funcs : List Func) (place : ℕ) (f : Func) → All P funcs → slice_get funcs place ≡ Some f → P f
-at_found P funcs place f all e = subst P (get_or_from_slice_get funcs place f f e) (all place f (slice_get_within funcs place f e))
+at_found : (P : Func → Type 0) (funcs : List Func) (place : ℕ) (f : Func) → All P funcs → slice_get funcs place ≡ Some f
+    → P f
+at_found P funcs place f all e =
+    subst P (get_or_from_slice_get funcs place f f e) (all place f (slice_get_within funcs place f e))
 
 pub not_both : (m : Module) (place : Option ℕ) → IsValid m → IsInvalidAt m place → ⊥
 not_both m None valid invalid = invalid valid.outside

@@ -8,9 +8,9 @@ use Rattle.wasm_syntax.specs.declared.instructions.Instr.{Instr}
 use Rattle.wasm_syntax.specs.declared.instructions.Instr.TheVariants.{Unreachable, Nop, Block, Loop, If, Else, End, Br, BrIf, BrTable, Return, Call, CallIndirect, Drop, Select, LocalGet, LocalSet, LocalTee, GlobalGet, GlobalSet, Load, Store, MemorySize, MemoryGrow, Const, Numeric, RefNull, RefFunc, TableSet}
 use Rattle.wasm_syntax.specs.Nest.{Nest, IsBody, nest_of}
 use Rattle.wasm_syntax.specs.Typing.{Context, IsTyped}
-use Rattle.wasm_syntax.specs.Deciding.{nest_ends}
-use Rattle.wasm_syntax.proofs.NestsRead.{nest_of_body, body_of_nest}
-use Rattle.wasm_syntax.proofs.Checked.{typed_from_ends, ends_from_typed}
+use Rattle.wasm_syntax.specs.ValidityTests.{nest_ends}
+use Rattle.wasm_syntax.proofs.Nests.{nest_of_body, body_of_nest}
+use Rattle.wasm_syntax.proofs.NestTypes.{typed_from_ends, ends_from_typed}
 
 -- ---- where the bodies stand
 
@@ -48,7 +48,8 @@ module _ (at : List ValType → Context) where
   abbrev accepts : Row → Bool
   accepts row = nest_ends (at row.0) row.0 (nest_of (row.1 ++ End ∷ []))
 
-  by_nest : (row : Row) (o : Option Nest) → nest_of (row.1 ++ End ∷ []) ≡ o → nest_ends (at row.0) row.0 o ≡ true → HasTyping (at row.0) row
+  by_nest : (row : Row) (o : Option Nest) → nest_of (row.1 ++ End ∷ []) ≡ o → nest_ends (at row.0) row.0 o ≡ true
+      → HasTyping (at row.0) row
   by_nest row None e h = cc
   by_nest row (Some nest) e h = record {
     nest = nest;
@@ -60,13 +61,15 @@ module _ (at : List ValType → Context) where
   decided row = (
     by_nest row (nest_of (row.1 ++ End ∷ [])) refl,
     λ h.
-        ap (nest_ends (at row.0) row.0) (nest_of_body h.nest (row.1 ++ End ∷ []) h.is_body) ∙ ends_from_typed (at row.0) h.nest row.0 h.typed,
+        ap (nest_ends (at row.0) row.0) (nest_of_body h.nest (row.1 ++ End ∷ []) h.is_body)
+        ∙ ends_from_typed (at row.0) h.nest row.0 h.typed,
   )
 
   each_typed : (rows : List Row) → list_all accepts rows ≡ true → All (λ row. HasTyping (at row.0) row) rows
   each_typed rows h = (Decides-by_and accepts (λ row. HasTyping (at row.0) row) (list_all accepts) decided refl (λ _ _. refl) rows).0 h
 
-  none_typed : (rows : List Row) → list_all (λ row. not (accepts row)) rows ≡ true → All (λ row. ¬ HasTyping (at row.0) row) rows
+  none_typed : (rows : List Row) → list_all (λ row. not (accepts row)) rows ≡ true
+      → All (λ row. ¬ HasTyping (at row.0) row) rows
   none_typed rows h =
       (Decides-by_and (λ row. not (accepts row)) (λ row. ¬ HasTyping (at row.0) row) (list_all (λ row. not (accepts row))) (λ row. Decides-not (accepts row) (decided row)) refl (λ _ _. refl) rows).0 h
 
@@ -168,7 +171,7 @@ typed_bodies =
     -- references to functions (Core 2.0)
     ∷ ([], i32 ∷ RefNull ∷ TableSet 0 ∷ [])
     ∷ ([], i32 ∷ RefFunc 1 ∷ TableSet 0 ∷ [])
-    -- behind `unreachable`, `br`, `br_table` and `return`
+    -- after `unreachable`, `br`, `br_table` and `return`
     ∷ (I32 ∷ [], Unreachable ∷ [])
     ∷ (I32 ∷ [], Unreachable ∷ Numeric 0x6A ∷ [])
     ∷ (I32 ∷ [], Unreachable ∷ i32 ∷ Numeric 0x6A ∷ [])
@@ -293,7 +296,7 @@ untyped_bodies =
     ∷ ([], i32 ∷ i32 ∷ TableSet 0 ∷ [])
     ∷ ([], RefNull ∷ i32 ∷ TableSet 0 ∷ [])
     ∷ ([], RefNull ∷ [])
-    -- behind `unreachable`, `br`, `br_table` and `return`
+    -- after `unreachable`, `br`, `br_table` and `return`
     ∷ ([], Unreachable ∷ i32 ∷ [])
     ∷ (I32 ∷ [], Unreachable ∷ i64 ∷ [])
     ∷ (I32 ∷ [], Unreachable ∷ i64 ∷ Numeric 0x6A ∷ [])

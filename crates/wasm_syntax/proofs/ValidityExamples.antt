@@ -17,7 +17,7 @@ use Rattle.wasm_syntax.specs.declared.modules.ElemSeg.{ElemSeg}
 use Rattle.wasm_syntax.specs.declared.modules.ExportKind.TheVariants.{Func, Table, Memory, Global}
 use Rattle.wasm_syntax.specs.declared.modules.ElemSeg.TheVariants.{Active, Declared}
 use Rattle.wasm_syntax.specs.Validity.{IsValid, IsInvalidAt}
-use Rattle.wasm_syntax.specs.Deciding.{invalid_at}
+use Rattle.wasm_syntax.specs.ValidityTests.{invalid_at}
 use Rattle.wasm_syntax.proofs.Places.{valid_if, invalid_if}
 use Rattle.wasm_syntax.proofs.ModuleExamples.{blank, func_type, limits, constant, two_answers, two_answers_untyped, overwrite, grow_access, grow_failed, nested_call, table_entry, float_global, imported_offset, float_body, c_buffers, replay_two_answers, too_many_pages, most_pages}
 
@@ -57,7 +57,8 @@ all_valid : (ms : List Module) → list_all (λ m. is_nowhere (invalid_at m)) ms
 all_valid ms h k d below =
     valid_if (get_or ms k d) (nowhere (invalid_at (get_or ms k d)) (AllPass-from_list_all (λ m. is_nowhere (invalid_at m)) ms h k d below))
 
-all_invalid : (rows : List Row) → list_all (λ (row : Row). is_place row.0 (invalid_at row.1)) rows ≡ true → All (λ (row : Row). IsInvalidAt row.1 row.0) rows
+all_invalid : (rows : List Row) → list_all (λ (row : Row). is_place row.0 (invalid_at row.1)) rows ≡ true
+    → All (λ (row : Row). IsInvalidAt row.1 row.0) rows
 all_invalid rows h k d below =
     let row = get_or rows k d in
     invalid_if row.1 row.0 (found_place row.0 (invalid_at row.1) (AllPass-from_list_all (λ (r : Row). is_place r.0 (invalid_at r.1)) rows h k d below))
@@ -114,13 +115,15 @@ abbrev outside : Module → Row
 outside m = (None, m)
 
 abbrev with_import : ImportKind → Row
-with_import kind = outside (record blank { imports = record { «module» = codes "env"; name = codes "f"; kind = kind } ∷ [] })
+with_import kind =
+    outside (record blank { imports = record { «module» = codes "env"; name = codes "f"; kind = kind } ∷ [] })
 
 abbrev with_export : ExportKind → Row
 with_export kind = outside (record whole { exports = record { name = codes "f"; kind = kind } ∷ [] })
 
 abbrev with_global : ValType → List Instr → Row
-with_global ty init = outside (record whole { globals = record { ty = record { ty = ty; mutable = false }; init = init } ∷ [] })
+with_global ty init =
+    outside (record whole { globals = record { ty = record { ty = ty; mutable = false }; init = init } ∷ [] })
 
 abbrev with_start : ℕ → Row
 with_start f = outside (record whole { start = Some f })
@@ -129,7 +132,8 @@ abbrev with_elem : ElemSeg → Row
 with_elem seg = outside (record whole { elems = seg ∷ [] })
 
 abbrev with_data : ℕ → List Instr → Row
-with_data memory offset = outside (record whole { datas = record { memory = memory; offset = offset; bytes = [] } ∷ [] })
+with_data memory offset =
+    outside (record whole { datas = record { memory = memory; offset = offset; bytes = [] } ∷ [] })
 
 abbrev invalid_outside : List Row
 invalid_outside =
@@ -200,7 +204,7 @@ outside_are_invalid = all_invalid invalid_outside refl
 abbrev invalid_inside : List Row
 invalid_inside =
     (Some 1, two_answers_untyped)
-    -- the first of two, behind one import
+    -- the first of two, after one import
     ∷ (Some 2, record whole { funcs = body [] ∷ body (Drop ∷ []) ∷ body [] ∷ body (Drop ∷ []) ∷ [] })
     -- no nest; a reference to a function that is neither in a segment nor exported
     ∷ (Some 0, record blank { types = func_type [] [] ∷ []; funcs = record { ty = 0; locals = []; body = End ∷ End ∷ [] } ∷ [] })

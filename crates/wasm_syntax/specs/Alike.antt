@@ -1,16 +1,17 @@
 -- Tests of types for equality, and the bytes that stand for types.
 use Rattle.std.specs.Prelude.{ℕ, List, [], ◌∷◌, Bool, true, false, ◌&&◌, nat_eq}
+use Rattle.wasm_opcodes.specs.declared.marks.TheConstants.{TYPE_I32, TYPE_I64, TYPE_F32, TYPE_F64, TYPE_FUNCREF}
 use Rattle.wasm_syntax.specs.declared.values.ValType.{ValType}
 use Rattle.wasm_syntax.specs.declared.values.ValType.TheVariants.{I32, I64, F32, F64, FuncRef}
 use Rattle.wasm_syntax.specs.declared.signatures.FuncType.{FuncType}
 
 -- the byte that stands for a value type (Core 1.0, 5.3.1; for references Core 2.0, 5.3.3)
 abbrev pub type_byte : ValType → ℕ
-type_byte I32 = 0x7F
-type_byte I64 = 0x7E
-type_byte F32 = 0x7D
-type_byte F64 = 0x7C
-type_byte FuncRef = 0x70
+type_byte I32 = TYPE_I32
+type_byte I64 = TYPE_I64
+type_byte F32 = TYPE_F32
+type_byte F64 = TYPE_F64
+type_byte FuncRef = TYPE_FUNCREF
 
 abbrev pub same_type : ValType → ValType → Bool
 same_type a b = nat_eq (type_byte a) (type_byte b)

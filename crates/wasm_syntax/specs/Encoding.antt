@@ -7,6 +7,7 @@ pub mod Modules
 pub mod Encodable
 pub mod Forms
 pub mod Shortest
-pub mod Reading
+pub mod Combinators
 pub mod Readers
 pub mod ReadModules
+pub mod Laws

@@ -5,7 +5,8 @@ pub mod Alike
 pub mod Typing
 pub mod Validity
 pub mod Profile
-pub mod Appended
-pub mod Checking
+pub mod AppendedTypes
+pub mod KnownStacks
 pub mod Encoding
-pub mod Deciding
+pub mod ValidityTests
+pub mod Laws

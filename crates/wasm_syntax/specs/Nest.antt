@@ -59,38 +59,38 @@ pub record IsBody (nest : Nest) (body : List Instr) : Type 0 where
 -- `End` that is still without its opening
 pub data Open : Type 0 where
   Outside : Open
-  Ended : (outer : Open) (rest : Nest) → Open
-  Parted : (outer : Open) (other rest : Nest) → Open
+  InEnd : (outer : Open) (rest : Nest) → Open
+  InElse : (outer : Open) (other rest : Nest) → Open
 
 -- what is read: the sequence that stands first, and the open sequences round it; or no tree
-pub data Reading : Type 0 where
-  Broken : Reading
-  Read : (first : Nest) (around : Open) → Reading
+pub data OpenNest : Type 0 where
+  NoNest : OpenNest
+  Within : (first : Nest) (around : Open) → OpenNest
 
 -- one more instruction in front
-abbrev pub in_front : Instr → Reading → Reading
-in_front i Broken = Broken
-in_front End (Read first around) = Read Empty (Ended around first)
-in_front Else (Read first (Ended outer rest)) = Read Empty (Parted outer first rest)
-in_front Else (Read first around) = Broken
-in_front (Block ty) (Read first (Ended outer rest)) = Read (InBlock ty first rest) outer
-in_front (Block ty) (Read first around) = Broken
-in_front (Loop ty) (Read first (Ended outer rest)) = Read (InLoop ty first rest) outer
-in_front (Loop ty) (Read first around) = Broken
-in_front (If ty) (Read first (Ended outer rest)) = Read (InIf ty first rest) outer
-in_front (If ty) (Read first (Parted outer other rest)) = Read (InIfElse ty first other rest) outer
-in_front (If ty) (Read first around) = Broken
-in_front i (Read first around) = Read (Plain i first) around
+abbrev pub in_front : Instr → OpenNest → OpenNest
+in_front i NoNest = NoNest
+in_front End (Within first around) = Within Empty (InEnd around first)
+in_front Else (Within first (InEnd outer rest)) = Within Empty (InElse outer first rest)
+in_front Else (Within first around) = NoNest
+in_front (Block ty) (Within first (InEnd outer rest)) = Within (InBlock ty first rest) outer
+in_front (Block ty) (Within first around) = NoNest
+in_front (Loop ty) (Within first (InEnd outer rest)) = Within (InLoop ty first rest) outer
+in_front (Loop ty) (Within first around) = NoNest
+in_front (If ty) (Within first (InEnd outer rest)) = Within (InIf ty first rest) outer
+in_front (If ty) (Within first (InElse outer other rest)) = Within (InIfElse ty first other rest) outer
+in_front (If ty) (Within first around) = NoNest
+in_front i (Within first around) = Within (Plain i first) around
 
 -- a flat list read from its end
-abbrev pub reading : List Instr → Reading
-reading [] = Read Empty Outside
-reading (i ∷ is) = in_front i (reading is)
+abbrev pub open_nest : List Instr → OpenNest
+open_nest [] = Within Empty Outside
+open_nest (i ∷ is) = in_front i (open_nest is)
 
--- the tree of a body where it has one: its own `End` closes it, and nothing stands behind
-abbrev pub whole : Reading → Option Nest
-whole (Read nest (Ended Outside Empty)) = Some nest
-whole other = None
+-- the tree of a body where it has one: its own `End` closes it, and nothing stands after
+abbrev pub closed_nest : OpenNest → Option Nest
+closed_nest (Within nest (InEnd Outside Empty)) = Some nest
+closed_nest other = None
 
 abbrev pub nest_of : List Instr → Option Nest
-nest_of body = whole (reading body)
+nest_of body = closed_nest (open_nest body)

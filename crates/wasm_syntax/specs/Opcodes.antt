@@ -1,6 +1,8 @@
 -- What opcodes take and give: the types of numeric instructions (Core 1.0, 3.3.1 and 5.4.5), and the
 -- type, width and sign of loads and stores (Core 1.0, 3.3.4 and 5.4.4).
-use Rattle.std.specs.Prelude.{ℕ, ◌-◌, List, [], ◌∷◌, Option, Some, None, Bool, true, false, cond, ◌&&◌, nat_le, slice_get}
+use Rattle.std.specs.Prelude.{ℕ, ◌-◌, List, [], ◌∷◌, Option, Some, None, Bool, true, false, cond, ◌&&◌, nat_le, slice_get, replicate}
+use Rattle.wasm_opcodes.specs.declared.TheConstants.{I32_LOAD, I64_LOAD32_U, I32_STORE, I64_STORE32}
+use Rattle.wasm_opcodes.specs.Table as opcodes
 use Rattle.wasm_syntax.specs.declared.values.ValType.{ValType}
 use Rattle.wasm_syntax.specs.declared.values.ValType.TheVariants.{I32, I64, F32, F64}
 
@@ -12,14 +14,6 @@ is_from low high op = nat_le low op && nat_le op high
 pub record Shape : Type 0 where
   pub operands : List ValType
   pub result : ValType
-
--- one operand and a result
-abbrev pub takes_one : ValType → ValType → Shape
-takes_one a r = record { operands = a ∷ []; result = r }
-
--- two operands of one type and a result
-abbrev pub takes_two : ValType → ValType → Shape
-takes_two a r = record { operands = a ∷ a ∷ []; result = r }
 
 -- the first of the rows whose range holds the opcode
 pub record Row : Type 0 where
@@ -34,27 +28,24 @@ row_of (row ∷ rows) op = cond (is_from row.low row.high op) (Some row.shape) (
 abbrev pub row : ℕ → ℕ → Shape → Row
 row low high shape = record { low = low; high = high; shape = shape }
 
--- the table of numeric opcodes, 0x45 to 0xBF
+-- the value type that a number type is
+abbrev pub val_type : opcodes.NumType → ValType
+val_type opcodes.I32 = I32
+val_type opcodes.I64 = I64
+val_type opcodes.F32 = F32
+val_type opcodes.F64 = F64
+
+-- the operands and the result of the instructions of a row
+abbrev pub shape_of : opcodes.Row → Shape
+shape_of r = record { operands = replicate r.arity (val_type r.operand); result = val_type r.result }
+
+abbrev pub shapes_of : List opcodes.Row → List Row
+shapes_of [] = []
+shapes_of (r ∷ rs) = row r.first r.last (shape_of r) ∷ shapes_of rs
+
+-- the numeric opcodes, 0x45 to 0xBF
 abbrev pub numeric_rows : List Row
-numeric_rows =
-    row 0x45 0x45 (takes_one I32 I32) ∷ row 0x46 0x4F (takes_two I32 I32)
-    ∷ row 0x50 0x50 (takes_one I64 I32) ∷ row 0x51 0x5A (takes_two I64 I32)
-    ∷ row 0x5B 0x60 (takes_two F32 I32) ∷ row 0x61 0x66 (takes_two F64 I32)
-    ∷ row 0x67 0x69 (takes_one I32 I32) ∷ row 0x6A 0x78 (takes_two I32 I32)
-    ∷ row 0x79 0x7B (takes_one I64 I64) ∷ row 0x7C 0x8A (takes_two I64 I64)
-    ∷ row 0x8B 0x91 (takes_one F32 F32) ∷ row 0x92 0x98 (takes_two F32 F32)
-    ∷ row 0x99 0x9F (takes_one F64 F64) ∷ row 0xA0 0xA6 (takes_two F64 F64)
-    ∷ row 0xA7 0xA7 (takes_one I64 I32)
-    ∷ row 0xA8 0xA9 (takes_one F32 I32) ∷ row 0xAA 0xAB (takes_one F64 I32)
-    ∷ row 0xAC 0xAD (takes_one I32 I64)
-    ∷ row 0xAE 0xAF (takes_one F32 I64) ∷ row 0xB0 0xB1 (takes_one F64 I64)
-    ∷ row 0xB2 0xB3 (takes_one I32 F32) ∷ row 0xB4 0xB5 (takes_one I64 F32)
-    ∷ row 0xB6 0xB6 (takes_one F64 F32)
-    ∷ row 0xB7 0xB8 (takes_one I32 F64) ∷ row 0xB9 0xBA (takes_one I64 F64)
-    ∷ row 0xBB 0xBB (takes_one F32 F64)
-    ∷ row 0xBC 0xBC (takes_one F32 I32) ∷ row 0xBD 0xBD (takes_one F64 I64)
-    ∷ row 0xBE 0xBE (takes_one I32 F32) ∷ row 0xBF 0xBF (takes_one I64 F64)
-    ∷ []
+numeric_rows = shapes_of opcodes.rows
 
 abbrev pub numeric_shape : ℕ → Option Shape
 numeric_shape = row_of numeric_rows
@@ -85,7 +76,7 @@ store_table =
     ∷ access I64 1 false ∷ access I64 2 false ∷ access I64 4 false ∷ []
 
 abbrev pub load_of : ℕ → Option Access
-load_of op = cond (is_from 0x28 0x35 op) (slice_get load_table (op - 0x28)) None
+load_of op = cond (is_from I32_LOAD I64_LOAD32_U op) (slice_get load_table (op - I32_LOAD)) None
 
 abbrev pub store_of : ℕ → Option Access
-store_of op = cond (is_from 0x36 0x3E op) (slice_get store_table (op - 0x36)) None
+store_of op = cond (is_from I32_STORE I64_STORE32 op) (slice_get store_table (op - I32_STORE)) None

@@ -1,6 +1,8 @@
 -- The accepted profile: what is refused of valid modules, and where.
 use Rattle.std.specs.Prelude.{◌≡◌, ℕ, List, [], ◌++◌, length, sum_by, filter, filter_map, flat_map, Option, Some, None, Bool, true, false, cond, ◌||◌, nat_lt, bytes_eq, codes, slice_get, option_map}
 use Rattle.std.specs.List.{enumerate_from}
+use Rattle.wasm_opcodes.specs.declared.TheConstants.{F32_EQ, F64_GE, F32_ABS, F64_COPYSIGN, I32_TRUNC_F32_S, I32_TRUNC_F64_U, I64_TRUNC_F32_S, F64_PROMOTE_F32}
+use Rattle.wasm_syntax.specs.declared.limits.TheConstants.{MOST_ENTRIES, MOST_LOCALS, MOST_LOCALS_HOOKED, MOST_PAGES, MOST_PARAMETERS}
 use Rattle.wasm_syntax.specs.declared.profile.Feature.{Feature}
 use Rattle.wasm_syntax.specs.declared.profile.Feature.TheVariants.{FloatComparison, FloatArithmetic, FloatConversion}
 use Rattle.wasm_syntax.specs.declared.profile.Which.{Which}
@@ -17,9 +19,10 @@ use Rattle.wasm_syntax.specs.Validity.{IsValid}
 -- the class of a refused opcode (Core 1.0, 5.4.5)
 abbrev pub feature_of : ℕ → Option Feature
 feature_of op =
-    cond (is_from 0x5B 0x66 op) (Some FloatComparison)
-    (cond (is_from 0x8B 0xA6 op) (Some FloatArithmetic)
-    (cond (is_from 0xA8 0xAB op || is_from 0xAE 0xBB op) (Some FloatConversion) None))
+    cond (is_from F32_EQ F64_GE op) (Some FloatComparison)
+    (cond (is_from F32_ABS F64_COPYSIGN op) (Some FloatArithmetic)
+    (cond (is_from I32_TRUNC_F32_S I32_TRUNC_F64_U op || is_from I64_TRUNC_F32_S F64_PROMOTE_F32 op)
+    (Some FloatConversion) None))
 
 abbrev pub refused_feature : Instr → Option Feature
 refused_feature (Numeric op) = feature_of op
@@ -32,8 +35,8 @@ is_numbered End = false
 is_numbered i = true
 
 -- the instructions of a body, each with its number
-abbrev pub numbered : List Instr → List (ℕ × Instr)
-numbered body = enumerate_from 0 (filter is_numbered body)
+abbrev pub numbered_instrs : List Instr → List (ℕ × Instr)
+numbered_instrs body = enumerate_from 0 (filter is_numbered body)
 
 -- why a valid module is refused: an instruction of a function, by its number; a quantity past its limit;
 -- an import, by its place
@@ -44,7 +47,8 @@ pub data Refusal : Type 0 where
 
 -- each refused instruction of a function, by the function's index
 abbrev pub refused_in : ℕ → Func → List Refusal
-refused_in func f = filter_map (λ (i : ℕ × Instr). option_map (Unsupported func i.0) (refused_feature i.1)) (numbered f.body)
+refused_in func f =
+    filter_map (λ (i : ℕ × Instr). option_map (Unsupported func i.0) (refused_feature i.1)) (numbered_instrs f.body)
 
 -- each refused instruction, by function and number
 abbrev pub refused_instructions : Module → List Refusal
@@ -60,23 +64,23 @@ count_of_locals f = sum_by (λ run. run.count) f.locals
 
 -- an instrumented module has five locals more
 abbrev pub most_locals : Bool → ℕ
-most_locals hooked = cond hooked 50005 50000
+most_locals hooked = cond hooked MOST_LOCALS_HOOKED MOST_LOCALS
 
 -- each quantity past its limit: parameters by type, the table's and the memory's minimum, locals by function
 abbrev pub quantities_past : Bool → Module → List Refusal
 quantities_past hooked m =
-    filter_map (λ ty. past 1000 Parameters (length ty.params)) m.types
-    ++ filter_map (λ limits. past 1000000 Table limits.min) (all_tables m)
-    ++ filter_map (λ limits. past 4096 Memory limits.min) (all_memories m)
+    filter_map (λ ty. past MOST_PARAMETERS Parameters (length ty.params)) m.types
+    ++ filter_map (λ limits. past MOST_ENTRIES Table limits.min) (all_tables m)
+    ++ filter_map (λ limits. past MOST_PAGES Memory limits.min) (all_memories m)
     ++ filter_map (λ f. past (most_locals hooked) Locals (count_of_locals f)) m.funcs
 
 -- an import from the module `r3`
-abbrev pub reserved : ℕ × Import → Option Refusal
-reserved i = cond (bytes_eq i.1.module (codes "r3")) (Some (Reserved i.0)) None
+abbrev pub reserved_import : ℕ × Import → Option Refusal
+reserved_import i = cond (bytes_eq i.1.module (codes "r3")) (Some (Reserved i.0)) None
 
 -- each import that only an instrumented module may have
 abbrev pub reserved_imports : Bool → Module → List Refusal
-reserved_imports hooked m = cond hooked [] (filter_map reserved (enumerate_from 0 m.imports))
+reserved_imports hooked m = cond hooked [] (filter_map reserved_import (enumerate_from 0 m.imports))
 
 -- all that is refused, in the order in which it is named
 abbrev pub refusals : Bool → Module → List Refusal

@@ -43,41 +43,41 @@ bits_of FuncRef = 0
 abbrev pub is_constant : Val → Bool
 is_constant v = is_number v.ty && nat_lt v.bits (2 ^ bits_of v.ty)
 
--- what an instruction that stands alone does to the stack: it takes operands and gives results; takes one
--- value of any type; takes a condition and two numbers of one type, and gives one; takes operands and
--- leads elsewhere; takes an index and what all of the labels take, and leads to one of them
-pub data Effect : Type 0 where
-  Moves : (operands results : List ValType) → Effect
-  Drops : Effect
-  Selects : Effect
-  Leaves : (operands : List ValType) → Effect
-  Switches : (labels : List ℕ) → Effect
+-- the type of an instruction that stands alone, which is what it does to the stack (Core 1.0, 3.1.2): it takes
+-- operands and gives results; takes one value of any type; takes a condition and two numbers of one type, and gives
+-- one; takes operands and leads elsewhere; takes an index and what all of the labels take, and leads to one of them
+pub data InstrType : Type 0 where
+  Moves : (operands results : List ValType) → InstrType
+  Drops : InstrType
+  Selects : InstrType
+  Leaves : (operands : List ValType) → InstrType
+  Switches : (labels : List ℕ) → InstrType
 
--- an effect under a condition
-abbrev pub if_true : Bool → Effect → Option Effect
-if_true b effect = cond b (Some effect) None
+-- a type under a condition
+abbrev pub if_true : Bool → InstrType → Option InstrType
+if_true b ty = cond b (Some ty) None
 
 -- a call of a function of this type, the last argument on top (Core 1.0, 3.3.5.10)
-abbrev pub call_of : FuncType → Effect
+abbrev pub call_of : FuncType → InstrType
 call_of ty = Moves (reverse ty.params) (reverse ty.results)
 
 -- a call by an index into the table, which is on top (Core 1.0, 3.3.5.11)
-abbrev pub indirect_of : FuncType → Effect
+abbrev pub indirect_of : FuncType → InstrType
 indirect_of ty = Moves (I32 ∷ reverse ty.params) (reverse ty.results)
 
 -- a global that is set is mutable (Core 1.0, 3.3.3.5)
-abbrev pub set_of : GlobalType → Option Effect
+abbrev pub set_of : GlobalType → Option InstrType
 set_of global = if_true global.mutable (Moves (global.ty ∷ []) [])
 
 -- an access is aligned to its width at most (Core 1.0, 3.3.4.1 to 3.3.4.4)
 abbrev pub is_aligned : MemArg → Access → Bool
 is_aligned arg access = nat_le (2 ^ arg.align) access.width
 
-abbrev pub loading : MemArg → Access → Option Effect
-loading arg access = if_true (is_aligned arg access) (Moves (I32 ∷ []) (access.ty ∷ []))
+abbrev pub load_type : MemArg → Access → Option InstrType
+load_type arg access = if_true (is_aligned arg access) (Moves (I32 ∷ []) (access.ty ∷ []))
 
-abbrev pub storing : MemArg → Access → Option Effect
-storing arg access = if_true (is_aligned arg access) (Moves (access.ty ∷ I32 ∷ []) [])
+abbrev pub store_type : MemArg → Access → Option InstrType
+store_type arg access = if_true (is_aligned arg access) (Moves (access.ty ∷ I32 ∷ []) [])
 
 -- there is a table of this index, a memory (Core 1.0, 3.3.4 and 3.3.5.11)
 abbrev pub has_table : Context → ℕ → Bool
@@ -94,48 +94,48 @@ is_declared ctx f = nat_lt f (length ctx.funcs) && list_any (nat_eq f) ctx.decla
 abbrev pub func_at : Context → ℕ → Option FuncType
 func_at ctx f = option_and_then (slice_get ctx.types) (slice_get ctx.funcs f)
 
--- the effect of each instruction that stands alone, where it has one (Core 1.0, 3.3.1 to 3.3.5; Core 2.0,
+-- the type of each instruction that stands alone, where it has one (Core 1.0, 3.3.1 to 3.3.5; Core 2.0,
 -- 3.3.2 and 3.3.6.2). The operands of a numeric instruction are of one type, so either may be on top
-abbrev pub effect_of : Context → Instr → Option Effect
-effect_of ctx Unreachable = Some (Leaves [])
-effect_of ctx Nop = Some (Moves [] [])
-effect_of ctx (Br l) = option_map Leaves (slice_get ctx.labels l)
-effect_of ctx (BrIf l) = option_map (λ label. Moves (I32 ∷ label) label) (slice_get ctx.labels l)
-effect_of ctx (BrTable ls l) = Some (Switches (ls ++ l ∷ []))
-effect_of ctx Return = Some (Leaves ctx.results)
-effect_of ctx (Call f) = option_map call_of (func_at ctx f)
-effect_of ctx (CallIndirect t) = cond (has_table ctx 0) (option_map indirect_of (slice_get ctx.types t)) None
-effect_of ctx Drop = Some Drops
-effect_of ctx Select = Some Selects
-effect_of ctx (LocalGet x) = option_map (λ t. Moves [] (t ∷ [])) (slice_get ctx.locals x)
-effect_of ctx (LocalSet x) = option_map (λ t. Moves (t ∷ []) []) (slice_get ctx.locals x)
-effect_of ctx (LocalTee x) = option_map (λ t. Moves (t ∷ []) (t ∷ [])) (slice_get ctx.locals x)
-effect_of ctx (GlobalGet x) = option_map (λ g. Moves [] (g.ty ∷ [])) (slice_get ctx.globals x)
-effect_of ctx (GlobalSet x) = option_and_then set_of (slice_get ctx.globals x)
-effect_of ctx (Load arg) = cond (has_memory ctx) (option_and_then (loading arg) (load_of arg.op)) None
-effect_of ctx (Store arg) = cond (has_memory ctx) (option_and_then (storing arg) (store_of arg.op)) None
-effect_of ctx MemorySize = if_true (has_memory ctx) (Moves [] (I32 ∷ []))
-effect_of ctx MemoryGrow = if_true (has_memory ctx) (Moves (I32 ∷ []) (I32 ∷ []))
-effect_of ctx (Const v) = if_true (is_constant v) (Moves [] (v.ty ∷ []))
-effect_of ctx (Numeric op) = option_map (λ shape. Moves shape.operands (shape.result ∷ [])) (numeric_shape op)
-effect_of ctx RefNull = Some (Moves [] (FuncRef ∷ []))
-effect_of ctx (RefFunc f) = if_true (is_declared ctx f) (Moves [] (FuncRef ∷ []))
-effect_of ctx (TableSet x) = if_true (has_table ctx x) (Moves (FuncRef ∷ I32 ∷ []) [])
-effect_of ctx other = None
+abbrev pub instr_type : Context → Instr → Option InstrType
+instr_type ctx Unreachable = Some (Leaves [])
+instr_type ctx Nop = Some (Moves [] [])
+instr_type ctx (Br l) = option_map Leaves (slice_get ctx.labels l)
+instr_type ctx (BrIf l) = option_map (λ label. Moves (I32 ∷ label) label) (slice_get ctx.labels l)
+instr_type ctx (BrTable ls l) = Some (Switches (ls ++ l ∷ []))
+instr_type ctx Return = Some (Leaves ctx.results)
+instr_type ctx (Call f) = option_map call_of (func_at ctx f)
+instr_type ctx (CallIndirect t) = cond (has_table ctx 0) (option_map indirect_of (slice_get ctx.types t)) None
+instr_type ctx Drop = Some Drops
+instr_type ctx Select = Some Selects
+instr_type ctx (LocalGet x) = option_map (λ t. Moves [] (t ∷ [])) (slice_get ctx.locals x)
+instr_type ctx (LocalSet x) = option_map (λ t. Moves (t ∷ []) []) (slice_get ctx.locals x)
+instr_type ctx (LocalTee x) = option_map (λ t. Moves (t ∷ []) (t ∷ [])) (slice_get ctx.locals x)
+instr_type ctx (GlobalGet x) = option_map (λ g. Moves [] (g.ty ∷ [])) (slice_get ctx.globals x)
+instr_type ctx (GlobalSet x) = option_and_then set_of (slice_get ctx.globals x)
+instr_type ctx (Load arg) = cond (has_memory ctx) (option_and_then (load_type arg) (load_of arg.op)) None
+instr_type ctx (Store arg) = cond (has_memory ctx) (option_and_then (store_type arg) (store_of arg.op)) None
+instr_type ctx MemorySize = if_true (has_memory ctx) (Moves [] (I32 ∷ []))
+instr_type ctx MemoryGrow = if_true (has_memory ctx) (Moves (I32 ∷ []) (I32 ∷ []))
+instr_type ctx (Const v) = if_true (is_constant v) (Moves [] (v.ty ∷ []))
+instr_type ctx (Numeric op) = option_map (λ shape. Moves shape.operands (shape.result ∷ [])) (numeric_shape op)
+instr_type ctx RefNull = Some (Moves [] (FuncRef ∷ []))
+instr_type ctx (RefFunc f) = if_true (is_declared ctx f) (Moves [] (FuncRef ∷ []))
+instr_type ctx (TableSet x) = if_true (has_table ctx x) (Moves (FuncRef ∷ I32 ∷ []) [])
+instr_type ctx other = None
 
 -- the operands are on top of the stack before, the results take their place on the stack after
-pub record Moved (operands results before after : List ValType) : Type 0 where
+pub record IsMove (operands results before after : List ValType) : Type 0 where
   pub below : List ValType
   pub had : before ≡ operands ++ below
   pub left : after ≡ results ++ below
 
 -- one value is off (Core 1.0, 3.3.2.1)
-pub record Dropped (before after : List ValType) : Type 0 where
+pub record IsDrop (before after : List ValType) : Type 0 where
   pub ty : ValType
   pub had : before ≡ ty ∷ after
 
 -- one of two numbers stays (Core 1.0, 3.3.2.2)
-pub record Selected (before after : List ValType) : Type 0 where
+pub record IsSelect (before after : List ValType) : Type 0 where
   pub ty : ValType
   pub below : List ValType
   pub number : IsTrue (is_number ty)
@@ -143,24 +143,24 @@ pub record Selected (before after : List ValType) : Type 0 where
   pub left : after ≡ ty ∷ below
 
 -- the operands are on top
-pub record Stands (operands before : List ValType) : Type 0 where
+pub record IsOnTop (operands before : List ValType) : Type 0 where
   pub below : List ValType
   pub had : before ≡ operands ++ below
 
 -- the labels take the same types, which are on top below the index (Core 1.0, 3.3.5.8)
-pub record Switched (labels : List (List ValType)) (targets : List ℕ) (before : List ValType) : Type 0 where
+pub record IsSwitch (labels : List (List ValType)) (targets : List ℕ) (before : List ValType) : Type 0 where
   pub label : List ValType
   pub each : All (λ l. slice_get labels l ≡ Some label) targets
-  pub stands : Stands (I32 ∷ label) before
+  pub stands : IsOnTop (I32 ∷ label) before
 
--- an effect leads from one stack to another; one that leads elsewhere, to any stack (Core 1.0, 3.3.5)
-abbrev pub Leads : Context → Option Effect → List ValType → List ValType → Type 0
+-- an instruction of a type leads from one stack to another; one that leads elsewhere, to any stack (Core 1.0, 3.3.5)
+abbrev pub Leads : Context → Option InstrType → List ValType → List ValType → Type 0
 Leads ctx None before after = ⊥
-Leads ctx (Some (Moves operands results)) before after = Moved operands results before after
-Leads ctx (Some Drops) before after = Dropped before after
-Leads ctx (Some Selects) before after = Selected before after
-Leads ctx (Some (Leaves operands)) before after = Stands operands before
-Leads ctx (Some (Switches targets)) before after = Switched ctx.labels targets before
+Leads ctx (Some (Moves operands results)) before after = IsMove operands results before after
+Leads ctx (Some Drops) before after = IsDrop before after
+Leads ctx (Some Selects) before after = IsSelect before after
+Leads ctx (Some (Leaves operands)) before after = IsOnTop operands before
+Leads ctx (Some (Switches targets)) before after = IsSwitch ctx.labels targets before
 
 -- the results of a block (Core 1.0, 2.4.5)
 abbrev pub results_of : Option ValType → List ValType
@@ -181,7 +181,8 @@ inside label ctx = record ctx { labels = label ∷ ctx.labels }
 -- (Core 1.0, 3.3.6)
 abbrev pub IsTyped : Context → Nest → List ValType → List ValType → Type 0
 IsTyped ctx Empty before after = before ≡ after
-IsTyped ctx (Plain i rest) before after = (middle : List ValType) × Leads ctx (effect_of ctx i) before middle × IsTyped ctx rest middle after
+IsTyped ctx (Plain i rest) before after =
+    (middle : List ValType) × Leads ctx (instr_type ctx i) before middle × IsTyped ctx rest middle after
 IsTyped ctx (InBlock ty body rest) before after =
     IsTrue (is_block_type ty)
     × IsTyped (inside (results_of ty) ctx) body [] (results_of ty)

@@ -125,7 +125,7 @@ pub record IsValidOutside (m : Module) : Type 0 where
   pub one_table : length (all_tables m) ≤ 1
   pub one_memory : length (all_memories m) ≤ 1
 
--- the locals of a function one by one, behind its parameters (Core 1.0, 3.4.1)
+-- the locals of a function one by one, which follow its parameters (Core 1.0, 3.4.1)
 abbrev pub each_local : List Run → List ValType
 each_local runs = flat_map (λ (run : Run). replicate run.count run.ty) runs
 

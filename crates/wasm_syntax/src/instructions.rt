@@ -97,7 +97,7 @@ impl Instr {
 }
 
 impl Item for Instr {
-    fn copied(&self) -> Result<Instr, NoMemory> {
+    fn copy(&self) -> Result<Instr, NoMemory> {
         self.clone()
     }
 }

@@ -2,12 +2,13 @@
 //! binaries use (Core 1.0, section 2).
 #![tactic(auto)]
 
-pub mod appended;
+pub mod appended_types;
 mod copies;
 mod encoding_laws;
 pub mod forms;
 pub mod instructions;
 pub mod laws;
+pub mod limits;
 pub mod lists;
 pub mod modules;
 pub mod names;
@@ -17,7 +18,7 @@ pub mod signatures;
 mod tests;
 pub mod values;
 
-pub use appended::Types;
+pub use appended_types::Types;
 pub use encoding_laws::{encoding_forms, fault_places, module_encoding, shortest_encoding};
 pub use forms::Form;
 pub use instructions::{Body, Instr, Labels, MemArg};

@@ -32,7 +32,7 @@ impl<T> Model for List<T> {
 /// What a list holds: a copy of it may find no memory.
 pub trait Item {
     /// An equal item.
-    fn copied(&self) -> Result<Self, NoMemory>
+    fn copy(&self) -> Result<Self, NoMemory>
         ensures { IfOk result (λ copy. copy ≡ self.now) };
 }
 
@@ -76,20 +76,20 @@ impl<T: Item + Drop> List<T> {
     {
         let mut items = Vec::with_capacity(*self.items.allocator(), self.items.len())?;
         for item in self.items.as_slice() {
-            items.push(item.copied()?)?;
+            items.push(item.copy()?)?;
         }
         Ok(List { items })
     }
 }
 
 impl Item for u8 {
-    fn copied(&self) -> Result<u8, NoMemory> {
+    fn copy(&self) -> Result<u8, NoMemory> {
         Ok(*self)
     }
 }
 
 impl Item for u32 {
-    fn copied(&self) -> Result<u32, NoMemory> {
+    fn copy(&self) -> Result<u32, NoMemory> {
         Ok(*self)
     }
 }

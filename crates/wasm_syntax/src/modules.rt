@@ -49,7 +49,7 @@ pub struct Run {
     pub ty: ValType,
 }
 
-/// The locals of a function behind its parameters, without runs of none and without neighbours of
+/// The locals of a function after its parameters, without runs of none and without neighbours of
 /// one type (Core 1.0, 5.5.13).
 pub type Runs = List<Run>;
 

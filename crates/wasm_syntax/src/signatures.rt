@@ -42,13 +42,13 @@ impl FuncType {
 }
 
 impl Item for FuncType {
-    fn copied(&self) -> Result<FuncType, NoMemory> {
+    fn copy(&self) -> Result<FuncType, NoMemory> {
         self.clone()
     }
 }
 
 impl Item for Limits {
-    fn copied(&self) -> Result<Limits, NoMemory> {
+    fn copy(&self) -> Result<Limits, NoMemory> {
         Ok(*self)
     }
 }

@@ -128,8 +128,8 @@ fn a_module_with_every_part_is_cloned(rt: HostRuntime) -> Result<(), Fail> {
     let module = whole(alloc)?;
     let copy = module.clone()?;
     let text = format!(in alloc; "{module:?}")?;
-    let copied = format!(in alloc; "{copy:?}")?;
-    assert_eq!(rt; copied.as_str(), text.as_str());
+    let copy = format!(in alloc; "{copy:?}")?;
+    assert_eq!(rt; copy.as_str(), text.as_str());
     Ok(())
 }
 

@@ -28,13 +28,13 @@ pub type ValTypes = List<ValType>;
 pub type Vals = List<Val>;
 
 impl Item for ValType {
-    fn copied(&self) -> Result<ValType, NoMemory> {
+    fn copy(&self) -> Result<ValType, NoMemory> {
         Ok(*self)
     }
 }
 
 impl Item for Val {
-    fn copied(&self) -> Result<Val, NoMemory> {
+    fn copy(&self) -> Result<Val, NoMemory> {
         Ok(*self)
     }
 }

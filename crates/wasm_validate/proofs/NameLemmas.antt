@@ -13,8 +13,8 @@ use Rattle.std.proofs.lemmas.List.{take_more, drop_more, drop_all}
 use Rattle.std.proofs.lemmas.List.Folds.{list_any-append}
 use denote.Bor.{Bor}
 use Rattle.wasm_syntax.specs.declared.modules.Export.{Export}
-use Rattle.wasm_syntax.specs.Deciding.{names_differ}
-use Rattle.wasm_validate.specs.Names.{seen, fresh}
+use Rattle.wasm_syntax.specs.ValidityTests.{names_differ}
+use Rattle.wasm_validate.specs.Names.{exports_have, are_new_names}
 
 -- ---- tests
 
@@ -37,7 +37,8 @@ same-test false false f g = refl
 
 -- ---- the set of names
 
-pub has-name : (keys : List (Bor (List ℕ))) (name : List ℕ) → list_any (λ (k : Bor (List ℕ)). is_eq (slice_cmp nat_cmp name k.now)) keys ≡ list_any (λ (k : Bor (List ℕ)). bytes_eq name k.now) keys
+pub has-name : (keys : List (Bor (List ℕ))) (name : List ℕ)
+    → list_any (λ (k : Bor (List ℕ)). is_eq (slice_cmp nat_cmp name k.now)) keys ≡ list_any (λ (k : Bor (List ℕ)). bytes_eq name k.now) keys
 has-name [] name = refl
 has-name (k ∷ keys) name = ap (λ b. b || list_any (λ (k : Bor (List ℕ)). is_eq (slice_cmp nat_cmp name k.now)) keys) (is_eq-slice_cmp name k.now) ∙ ap (λ b. bytes_eq name k.now || b) (has-name keys name)
 
@@ -51,7 +52,9 @@ or-swap true false r = refl
 or-swap false true r = refl
 or-swap false false r = refl
 
-inserted : (p : Bor (List ℕ) → Bool) (name x : Bor (List ℕ)) (xs rest : List (Bor (List ℕ))) (o : Ordering) → (o ≡ Equal → p name ≡ p x) → list_any p rest ≡ (p name || list_any p xs) → list_any p (match_ordering o (name ∷ x ∷ xs) (x ∷ xs) (x ∷ rest)) ≡ (p name || (p x || list_any p xs))
+inserted : (p : Bor (List ℕ) → Bool) (name x : Bor (List ℕ)) (xs rest : List (Bor (List ℕ))) (o : Ordering)
+    → (o ≡ Equal → p name ≡ p x) → list_any p rest ≡ (p name || list_any p xs)
+    → list_any p (match_ordering o (name ∷ x ∷ xs) (x ∷ xs) (x ∷ rest)) ≡ (p name || (p x || list_any p xs))
 inserted p name x xs rest Less same h = refl
 inserted p name x xs rest Equal same h = or-twice (p x) (list_any p xs) ∙ ap (λ b. b || (p x || list_any p xs)) (sym (same refl))
 inserted p name x xs rest Greater same h = ap (λ b. p x || b) h ∙ or-swap (p name) (p x) (list_any p xs)
@@ -59,7 +62,8 @@ inserted p name x xs rest Greater same h = ap (λ b. p x || b) h ∙ or-swap (p 
 same-bytes : (name x : List ℕ) → slice_cmp nat_cmp name x ≡ Equal → name ≡ x
 same-bytes name x e = (bytes_eq-Decides name x).0 (sym (is_eq-slice_cmp name x) ∙ ap is_eq e)
 
-pub insert-known : (keys : List (Bor (List ℕ))) (name : Bor (List ℕ)) (other : List ℕ) → list_any (λ (k : Bor (List ℕ)). bytes_eq other k.now) (insert_key (λ (a b : Bor (List ℕ)). slice_cmp nat_cmp a.now b.now) keys name) ≡ (bytes_eq other name.now || list_any (λ (k : Bor (List ℕ)). bytes_eq other k.now) keys)
+pub insert-known : (keys : List (Bor (List ℕ))) (name : Bor (List ℕ)) (other : List ℕ)
+    → list_any (λ (k : Bor (List ℕ)). bytes_eq other k.now) (insert_key (λ (a b : Bor (List ℕ)). slice_cmp nat_cmp a.now b.now) keys name) ≡ (bytes_eq other name.now || list_any (λ (k : Bor (List ℕ)). bytes_eq other k.now) keys)
 insert-known [] name other = refl
 insert-known (x ∷ keys) name other =
     let p : Bor (List ℕ) → Bool = λ k. bytes_eq other k.now in
@@ -67,25 +71,20 @@ insert-known (x ∷ keys) name other =
 
 -- ---- names that are new
 
-pub seen-more : (exports : List Export) (i : ℕ) (e : Export) (name : List ℕ) → i < length exports → e ≡ get_or exports i e → (bytes_eq name e.name || seen (take i exports) name) ≡ seen (take (i + 1) exports) name
-seen-more exports i e name h is =
-    or-last (bytes_eq name e.name) (seen (take i exports) name)
-    ∙ sym (list_any-append (λ (x : Export). bytes_eq name x.name) (take i exports) (e ∷ []))
-    ∙ ap (λ l. seen l name) (ap (λ y. take i exports ++ y ∷ []) is ∙ sym (take_more exports i e h))
-
-fresh-next : (exports : List Export) (i : ℕ) (e : Export) → i < length exports → e ≡ get_or exports i e → fresh (take i exports) (drop i exports) ≡ (not (seen (take i exports) e.name) && fresh (take (i + 1) exports) (drop (i + 1) exports))
+fresh-next : (exports : List Export) (i : ℕ) (e : Export) → i < length exports → e ≡ get_or exports i e
+    → are_new_names (take i exports) (drop i exports) ≡ (not (exports_have (take i exports) e.name) && are_new_names (take (i + 1) exports) (drop (i + 1) exports))
 fresh-next exports i e h is =
-    ap (fresh (take i exports)) (drop_more exports i e h ∙ ap (λ (y : Export). y ∷ drop (i + 1) exports) (sym is))
-    ∙ ap (λ l. not (seen (take i exports) e.name) && fresh l (drop (i + 1) exports)) (ap (λ y. take i exports ++ y ∷ []) is ∙ sym (take_more exports i e h))
+    ap (are_new_names (take i exports)) (drop_more exports i e h ∙ ap (λ (y : Export). y ∷ drop (i + 1) exports) (sym is))
+    ∙ ap (λ l. not (exports_have (take i exports) e.name) && are_new_names l (drop (i + 1) exports)) (ap (λ y. take i exports ++ y ∷ []) is ∙ sym (take_more exports i e h))
 
-pub fresh-goes : (exports : List Export) (i : ℕ) (e : Export) (added : Bool) → i < length exports → e ≡ get_or exports i e → added ≡ not (seen (take i exports) e.name) → added ≡ true → fresh (take (i + 1) exports) (drop (i + 1) exports) ≡ fresh (take i exports) (drop i exports)
-fresh-goes exports i e added h is told new = ap (λ b. b && fresh (take (i + 1) exports) (drop (i + 1) exports)) (sym new ∙ told) ∙ sym (fresh-next exports i e h is)
+pub fresh-stops : (exports : List Export) (i : ℕ) (e : Export) (added : Bool) → i < length exports
+    → e ≡ get_or exports i e → added ≡ not (exports_have (take i exports) e.name) → added ≡ false
+    → false ≡ are_new_names (take i exports) (drop i exports)
+fresh-stops exports i e added h is told new = ap (λ b. b && are_new_names (take (i + 1) exports) (drop (i + 1) exports)) (sym new ∙ told) ∙ sym (fresh-next exports i e h is)
 
-pub fresh-stops : (exports : List Export) (i : ℕ) (e : Export) (added : Bool) → i < length exports → e ≡ get_or exports i e → added ≡ not (seen (take i exports) e.name) → added ≡ false → false ≡ fresh (take i exports) (drop i exports)
-fresh-stops exports i e added h is told new = ap (λ b. b && fresh (take (i + 1) exports) (drop (i + 1) exports)) (sym new ∙ told) ∙ sym (fresh-next exports i e h is)
-
-pub fresh-ends : (exports : List Export) (i : ℕ) → length exports ≤ i → true ≡ fresh (take i exports) (drop i exports)
-fresh-ends exports i h = ap (fresh (take i exports)) (sym (drop_all i exports h))
+pub fresh-ends : (exports : List Export) (i : ℕ) → length exports ≤ i
+    → true ≡ are_new_names (take i exports) (drop i exports)
+fresh-ends exports i h = ap (are_new_names (take i exports)) (sym (drop_all i exports h))
 
 not-or : (a b : Bool) → not (a || b) ≡ (not a && not b)
 not-or true b = refl
@@ -105,29 +104,32 @@ and-shift false b c d = refl
 bytes_eq-swap : (a b : List ℕ) → bytes_eq a b ≡ bytes_eq b a
 bytes_eq-swap a b = same-test (bytes_eq a b) (bytes_eq b a) (λ h. (bytes_eq-Decides b a).1 (sym ((bytes_eq-Decides a b).0 h))) (λ h. (bytes_eq-Decides a b).1 (sym ((bytes_eq-Decides b a).0 h)))
 
-new-more : (done : List Export) (e : Export) (name : List ℕ) → not (seen (done ++ e ∷ []) name) ≡ (not (seen done name) && not (bytes_eq e.name name))
+new-more : (done : List Export) (e : Export) (name : List ℕ)
+    → not (exports_have (done ++ e ∷ []) name) ≡ (not (exports_have done name) && not (bytes_eq e.name name))
 new-more done e name =
-    ap not (list_any-append (λ (x : Export). bytes_eq name x.name) done (e ∷ []) ∙ sym (or-last (bytes_eq name e.name) (seen done name)) ∙ or-comm (bytes_eq name e.name) (seen done name))
-    ∙ not-or (seen done name) (bytes_eq name e.name)
-    ∙ ap (λ b. not (seen done name) && not b) (bytes_eq-swap name e.name)
+    ap not (list_any-append (λ (x : Export). bytes_eq name x.name) done (e ∷ []) ∙ sym (or-last (bytes_eq name e.name) (exports_have done name)) ∙ or-comm (bytes_eq name e.name) (exports_have done name))
+    ∙ not-or (exports_have done name) (bytes_eq name e.name)
+    ∙ ap (λ b. not (exports_have done name) && not b) (bytes_eq-swap name e.name)
 
-all-new : (done : List Export) (e : Export) (rest : List Export) → list_all (λ (x : Export). not (seen (done ++ e ∷ []) x.name)) rest ≡ (list_all (λ (x : Export). not (seen done x.name)) rest && list_all (λ (x : Export). not (bytes_eq e.name x.name)) rest)
+all-new : (done : List Export) (e : Export) (rest : List Export)
+    → list_all (λ (x : Export). not (exports_have (done ++ e ∷ []) x.name)) rest ≡ (list_all (λ (x : Export). not (exports_have done x.name)) rest && list_all (λ (x : Export). not (bytes_eq e.name x.name)) rest)
 all-new done e [] = refl
 all-new done e (x ∷ rest) =
-    ap (λ b. b && list_all (λ (x : Export). not (seen (done ++ e ∷ []) x.name)) rest) (new-more done e x.name)
-    ∙ ap (λ b. (not (seen done x.name) && not (bytes_eq e.name x.name)) && b) (all-new done e rest)
-    ∙ and-cross (not (seen done x.name)) (not (bytes_eq e.name x.name)) (list_all (λ (x : Export). not (seen done x.name)) rest) (list_all (λ (x : Export). not (bytes_eq e.name x.name)) rest)
+    ap (λ b. b && list_all (λ (x : Export). not (exports_have (done ++ e ∷ []) x.name)) rest) (new-more done e x.name)
+    ∙ ap (λ b. (not (exports_have done x.name) && not (bytes_eq e.name x.name)) && b) (all-new done e rest)
+    ∙ and-cross (not (exports_have done x.name)) (not (bytes_eq e.name x.name)) (list_all (λ (x : Export). not (exports_have done x.name)) rest) (list_all (λ (x : Export). not (bytes_eq e.name x.name)) rest)
 
-fresh-differ : (done rest : List Export) → fresh done rest ≡ (list_all (λ (x : Export). not (seen done x.name)) rest && names_differ rest)
+fresh-differ : (done rest : List Export)
+    → are_new_names done rest ≡ (list_all (λ (x : Export). not (exports_have done x.name)) rest && names_differ rest)
 fresh-differ done [] = refl
 fresh-differ done (e ∷ rest) =
-    ap (λ b. not (seen done e.name) && b) (fresh-differ (done ++ e ∷ []) rest)
-    ∙ ap (λ b. not (seen done e.name) && (b && names_differ rest)) (all-new done e rest)
-    ∙ and-shift (not (seen done e.name)) (list_all (λ (x : Export). not (seen done x.name)) rest) (list_all (λ (x : Export). not (bytes_eq e.name x.name)) rest) (names_differ rest)
+    ap (λ b. not (exports_have done e.name) && b) (fresh-differ (done ++ e ∷ []) rest)
+    ∙ ap (λ b. not (exports_have done e.name) && (b && names_differ rest)) (all-new done e rest)
+    ∙ and-shift (not (exports_have done e.name)) (list_all (λ (x : Export). not (exports_have done x.name)) rest) (list_all (λ (x : Export). not (bytes_eq e.name x.name)) rest) (names_differ rest)
 
-none-seen : (exports : List Export) → list_all (λ (x : Export). not (seen [] x.name)) exports ≡ true
+none-seen : (exports : List Export) → list_all (λ (x : Export). not (exports_have [] x.name)) exports ≡ true
 none-seen [] = refl
 none-seen (e ∷ exports) = none-seen exports
 
-pub fresh-all : (exports : List Export) → fresh [] exports ≡ names_differ exports
+pub fresh-all : (exports : List Export) → are_new_names [] exports ≡ names_differ exports
 fresh-all exports = fresh-differ [] exports ∙ ap (λ b. b && names_differ exports) (none-seen exports)

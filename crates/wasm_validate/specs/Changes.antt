@@ -3,26 +3,28 @@ use Rattle.std.specs.Prelude.{List, ◌++◌, reverse, Option, Some, None, optio
 use Rattle.wasm_syntax.specs.declared.values.ValType.{ValType}
 use Rattle.wasm_syntax.specs.declared.values.ValType.TheVariants.{I32}
 use Rattle.wasm_syntax.specs.Typing.{results_of}
-use Rattle.wasm_syntax.specs.Checking.{Known, anything, pushed, pop, pops, dropped, selected}
+use Rattle.wasm_syntax.specs.KnownStacks.{Known, anything, push_types, pop, pops, drop_any, select_slot}
 use Rattle.wasm_validate.specs.declared.changes.Change.{Change}
 use Rattle.wasm_validate.specs.declared.changes.Change.TheVariants.{Moves, Calls, Drops, Selects, Leaves}
 
 -- operands are off, results on
-abbrev pub replaced : List ValType → List ValType → Known → Option Known
-replaced operands results here = option_and_then (λ below. Some (pushed results below)) (pops operands here)
+abbrev pub after_replace : List ValType → List ValType → Known → Option Known
+after_replace operands results here = option_and_then (λ below. Some (push_types results below)) (pops operands here)
 
 -- operands are off, and control leads elsewhere
-abbrev pub left : List ValType → Known → Option Known
-left operands here = option_and_then (λ below. Some anything) (pops operands here)
+abbrev pub after_leave : List ValType → Known → Option Known
+after_leave operands here = option_and_then (λ below. Some anything) (pops operands here)
 
 -- one of two numbers stays
-abbrev pub chosen : Known → Option Known
-chosen here = option_and_then (λ below. selected below.slots below.free) (pop I32 here)
+abbrev pub after_select : Known → Option Known
+after_select here = option_and_then (λ below. select_slot below.slots below.free) (pop I32 here)
 
-abbrev pub leads : Option Change → Known → Option Known
-leads None here = None
-leads (Some (Moves first second result)) here = replaced (results_of first ++ results_of second) (results_of result) here
-leads (Some (Calls index ty)) here = replaced (results_of index ++ reverse ty.now.params) (reverse ty.now.results) here
-leads (Some Drops) here = dropped here.slots here.free
-leads (Some Selects) here = chosen here
-leads (Some (Leaves index label)) here = left (results_of index ++ results_of label) here
+abbrev pub after_change : Option Change → Known → Option Known
+after_change None here = None
+after_change (Some (Moves first second result)) here =
+    after_replace (results_of first ++ results_of second) (results_of result) here
+after_change (Some (Calls index ty)) here =
+    after_replace (results_of index ++ reverse ty.now.params) (reverse ty.now.results) here
+after_change (Some Drops) here = drop_any here.slots here.free
+after_change (Some Selects) here = after_select here
+after_change (Some (Leaves index label)) here = after_leave (results_of index ++ results_of label) here

@@ -1,12 +1,12 @@
--- Typing in one pass over a flat body (Core 1.0, appendix 7.3): what is known behind each instruction, with the
+-- Typing in one pass over a flat body (Core 1.0, appendix 7.3): what is known after each instruction, with the
 -- blocks that are open.
 use Rattle.std.specs.Prelude.{List, [], ◌∷◌, map, Option, Some, None, Bool, true, false, cond, ◌&&◌, option_map}
 use Rattle.wasm_syntax.specs.declared.values.ValType.{ValType}
 use Rattle.wasm_syntax.specs.declared.values.ValType.TheVariants.{I32}
 use Rattle.wasm_syntax.specs.declared.instructions.Instr.{Instr}
 use Rattle.wasm_syntax.specs.declared.instructions.Instr.TheVariants as instr
-use Rattle.wasm_syntax.specs.Typing.{Context, Effect, effect_of, is_block_type, results_of}
-use Rattle.wasm_syntax.specs.Checking.{Known, nothing, pushed, pop, ends, behind}
+use Rattle.wasm_syntax.specs.Typing.{Context, InstrType, instr_type, is_block_type, results_of}
+use Rattle.wasm_syntax.specs.KnownStacks.{Known, nothing, push_types, pop, ends, after_instr}
 use Rattle.wasm_validate.specs.declared.stacks.Kind.{Kind}
 use Rattle.wasm_validate.specs.declared.stacks.Kind.TheVariants.{Block, Loop, If}
 
@@ -41,8 +41,8 @@ abbrev pub within : Context → List Level → Context
 within ctx levels = record ctx { labels = map label_of levels }
 
 -- a block is opened
-abbrev pub opened : Kind → Option ValType → List Level → Option Known → Option State
-opened kind result levels below =
+abbrev pub after_open : Kind → Option ValType → List Level → Option Known → Option State
+after_open kind result levels below =
     cond (is_block_type result) (option_map (λ b. state (level kind result b ∷ levels) nothing) below) None
 
 -- the operands may be just what the block leaves
@@ -61,35 +61,36 @@ may_close If result = ends (results_of result) (Some nothing)
 may_close Block result = true
 may_close Loop result = true
 
-abbrev pub parted : List Level → Known → Option State
-parted [] here = None
-parted (l ∷ levels) here =
+abbrev pub after_else : List Level → Known → Option State
+after_else [] here = None
+after_else (l ∷ levels) here =
     cond (is_if l.kind && may_leave l here) (Some (state (level Block l.result l.below ∷ levels) nothing)) None
 
-abbrev pub closed : List Level → Known → Option State
-closed [] here = None
-closed (l ∷ levels) here =
-    cond (may_close l.kind l.result && may_leave l here) (Some (state levels (pushed (results_of l.result) l.below))) None
+abbrev pub after_end : List Level → Known → Option State
+after_end [] here = None
+after_end (l ∷ levels) here =
+    cond (may_close l.kind l.result && may_leave l here)
+    (Some (state levels (push_types (results_of l.result) l.below))) None
 
--- behind an instruction that stands alone
-abbrev pub moved : Option Effect → Context → State → Option State
-moved effect ctx s = option_map (state s.levels) (behind ctx effect s.here)
+-- after an instruction that stands alone
+abbrev pub after_plain : Option InstrType → Context → State → Option State
+after_plain effect ctx s = option_map (state s.levels) (after_instr ctx effect s.here)
 
-abbrev pub changed : Context → Instr → State → Option State
-changed ctx (instr.Block ty) s = opened Block ty s.levels (Some s.here)
-changed ctx (instr.Loop ty) s = opened Loop ty s.levels (Some s.here)
-changed ctx (instr.If ty) s = opened If ty s.levels (pop I32 s.here)
-changed ctx instr.Else s = parted s.levels s.here
-changed ctx instr.End s = closed s.levels s.here
-changed ctx i s = moved (effect_of (within ctx s.levels) i) (within ctx s.levels) s
+abbrev pub state_after : Context → Instr → State → Option State
+state_after ctx (instr.Block ty) s = after_open Block ty s.levels (Some s.here)
+state_after ctx (instr.Loop ty) s = after_open Loop ty s.levels (Some s.here)
+state_after ctx (instr.If ty) s = after_open If ty s.levels (pop I32 s.here)
+state_after ctx instr.Else s = after_else s.levels s.here
+state_after ctx instr.End s = after_end s.levels s.here
+state_after ctx i s = after_plain (instr_type (within ctx s.levels) i) (within ctx s.levels) s
 
--- nothing stands behind the end of the body
+-- nothing stands after the end of the body
 abbrev pub if_open : {A : Type 0} → List Level → Option A → Option A
-if_open [] next = None
-if_open (l ∷ levels) next = next
+if_open [] after_step = None
+if_open (l ∷ levels) after_step = after_step
 
-abbrev pub next : Context → Instr → State → Option State
-next ctx i s = if_open s.levels (changed ctx i s)
+abbrev pub after_step : Context → Instr → State → Option State
+after_step ctx i s = if_open s.levels (state_after ctx i s)
 
 -- the last `End` closes the body
 abbrev pub is_closed : List Level → Bool
@@ -103,8 +104,8 @@ on_some f (Some s) = f s
 -- the rest of a body is typed
 abbrev pub scan : Context → List Instr → State → Bool
 scan ctx [] s = is_closed s.levels
-scan ctx (i ∷ is) s = on_some (λ s. scan ctx is s) (next ctx i s)
+scan ctx (i ∷ is) s = on_some (λ s. scan ctx is s) (after_step ctx i s)
 
 -- a body begins in one block, that of the function
-abbrev pub begun : Option ValType → State
-begun result = state (level Block result nothing ∷ []) nothing
+abbrev pub body_start : Option ValType → State
+body_start result = state (level Block result nothing ∷ []) nothing

@@ -6,14 +6,14 @@ use denote.Bor.{Bor}
 use Rattle.wasm_syntax.specs.declared.modules.Export.{Export}
 
 -- the name is in the set
-abbrev pub has : BTreeSet (Bor (List ℕ)) → List ℕ → Bool
-has names name = list_any (λ k. bytes_eq name k.now) names.keys
+abbrev pub set_has : BTreeSet (Bor (List ℕ)) → List ℕ → Bool
+set_has names name = list_any (λ k. bytes_eq name k.now) names.keys
 
 -- an export has the name
-abbrev pub seen : List Export → List ℕ → Bool
-seen exports name = list_any (λ (e : Export). bytes_eq name e.name) exports
+abbrev pub exports_have : List Export → List ℕ → Bool
+exports_have exports name = list_any (λ (e : Export). bytes_eq name e.name) exports
 
 -- each of the exports is named as none before it, nor as one of those that are done
-abbrev pub fresh : List Export → List Export → Bool
-fresh done [] = true
-fresh done (e ∷ exports) = not (seen done e.name) && fresh (done ++ e ∷ []) exports
+abbrev pub are_new_names : List Export → List Export → Bool
+are_new_names done [] = true
+are_new_names done (e ∷ exports) = not (exports_have done e.name) && are_new_names (done ++ e ∷ []) exports

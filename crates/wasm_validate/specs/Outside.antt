@@ -3,7 +3,7 @@ use Rattle.std.specs.Prelude.{Bool, ◌&&◌, nat_le, length}
 use Rattle.std.specs.List.{list_all}
 use Rattle.wasm_syntax.specs.declared.modules.Module.{Module}
 use Rattle.wasm_syntax.specs.Index.{all_tables, all_memories}
-use Rattle.wasm_syntax.specs.Deciding.{is_func_type, is_import, is_declared_func, is_table, is_memory, is_global, is_there, names_differ, is_start, is_elem, is_data}
+use Rattle.wasm_syntax.specs.ValidityTests.{is_func_type, is_import, is_declared_func, is_table, is_memory, is_global, is_there, names_differ, is_start, is_elem, is_data}
 
 abbrev pub declares : Module → Bool
 declares m =

@@ -1,9 +1,9 @@
 // Typing of bodies.
 
 ghost use Rattle.std.specs.Prelude.{◌≡◌, IfOk};
-ghost use Rattle.wasm_validate.specs.Flat.{next, scan, begun};
-ghost use Rattle.wasm_validate.specs.Stacks.{told};
-ghost use Rattle.wasm_validate.specs.Scopes.{base};
+ghost use Rattle.wasm_validate.specs.Flat.{after_step, scan, body_start};
+ghost use Rattle.wasm_validate.specs.Stacks.{PassesAs};
+ghost use Rattle.wasm_validate.specs.Scopes.{base_of};
 
 use crate::func_scope::FuncScope;
 use crate::stacks::{Kind, Stacks};
@@ -12,7 +12,7 @@ use wasm_syntax::Instr;
 
 /// Types one more instruction.
 fn step(stacks: &mut Stacks, func: &FuncScope, instr: &Instr) -> Result<bool, NoMemory>
-    ensures { IfOk result (λ passed. told passed stacks.new ≡ next (base func.now.scope.now func.now.locals.now func.now.outcome) instr.now stacks.old) }
+    ensures { PassesAs result stacks.new (after_step (base_of func.now) instr.now stacks.old) }
 {
     if stacks.is_closed() {
         return Ok(false);
@@ -36,7 +36,7 @@ pub(crate) fn is_typed(
     func: &FuncScope,
     body: &[Instr],
 ) -> Result<bool, NoMemory>
-    ensures { IfOk result (λ typed. typed ≡ scan (base func.now.scope.now func.now.locals.now func.now.outcome) body.now (begun func.now.outcome)) }
+    ensures { IfOk result (λ typed. typed ≡ scan (base_of func.now) body.now (body_start func.now.outcome)) }
 {
     stacks.begin(func.outcome)?;
     'body: for instr in body {

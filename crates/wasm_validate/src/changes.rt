@@ -1,13 +1,13 @@
 // What an instruction that stands alone does to the operand stack.
 
-ghost use Rattle.std.specs.Prelude.{◌≡◌, ◌∷◌, ◌++◌, [], reverse, Some, IfOk, OnOk};
+ghost use Rattle.std.specs.Prelude.{◌≡◌, ◌++◌, [], reverse, Some, OnOk};
 ghost use Rattle.wasm_syntax.specs.Typing.{results_of};
-ghost use Rattle.wasm_syntax.specs.Checking.{known, pushed, pops, joined as joined_slots, ends, dropped};
-ghost use Rattle.wasm_validate.specs.Stacks.{held, told};
-ghost use Rattle.wasm_validate.specs.Changes.{chosen, replaced, left, leads};
+ghost use Rattle.wasm_syntax.specs.KnownStacks.{push_types, pops, common_slot as common_slot_of, ends};
+ghost use Rattle.wasm_validate.specs.Stacks.{PassesAs, then_some};
+ghost use Rattle.wasm_validate.specs.Changes.{after_select, after_replace, after_leave, after_change};
 
 use crate::operands::{Operands, Slot, may_be};
-use crate::types::is_number;
+use module_index::is_number;
 use no_memory::NoMemory;
 use wasm_syntax::{FuncType, ValType};
 
@@ -41,7 +41,7 @@ impl Operands {
     /// Makes the change, if the operands may be there.
     pub(crate) fn apply(&mut self, change: Change) -> Result<bool, NoMemory>
         ensures outer { self.new.outer ≡ self.old.outer }
-        ensures here { IfOk result (λ passed. told passed self.new.here ≡ leads (Some change.entry) self.old.here) }
+        ensures here { PassesAs result self.new.here (after_change (Some change.entry) self.old.here) }
     {
         match change {
             Change::Moves {
@@ -64,9 +64,10 @@ impl Operands {
         outcome: Option<ValType>,
     ) -> Result<bool, NoMemory>
         ensures outer { self.new.outer ≡ self.old.outer }
-        ensures here { IfOk result (λ passed. told passed self.new.here ≡ replaced (results_of first ++ results_of second) (results_of outcome) self.old.here) }
+        ensures here { PassesAs result self.new.here
+            (after_replace (results_of first ++ results_of second) (results_of outcome) self.old.here) }
     {
-        if !self.pop_known(first) || !self.pop_known(second) {
+        if !self.pop_both(first, second) {
             return Ok(false);
         }
         self.push_known(outcome)?;
@@ -76,7 +77,8 @@ impl Operands {
     /// Takes the arguments of a call off, and puts its results on.
     fn call(&mut self, index: Option<ValType>, ty: &FuncType) -> Result<bool, NoMemory>
         ensures outer { self.new.outer ≡ self.old.outer }
-        ensures here { IfOk result (λ passed. told passed self.new.here ≡ replaced (results_of index ++ reverse ty.now.params) (reverse ty.now.results) self.old.here) }
+        ensures here { PassesAs result self.new.here
+            (after_replace (results_of index ++ reverse ty.now.params) (reverse ty.now.results) self.old.here) }
     {
         if !self.pop_known(index) || !self.pop_list(ty.params.as_slice()) {
             return Ok(false);
@@ -88,7 +90,7 @@ impl Operands {
     /// Takes a condition and two numbers of one type off, and puts one back.
     fn choose(&mut self) -> Result<bool, NoMemory>
         ensures outer { self.new.outer ≡ self.old.outer }
-        ensures here { IfOk result (λ passed. told passed self.new.here ≡ chosen self.old.here) }
+        ensures here { PassesAs result self.new.here (after_select self.old.here) }
     {
         if !self.pop(ValType::I32) {
             return Ok(false);
@@ -99,29 +101,38 @@ impl Operands {
         let Some(second) = self.take() else {
             return Ok(false);
         };
-        let Some(slot) = joined(first, second) else {
+        let Some(slot) = common_slot(first, second) else {
             return Ok(false);
         };
         self.push(slot)?;
         Ok(true)
     }
 
-    /// Takes off what a label takes, below an index; behind it anything may stand.
+    /// Takes off what a label takes, below an index; after it anything may stand.
     fn go(&mut self, index: Option<ValType>, label: Option<ValType>) -> bool
         ensures outer { self.new.outer ≡ self.old.outer }
-        ensures here { told result self.new.here ≡ left (results_of index ++ results_of label) self.old.here }
+        ensures here { then_some result self.new.here
+            ≡ after_leave (results_of index ++ results_of label) self.old.here }
     {
-        if !self.pop_known(index) || !self.pop_known(label) {
+        if !self.pop_both(index, label) {
             return false;
         }
         self.restart(true);
         true
     }
 
+    /// Takes operands of these types off, `first` on top, if they may be there.
+    fn pop_both(&mut self, first: Option<ValType>, second: Option<ValType>) -> bool
+        ensures outer { self.new.outer ≡ self.old.outer }
+        ensures here { then_some result self.new.here ≡ pops (results_of first ++ results_of second) self.old.here }
+    {
+        self.pop_known(first) && self.pop_known(second)
+    }
+
     /// Takes an operand of this type off, if there is a type and it may be one.
     fn pop_known(&mut self, ty: Option<ValType>) -> bool
         ensures outer { self.new.outer ≡ self.old.outer }
-        ensures here { told result self.new.here ≡ pops (results_of ty) self.old.here }
+        ensures here { then_some result self.new.here ≡ pops (results_of ty) self.old.here }
     {
         match ty {
             None => true,
@@ -132,7 +143,7 @@ impl Operands {
     /// Puts an operand of this type on top, if there is a type.
     pub(crate) fn push_known(&mut self, ty: Option<ValType>) -> Result<(), NoMemory>
         ensures outer { self.new.outer ≡ self.old.outer }
-        ensures here { OnOk result (self.new.here ≡ pushed (results_of ty) self.old.here) }
+        ensures here { OnOk result (self.new.here ≡ push_types (results_of ty) self.old.here) }
     {
         match ty {
             None => Ok(()),
@@ -143,7 +154,7 @@ impl Operands {
     /// Takes operands of these types off, the last one on top, if they may be there.
     fn pop_list(&mut self, types: &[ValType]) -> bool
         ensures outer { self.new.outer ≡ self.old.outer }
-        ensures here { told result self.new.here ≡ pops (reverse types.now) self.old.here }
+        ensures here { then_some result self.new.here ≡ pops (reverse types.now) self.old.here }
     {
         let mut left = types.len();
         'types: while left > 0 {
@@ -162,7 +173,7 @@ impl Operands {
     /// Puts operands of these types on, the last one on top.
     fn push_list(&mut self, types: &[ValType]) -> Result<(), NoMemory>
         ensures outer { self.new.outer ≡ self.old.outer }
-        ensures here { OnOk result (self.new.here ≡ pushed (reverse types.now) self.old.here) }
+        ensures here { OnOk result (self.new.here ≡ push_types (reverse types.now) self.old.here) }
     {
         'types: for ty in types {
             self.push(Some(*ty))?;
@@ -180,8 +191,8 @@ impl Operands {
 }
 
 /// A number that both operands may be.
-fn joined(one: Slot, other: Slot) -> Option<Slot>
-    ensures { result ≡ joined_slots one other }
+fn common_slot(one: Slot, other: Slot) -> Option<Slot>
+    ensures { result ≡ common_slot_of one other }
 {
     match (one, other) {
         (None, None) => Some(None),

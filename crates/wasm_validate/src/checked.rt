@@ -51,6 +51,10 @@ impl Checked {
     }
 
     /// An equal module, checked as well.
+    ///
+    /// # Errors
+    ///
+    /// Where an allocation fails.
     pub fn clone(&self) -> Result<Checked, NoMemory>
         ensures { IfOk result (λ copy. copy ≡ self.now) }
     {

@@ -1,8 +1,8 @@
 // Names of exports.
 
 ghost use Rattle.std.specs.Prelude.{◌≡◌, ◌||◌, not, bytes_eq, List, ℕ, IfOk, OnOk};
-ghost use Rattle.wasm_syntax.specs.Deciding.{names_differ as names_are_distinct};
-ghost use Rattle.wasm_validate.specs.Names.{has};
+ghost use Rattle.wasm_syntax.specs.ValidityTests.{names_differ as names_are_distinct};
+ghost use Rattle.wasm_validate.specs.Names.{set_has};
 
 use no_memory::NoMemory;
 use std::alloc::Global;
@@ -24,8 +24,9 @@ pub(crate) fn names_differ(alloc: Global, exports: &[Export]) -> Result<bool, No
 
 /// Adds a name, and answers whether it is new.
 fn add<'a>(names: &mut BTreeSet<&'a str>, name: &'a str) -> Result<bool, NoMemory>
-    ensures added { IfOk result (λ added. added ≡ not (has names.old name.now)) }
-    ensures known { OnOk result ((other : List ℕ) → has names.new other ≡ (bytes_eq other name.now || has names.old other)) }
+    ensures added { IfOk result (λ added. added ≡ not (set_has names.old name.now)) }
+    ensures known { OnOk result (
+        (other : List ℕ) → set_has names.new other ≡ (bytes_eq other name.now || set_has names.old other)) }
 {
     Ok(names.insert(name)?)
 }

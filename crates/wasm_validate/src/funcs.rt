@@ -1,18 +1,18 @@
 // Typing of the functions of a module.
 
-ghost use Rattle.std.specs.Prelude.{◌≡◌, ◌≤◌, IsTrue, not, length, position, reverse, IfOk, IfSome, ◌<◌};
+ghost use Rattle.std.specs.Prelude.{◌≡◌, IsTrue, not, length, position, IfOk, IfSome, ◌<◌};
 ghost use Rattle.std.specs.List.{list_all};
-ghost use Rattle.wasm_syntax.specs.Typing.{results_of};
-ghost use Rattle.wasm_syntax.specs.Deciding.{is_func_type, is_typed_func};
+ghost use Rattle.wasm_syntax.specs.ValidityTests.{is_func_type, is_typed_func};
 
 use crate::body::is_typed;
 use crate::func_scope::FuncScope;
-use crate::locals::{Locals, RunEnd};
-use crate::scope::Scope;
 use crate::stacks::Stacks;
+use module_index::locals::{Locals, RunEnd};
+use module_index::result_of;
+use module_index::scope::Scope;
 use no_memory::NoMemory;
 use std::alloc::Global;
-use wasm_syntax::{Func, FuncType, ValType, bodies_are_read};
+use wasm_syntax::{Func, bodies_are_read};
 
 /// The place of the first defined function whose body has no typing.
 pub(crate) fn first_untyped(alloc: Global, scope: &Scope) -> Result<Option<usize>, NoMemory>
@@ -50,19 +50,8 @@ fn check(
     let known = FuncScope {
         scope,
         locals: &locals,
-        outcome: outcome_of(ty),
+        outcome: result_of(ty),
     };
     let typed = is_typed(stacks, &known, func.body.as_slice())?;
     Ok((typed, locals.into_ends()))
-}
-
-/// The result of a function type, which has at most one.
-fn outcome_of(ty: &FuncType) -> Option<ValType>
-    requires { length ty.now.results ≤ 1 }
-    ensures { results_of result ≡ reverse ty.now.results }
-{
-    match ty.results.as_slice() {
-        [] => None,
-        [only, ..] => Some(*only),
-    }
 }

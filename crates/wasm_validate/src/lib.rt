@@ -7,17 +7,11 @@ mod checked;
 mod export_names;
 mod func_scope;
 mod funcs;
-mod index;
-pub mod locals;
-pub mod opcodes;
 mod operands;
 mod outside;
-pub mod scope;
 mod stacks;
-mod types;
 mod whole;
 
 pub use checked::Checked;
-pub use func_scope::{is_aligned, is_value};
 pub use no_memory::NoMemory;
 pub use whole::{InvalidFault, validate};

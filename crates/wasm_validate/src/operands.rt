@@ -2,10 +2,10 @@
 
 ghost use Rattle.std.specs.Prelude.{◌≡◌, ◌≤◌, ◌↔◌, ◌∷◌, ◌++◌, [], IsTrue, length, reverse, take, drop, OnOk};
 ghost use Rattle.std.specs.Option.{option_map};
-ghost use Rattle.wasm_syntax.specs.Checking.{known, anything, nothing, none_left, may_be as may_be_of, pop};
-ghost use Rattle.wasm_validate.specs.Stacks.{held, told, taken};
+ghost use Rattle.wasm_syntax.specs.KnownStacks.{known_stack, anything, nothing, none_left, may_be as may_be_of, pop};
+ghost use Rattle.wasm_validate.specs.Stacks.{operand_state, then_some, top_slot};
 
-use crate::types::{is_number, same_type};
+use module_index::{is_number, same_type};
 use no_memory::NoMemory;
 use std::alloc::Global;
 use std::marker::Model;
@@ -24,11 +24,11 @@ pub(crate) struct Operands {
 
 impl Model for Operands {
     ghost use Rattle.std.specs.Prelude.{◌≤◌, length};
-    ghost use Rattle.wasm_validate.specs.Stacks.{Held, held_at};
+    ghost use Rattle.wasm_validate.specs.Stacks.{OperandState, operand_state_at};
 
-    ghost Value = { Held };
+    ghost Value = { OperandState };
 
-    ghost view = { λ s. held_at s.height s.free s.slots.items };
+    ghost view = { λ s. operand_state_at s.height s.free s.slots.items };
 
     ghost invariant = { λ s. s.height ≤ length s.slots.items };
 }
@@ -36,7 +36,7 @@ impl Model for Operands {
 impl Operands {
     /// No operand, and nothing below. Takes no memory.
     pub(crate) fn new(alloc: Global) -> Operands
-        ensures { result ≡ held [] nothing }
+        ensures { result ≡ operand_state [] nothing }
     {
         Operands {
             slots: Vec::new(alloc),
@@ -47,7 +47,7 @@ impl Operands {
 
     /// No operand any more. Takes no memory.
     pub(crate) fn clear(&mut self)
-        ensures { self.new ≡ held [] nothing }
+        ensures { self.new ≡ operand_state [] nothing }
     {
         self.slots.clear();
         self.height = 0;
@@ -56,7 +56,7 @@ impl Operands {
 
     /// Takes all operands of the innermost block off, below which anything may stand, or nothing.
     pub(crate) fn restart(&mut self, free: bool)
-        ensures { self.new ≡ held self.old.outer (known [] free) }
+        ensures { self.new ≡ operand_state self.old.outer (known_stack [] free) }
     {
         self.slots.truncate(self.height);
         self.free = free;
@@ -65,7 +65,7 @@ impl Operands {
     /// Takes an operand of this type off, if it may be one.
     pub(crate) fn pop(&mut self, ty: ValType) -> bool
         ensures outer { self.new.outer ≡ self.old.outer }
-        ensures here { told result self.new.here ≡ pop ty self.old.here }
+        ensures here { then_some result self.new.here ≡ pop ty self.old.here }
     {
         if self.slots.len() <= self.height {
             return self.free;
@@ -79,7 +79,8 @@ impl Operands {
     /// Takes the operand on top off, whatever it is.
     pub(crate) fn take(&mut self) -> Option<Slot>
         ensures outer { self.new.outer ≡ self.old.outer }
-        ensures here { option_map (λ slot. (slot, self.new.here)) result ≡ taken self.old.here.slots self.old.here.free }
+        ensures here { option_map (λ slot. (slot, self.new.here)) result
+            ≡ top_slot self.old.here.slots self.old.here.free }
     {
         if self.slots.len() <= self.height {
             return if self.free { Some(None) } else { None };
@@ -90,7 +91,7 @@ impl Operands {
     /// Puts an operand on top.
     pub(crate) fn push(&mut self, slot: Slot) -> Result<(), NoMemory>
         ensures outer { self.new.outer ≡ self.old.outer }
-        ensures here { OnOk result (self.new.here ≡ known (slot ∷ self.old.here.slots) self.old.here.free) }
+        ensures here { OnOk result (self.new.here ≡ known_stack (slot ∷ self.old.here.slots) self.old.here.free) }
     {
         self.slots.push(slot)?;
         Ok(())
@@ -106,7 +107,7 @@ impl Operands {
 
     /// Begins an inner block.
     pub(crate) fn enter(&mut self)
-        ensures { self.new ≡ held (self.old.outer ++ reverse self.old.here.slots) nothing }
+        ensures { self.new ≡ operand_state (self.old.outer ++ reverse self.old.here.slots) nothing }
     {
         self.height = self.slots.len();
         self.free = false;
@@ -115,7 +116,8 @@ impl Operands {
     /// Goes back to the block around this one.
     pub(crate) fn leave(&mut self, height: usize, free: bool)
         requires { height ≤ length self.old.outer }
-        ensures { self.new ≡ held (take height self.old.outer) (known (reverse (drop height self.old.outer)) free) }
+        ensures { self.new
+            ≡ operand_state (take height self.old.outer) (known_stack (reverse (drop height self.old.outer)) free) }
     {
         self.slots.truncate(self.height);
         self.height = height;
@@ -143,6 +145,6 @@ pub(crate) fn may_be(ty: ValType, slot: Slot) -> bool
 {
     match slot {
         None => is_number(ty),
-        Some(known) => same_type(known, ty),
+        Some(slot) => same_type(slot, ty),
     }
 }

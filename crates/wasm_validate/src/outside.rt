@@ -1,18 +1,16 @@
 // What is outside the bodies of a module's functions (Core 1.0, 3.2 and 3.4).
 
-ghost use Rattle.std.specs.Prelude.{◌≡◌, ℕ, ◌^◌, ◌&&◌, IfOk, option_and_then};
+ghost use Rattle.std.specs.Prelude.{◌≡◌, ◌&&◌, IfOk};
 ghost use Rattle.std.specs.List.{list_all};
 ghost use Rattle.std.specs.Option.{option_copied};
 ghost use Rattle.wasm_syntax.specs.Validity.{single as single_instr, constant_type as type_of_constant};
 ghost use Rattle.wasm_syntax.specs.Typing.{is_number as is_number_type};
-ghost use Rattle.wasm_syntax.specs.Deciding as decide;
+ghost use Rattle.wasm_syntax.specs.ValidityTests as decide;
 ghost use Rattle.wasm_validate.specs.Outside.{declares as declares_all, refers as refers_all};
 
 use crate::export_names::names_differ;
-use crate::func_scope::is_value;
-use crate::index::funcs_of_elem;
-use crate::scope::Scope;
-use crate::types::{is_number, same_type};
+use module_index::scope::Scope;
+use module_index::{is_number, is_value, same_type};
 use no_memory::NoMemory;
 use std::alloc::Global;
 use wasm_syntax::{

@@ -1,26 +1,26 @@
 // The control stack.
 
-ghost use Rattle.std.specs.Prelude.{◌≡◌, List, [], ◌∷◌, map, reverse, Option, None, Some, IfOk, OnOk};
+ghost use Rattle.std.specs.Prelude.{◌≡◌, [], map, reverse, Option, None, Some, OnOk};
 ghost use Rattle.std.specs.Prelude.{slice_get, option_map};
 ghost use Rattle.wasm_syntax.specs.Typing.{is_block_type as is_type_of_block, results_of};
-ghost use Rattle.wasm_syntax.specs.Checking.{nothing, pop};
+ghost use Rattle.wasm_syntax.specs.KnownStacks.{nothing, pop};
 ghost use Rattle.wasm_syntax.specs.declared.values.ValType.TheVariants.{I32};
 ghost use Rattle.wasm_validate.specs.declared.stacks.Kind.TheVariants.{If};
-ghost use Rattle.wasm_validate.specs.Stacks.{told};
-ghost use Rattle.wasm_validate.specs.Flat.{state, begun, opened, parted, closed, label_of, label_of_kind};
+ghost use Rattle.wasm_validate.specs.Stacks.{PassesAs, then_some};
+ghost use Rattle.wasm_validate.specs.Flat.{state, body_start, after_open, after_else, after_end, label_of, label_of_kind};
 ghost use Rattle.wasm_validate.specs.Flat.{is_if as is_if_kind, is_closed as is_closed_within, may_close as may_close_of};
-ghost use Rattle.wasm_validate.specs.Changes.{leads};
+ghost use Rattle.wasm_validate.specs.Changes.{after_change};
 
 use crate::changes::Change;
 use crate::operands::Operands;
-use crate::types::is_number;
+use module_index::is_number;
 use no_memory::NoMemory;
 use std::alloc::Global;
 use std::marker::Model;
 use wasm_syntax::ValType;
 
 /// What a block was opened by. The second part of an `if` and the body of a function are as a block.
-#[derive(Clone, Copy, PartialEq, Eq, Debug)]
+#[derive(Clone, Copy)]
 pub(crate) enum Kind {
     Block,
     Loop,
@@ -82,7 +82,7 @@ impl Stacks {
 
     /// Begins the body of a function with this result.
     pub(crate) fn begin(&mut self, outcome: Option<ValType>) -> Result<(), NoMemory>
-        ensures { OnOk result (self.new ≡ begun outcome) }
+        ensures { OnOk result (self.new ≡ body_start outcome) }
     {
         self.frames.clear();
         self.operands.clear();
@@ -104,7 +104,7 @@ impl Stacks {
 
     /// Opens a block with this result.
     pub(crate) fn open(&mut self, kind: Kind, outcome: Option<ValType>) -> Result<bool, NoMemory>
-        ensures { IfOk result (λ passed. told passed self.new ≡ opened kind outcome self.old.levels (Some self.old.here)) }
+        ensures { PassesAs result self.new (after_open kind outcome self.old.levels (Some self.old.here)) }
     {
         if !is_block_type(outcome) {
             return Ok(false);
@@ -122,7 +122,7 @@ impl Stacks {
 
     /// Opens the first part of an `if` with this result, below a condition.
     pub(crate) fn open_if(&mut self, outcome: Option<ValType>) -> Result<bool, NoMemory>
-        ensures { IfOk result (λ passed. told passed self.new ≡ opened If outcome self.old.levels (pop I32 self.old.here)) }
+        ensures { PassesAs result self.new (after_open If outcome self.old.levels (pop I32 self.old.here)) }
     {
         if !self.operands.pop(ValType::I32) {
             return Ok(false);
@@ -132,7 +132,7 @@ impl Stacks {
 
     /// Ends the first part of an `if`, and begins the second.
     pub(crate) fn part(&mut self) -> bool
-        ensures { told result self.new ≡ parted self.old.levels self.old.here }
+        ensures { then_some result self.new ≡ after_else self.old.levels self.old.here }
     {
         let Some(last) = self.frames.len().checked_sub(1) else {
             return false;
@@ -151,7 +151,7 @@ impl Stacks {
 
     /// Closes the innermost block.
     pub(crate) fn close(&mut self) -> Result<bool, NoMemory>
-        ensures { IfOk result (λ passed. told passed self.new ≡ closed self.old.levels self.old.here) }
+        ensures { PassesAs result self.new (after_end self.old.levels self.old.here) }
     {
         let Some(&frame) = self.frames.last() else {
             return Ok(false);
@@ -167,7 +167,8 @@ impl Stacks {
 
     /// Makes a change of the operands, if they may be there.
     pub(crate) fn apply(&mut self, change: Change) -> Result<bool, NoMemory>
-        ensures { IfOk result (λ passed. told passed self.new ≡ option_map (state self.old.levels) (leads (Some change.entry) self.old.here)) }
+        ensures { PassesAs result self.new
+            (option_map (state self.old.levels) (after_change (Some change.entry) self.old.here)) }
     {
         self.operands.apply(change)
     }

@@ -3,13 +3,13 @@
 ghost use Rattle.std.specs.Prelude.{◌≡◌, ℕ, ◌^◌, ◌<◌, ◌⊎◌, length, Option, IfOk};
 ghost use Rattle.wasm_syntax.specs.Index.{func_indices};
 ghost use Rattle.wasm_syntax.specs.Validity.{IsInvalidAt, IsValid};
-ghost use Rattle.wasm_syntax.specs.Deciding.{invalid_at as place_of};
+ghost use Rattle.wasm_syntax.specs.ValidityTests.{invalid_at as place_of};
 ghost use Rattle.wasm_validate.specs.declared.whole.InvalidFault.TheVariants.{Invalid, Memory};
 
 use crate::checked::Checked;
 use crate::funcs::first_untyped;
 use crate::outside::is_valid_outside;
-use crate::scope::Scope;
+use module_index::scope::Scope;
 use no_memory::NoMemory;
 use std::alloc::Global;
 use thiserror::Error;
@@ -30,8 +30,9 @@ pub enum InvalidFault {
 ///
 /// # Errors
 ///
-/// `Invalid` where the module isn't valid: `func` is None where it fails outside the bodies of its
-/// functions, else the least index of a function whose body has no typing.
+/// `Invalid` exactly where the module isn't valid: `func` is None where it fails outside the bodies
+/// of its functions, else the least index of a function whose body has no typing. `Memory` where an
+/// allocation fails.
 pub fn validate(alloc: Global, module: Module) -> Result<Checked, InvalidFault>
     requires { length (func_indices «module») < 2 ^ 32 }
     // The module is unchanged, and it is valid.
@@ -39,9 +40,10 @@ pub fn validate(alloc: Global, module: Module) -> Result<Checked, InvalidFault>
     ensures valid { IfOk result (λ _. IsValid «module») }
     // It is invalid at the place that is named.
     ensures invalid { (func : Option ℕ) → result ≡ Err (Invalid func) → IsInvalidAt «module» func }
-    // Want of memory apart, a valid module is taken, and an invalid one is refused for its place.
+    // Apart from running out of memory, a valid module is taken, and an invalid one is refused for its place.
     ensures taken { IsValid «module» → (result ≡ Ok «module») ⊎ (result ≡ Err Memory) }
-    ensures refused { (func : Option ℕ) → IsInvalidAt «module» func → (result ≡ Err (Invalid func)) ⊎ (result ≡ Err Memory) }
+    ensures refused { (func : Option ℕ)
+        → IsInvalidAt «module» func → (result ≡ Err (Invalid func)) ⊎ (result ≡ Err Memory) }
 {
     validity_is_decided();
     match invalid_at(alloc, &module) {
@@ -57,10 +59,18 @@ fn invalid_at(alloc: Global, module: &Module) -> Result<Option<Option<u32>>, NoM
     ensures { IfOk result (λ place. place ≡ place_of «module».now) }
 {
     let scope = Scope::of(alloc, module)?;
-    if !is_valid_outside(alloc, &scope)? {
+    invalid_within(alloc, &scope)
+}
+
+/// Where the module of a scope is invalid, if it is.
+fn invalid_within(alloc: Global, scope: &Scope) -> Result<Option<Option<u32>>, NoMemory>
+    requires { length (func_indices scope.now) < 2 ^ 32 }
+    ensures { IfOk result (λ place. place ≡ place_of scope.now) }
+{
+    if !is_valid_outside(alloc, scope)? {
         return Ok(Some(None));
     }
-    match first_untyped(alloc, &scope)? {
+    match first_untyped(alloc, scope)? {
         None => Ok(None),
         Some(place) => Ok(Some(Some((scope.imported_funcs() + place) as u32))),
     }

@@ -1,8 +1,8 @@
 -- The histories of the examples, computed.
 use Rattle.std.proofs.Common.{refl}
 use Rattle.std.specs.Fmt.{digits}
-use Rattle.worked_histories.proofs.GrowFailed.{grow_failed_told}
-use Rattle.worked_histories.specs.Histories.{WorkedHistories, TwoAnswers, TwoAnswersSpent, Empty, NeverCalled, AnswersUsedUp, Overwrite, UnreadWrite, GrowAccess, GrowAccessTraps, GrowFailed, NestedCall, NestedTrap, HostTrap, TableEntry, TableEntryEmptied, TableEntryImport, FloatGlobal, ImportedOffset, ImportedOffsetMissing, ImportedOffsetMismatch, CBuffers, CBuffersSpent, ReplayTwoAnswers}
+use Rattle.worked_histories.proofs.GrowFailed.{grow_failed_lines}
+use Rattle.worked_histories.specs.Histories.{WorkedHistories, TwoAnswers, TwoAnswersSpent, Empty, NeverCalled, AnswersUsedUp, Overwrite, UnreadWrite, GrowAccess, GrowAccessTraps, NestedCall, NestedTrap, HostTrap, TableEntry, TableEntryEmptied, TableEntryImport, FloatGlobal, ImportedOffset, ImportedOffsetMissing, ImportedOffsetMismatch, CBuffers, CBuffersSpent, ReplayTwoAnswers}
 
 pub two_answers : TwoAnswers
 unfolding digits
@@ -104,7 +104,7 @@ worked_histories =
       unread_write = unread_write;
       grow_access = grow_access;
       grow_access_traps = grow_access_traps;
-      grow_failed = grow_failed_told;
+      grow_failed = grow_failed_lines;
       nested_call = nested_call;
       nested_trap = nested_trap;
       host_trap = host_trap;

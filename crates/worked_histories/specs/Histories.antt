@@ -1,5 +1,5 @@
 -- The histories that the example modules have.
-use Rattle.std.specs.Prelude.{◌≡◌, List, [], ◌∷◌, Option, Some, None, codes}
+use Rattle.std.specs.Prelude.{◌≡◌, ℕ, List, [], ◌∷◌, ◌++◌, Some, None, codes}
 use Rattle.wasm_syntax.specs.declared.values.ValType.TheVariants.{I64, F32}
 use Rattle.host_script.specs.declared.scripts.Address.TheVariants.{Fixed}
 use Rattle.host_script.specs.declared.scripts.Action.TheVariants.{Write, SetTable, SetGlobal, Grow}
@@ -8,54 +8,60 @@ use Rattle.history_spec.specs.declared.entries.FaultKind.TheVariants.{NoResponse
 use Rattle.worked_histories.specs.Build.{value, i32, script, layout}
 use Rattle.worked_histories.specs.Modules.{empty, two_answers, overwrite, grow_access, grow_failed, nested_call, nested_trap, table_entry, float_global, imported_offset, c_buffers, replay_two_answers}
 use Rattle.worked_histories.specs.Scripts.{idle, five_seven, five_seven_twice, does, does_nothing, host_traps, calls_back, gives_global, reads_hi}
-use Rattle.worked_histories.specs.Tells.{told, told_by, Lines, Fault, Spent, NoLink}
+use Rattle.worked_histories.specs.Tells.{tell, tell_replay, Lines, Fault, Spent, NoLink}
 
--- two answers are added; four turns suffice
-abbrev pub TwoAnswers : Type 0
-TwoAnswers =
-    told two_answers (five_seven) 4 ≡ Lines 4
-    (codes "host-call 1"
-    ∷ codes "step 1 0 ->"
-    ∷ codes "import-call 0"
-    ∷ codes "import-return 0 i32:00000005"
+-- the lines of a run whose first step calls the import
+abbrev pub import_begins : List (List ℕ)
+import_begins = codes "host-call 1" ∷ codes "step 1 0 ->" ∷ codes "import-call 0" ∷ []
+
+-- and of one where that call returns nothing
+abbrev pub import_returns : List (List ℕ)
+import_returns = import_begins ++ codes "import-return 0" ∷ []
+
+abbrev pub two_answers_lines : List (List ℕ)
+two_answers_lines =
+    import_begins
+    ++ codes "import-return 0 i32:00000005"
     ∷ codes "step 1 1 ->"
     ∷ codes "import-call 0"
     ∷ codes "import-return 0 i32:00000007"
     ∷ codes "step 1 2 i32:00000005 i32:00000007 -> i32:0000000c"
     ∷ codes "host-return 1 i32:0000000c"
-    ∷ codes "ended" ∷ [])
+    ∷ codes "ended" ∷ []
+
+-- two answers are added; four turns suffice
+abbrev pub TwoAnswers : Type 0
+TwoAnswers =
+    tell two_answers five_seven 4 ≡ Lines 4
+    two_answers_lines
 
 -- three turns do not
 abbrev pub TwoAnswersSpent : Type 0
 TwoAnswersSpent =
-    told two_answers five_seven 3 ≡ Spent
+    tell two_answers five_seven 3 ≡ Spent
 
 -- nothing is done
 abbrev pub Empty : Type 0
 Empty =
-    told empty (idle) 100 ≡ Lines 0
+    tell empty idle 100 ≡ Lines 0
     (codes "ended" ∷ [])
 
 -- an import that is never called
 abbrev pub NeverCalled : Type 0
 NeverCalled =
-    told two_answers (script (None ∷ []) []) 100 ≡ Lines 0
+    tell two_answers (script (None ∷ []) []) 100 ≡ Lines 0
     (codes "ended" ∷ [])
 
 -- the third call has no answer
 abbrev pub AnswersUsedUp : Type 0
 AnswersUsedUp =
-    told two_answers five_seven_twice 100 ≡ Fault 6 NoResponse
+    tell two_answers five_seven_twice 100 ≡ Fault 6 NoResponse
 
 -- a write of the host that overlaps what the module stored
 abbrev pub Overwrite : Type 0
 Overwrite =
-    told overwrite (does (Write (Fixed 8) (0xAA ∷ 0xBB ∷ 0xCC ∷ 0xDD ∷ []))) 100 ≡ Lines 8
-    (codes "host-call 1"
-    ∷ codes "step 1 0 ->"
-    ∷ codes "import-call 0"
-    ∷ codes "import-return 0"
-    ∷ codes "step 1 1 -> i32:00000008"
+    tell overwrite (does (Write (Fixed 8) (0xAA ∷ 0xBB ∷ 0xCC ∷ 0xDD ∷ []))) 100 ≡ Lines 8
+    (import_returns ++ codes "step 1 1 -> i32:00000008"
     ∷ codes "step 1 2 -> i32:00000001"
     ∷ codes "step 1 3 i32:00000008 i32:00000001 ->"
     ∷ codes "step 1 4 -> i32:00000008"
@@ -66,12 +72,8 @@ Overwrite =
 -- a write of the host that the module does not read
 abbrev pub UnreadWrite : Type 0
 UnreadWrite =
-    told overwrite (does (Write (Fixed 100) (0xFF ∷ []))) 100 ≡ Lines 8
-    (codes "host-call 1"
-    ∷ codes "step 1 0 ->"
-    ∷ codes "import-call 0"
-    ∷ codes "import-return 0"
-    ∷ codes "step 1 1 -> i32:00000008"
+    tell overwrite (does (Write (Fixed 100) (0xFF ∷ []))) 100 ≡ Lines 8
+    (import_returns ++ codes "step 1 1 -> i32:00000008"
     ∷ codes "step 1 2 -> i32:00000001"
     ∷ codes "step 1 3 i32:00000008 i32:00000001 ->"
     ∷ codes "step 1 4 -> i32:00000008"
@@ -82,12 +84,8 @@ UnreadWrite =
 -- an access sees that the host grew the memory
 abbrev pub GrowAccess : Type 0
 GrowAccess =
-    told grow_access (does (Grow 1)) 100 ≡ Lines 6
-    (codes "host-call 1"
-    ∷ codes "step 1 0 ->"
-    ∷ codes "import-call 0"
-    ∷ codes "import-return 0"
-    ∷ codes "step 1 1 -> i32:00010000"
+    tell grow_access (does (Grow 1)) 100 ≡ Lines 6
+    (import_returns ++ codes "step 1 1 -> i32:00010000"
     ∷ codes "step 1 2 -> i32:00000009"
     ∷ codes "step 1 3 i32:00010000 i32:00000009 ->"
     ∷ codes "host-return 1"
@@ -96,12 +94,8 @@ GrowAccess =
 -- and traps where it did not
 abbrev pub GrowAccessTraps : Type 0
 GrowAccessTraps =
-    told grow_access (does_nothing) 100 ≡ Lines 5
-    (codes "host-call 1"
-    ∷ codes "step 1 0 ->"
-    ∷ codes "import-call 0"
-    ∷ codes "import-return 0"
-    ∷ codes "step 1 1 -> i32:00010000"
+    tell grow_access does_nothing 100 ≡ Lines 5
+    (import_returns ++ codes "step 1 1 -> i32:00010000"
     ∷ codes "step 1 2 -> i32:00000009"
     ∷ codes "trap 1 3 memory i32:00010000 i32:00000009 found 1"
     ∷ codes "trapped" ∷ [])
@@ -109,12 +103,8 @@ GrowAccessTraps =
 -- a failed growth sees that the host grew the memory
 abbrev pub GrowFailed : Type 0
 GrowFailed =
-    told grow_failed (does (Grow 4)) 100 ≡ Lines 5
-    (codes "host-call 1"
-    ∷ codes "step 1 0 ->"
-    ∷ codes "import-call 0"
-    ∷ codes "import-return 0"
-    ∷ codes "step 1 1 -> i32:00000003"
+    tell grow_failed (does (Grow 4)) 100 ≡ Lines 5
+    (import_returns ++ codes "step 1 1 -> i32:00000003"
     ∷ codes "step 1 2 i32:00000003 -> i32:ffffffff found 8"
     ∷ codes "host-return 1 i32:ffffffff"
     ∷ codes "ended" ∷ [])
@@ -122,11 +112,8 @@ GrowFailed =
 -- the host calls the module inside the call of an import
 abbrev pub NestedCall : Type 0
 NestedCall =
-    told nested_call (calls_back) 100 ≡ Lines 8
-    (codes "host-call 1"
-    ∷ codes "step 1 0 ->"
-    ∷ codes "import-call 0"
-    ∷ codes "host-call 2"
+    tell nested_call calls_back 100 ≡ Lines 8
+    (import_begins ++ codes "host-call 2"
     ∷ codes "step 2 0 ->"
     ∷ codes "import-call 0"
     ∷ codes "import-return 0 i32:00000002"
@@ -141,76 +128,54 @@ NestedCall =
 -- and that call traps
 abbrev pub NestedTrap : Type 0
 NestedTrap =
-    told nested_trap (calls_back) 100 ≡ Lines 4
-    (codes "host-call 1"
-    ∷ codes "step 1 0 ->"
-    ∷ codes "import-call 0"
-    ∷ codes "host-call 2"
+    tell nested_trap calls_back 100 ≡ Lines 4
+    (import_begins ++ codes "host-call 2"
     ∷ codes "trap 2 0 unreachable"
     ∷ codes "trapped" ∷ [])
 
 -- the host traps
 abbrev pub HostTrap : Type 0
 HostTrap =
-    told two_answers (host_traps) 100 ≡ Lines 2
-    (codes "host-call 1"
-    ∷ codes "step 1 0 ->"
-    ∷ codes "import-call 0"
-    ∷ codes "host-trap"
+    tell two_answers host_traps 100 ≡ Lines 2
+    (import_begins ++ codes "host-trap"
     ∷ codes "host-trapped" ∷ [])
 
 -- an entry that the host set has another type
 abbrev pub TableEntry : Type 0
 TableEntry =
-    told table_entry (does (SetTable 0 (Some 3))) 100 ≡ Lines 5
-    (codes "host-call 1"
-    ∷ codes "step 1 0 ->"
-    ∷ codes "import-call 0"
-    ∷ codes "import-return 0"
-    ∷ codes "step 1 1 -> i32:00000000"
+    tell table_entry (does (SetTable 0 (Some 3))) 100 ≡ Lines 5
+    (import_returns ++ codes "step 1 1 -> i32:00000000"
     ∷ codes "trap 1 2 signature i32:00000000 found 3"
     ∷ codes "trapped" ∷ [])
 
 -- or is empty
 abbrev pub TableEntryEmptied : Type 0
 TableEntryEmptied =
-    told table_entry (does (SetTable 0 None)) 100 ≡ Lines 5
-    (codes "host-call 1"
-    ∷ codes "step 1 0 ->"
-    ∷ codes "import-call 0"
-    ∷ codes "import-return 0"
-    ∷ codes "step 1 1 -> i32:00000000"
+    tell table_entry (does (SetTable 0 None)) 100 ≡ Lines 5
+    (import_returns ++ codes "step 1 1 -> i32:00000000"
     ∷ codes "trap 1 2 empty i32:00000000"
     ∷ codes "trapped" ∷ [])
 
 -- or holds the import
 abbrev pub TableEntryImport : Type 0
 TableEntryImport =
-    told table_entry (does (SetTable 0 (Some 0))) 100 ≡ Lines 5
-    (codes "host-call 1"
-    ∷ codes "step 1 0 ->"
-    ∷ codes "import-call 0"
-    ∷ codes "import-return 0"
-    ∷ codes "step 1 1 -> i32:00000000"
+    tell table_entry (does (SetTable 0 (Some 0))) 100 ≡ Lines 5
+    (import_returns ++ codes "step 1 1 -> i32:00000000"
     ∷ codes "trap 1 2 signature i32:00000000 found 0"
     ∷ codes "trapped" ∷ [])
 
 -- the bits of a NaN are kept
 abbrev pub FloatGlobal : Type 0
 FloatGlobal =
-    told float_global (does (SetGlobal 0 (value F32 2141192193))) 100 ≡ Lines 4
-    (codes "host-call 1"
-    ∷ codes "step 1 0 ->"
-    ∷ codes "import-call 0"
-    ∷ codes "import-return 0"
-    ∷ codes "step 1 1 -> f32:7fa00001"
+    tell float_global (does (SetGlobal 0 (value F32 2141192193))) 100 ≡ Lines 4
+    (import_returns ++ codes "step 1 1 -> f32:7fa00001"
     ∷ codes "host-return 1 f32:7fa00001"
     ∷ codes "ended" ∷ [])
 
 -- an offset is an imported global
 abbrev pub ImportedOffset : Type 0
 ImportedOffset =
-    told imported_offset (gives_global (Some (i32 16))) 100 ≡ Lines 3
+    tell imported_offset (gives_global (Some (i32 16))) 100 ≡ Lines 3
     (codes "host-call 0"
     ∷ codes "step 0 0 -> i32:00000010"
     ∷ codes "step 0 1 i32:00000010 -> i32:00000041"
@@ -220,17 +185,17 @@ ImportedOffset =
 -- that is not supplied
 abbrev pub ImportedOffsetMissing : Type 0
 ImportedOffsetMissing =
-    told imported_offset (gives_global None) 100 ≡ NoLink (Missing 0)
+    tell imported_offset (gives_global None) 100 ≡ NoLink (Missing 0)
 
 -- or has another type
 abbrev pub ImportedOffsetMismatch : Type 0
 ImportedOffsetMismatch =
-    told imported_offset (gives_global (Some (value I64 16))) 100 ≡ NoLink (Mismatch 0)
+    tell imported_offset (gives_global (Some (value I64 16))) 100 ≡ NoLink (Mismatch 0)
 
 -- a C stack with buffers; 29 turns suffice
 abbrev pub CBuffers : Type 0
 CBuffers =
-    told c_buffers (reads_hi) 29 ≡ Lines 29
+    tell c_buffers reads_hi 29 ≡ Lines 29
     (codes "host-call 1"
     ∷ codes "step 1 0 -> i32:00010400"
     ∷ codes "step 1 1 -> i32:00000010"
@@ -268,24 +233,15 @@ CBuffers =
 -- 28 do not
 abbrev pub CBuffersSpent : Type 0
 CBuffersSpent =
-    told c_buffers reads_hi 28 ≡ Spent
+    tell c_buffers reads_hi 28 ≡ Spent
 
 -- the replay module of two answers shows their history
 abbrev pub ReplayTwoAnswers : Type 0
 ReplayTwoAnswers =
-    told_by replay_two_answers (layout 1 1) 2 21 ≡ Lines 19
-    (codes "host-call 1"
-    ∷ codes "step 1 0 ->"
-    ∷ codes "import-call 0"
-    ∷ codes "import-return 0 i32:00000005"
-    ∷ codes "step 1 1 ->"
-    ∷ codes "import-call 0"
-    ∷ codes "import-return 0 i32:00000007"
-    ∷ codes "step 1 2 i32:00000005 i32:00000007 -> i32:0000000c"
-    ∷ codes "host-return 1 i32:0000000c"
-    ∷ codes "ended" ∷ [])
+    tell_replay replay_two_answers (layout 1 1) 2 21 ≡ Lines 19
+    two_answers_lines
 
--- all of them
+-- all examples have their histories
 pub record WorkedHistories : Type 0 where
   pub two_answers : TwoAnswers
   pub two_answers_spent : TwoAnswersSpent

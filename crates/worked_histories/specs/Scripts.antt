@@ -1,11 +1,11 @@
 -- The scripts of the examples, with their names resolved.
-use Rattle.std.specs.Prelude.{ℕ, List, [], ◌∷◌, Option, Some, None}
+use Rattle.std.specs.Prelude.{[], ◌∷◌, Option, Some, None}
 use Rattle.wasm_syntax.specs.declared.values.Val.{Val}
 use Rattle.host_script.specs.declared.scripts.Script.{Script}
 use Rattle.host_script.specs.declared.scripts.Address.TheVariants.{Fixed, Arg}
 use Rattle.host_script.specs.declared.scripts.Action.{Action}
-use Rattle.host_script.specs.declared.scripts.Action.TheVariants.{Write, Copy, SetTable, SetGlobal, Grow, Call, CallTable}
-use Rattle.worked_histories.specs.Build.{value, i32, returns, traps, calls, script, one_call}
+use Rattle.host_script.specs.declared.scripts.Action.TheVariants.{Write, Call}
+use Rattle.worked_histories.specs.Build.{i32, returns, traps, script, one_call}
 
 -- nothing is supplied, answered or done
 abbrev pub idle : Script
@@ -42,4 +42,7 @@ gives_global given =
 abbrev pub reads_hi : Script
 reads_hi =
     one_call 1
-    (returns (Write (Arg 0 0) (0x68 ∷ 0x69 ∷ 0x0A ∷ 0 ∷ []) ∷ Write (Arg 2 0) (3 ∷ 0 ∷ 0 ∷ 0 ∷ []) ∷ []) (Some (i32 0)) ∷ [])
+    (returns
+    (Write (Arg 0 0) (0x68 ∷ 0x69 ∷ 0x0A ∷ 0 ∷ []) ∷ Write (Arg 2 0) (3 ∷ 0 ∷ 0 ∷ 0 ∷ []) ∷ [])
+    (Some (i32 0))
+    ∷ [])

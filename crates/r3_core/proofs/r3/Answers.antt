@@ -1,14 +1,14 @@
 use Rattle.std.proofs.Common.{[], ◌∷◌, sym, ◌∙◌, ap, subst, inl, inr, Err}
 use Rattle.std.specs.List.{Contains}
 use Rattle.r3_core.proofs.ResultLemmas.{IsTold-from}
-use Rattle.r3_core.proofs.StatusLemmas.{status-usage, status-read, status-too_long, status-write, fault-usage, status-not_done, done-behind, listed-unless_usage}
+use Rattle.r3_core.proofs.StatusLemmas.{status-usage, status-read, status-too_long, status-write, status-not_done, done-after, listed-unless_usage}
 use Rattle.r3_faults.specs.Lines.{status_of}
 use Rattle.r3_core.proofs.r3.Goals as goal
 
 pub returns-in-Err-clause-usage : goal.returns-in-Err-clause-usage
 returns-in-Err-clause-usage g c =
     let cause = c.in-Err.ensures.cause in (
-      λ e. status-usage _ _ _ _ c.in-Err.fault cause (sym c.status.ensures ∙ e),
+      λ e. (status-usage _ _ _ _ c.in-Err.fault cause (sym c.status.ensures ∙ e)).1,
       λ unlisted. elim (listed-unless_usage _ _ _ _ c.in-Err.fault cause) [ inl e ↦ c.status.ensures ∙ e | inr listed ↦ absurd (unlisted listed) ],
     )
 
@@ -47,7 +47,7 @@ returns-in-Err-clause-told g c = λ other. (
 
 pub returns-in-Err-clause-unread : goal.returns-in-Err-clause-unread
 returns-in-Err-clause-unread g c = λ either. elim either [
-  | inl e ↦ c.in-Err.ensures.unlisted (ap Err (fault-usage _ _ _ _ c.in-Err.fault c.in-Err.ensures.cause (sym c.status.ensures ∙ e)))
+  | inl e ↦ c.in-Err.ensures.unlisted (ap Err (status-usage _ _ _ _ c.in-Err.fault c.in-Err.ensures.cause (sym c.status.ensures ∙ e)).0)
   | inr unbuilt ↦ (c.in-Err.ensures.unbuilt unbuilt).1
 ]
 
@@ -63,4 +63,4 @@ returns-in-Err-clause-nothing_printed g c = λ some other.
 
 pub returns-in-Err-clause-done : goal.returns-in-Err-clause-done
 returns-in-Err-clause-done g c = λ command names number says told e none doable.
-    subst (Contains (0 ∷ 3 ∷ 13 ∷ 14 ∷ [])) (sym c.status.ensures) (done-behind _ (c.in-Err.ensures.done command names number says told e none doable))
+    subst (Contains (0 ∷ 3 ∷ 13 ∷ 14 ∷ [])) (sym c.status.ensures) (done-after _ (c.in-Err.ensures.done command names number says told e none doable))

@@ -1,20 +1,15 @@
-use Rattle.std.proofs.Common.{◌≡◌, refl, subst, true, IsSome, None, arith}
+use Rattle.std.proofs.Common.{◌≡◌, refl, subst, None, arith}
 use Rattle.r3_faults.specs.declared.faults.Fault.TheVariants.{Write as WriteFault}
-use Rattle.r3_core.specs.Words.{is_built}
 use Rattle.r3_core.specs.Causes.{first_longer}
 use Rattle.r3_core.proofs.ResultLemmas.{IfErr-from, IsErrAnd-from}
-use Rattle.r3_core.proofs.WordLemmas.{Says-same, files_of-Says}
-use Rattle.r3_core.proofs.StatusLemmas.{IsCause-printing, IsRefusal-said, IsDoable-said}
+use Rattle.r3_core.proofs.WordLemmas.{files_of-Says}
+use Rattle.r3_core.proofs.StatusLemmas.{IsCause-printing, IsRefusal-said, IsDoable-said, longer-said}
 use Rattle.r3_core.proofs.run.Goals as goal
 
 pub returns-in_err-printed-clause-longer : goal.returns-in_err-printed-clause-longer
 returns-in_err-printed-clause-longer g c = λ built told e longer.
-    let says = c.in_ok-call.ensures.listed in
-    let same : is_built c.in_ok-call.call.command ≡ true =
-    subst (λ command. is_built command ≡ true) (Says-same _ _ _ _ says _ _ _ built.3) built.4
-    in
-    let longer' = subst (λ files. IsSome (first_longer told files)) (files_of-Says _ _ _ _ says) longer in
-    IsErrAnd-from _ _ _ c.from_residual-in_err-printed.ensures.1 (c.in_err-printed.ensures.longer same told e longer')
+    let both = longer-said _ _ _ _ c.in_ok-call.ensures.listed built told longer in
+    IsErrAnd-from _ _ _ c.from_residual-in_err-printed.ensures.1 (c.in_err-printed.ensures.longer both.0 told e both.1)
 
 pub returns-in_err-printed-clause-cause : goal.returns-in_err-printed-clause-cause
 returns-in_err-printed-clause-cause g c =
@@ -31,12 +26,8 @@ returns-in_err-printed-clause-refused g c = λ command names number fault says t
 
 pub returns-in_err-put_all-clause-longer : goal.returns-in_err-put_all-clause-longer
 returns-in_err-put_all-clause-longer g c = λ built told e longer.
-    let says = c.in_ok-call.ensures.listed in
-    let same : is_built c.in_ok-call.call.command ≡ true =
-    subst (λ command. is_built command ≡ true) (Says-same _ _ _ _ says _ _ _ built.3) built.4
-    in
-    let longer' = subst (λ files. IsSome (first_longer told files)) (files_of-Says _ _ _ _ says) longer in
-    absurd (c.in_ok-printed.ensures.longer same told e longer')
+    let both = longer-said _ _ _ _ c.in_ok-call.ensures.listed built told longer in
+    absurd (c.in_ok-printed.ensures.longer both.0 told e both.1)
 
 pub returns-in_err-put_all-clause-refused : goal.returns-in_err-put_all-clause-refused
 returns-in_err-put_all-clause-refused g c = λ command names number fault says told e none sure.
@@ -48,12 +39,8 @@ returns-in_err-put_all-clause-refused g c = λ command names number fault says t
 
 pub returns-clause-longer : goal.returns-clause-longer
 returns-clause-longer g c = λ built told e longer.
-    let says = c.in_ok-call.ensures.listed in
-    let same : is_built c.in_ok-call.call.command ≡ true =
-    subst (λ command. is_built command ≡ true) (Says-same _ _ _ _ says _ _ _ built.3) built.4
-    in
-    let longer' = subst (λ files. IsSome (first_longer told files)) (files_of-Says _ _ _ _ says) longer in
-    c.in_ok-printed.ensures.longer same told e longer'
+    let both = longer-said _ _ _ _ c.in_ok-call.ensures.listed built told longer in
+    c.in_ok-printed.ensures.longer both.0 told e both.1
 
 pub returns-clause-refused : goal.returns-clause-refused
 returns-clause-refused g c = λ command names number fault says told e none sure.

@@ -1,11 +1,12 @@
 -- The operations' results fit, by the law that is called; the rest are lemmas on the definitions.
-use Rattle.type_safety.proofs.Numbers.{ResultsFit}
+use Rattle.type_safety.proofs.Numbers.{ResultsFit, results_fit}
 use Rattle.type_safety.proofs.Runs.{program_start_safe, program_step_safe, call_safe, results_safe}
 use Rattle.type_safety.proofs.safe_steps.Goals as goal
 
 pub returns-clause-starts : goal.returns-clause-starts
 returns-clause-starts c = λ m heights program store main valid typed fits is_store actions.
-    let laws : ResultsFit = record { test = c.values_fit.ensures.test; compare = c.values_fit.ensures.compare; unary = c.values_fit.ensures.unary; binary = c.values_fit.ensures.binary; convert = c.values_fit.ensures.convert } in
+    let fit = c.values_fit.ensures in
+    let laws : ResultsFit = results_fit fit.test fit.compare fit.unary fit.binary fit.convert in
     program_start_safe laws m heights typed valid program fits store main is_store actions
 
 pub returns-clause-calls : goal.returns-clause-calls
@@ -16,5 +17,6 @@ returns-clause-results c = results_safe
 
 pub returns-clause-steps : goal.returns-clause-steps
 returns-clause-steps c = λ m heights program config valid typed fits is_config.
-    let laws : ResultsFit = record { test = c.values_fit.ensures.test; compare = c.values_fit.ensures.compare; unary = c.values_fit.ensures.unary; binary = c.values_fit.ensures.binary; convert = c.values_fit.ensures.convert } in
+    let fit = c.values_fit.ensures in
+    let laws : ResultsFit = results_fit fit.test fit.compare fit.unary fit.binary fit.convert in
     program_step_safe laws m heights typed valid program fits config is_config

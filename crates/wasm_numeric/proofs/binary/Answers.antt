@@ -12,14 +12,14 @@ returns-in_err-value-clause-value c =
     let p = err_from_is_err_and c.from_residual.result c.from_residual.ensures.1 in
     rw (p.1, p.2)
     (c.in_err-value.ensures
-    ∙ ap₂ (λ operation w. answer_of (binary_value operation w c.args.a c.args.b)) c.i32_binary_op.ensures
+    ∙ ap₂ (λ operation w. answer_of (binary_value operation w c.args.a c.args.b)) c.binary_op-operation.ensures
     (sym (width_within (binary_opcodes c.args.op c.requires.kind) (omega arith))))
 
 pub returns-else-op-le-I32_ROTR-clause-fits : goal.returns-else-op-le-I32_ROTR-clause-fits
 returns-else-op-le-I32_ROTR-clause-fits c =
     let value : c.i64_binary.result ≡ answer_of (binary_of c.args.op c.args.a c.args.b) =
     c.i64_binary.ensures
-    ∙ ap₂ (λ operation w. answer_of (binary_value operation w c.args.a c.args.b)) c.i64_binary_op.ensures
+    ∙ ap₂ (λ operation w. answer_of (binary_value operation w c.args.a c.args.b)) c.binary_op-operation.ensures
     (sym (width_past (binary_opcodes c.args.op c.requires.kind) (omega arith))) in
     subst (λ r. IfOk r (λ n. n < 2 ^ width (result_of c.args.op))) (sym value)
     (fits_answer (width (result_of c.args.op)) (binary_of c.args.op c.args.a c.args.b)

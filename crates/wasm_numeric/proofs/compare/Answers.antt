@@ -7,5 +7,5 @@ use Rattle.wasm_numeric.proofs.compare.Goals as goal
 pub returns-else-op-le-I32_GE_U : goal.returns-else-op-le-I32_GE_U
 returns-else-op-le-I32_GE_U c =
     c.i64_compare.ensures
-    ∙ ap₂ (λ operation w. compare_value operation w c.args.a c.args.b) c.i64_compare_op.ensures
+    ∙ ap₂ (λ operation w. compare_value operation w c.args.a c.args.b) c.compare_op-operation.ensures
     (sym (width_past (compare_opcodes c.args.op c.requires.kind) (omega arith)))

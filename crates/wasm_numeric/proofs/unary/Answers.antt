@@ -7,5 +7,5 @@ use Rattle.wasm_numeric.proofs.unary.Goals as goal
 pub returns-else-op-le-I32_POPCNT-clause-value : goal.returns-else-op-le-I32_POPCNT-clause-value
 returns-else-op-le-I32_POPCNT-clause-value c =
     c.i64_unary.ensures
-    ∙ ap₂ (λ operation w. unary_value operation w c.args.a) c.i64_unary_op.ensures
+    ∙ ap₂ (λ operation w. unary_value operation w c.args.a) c.unary_op-operation.ensures
     (sym (width_past (unary_opcodes c.args.op c.requires.kind) (omega arith)))

@@ -100,7 +100,8 @@ runs_of_total (r ∷ rest) = elim (eqb_tells r.count 0) [
 abbrev HasType : Run → Type 0
 HasType run = FitsValType run.ty
 
-with_run_types : (r : Run) (rest : List Run) → HasType r → AllByRecursion HasType rest → AllByRecursion HasType (with_run r rest)
+with_run_types : (r : Run) (rest : List Run) → HasType r → AllByRecursion HasType rest
+    → AllByRecursion HasType (with_run r rest)
 with_run_types r [] h all = (h, tt)
 with_run_types r (s ∷ rest) h all = elim (eqb_tells (val_type_byte r.ty) (val_type_byte s.ty)) [
   | inl e ↦ rw (e.0) all

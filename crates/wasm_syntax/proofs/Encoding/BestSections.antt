@@ -56,7 +56,8 @@ elem_bytes_some : (x : ElemSeg) → 0 < length (elem_bytes x)
 unfolding elem_bytes
 elem_bytes_some (Active table offset funcs) =
     omega (arith, length-append (u32_bytes table) (body_bytes offset ++ vector_bytes u32_bytes funcs), u32_some table)
-elem_bytes_some (Declared funcs) = omega (arith, length-append (u32_bytes 3) (0x00 ∷ vector_bytes u32_bytes funcs), u32_some 3)
+elem_bytes_some (Declared funcs) =
+    omega (arith, length-append (u32_bytes 3) (0x00 ∷ vector_bytes u32_bytes funcs), u32_some 3)
 
 code_bytes_some : (x : Code) → 0 < length (code_bytes x)
 unfolding code_bytes
@@ -64,7 +65,8 @@ code_bytes_some x = sized_some _
 
 data_bytes_some : (x : DataSeg) → 0 < length (data_bytes x)
 unfolding data_bytes
-data_bytes_some x = omega (arith, length-append (u32_bytes x.memory) (body_bytes x.offset ++ sized_bytes x.bytes), u32_some x.memory)
+data_bytes_some x =
+    omega (arith, length-append (u32_bytes x.memory) (body_bytes x.offset ++ sized_bytes x.bytes), u32_some x.memory)
 
 -- ---- sections
 
@@ -83,7 +85,8 @@ module _ (laws : NumberLaws) (form : Form) where
   FitsContent (CodeSection held) = AllByRecursion (FitsCode laws form) held
   FitsContent (DataSection held) = AllByRecursion (FitsDataSeg form) held
 
-  pub content_best : (section : Section) → IsBest (λ bytes. EncodesContent form bytes section) (FitsContent section) (content_bytes section)
+  pub content_best : (section : Section)
+      → IsBest (λ bytes. EncodesContent form bytes section) (FitsContent section) (content_bytes section)
   unfolding content_bytes
   content_best (CustomSection custom) = custom_best laws custom
   content_best (TypeSection held) = vector_best laws EncodesFuncType FitsFuncType func_type_bytes func_type_bytes_some (func_type_best laws) held
@@ -124,7 +127,8 @@ module _ (laws : NumberLaws) (form : Form) where
       let least = (content_best section).least size.1 size.4 in
       ((content_best section).fits size.1 size.4, omega (arith, few, least))
 
-  pub section_least : (bytes : List ℕ) (section : Section) → EncodesSection form bytes section → length (section_bytes section) ≤ length bytes
+  pub section_least : (bytes : List ℕ) (section : Section) → EncodesSection form bytes section
+      → length (section_bytes section) ≤ length bytes
   unfolding section_bytes
   section_least bytes section h =
       let size = h.2 in
@@ -146,10 +150,12 @@ module _ (laws : NumberLaws) (form : Form) where
 pub record IsPart {A : Type 0} (id : ℕ) (build : List A → List Section) (part : Section → List A) : Type 0 where
   pub positive : 0 < id
   pub none : build [] ≡ []
-  pub mine : (section : Section) → id_of section ≡ id → (build (part section) ≡ []) ⊎ (build (part section) ≡ section ∷ [])
+  pub mine : (section : Section) → id_of section ≡ id
+      → (build (part section) ≡ []) ⊎ (build (part section) ≡ section ∷ [])
   pub other : (section : Section) → (id_of section ≡ id → ⊥) → part section ≡ []
 
-types_mine : (section : Section) → id_of section ≡ 1 → (unless_empty TypeSection (types_in section) ≡ []) ⊎ (unless_empty TypeSection (types_in section) ≡ section ∷ [])
+types_mine : (section : Section) → id_of section ≡ 1
+    → (unless_empty TypeSection (types_in section) ≡ []) ⊎ (unless_empty TypeSection (types_in section) ≡ section ∷ [])
 types_mine (TypeSection []) e = inl refl
 types_mine (TypeSection (x ∷ xs)) e = inr refl
 types_mine section e = absurd (omega arith)
@@ -161,7 +167,8 @@ types_other section h = refl
 pub types_part : IsPart 1 (unless_empty TypeSection) types_in
 types_part = record { positive = omega arith; none = refl; mine = types_mine; other = types_other }
 
-imports_mine : (section : Section) → id_of section ≡ 2 → (unless_empty ImportSection (imports_in section) ≡ []) ⊎ (unless_empty ImportSection (imports_in section) ≡ section ∷ [])
+imports_mine : (section : Section) → id_of section ≡ 2
+    → (unless_empty ImportSection (imports_in section) ≡ []) ⊎ (unless_empty ImportSection (imports_in section) ≡ section ∷ [])
 imports_mine (ImportSection []) e = inl refl
 imports_mine (ImportSection (x ∷ xs)) e = inr refl
 imports_mine section e = absurd (omega arith)
@@ -173,7 +180,8 @@ imports_other section h = refl
 pub imports_part : IsPart 2 (unless_empty ImportSection) imports_in
 imports_part = record { positive = omega arith; none = refl; mine = imports_mine; other = imports_other }
 
-functions_mine : (section : Section) → id_of section ≡ 3 → (unless_empty FunctionSection (functions_in section) ≡ []) ⊎ (unless_empty FunctionSection (functions_in section) ≡ section ∷ [])
+functions_mine : (section : Section) → id_of section ≡ 3
+    → (unless_empty FunctionSection (functions_in section) ≡ []) ⊎ (unless_empty FunctionSection (functions_in section) ≡ section ∷ [])
 functions_mine (FunctionSection []) e = inl refl
 functions_mine (FunctionSection (x ∷ xs)) e = inr refl
 functions_mine section e = absurd (omega arith)
@@ -185,7 +193,8 @@ functions_other section h = refl
 pub functions_part : IsPart 3 (unless_empty FunctionSection) functions_in
 functions_part = record { positive = omega arith; none = refl; mine = functions_mine; other = functions_other }
 
-tables_mine : (section : Section) → id_of section ≡ 4 → (unless_empty TableSection (tables_in section) ≡ []) ⊎ (unless_empty TableSection (tables_in section) ≡ section ∷ [])
+tables_mine : (section : Section) → id_of section ≡ 4
+    → (unless_empty TableSection (tables_in section) ≡ []) ⊎ (unless_empty TableSection (tables_in section) ≡ section ∷ [])
 tables_mine (TableSection []) e = inl refl
 tables_mine (TableSection (x ∷ xs)) e = inr refl
 tables_mine section e = absurd (omega arith)
@@ -197,7 +206,8 @@ tables_other section h = refl
 pub tables_part : IsPart 4 (unless_empty TableSection) tables_in
 tables_part = record { positive = omega arith; none = refl; mine = tables_mine; other = tables_other }
 
-memories_mine : (section : Section) → id_of section ≡ 5 → (unless_empty MemorySection (memories_in section) ≡ []) ⊎ (unless_empty MemorySection (memories_in section) ≡ section ∷ [])
+memories_mine : (section : Section) → id_of section ≡ 5
+    → (unless_empty MemorySection (memories_in section) ≡ []) ⊎ (unless_empty MemorySection (memories_in section) ≡ section ∷ [])
 memories_mine (MemorySection []) e = inl refl
 memories_mine (MemorySection (x ∷ xs)) e = inr refl
 memories_mine section e = absurd (omega arith)
@@ -209,7 +219,8 @@ memories_other section h = refl
 pub memories_part : IsPart 5 (unless_empty MemorySection) memories_in
 memories_part = record { positive = omega arith; none = refl; mine = memories_mine; other = memories_other }
 
-globals_mine : (section : Section) → id_of section ≡ 6 → (unless_empty GlobalSection (globals_in section) ≡ []) ⊎ (unless_empty GlobalSection (globals_in section) ≡ section ∷ [])
+globals_mine : (section : Section) → id_of section ≡ 6
+    → (unless_empty GlobalSection (globals_in section) ≡ []) ⊎ (unless_empty GlobalSection (globals_in section) ≡ section ∷ [])
 globals_mine (GlobalSection []) e = inl refl
 globals_mine (GlobalSection (x ∷ xs)) e = inr refl
 globals_mine section e = absurd (omega arith)
@@ -221,7 +232,8 @@ globals_other section h = refl
 pub globals_part : IsPart 6 (unless_empty GlobalSection) globals_in
 globals_part = record { positive = omega arith; none = refl; mine = globals_mine; other = globals_other }
 
-exports_mine : (section : Section) → id_of section ≡ 7 → (unless_empty ExportSection (exports_in section) ≡ []) ⊎ (unless_empty ExportSection (exports_in section) ≡ section ∷ [])
+exports_mine : (section : Section) → id_of section ≡ 7
+    → (unless_empty ExportSection (exports_in section) ≡ []) ⊎ (unless_empty ExportSection (exports_in section) ≡ section ∷ [])
 exports_mine (ExportSection []) e = inl refl
 exports_mine (ExportSection (x ∷ xs)) e = inr refl
 exports_mine section e = absurd (omega arith)
@@ -233,7 +245,8 @@ exports_other section h = refl
 pub exports_part : IsPart 7 (unless_empty ExportSection) exports_in
 exports_part = record { positive = omega arith; none = refl; mine = exports_mine; other = exports_other }
 
-starts_mine : (section : Section) → id_of section ≡ 8 → (map StartSection (starts_in section) ≡ []) ⊎ (map StartSection (starts_in section) ≡ section ∷ [])
+starts_mine : (section : Section) → id_of section ≡ 8
+    → (map StartSection (starts_in section) ≡ []) ⊎ (map StartSection (starts_in section) ≡ section ∷ [])
 starts_mine (StartSection func) e = inr refl
 starts_mine section e = absurd (omega arith)
 
@@ -244,7 +257,8 @@ starts_other section h = refl
 pub starts_part : IsPart 8 (map StartSection) starts_in
 starts_part = record { positive = omega arith; none = refl; mine = starts_mine; other = starts_other }
 
-elems_mine : (section : Section) → id_of section ≡ 9 → (unless_empty ElementSection (elems_in section) ≡ []) ⊎ (unless_empty ElementSection (elems_in section) ≡ section ∷ [])
+elems_mine : (section : Section) → id_of section ≡ 9
+    → (unless_empty ElementSection (elems_in section) ≡ []) ⊎ (unless_empty ElementSection (elems_in section) ≡ section ∷ [])
 elems_mine (ElementSection []) e = inl refl
 elems_mine (ElementSection (x ∷ xs)) e = inr refl
 elems_mine section e = absurd (omega arith)
@@ -256,7 +270,8 @@ elems_other section h = refl
 pub elems_part : IsPart 9 (unless_empty ElementSection) elems_in
 elems_part = record { positive = omega arith; none = refl; mine = elems_mine; other = elems_other }
 
-codes_mine : (section : Section) → id_of section ≡ 10 → (unless_empty CodeSection (codes_in section) ≡ []) ⊎ (unless_empty CodeSection (codes_in section) ≡ section ∷ [])
+codes_mine : (section : Section) → id_of section ≡ 10
+    → (unless_empty CodeSection (codes_in section) ≡ []) ⊎ (unless_empty CodeSection (codes_in section) ≡ section ∷ [])
 codes_mine (CodeSection []) e = inl refl
 codes_mine (CodeSection (x ∷ xs)) e = inr refl
 codes_mine section e = absurd (omega arith)
@@ -268,7 +283,8 @@ codes_other section h = refl
 pub codes_part : IsPart 10 (unless_empty CodeSection) codes_in
 codes_part = record { positive = omega arith; none = refl; mine = codes_mine; other = codes_other }
 
-datas_mine : (section : Section) → id_of section ≡ 11 → (unless_empty DataSection (datas_in section) ≡ []) ⊎ (unless_empty DataSection (datas_in section) ≡ section ∷ [])
+datas_mine : (section : Section) → id_of section ≡ 11
+    → (unless_empty DataSection (datas_in section) ≡ []) ⊎ (unless_empty DataSection (datas_in section) ≡ section ∷ [])
 datas_mine (DataSection []) e = inl refl
 datas_mine (DataSection (x ∷ xs)) e = inr refl
 datas_mine section e = absurd (omega arith)

@@ -89,7 +89,8 @@ module _ (laws : NumberLaws) where
   pub two_best : IsWrittenBy (EncodesU32 then EncodesU32) (λ (p : ℕ × ℕ). FitsU32 p.0 × FitsU32 p.1) (λ (p : ℕ × ℕ). u32_bytes p.0 ++ u32_bytes p.1)
   two_best p = then_best EncodesU32 EncodesU32 FitsU32 FitsU32 u32_bytes u32_bytes (u32_best laws) (u32_best laws) p.0 p.1
 
-  bounds_best : (least : ℕ) (most : Option ℕ) → IsBest (λ bytes. EncodesBounds bytes least most) (FitsBounds least most) (bounds_bytes least most)
+  bounds_best : (least : ℕ) (most : Option ℕ)
+      → IsBest (λ bytes. EncodesBounds bytes least most) (FitsBounds least most) (bounds_bytes least most)
   bounds_best least None = marked_best 0x00 EncodesU32 FitsU32 u32_bytes (u32_best laws) least
   bounds_best least (Some most) =
       marked_best 0x01 (EncodesU32 then EncodesU32) (λ (p : ℕ × ℕ). FitsU32 p.0 × FitsU32 p.1) (λ (p : ℕ × ℕ). u32_bytes p.0 ++ u32_bytes p.1) two_best (least, most)
@@ -103,7 +104,8 @@ module _ (laws : NumberLaws) where
 
   -- ---- instructions
 
-  const_best : (ty : ValType) (bits : ℕ) → IsBest (λ bytes. EncodesConst bytes ty bits) (FitsConst ty bits) (const_bytes ty bits)
+  const_best : (ty : ValType) (bits : ℕ)
+      → IsBest (λ bytes. EncodesConst bytes ty bits) (FitsConst ty bits) (const_bytes ty bits)
   unfolding const_bytes
   const_best I32 bits = marked_best 0x41 EncodesI32 (λ n. n < 2 ^ 32) i32_bytes (λ n. record {
     encodes = λ fits few. laws.i32_shortest.encodes n fits;
@@ -119,7 +121,8 @@ module _ (laws : NumberLaws) where
   const_best F64 bits = marked_best 0x44 EncodesF64 (λ n. n < 2 ^ 64) (to_le_bytes w64) f64_best bits
   const_best FuncRef bits = none_best []
 
-  access_best : (access : MemArg) → IsBest (λ bytes. Marked access.op (EncodesU32 then EncodesU32) bytes (access.align, access.offset)) (FitsMemArg access) (access_bytes access)
+  access_best : (access : MemArg)
+      → IsBest (λ bytes. Marked access.op (EncodesU32 then EncodesU32) bytes (access.align, access.offset)) (FitsMemArg access) (access_bytes access)
   access_best access =
       marked_best access.op (EncodesU32 then EncodesU32) (λ (p : ℕ × ℕ). FitsU32 p.0 × FitsU32 p.1) (λ (p : ℕ × ℕ). u32_bytes p.0 ++ u32_bytes p.1) two_best
       (access.align, access.offset)
@@ -127,7 +130,8 @@ module _ (laws : NumberLaws) where
   indexed : (mark n : ℕ) → IsBest (λ bytes. Marked mark EncodesU32 bytes n) (FitsU32 n) (mark ∷ u32_bytes n)
   indexed mark n = marked_best mark EncodesU32 FitsU32 u32_bytes (u32_best laws) n
 
-  typed : (mark : ℕ) (ty : Option ValType) → IsBest (λ bytes. Marked mark EncodesBlockType bytes ty) (FitsBlockType ty) (mark ∷ block_type_bytes ty)
+  typed : (mark : ℕ) (ty : Option ValType)
+      → IsBest (λ bytes. Marked mark EncodesBlockType bytes ty) (FitsBlockType ty) (mark ∷ block_type_bytes ty)
   typed mark ty = marked_best mark EncodesBlockType FitsBlockType block_type_bytes block_type_best ty
 
   pub instr_best : (form : Form) → IsWrittenBy (EncodesInstr form) (FitsInstr form) instr_bytes

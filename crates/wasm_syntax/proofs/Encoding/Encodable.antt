@@ -29,32 +29,39 @@ content_le : (section : Section) → length (content_bytes section) ≤ length (
 unfolding section_bytes
 content_le section = omega (arith, length-append (u32_bytes (length (content_bytes section))) (content_bytes section))
 
-all_flat : {A : Type 0} (Q : Section → Type 0) (P : A → Type 0) (part : Section → List A) → ((section : Section) → Q section → AllByRecursion P (part section))
+all_flat : {A : Type 0} (Q : Section → Type 0) (P : A → Type 0) (part : Section → List A)
+    → ((section : Section) → Q section → AllByRecursion P (part section))
     → (sections : List Section) → AllByRecursion Q sections → AllByRecursion P (flat_map part sections)
 all_flat Q P part each [] all = tt
-all_flat Q P part each (section ∷ rest) all = all_append P (part section) (flat_map part rest) (each section all.0) (all_flat Q P part each rest all.1)
+all_flat Q P part each (section ∷ rest) all =
+    all_append P (part section) (flat_map part rest) (each section all.0) (all_flat Q P part each rest all.1)
 
 module _ (laws : NumberLaws) (form : Form) where
   -- ---- from the module to its sections
 
-  list_fits : {A : Type 0} (P : A → Type 0) (make : List A → Section) → ((xs : List A) → AllByRecursion P xs → FitsContent laws form (make xs))
+  list_fits : {A : Type 0} (P : A → Type 0) (make : List A → Section)
+      → ((xs : List A) → AllByRecursion P xs → FitsContent laws form (make xs))
       → (xs : List A) → AllByRecursion P xs → AllByRecursion (FitsContent laws form) (unless_empty make xs)
   list_fits P make into [] all = tt
   list_fits P make into (x ∷ xs) all = (into (x ∷ xs) all, tt)
 
-  start_fits : (start : Option ℕ) → IfSome start FitsU32 → AllByRecursion (FitsContent laws form) (map StartSection (option_to_list start))
+  start_fits : (start : Option ℕ) → IfSome start FitsU32
+      → AllByRecursion (FitsContent laws form) (map StartSection (option_to_list start))
   start_fits None h = tt
   start_fits (Some n) h = (h, tt)
 
-  customs_fit : (customs : List Custom) → AllByRecursion (λ custom. IsUtf8 custom.name) customs → AllByRecursion (FitsContent laws form) (map CustomSection customs)
+  customs_fit : (customs : List Custom) → AllByRecursion (λ custom. IsUtf8 custom.name) customs
+      → AllByRecursion (FitsContent laws form) (map CustomSection customs)
   customs_fit [] all = tt
   customs_fit (custom ∷ customs) all = (all.0, customs_fit customs all.1)
 
-  types_of_funcs : (funcs : List Func) → AllByRecursion (FitsFunc form) funcs → AllByRecursion FitsU32 (map (λ func. func.ty) funcs)
+  types_of_funcs : (funcs : List Func) → AllByRecursion (FitsFunc form) funcs
+      → AllByRecursion FitsU32 (map (λ func. func.ty) funcs)
   types_of_funcs [] all = tt
   types_of_funcs (func ∷ funcs) all = (all.0.0, types_of_funcs funcs all.1)
 
-  codes_of_funcs : (funcs : List Func) → AllByRecursion (FitsFunc form) funcs → AllByRecursion (FitsCode laws form) (map code_of funcs)
+  codes_of_funcs : (funcs : List Func) → AllByRecursion (FitsFunc form) funcs
+      → AllByRecursion (FitsCode laws form) (map code_of funcs)
   codes_of_funcs [] all = tt
   codes_of_funcs (func ∷ funcs) all = ((all.0.1, all.0.2), codes_of_funcs funcs all.1)
 
@@ -74,20 +81,23 @@ module _ (laws : NumberLaws) (form : Form) where
       all_append (FitsContent laws form) _ _ (list_fits (FitsDataSeg form) DataSection (λ xs all. all) m.datas h.datas) (
       customs_fit m.customs h.customs)))))))))))
 
-  short_fit : (sections : List Section) → AllByRecursion (FitsContent laws form) sections → length (flat_map section_bytes sections) < 2 ^ 32 → AllByRecursion (Fits laws form) sections
+  short_fit : (sections : List Section) → AllByRecursion (FitsContent laws form) sections
+      → length (flat_map section_bytes sections) < 2 ^ 32 → AllByRecursion (Fits laws form) sections
   short_fit [] all few = tt
   short_fit (section ∷ rest) all few =
       let long = length-append (section_bytes section) (flat_map section_bytes rest) in
       ((all.0, omega (arith, content_le section)), short_fit rest all.1 (omega arith))
 
-  pub encodable_encodes : (m : Module) → IsEncodable form m → length (encoding_of m) < 2 ^ 32 → Encodes form (encoding_of m) m
+  pub encodable_encodes : (m : Module) → IsEncodable form m → length (encoding_of m) < 2 ^ 32
+      → Encodes form (encoding_of m) m
   unfolding encoding_of
   encodable_encodes m h few =
       fitting_encodes laws form m (short_fit (sections_of m) (contents_fit m h) (omega (arith, length-append preamble (flat_map section_bytes (sections_of m)))))
 
   -- ---- from the sections to the module
 
-  contents : (sections : List Section) → AllByRecursion (Fits laws form) sections → AllByRecursion (FitsContent laws form) sections
+  contents : (sections : List Section) → AllByRecursion (Fits laws form) sections
+      → AllByRecursion (FitsContent laws form) sections
   contents [] all = tt
   contents (section ∷ rest) all = (all.0.0, contents rest all.1)
 
@@ -111,7 +121,8 @@ module _ (laws : NumberLaws) (form : Form) where
   memories_fit (MemorySection held) h = h
   memories_fit section h = tt
 
-  globals_fit : (section : Section) → FitsContent laws form section → AllByRecursion (FitsGlobal form) (globals_in section)
+  globals_fit : (section : Section) → FitsContent laws form section
+      → AllByRecursion (FitsGlobal form) (globals_in section)
   globals_fit (GlobalSection held) h = h
   globals_fit section h = tt
 
@@ -127,7 +138,8 @@ module _ (laws : NumberLaws) (form : Form) where
   elems_fit (ElementSection held) h = h
   elems_fit section h = tt
 
-  codes_fit : (section : Section) → FitsContent laws form section → AllByRecursion (FitsCode laws form) (codes_in section)
+  codes_fit : (section : Section) → FitsContent laws form section
+      → AllByRecursion (FitsCode laws form) (codes_in section)
   codes_fit (CodeSection held) h = h
   codes_fit section h = tt
 
@@ -135,11 +147,13 @@ module _ (laws : NumberLaws) (form : Form) where
   datas_fit (DataSection held) h = h
   datas_fit section h = tt
 
-  custom_fits : (section : Section) → FitsContent laws form section → AllByRecursion (λ (c : Custom). IsUtf8 c.name) (customs_in section)
+  custom_fits : (section : Section) → FitsContent laws form section
+      → AllByRecursion (λ (c : Custom). IsUtf8 c.name) (customs_in section)
   custom_fits (CustomSection held) h = (h, tt)
   custom_fits section h = tt
 
-  funcs_fit : (funcs : List Func) → AllByRecursion FitsU32 (map (λ func. func.ty) funcs) → AllByRecursion (FitsCode laws form) (map code_of funcs) → AllByRecursion (FitsFunc form) funcs
+  funcs_fit : (funcs : List Func) → AllByRecursion FitsU32 (map (λ func. func.ty) funcs)
+      → AllByRecursion (FitsCode laws form) (map code_of funcs) → AllByRecursion (FitsFunc form) funcs
   funcs_fit [] types codes = tt
   funcs_fit (func ∷ funcs) types codes = ((types.0, codes.0.0, codes.0.1), funcs_fit funcs types.1 codes.1)
 

@@ -13,11 +13,13 @@ use Rattle.wasm_syntax.specs.declared.modules.Module.{Module}
 use Rattle.wasm_syntax.specs.Encoding.Encodable.{FitsInstr, FitsBody, FitsFunc, FitsGlobal, FitsElemSeg, FitsDataSeg, IsEncodable}
 use Rattle.wasm_syntax.specs.Encoding.Forms.{IsCoreInstr, AreCoreInstrs, IsCoreSeg, IsCoreModule, IsOfTableZero}
 
-all_map : {A : Type 0} (P Q : A → Type 0) → ((x : A) → P x → Q x) → (xs : List A) → AllByRecursion P xs → AllByRecursion Q xs
+all_map : {A : Type 0} (P Q : A → Type 0) → ((x : A) → P x → Q x) → (xs : List A) → AllByRecursion P xs
+    → AllByRecursion Q xs
 all_map P Q f [] all = tt
 all_map P Q f (x ∷ xs) all = (f x all.0, all_map P Q f xs all.1)
 
-all_both : {A : Type 0} (P Q R : A → Type 0) → ((x : A) → P x → Q x → R x) → (xs : List A) → AllByRecursion P xs → AllByRecursion Q xs → AllByRecursion R xs
+all_both : {A : Type 0} (P Q R : A → Type 0) → ((x : A) → P x → Q x → R x) → (xs : List A) → AllByRecursion P xs
+    → AllByRecursion Q xs → AllByRecursion R xs
 all_both P Q R f [] ps qs = tt
 all_both P Q R f (x ∷ xs) ps qs = (f x ps.0 qs.0, all_both P Q R f xs ps.1 qs.1)
 
@@ -86,7 +88,8 @@ core_body : (body : List Instr) → FitsBody Replay body → AreCoreInstrs body 
 core_body body h core = record { instructions = all_both (FitsInstr Replay) IsCoreInstr (FitsInstr Core) core_instr body h.instructions core; nest = h.nest; is_body = h.is_body }
 
 core_seg : (seg : ElemSeg) → FitsElemSeg Replay seg → IsCoreSeg seg → FitsElemSeg Core seg
-core_seg (Active table offset funcs) h core = (subst (λ n. n < 2 ^ 32) (sym h.0) (omega arith), core_body offset h.1 core, h.2)
+core_seg (Active table offset funcs) h core =
+    (subst (λ n. n < 2 ^ 32) (sym h.0) (omega arith), core_body offset h.1 core, h.2)
 core_seg (Declared funcs) h core = absurd core
 
 pub replay_core : (m : Module) → IsEncodable Replay m → IsCoreModule m → IsEncodable Core m

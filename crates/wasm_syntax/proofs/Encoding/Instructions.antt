@@ -17,7 +17,7 @@ use Rattle.wasm_syntax.specs.Opcodes.{is_from}
 use Rattle.wasm_syntax.specs.Encoding.Grammar.{Exactly, ◌then◌}
 use Rattle.wasm_syntax.specs.Encoding.Types.{EncodesF32, EncodesF64, EncodesIndices, EncodesBlockType}
 use Rattle.wasm_syntax.specs.Encoding.Instructions.{IsReplay, EncodesInstr, EncodesConst}
-use Rattle.wasm_syntax.specs.Encoding.Reading.{Reader, done, as_read, first_then, first_exactly, by_mark, row_at}
+use Rattle.wasm_syntax.specs.Encoding.Combinators.{Reader, always, map_read, first_then, first_exactly, by_mark, row_at}
 use Rattle.wasm_syntax.specs.Encoding.Readers.{first_f32, first_f64, first_indices, first_block_type, const, mem_arg, core_rows, instr_rows, instr_at, first_instr}
 use Rattle.wasm_syntax.proofs.Encoding.Tools.{then_is, exactly_is, FindsBehind, ChoosesWell, RowFinds, by_mark_found, rows_well, done_finds, read_finds, done_only, read_only}
 use Rattle.wasm_syntax.proofs.Encoding.Numbers.{NumberLaws, f32_is, f64_is, indices_is}
@@ -42,7 +42,8 @@ none_of false false false true e f h = absurd cc
 none_of false false false false true f h = absurd cc
 none_of false false false false false true h = absurd cc
 
-core_at : (form : Form) (op : ℕ) (read : Reader Instr) → special op ≡ false → row_at core_rows op ≡ Some read → instr_at form op ≡ Some read
+core_at : (form : Form) (op : ℕ) (read : Reader Instr) → special op ≡ false → row_at core_rows op ≡ Some read
+    → instr_at form op ≡ Some read
 core_at Core op read h e =
     let n = none_of (is_from 0x45 0xBF op) (is_from 0x28 0x35 op) (is_from 0x36 0x3E op) (nat_eq 0x26 op) (nat_eq 0xD0 op) (nat_eq 0xD2 op) h in
     rw (n.0, n.1, n.2) e
@@ -60,13 +61,15 @@ store_no_numeric op h = grind (arith, nat_tests)
 store_no_load : (op : ℕ) → is_from 0x36 0x3E op ≡ true → is_from 0x28 0x35 op ≡ false
 store_no_load op h = grind (arith, nat_tests)
 
-numeric_at : (form : Form) (op : ℕ) → is_from 0x45 0xBF op ≡ true → instr_at form op ≡ Some (done (Numeric op))
+numeric_at : (form : Form) (op : ℕ) → is_from 0x45 0xBF op ≡ true → instr_at form op ≡ Some (always (Numeric op))
 numeric_at form op h = rw (h) refl
 
-load_at : (form : Form) (op : ℕ) → is_from 0x28 0x35 op ≡ true → instr_at form op ≡ Some (as_read (λ numbers. Load (mem_arg op numbers)) (first_then first_u32 first_u32))
+load_at : (form : Form) (op : ℕ) → is_from 0x28 0x35 op ≡ true
+    → instr_at form op ≡ Some (map_read (λ numbers. Load (mem_arg op numbers)) (first_then first_u32 first_u32))
 load_at form op h = rw (load_no_numeric op h, h) refl
 
-store_at : (form : Form) (op : ℕ) → is_from 0x36 0x3E op ≡ true → instr_at form op ≡ Some (as_read (λ numbers. Store (mem_arg op numbers)) (first_then first_u32 first_u32))
+store_at : (form : Form) (op : ℕ) → is_from 0x36 0x3E op ≡ true
+    → instr_at form op ≡ Some (map_read (λ numbers. Store (mem_arg op numbers)) (first_then first_u32 first_u32))
 store_at form op h = rw (store_no_numeric op h, store_no_load op h, h) refl
 
 module _ (laws : NumberLaws) where
@@ -176,13 +179,13 @@ module _ (laws : NumberLaws) where
 
   instr_well : (form : Form) → ChoosesWell (EncodesInstr form) (instr_at form)
   instr_well form op read e =
-      elim (chosen (is_from 0x45 0xBF op) (Some (done (Numeric op))) (rest op) (Some read) e) [
+      elim (chosen (is_from 0x45 0xBF op) (Some (always (Numeric op))) (rest op) (Some read) e) [
         | inl numeric ↦ subst (λ r. FindsBehind (EncodesInstr form) op r) (same_Some _ _ numeric.1)
             (done_finds (EncodesInstr form) op (Numeric op) (numeric.0, refl))
-        | inr others ↦ elim (chosen (is_from 0x28 0x35 op) (Some (as_read (λ numbers. Load (mem_arg op numbers)) (first_then first_u32 first_u32))) (rows op) (Some read) others.1) [
+        | inr others ↦ elim (chosen (is_from 0x28 0x35 op) (Some (map_read (λ numbers. Load (mem_arg op numbers)) (first_then first_u32 first_u32))) (rows op) (Some read) others.1) [
           | inl load ↦ subst (λ r. FindsBehind (EncodesInstr form) op r) (same_Some _ _ load.1)
               (read_finds (EncodesInstr form) (EncodesU32 then EncodesU32) op (first_then first_u32 first_u32) (λ numbers. Load (mem_arg op numbers)) access_is (λ bytes a h. (load.0, (bytes, refl, h))))
-          | inr more ↦ elim (chosen (is_from 0x36 0x3E op) (Some (as_read (λ numbers. Store (mem_arg op numbers)) (first_then first_u32 first_u32))) (row_at (instr_rows form) op) (Some read) more.1) [
+          | inr more ↦ elim (chosen (is_from 0x36 0x3E op) (Some (map_read (λ numbers. Store (mem_arg op numbers)) (first_then first_u32 first_u32))) (row_at (instr_rows form) op) (Some read) more.1) [
             | inl store ↦ subst (λ r. FindsBehind (EncodesInstr form) op r) (same_Some _ _ store.1)
                 (read_finds (EncodesInstr form) (EncodesU32 then EncodesU32) op (first_then first_u32 first_u32) (λ numbers. Store (mem_arg op numbers)) access_is (λ bytes a h. (store.0, (bytes, refl, h))))
             | inr row ↦ rows_well (EncodesInstr form) (instr_rows form) (rows_find form) op read row.1
@@ -191,66 +194,69 @@ module _ (laws : NumberLaws) where
       ]
     where
       rows : ℕ → Option (Reader Instr)
-      rows op = cond (is_from 0x36 0x3E op) (Some (as_read (λ numbers. Store (mem_arg op numbers)) (first_then first_u32 first_u32))) (row_at (instr_rows form) op)
+      rows op = cond (is_from 0x36 0x3E op) (Some (map_read (λ numbers. Store (mem_arg op numbers)) (first_then first_u32 first_u32))) (row_at (instr_rows form) op)
 
       rest : ℕ → Option (Reader Instr)
-      rest op = cond (is_from 0x28 0x35 op) (Some (as_read (λ numbers. Load (mem_arg op numbers)) (first_then first_u32 first_u32))) (rows op)
+      rest op = cond (is_from 0x28 0x35 op) (Some (map_read (λ numbers. Load (mem_arg op numbers)) (first_then first_u32 first_u32))) (rows op)
 
   -- what is encoded is read
   const_only : (form : Form) (bytes rest : List ℕ) (ty : ValType) (bits : ℕ) → EncodesConst bytes ty bits
       → by_mark (instr_at form) (bytes ++ rest) ≡ Some (const ty bits, rest)
   const_only form bytes rest I32 bits h =
-      read_only (instr_at form) 0x41 EncodesI32 first_i32 (const I32) (core_at form 0x41 (as_read (const I32) first_i32) refl refl) laws.i32 bytes rest bits h
+      read_only (instr_at form) 0x41 EncodesI32 first_i32 (const I32) (core_at form 0x41 (map_read (const I32) first_i32) refl refl) laws.i32 bytes rest bits h
   const_only form bytes rest I64 bits h =
-      read_only (instr_at form) 0x42 EncodesI64 first_i64 (const I64) (core_at form 0x42 (as_read (const I64) first_i64) refl refl) laws.i64 bytes rest bits h
+      read_only (instr_at form) 0x42 EncodesI64 first_i64 (const I64) (core_at form 0x42 (map_read (const I64) first_i64) refl refl) laws.i64 bytes rest bits h
   const_only form bytes rest F32 bits h =
-      read_only (instr_at form) 0x43 EncodesF32 first_f32 (const F32) (core_at form 0x43 (as_read (const F32) first_f32) refl refl) f32_is bytes rest bits h
+      read_only (instr_at form) 0x43 EncodesF32 first_f32 (const F32) (core_at form 0x43 (map_read (const F32) first_f32) refl refl) f32_is bytes rest bits h
   const_only form bytes rest F64 bits h =
-      read_only (instr_at form) 0x44 EncodesF64 first_f64 (const F64) (core_at form 0x44 (as_read (const F64) first_f64) refl refl) f64_is bytes rest bits h
+      read_only (instr_at form) 0x44 EncodesF64 first_f64 (const F64) (core_at form 0x44 (map_read (const F64) first_f64) refl refl) f64_is bytes rest bits h
   const_only form bytes rest FuncRef bits h = absurd h
 
-  replay_only : (form : Form) (bytes rest : List ℕ) (i : Instr) → by_mark (instr_at Replay) (bytes ++ rest) ≡ Some (i, rest) → IsReplay form → by_mark (instr_at form) (bytes ++ rest) ≡ Some (i, rest)
+  replay_only : (form : Form) (bytes rest : List ℕ) (i : Instr)
+      → by_mark (instr_at Replay) (bytes ++ rest) ≡ Some (i, rest) → IsReplay form
+      → by_mark (instr_at form) (bytes ++ rest) ≡ Some (i, rest)
   replay_only Core bytes rest i e h = absurd h
   replay_only Replay bytes rest i e h = e
 
-  instr_only : (form : Form) (bytes rest : List ℕ) (i : Instr) → EncodesInstr form bytes i → by_mark (instr_at form) (bytes ++ rest) ≡ Some (i, rest)
-  instr_only form bytes rest Unreachable h = done_only (instr_at form) 0x00 Unreachable (core_at form 0x00 (done Unreachable) refl refl) bytes rest h
-  instr_only form bytes rest Nop h = done_only (instr_at form) 0x01 Nop (core_at form 0x01 (done Nop) refl refl) bytes rest h
+  instr_only : (form : Form) (bytes rest : List ℕ) (i : Instr) → EncodesInstr form bytes i
+      → by_mark (instr_at form) (bytes ++ rest) ≡ Some (i, rest)
+  instr_only form bytes rest Unreachable h = done_only (instr_at form) 0x00 Unreachable (core_at form 0x00 (always Unreachable) refl refl) bytes rest h
+  instr_only form bytes rest Nop h = done_only (instr_at form) 0x01 Nop (core_at form 0x01 (always Nop) refl refl) bytes rest h
   instr_only form bytes rest (Block ty) h =
-      read_only (instr_at form) 0x02 EncodesBlockType first_block_type Block (core_at form 0x02 (as_read Block first_block_type) refl refl) block_type_is bytes rest ty h
+      read_only (instr_at form) 0x02 EncodesBlockType first_block_type Block (core_at form 0x02 (map_read Block first_block_type) refl refl) block_type_is bytes rest ty h
   instr_only form bytes rest (Loop ty) h =
-      read_only (instr_at form) 0x03 EncodesBlockType first_block_type Loop (core_at form 0x03 (as_read Loop first_block_type) refl refl) block_type_is bytes rest ty h
+      read_only (instr_at form) 0x03 EncodesBlockType first_block_type Loop (core_at form 0x03 (map_read Loop first_block_type) refl refl) block_type_is bytes rest ty h
   instr_only form bytes rest (If ty) h =
-      read_only (instr_at form) 0x04 EncodesBlockType first_block_type If (core_at form 0x04 (as_read If first_block_type) refl refl) block_type_is bytes rest ty h
-  instr_only form bytes rest Else h = done_only (instr_at form) 0x05 Else (core_at form 0x05 (done Else) refl refl) bytes rest h
-  instr_only form bytes rest End h = done_only (instr_at form) 0x0B End (core_at form 0x0B (done End) refl refl) bytes rest h
+      read_only (instr_at form) 0x04 EncodesBlockType first_block_type If (core_at form 0x04 (map_read If first_block_type) refl refl) block_type_is bytes rest ty h
+  instr_only form bytes rest Else h = done_only (instr_at form) 0x05 Else (core_at form 0x05 (always Else) refl refl) bytes rest h
+  instr_only form bytes rest End h = done_only (instr_at form) 0x0B End (core_at form 0x0B (always End) refl refl) bytes rest h
   instr_only form bytes rest (Br label) h =
-      read_only (instr_at form) 0x0C EncodesU32 first_u32 Br (core_at form 0x0C (as_read Br first_u32) refl refl) laws.u32 bytes rest label h
+      read_only (instr_at form) 0x0C EncodesU32 first_u32 Br (core_at form 0x0C (map_read Br first_u32) refl refl) laws.u32 bytes rest label h
   instr_only form bytes rest (BrIf label) h =
-      read_only (instr_at form) 0x0D EncodesU32 first_u32 BrIf (core_at form 0x0D (as_read BrIf first_u32) refl refl) laws.u32 bytes rest label h
+      read_only (instr_at form) 0x0D EncodesU32 first_u32 BrIf (core_at form 0x0D (map_read BrIf first_u32) refl refl) laws.u32 bytes rest label h
   instr_only form bytes rest (BrTable labels default) h =
-      read_only (instr_at form) 0x0E (EncodesIndices then EncodesU32) (first_then first_indices first_u32) (λ labels. BrTable labels.0 labels.1) (core_at form 0x0E (as_read (λ labels. BrTable labels.0 labels.1) (first_then first_indices first_u32)) refl refl) labels_is bytes rest (labels, default) h
-  instr_only form bytes rest Return h = done_only (instr_at form) 0x0F Return (core_at form 0x0F (done Return) refl refl) bytes rest h
+      read_only (instr_at form) 0x0E (EncodesIndices then EncodesU32) (first_then first_indices first_u32) (λ labels. BrTable labels.0 labels.1) (core_at form 0x0E (map_read (λ labels. BrTable labels.0 labels.1) (first_then first_indices first_u32)) refl refl) labels_is bytes rest (labels, default) h
+  instr_only form bytes rest Return h = done_only (instr_at form) 0x0F Return (core_at form 0x0F (always Return) refl refl) bytes rest h
   instr_only form bytes rest (Call func) h =
-      read_only (instr_at form) 0x10 EncodesU32 first_u32 Call (core_at form 0x10 (as_read Call first_u32) refl refl) laws.u32 bytes rest func h
+      read_only (instr_at form) 0x10 EncodesU32 first_u32 Call (core_at form 0x10 (map_read Call first_u32) refl refl) laws.u32 bytes rest func h
   instr_only form bytes rest (CallIndirect ty) h =
-      read_only (instr_at form) 0x11 (EncodesU32 then Exactly (0x00 ∷ [])) (first_then first_u32 (first_exactly (0x00 ∷ []))) (λ parts. CallIndirect parts.0) (core_at form 0x11 (as_read (λ parts. CallIndirect parts.0) (first_then first_u32 (first_exactly (0x00 ∷ [])))) refl refl) indirect_is bytes rest (ty, tt) h
-  instr_only form bytes rest Drop h = done_only (instr_at form) 0x1A Drop (core_at form 0x1A (done Drop) refl refl) bytes rest h
-  instr_only form bytes rest Select h = done_only (instr_at form) 0x1B Select (core_at form 0x1B (done Select) refl refl) bytes rest h
+      read_only (instr_at form) 0x11 (EncodesU32 then Exactly (0x00 ∷ [])) (first_then first_u32 (first_exactly (0x00 ∷ []))) (λ parts. CallIndirect parts.0) (core_at form 0x11 (map_read (λ parts. CallIndirect parts.0) (first_then first_u32 (first_exactly (0x00 ∷ [])))) refl refl) indirect_is bytes rest (ty, tt) h
+  instr_only form bytes rest Drop h = done_only (instr_at form) 0x1A Drop (core_at form 0x1A (always Drop) refl refl) bytes rest h
+  instr_only form bytes rest Select h = done_only (instr_at form) 0x1B Select (core_at form 0x1B (always Select) refl refl) bytes rest h
   instr_only form bytes rest (LocalGet local) h =
-      read_only (instr_at form) 0x20 EncodesU32 first_u32 LocalGet (core_at form 0x20 (as_read LocalGet first_u32) refl refl) laws.u32 bytes rest local h
+      read_only (instr_at form) 0x20 EncodesU32 first_u32 LocalGet (core_at form 0x20 (map_read LocalGet first_u32) refl refl) laws.u32 bytes rest local h
   instr_only form bytes rest (LocalSet local) h =
-      read_only (instr_at form) 0x21 EncodesU32 first_u32 LocalSet (core_at form 0x21 (as_read LocalSet first_u32) refl refl) laws.u32 bytes rest local h
+      read_only (instr_at form) 0x21 EncodesU32 first_u32 LocalSet (core_at form 0x21 (map_read LocalSet first_u32) refl refl) laws.u32 bytes rest local h
   instr_only form bytes rest (LocalTee local) h =
-      read_only (instr_at form) 0x22 EncodesU32 first_u32 LocalTee (core_at form 0x22 (as_read LocalTee first_u32) refl refl) laws.u32 bytes rest local h
+      read_only (instr_at form) 0x22 EncodesU32 first_u32 LocalTee (core_at form 0x22 (map_read LocalTee first_u32) refl refl) laws.u32 bytes rest local h
   instr_only form bytes rest (GlobalGet global) h =
-      read_only (instr_at form) 0x23 EncodesU32 first_u32 GlobalGet (core_at form 0x23 (as_read GlobalGet first_u32) refl refl) laws.u32 bytes rest global h
+      read_only (instr_at form) 0x23 EncodesU32 first_u32 GlobalGet (core_at form 0x23 (map_read GlobalGet first_u32) refl refl) laws.u32 bytes rest global h
   instr_only form bytes rest (GlobalSet global) h =
-      read_only (instr_at form) 0x24 EncodesU32 first_u32 GlobalSet (core_at form 0x24 (as_read GlobalSet first_u32) refl refl) laws.u32 bytes rest global h
+      read_only (instr_at form) 0x24 EncodesU32 first_u32 GlobalSet (core_at form 0x24 (map_read GlobalSet first_u32) refl refl) laws.u32 bytes rest global h
   instr_only form bytes rest MemorySize h =
-      read_only (instr_at form) 0x3F (Exactly (0x00 ∷ [])) (first_exactly (0x00 ∷ [])) (λ it. MemorySize) (core_at form 0x3F (as_read (λ it. MemorySize) (first_exactly (0x00 ∷ []))) refl refl) (exactly_is (0x00 ∷ [])) bytes rest tt (0x00 ∷ [], h, refl)
+      read_only (instr_at form) 0x3F (Exactly (0x00 ∷ [])) (first_exactly (0x00 ∷ [])) (λ it. MemorySize) (core_at form 0x3F (map_read (λ it. MemorySize) (first_exactly (0x00 ∷ []))) refl refl) (exactly_is (0x00 ∷ [])) bytes rest tt (0x00 ∷ [], h, refl)
   instr_only form bytes rest MemoryGrow h =
-      read_only (instr_at form) 0x40 (Exactly (0x00 ∷ [])) (first_exactly (0x00 ∷ [])) (λ it. MemoryGrow) (core_at form 0x40 (as_read (λ it. MemoryGrow) (first_exactly (0x00 ∷ []))) refl refl) (exactly_is (0x00 ∷ [])) bytes rest tt (0x00 ∷ [], h, refl)
+      read_only (instr_at form) 0x40 (Exactly (0x00 ∷ [])) (first_exactly (0x00 ∷ [])) (λ it. MemoryGrow) (core_at form 0x40 (map_read (λ it. MemoryGrow) (first_exactly (0x00 ∷ []))) refl refl) (exactly_is (0x00 ∷ [])) bytes rest tt (0x00 ∷ [], h, refl)
   instr_only form bytes rest (Const value) h = const_only form bytes rest value.ty value.bits h
   instr_only form bytes rest (Load access) h =
       read_only (instr_at form) access.op (EncodesU32 then EncodesU32) (first_then first_u32 first_u32) (λ numbers. Load (mem_arg access.op numbers))

@@ -3,6 +3,7 @@ use Rattle.std.proofs.Common.{◌≡◌, ℕ, List, [], ◌∷◌, ◌++◌, con
 use Rattle.std.specs.Prelude.{option_map, option_and_then, nat_eq}
 use Rattle.std.proofs.lemmas.Bool.{eqb-true}
 use Rattle.std.proofs.lemmas.Option.{none-some, some_pair_parts}
+use Rattle.list_laws.proofs.Options.{map_some, and_then_some}
 use Rattle.leb_bytes.specs.Encoding.{IsReadBy}
 use Rattle.leb_bytes.specs.Unsigned.{EncodesU32, first_u32}
 use Rattle.wasm_syntax.specs.declared.forms.Form.{Form}
@@ -22,9 +23,9 @@ use Rattle.wasm_syntax.specs.Encoding.Grammar.{Grammar, ◌then◌, Sized}
 use Rattle.wasm_syntax.specs.Encoding.Types.{EncodesBytes, EncodesIndices, EncodesName, EncodesLimits, EncodesTableType, EncodesGlobalType}
 use Rattle.wasm_syntax.specs.Encoding.Instructions.{EncodesExpr}
 use Rattle.wasm_syntax.specs.Encoding.Sections.{EncodesImportKind, EncodesImport, EncodesGlobal, EncodesExportKind, EncodesExport, EncodesElemSeg, EncodesDataSeg, EncodesLocals, Code, EncodesCode}
-use Rattle.wasm_syntax.specs.Encoding.Reading.{as_read, first_then, by_mark, row_at, whole, first_sized}
-use Rattle.wasm_syntax.specs.Encoding.Readers.{first_bytes, first_name, first_indices, first_limits, first_table_type, first_global_type, first_expr, import_kind_rows, first_import_kind, import_of, first_import, global_of, first_global, export_kind_rows, first_export_kind, export_of, first_export, active_of, elem_behind, first_elem, data_of, first_data, first_locals, code_of_parts, first_code}
-use Rattle.wasm_syntax.proofs.Encoding.Tools.{bind_some, map_some, as_read_is, then_is, by_mark_found, rows_well, read_finds, read_only}
+use Rattle.wasm_syntax.specs.Encoding.Combinators.{map_read, first_then, by_mark, row_at, whole, first_sized}
+use Rattle.wasm_syntax.specs.Encoding.Readers.{first_bytes, first_name, first_indices, first_limits, first_table_type, first_global_type, first_expr, import_kind_rows, first_import_kind, import_of, first_import, global_of, first_global, export_kind_rows, first_export_kind, export_of, first_export, active_of, elem_after, first_elem, data_of, first_data, first_locals, code_of_parts, first_code}
+use Rattle.wasm_syntax.proofs.Encoding.Tools.{as_read_is, then_is, by_mark_found, rows_well, read_finds, read_only}
 use Rattle.wasm_syntax.proofs.Encoding.Lists.{whole_is, sized_is}
 use Rattle.wasm_syntax.proofs.Encoding.Numbers.{NumberLaws, bytes_is, name_is, indices_is}
 use Rattle.wasm_syntax.proofs.Encoding.Types.{limits_is, table_type_is, global_type_is}
@@ -115,16 +116,17 @@ module _ (laws : NumberLaws) where
 
   -- ---- element segments
 
-  active_is : (form : Form) → IsReadBy (EncodesExpr form then EncodesIndices) (first_then (first_expr form) first_indices)
+  active_is : (form : Form)
+      → IsReadBy (EncodesExpr form then EncodesIndices) (first_then (first_expr form) first_indices)
   active_is form = then_is (EncodesExpr form) EncodesIndices (first_expr form) first_indices (expr_is laws form) (indices_is laws)
 
-  -- behind the number that begins a segment
+  -- after the number that begins a segment
   Behind : Form → ℕ → List ℕ → ElemSeg → Type 0
   Behind form kind bytes seg = (count : List ℕ) → EncodesU32 count kind → EncodesElemSeg form (count ++ bytes) seg
 
   active_found : (form : Form) (kind : ℕ) (input rest : List ℕ) (seg : ElemSeg)
       → ((bytes : List ℕ) (parts : List Instr × List ℕ) → (EncodesExpr form then EncodesIndices) bytes parts → Behind form kind bytes (active_of kind parts))
-      → as_read (active_of kind) (first_then (first_expr form) first_indices) input ≡ Some (seg, rest)
+      → map_read (active_of kind) (first_then (first_expr form) first_indices) input ≡ Some (seg, rest)
       → (bytes : List ℕ) × Behind form kind bytes seg × (input ≡ bytes ++ rest)
   active_found form kind input rest seg into e =
       let m = map_some (λ (first : (List Instr × List ℕ) × List ℕ). (active_of kind first.0, first.1)) (first_then (first_expr form) first_indices input) (seg, rest) e in
@@ -133,47 +135,50 @@ module _ (laws : NumberLaws) where
       (f.0, subst (λ s. Behind form kind f.0 s) parts.0 (into f.0 m.0.0 f.1), f.2 ∙ ap (λ r. f.0 ++ r) parts.1)
 
   declared_found : (kind : ℕ) (input rest : List ℕ) (seg : ElemSeg) → kind ≡ 3
-      → by_mark (row_at ((0x00, as_read Declared first_indices) ∷ [])) input ≡ Some (seg, rest)
+      → by_mark (row_at ((0x00, map_read Declared first_indices) ∷ [])) input ≡ Some (seg, rest)
       → (bytes : List ℕ) × Behind Replay kind bytes seg × (input ≡ bytes ++ rest)
   unfolding Behind
   declared_found kind input rest seg three e =
       let Marks : Grammar ElemSeg = λ bytes s. Behind Replay kind bytes s in
-      by_mark_found Marks (row_at ((0x00, as_read Declared first_indices) ∷ [])) (rows_well Marks ((0x00, as_read Declared first_indices) ∷ []) (
+      by_mark_found Marks (row_at ((0x00, map_read Declared first_indices) ∷ [])) (rows_well Marks ((0x00, map_read Declared first_indices) ∷ []) (
         read_finds Marks EncodesIndices 0x00 first_indices Declared (indices_is laws)
             (λ bytes funcs h count n. (count, 0x00 ∷ bytes, refl, subst (λ k. EncodesU32 count k) three n, (bytes, refl, h))),
         tt,
       )) input rest seg e
 
-  elem_found : (form : Form) (kind : ℕ) (input rest : List ℕ) (seg : ElemSeg) → elem_behind form kind input ≡ Some (seg, rest)
+  elem_found : (form : Form) (kind : ℕ) (input rest : List ℕ) (seg : ElemSeg)
+      → elem_after form kind input ≡ Some (seg, rest)
       → (bytes : List ℕ) × Behind form kind bytes seg × (input ≡ bytes ++ rest)
   unfolding Behind
   elem_found Core kind input rest seg e = active_found Core kind input rest seg (λ bytes parts h count n. (count, bytes, refl, n, h)) e
   elem_found Replay kind input rest seg e =
-      elim (chosen (nat_eq kind 0) (as_read (active_of kind) (first_then (first_expr Replay) first_indices) input)
-      (cond (nat_eq kind 3) (by_mark (row_at ((0x00, as_read Declared first_indices) ∷ [])) input) None) (Some (seg, rest)) e) [
+      elim (chosen (nat_eq kind 0) (map_read (active_of kind) (first_then (first_expr Replay) first_indices) input)
+      (cond (nat_eq kind 3) (by_mark (row_at ((0x00, map_read Declared first_indices) ∷ [])) input) None) (Some (seg, rest)) e) [
         | inl active ↦ active_found Replay kind input rest seg (λ bytes parts h count n. (eqb-true kind 0 active.0, (count, bytes, refl, n, h))) active.1
-        | inr other ↦ elim (chosen (nat_eq kind 3) (by_mark (row_at ((0x00, as_read Declared first_indices) ∷ [])) input) None (Some (seg, rest)) other.1) [
+        | inr other ↦ elim (chosen (nat_eq kind 3) (by_mark (row_at ((0x00, map_read Declared first_indices) ∷ [])) input) None (Some (seg, rest)) other.1) [
           | inl declared ↦ declared_found kind input rest seg (eqb-true kind 3 declared.0) declared.1
           | inr none ↦ absurd (none-some _ none.1)
         ]
       ]
 
   active_only : (form : Form) (table : ℕ) (bytes rest : List ℕ) (offset : List Instr) (funcs : List ℕ)
-      → ((input : List ℕ) → elem_behind form table input ≡ as_read (active_of table) (first_then (first_expr form) first_indices) input)
+      → ((input : List ℕ) → elem_after form table input ≡ map_read (active_of table) (first_then (first_expr form) first_indices) input)
       → (EncodesU32 then EncodesExpr form then EncodesIndices) bytes (table, (offset, funcs))
       → first_elem form (bytes ++ rest) ≡ Some (Active table offset funcs, rest)
   unfolding first_elem
   active_only form table bytes rest offset funcs behind h =
       ap (λ bs. first_elem form (bs ++ rest)) h.2
       ∙ ap (first_elem form) (append_assoc h.0 h.1 rest)
-      ∙ ap (option_and_then (λ (kind : ℕ × List ℕ). elem_behind form kind.0 kind.1)) (laws.u32.only h.0 (h.1 ++ rest) table h.3)
+      ∙ ap (option_and_then (λ (kind : ℕ × List ℕ). elem_after form kind.0 kind.1)) (laws.u32.only h.0 (h.1 ++ rest) table h.3)
       ∙ behind (h.1 ++ rest)
       ∙ ap (option_map (λ (first : (List Instr × List ℕ) × List ℕ). (active_of table first.0, first.1))) ((active_is form).only h.1 rest (offset, funcs) h.4)
 
-  zero_behind : (table : ℕ) → table ≡ 0 → (input : List ℕ) → elem_behind Replay table input ≡ as_read (active_of table) (first_then (first_expr Replay) first_indices) input
-  zero_behind table none input = subst (λ t. elem_behind Replay t input ≡ as_read (active_of t) (first_then (first_expr Replay) first_indices) input) (sym none) refl
+  zero_behind : (table : ℕ) → table ≡ 0 → (input : List ℕ)
+      → elem_after Replay table input ≡ map_read (active_of table) (first_then (first_expr Replay) first_indices) input
+  zero_behind table none input = subst (λ t. elem_after Replay t input ≡ map_read (active_of t) (first_then (first_expr Replay) first_indices) input) (sym none) refl
 
-  elem_only : (form : Form) (bytes rest : List ℕ) (seg : ElemSeg) → EncodesElemSeg form bytes seg → first_elem form (bytes ++ rest) ≡ Some (seg, rest)
+  elem_only : (form : Form) (bytes rest : List ℕ) (seg : ElemSeg) → EncodesElemSeg form bytes seg
+      → first_elem form (bytes ++ rest) ≡ Some (seg, rest)
   unfolding first_elem
   elem_only Core bytes rest (Active table offset funcs) h = active_only Core table bytes rest offset funcs (λ input. refl) h
   elem_only Core bytes rest (Declared funcs) h = absurd h
@@ -181,14 +186,14 @@ module _ (laws : NumberLaws) where
   elem_only Replay bytes rest (Declared funcs) h =
       ap (λ bs. first_elem Replay (bs ++ rest)) h.2
       ∙ ap (first_elem Replay) (append_assoc h.0 h.1 rest)
-      ∙ ap (option_and_then (λ (kind : ℕ × List ℕ). elem_behind Replay kind.0 kind.1)) (laws.u32.only h.0 (h.1 ++ rest) 3 h.3)
-      ∙ read_only (row_at ((0x00, as_read Declared first_indices) ∷ [])) 0x00 EncodesIndices first_indices Declared refl (indices_is laws) h.1 rest funcs h.4
+      ∙ ap (option_and_then (λ (kind : ℕ × List ℕ). elem_after Replay kind.0 kind.1)) (laws.u32.only h.0 (h.1 ++ rest) 3 h.3)
+      ∙ read_only (row_at ((0x00, map_read Declared first_indices) ∷ [])) 0x00 EncodesIndices first_indices Declared refl (indices_is laws) h.1 rest funcs h.4
 
   pub elem_is : (form : Form) → IsReadBy (EncodesElemSeg form) (first_elem form)
   unfolding first_elem Behind
   elem_is form = record {
     found = λ input rest seg e.
-        let b = bind_some (λ (kind : ℕ × List ℕ). elem_behind form kind.0 kind.1) (first_u32 input) (seg, rest) e in
+        let b = and_then_some (first_u32 input) (λ (kind : ℕ × List ℕ). elem_after form kind.0 kind.1) (seg, rest) e in
         let n = laws.u32.found input b.0.1 b.0.0 b.1 in
         let f = elem_found form b.0.0 b.0.1 rest seg b.2 in
         (n.0 ++ f.0, f.1 n.0 n.1, n.2 ∙ ap (λ r. n.0 ++ r) f.2 ∙ sym (append_assoc n.0 f.0 rest));

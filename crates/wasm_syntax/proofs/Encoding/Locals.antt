@@ -5,6 +5,7 @@ use Rattle.std.proofs.lemmas.Bool.{lt-ltb, ltb-true, cases_lt}
 use Rattle.std.proofs.lemmas.Bool.Decides.{eqb_tells}
 use Rattle.std.proofs.lemmas.List.{replicate-append-replicate, append_cancel_left}
 use Rattle.std.proofs.lemmas.Option.{none-some, some_pair_parts, same_Some}
+use Rattle.list_laws.proofs.Options.{and_then_some, cond_some}
 use Rattle.leb_bytes.specs.Encoding.{IsReadBy}
 use Rattle.leb_bytes.specs.Unsigned.{EncodesU32, first_u32}
 use Rattle.wasm_syntax.specs.declared.values.ValType.{ValType}
@@ -14,16 +15,17 @@ use Rattle.wasm_syntax.specs.Encoding.Grammar.{◌then◌}
 use Rattle.wasm_syntax.specs.Encoding.Types.{EncodesValType}
 use Rattle.wasm_syntax.specs.Encoding.Sections.{EncodesRun, each_local, AreRuns, EncodesLocals}
 use Rattle.wasm_syntax.specs.Encoding.Shortest.{val_type_byte}
-use Rattle.wasm_syntax.specs.Encoding.Reading.{first_then, first_vector}
+use Rattle.wasm_syntax.specs.Encoding.Combinators.{first_then, first_vector}
 use Rattle.wasm_syntax.specs.Encoding.Readers.{first_val_type, run_of, first_run, with_run, runs_of, first_locals}
-use Rattle.wasm_syntax.proofs.Encoding.Tools.{bind_some, cond_some, as_read_is, then_is}
+use Rattle.wasm_syntax.proofs.Encoding.Tools.{as_read_is, then_is}
 use Rattle.wasm_syntax.proofs.Encoding.Lists.{vector_is}
 use Rattle.wasm_syntax.proofs.Encoding.Numbers.{NumberLaws}
 use Rattle.wasm_syntax.proofs.Encoding.Types.{val_type_is}
 
 -- a type by its byte
 of_byte : ℕ → ValType
-of_byte b = cond (nat_eq b 0x7F) I32 (cond (nat_eq b 0x7E) I64 (cond (nat_eq b 0x7D) F32 (cond (nat_eq b 0x7C) F64 FuncRef)))
+of_byte b =
+    cond (nat_eq b 0x7F) I32 (cond (nat_eq b 0x7E) I64 (cond (nat_eq b 0x7D) F32 (cond (nat_eq b 0x7C) F64 FuncRef)))
 
 of_byte_of : (ty : ValType) → of_byte (val_type_byte ty) ≡ ty
 unfolding of_byte
@@ -101,14 +103,16 @@ head_runs : (r : Run) (rest : List Run) → AreRuns (r ∷ rest) → head (each_
 head_runs r rest h = head_of r.count r.ty (each_local rest) (count_of r rest h)
 
 -- what follows a run isn't of its type
-apart : (r : Run) (rest : List Run) (n : ℕ) (types : List ValType) → AreRuns (r ∷ rest) → 0 < n → each_local rest ≡ replicate n r.ty ++ types → ⊥
+apart : (r : Run) (rest : List Run) (n : ℕ) (types : List ValType) → AreRuns (r ∷ rest) → 0 < n
+    → each_local rest ≡ replicate n r.ty ++ types → ⊥
 unfolding head
 apart r [] n types h some e = absurd (none-some r.ty (ap head e ∙ head_of n r.ty types some))
 apart r (s ∷ rest) n types h some e =
     h.1 (sym (same_Some s.ty r.ty (sym (head_runs s rest h.2) ∙ ap head e ∙ head_of n r.ty types some)))
 
--- the part of a longer run behind a shorter one
-longer : (m n : ℕ) (ty : ValType) (xs ys : List ValType) → m < n → replicate m ty ++ xs ≡ replicate n ty ++ ys → xs ≡ replicate (n - m) ty ++ ys
+-- the part of a longer run after a shorter one
+longer : (m n : ℕ) (ty : ValType) (xs ys : List ValType) → m < n → replicate m ty ++ xs ≡ replicate n ty ++ ys
+    → xs ≡ replicate (n - m) ty ++ ys
 longer m n ty xs ys less e =
     append_cancel_left (replicate m ty) xs (replicate (n - m) ty ++ ys)
     (e ∙ ap (λ k. replicate k ty ++ ys) (omega arith) ∙ ap (λ (ts : List ValType). ts ++ ys) (sym (replicate-append-replicate m (n - m) ty))
@@ -134,7 +138,8 @@ one_runs (x ∷ xs) (y ∷ ys) h k e =
             let n : x.count ≡ y.count = omega arith in
             let rest : each_local xs ≡ each_local ys =
             append_cancel_left (replicate x.count x.ty) (each_local xs) (each_local ys) (e1 ∙ ap (λ c. replicate c x.ty ++ each_local ys) (sym n)) in
-            ap (λ r. r ∷ xs) (same_front x y n ty) ∙ ap (λ (rs : List Run). y ∷ rs) (one_runs xs ys (rest_of x xs h) (rest_of y ys k) rest)
+            ap (λ r. r ∷ xs) (same_front x y n ty)
+            ∙ ap (λ (rs : List Run). y ∷ rs) (one_runs xs ys (rest_of x xs h) (rest_of y ys k) rest)
       ]
     ]
 
@@ -152,8 +157,8 @@ module _ (laws : NumberLaws) where
   unfolding first_locals
   locals_is = record {
     found = λ input rest locals e.
-        let b = bind_some (λ (written : List Run × List ℕ). cond (nat_lt (sum_by (λ run. run.count) written.0) (2 ^ 32)) (Some (runs_of written.0, written.1)) None)
-        (first_vector first_run input) (locals, rest) e in
+        let b = and_then_some (first_vector first_run input)
+        (λ (written : List Run × List ℕ). cond (nat_lt (sum_by (λ run. run.count) written.0) (2 ^ 32)) (Some (runs_of written.0, written.1)) None) (locals, rest) e in
         let g = cond_some (nat_lt (sum_by (λ run. run.count) b.0.0) (2 ^ 32)) (Some (runs_of b.0.0, b.0.1)) (locals, rest) b.2 in
         let parts = some_pair_parts (runs_of b.0.0) locals b.0.1 rest g.1 in
         let f = (vector_is laws.u32 EncodesRun first_run run_is).found input b.0.1 b.0.0 b.1 in

@@ -3,14 +3,15 @@ use Rattle.std.proofs.Common.{◌≡◌, ℕ, ◌-◌, ◌≤◌, List, [], ◌�
 use Rattle.std.specs.Prelude.{option_map, option_and_then, flat_map, option_to_list}
 use Rattle.std.proofs.lemmas.List.{length-append, append-nil, take_at, take-append-drop, length-drop}
 use Rattle.std.proofs.lemmas.Option.{none-some, same_Some}
+use Rattle.list_laws.proofs.Options.{map_some, and_then_some}
 use Rattle.wasm_syntax.specs.declared.forms.Form.{Form}
 use Rattle.wasm_syntax.specs.declared.modules.Func.{Func}
 use Rattle.wasm_syntax.specs.declared.modules.Module.{Module}
 use Rattle.wasm_syntax.specs.Encoding.Sections.{Code, Section, CustomSection, StartSection, id_of}
 use Rattle.wasm_syntax.specs.Encoding.Modules.{preamble, AreInOrder, EncodesSections, functions_in, starts_in, codes_in, code_of, AreSectionsOf, Encodes, IsLawfulUpTo, BeginsAsModule, IsFaultPlace}
-use Rattle.wasm_syntax.specs.Encoding.Reading.{first_exactly}
-use Rattle.wasm_syntax.specs.Encoding.ReadModules.{lawful_sections, read_sections, funcs_of, first_of, module_with, module_of, whole_module, read_module, place_behind, fault_place}
-use Rattle.wasm_syntax.proofs.Encoding.Tools.{bind_some, map_some, exactly_is}
+use Rattle.wasm_syntax.specs.Encoding.Combinators.{first_exactly}
+use Rattle.wasm_syntax.specs.Encoding.ReadModules.{lawful_sections, read_sections, funcs_of, first_of, module_with, module_of, whole_module, read_module, place_after, fault_place}
+use Rattle.wasm_syntax.proofs.Encoding.Tools.{exactly_is}
 use Rattle.wasm_syntax.proofs.Encoding.Numbers.{NumberLaws}
 use Rattle.wasm_syntax.proofs.Encoding.Order.{few_sections, lawful_found, lawful_only, lawful_longest}
 
@@ -39,7 +40,8 @@ no_start last (CustomSection custom ∷ rest) past h = no_start last rest past h
 no_start last (StartSection func ∷ rest) past h = absurd (omega (arith, h.0))
 no_start last (section ∷ rest) past h = no_start (id_of section) rest (omega (arith, h.0)) h.1
 
-one_start : (last : ℕ) (sections : List Section) → AreInOrder last sections → option_to_list (first_of (flat_map starts_in sections)) ≡ flat_map starts_in sections
+one_start : (last : ℕ) (sections : List Section) → AreInOrder last sections
+    → option_to_list (first_of (flat_map starts_in sections)) ≡ flat_map starts_in sections
 one_start last [] h = refl
 one_start last (CustomSection custom ∷ rest) h = one_start last rest h
 one_start last (StartSection func ∷ rest) h = ap (λ (ns : List ℕ). func ∷ ns) (sym (no_start 8 rest (omega arith) h.1))
@@ -51,7 +53,8 @@ first_only (Some n) ns e = ap first_of (sym e)
 
 -- ---- the module of sections
 
-module_found : (sections : List Section) (m : Module) → AreInOrder 0 sections → module_of sections ≡ Some m → AreSectionsOf m sections
+module_found : (sections : List Section) (m : Module) → AreInOrder 0 sections → module_of sections ≡ Some m
+    → AreSectionsOf m sections
 module_found sections m order e =
     let f = map_some (module_with sections) (funcs_of (flat_map functions_in sections) (flat_map codes_in sections)) m e in
     let funcs = funcs_found (flat_map functions_in sections) (flat_map codes_in sections) f.0 f.1 in
@@ -114,11 +117,13 @@ module _ (laws : NumberLaws) (form : Form) where
   begun : (behind : List ℕ) → first_exactly preamble (preamble ++ behind) ≡ Some (tt, behind)
   begun behind = (exactly_is preamble).only preamble behind tt refl
 
-  enough : (bytes front rest : List ℕ) (sections : List Section) (h : EncodesSections form front sections) → bytes ≡ front ++ rest → length sections ≤ length bytes
+  enough : (bytes front rest : List ℕ) (sections : List Section) (h : EncodesSections form front sections)
+      → bytes ≡ front ++ rest → length sections ≤ length bytes
   enough bytes front rest sections h e =
       omega (arith, ap length e, length-append front rest, ap length h.begins, length-append preamble h.behind, few_sections laws form h.behind sections h.each)
 
-  read_only_these : (bytes : List ℕ) (sections : List Section) → EncodesSections form bytes sections → read_sections form bytes ≡ Some (sections, [])
+  read_only_these : (bytes : List ℕ) (sections : List Section) → EncodesSections form bytes sections
+      → read_sections form bytes ≡ Some (sections, [])
   unfolding read_sections
   read_only_these bytes sections h =
       ap (λ bs. option_map (λ (b : Unit {0} × List ℕ). lawful_sections form (length bytes) 0 b.1) (first_exactly preamble bs)) h.begins
@@ -127,7 +132,8 @@ module _ (laws : NumberLaws) (form : Form) where
 
   -- ---- the module
 
-  whole_some : (sections : List Section) (rest : List ℕ) (m : Module) → whole_module sections rest ≡ Some m → (rest ≡ []) × (module_of sections ≡ Some m)
+  whole_some : (sections : List Section) (rest : List ℕ) (m : Module) → whole_module sections rest ≡ Some m
+      → (rest ≡ []) × (module_of sections ≡ Some m)
   whole_some sections [] m e = (refl, e)
   whole_some sections (b ∷ rest) m e = absurd (none-some _ e)
 
@@ -140,7 +146,7 @@ module _ (laws : NumberLaws) (form : Form) where
   pub module_is_encoded : (bytes : List ℕ) (m : Module) → read_module form bytes ≡ Some m → Encodes form bytes m
   unfolding read_module
   module_is_encoded bytes m e =
-      let b = bind_some (λ (read : List Section × List ℕ). whole_module read.0 read.1) (read_sections form bytes) m e in
+      let b = and_then_some (read_sections form bytes) (λ (read : List Section × List ℕ). whole_module read.0 read.1) m e in
       let w = whole_some b.0.0 b.0.1 m b.2 in
       let r = read_found bytes b.0 b.1 in
       let all : bytes ≡ r.0 = r.2 ∙ ap (λ x. r.0 ++ x) w.0 ∙ append-nil r.0 in
@@ -158,13 +164,16 @@ module _ (laws : NumberLaws) (form : Form) where
   front_split : (count : ℕ) (bytes : List ℕ) (sections : List Section) (h : EncodesSections form (take count bytes) sections)
       → bytes ≡ preamble ++ (h.behind ++ drop count bytes)
   front_split count bytes sections h =
-      sym (take-append-drop count bytes) ∙ ap (λ (x : List ℕ). x ++ drop count bytes) h.begins ∙ append_assoc preamble h.behind (drop count bytes)
+      sym (take-append-drop count bytes) ∙ ap (λ (x : List ℕ). x ++ drop count bytes) h.begins
+      ∙ append_assoc preamble h.behind (drop count bytes)
 
-  begins_here : (count : ℕ) (bytes : List ℕ) (sections : List Section) → EncodesSections form (take count bytes) sections → BeginsAsModule bytes
+  begins_here : (count : ℕ) (bytes : List ℕ) (sections : List Section)
+      → EncodesSections form (take count bytes) sections → BeginsAsModule bytes
   begins_here count bytes sections h = (h.behind ++ drop count bytes, front_split count bytes sections h)
 
   -- no lawful front is longer than what is read
-  no_longer : (bytes : List ℕ) (result : List Section × List ℕ) → read_sections form bytes ≡ Some result → (count : ℕ) → IsLawfulUpTo form bytes count
+  no_longer : (bytes : List ℕ) (result : List Section × List ℕ) → read_sections form bytes ≡ Some result → (count : ℕ)
+      → IsLawfulUpTo form bytes count
       → count ≤ length bytes - length result.1
   unfolding read_sections
   no_longer bytes result e count h =
@@ -177,7 +186,8 @@ module _ (laws : NumberLaws) (form : Form) where
       let longest = lawful_longest laws form (length bytes) 0 h.encoded.behind rest h.sections h.encoded.each h.encoded.in_order few in
       omega (arith, h.within, length-drop count bytes, subst (λ (r : List Section × List ℕ). length r.1 ≤ length rest) same longest)
 
-  place : (bytes : List ℕ) (o : Option (List Section × List ℕ)) → read_sections form bytes ≡ o → IsFaultPlace form bytes (place_behind (length bytes) o)
+  place : (bytes : List ℕ) (o : Option (List Section × List ℕ)) → read_sections form bytes ≡ o
+      → IsFaultPlace form bytes (place_after (length bytes) o)
   unfolding read_sections
   place bytes None e = inl (
     (λ begins.

@@ -5,18 +5,19 @@ use Rattle.wasm_syntax.specs.declared.values.ValType.{ValType}
 use Rattle.wasm_syntax.specs.declared.instructions.Instr.{Instr}
 use Rattle.wasm_syntax.specs.declared.instructions.Instr.TheVariants.{Block, Loop, If, Else, End}
 use Rattle.wasm_syntax.specs.Nest.{Nest, Empty, Plain, InBlock, InLoop, InIf, InIfElse, is_plain, IsNest, flat, IsBody}
-use Rattle.wasm_syntax.specs.Encoding.Readers.{open_behind}
+use Rattle.wasm_syntax.specs.Encoding.Readers.{open_after}
 
 -- the instructions close these blocks, the last one with their last
 abbrev pub closes : List Bool → List Instr → Bool
 closes [] [] = true
 closes [] (i ∷ is) = false
 closes (b ∷ blocks) [] = false
-closes (b ∷ blocks) (i ∷ is) = elim (open_behind i (b ∷ blocks)) [ None ↦ false | Some still ↦ closes still is ]
+closes (b ∷ blocks) (i ∷ is) = elim (open_after i (b ∷ blocks)) [ None ↦ false | Some still ↦ closes still is ]
 
 -- ---- a body closes its block
 
-plain_open : (i : Instr) (b : Bool) (blocks : List Bool) → IsTrue (is_plain i) → open_behind i (b ∷ blocks) ≡ Some (b ∷ blocks)
+plain_open : (i : Instr) (b : Bool) (blocks : List Bool) → IsTrue (is_plain i)
+    → open_after i (b ∷ blocks) ≡ Some (b ∷ blocks)
 plain_open (Block ty) b blocks h = absurd cc
 plain_open (Loop ty) b blocks h = absurd cc
 plain_open (If ty) b blocks h = absurd cc
@@ -27,7 +28,8 @@ plain_open i b blocks h = refl
 regroup : (a b c : List Instr) → (a ++ End ∷ b) ++ c ≡ a ++ End ∷ (b ++ c)
 regroup a b c = append_assoc a (End ∷ b) c
 
-closes_flat : (t : Nest) → IsNest t → (b : Bool) (blocks : List Bool) (is : List Instr) → closes (b ∷ blocks) (flat t ++ is) ≡ closes (b ∷ blocks) is
+closes_flat : (t : Nest) → IsNest t → (b : Bool) (blocks : List Bool) (is : List Instr)
+    → closes (b ∷ blocks) (flat t ++ is) ≡ closes (b ∷ blocks) is
 closes_flat Empty n b blocks is = refl
 closes_flat (Plain i rest) n b blocks is =
     ap (λ (o : Option (List Bool)). elim o as (λ x. Bool) [ None ↦ false | Some still ↦ closes still (flat rest ++ is) ]) (plain_open i b blocks n.0)
@@ -77,12 +79,13 @@ in_front b blocks before is wrap nested written h =
         e.0,
         e.1,
         e.2,
-        ap (λ (x : List Instr). x ++ Else ∷ (flat e.1 ++ End ∷ h.2)) (written h.0) ∙ append_assoc before (flat h.0) (Else ∷ (flat e.1 ++ End ∷ h.2)) ∙ ap (λ (x : List Instr). before ++ x) e.3,
+        ap (λ (x : List Instr). x ++ Else ∷ (flat e.1 ++ End ∷ h.2)) (written h.0)
+            ∙ append_assoc before (flat h.0) (Else ∷ (flat e.1 ++ End ∷ h.2)) ∙ ap (λ (x : List Instr). before ++ x) e.3,
       )
     ] in
     (wrap h.0, nested h.0 h.1, h.2, h.3, ending)
 
--- a block behind its opening
+-- a block after its opening
 block_front : (b : Bool) (blocks : List Bool) (first : Instr) (is : List Instr) (body : Nest) (rest : List Instr) (wrap : Nest → Nest)
     → ((t : Nest) → IsNest t → IsNest (wrap t)) → ((t : Nest) → flat (wrap t) ≡ first ∷ (flat body ++ End ∷ flat t))
     → flat body ++ End ∷ rest ≡ is → Ends (b ∷ blocks) rest → Ends (b ∷ blocks) (first ∷ is)
@@ -92,9 +95,10 @@ block_front b blocks first is body rest wrap nested written e h =
     subst (λ (x : List Instr). Ends (b ∷ blocks) x) (same rest ∙ ap (λ (x : List Instr). first ∷ x) e)
     (in_front b blocks before rest wrap nested (λ t. written t ∙ sym (same (flat t))) h)
 
--- an `if` with both its parts behind its opening
+-- an `if` with both its parts after its opening
 parts_front : (b : Bool) (blocks : List Bool) (ty : Option ValType) (is : List Instr) (body other : Nest) (rest : List Instr)
-    → IsNest body → IsNest other → flat body ++ Else ∷ (flat other ++ End ∷ rest) ≡ is → Ends (b ∷ blocks) rest → Ends (b ∷ blocks) (If ty ∷ is)
+    → IsNest body → IsNest other → flat body ++ Else ∷ (flat other ++ End ∷ rest) ≡ is → Ends (b ∷ blocks) rest
+    → Ends (b ∷ blocks) (If ty ∷ is)
 parts_front b blocks ty is body other rest n m e h =
     let before : List Instr = If ty ∷ (flat body ++ Else ∷ (flat other ++ End ∷ [])) in
     let same : (t : List Instr) → before ++ t ≡ If ty ∷ (flat body ++ Else ∷ (flat other ++ End ∷ t)) = λ t.
@@ -133,7 +137,8 @@ ends (b ∷ blocks) (If ty ∷ is) h =
       | inl e ↦ block_front b blocks (If ty) is r.0 r.2 (InIf ty r.0) (λ t n. (r.1, n)) (λ t. refl) e r.3
       | inr e ↦ parts_front b blocks ty is r.0 e.1 r.2 r.1 e.2 e.3 r.3
     ]
-ends (b ∷ blocks) (i ∷ is) h = in_front b blocks (i ∷ []) is (Plain i) (λ t n. (refl, n)) (λ t. refl) (ends (b ∷ blocks) is h)
+ends (b ∷ blocks) (i ∷ is) h =
+    in_front b blocks (i ∷ []) is (Plain i) (λ t n. (refl, n)) (λ t. refl) (ends (b ∷ blocks) is h)
 
 pub closes_body : (body : List Instr) → closes (false ∷ []) body ≡ true → (nest : Nest) × IsBody nest body
 closes_body body h =

@@ -10,31 +10,23 @@ use Rattle.std.proofs.lemmas.List.{take_at, drop_at, take-append-drop, length-ap
 use Rattle.std.proofs.lemmas.List.Sums.{AllPass-from_list_all}
 use Rattle.std.proofs.lemmas.Option.{some_pair_parts, same_Some}
 use Rattle.std.proofs.lemmas.Str.{IsUtf8-from_is_utf8, is_utf8-from_IsUtf8}
+use Rattle.list_laws.proofs.Options.{and_then_some, cond_some, cond_none_some}
 use Rattle.leb_bytes.specs.Encoding.{IsReadBy, IsShortest}
 use Rattle.leb_bytes.specs.Unsigned.{EncodesU32, first_u32, u32_bytes}
 use Rattle.leb_bytes.specs.Signed.{EncodesI32, EncodesI64, first_i32, first_i64, i32_bytes, i64_bytes}
 use Rattle.wasm_syntax.specs.Encoding.Grammar.{Raw}
 use Rattle.wasm_syntax.specs.Encoding.Types.{EncodesF32, EncodesF64, EncodesBytes, EncodesName, EncodesIndices}
 use Rattle.wasm_syntax.specs.Encoding.Readers.{first_raw, where_bytes, first_f32, first_f64, first_bytes, first_name, first_indices}
-use Rattle.wasm_syntax.proofs.Encoding.Tools.{bind_some, cond_some, cond_none_some}
+pub use Rattle.wasm_syntax.specs.Encoding.Laws.{NumberLaws}
 use Rattle.wasm_syntax.proofs.Encoding.Lists.{IsReadWhole, vector_is, sized_is}
-
--- what is taken from the crate of LEB128 numbers
-pub record NumberLaws : Type 0 where
-  pub u32 : IsReadBy EncodesU32 first_u32
-  pub i32 : IsReadBy EncodesI32 first_i32
-  pub i64 : IsReadBy EncodesI64 first_i64
-  pub u32_range : (bytes : List ℕ) (n : ℕ) → EncodesU32 bytes n → (n < 2 ^ 32) × (0 < length bytes) × (length bytes ≤ 5)
-  pub u32_shortest : IsShortest EncodesU32 (λ n. n < 2 ^ 32) u32_bytes
-  pub i32_shortest : IsShortest EncodesI32 (λ bits. bits < 2 ^ 32) i32_bytes
-  pub i64_shortest : IsShortest EncodesI64 (λ bits. bits < 2 ^ 64) i64_bytes
 
 -- ---- the bits of floats
 
 -- what is known of numbers of four and of eight bytes
 record IsWide (w : Width) (limit : ℕ) : Type 0 where
   len : (n : ℕ) → length (to_le_bytes w n) ≡ byte_len w
-  back : (bytes : List ℕ) → length bytes ≡ byte_len w → ((i : ℕ) → get_or bytes i 0 < 256) → to_le_bytes w (from_le_bytes w bytes) ≡ bytes
+  back : (bytes : List ℕ) → length bytes ≡ byte_len w → ((i : ℕ) → get_or bytes i 0 < 256)
+      → to_le_bytes w (from_le_bytes w bytes) ≡ bytes
   again : (n : ℕ) → n < limit → from_le_bytes w (to_le_bytes w n) ≡ n
   below : (bytes : List ℕ) → ((i : ℕ) → get_or bytes i 0 < 256) → from_le_bytes w bytes < limit
   small : (n : ℕ) → list_all (λ b. nat_lt b (2 ^ 8)) (to_le_bytes w n) ≡ true
@@ -73,7 +65,7 @@ le_found : (w : Width) (limit : ℕ) → IsWide w limit → (input rest : List �
     → option_and_then (where_bytes (from_le_bytes w)) (first_raw (byte_len w) input) ≡ Some (n, rest)
     → (bytes : List ℕ) × LittleEndian w limit bytes n × (input ≡ bytes ++ rest)
 le_found w limit wide input rest n e =
-    let b = bind_some (where_bytes (from_le_bytes w)) (first_raw (byte_len w) input) (n, rest) e in
+    let b = and_then_some (first_raw (byte_len w) input) (where_bytes (from_le_bytes w)) (n, rest) e in
     let g = cond_none_some (nat_lt (length input) (byte_len w)) (Some (take (byte_len w) input, drop (byte_len w) input)) b.0 b.1 in
     let raw = some_pair_parts (take (byte_len w) input) b.0.0 (drop (byte_len w) input) b.0.1 g.1 in
     let s = cond_some (list_all (λ b. nat_lt b (2 ^ 8)) b.0.0) (Some (from_le_bytes w b.0.0, b.0.1)) (n, rest) b.2 in
@@ -84,7 +76,8 @@ le_found w limit wide input rest n e =
     let here : to_le_bytes w n ≡ b.0.0 = ap (to_le_bytes w) (sym parts.0) ∙ wide.back b.0.0 count small in (
       b.0.0,
       (subst (λ k. k < limit) parts.0 (wide.below b.0.0 small), sym here),
-      sym (take-append-drop (byte_len w) input) ∙ ap (λ r. r ++ drop (byte_len w) input) raw.0 ∙ ap (λ r. b.0.0 ++ r) (raw.1 ∙ parts.1),
+      sym (take-append-drop (byte_len w) input) ∙ ap (λ r. r ++ drop (byte_len w) input) raw.0
+          ∙ ap (λ r. b.0.0 ++ r) (raw.1 ∙ parts.1),
     )
 
 le_only : (w : Width) (limit : ℕ) → IsWide w limit → (bytes rest : List ℕ) (n : ℕ) → LittleEndian w limit bytes n
@@ -121,7 +114,7 @@ pub name_is : NumberLaws → IsReadBy EncodesName first_name
 unfolding first_name
 name_is laws = record {
   found = λ input rest name e.
-      let b = bind_some (λ (first : List ℕ × List ℕ). cond (is_utf8 first.0) (Some first) None) (first_bytes input) (name, rest) e in
+      let b = and_then_some (first_bytes input) (λ (first : List ℕ × List ℕ). cond (is_utf8 first.0) (Some first) None) (name, rest) e in
       let g = cond_some (is_utf8 b.0.0) (Some b.0) (name, rest) b.2 in
       let parts = some_pair_parts b.0.0 name b.0.1 rest g.1 in
       let f = (bytes_is laws).found input b.0.1 b.0.0 b.1 in

@@ -1,16 +1,17 @@
 -- What holds of the encodings of sections, and of their reader.
 use Rattle.std.proofs.Common.{◌≡◌, ℕ, List, ◌++◌, Some, refl, ap, ◌∙◌, subst}
 use Rattle.std.specs.Prelude.{option_map}
+use Rattle.list_laws.proofs.Options.{map_some}
 use Rattle.leb_bytes.specs.Encoding.{IsReadBy}
 use Rattle.leb_bytes.specs.Unsigned.{EncodesU32, first_u32}
 use Rattle.wasm_syntax.specs.declared.forms.Form.{Form}
 use Rattle.wasm_syntax.specs.Encoding.Grammar.{Grammar, Sized, VectorOf}
 use Rattle.wasm_syntax.specs.Encoding.Types.{EncodesIndices, EncodesFuncType, EncodesLimits, EncodesTableType}
 use Rattle.wasm_syntax.specs.Encoding.Sections.{EncodesCustom, EncodesImport, EncodesGlobal, EncodesExport, EncodesElemSeg, EncodesCode, EncodesDataSeg, Section, CustomSection, TypeSection, ImportSection, FunctionSection, TableSection, MemorySection, GlobalSection, ExportSection, StartSection, ElementSection, CodeSection, DataSection, EncodesSection}
-use Rattle.wasm_syntax.specs.Encoding.Reading.{Reader, by_mark, row_at, first_vector, whole, first_sized}
+use Rattle.wasm_syntax.specs.Encoding.Combinators.{Reader, by_mark, row_at, first_vector, whole, first_sized}
 use Rattle.wasm_syntax.specs.Encoding.Readers.{first_name, first_indices, first_func_type, first_limits, first_table_type, first_import, first_global, first_export, first_elem, first_data, first_code}
 use Rattle.wasm_syntax.specs.Encoding.ReadModules.{custom_of, section_rows, first_section}
-use Rattle.wasm_syntax.proofs.Encoding.Tools.{map_some, by_mark_found, rows_well, read_finds, read_only}
+use Rattle.wasm_syntax.proofs.Encoding.Tools.{by_mark_found, rows_well, read_finds, read_only}
 use Rattle.wasm_syntax.proofs.Encoding.Lists.{IsReadWhole, whole_is, vector_is, sized_is}
 use Rattle.wasm_syntax.proofs.Encoding.Numbers.{NumberLaws, name_is, indices_is}
 use Rattle.wasm_syntax.proofs.Encoding.Types.{func_type_is, limits_is, table_type_is}
@@ -28,10 +29,12 @@ module _ (laws : NumberLaws) where
         ∙ ap (λ content. Some (record { name = c.name; bytes = content })) h.4;
   }
 
-  all_is : {A : Type 0} (E : Grammar A) (read : Reader A) → IsReadBy E read → IsReadBy (Sized E) (first_sized (whole read))
+  all_is : {A : Type 0} (E : Grammar A) (read : Reader A) → IsReadBy E read
+      → IsReadBy (Sized E) (first_sized (whole read))
   all_is E read is = sized_is laws.u32 E (whole read) (whole_is E read is)
 
-  list_is : {A : Type 0} (E : Grammar A) (read : Reader A) → IsReadBy E read → IsReadBy (Sized (VectorOf E)) (first_sized (whole (first_vector read)))
+  list_is : {A : Type 0} (E : Grammar A) (read : Reader A) → IsReadBy E read
+      → IsReadBy (Sized (VectorOf E)) (first_sized (whole (first_vector read)))
   list_is E read is = all_is (VectorOf E) (first_vector read) (vector_is laws.u32 E read is)
 
   section_only : (form : Form) (bytes rest : List ℕ) (section : Section) → EncodesSection form bytes section

@@ -4,30 +4,16 @@ use Rattle.std.specs.Prelude.{option_map, option_and_then, nat_eq}
 use Rattle.std.specs.List.{AllByRecursion}
 use Rattle.std.proofs.lemmas.Bool.{cases_eq, eqb-true}
 use Rattle.std.proofs.lemmas.Option.{none-some, some_pair_parts, same_Some}
+use Rattle.list_laws.proofs.Options.{map_some, and_then_some, cond_some}
 use Rattle.leb_bytes.specs.Encoding.{IsReadBy}
 use Rattle.wasm_syntax.specs.Encoding.Grammar.{Grammar, Exactly, Marked, ◌then◌}
-use Rattle.wasm_syntax.specs.Encoding.Reading.{Reader, done, as_read, first_then, first_exactly, by_mark, Rows, row_at}
-
-pub bind_some : {A B : Type 0} (f : A → Option B) (o : Option A) (y : B) → option_and_then f o ≡ Some y → (x : A) × (o ≡ Some x) × (f x ≡ Some y)
-bind_some f None y e = absurd (none-some y e)
-bind_some f (Some x) y e = (x, refl, e)
-
-pub map_some : {A B : Type 0} (f : A → B) (o : Option A) (y : B) → option_map f o ≡ Some y → (x : A) × (o ≡ Some x) × (f x ≡ y)
-map_some f None y e = absurd (none-some y e)
-map_some f (Some x) y e = (x, refl, same_Some (f x) y e)
-
-pub cond_some : {A : Type 0} (b : Bool) (o : Option A) (x : A) → cond b o None ≡ Some x → (b ≡ true) × (o ≡ Some x)
-cond_some true o x e = (refl, e)
-cond_some false o x e = absurd (none-some x e)
-
-pub cond_none_some : {A : Type 0} (b : Bool) (o : Option A) (x : A) → cond b None o ≡ Some x → (b ≡ false) × (o ≡ Some x)
-cond_none_some true o x e = absurd (none-some x e)
-cond_none_some false o x e = (refl, e)
+use Rattle.wasm_syntax.specs.Encoding.Combinators.{Reader, always, map_read, first_then, first_exactly, by_mark, Rows, row_at}
 
 -- ---- what is read, made into something else
 
 pub as_read_is : {A B : Type 0} (E : Grammar A) (read : Reader A) (make : A → B) (back : B → A)
-    → ((a : A) → back (make a) ≡ a) → ((b : B) → make (back b) ≡ b) → IsReadBy E read → IsReadBy (λ bytes b. E bytes (back b)) (as_read make read)
+    → ((a : A) → back (make a) ≡ a) → ((b : B) → make (back b) ≡ b) → IsReadBy E read
+    → IsReadBy (λ bytes b. E bytes (back b)) (map_read make read)
 as_read_is {A} {B} E read make back there again is = record {
   found = λ input rest b e.
       let m = map_some (λ (first : A × List ℕ). (make first.0, first.1)) (read input) (b, rest) e in
@@ -38,12 +24,13 @@ as_read_is {A} {B} E read make back there again is = record {
   only = λ bytes rest b h. ap (option_map (λ (first : A × List ℕ). (make first.0, first.1))) (is.only bytes rest (back b) h) ∙ ap (λ x. Some (x, rest)) (again b);
 }
 
--- ---- one behind another
+-- ---- one after another
 
-pub then_is : {A B : Type 0} (E : Grammar A) (F : Grammar B) (read : Reader A) (other : Reader B) → IsReadBy E read → IsReadBy F other → IsReadBy (E then F) (first_then read other)
+pub then_is : {A B : Type 0} (E : Grammar A) (F : Grammar B) (read : Reader A) (other : Reader B) → IsReadBy E read
+    → IsReadBy F other → IsReadBy (E then F) (first_then read other)
 then_is {A} {B} E F read other e-is f-is = record {
   found = λ input rest v e.
-      let b = bind_some (λ (first : A × List ℕ). option_map (λ (second : B × List ℕ). ((first.0, second.0), second.1)) (other first.1)) (read input) (v, rest) e in
+      let b = and_then_some (read input) (λ (first : A × List ℕ). option_map (λ (second : B × List ℕ). ((first.0, second.0), second.1)) (other first.1)) (v, rest) e in
       let m = map_some (λ (second : B × List ℕ). ((b.0.0, second.0), second.1)) (other b.0.1) (v, rest) b.2 in
       let one = e-is.found input b.0.1 b.0.0 b.1 in
       let two = f-is.found b.0.1 m.0.1 m.0.0 m.1 in
@@ -62,7 +49,8 @@ then_is {A} {B} E F read other e-is f-is = record {
 
 -- ---- just these bytes
 
-exactly_found : (word input rest : List ℕ) (it : Unit {0}) → first_exactly word input ≡ Some (it, rest) → input ≡ word ++ rest
+exactly_found : (word input rest : List ℕ) (it : Unit {0}) → first_exactly word input ≡ Some (it, rest)
+    → input ≡ word ++ rest
 exactly_found [] input rest it e = (some_pair_parts tt it input rest e).1
 exactly_found (b ∷ word) [] rest it e = absurd (none-some _ e)
 exactly_found (b ∷ word) (c ∷ input) rest it e =
@@ -82,7 +70,7 @@ exactly_is word = record {
 
 -- ---- by the first byte
 
--- a reader that is chosen at a mark finds what is encoded behind it
+-- a reader that is chosen at a mark finds what is encoded after it
 abbrev pub FindsBehind : {A : Type 0} → Grammar A → ℕ → Reader A → Type 0
 FindsBehind {A} E mark read =
     (input rest : List ℕ) (x : A) → read input ≡ Some (x, rest) → (bytes : List ℕ) × E (mark ∷ bytes) x × (input ≡ bytes ++ rest)
@@ -91,17 +79,19 @@ abbrev pub ChoosesWell : {A : Type 0} → Grammar A → (ℕ → Option (Reader 
 ChoosesWell {A} E choose = (mark : ℕ) (read : Reader A) → choose mark ≡ Some read → FindsBehind E mark read
 
 pub by_mark_found : {A : Type 0} (E : Grammar A) (choose : ℕ → Option (Reader A)) → ChoosesWell E choose
-    → (input rest : List ℕ) (x : A) → by_mark choose input ≡ Some (x, rest) → (bytes : List ℕ) × E bytes x × (input ≡ bytes ++ rest)
+    → (input rest : List ℕ) (x : A) → by_mark choose input ≡ Some (x, rest)
+    → (bytes : List ℕ) × E bytes x × (input ≡ bytes ++ rest)
 by_mark_found E choose well [] rest x e = absurd (none-some _ e)
 by_mark_found {A} E choose well (mark ∷ input) rest x e =
-    let b = bind_some (λ (read : Reader A). read input) (choose mark) (x, rest) e in
+    let b = and_then_some (choose mark) (λ (read : Reader A). read input) (x, rest) e in
     let f = well mark b.0 b.1 input rest x b.2 in
     (mark ∷ f.0, f.1, ap (λ r. mark ∷ r) f.2)
 
 abbrev pub RowFinds : {A : Type 0} → Grammar A → ℕ × Reader A → Type 0
 RowFinds E row = FindsBehind E row.0 row.1
 
-pub rows_well : {A : Type 0} (E : Grammar A) (rows : Rows A) → AllByRecursion (RowFinds E) rows → ChoosesWell E (row_at rows)
+pub rows_well : {A : Type 0} (E : Grammar A) (rows : Rows A) → AllByRecursion (RowFinds E) rows
+    → ChoosesWell E (row_at rows)
 rows_well E [] all mark read e = absurd (none-some _ e)
 rows_well {A} E (row ∷ rows) all mark read e = elim (cases_eq row.0 mark) [
   | inl same ↦
@@ -110,13 +100,14 @@ rows_well {A} E (row ∷ rows) all mark read e = elim (cases_eq row.0 mark) [
   | inr other ↦ rows_well E rows all.1 mark read (sym (ap (λ b. cond b (Some row.1) (row_at rows mark)) (ne_eqb row.0 mark other)) ∙ e)
 ]
 
-pub done_finds : {A : Type 0} (E : Grammar A) (mark : ℕ) (x : A) → E (mark ∷ []) x → FindsBehind E mark (done x)
+pub done_finds : {A : Type 0} (E : Grammar A) (mark : ℕ) (x : A) → E (mark ∷ []) x → FindsBehind E mark (always x)
 done_finds E mark x h input rest y e =
     let parts = some_pair_parts x y input rest e in
     ([], subst (λ z. E (mark ∷ []) z) parts.0 h, parts.1)
 
 pub read_finds : {A B : Type 0} (E : Grammar B) (F : Grammar A) (mark : ℕ) (read : Reader A) (make : A → B)
-    → IsReadBy F read → ((bytes : List ℕ) (a : A) → F bytes a → E (mark ∷ bytes) (make a)) → FindsBehind E mark (as_read make read)
+    → IsReadBy F read → ((bytes : List ℕ) (a : A) → F bytes a → E (mark ∷ bytes) (make a))
+    → FindsBehind E mark (map_read make read)
 read_finds {A} E F mark read make is into input rest y e =
     let m = map_some (λ (first : A × List ℕ). (make first.0, first.1)) (read input) (y, rest) e in
     let parts = some_pair_parts (make m.0.0) y m.0.1 rest (ap Some m.2) in
@@ -129,14 +120,14 @@ plain_finds E F mark read is into input rest y e =
     let f = is.found input rest y e in
     (f.0, into f.0 y f.1, f.2)
 
--- what is encoded behind a mark is read where its reader is chosen
-pub done_only : {A : Type 0} (choose : ℕ → Option (Reader A)) (mark : ℕ) (x : A) → choose mark ≡ Some (done x)
+-- what is encoded after a mark is read where its reader is chosen
+pub done_only : {A : Type 0} (choose : ℕ → Option (Reader A)) (mark : ℕ) (x : A) → choose mark ≡ Some (always x)
     → (bytes rest : List ℕ) → bytes ≡ mark ∷ [] → by_mark choose (bytes ++ rest) ≡ Some (x, rest)
 done_only {A} choose mark x chosen bytes rest h =
     ap (λ bs. by_mark choose (bs ++ rest)) h ∙ ap (option_and_then (λ (read : Reader A). read rest)) chosen
 
 pub read_only : {A B : Type 0} (choose : ℕ → Option (Reader B)) (mark : ℕ) (F : Grammar A) (read : Reader A) (make : A → B)
-    → choose mark ≡ Some (as_read make read) → IsReadBy F read
+    → choose mark ≡ Some (map_read make read) → IsReadBy F read
     → (bytes rest : List ℕ) (a : A) → Marked mark F bytes a → by_mark choose (bytes ++ rest) ≡ Some (make a, rest)
 read_only {A} {B} choose mark F read make chosen is bytes rest a h =
     ap (λ bs. by_mark choose (bs ++ rest)) h.1

@@ -8,7 +8,7 @@ use Rattle.wasm_syntax.specs.declared.signatures.FuncType.{FuncType}
 use Rattle.wasm_syntax.specs.declared.signatures.GlobalType.{GlobalType}
 use Rattle.wasm_syntax.specs.Encoding.Grammar.{Grammar, ◌then◌, VectorOf}
 use Rattle.wasm_syntax.specs.Encoding.Types.{EncodesValType, EncodesBlockType, EncodesFuncType, EncodesBounds, EncodesLimits, EncodesTableType, EncodesMutability, EncodesGlobalType}
-use Rattle.wasm_syntax.specs.Encoding.Reading.{Reader, done, as_read, first_then, by_mark, row_at, first_vector}
+use Rattle.wasm_syntax.specs.Encoding.Combinators.{Reader, always, map_read, first_then, by_mark, row_at, first_vector}
 use Rattle.wasm_syntax.specs.Encoding.Readers.{val_type_rows, first_val_type, block_type_rows, first_block_type, func_type, first_func_type, at_least, between, limits_rows, first_limits, first_table_type, first_mutability, global_type, first_global_type}
 use Rattle.wasm_syntax.proofs.Encoding.Tools.{as_read_is, then_is, by_mark_found, rows_well, done_finds, read_finds, plain_finds, done_only, read_only, plain_only}
 use Rattle.wasm_syntax.proofs.Encoding.Lists.{vector_is}
@@ -16,7 +16,8 @@ use Rattle.wasm_syntax.proofs.Encoding.Numbers.{NumberLaws}
 
 -- ---- value types and block types
 
-val_type_only : (bytes rest : List ℕ) (ty : ValType) → EncodesValType bytes ty → by_mark (row_at val_type_rows) (bytes ++ rest) ≡ Some (ty, rest)
+val_type_only : (bytes rest : List ℕ) (ty : ValType) → EncodesValType bytes ty
+    → by_mark (row_at val_type_rows) (bytes ++ rest) ≡ Some (ty, rest)
 val_type_only bytes rest I32 h = done_only (row_at val_type_rows) 0x7F I32 refl bytes rest h
 val_type_only bytes rest I64 h = done_only (row_at val_type_rows) 0x7E I64 refl bytes rest h
 val_type_only bytes rest F32 h = done_only (row_at val_type_rows) 0x7D F32 refl bytes rest h
@@ -79,9 +80,9 @@ module _ (laws : NumberLaws) where
   func_type_is =
       let E : Grammar (List ValType × List ValType) = VectorOf EncodesValType then VectorOf EncodesValType in
       let read : Reader (List ValType × List ValType) = first_then (first_vector first_val_type) (first_vector first_val_type) in
-      let choose : ℕ → Option (Reader FuncType) = row_at ((0x60, as_read func_type read) ∷ []) in
+      let choose : ℕ → Option (Reader FuncType) = row_at ((0x60, map_read func_type read) ∷ []) in
       record {
-        found = by_mark_found EncodesFuncType choose (rows_well EncodesFuncType ((0x60, as_read func_type read) ∷ [])
+        found = by_mark_found EncodesFuncType choose (rows_well EncodesFuncType ((0x60, map_read func_type read) ∷ [])
             (read_finds EncodesFuncType E 0x60 read func_type two_vectors (λ bytes a h. (bytes, refl, h)), tt));
         only = λ bytes rest ty h. read_only choose 0x60 E read func_type refl two_vectors bytes rest (ty.params, ty.results) h;
       }
@@ -114,15 +115,17 @@ module _ (laws : NumberLaws) where
   }
 
 mutability_only : (bytes rest : List ℕ) (mutable : Bool) → EncodesMutability bytes mutable
-    → by_mark (row_at ((0x00, done false) ∷ (0x01, done true) ∷ [])) (bytes ++ rest) ≡ Some (mutable, rest)
-mutability_only bytes rest false h = done_only (row_at ((0x00, done false) ∷ (0x01, done true) ∷ [])) 0x00 false refl bytes rest h
-mutability_only bytes rest true h = done_only (row_at ((0x00, done false) ∷ (0x01, done true) ∷ [])) 0x01 true refl bytes rest h
+    → by_mark (row_at ((0x00, always false) ∷ (0x01, always true) ∷ [])) (bytes ++ rest) ≡ Some (mutable, rest)
+mutability_only bytes rest false h =
+    done_only (row_at ((0x00, always false) ∷ (0x01, always true) ∷ [])) 0x00 false refl bytes rest h
+mutability_only bytes rest true h =
+    done_only (row_at ((0x00, always false) ∷ (0x01, always true) ∷ [])) 0x01 true refl bytes rest h
 
 pub mutability_is : IsReadBy EncodesMutability first_mutability
 unfolding first_mutability
 mutability_is = record {
-  found = by_mark_found EncodesMutability (row_at ((0x00, done false) ∷ (0x01, done true) ∷ []))
-      (rows_well EncodesMutability ((0x00, done false) ∷ (0x01, done true) ∷ [])
+  found = by_mark_found EncodesMutability (row_at ((0x00, always false) ∷ (0x01, always true) ∷ []))
+      (rows_well EncodesMutability ((0x00, always false) ∷ (0x01, always true) ∷ [])
       (done_finds EncodesMutability 0x00 false refl, (done_finds EncodesMutability 0x01 true refl, tt)));
   only = mutability_only;
 }

@@ -27,7 +27,8 @@ unfolding unsigned_bytes
 bytes_small zero n small = refl
 bytes_small (suc more) n small = grind (arith, nat_tests)
 
-bytes_large : (more n : ℕ) → 2 ^ 7 ≤ n → length (unsigned_bytes (suc more) n) ≡ suc (length (unsigned_bytes more (n / 2 ^ 7)))
+bytes_large : (more n : ℕ) → 2 ^ 7 ≤ n
+    → length (unsigned_bytes (suc more) n) ≡ suc (length (unsigned_bytes more (n / 2 ^ 7)))
 unfolding unsigned_bytes
 bytes_large more n large = grind (arith, nat_tests)
 
@@ -52,7 +53,8 @@ bytes_rise (suc more) a b le = elim (cases_lt a (2 ^ 7)) [
 ]
 
 -- the bytes of a sum are no more than those of both numbers
-bytes_sum : (more a b c : ℕ) → c ≤ a + b + 1 → length (unsigned_bytes more c) ≤ length (unsigned_bytes more a) + length (unsigned_bytes more b)
+bytes_sum : (more a b c : ℕ) → c ≤ a + b + 1
+    → length (unsigned_bytes more c) ≤ length (unsigned_bytes more a) + length (unsigned_bytes more b)
 bytes_sum zero a b c le = omega (arith, bytes_one a, bytes_one b, bytes_one c)
 bytes_sum (suc more) a b c le = elim (cases_lt c (2 ^ 7)) [
   | inl small ↦ omega (arith, bytes_small (suc more) c small, bytes_some (suc more) a)
@@ -91,7 +93,8 @@ exactly_best word = record { encodes = λ fits few. refl; fits = λ bytes h. tt;
 pub raw_best : IsWrittenBy Raw (λ content. Unit {0}) (λ content. content)
 raw_best content = record { encodes = λ fits few. refl; fits = λ bytes h. tt; least = λ bytes h. omega (arith, ap length h) }
 
-pub marked_best : {A : Type 0} (mark : ℕ) (E : Grammar A) (Fits : A → Type 0) (write : A → List ℕ) → IsWrittenBy E Fits write
+pub marked_best : {A : Type 0} (mark : ℕ) (E : Grammar A) (Fits : A → Type 0) (write : A → List ℕ)
+    → IsWrittenBy E Fits write
     → IsWrittenBy (Marked mark E) Fits (λ x. mark ∷ write x)
 marked_best mark E Fits write is x = record {
   encodes = λ fits few. (write x, refl, (is x).encodes fits (omega arith));
@@ -100,7 +103,8 @@ marked_best mark E Fits write is x = record {
 }
 
 -- under a condition that both have
-pub under_best : {C : Type 0} (E : List ℕ → Type 0) (Fits : Type 0) (best : List ℕ) → IsBest E Fits best → IsBest (λ bytes. C × E bytes) (C × Fits) best
+pub under_best : {C : Type 0} (E : List ℕ → Type 0) (Fits : Type 0) (best : List ℕ) → IsBest E Fits best
+    → IsBest (λ bytes. C × E bytes) (C × Fits) best
 under_best E Fits best is = record {
   encodes = λ fits few. (fits.0, is.encodes fits.1 few);
   fits = λ bytes h. (h.0, is.fits bytes h.1);
@@ -133,9 +137,11 @@ each_best E Fits write is (x ∷ xs) =
           omega (arith, ap length h.2, length-append h.0 h.1, length-append (write x) (flat_map write xs), (is x).least h.0 h.3, rest.least h.1 h.4);
     }
 
-pub count_le : {A : Type 0} (write : A → List ℕ) → ((x : A) → 0 < length (write x)) → (xs : List A) → length xs ≤ length (flat_map write xs)
+pub count_le : {A : Type 0} (write : A → List ℕ) → ((x : A) → 0 < length (write x)) → (xs : List A)
+    → length xs ≤ length (flat_map write xs)
 count_le write some [] = omega arith
-count_le write some (x ∷ xs) = omega (arith, length-append (write x) (flat_map write xs), some x, count_le write some xs)
+count_le write some (x ∷ xs) =
+    omega (arith, length-append (write x) (flat_map write xs), some x, count_le write some xs)
 
 module _ (laws : NumberLaws) where
   pub u32_best : IsWrittenBy EncodesU32 FitsU32 u32_bytes
@@ -164,7 +170,8 @@ module _ (laws : NumberLaws) where
         );
   }
 
-  pub vector_best : {A : Type 0} (E : Grammar A) (Fits : A → Type 0) (write : A → List ℕ) → ((x : A) → 0 < length (write x)) → IsWrittenBy E Fits write
+  pub vector_best : {A : Type 0} (E : Grammar A) (Fits : A → Type 0) (write : A → List ℕ)
+      → ((x : A) → 0 < length (write x)) → IsWrittenBy E Fits write
       → IsWrittenBy (VectorOf E) (AllByRecursion Fits) (vector_bytes write)
   vector_best E Fits write some is xs =
       let items = each_best E Fits write is xs in

@@ -1,7 +1,8 @@
--- What has an encoding, where counts and sizes may be any numbers (Core 1.0, 5): its numbers fit, its names are text, its
--- bodies are nests, and it has only what its form spells.
+-- What has an encoding, where counts and sizes may be any numbers (Core 1.0, 5): its numbers fit, its names are text,
+-- its bodies are nests, and it has only what its form spells.
 use Rattle.std.specs.Prelude.{◌≡◌, ℕ, ◌^◌, ◌<◌, List, Option, Some, None, IfSome, IsTrue, IsUtf8, sum_by}
 use Rattle.std.specs.List.{AllByRecursion}
+use Rattle.wasm_opcodes.specs.declared.TheConstants.{I32_LOAD, I64_LOAD32_U, I32_STORE, I64_STORE32, I32_EQZ, F64_REINTERPRET_I64}
 use Rattle.wasm_syntax.specs.Nest.{Nest, IsBody}
 use Rattle.wasm_syntax.specs.Opcodes.{is_from}
 use Rattle.wasm_syntax.specs.Encoding.Instructions.{IsReplay}
@@ -78,10 +79,10 @@ FitsInstr form (LocalSet local) = FitsU32 local
 FitsInstr form (LocalTee local) = FitsU32 local
 FitsInstr form (GlobalGet global) = FitsU32 global
 FitsInstr form (GlobalSet global) = FitsU32 global
-FitsInstr form (Load access) = IsTrue (is_from 0x28 0x35 access.op) × FitsMemArg access
-FitsInstr form (Store access) = IsTrue (is_from 0x36 0x3E access.op) × FitsMemArg access
+FitsInstr form (Load access) = IsTrue (is_from I32_LOAD I64_LOAD32_U access.op) × FitsMemArg access
+FitsInstr form (Store access) = IsTrue (is_from I32_STORE I64_STORE32 access.op) × FitsMemArg access
 FitsInstr form (Const value) = FitsConst value.ty value.bits
-FitsInstr form (Numeric op) = IsTrue (is_from 0x45 0xBF op)
+FitsInstr form (Numeric op) = IsTrue (is_from I32_EQZ F64_REINTERPRET_I64 op)
 FitsInstr form (TableSet table) = IsReplay form × FitsU32 table
 FitsInstr form RefNull = IsReplay form
 FitsInstr form (RefFunc func) = IsReplay form × FitsU32 func
@@ -125,9 +126,11 @@ abbrev pub FitsExport : Export → Type 0
 FitsExport e = IsUtf8 e.name × FitsExportKind e.kind
 
 abbrev pub FitsElemSeg : Form → ElemSeg → Type 0
-FitsElemSeg forms.Core (Active table offset funcs) = FitsU32 table × FitsBody forms.Core offset × AllByRecursion FitsU32 funcs
+FitsElemSeg forms.Core (Active table offset funcs) =
+    FitsU32 table × FitsBody forms.Core offset × AllByRecursion FitsU32 funcs
 FitsElemSeg forms.Core (Declared funcs) = ⊥
-FitsElemSeg forms.Replay (Active table offset funcs) = (table ≡ 0) × FitsBody forms.Replay offset × AllByRecursion FitsU32 funcs
+FitsElemSeg forms.Replay (Active table offset funcs) =
+    (table ≡ 0) × FitsBody forms.Replay offset × AllByRecursion FitsU32 funcs
 FitsElemSeg forms.Replay (Declared funcs) = AllByRecursion FitsU32 funcs
 
 abbrev pub FitsDataSeg : Form → DataSeg → Type 0

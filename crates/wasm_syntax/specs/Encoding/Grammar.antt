@@ -14,11 +14,11 @@ Exactly word bytes it = bytes ≡ word
 abbrev pub Raw : Grammar (List ℕ)
 Raw bytes content = bytes ≡ content
 
--- the byte, and the grammar behind it
+-- the byte, and then the grammar
 abbrev pub Marked : {A : Type 0} → ℕ → Grammar A → Grammar A
 Marked mark E bytes x = (rest : List ℕ) × (bytes ≡ mark ∷ rest) × E rest x
 
--- one grammar, and another behind it
+-- one grammar, and then another
 infixr 30 ◌then◌
 abbrev pub ◌then◌ : {A B : Type 0} → Grammar A → Grammar B → Grammar (A × B)
 (E then F) bytes v = (first rest : List ℕ) × (bytes ≡ first ++ rest) × E first v.0 × F rest v.1
@@ -27,7 +27,7 @@ abbrev pub ◌then◌ : {A B : Type 0} → Grammar A → Grammar B → Grammar (
 abbrev pub Sized : {A : Type 0} → Grammar A → Grammar A
 Sized E bytes x = (size content : List ℕ) × (bytes ≡ size ++ content) × EncodesU32 size (length content) × E content x
 
--- items one behind another
+-- items one after another
 abbrev pub Each : {A : Type 0} → Grammar A → Grammar (List A)
 Each E bytes [] = bytes ≡ []
 Each E bytes (x ∷ xs) = (first rest : List ℕ) × (bytes ≡ first ++ rest) × E first x × Each E rest xs

@@ -2,9 +2,10 @@
 -- fault (Core 1.0, 5.5).
 use Rattle.std.specs.Prelude.{ℕ, zero, suc, ◌-◌, List, [], ◌∷◌, length, flat_map, Option, Some, None, option_map, option_and_then, cond, nat_lt}
 use Rattle.leb_bytes.specs.Unsigned.{first_u32}
+use Rattle.wasm_opcodes.specs.declared.marks.TheConstants.{SECTION_CUSTOM, SECTION_TYPE, SECTION_IMPORT, SECTION_FUNCTION, SECTION_TABLE, SECTION_MEMORY, SECTION_GLOBAL, SECTION_EXPORT, SECTION_START, SECTION_ELEMENT, SECTION_CODE, SECTION_DATA}
 use Rattle.wasm_syntax.specs.Encoding.Sections.{Code, Section, CustomSection, TypeSection, ImportSection, FunctionSection, TableSection, MemorySection, GlobalSection, ExportSection, StartSection, ElementSection, CodeSection, DataSection, id_of}
 use Rattle.wasm_syntax.specs.Encoding.Modules.{preamble, types_in, imports_in, functions_in, tables_in, memories_in, globals_in, exports_in, starts_in, elems_in, codes_in, datas_in, customs_in}
-use Rattle.wasm_syntax.specs.Encoding.Reading.{Reader, as_read, first_exactly, by_mark, Rows, row_at, first_vector, whole, first_sized}
+use Rattle.wasm_syntax.specs.Encoding.Combinators.{Reader, map_read, first_exactly, by_mark, Rows, row_at, first_vector, whole, first_sized}
 use Rattle.wasm_syntax.specs.Encoding.Readers.{first_name, first_indices, first_func_type, first_limits, first_table_type, first_import, first_global, first_export, first_elem, first_data, first_code}
 use Rattle.wasm_syntax.specs.declared.forms.Form.{Form}
 use Rattle.wasm_syntax.specs.declared.modules.Func.{Func}
@@ -18,36 +19,36 @@ custom_of bytes = option_map (λ name. record { name = name.0; bytes = name.1 })
 -- for each id, what a section holds
 abbrev pub section_rows : Form → Rows Section
 section_rows form =
-    (0, as_read CustomSection (first_sized custom_of))
-    ∷ (1, as_read TypeSection (first_sized (whole (first_vector first_func_type))))
-    ∷ (2, as_read ImportSection (first_sized (whole (first_vector first_import))))
-    ∷ (3, as_read FunctionSection (first_sized (whole first_indices)))
-    ∷ (4, as_read TableSection (first_sized (whole (first_vector first_table_type))))
-    ∷ (5, as_read MemorySection (first_sized (whole (first_vector first_limits))))
-    ∷ (6, as_read GlobalSection (first_sized (whole (first_vector (first_global form)))))
-    ∷ (7, as_read ExportSection (first_sized (whole (first_vector first_export))))
-    ∷ (8, as_read StartSection (first_sized (whole first_u32)))
-    ∷ (9, as_read ElementSection (first_sized (whole (first_vector (first_elem form)))))
-    ∷ (10, as_read CodeSection (first_sized (whole (first_vector (first_code form)))))
-    ∷ (11, as_read DataSection (first_sized (whole (first_vector (first_data form)))))
+    (SECTION_CUSTOM, map_read CustomSection (first_sized custom_of))
+    ∷ (SECTION_TYPE, map_read TypeSection (first_sized (whole (first_vector first_func_type))))
+    ∷ (SECTION_IMPORT, map_read ImportSection (first_sized (whole (first_vector first_import))))
+    ∷ (SECTION_FUNCTION, map_read FunctionSection (first_sized (whole first_indices)))
+    ∷ (SECTION_TABLE, map_read TableSection (first_sized (whole (first_vector first_table_type))))
+    ∷ (SECTION_MEMORY, map_read MemorySection (first_sized (whole (first_vector first_limits))))
+    ∷ (SECTION_GLOBAL, map_read GlobalSection (first_sized (whole (first_vector (first_global form)))))
+    ∷ (SECTION_EXPORT, map_read ExportSection (first_sized (whole (first_vector first_export))))
+    ∷ (SECTION_START, map_read StartSection (first_sized (whole first_u32)))
+    ∷ (SECTION_ELEMENT, map_read ElementSection (first_sized (whole (first_vector (first_elem form)))))
+    ∷ (SECTION_CODE, map_read CodeSection (first_sized (whole (first_vector (first_code form)))))
+    ∷ (SECTION_DATA, map_read DataSection (first_sized (whole (first_vector (first_data form)))))
     ∷ []
 
 unfoldable pub first_section : Form → Reader Section
 first_section form bytes = by_mark (row_at (section_rows form)) bytes
 
--- the id that is the last one behind the section, where the section may stand behind that of another id
-abbrev pub last_behind : ℕ → Section → Option ℕ
-last_behind last (CustomSection custom) = Some last
-last_behind last section = cond (nat_lt last (id_of section)) (Some (id_of section)) None
+-- the id that is the last one after the section, where the section may follow that of another id
+abbrev pub last_after : ℕ → Section → Option ℕ
+last_after last (CustomSection custom) = Some last
+last_after last section = cond (nat_lt last (id_of section)) (Some (id_of section)) None
 
--- the next section, the last id behind it, and the bytes behind it
+-- the next section, the last id after it, and the bytes after it
 abbrev pub with_last : ℕ → Section × List ℕ → Option (Section × ℕ × List ℕ)
-with_last last first = option_map (λ id. (first.0, id, first.1)) (last_behind last first.0)
+with_last last first = option_map (λ id. (first.0, id, first.1)) (last_after last first.0)
 
 unfoldable pub next_section : Form → ℕ → List ℕ → Option (Section × ℕ × List ℕ)
 next_section form last bytes = option_and_then (with_last last) (first_section form bytes)
 
--- sections, at most so many, as long as they are whole and in order; and the bytes that are left
+-- sections, at most `most`, as long as they are whole and in order; and the bytes that are left
 abbrev pub with_section : Section → List Section × List ℕ → List Section × List ℕ
 with_section first others = (first ∷ others.0, others.1)
 
@@ -59,9 +60,10 @@ lawful_sections form (suc most) last bytes =
       | Some next ↦ with_section next.0 (lawful_sections form most next.1 next.2)
     ]
 
--- the sections behind the preamble, and what is left
+-- the sections after the preamble, and what is left
 unfoldable pub read_sections : Form → List ℕ → Option (List Section × List ℕ)
-read_sections form bytes = option_map (λ begun. lawful_sections form (length bytes) 0 begun.1) (first_exactly preamble bytes)
+read_sections form bytes =
+    option_map (λ start. lawful_sections form (length bytes) 0 start.1) (first_exactly preamble bytes)
 
 -- functions of their types and the rest of them, as many of both
 abbrev pub funcs_of : List ℕ → List Code → Option (List Func)
@@ -90,7 +92,8 @@ module_with sections funcs = record {
 }
 
 abbrev pub module_of : List Section → Option Module
-module_of sections = option_map (module_with sections) (funcs_of (flat_map functions_in sections) (flat_map codes_in sections))
+module_of sections =
+    option_map (module_with sections) (funcs_of (flat_map functions_in sections) (flat_map codes_in sections))
 
 -- the module of sections that are all of the bytes
 abbrev pub whole_module : List Section → List ℕ → Option Module
@@ -102,9 +105,9 @@ unfoldable pub read_module : Form → List ℕ → Option Module
 read_module form bytes = option_and_then (λ read. whole_module read.0 read.1) (read_sections form bytes)
 
 -- the place of the fault of bytes that encode none
-abbrev pub place_behind : ℕ → Option (List Section × List ℕ) → ℕ
-place_behind all None = 0
-place_behind all (Some read) = all - length read.1
+abbrev pub place_after : ℕ → Option (List Section × List ℕ) → ℕ
+place_after all None = 0
+place_after all (Some read) = all - length read.1
 
 unfoldable pub fault_place : Form → List ℕ → ℕ
-fault_place form bytes = place_behind (length bytes) (read_sections form bytes)
+fault_place form bytes = place_after (length bytes) (read_sections form bytes)

@@ -5,8 +5,10 @@ use Rattle.std.specs.Str.{is_utf8}
 use Rattle.std.specs.List.{list_all}
 use Rattle.leb_bytes.specs.Unsigned.{first_u32}
 use Rattle.leb_bytes.specs.Signed.{first_i32, first_i64}
+use Rattle.wasm_opcodes.specs.declared.TheConstants.{UNREACHABLE, NOP, BLOCK, LOOP, IF, ELSE, END, BR, BR_IF, BR_TABLE, RETURN, CALL, CALL_INDIRECT, DROP, SELECT, LOCAL_GET, LOCAL_SET, LOCAL_TEE, GLOBAL_GET, GLOBAL_SET, MEMORY_SIZE, MEMORY_GROW, I32_CONST, I64_CONST, F32_CONST, F64_CONST, TABLE_SET, REF_NULL, REF_FUNC, I32_EQZ, F64_REINTERPRET_I64, I32_LOAD, I64_LOAD32_U, I32_STORE, I64_STORE32}
+use Rattle.wasm_opcodes.specs.declared.marks.TheConstants.{TYPE_I32, TYPE_I64, TYPE_F32, TYPE_F64, TYPE_EMPTY, TYPE_FUNC, LIMITS_MIN, LIMITS_MIN_MAX, TYPE_FUNCREF, MUTABILITY_CONST, MUTABILITY_VAR, EXTERNAL_FUNC, EXTERNAL_TABLE, EXTERNAL_MEMORY, EXTERNAL_GLOBAL, ELEMENT_DECLARED, ELEMENT_FUNCS}
 use Rattle.wasm_syntax.specs.Opcodes.{is_from}
-use Rattle.wasm_syntax.specs.Encoding.Reading.{Reader, done, as_read, first_then, first_exactly, by_mark, Rows, row_at, first_vector, whole, first_sized}
+use Rattle.wasm_syntax.specs.Encoding.Combinators.{Reader, always, map_read, first_then, first_exactly, by_mark, Rows, row_at, first_vector, whole, first_sized}
 use Rattle.wasm_syntax.specs.Encoding.Shortest.{val_type_byte}
 use Rattle.wasm_syntax.specs.Encoding.Sections.{Code}
 use Rattle.wasm_syntax.specs.declared.forms.Form.{Form}
@@ -33,7 +35,7 @@ use Rattle.wasm_syntax.specs.declared.modules.DataSeg.{DataSeg}
 
 -- ---- values and names
 
--- so many bytes as they are
+-- a number of bytes as they are
 abbrev pub first_raw : ℕ → Reader (List ℕ)
 first_raw count bytes = cond (nat_lt (length bytes) count) None (Some (take count bytes, drop count bytes))
 
@@ -58,14 +60,16 @@ first_indices bytes = first_vector first_u32 bytes
 -- ---- types
 
 abbrev pub val_type_rows : Rows ValType
-val_type_rows = (0x7F, done I32) ∷ (0x7E, done I64) ∷ (0x7D, done F32) ∷ (0x7C, done F64) ∷ []
+val_type_rows = (TYPE_I32, always I32) ∷ (TYPE_I64, always I64) ∷ (TYPE_F32, always F32) ∷ (TYPE_F64, always F64) ∷ []
 
 unfoldable pub first_val_type : Reader ValType
 first_val_type bytes = by_mark (row_at val_type_rows) bytes
 
 abbrev pub block_type_rows : Rows (Option ValType)
 block_type_rows =
-    (0x40, done None) ∷ (0x7F, done (Some I32)) ∷ (0x7E, done (Some I64)) ∷ (0x7D, done (Some F32)) ∷ (0x7C, done (Some F64)) ∷ []
+    (TYPE_EMPTY, always None)
+    ∷ (TYPE_I32, always (Some I32)) ∷ (TYPE_I64, always (Some I64))
+    ∷ (TYPE_F32, always (Some F32)) ∷ (TYPE_F64, always (Some F64)) ∷ []
 
 unfoldable pub first_block_type : Reader (Option ValType)
 first_block_type bytes = by_mark (row_at block_type_rows) bytes
@@ -73,9 +77,12 @@ first_block_type bytes = by_mark (row_at block_type_rows) bytes
 abbrev pub func_type : List ValType × List ValType → FuncType
 func_type lists = record { params = lists.0; results = lists.1 }
 
+abbrev pub func_type_rows : Rows FuncType
+func_type_rows =
+    (TYPE_FUNC, map_read func_type (first_then (first_vector first_val_type) (first_vector first_val_type))) ∷ []
+
 unfoldable pub first_func_type : Reader FuncType
-first_func_type bytes =
-    by_mark (row_at ((0x60, as_read func_type (first_then (first_vector first_val_type) (first_vector first_val_type))) ∷ [])) bytes
+first_func_type bytes = by_mark (row_at func_type_rows) bytes
 
 abbrev pub at_least : ℕ → Limits
 at_least least = record { min = least; max = None }
@@ -84,22 +91,23 @@ abbrev pub between : ℕ × ℕ → Limits
 between bounds = record { min = bounds.0; max = Some bounds.1 }
 
 abbrev pub limits_rows : Rows Limits
-limits_rows = (0x00, as_read at_least first_u32) ∷ (0x01, as_read between (first_then first_u32 first_u32)) ∷ []
+limits_rows =
+    (LIMITS_MIN, map_read at_least first_u32) ∷ (LIMITS_MIN_MAX, map_read between (first_then first_u32 first_u32)) ∷ []
 
 unfoldable pub first_limits : Reader Limits
 first_limits bytes = by_mark (row_at limits_rows) bytes
 
 unfoldable pub first_table_type : Reader Limits
-first_table_type bytes = by_mark (row_at ((0x70, first_limits) ∷ [])) bytes
+first_table_type bytes = by_mark (row_at ((TYPE_FUNCREF, first_limits) ∷ [])) bytes
 
 unfoldable pub first_mutability : Reader Bool
-first_mutability bytes = by_mark (row_at ((0x00, done false) ∷ (0x01, done true) ∷ [])) bytes
+first_mutability bytes = by_mark (row_at ((MUTABILITY_CONST, always false) ∷ (MUTABILITY_VAR, always true) ∷ [])) bytes
 
 abbrev pub global_type : ValType × Bool → GlobalType
 global_type parts = record { ty = parts.0; mutable = parts.1 }
 
 unfoldable pub first_global_type : Reader GlobalType
-first_global_type bytes = as_read global_type (first_then first_val_type first_mutability) bytes
+first_global_type bytes = map_read global_type (first_then first_val_type first_mutability) bytes
 
 -- ---- instructions
 
@@ -111,58 +119,64 @@ mem_arg op numbers = record { op = op; align = numbers.0; offset = numbers.1 }
 
 abbrev pub core_rows : Rows Instr
 core_rows =
-    (0x00, done Unreachable) ∷ (0x01, done Nop)
-    ∷ (0x02, as_read Block first_block_type) ∷ (0x03, as_read Loop first_block_type) ∷ (0x04, as_read If first_block_type)
-    ∷ (0x05, done Else) ∷ (0x0B, done End)
-    ∷ (0x0C, as_read Br first_u32) ∷ (0x0D, as_read BrIf first_u32)
-    ∷ (0x0E, as_read (λ labels. BrTable labels.0 labels.1) (first_then first_indices first_u32))
-    ∷ (0x0F, done Return)
-    ∷ (0x10, as_read Call first_u32)
-    ∷ (0x11, as_read (λ parts. CallIndirect parts.0) (first_then first_u32 (first_exactly (0x00 ∷ []))))
-    ∷ (0x1A, done Drop) ∷ (0x1B, done Select)
-    ∷ (0x20, as_read LocalGet first_u32) ∷ (0x21, as_read LocalSet first_u32) ∷ (0x22, as_read LocalTee first_u32)
-    ∷ (0x23, as_read GlobalGet first_u32) ∷ (0x24, as_read GlobalSet first_u32)
-    ∷ (0x3F, as_read (λ it. MemorySize) (first_exactly (0x00 ∷ []))) ∷ (0x40, as_read (λ it. MemoryGrow) (first_exactly (0x00 ∷ [])))
-    ∷ (0x41, as_read (const I32) first_i32) ∷ (0x42, as_read (const I64) first_i64)
-    ∷ (0x43, as_read (const F32) first_f32) ∷ (0x44, as_read (const F64) first_f64)
+    (UNREACHABLE, always Unreachable) ∷ (NOP, always Nop)
+    ∷ (BLOCK, map_read Block first_block_type) ∷ (LOOP, map_read Loop first_block_type)
+    ∷ (IF, map_read If first_block_type)
+    ∷ (ELSE, always Else) ∷ (END, always End)
+    ∷ (BR, map_read Br first_u32) ∷ (BR_IF, map_read BrIf first_u32)
+    ∷ (BR_TABLE, map_read (λ labels. BrTable labels.0 labels.1) (first_then first_indices first_u32))
+    ∷ (RETURN, always Return)
+    ∷ (CALL, map_read Call first_u32)
+    ∷ (CALL_INDIRECT, map_read (λ parts. CallIndirect parts.0) (first_then first_u32 (first_exactly (0x00 ∷ []))))
+    ∷ (DROP, always Drop) ∷ (SELECT, always Select)
+    ∷ (LOCAL_GET, map_read LocalGet first_u32) ∷ (LOCAL_SET, map_read LocalSet first_u32)
+    ∷ (LOCAL_TEE, map_read LocalTee first_u32)
+    ∷ (GLOBAL_GET, map_read GlobalGet first_u32) ∷ (GLOBAL_SET, map_read GlobalSet first_u32)
+    ∷ (MEMORY_SIZE, map_read (λ it. MemorySize) (first_exactly (0x00 ∷ [])))
+    ∷ (MEMORY_GROW, map_read (λ it. MemoryGrow) (first_exactly (0x00 ∷ [])))
+    ∷ (I32_CONST, map_read (const I32) first_i32) ∷ (I64_CONST, map_read (const I64) first_i64)
+    ∷ (F32_CONST, map_read (const F32) first_f32) ∷ (F64_CONST, map_read (const F64) first_f64)
     ∷ []
 
 abbrev pub instr_rows : Form → Rows Instr
 instr_rows forms.Core = core_rows
 instr_rows forms.Replay =
-    (0x26, as_read TableSet first_u32) ∷ (0xD0, as_read (λ it. RefNull) (first_exactly (0x70 ∷ []))) ∷ (0xD2, as_read RefFunc first_u32)
+    (TABLE_SET, map_read TableSet first_u32) ∷ (REF_NULL, map_read (λ it. RefNull) (first_exactly (TYPE_FUNCREF ∷ [])))
+    ∷ (REF_FUNC, map_read RefFunc first_u32)
     ∷ core_rows
 
 abbrev pub instr_at : Form → ℕ → Option (Reader Instr)
 instr_at form op =
-    cond (is_from 0x45 0xBF op) (Some (done (Numeric op)))
-    (cond (is_from 0x28 0x35 op) (Some (as_read (λ numbers. Load (mem_arg op numbers)) (first_then first_u32 first_u32)))
-    (cond (is_from 0x36 0x3E op) (Some (as_read (λ numbers. Store (mem_arg op numbers)) (first_then first_u32 first_u32)))
+    cond (is_from I32_EQZ F64_REINTERPRET_I64 op) (Some (always (Numeric op)))
+    (cond (is_from I32_LOAD I64_LOAD32_U op)
+    (Some (map_read (λ numbers. Load (mem_arg op numbers)) (first_then first_u32 first_u32)))
+    (cond (is_from I32_STORE I64_STORE32 op)
+    (Some (map_read (λ numbers. Store (mem_arg op numbers)) (first_then first_u32 first_u32)))
     (row_at (instr_rows form) op)))
 
 unfoldable pub first_instr : Form → Reader Instr
 first_instr form bytes = by_mark (instr_at form) bytes
 
--- The blocks that are open behind an instruction, the innermost first, each with whether an `Else` may still come in it;
--- none where the instruction can't stand there. The body itself is a block.
-abbrev pub open_behind : Instr → List Bool → Option (List Bool)
-open_behind i [] = None
-open_behind (Block ty) (b ∷ blocks) = Some (false ∷ b ∷ blocks)
-open_behind (Loop ty) (b ∷ blocks) = Some (false ∷ b ∷ blocks)
-open_behind (If ty) (b ∷ blocks) = Some (true ∷ b ∷ blocks)
-open_behind Else (true ∷ blocks) = Some (false ∷ blocks)
-open_behind Else (false ∷ blocks) = None
-open_behind End (b ∷ blocks) = Some blocks
-open_behind i (b ∷ blocks) = Some (b ∷ blocks)
+-- The blocks that are open after an instruction, the innermost first, each with whether an `Else` may still come in
+-- it; none where the instruction can't stand there. The body itself is a block.
+abbrev pub open_after : Instr → List Bool → Option (List Bool)
+open_after i [] = None
+open_after (Block ty) (b ∷ blocks) = Some (false ∷ b ∷ blocks)
+open_after (Loop ty) (b ∷ blocks) = Some (false ∷ b ∷ blocks)
+open_after (If ty) (b ∷ blocks) = Some (true ∷ b ∷ blocks)
+open_after Else (true ∷ blocks) = Some (false ∷ blocks)
+open_after Else (false ∷ blocks) = None
+open_after End (b ∷ blocks) = Some blocks
+open_after i (b ∷ blocks) = Some (b ∷ blocks)
 
--- instructions, at most so many, until no block is open
+-- instructions, at most `most`, until no block is open
 unfoldable pub first_instrs : Form → ℕ → List Bool → Reader (List Instr)
 first_instrs form most [] bytes = Some ([], bytes)
 first_instrs form zero (b ∷ blocks) bytes = None
 first_instrs form (suc most) (b ∷ blocks) bytes =
     option_and_then (λ first. option_and_then (λ still.
     option_map (λ others. (first.0 ∷ others.0, others.1)) (first_instrs form most still first.1))
-    (open_behind first.0 (b ∷ blocks))) (first_instr form bytes)
+    (open_after first.0 (b ∷ blocks))) (first_instr form bytes)
 
 unfoldable pub first_expr : Form → Reader (List Instr)
 first_expr form bytes = first_instrs form (length bytes) (false ∷ []) bytes
@@ -171,8 +185,9 @@ first_expr form bytes = first_instrs form (length bytes) (false ∷ []) bytes
 
 abbrev pub import_kind_rows : Rows ImportKind
 import_kind_rows =
-    (0x00, as_read imports.Func first_u32) ∷ (0x01, as_read imports.Table first_table_type)
-    ∷ (0x02, as_read imports.Memory first_limits) ∷ (0x03, as_read imports.Global first_global_type) ∷ []
+    (EXTERNAL_FUNC, map_read imports.Func first_u32) ∷ (EXTERNAL_TABLE, map_read imports.Table first_table_type)
+    ∷ (EXTERNAL_MEMORY, map_read imports.Memory first_limits)
+    ∷ (EXTERNAL_GLOBAL, map_read imports.Global first_global_type) ∷ []
 
 unfoldable pub first_import_kind : Reader ImportKind
 first_import_kind bytes = by_mark (row_at import_kind_rows) bytes
@@ -181,18 +196,18 @@ abbrev pub import_of : List ℕ × (List ℕ × ImportKind) → Import
 import_of parts = record { «module» = parts.0; name = parts.1.0; kind = parts.1.1 }
 
 unfoldable pub first_import : Reader Import
-first_import bytes = as_read import_of (first_then first_name (first_then first_name first_import_kind)) bytes
+first_import bytes = map_read import_of (first_then first_name (first_then first_name first_import_kind)) bytes
 
 abbrev pub global_of : GlobalType × List Instr → Global
 global_of parts = record { ty = parts.0; init = parts.1 }
 
 unfoldable pub first_global : Form → Reader Global
-first_global form bytes = as_read global_of (first_then first_global_type (first_expr form)) bytes
+first_global form bytes = map_read global_of (first_then first_global_type (first_expr form)) bytes
 
 abbrev pub export_kind_rows : Rows ExportKind
 export_kind_rows =
-    (0x00, as_read exports.Func first_u32) ∷ (0x01, as_read exports.Table first_u32)
-    ∷ (0x02, as_read exports.Memory first_u32) ∷ (0x03, as_read exports.Global first_u32) ∷ []
+    (EXTERNAL_FUNC, map_read exports.Func first_u32) ∷ (EXTERNAL_TABLE, map_read exports.Table first_u32)
+    ∷ (EXTERNAL_MEMORY, map_read exports.Memory first_u32) ∷ (EXTERNAL_GLOBAL, map_read exports.Global first_u32) ∷ []
 
 unfoldable pub first_export_kind : Reader ExportKind
 first_export_kind bytes = by_mark (row_at export_kind_rows) bytes
@@ -201,26 +216,27 @@ abbrev pub export_of : List ℕ × ExportKind → Export
 export_of parts = record { name = parts.0; kind = parts.1 }
 
 unfoldable pub first_export : Reader Export
-first_export bytes = as_read export_of (first_then first_name first_export_kind) bytes
+first_export bytes = map_read export_of (first_then first_name first_export_kind) bytes
 
 -- the offset and the functions of an active segment
 abbrev pub active_of : ℕ → List Instr × List ℕ → ElemSeg
 active_of table parts = Active table parts.0 parts.1
 
-abbrev pub elem_behind : Form → ℕ → Reader ElemSeg
-elem_behind forms.Core kind bytes = as_read (active_of kind) (first_then (first_expr forms.Core) first_indices) bytes
-elem_behind forms.Replay kind bytes =
-    cond (nat_eq kind 0) (as_read (active_of kind) (first_then (first_expr forms.Replay) first_indices) bytes)
-    (cond (nat_eq kind 3) (by_mark (row_at ((0x00, as_read Declared first_indices) ∷ [])) bytes) None)
+abbrev pub elem_after : Form → ℕ → Reader ElemSeg
+elem_after forms.Core kind bytes = map_read (active_of kind) (first_then (first_expr forms.Core) first_indices) bytes
+elem_after forms.Replay kind bytes =
+    cond (nat_eq kind 0) (map_read (active_of kind) (first_then (first_expr forms.Replay) first_indices) bytes)
+    (cond (nat_eq kind ELEMENT_DECLARED)
+    (by_mark (row_at ((ELEMENT_FUNCS, map_read Declared first_indices) ∷ [])) bytes) None)
 
 unfoldable pub first_elem : Form → Reader ElemSeg
-first_elem form bytes = option_and_then (λ kind. elem_behind form kind.0 kind.1) (first_u32 bytes)
+first_elem form bytes = option_and_then (λ kind. elem_after form kind.0 kind.1) (first_u32 bytes)
 
 abbrev pub data_of : ℕ × (List Instr × List ℕ) → DataSeg
 data_of parts = record { memory = parts.0; offset = parts.1.0; bytes = parts.1.1 }
 
 unfoldable pub first_data : Form → Reader DataSeg
-first_data form bytes = as_read data_of (first_then first_u32 (first_then (first_expr form) first_bytes)) bytes
+first_data form bytes = map_read data_of (first_then first_u32 (first_then (first_expr form) first_bytes)) bytes
 
 -- ---- code
 
@@ -228,13 +244,14 @@ abbrev pub run_of : ℕ × ValType → Run
 run_of parts = record { count = parts.0; ty = parts.1 }
 
 unfoldable pub first_run : Reader Run
-first_run bytes = as_read run_of (first_then first_u32 first_val_type) bytes
+first_run bytes = map_read run_of (first_then first_u32 first_val_type) bytes
 
 -- the runs without those of none, and neighbours of one type joined
 abbrev pub with_run : Run → List Run → List Run
 with_run r [] = r ∷ []
 with_run r (s ∷ rest) =
-    cond (nat_eq (val_type_byte r.ty) (val_type_byte s.ty)) (record { count = r.count + s.count; ty = s.ty } ∷ rest) (r ∷ s ∷ rest)
+    cond (nat_eq (val_type_byte r.ty) (val_type_byte s.ty))
+    (record { count = r.count + s.count; ty = s.ty } ∷ rest) (r ∷ s ∷ rest)
 
 abbrev pub runs_of : List Run → List Run
 runs_of [] = []
@@ -242,10 +259,11 @@ runs_of (r ∷ rest) = cond (nat_eq r.count 0) (runs_of rest) (with_run r (runs_
 
 unfoldable pub first_locals : Reader (List Run)
 first_locals bytes = option_and_then (λ written.
-    cond (nat_lt (sum_by (λ run. run.count) written.0) (2 ^ 32)) (Some (runs_of written.0, written.1)) None) (first_vector first_run bytes)
+    cond (nat_lt (sum_by (λ run. run.count) written.0) (2 ^ 32)) (Some (runs_of written.0, written.1)) None)
+    (first_vector first_run bytes)
 
 abbrev pub code_of_parts : List Run × List Instr → Code
 code_of_parts parts = record { locals = parts.0; body = parts.1 }
 
 unfoldable pub first_code : Form → Reader Code
-first_code form bytes = as_read code_of_parts (first_sized (whole (first_then first_locals (first_expr form)))) bytes
+first_code form bytes = map_read code_of_parts (first_sized (whole (first_then first_locals (first_expr form)))) bytes

@@ -1,6 +1,7 @@
 -- Which bytes encode the sections of a module (Core 1.0, 5.5.2 to 5.5.14).
 use Rattle.std.specs.Prelude.{◌≡◌, ℕ, ◌^◌, ◌<◌, ◌≢◌, List, [], ◌∷◌, replicate, flat_map, sum_by}
 use Rattle.leb_bytes.specs.Unsigned.{EncodesU32}
+use Rattle.wasm_opcodes.specs.declared.marks.TheConstants.{EXTERNAL_FUNC, EXTERNAL_TABLE, EXTERNAL_MEMORY, EXTERNAL_GLOBAL, ELEMENT_FUNCS, ELEMENT_DECLARED, SECTION_CUSTOM, SECTION_TYPE, SECTION_IMPORT, SECTION_FUNCTION, SECTION_TABLE, SECTION_MEMORY, SECTION_GLOBAL, SECTION_EXPORT, SECTION_START, SECTION_ELEMENT, SECTION_CODE, SECTION_DATA}
 use Rattle.wasm_syntax.specs.Encoding.Grammar.{Raw, Marked, ◌then◌, Sized, VectorOf}
 use Rattle.wasm_syntax.specs.Encoding.Types.{EncodesBytes, EncodesIndices, EncodesName, EncodesValType, EncodesFuncType, EncodesLimits, EncodesTableType, EncodesGlobalType}
 use Rattle.wasm_syntax.specs.Encoding.Instructions.{EncodesExpr}
@@ -29,10 +30,10 @@ EncodesCustom bytes c = (EncodesName then Raw) bytes (c.name, c.bytes)
 
 -- an import (Core 1.0, 5.5.5)
 abbrev pub EncodesImportKind : List ℕ → ImportKind → Type 0
-EncodesImportKind bytes (imports.Func ty) = Marked 0x00 EncodesU32 bytes ty
-EncodesImportKind bytes (imports.Table limits) = Marked 0x01 EncodesTableType bytes limits
-EncodesImportKind bytes (imports.Memory limits) = Marked 0x02 EncodesLimits bytes limits
-EncodesImportKind bytes (imports.Global ty) = Marked 0x03 EncodesGlobalType bytes ty
+EncodesImportKind bytes (imports.Func ty) = Marked EXTERNAL_FUNC EncodesU32 bytes ty
+EncodesImportKind bytes (imports.Table limits) = Marked EXTERNAL_TABLE EncodesTableType bytes limits
+EncodesImportKind bytes (imports.Memory limits) = Marked EXTERNAL_MEMORY EncodesLimits bytes limits
+EncodesImportKind bytes (imports.Global ty) = Marked EXTERNAL_GLOBAL EncodesGlobalType bytes ty
 
 abbrev pub EncodesImport : List ℕ → Import → Type 0
 EncodesImport bytes i = (EncodesName then EncodesName then EncodesImportKind) bytes (i.module, (i.name, i.kind))
@@ -43,10 +44,10 @@ EncodesGlobal form bytes g = (EncodesGlobalType then EncodesExpr form) bytes (g.
 
 -- an export (Core 1.0, 5.5.10)
 abbrev pub EncodesExportKind : List ℕ → ExportKind → Type 0
-EncodesExportKind bytes (exports.Func func) = Marked 0x00 EncodesU32 bytes func
-EncodesExportKind bytes (exports.Table table) = Marked 0x01 EncodesU32 bytes table
-EncodesExportKind bytes (exports.Memory memory) = Marked 0x02 EncodesU32 bytes memory
-EncodesExportKind bytes (exports.Global global) = Marked 0x03 EncodesU32 bytes global
+EncodesExportKind bytes (exports.Func func) = Marked EXTERNAL_FUNC EncodesU32 bytes func
+EncodesExportKind bytes (exports.Table table) = Marked EXTERNAL_TABLE EncodesU32 bytes table
+EncodesExportKind bytes (exports.Memory memory) = Marked EXTERNAL_MEMORY EncodesU32 bytes memory
+EncodesExportKind bytes (exports.Global global) = Marked EXTERNAL_GLOBAL EncodesU32 bytes global
 
 abbrev pub EncodesExport : List ℕ → Export → Type 0
 EncodesExport bytes e = (EncodesName then EncodesExportKind) bytes (e.name, e.kind)
@@ -59,7 +60,8 @@ EncodesElemSeg forms.Core bytes (Active table offset funcs) =
 EncodesElemSeg forms.Core bytes (Declared funcs) = ⊥
 EncodesElemSeg forms.Replay bytes (Active table offset funcs) =
     (table ≡ 0) × (EncodesU32 then EncodesExpr forms.Replay then EncodesIndices) bytes (table, (offset, funcs))
-EncodesElemSeg forms.Replay bytes (Declared funcs) = (EncodesU32 then Marked 0x00 EncodesIndices) bytes (3, funcs)
+EncodesElemSeg forms.Replay bytes (Declared funcs) =
+    (EncodesU32 then Marked ELEMENT_FUNCS EncodesIndices) bytes (ELEMENT_DECLARED, funcs)
 
 -- a data segment: its memory, its offset and its bytes (Core 1.0, 5.5.14)
 abbrev pub EncodesDataSeg : Form → List ℕ → DataSeg → Type 0
@@ -67,7 +69,7 @@ EncodesDataSeg form bytes d = (EncodesU32 then EncodesExpr form then EncodesByte
 
 -- ---- code (Core 1.0, 5.5.13)
 
--- so many locals of a type
+-- a number of locals of one type
 abbrev pub EncodesRun : List ℕ → Run → Type 0
 EncodesRun bytes run = (EncodesU32 then EncodesValType) bytes (run.count, run.ty)
 
@@ -116,18 +118,18 @@ pub data Section : Type 0 where
 
 -- its id (Core 1.0, 5.5.2)
 abbrev pub id_of : Section → ℕ
-id_of (CustomSection custom) = 0
-id_of (TypeSection types) = 1
-id_of (ImportSection imports) = 2
-id_of (FunctionSection types) = 3
-id_of (TableSection tables) = 4
-id_of (MemorySection memories) = 5
-id_of (GlobalSection globals) = 6
-id_of (ExportSection exports) = 7
-id_of (StartSection func) = 8
-id_of (ElementSection elems) = 9
-id_of (CodeSection codes) = 10
-id_of (DataSection datas) = 11
+id_of (CustomSection custom) = SECTION_CUSTOM
+id_of (TypeSection types) = SECTION_TYPE
+id_of (ImportSection imports) = SECTION_IMPORT
+id_of (FunctionSection types) = SECTION_FUNCTION
+id_of (TableSection tables) = SECTION_TABLE
+id_of (MemorySection memories) = SECTION_MEMORY
+id_of (GlobalSection globals) = SECTION_GLOBAL
+id_of (ExportSection exports) = SECTION_EXPORT
+id_of (StartSection func) = SECTION_START
+id_of (ElementSection elems) = SECTION_ELEMENT
+id_of (CodeSection codes) = SECTION_CODE
+id_of (DataSection datas) = SECTION_DATA
 
 -- what a section holds (Core 1.0, 5.5.3 to 5.5.14)
 abbrev pub EncodesContent : Form → List ℕ → Section → Type 0

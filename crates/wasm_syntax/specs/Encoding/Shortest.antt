@@ -5,6 +5,8 @@ use Rattle.std.specs.Int.{w32, w64, to_le_bytes}
 use Rattle.leb_bytes.specs.Unsigned.{u32_bytes}
 use Rattle.leb_bytes.specs.Signed.{i32_bytes, i64_bytes}
 pub use Rattle.wasm_syntax.specs.Alike.{type_byte as val_type_byte}
+use Rattle.wasm_opcodes.specs.declared.TheConstants.{I32_CONST, I64_CONST, F32_CONST, F64_CONST, UNREACHABLE, NOP, BLOCK, LOOP, IF, ELSE, END, BR, BR_IF, BR_TABLE, RETURN, CALL, CALL_INDIRECT, DROP, SELECT, LOCAL_GET, LOCAL_SET, LOCAL_TEE, GLOBAL_GET, GLOBAL_SET, MEMORY_SIZE, MEMORY_GROW, TABLE_SET, REF_NULL, REF_FUNC}
+use Rattle.wasm_opcodes.specs.declared.marks.TheConstants.{TYPE_EMPTY, TYPE_FUNC, LIMITS_MIN, LIMITS_MIN_MAX, TYPE_FUNCREF, MUTABILITY_CONST, MUTABILITY_VAR, EXTERNAL_FUNC, EXTERNAL_TABLE, EXTERNAL_MEMORY, EXTERNAL_GLOBAL, ELEMENT_DECLARED, ELEMENT_FUNCS}
 use Rattle.wasm_syntax.specs.Encoding.Sections.{Code, Section, CustomSection, TypeSection, ImportSection, FunctionSection, TableSection, MemorySection, GlobalSection, ExportSection, StartSection, ElementSection, CodeSection, DataSection, id_of}
 use Rattle.wasm_syntax.specs.Encoding.Modules.{preamble, code_of}
 use Rattle.wasm_syntax.specs.declared.values.ValType.{ValType}
@@ -29,7 +31,7 @@ use Rattle.wasm_syntax.specs.declared.modules.DataSeg.{DataSeg}
 use Rattle.wasm_syntax.specs.declared.modules.Custom.{Custom}
 use Rattle.wasm_syntax.specs.declared.modules.Module.{Module}
 
--- the bytes behind their number, and a vector of items
+-- the number of the bytes and then these; a vector of items
 abbrev pub sized_bytes : List ℕ → List ℕ
 sized_bytes content = u32_bytes (length content) ++ content
 
@@ -42,25 +44,25 @@ abbrev pub val_type_bytes : ValType → List ℕ
 val_type_bytes ty = val_type_byte ty ∷ []
 
 abbrev pub block_type_bytes : Option ValType → List ℕ
-block_type_bytes None = 0x40 ∷ []
+block_type_bytes None = TYPE_EMPTY ∷ []
 block_type_bytes (Some ty) = val_type_bytes ty
 
 unfoldable pub func_type_bytes : FuncType → List ℕ
-func_type_bytes ty = 0x60 ∷ (vector_bytes val_type_bytes ty.params ++ vector_bytes val_type_bytes ty.results)
+func_type_bytes ty = TYPE_FUNC ∷ (vector_bytes val_type_bytes ty.params ++ vector_bytes val_type_bytes ty.results)
 
 abbrev pub bounds_bytes : ℕ → Option ℕ → List ℕ
-bounds_bytes least None = 0x00 ∷ u32_bytes least
-bounds_bytes least (Some most) = 0x01 ∷ (u32_bytes least ++ u32_bytes most)
+bounds_bytes least None = LIMITS_MIN ∷ u32_bytes least
+bounds_bytes least (Some most) = LIMITS_MIN_MAX ∷ (u32_bytes least ++ u32_bytes most)
 
 unfoldable pub limits_bytes : Limits → List ℕ
 limits_bytes limits = bounds_bytes limits.min limits.max
 
 abbrev pub table_type_bytes : Limits → List ℕ
-table_type_bytes limits = 0x70 ∷ limits_bytes limits
+table_type_bytes limits = TYPE_FUNCREF ∷ limits_bytes limits
 
 abbrev pub mutability_byte : Bool → ℕ
-mutability_byte false = 0x00
-mutability_byte true = 0x01
+mutability_byte false = MUTABILITY_CONST
+mutability_byte true = MUTABILITY_VAR
 
 unfoldable pub global_type_bytes : GlobalType → List ℕ
 global_type_bytes ty = val_type_bytes ty.ty ++ mutability_byte ty.mutable ∷ []
@@ -68,45 +70,45 @@ global_type_bytes ty = val_type_bytes ty.ty ++ mutability_byte ty.mutable ∷ []
 -- ---- instructions (Core 1.0, 5.4)
 
 unfoldable pub const_bytes : ValType → ℕ → List ℕ
-const_bytes I32 bits = 0x41 ∷ i32_bytes bits
-const_bytes I64 bits = 0x42 ∷ i64_bytes bits
-const_bytes F32 bits = 0x43 ∷ to_le_bytes w32 bits
-const_bytes F64 bits = 0x44 ∷ to_le_bytes w64 bits
+const_bytes I32 bits = I32_CONST ∷ i32_bytes bits
+const_bytes I64 bits = I64_CONST ∷ i64_bytes bits
+const_bytes F32 bits = F32_CONST ∷ to_le_bytes w32 bits
+const_bytes F64 bits = F64_CONST ∷ to_le_bytes w64 bits
 const_bytes FuncRef bits = []
 
 abbrev pub access_bytes : MemArg → List ℕ
 access_bytes access = access.op ∷ (u32_bytes access.align ++ u32_bytes access.offset)
 
 unfoldable pub instr_bytes : Instr → List ℕ
-instr_bytes Unreachable = 0x00 ∷ []
-instr_bytes Nop = 0x01 ∷ []
-instr_bytes (Block ty) = 0x02 ∷ block_type_bytes ty
-instr_bytes (Loop ty) = 0x03 ∷ block_type_bytes ty
-instr_bytes (If ty) = 0x04 ∷ block_type_bytes ty
-instr_bytes Else = 0x05 ∷ []
-instr_bytes End = 0x0B ∷ []
-instr_bytes (Br label) = 0x0C ∷ u32_bytes label
-instr_bytes (BrIf label) = 0x0D ∷ u32_bytes label
-instr_bytes (BrTable labels default) = 0x0E ∷ (vector_bytes u32_bytes labels ++ u32_bytes default)
-instr_bytes Return = 0x0F ∷ []
-instr_bytes (Call func) = 0x10 ∷ u32_bytes func
-instr_bytes (CallIndirect ty) = 0x11 ∷ (u32_bytes ty ++ 0x00 ∷ [])
-instr_bytes Drop = 0x1A ∷ []
-instr_bytes Select = 0x1B ∷ []
-instr_bytes (LocalGet local) = 0x20 ∷ u32_bytes local
-instr_bytes (LocalSet local) = 0x21 ∷ u32_bytes local
-instr_bytes (LocalTee local) = 0x22 ∷ u32_bytes local
-instr_bytes (GlobalGet global) = 0x23 ∷ u32_bytes global
-instr_bytes (GlobalSet global) = 0x24 ∷ u32_bytes global
+instr_bytes Unreachable = UNREACHABLE ∷ []
+instr_bytes Nop = NOP ∷ []
+instr_bytes (Block ty) = BLOCK ∷ block_type_bytes ty
+instr_bytes (Loop ty) = LOOP ∷ block_type_bytes ty
+instr_bytes (If ty) = IF ∷ block_type_bytes ty
+instr_bytes Else = ELSE ∷ []
+instr_bytes End = END ∷ []
+instr_bytes (Br label) = BR ∷ u32_bytes label
+instr_bytes (BrIf label) = BR_IF ∷ u32_bytes label
+instr_bytes (BrTable labels default) = BR_TABLE ∷ (vector_bytes u32_bytes labels ++ u32_bytes default)
+instr_bytes Return = RETURN ∷ []
+instr_bytes (Call func) = CALL ∷ u32_bytes func
+instr_bytes (CallIndirect ty) = CALL_INDIRECT ∷ (u32_bytes ty ++ 0x00 ∷ [])
+instr_bytes Drop = DROP ∷ []
+instr_bytes Select = SELECT ∷ []
+instr_bytes (LocalGet local) = LOCAL_GET ∷ u32_bytes local
+instr_bytes (LocalSet local) = LOCAL_SET ∷ u32_bytes local
+instr_bytes (LocalTee local) = LOCAL_TEE ∷ u32_bytes local
+instr_bytes (GlobalGet global) = GLOBAL_GET ∷ u32_bytes global
+instr_bytes (GlobalSet global) = GLOBAL_SET ∷ u32_bytes global
 instr_bytes (Load access) = access_bytes access
 instr_bytes (Store access) = access_bytes access
-instr_bytes MemorySize = 0x3F ∷ 0x00 ∷ []
-instr_bytes MemoryGrow = 0x40 ∷ 0x00 ∷ []
+instr_bytes MemorySize = MEMORY_SIZE ∷ 0x00 ∷ []
+instr_bytes MemoryGrow = MEMORY_GROW ∷ 0x00 ∷ []
 instr_bytes (Const value) = const_bytes value.ty value.bits
 instr_bytes (Numeric op) = op ∷ []
-instr_bytes (TableSet table) = 0x26 ∷ u32_bytes table
-instr_bytes RefNull = 0xD0 ∷ 0x70 ∷ []
-instr_bytes (RefFunc func) = 0xD2 ∷ u32_bytes func
+instr_bytes (TableSet table) = TABLE_SET ∷ u32_bytes table
+instr_bytes RefNull = REF_NULL ∷ TYPE_FUNCREF ∷ []
+instr_bytes (RefFunc func) = REF_FUNC ∷ u32_bytes func
 
 abbrev pub body_bytes : List Instr → List ℕ
 body_bytes = flat_map instr_bytes
@@ -117,10 +119,10 @@ unfoldable pub custom_bytes : Custom → List ℕ
 custom_bytes c = sized_bytes c.name ++ c.bytes
 
 abbrev pub import_kind_bytes : ImportKind → List ℕ
-import_kind_bytes (imports.Func ty) = 0x00 ∷ u32_bytes ty
-import_kind_bytes (imports.Table limits) = 0x01 ∷ table_type_bytes limits
-import_kind_bytes (imports.Memory limits) = 0x02 ∷ limits_bytes limits
-import_kind_bytes (imports.Global ty) = 0x03 ∷ global_type_bytes ty
+import_kind_bytes (imports.Func ty) = EXTERNAL_FUNC ∷ u32_bytes ty
+import_kind_bytes (imports.Table limits) = EXTERNAL_TABLE ∷ table_type_bytes limits
+import_kind_bytes (imports.Memory limits) = EXTERNAL_MEMORY ∷ limits_bytes limits
+import_kind_bytes (imports.Global ty) = EXTERNAL_GLOBAL ∷ global_type_bytes ty
 
 unfoldable pub import_bytes : Import → List ℕ
 import_bytes i = sized_bytes i.module ++ (sized_bytes i.name ++ import_kind_bytes i.kind)
@@ -129,17 +131,17 @@ unfoldable pub global_bytes : Global → List ℕ
 global_bytes g = global_type_bytes g.ty ++ body_bytes g.init
 
 abbrev pub export_kind_bytes : ExportKind → List ℕ
-export_kind_bytes (exports.Func func) = 0x00 ∷ u32_bytes func
-export_kind_bytes (exports.Table table) = 0x01 ∷ u32_bytes table
-export_kind_bytes (exports.Memory memory) = 0x02 ∷ u32_bytes memory
-export_kind_bytes (exports.Global global) = 0x03 ∷ u32_bytes global
+export_kind_bytes (exports.Func func) = EXTERNAL_FUNC ∷ u32_bytes func
+export_kind_bytes (exports.Table table) = EXTERNAL_TABLE ∷ u32_bytes table
+export_kind_bytes (exports.Memory memory) = EXTERNAL_MEMORY ∷ u32_bytes memory
+export_kind_bytes (exports.Global global) = EXTERNAL_GLOBAL ∷ u32_bytes global
 
 unfoldable pub export_bytes : Export → List ℕ
 export_bytes e = sized_bytes e.name ++ export_kind_bytes e.kind
 
 unfoldable pub elem_bytes : ElemSeg → List ℕ
 elem_bytes (Active table offset funcs) = u32_bytes table ++ (body_bytes offset ++ vector_bytes u32_bytes funcs)
-elem_bytes (Declared funcs) = u32_bytes 3 ++ 0x00 ∷ vector_bytes u32_bytes funcs
+elem_bytes (Declared funcs) = u32_bytes ELEMENT_DECLARED ++ ELEMENT_FUNCS ∷ vector_bytes u32_bytes funcs
 
 unfoldable pub data_bytes : DataSeg → List ℕ
 data_bytes d = u32_bytes d.memory ++ (body_bytes d.offset ++ sized_bytes d.bytes)

@@ -2,6 +2,7 @@
 use Rattle.std.specs.Prelude.{◌≡◌, ℕ, ◌^◌, ◌<◌, List, [], ◌∷◌, Option, Some, None, Bool, true, false, IsUtf8}
 use Rattle.std.specs.Int.{w32, w64, to_le_bytes}
 use Rattle.leb_bytes.specs.Unsigned.{EncodesU32}
+use Rattle.wasm_opcodes.specs.declared.marks.TheConstants.{TYPE_I32, TYPE_I64, TYPE_F32, TYPE_F64, TYPE_EMPTY, TYPE_FUNC, LIMITS_MIN, LIMITS_MIN_MAX, TYPE_FUNCREF, MUTABILITY_CONST, MUTABILITY_VAR}
 use Rattle.wasm_syntax.specs.Encoding.Grammar.{Raw, Marked, ◌then◌, Sized, VectorOf}
 use Rattle.wasm_syntax.specs.declared.values.ValType.{ValType}
 use Rattle.wasm_syntax.specs.declared.values.ValType.TheVariants.{I32, I64, F32, F64, FuncRef}
@@ -18,7 +19,7 @@ pub record EncodesF64 (bytes : List ℕ) (bits : ℕ) : Type 0 where
   pub in_range : bits < 2 ^ 64
   pub little_endian : bytes ≡ to_le_bytes w64 bits
 
--- a vector of bytes (Core 1.0, 5.1.3 and 5.2.1): a u32 that counts them, and so many
+-- a vector of bytes (Core 1.0, 5.1.3 and 5.2.1): a u32 that counts them, and that many
 abbrev pub EncodesBytes : List ℕ → List ℕ → Type 0
 EncodesBytes = Sized Raw
 
@@ -33,37 +34,38 @@ pub record EncodesName (bytes name : List ℕ) : Type 0 where
 
 -- a value type (Core 1.0, 5.3.1)
 abbrev pub EncodesValType : List ℕ → ValType → Type 0
-EncodesValType bytes I32 = bytes ≡ 0x7F ∷ []
-EncodesValType bytes I64 = bytes ≡ 0x7E ∷ []
-EncodesValType bytes F32 = bytes ≡ 0x7D ∷ []
-EncodesValType bytes F64 = bytes ≡ 0x7C ∷ []
+EncodesValType bytes I32 = bytes ≡ TYPE_I32 ∷ []
+EncodesValType bytes I64 = bytes ≡ TYPE_I64 ∷ []
+EncodesValType bytes F32 = bytes ≡ TYPE_F32 ∷ []
+EncodesValType bytes F64 = bytes ≡ TYPE_F64 ∷ []
 EncodesValType bytes FuncRef = ⊥
 
 -- the type of a block: no result, or one (Core 1.0, 5.3.2)
 abbrev pub EncodesBlockType : List ℕ → Option ValType → Type 0
-EncodesBlockType bytes None = bytes ≡ 0x40 ∷ []
+EncodesBlockType bytes None = bytes ≡ TYPE_EMPTY ∷ []
 EncodesBlockType bytes (Some ty) = EncodesValType bytes ty
 
 -- a function type (Core 1.0, 5.3.3)
 abbrev pub EncodesFuncType : List ℕ → FuncType → Type 0
-EncodesFuncType bytes ty = Marked 0x60 (VectorOf EncodesValType then VectorOf EncodesValType) bytes (ty.params, ty.results)
+EncodesFuncType bytes ty =
+    Marked TYPE_FUNC (VectorOf EncodesValType then VectorOf EncodesValType) bytes (ty.params, ty.results)
 
 -- limits, without a maximum or with one (Core 1.0, 5.3.4); those of a memory are its type (5.3.5)
 abbrev pub EncodesBounds : List ℕ → ℕ → Option ℕ → Type 0
-EncodesBounds bytes least None = Marked 0x00 EncodesU32 bytes least
-EncodesBounds bytes least (Some most) = Marked 0x01 (EncodesU32 then EncodesU32) bytes (least, most)
+EncodesBounds bytes least None = Marked LIMITS_MIN EncodesU32 bytes least
+EncodesBounds bytes least (Some most) = Marked LIMITS_MIN_MAX (EncodesU32 then EncodesU32) bytes (least, most)
 
 abbrev pub EncodesLimits : List ℕ → Limits → Type 0
 EncodesLimits bytes limits = EncodesBounds bytes limits.min limits.max
 
 -- a table type (Core 1.0, 5.3.6)
 abbrev pub EncodesTableType : List ℕ → Limits → Type 0
-EncodesTableType = Marked 0x70 EncodesLimits
+EncodesTableType = Marked TYPE_FUNCREF EncodesLimits
 
 -- a global type (Core 1.0, 5.3.7)
 abbrev pub EncodesMutability : List ℕ → Bool → Type 0
-EncodesMutability bytes false = bytes ≡ 0x00 ∷ []
-EncodesMutability bytes true = bytes ≡ 0x01 ∷ []
+EncodesMutability bytes false = bytes ≡ MUTABILITY_CONST ∷ []
+EncodesMutability bytes true = bytes ≡ MUTABILITY_VAR ∷ []
 
 abbrev pub EncodesGlobalType : List ℕ → GlobalType → Type 0
 EncodesGlobalType bytes ty = (EncodesValType then EncodesMutability) bytes (ty.ty, ty.mutable)

@@ -1,9 +1,11 @@
 use Rattle.std.proofs.Common.{length}
-use Rattle.encoding_sizes.proofs.Parts.{lists-within}
+use Rattle.encoding_sizes.proofs.Lists.{lists_within}
 use Rattle.encoding_sizes.proofs.laws.lists_of_encoding.Goals as goal
 
 pub returns : goal.returns
 returns c = record {
   within = λ form bytes m encodes.
-      lists-within form m (length bytes) (c.shortest_encoding.ensures.encodable form bytes m encodes) (c.shortest_encoding.ensures.least form bytes m encodes);
+      lists_within form m (length bytes)
+      (c.shortest_encoding.ensures.encodable form bytes m encodes)
+      (c.shortest_encoding.ensures.least form bytes m encodes);
 }

@@ -5,4 +5,5 @@ use Rattle.host_actions.proofs.calls.are_of.Given as goal
 
 -- what is left of both lists is as alike as they are
 abbrev pub invariant-types : goal.invariant-types
-invariant-types l = same_types (drop l.at l.types) (types_of (drop l.at l.values)) ≡ same_types l.types (types_of l.values)
+invariant-types l = same_types (drop l.at l.types) (types_of (drop l.at l.values))
+    ≡ same_types l.types (types_of l.values)

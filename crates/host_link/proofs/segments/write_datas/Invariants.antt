@@ -1,6 +1,6 @@
 use Rattle.std.proofs.Common.{◌≡◌, take}
 use Rattle.history_spec.specs.Instantiation.{memory_length}
-use Rattle.host_link.specs.Linked.{with_datas_in}
+use Rattle.host_link.specs.Link.{with_datas_in}
 use Rattle.host_link.proofs.segments.write_datas.Given as goal
 
 abbrev pub invariant-datas : goal.invariant-datas

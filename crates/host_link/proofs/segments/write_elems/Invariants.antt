@@ -1,6 +1,6 @@
 use Rattle.std.proofs.Common.{◌≡◌, take}
 use Rattle.history_spec.specs.Instantiation.{table_length}
-use Rattle.host_link.specs.Linked.{with_elems_in}
+use Rattle.host_link.specs.Link.{with_elems_in}
 use Rattle.host_link.proofs.segments.write_elems.Given as goal
 
 abbrev pub invariant-elems : goal.invariant-elems

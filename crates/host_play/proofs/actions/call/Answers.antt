@@ -1,5 +1,5 @@
 use Rattle.std.proofs.Common.{subst}
-use Rattle.wasm_interp.specs.Running.{InvokesRun}
+use Rattle.wasm_interp.specs.Calls.{InvokesRun}
 use Rattle.host_play.proofs.actions.call.Goals as goal
 
 pub returns : goal.returns

@@ -1,9 +1,9 @@
 use Rattle.std.proofs.Common.{◌≡◌, Some, refl, sym, ap, ◌∙◌}
 use Rattle.host_script.specs.declared.scripts.Response.{Response}
 use Rattle.history_spec.specs.Step.{response_to}
-use Rattle.host_play.specs.declared.playing.Host.TheVariants as host
+use Rattle.host_play.specs.declared.play_state.Host.TheVariants as host
 use Rattle.host_play.specs.Hosts.{action_at}
-use Rattle.host_play.proofs.Ending.{main_leads, answer_done, Done, imports_of, numbers_of, some_of, trap_leads, return_leads}
+use Rattle.host_play.proofs.Ends.{main_leads, answer_done, Done, imports_of, numbers_of, some_of, trap_leads, return_leads}
 use Rattle.host_play.proofs.actions.end.Goals as goal
 
 pub returns-in-Main-clause-leads : goal.returns-in-Main-clause-leads

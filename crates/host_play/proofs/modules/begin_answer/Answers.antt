@@ -1,7 +1,7 @@
 use Rattle.std.proofs.Common.{◌≡◌, ◌+◌, ◌∷◌, ap, ◌∙◌, sym}
 use Rattle.std.specs.Prelude.{slice_index, slice_set}
 use Rattle.std.proofs.lemmas.Grind.{get_or_default_zero}
-use Rattle.host_play.specs.declared.playing.Host.TheVariants.{Answer}
+use Rattle.host_play.specs.declared.play_state.Host.TheVariants.{Answer}
 use Rattle.host_play.specs.Hosts.{kept}
 use Rattle.host_play.proofs.modules.begin_answer.Goals as goal
 

@@ -1,4 +1,4 @@
-use Rattle.host_play.proofs.Settling.{settled_at_instruction, settled_at_host}
+use Rattle.host_play.proofs.Returns.{settled_at_instruction, settled_at_host}
 use Rattle.host_play.proofs.modules.settle.Goals as goal
 
 pub returns-in-None-clause-leads : goal.returns-in-None-clause-leads

@@ -1,5 +1,5 @@
 use Rattle.std.proofs.Common.{Some, ap, ◌∙◌, refl}
-use Rattle.host_play.proofs.Turning.{turn_at_instruction, turn_at_host, turn_at_trap, counted_import, import_begins, no_response}
+use Rattle.host_play.proofs.Turns.{turn_at_instruction, turn_at_host, turn_at_trap, counted_import, import_begins, no_response}
 use Rattle.host_play.proofs.modules.turn.Goals as goal
 
 pub returns-in-None-clause-makes : goal.returns-in-None-clause-makes

@@ -10,21 +10,22 @@ use Rattle.host_actions.specs.Ready.{AreOf}
 use Rattle.wasm_flat.specs.declared.code.Flat.{Flat}
 use Rattle.wasm_flat.specs.FlatCode.{flat_of}
 use Rattle.wasm_interp.specs.State.{StandsFor, State, state}
-use Rattle.wasm_interp.specs.Running.{IsRun}
+use Rattle.wasm_interp.specs.Calls.{IsRun}
 use Rattle.host_play.specs.Hosts.{kept}
-use Rattle.host_play.proofs.Starting.{can_begin, kept_zeros, start_leads}
+use Rattle.host_play.specs.Starts.{LeadsFirst, Starts, functions_in}
+use Rattle.host_play.proofs.RunStarts.{can_start, if_ok, kept_zeros, start_leads}
 use Rattle.host_play.proofs.starts.start.Goals as goal
 
-pub begin-requires : goal.begin-requires
-begin-requires c =
+pub with_first_step-requires : goal.with_first_step-requires
+with_first_step-requires c =
     let found = c.typed_code.ensures.heights c.args.module.now c.requires.valid in
     let first = c.in_ok-playing.playing in
     let machine : first.machine ≡ state (flat_of c.args.module.now) c.args.store [] [] false = c.in_ok-playing.ensures.machine ∙ ap (λ flat. state flat c.args.store [] [] false) c.requires.flat in
     let stands : StandsFor c.args.module.now found.0 (InMain c.args.script.now.main ∷ []) first.machine =
     subst (StandsFor c.args.module.now found.0 (InMain c.args.script.now.main ∷ [])) (sym machine) (c.hosts_go_on.ensures.begins c.args.module.now found.0 c.args.store c.args.script.now.main c.requires.store c.requires.fits.main) in
     let functions : AreOf (code_of c.args.module.now) first.functions =
-    subst (AreOf (code_of c.args.module.now)) (sym (c.in_ok-playing.ensures.functions ∙ ap (λ (flat : Flat). record { types = flat.types; indices = flat.indices; imported = flat.imported }) c.requires.flat)) (record { types = refl; indices = refl; imported = refl }) in
-    can_begin c.args.module.now first functions
+    subst (AreOf (code_of c.args.module.now)) (sym (c.in_ok-playing.ensures.functions ∙ ap functions_in c.requires.flat)) (record { types = refl; indices = refl; imported = refl }) in
+    can_start c.args.module.now first functions
     (c.calls_are_ready.ensures.host c.args.module.now found.0 (InMain c.args.script.now.main ∷ []) first.machine stands tt)
     (λ func ty args. c.calls_are_ready.ensures.callable c.args.module.now found.0 (InMain c.args.script.now.main ∷ []) first.machine func ty args stands)
     c.args.module.now.start c.requires.valid.outside.start
@@ -44,11 +45,21 @@ returns-clause-leads c =
     let stands : StandsFor c.args.module.now found.0 (InMain c.args.script.now.main ∷ []) first.machine =
     subst (StandsFor c.args.module.now found.0 (InMain c.args.script.now.main ∷ [])) (sym machine) (c.hosts_go_on.ensures.begins c.args.module.now found.0 c.args.store c.args.script.now.main c.requires.store c.requires.fits.main) in
     let functions : AreOf (code_of c.args.module.now) first.functions =
-    subst (AreOf (code_of c.args.module.now)) (sym (c.in_ok-playing.ensures.functions ∙ ap (λ (flat : Flat). record { types = flat.types; indices = flat.indices; imported = flat.imported }) c.requires.flat)) (record { types = refl; indices = refl; imported = refl }) in
+    subst (AreOf (code_of c.args.module.now)) (sym (c.in_ok-playing.ensures.functions ∙ ap functions_in c.requires.flat)) (record { types = refl; indices = refl; imported = refl }) in
     let counted : first.counts.items ≡ map kept (replicate (imported_funcs c.args.module.now) 0) =
     c.in_ok-playing.ensures.counts ∙ ap (λ (flat : Flat). replicate flat.imported 0) c.requires.flat ∙ kept_zeros (imported_funcs c.args.module.now) in
-    start_leads c.args.module.now c.args.script.now c.args.store found.0 is_run first stands (ap (λ (m : State). m.store) machine) functions c.in_ok-playing.ensures.hosts counted c.in_ok-deed.deed c.begin.new.playing
-    c.args.module.now.start c.requires.valid.outside.start c.in_ok-deed.ensures.begins
+    if_ok c.with_first_step.result
+    (λ started. Starts c.args.module.now.start first started.1 started.0)
+    (λ started. LeadsFirst c.args.module.now c.args.script.now c.args.store started.1 started.0)
+    (λ started starts.
+    start_leads c.args.module.now c.args.script.now c.args.store found.0 is_run first stands (ap (λ (m : State). m.store) machine) functions c.in_ok-playing.ensures.hosts counted started.1 started.0
+    c.args.module.now.start c.requires.valid.outside.start starts)
+    c.with_first_step.ensures.starts
 
 pub returns-clause-counts : goal.returns-clause-counts
-returns-clause-counts c = c.in_ok-deed.ensures.counts ∙ c.in_ok-playing.ensures.counts ∙ ap (λ (flat : Flat). replicate flat.imported 0) c.requires.flat
+returns-clause-counts c =
+    if_ok c.with_first_step.result
+    (λ started. started.0.counts.items ≡ c.in_ok-playing.playing.counts.items)
+    (λ started. started.0.counts.items ≡ replicate (imported_funcs c.args.module.now) 0)
+    (λ started same. same ∙ c.in_ok-playing.ensures.counts ∙ ap (λ (flat : Flat). replicate flat.imported 0) c.requires.flat)
+    c.with_first_step.ensures.counts

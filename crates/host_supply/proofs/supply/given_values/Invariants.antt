@@ -1,5 +1,5 @@
 use Rattle.std.proofs.Common.{◌≡◌, ◌++◌, drop}
-use Rattle.host_script.specs.Supplied.{given_values}
+use Rattle.host_script.specs.Supply.{given_values}
 use Rattle.host_supply.proofs.supply.given_values.Given as goal
 
 abbrev pub invariant-given : goal.invariant-given

@@ -6,11 +6,11 @@ use Rattle.wasm_syntax.specs.declared.modules.Module.{Module}
 use Rattle.wasm_syntax.specs.Encoding.Encodable.{FitsU32}
 use Rattle.wasm_syntax.specs.Encoding.Forms.{IsOfTableZero}
 use Rattle.plain_replay.specs.Forms.{IsIntegerCode}
-use Rattle.plain_replay.specs.Made.{replay_module}
+use Rattle.plain_replay.specs.ReplayModule.{replay_module}
 use Rattle.plain_maker.proofs.Imports.{only_functions}
 use Rattle.plain_maker.proofs.Encodable.{made_encodable}
-use Rattle.plain_maker.proofs.Encodings.{few_parts}
-use Rattle.plain_maker.proofs.MadeSizes.{made_most, one_result}
+use Rattle.encoding_sizes.proofs.Lists.{few_parts}
+use Rattle.plain_maker.proofs.ReplaySizes.{made_most, one_result}
 use Rattle.plain_maker.proofs.Plain.{plain_encodable}
 use Rattle.plain_maker.proofs.laws.encoding_of_replay.Goals as goal
 

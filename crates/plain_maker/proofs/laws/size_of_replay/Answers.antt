@@ -1,5 +1,5 @@
 use Rattle.std.proofs.Common.{arith}
-use Rattle.plain_maker.proofs.MadeSizes.{made_most, one_result}
+use Rattle.plain_maker.proofs.ReplaySizes.{made_most, one_result}
 use Rattle.plain_maker.proofs.laws.size_of_replay.Goals as goal
 
 pub returns : goal.returns

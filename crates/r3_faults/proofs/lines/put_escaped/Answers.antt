@@ -1,9 +1,9 @@
 use Rattle.std.proofs.Common.{arith, take, drop, subst, length-drop}
 use Rattle.std.proofs.lemmas.List.{take_rest}
-use Rattle.r3_outside.specs.Written.{Grew, GrewByPrefix}
+use Rattle.r3_outside.specs.Growth.{Grew, GrewByPrefix}
 use Rattle.r3_faults.specs.Lines.{escaped}
 use Rattle.r3_faults.proofs.EscapeLemmas.{escaped-split, escaped-more}
-use Rattle.r3_faults.proofs.GrowthLemmas.{Grew-append, GrewByPrefix-after, OnErr-always}
+use Rattle.r3_outside.proofs.GrowthLemmas.{Grew-append, GrewByPrefix-after, OnErr-always}
 use Rattle.r3_faults.proofs.lines.put_escaped.Goals as goal
 
 pub returns-in_err-done-clause-wrote_prefix : goal.returns-in_err-done-clause-wrote_prefix
@@ -27,5 +27,6 @@ runs-preserved g c =
       faults_never_fall = omega (arith, c.in_ok-done.ensures.faults_never_fall);
       grew =
           subst (Grew _ _) (escaped-more text done count)
-          (Grew-append _ _ _ (escaped (take done text)) (escaped (take count (drop done text))) c.runs.invariant.grew wrote);
+          (Grew-append _ _ _ (escaped (take done text)) (escaped (take count (drop done text))) c.runs.invariant.grew
+          wrote);
     }

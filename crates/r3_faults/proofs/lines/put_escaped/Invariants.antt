@@ -1,5 +1,5 @@
 use Rattle.std.proofs.Common.{length, take, ◌-◌, ◌≤◌}
-use Rattle.r3_outside.specs.Written.{Grew}
+use Rattle.r3_outside.specs.Growth.{Grew}
 use Rattle.r3_faults.specs.Lines.{escaped}
 use Rattle.r3_faults.proofs.lines.put_escaped.Given as goal
 

@@ -1,57 +1,65 @@
-use Rattle.std.proofs.Common.{◌≡◌, ◌⊎◌, inl, inr, length, Ok, Err, IfErr, Result}
-use Rattle.wasm_syntax.specs.declared.forms.Form.TheVariants.{Core}
+use Rattle.std.proofs.Common.{◌≡◌, ◌⊎◌, inl, inr, ℕ, List, Result, Ok, Err, IfOk}
+use Rattle.std.specs.Result.{IsErrAnd}
+use Rattle.std.proofs.lemmas.Result.{IfErr-weaker, IfOk-weaker}
+use Rattle.wasm_syntax.specs.declared.modules.Module.{Module}
+use Rattle.host_script.specs.declared.scripts.Script.{Script}
 use Rattle.r3_faults.specs.declared.faults.Fault.{Fault}
 use Rattle.r3_faults.specs.declared.faults.Fault.TheVariants.{Memory}
-use Rattle.r3_inputs.specs.Inputs.{ByModule, ByScript}
-use Rattle.r3_history.specs.Histories.{IsHistoryRefusal, OfInputs, OfRun, IsUntold}
-use Rattle.r3_history.proofs.Answered.{passed, module-refused, script-refused-answer, run-refused, run-accepted}
+use Rattle.accepted_runs.proofs.InputAnswers.{IsWhy, passed, inputs-answer, inputs-memory, inputs-same, inputs-why}
+use Rattle.r3_history.specs.Histories.{IsHistory, IsHistoryOf, IsHistoryRefusal, OfInputs, OfRun, IsUntold}
 use Rattle.r3_history.proofs.histories.history.Goals as goal
+
+-- why there is no history of a module and a script
+abbrev Why : ℕ → Module → Script → Fault → Type 0
+Why turns m script fault = IsUntold m script turns fault
+
+why : (module_bytes script_bytes : List ℕ) (turns : ℕ) (fault : Fault) → IsHistoryRefusal module_bytes script_bytes turns fault → IsWhy module_bytes script_bytes (Why turns) fault
+why module_bytes script_bytes turns fault (OfInputs x) = inl x
+why module_bytes script_bytes turns fault (OfRun m script inputs x) = inr (m, script, inputs, x)
 
 pub returns-in_err-checked-clause-cause : goal.returns-in_err-checked-clause-cause
 returns-in_err-checked-clause-cause c =
     passed c.from_residual.result c.in_err-checked.field-0.0 (λ fault. (fault ≡ Memory) ⊎ IsHistoryRefusal c.args.module.now c.args.script.now c.args.turns fault) c.from_residual.ensures.1
-    (elim c.in_err-checked.ensures.cause [ inl memory ↦ inl memory | inr refused ↦ inr (OfInputs (ByModule refused)) ])
+    (elim c.in_err-checked.ensures.cause [ inl memory ↦ inl memory | inr refused ↦ inr (OfInputs refused) ])
 
 pub returns-in_err-checked-clause-refused : goal.returns-in_err-checked-clause-refused
-returns-in_err-checked-clause-refused c =
-    module-refused c.args.module.now c.args.script.now c.args.turns c.module_of.result c.module_of.ensures.refused c.module_of.ensures.accepted c.in_err-checked.field-0.0 c.in_err-checked.was c.from_residual.result c.from_residual.ensures.1
+returns-in_err-checked-clause-refused c = λ fault refusal.
+    inputs-answer c.args.module.now c.args.script.now c.inputs_of.result c.inputs_of.ensures.refused c.inputs_of.ensures.accepted c.in_err-checked.field-0.0 c.in_err-checked.was c.from_residual.result c.from_residual.ensures.1
+    (Why c.args.turns) fault (why c.args.module.now c.args.script.now c.args.turns fault refusal)
 
-pub returns-in_err-script-clause-cause : goal.returns-in_err-script-clause-cause
-returns-in_err-script-clause-cause c =
-    passed c.from_residual-in_err-script.result c.in_err-script.field-0.0 (λ fault. (fault ≡ Memory) ⊎ IsHistoryRefusal c.args.module.now c.args.script.now c.args.turns fault) c.from_residual-in_err-script.ensures.1
-    (elim c.in_err-script.ensures.cause [ inl memory ↦ inl memory | inr refused ↦ inr (OfInputs (ByScript c.in_ok-checked.checked c.in_ok-checked.ensures.taken refused)) ])
+no-text : {T : Type 0} (r : Result T Fault) (err : Fault) (P : T → Type 0) → IsErrAnd r (λ other. other ≡ err) → IfOk r P
+no-text (Ok x) err P e = absurd e
+no-text (Err other) err P e = tt
 
-pub returns-in_err-script-clause-refused : goal.returns-in_err-script-clause-refused
-returns-in_err-script-clause-refused c =
-    script-refused-answer c.args.module.now c.args.script.now c.args.turns c.module_of.result c.module_of.ensures.refused c.module_of.ensures.accepted c.in_ok-checked.checked c.in_ok-checked.was c.script_of.result c.script_of.ensures.refused c.script_of.ensures.accepted c.in_err-script.field-0.0 c.in_err-script.was c.from_residual-in_err-script.result c.from_residual-in_err-script.ensures.1
+pub returns-in_err-checked-clause-accepted : goal.returns-in_err-checked-clause-accepted
+returns-in_err-checked-clause-accepted c = λ text history. (
+  no-text c.from_residual.result c.in_err-checked.field-0.0 (λ bytes. bytes.items ≡ text) c.from_residual.ensures.1,
+  inputs-memory c.args.module.now c.args.script.now c.inputs_of.result c.inputs_of.ensures.refused c.inputs_of.ensures.accepted c.in_err-checked.field-0.0 c.in_err-checked.was c.from_residual.result c.from_residual.ensures.1
+      history.m history.script history.inputs,
+)
 
-pub history_of-requires-clause-supported : goal.history_of-requires-clause-supported
-history_of-requires-clause-supported c = c.accepted_modules_run.ensures.supported c.in_ok-checked.checked c.in_ok-checked.ensures.taken.accepted
-
-pub history_of-requires-clause-short : goal.history_of-requires-clause-short
-history_of-requires-clause-short c =
-    let taken = c.in_ok-checked.ensures.taken in
-    c.accepted_modules_run.ensures.short c.in_ok-checked.checked (length c.args.module.now) taken.accepted c.requires (c.lists_of_encoding.ensures.within Core c.args.module.now c.in_ok-checked.checked taken.encoded)
-
--- why there is no history, of the bytes of the module and of the script
-returned : {T : Type 0} (r : Result T Fault) (P Q : Fault → Type 0) → ((fault : Fault) → P fault → Q fault) → IfErr r (λ fault. (fault ≡ Memory) ⊎ P fault) → IfErr r (λ fault. (fault ≡ Memory) ⊎ Q fault)
-returned (Ok x) P Q f cause = tt
-returned (Err fault) P Q f (inl memory) = inl memory
-returned (Err fault) P Q f (inr cause) = inr (f fault cause)
+pub returns-clause-printed : goal.returns-clause-printed
+returns-clause-printed c =
+    IfOk-weaker c.history_of.result (λ bytes. IsHistoryOf c.in_ok-checked.checked c.in_ok-checked.script c.args.turns bytes.items)
+    (λ bytes. IsHistory c.args.module.now c.args.script.now c.args.turns bytes.items)
+    (λ bytes history. record { m = c.in_ok-checked.checked; script = c.in_ok-checked.script; inputs = c.in_ok-checked.ensures.taken.inputs; history = history })
+    c.history_of.ensures.printed
 
 pub returns-clause-cause : goal.returns-clause-cause
 returns-clause-cause c =
-    let m = c.in_ok-checked.checked in
-    let script = c.in_ok-script.script in
-    returned c.history_of.result (IsUntold m script c.args.turns) (IsHistoryRefusal c.args.module.now c.args.script.now c.args.turns)
-    (λ fault untold. OfRun m script (record { is_module = c.in_ok-checked.ensures.taken; is_script = c.in_ok-script.ensures.taken }) untold) c.history_of.ensures.cause
+    IfErr-weaker c.history_of.result (λ fault. (fault ≡ Memory) ⊎ IsUntold c.in_ok-checked.checked c.in_ok-checked.script c.args.turns fault)
+    (λ fault. (fault ≡ Memory) ⊎ IsHistoryRefusal c.args.module.now c.args.script.now c.args.turns fault)
+    (λ fault either. elim either [ inl memory ↦ inl memory | inr untold ↦ inr (OfRun c.in_ok-checked.checked c.in_ok-checked.script c.in_ok-checked.ensures.taken.inputs untold) ])
+    c.history_of.ensures.cause
 
 pub returns-clause-refused : goal.returns-clause-refused
 returns-clause-refused c = λ fault refusal.
     c.history_of.ensures.refused fault
-    (run-refused c.args.module.now c.args.script.now c.args.turns c.module_of.result c.module_of.ensures.refused c.module_of.ensures.accepted c.in_ok-checked.checked c.in_ok-checked.was c.script_of.result c.script_of.ensures.refused c.script_of.ensures.accepted c.in_ok-script.script c.in_ok-script.was fault refusal)
+    (inputs-why c.args.module.now c.args.script.now c.inputs_of.result c.inputs_of.ensures.refused c.inputs_of.ensures.accepted c.in_ok-checked.checked c.in_ok-checked.script c.in_ok-checked.was
+    (Why c.args.turns) fault (why c.args.module.now c.args.script.now c.args.turns fault refusal))
 
 pub returns-clause-accepted : goal.returns-clause-accepted
 returns-clause-accepted c = λ text history.
     c.history_of.ensures.accepted text
-    (run-accepted c.args.module.now c.args.script.now c.args.turns c.module_of.result c.module_of.ensures.refused c.module_of.ensures.accepted c.in_ok-checked.checked c.in_ok-checked.was c.script_of.result c.script_of.ensures.refused c.script_of.ensures.accepted c.in_ok-script.script c.in_ok-script.was text history)
+    (inputs-same c.args.module.now c.args.script.now c.inputs_of.result c.inputs_of.ensures.refused c.inputs_of.ensures.accepted c.in_ok-checked.checked c.in_ok-checked.script c.in_ok-checked.was
+    (λ m script. IsHistoryOf m script c.args.turns text) history.m history.script history.inputs history.history)

@@ -6,4 +6,5 @@ use Rattle.r3_inputs.proofs.inputs.script_of.Goals as goal
 pub returns-in-Ok-clause-fits : goal.returns-in-Ok-clause-fits
 returns-in-Ok-clause-fits c =
     subst (λ (m : Module). Fits m c.in-Ok.script) c.module.ensures.same
-    (c.scripts_that_are_read_fit.ensures.texts c.module.result.now c.args.bytes.now c.in-Ok.script c.module.ensures.valid c.in-Ok.ensures)
+    (c.scripts_that_are_read_fit.ensures.texts c.module.result.now c.args.bytes.now c.in-Ok.script
+    c.module.ensures.valid c.in-Ok.ensures)

@@ -19,5 +19,7 @@ pieces-preserved g c =
       loaded = λ told e.
           let e' = sym c.in_ok-count.ensures.contents_unchanged ∙ e in
           rw c.in_ok-extend_from_slice.ensures.items
-          (take-piece _ _ c.read_at.new.into rest (vec_len c.pieces.bytes) _ c.in_ok-count.count _ (c.pieces.invariant.loaded told e') c.len-in-pieces.ensures (c.in_ok-count.ensures.piece told e') fits more);
+          (take-piece _ _ c.read_at.new.into rest (vec_len c.pieces.bytes) _ c.in_ok-count.count _
+          (c.pieces.invariant.loaded told e') c.len-in-pieces.ensures (c.in_ok-count.ensures.piece told e') fits
+          more);
     }

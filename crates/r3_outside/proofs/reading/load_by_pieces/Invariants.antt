@@ -12,7 +12,8 @@ invariant-pieces g l = record {
   faults_never_fall : g.F.Files.faults l.initial.files ≤ g.F.Files.faults l.files;
   taken_never_falls : g.F.Files.taken l.initial.files ≤ g.F.Files.taken l.files;
   took : Took (g.F.Files.taken l.initial.files) (g.F.Files.taken l.files) (vec_len l.bytes);
-  loaded : ForSome (g.F.Files.contents l.files) (λ told. l.bytes.items ≡ take (vec_len l.bytes) (file_bytes told l.name));
+  loaded : ForSome (g.F.Files.contents l.files)
+      (λ told. l.bytes.items ≡ take (vec_len l.bytes) (file_bytes told l.name));
 }
 
 abbrev pub decreases-pieces : goal.decreases-pieces

@@ -1,11 +1,12 @@
 use Rattle.std.proofs.Common.{arith, length-drop}
 use Rattle.std.proofs.lemmas.List.{take_rest}
-use Rattle.r3_outside.proofs.WrittenLemmas.{Grew-more, GrewByPrefix-failed, OnErr-always}
+use Rattle.r3_outside.proofs.GrowthLemmas.{Grew-more, GrewByPrefix-failed, OnErr-always}
 use Rattle.r3_outside.proofs.writing.put_all.Goals as goal
 
 pub returns-in_err-done-clause-wrote_prefix : goal.returns-in_err-done-clause-wrote_prefix
 returns-in_err-done-clause-wrote_prefix g c =
-    OnErr-always c.from_residual.result (GrewByPrefix-failed _ _ _ _ c.pieces.done c.pieces.invariant.grew c.in_err-done.ensures.wrote_none)
+    OnErr-always c.from_residual.result
+    (GrewByPrefix-failed _ _ _ _ c.pieces.done c.pieces.invariant.grew c.in_err-done.ensures.wrote_none)
 
 pub pieces-preserved : goal.pieces-preserved
 pieces-preserved g c =

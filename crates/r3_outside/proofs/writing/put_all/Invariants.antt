@@ -1,5 +1,5 @@
 use Rattle.std.proofs.Common.{length, take, ◌-◌, ◌≤◌}
-use Rattle.r3_outside.specs.Written.{Grew}
+use Rattle.r3_outside.specs.Growth.{Grew}
 use Rattle.r3_outside.proofs.writing.put_all.Given as goal
 
 abbrev pub invariant-pieces : goal.invariant-pieces

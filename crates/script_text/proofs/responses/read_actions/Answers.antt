@@ -2,7 +2,7 @@ use Rattle.std.proofs.lemmas.Result.{err_from_is_err_and}
 use Rattle.serde_json.specs.View.{items_view}
 use Rattle.script_text.specs.Walk.{items_from}
 use Rattle.script_text.specs.Actions.{action_of}
-use Rattle.script_text.specs.Placed.{place_of}
+use Rattle.script_text.specs.Places.{place_of}
 use Rattle.script_text.proofs.Loops.{goes_on, ends, is_done}
 use Rattle.script_text.proofs.responses.read_actions.Goals as goal
 

@@ -2,7 +2,7 @@ use Rattle.std.proofs.Common.{◌≡◌, drop}
 use Rattle.serde_json.specs.View.{items_view}
 use Rattle.script_text.specs.Walk.{items_from}
 use Rattle.script_text.specs.Actions.{action_of}
-use Rattle.script_text.specs.Placed.{place_of}
+use Rattle.script_text.specs.Places.{place_of}
 use Rattle.script_text.proofs.Loops.{with_front}
 use Rattle.script_text.proofs.responses.read_actions.Given as goal
 

@@ -1,6 +1,6 @@
 use Rattle.std.proofs.Common.{◌≡◌, ◌<◌, ◌^◌, ◌∷◌, ◌++◌, drop}
 use Rattle.wasm_syntax.specs.Encoding.Readers.{runs_of}
-use Rattle.wasm_decode.proofs.Joining.{counts}
+use Rattle.wasm_decode.proofs.Counts.{counts}
 use Rattle.wasm_decode.proofs.locals.runs_of.Given as goal
 
 abbrev pub invariant-loop-run : goal.invariant-loop-run

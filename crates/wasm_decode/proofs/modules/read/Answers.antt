@@ -1,7 +1,7 @@
 use Rattle.std.proofs.Common.{◌≡◌, ◌<◌, ◌≤◌, length, Some, None, sym, ◌∙◌, arith}
 use Rattle.std.proofs.lemmas.Bool.Decides.{nat_tests}
 use Rattle.std.proofs.lemmas.List.{nil_from_length}
-use Rattle.wasm_decode.proofs.Whole.{AreRead, not_begun, place, left_over, all_read}
+use Rattle.wasm_decode.proofs.ModuleLemmas.{AreRead, not_begun, place, left_over, all_read}
 use Rattle.wasm_decode.proofs.modules.read.Goals as goal
 
 pub returns-in_default : goal.returns-in_default
@@ -10,29 +10,37 @@ returns-in_default c = not_begun c.args.form c.args.bytes.now c.in_default.ensur
 pub returns-then-not-is_empty : goal.returns-then-not-is_empty
 returns-then-not-is_empty c =
     let begun = c.in-Some.ensures.cases in
-    let few : length c.in-Some.behind.now ≤ length c.args.bytes.now = omega arith in
-    let read : AreRead c.args.form c.args.bytes.now c.in-Some.behind.now c.in_ok-draft.draft c.in_ok-draft.rest.now = c.in_ok-draft.ensures.read (length c.args.bytes.now) few in
+    let few : length c.in-Some.after.now ≤ length c.args.bytes.now = omega arith in
+    let read : AreRead c.args.form c.args.bytes.now c.in-Some.after.now c.in_ok-draft.draft c.in_ok-draft.rest.now =
+    c.in_ok-draft.ensures.read (length c.args.bytes.now) few in
     let some : 0 < length c.in_ok-draft.rest.now = grind (arith, nat_tests) in (
-      left_over c.args.form c.args.bytes.now c.in-Some.behind.now c.in_ok-draft.draft c.in_ok-draft.rest.now begun.0 begun.1 read some,
-      place c.args.form c.args.bytes.now c.in-Some.behind.now c.in_ok-draft.draft c.in_ok-draft.rest.now begun.0 begun.1 read,
+      left_over c.args.form c.args.bytes.now c.in-Some.after.now c.in_ok-draft.draft c.in_ok-draft.rest.now begun.0
+          begun.1 read some,
+      place c.args.form c.args.bytes.now c.in-Some.after.now c.in_ok-draft.draft c.in_ok-draft.rest.now begun.0
+          begun.1 read,
     )
 
 pub returns-in-Some-2 : goal.returns-in-Some-2
 returns-in-Some-2 c =
     let begun = c.in-Some.ensures.cases in
-    let few : length c.in-Some.behind.now ≤ length c.args.bytes.now = omega arith in
-    let read : AreRead c.args.form c.args.bytes.now c.in-Some.behind.now c.in_ok-draft.draft c.in_ok-draft.rest.now = c.in_ok-draft.ensures.read (length c.args.bytes.now) few in
+    let few : length c.in-Some.after.now ≤ length c.args.bytes.now = omega arith in
+    let read : AreRead c.args.form c.args.bytes.now c.in-Some.after.now c.in_ok-draft.draft c.in_ok-draft.rest.now =
+    c.in_ok-draft.ensures.read (length c.args.bytes.now) few in
     let none : length c.in_ok-draft.rest.now ≡ 0 = grind (arith, nat_tests) in
-    all_read c.args.form c.args.bytes.now c.in-Some.behind.now c.in_ok-draft.draft c.in_ok-draft.rest.now (Some c.in-Some-2.module) begun.0 begun.1 read (nil_from_length c.in_ok-draft.rest.now none)
+    all_read c.args.form c.args.bytes.now c.in-Some.after.now c.in_ok-draft.draft c.in_ok-draft.rest.now
+    (Some c.in-Some-2.module) begun.0 begun.1 read (nil_from_length c.in_ok-draft.rest.now none)
     (sym c.in-Some-2.is ∙ c.in_ok-module.ensures)
 
 pub returns-in-None : goal.returns-in-None
 returns-in-None c =
     let begun = c.in-Some.ensures.cases in
-    let few : length c.in-Some.behind.now ≤ length c.args.bytes.now = omega arith in
-    let read : AreRead c.args.form c.args.bytes.now c.in-Some.behind.now c.in_ok-draft.draft c.in_ok-draft.rest.now = c.in_ok-draft.ensures.read (length c.args.bytes.now) few in
+    let few : length c.in-Some.after.now ≤ length c.args.bytes.now = omega arith in
+    let read : AreRead c.args.form c.args.bytes.now c.in-Some.after.now c.in_ok-draft.draft c.in_ok-draft.rest.now =
+    c.in_ok-draft.ensures.read (length c.args.bytes.now) few in
     let none : length c.in_ok-draft.rest.now ≡ 0 = grind (arith, nat_tests) in (
-      all_read c.args.form c.args.bytes.now c.in-Some.behind.now c.in_ok-draft.draft c.in_ok-draft.rest.now None begun.0 begun.1 read (nil_from_length c.in_ok-draft.rest.now none)
+      all_read c.args.form c.args.bytes.now c.in-Some.after.now c.in_ok-draft.draft c.in_ok-draft.rest.now None
+          begun.0 begun.1 read (nil_from_length c.in_ok-draft.rest.now none)
           (sym c.in-None.is ∙ c.in_ok-module.ensures),
-      place c.args.form c.args.bytes.now c.in-Some.behind.now c.in_ok-draft.draft c.in_ok-draft.rest.now begun.0 begun.1 read,
+      place c.args.form c.args.bytes.now c.in-Some.after.now c.in_ok-draft.draft c.in_ok-draft.rest.now begun.0
+          begun.1 read,
     )

@@ -1,4 +1,5 @@
 use Rattle.std.specs.Prelude.{flat_map}
+use Rattle.wasm_opcodes.specs.declared.marks.TheConstants.{SECTION_GLOBAL, SECTION_EXPORT, SECTION_ELEMENT, SECTION_CODE, SECTION_DATA}
 use Rattle.wasm_encode.specs.Vectors.{vector_section}
 use Rattle.wasm_encode.proofs.ModuleLemmas.{definitions_appended, of_equal}
 use Rattle.wasm_syntax.specs.Encoding.Modules.{code_of}
@@ -9,10 +10,12 @@ use Rattle.wasm_encode.proofs.modules.write_definitions.Goals as goal
 pub returns : goal.returns
 returns c =
     definitions_appended c.args.module.now c.args.out.now.items _ _ _ _ _ _ _
-    (of_equal (vector_section 6 global_bytes) _ _ _ _ c.as_slice.ensures c.in_ok-write_section.ensures)
-    (of_equal (vector_section 7 export_bytes) _ _ _ _ c.as_slice-2.ensures c.in_ok-write_section-2.ensures)
+    (of_equal (vector_section SECTION_GLOBAL global_bytes) _ _ _ _ c.as_slice.ensures c.in_ok-write_section.ensures)
+    (of_equal (vector_section SECTION_EXPORT export_bytes) _ _ _ _ c.as_slice-2.ensures c.in_ok-write_section-2.ensures)
     c.in_ok-write_start.ensures
-    (of_equal (vector_section 9 elem_bytes) _ _ _ _ c.as_slice-3.ensures c.in_ok-write_section-3.ensures)
-    (of_equal (vector_section 10 (λ func. code_bytes (code_of func))) _ _ _ _ c.as_slice-4.ensures c.in_ok-write_section-4.ensures)
-    (of_equal (vector_section 11 data_bytes) _ _ _ _ c.as_slice-5.ensures c.in_ok-write_section-5.ensures)
-    (of_equal (flat_map (λ custom. section_bytes (CustomSection custom))) _ _ _ _ c.as_slice-6.ensures c.in_ok-write_items.ensures)
+    (of_equal (vector_section SECTION_ELEMENT elem_bytes) _ _ _ _ c.as_slice-3.ensures c.in_ok-write_section-3.ensures)
+    (of_equal (vector_section SECTION_CODE (λ func. code_bytes (code_of func))) _ _ _ _ c.as_slice-4.ensures
+    c.in_ok-write_section-4.ensures)
+    (of_equal (vector_section SECTION_DATA data_bytes) _ _ _ _ c.as_slice-5.ensures c.in_ok-write_section-5.ensures)
+    (of_equal (flat_map (λ custom. section_bytes (CustomSection custom))) _ _ _ _ c.as_slice-6.ensures
+    c.in_ok-write_items.ensures)

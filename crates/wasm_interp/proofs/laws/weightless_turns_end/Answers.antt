@@ -1,4 +1,4 @@
-use Rattle.wasm_interp.proofs.Lessening.{turn_lessens, settle_ahead, below_ahead, advance_lessens, step_lessens}
+use Rattle.wasm_interp.proofs.CodeAhead.{turn_lessens, settle_ahead, below_ahead, advance_lessens, step_lessens}
 use Rattle.wasm_interp.proofs.laws.weightless_turns_end.Goals as goal
 
 pub returns-clause-turns : goal.returns-clause-turns

@@ -1,16 +1,7 @@
-use Rattle.wasm_syntax.proofs.Encoding.Numbers.{NumberLaws}
 use Rattle.wasm_syntax.proofs.Encoding.Modules.{one_module, module_is_read, module_is_encoded}
 use Rattle.wasm_syntax.proofs.encoding_laws.module_encoding.Goals as goal
 
 pub returns : goal.returns
 returns c =
-    let laws : NumberLaws = record {
-      u32 = c.u32_encoding.ensures.read;
-      i32 = c.i32_encoding.ensures.read;
-      i64 = c.i64_encoding.ensures.read;
-      u32_range = c.u32_encoding.ensures.range;
-      u32_shortest = c.u32_encoding.ensures.shortest;
-      i32_shortest = c.i32_encoding.ensures.shortest;
-      i64_shortest = c.i64_encoding.ensures.shortest;
-    } in
+    let laws = c.number_encoding.ensures in
     record { one = one_module laws; read = module_is_read laws; encoded = module_is_encoded laws }

@@ -1,4 +1,4 @@
-use Rattle.wasm_syntax.proofs.Checked.{checked_fits, checked_from}
+use Rattle.wasm_syntax.proofs.NestTypes.{checked_fits, checked_from}
 use Rattle.wasm_syntax.proofs.laws.typing_is_checked.Goals as goal
 
 pub returns-clause-known : goal.returns-clause-known

@@ -1,4 +1,4 @@
-use Rattle.wasm_syntax.proofs.Decided.{bodies_decide}
+use Rattle.wasm_syntax.proofs.ValidityTests.{bodies_decide}
 use Rattle.wasm_syntax.proofs.Places.{valid_found, valid_if, invalid_found, invalid_if}
 use Rattle.wasm_syntax.proofs.laws.validity_is_decided.Goals as goal
 

@@ -1,5 +1,5 @@
 use Rattle.std.proofs.Common.{◌≡◌, not, take, ap, ◌∙◌}
-use Rattle.wasm_validate.specs.Names.{seen}
+use Rattle.wasm_validate.specs.Names.{exports_have}
 use Rattle.wasm_validate.proofs.NameLemmas.{fresh-stops, fresh-ends, fresh-all}
 use Rattle.wasm_validate.proofs.export_names.names_differ.Goals as goal
 
@@ -7,8 +7,8 @@ pub returns-then-not-branch : goal.returns-then-not-branch
 returns-then-not-branch c =
     let exports = c.args.exports.now in
     let i = c.exports.export-index in
-    let told : c.in_ok-add.field-0 ≡ not (seen (take i exports) c.export-item.result.name) =
-    c.in_ok-add.ensures.added ∙ ap not (c.exports.invariant.known c.as_str.result.now ∙ ap (seen (take i exports)) c.as_str.ensures)
+    let told : c.in_ok-add.field-0 ≡ not (exports_have (take i exports) c.export-item.result.name) =
+    c.in_ok-add.ensures.added ∙ ap not (c.exports.invariant.known c.as_str.result.now ∙ ap (exports_have (take i exports)) c.as_str.ensures)
     in
     fresh-stops exports i c.export-item.result c.in_ok-add.field-0 c.exports-test.true c.export-item.is told c.if-not-branch.true ∙ c.exports.invariant.left ∙ fresh-all exports
 

@@ -2,7 +2,7 @@ use Rattle.std.proofs.Common.{◌≡◌, Bool, true, not, [], get_or, List, ap, 
 use Rattle.std.specs.Prelude.{position}
 use Rattle.wasm_syntax.specs.declared.modules.Func.{Func}
 use Rattle.wasm_syntax.specs.declared.modules.Module.{Module}
-use Rattle.wasm_syntax.specs.Deciding.{is_typed_func}
+use Rattle.wasm_syntax.specs.ValidityTests.{is_typed_func}
 use Rattle.wasm_validate.proofs.FuncLemmas.{position-found, position-none}
 use Rattle.wasm_validate.proofs.funcs.first_untyped.Goals as goal
 

@@ -1,6 +1,6 @@
 use Rattle.std.proofs.Common.{◌≡◌, ℕ, ◌<◌, get_or, not, false}
 use Rattle.wasm_syntax.specs.declared.modules.Func.{Func}
-use Rattle.wasm_syntax.specs.Deciding.{is_typed_func}
+use Rattle.wasm_syntax.specs.ValidityTests.{is_typed_func}
 use Rattle.wasm_validate.proofs.funcs.first_untyped.Given as goal
 
 abbrev pub invariant-funcs : goal.invariant-funcs

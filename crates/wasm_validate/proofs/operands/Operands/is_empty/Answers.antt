@@ -1,5 +1,5 @@
 use Rattle.std.proofs.Common.{ap, ◌∙◌, rules}
-use Rattle.wasm_syntax.specs.Checking.{none_left}
+use Rattle.wasm_syntax.specs.KnownStacks.{none_left}
 use Rattle.wasm_validate.proofs.StackLemmas.{none_left-above}
 use Rattle.wasm_validate.proofs.operands.Operands.is_empty.Goals as goal
 

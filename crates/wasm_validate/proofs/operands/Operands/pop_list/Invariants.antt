@@ -1,5 +1,5 @@
 use Rattle.std.proofs.Common.{◌≡◌, ◌≤◌, length, reverse, take}
-use Rattle.wasm_syntax.specs.Checking.{pops}
+use Rattle.wasm_syntax.specs.KnownStacks.{pops}
 use Rattle.wasm_validate.proofs.operands.Operands.pop_list.Given as goal
 
 abbrev pub invariant-types : goal.invariant-types

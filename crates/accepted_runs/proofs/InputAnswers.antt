@@ -1,0 +1,132 @@
+-- Answers for the module and the script that bytes are, and what they say of calls that begin with them.
+use Rattle.std.proofs.Common.{◌≡◌, ◌⊎◌, inl, inr, ℕ, List, Result, Ok, Err, IfErr, sym, ◌∙◌, ap, subst}
+use Rattle.std.specs.Result.{IsErrAnd}
+use Rattle.wasm_syntax.specs.declared.modules.Module.{Module}
+use Rattle.host_script.specs.declared.scripts.Script.{Script}
+use Rattle.script_text.specs.Texts.{script_of_text}
+use Rattle.r3_faults.specs.declared.faults.Fault.{Fault}
+use Rattle.r3_faults.specs.declared.faults.Fault.TheVariants.{Memory}
+use Rattle.r3_inputs.specs.Inputs.{IsModuleOf, IsRefusedModule, IsRefusedScript, AreInputs, AreRefused, ByModule, ByScript}
+
+-- the answer is this fault, or memory is out
+abbrev pub IsAnswer : {T : Type 0} → Result T Fault → Fault → Type 0
+IsAnswer r fault = (r ≡ Err fault) ⊎ (r ≡ Err Memory)
+
+ok-err : {T : Type 0} (x : T) (f : Fault) → Ok x ≡ Err f → ⊥
+ok-err x f e = cc e
+
+err-one : {T : Type 0} (r : Result T Fault) (f g : Fault) → r ≡ Err f → r ≡ Err g → f ≡ g
+err-one r f g e h = cc (sym e ∙ h)
+
+ok-one : {T : Type 0} (x y : T) (r : Result T Fault) → r ≡ Ok x → r ≡ Ok y → x ≡ y
+ok-one x y r e f = cc (sym e ∙ f)
+
+-- what an answer that is a fault, or a value, says of another
+memory-err : {U : Type 0} (s : Result U Fault) (x : U) (fault : Fault) → s ≡ Err fault → (s ≡ Ok x) ⊎ (s ≡ Err Memory) → fault ≡ Memory
+memory-err s x fault is (inl ok) = absurd (ok-err x fault (sym ok ∙ is))
+memory-err s x fault is (inr memory) = err-one s fault Memory is memory
+
+answer-err : {U : Type 0} (s : Result U Fault) (fault wanted : Fault) → s ≡ Err fault → IsAnswer s wanted → (fault ≡ wanted) ⊎ (fault ≡ Memory)
+answer-err s fault wanted is (inl same) = inl (err-one s fault wanted is same)
+answer-err s fault wanted is (inr memory) = inr (err-one s fault Memory is memory)
+
+value-one : {U : Type 0} (s : Result U Fault) (x y : U) → s ≡ Ok x → (s ≡ Ok y) ⊎ (s ≡ Err Memory) → y ≡ x
+value-one s x y is (inl ok) = ok-one y x s ok is
+value-one s x y is (inr memory) = absurd (ok-err x Memory (sym is ∙ memory))
+
+value-no : {U : Type 0} (s : Result U Fault) (x : U) (fault : Fault) → s ≡ Ok x → IsAnswer s fault → ⊥
+value-no s x fault is (inl same) = ok-err x fault (sym is ∙ same)
+value-no s x fault is (inr memory) = ok-err x Memory (sym is ∙ memory)
+
+-- a module and a script
+abbrev pub both : Module → Script → Module × Script
+both m script = (m, script)
+
+-- ---- the answer for a module, and for a script
+
+err-answer : {T : Type 0} (r : Result T Fault) (fault wanted : Fault) → r ≡ Err fault → (fault ≡ wanted) ⊎ (fault ≡ Memory) → IsAnswer r wanted
+err-answer r fault wanted e (inl same) = inl (e ∙ ap Err same)
+err-answer r fault wanted e (inr memory) = inr (e ∙ ap Err memory)
+
+module _ (module_bytes script_bytes : List ℕ) (q : Result Module Fault)
+    (refused : (f : Fault) → IsRefusedModule module_bytes f → IsAnswer q f) (accepted : (m : Module) → IsModuleOf module_bytes m → (q ≡ Ok m) ⊎ (q ≡ Err Memory)) where
+  -- a module that is not taken
+  module _ (err : Fault) (is : q ≡ Err err) where
+    pub module-refused : {T : Type 0} (r : Result T Fault) → r ≡ Err err → (fault : Fault) → AreRefused module_bytes script_bytes fault → IsAnswer r fault
+    module-refused r e fault (ByModule x) = err-answer r err fault e (answer-err q err fault is (refused fault x))
+    module-refused r e fault (ByScript m taken x) = err-answer r err fault e (inr (memory-err q m err is (accepted m taken)))
+
+    pub module-accepted : {T : Type 0} (r : Result T Fault) (x : T) → r ≡ Err err → (m : Module) → IsModuleOf module_bytes m → (r ≡ Ok x) ⊎ (r ≡ Err Memory)
+    module-accepted r x e m taken = inr (e ∙ ap Err (memory-err q m err is (accepted m taken)))
+
+  -- a module that is taken
+  module _ (checked : Module) (is : q ≡ Ok checked) (s : Result Script Fault)
+      (script-refused : (f : Fault) → IsRefusedScript checked script_bytes f → IsAnswer s f) (script-accepted : (script : Script) → script_of_text checked script_bytes ≡ Ok script → (s ≡ Ok script) ⊎ (s ≡ Err Memory)) where
+    same : (m : Module) → IsModuleOf module_bytes m → m ≡ checked
+    same m taken = value-one q checked m is (accepted m taken)
+
+    for-module : (m : Module) (script : Script) → AreInputs module_bytes script_bytes m script → (s ≡ Ok script) ⊎ (s ≡ Err Memory)
+    for-module m script inputs =
+        script-accepted script (subst (λ m. script_of_text m script_bytes ≡ Ok script) (same m inputs.is_module) inputs.is_script)
+
+    refused-for : (m : Module) (fault : Fault) → IsModuleOf module_bytes m → IsRefusedScript m script_bytes fault → IsAnswer s fault
+    refused-for m fault taken x = script-refused fault (subst (λ m. IsRefusedScript m script_bytes fault) (same m taken) x)
+
+    -- a script that is not taken
+    module _ (err : Fault) (at : s ≡ Err err) where
+      pub script-not-taken : {T : Type 0} (r : Result T Fault) → r ≡ Err err → (fault : Fault) → AreRefused module_bytes script_bytes fault → IsAnswer r fault
+      script-not-taken r e fault (ByModule x) = absurd (value-no q checked fault is (refused fault x))
+      script-not-taken r e fault (ByScript m taken x) = err-answer r err fault e (answer-err s err fault at (refused-for m fault taken x))
+
+      pub script-wanted : {T : Type 0} (r : Result T Fault) (x : T) → r ≡ Err err → (m : Module) (script : Script) → AreInputs module_bytes script_bytes m script → (r ≡ Ok x) ⊎ (r ≡ Err Memory)
+      script-wanted r x e m script inputs = inr (e ∙ ap Err (memory-err s script err at (for-module m script inputs)))
+
+    -- a script that is taken
+    module _ (script : Script) (at : s ≡ Ok script) where
+      pub both-refused : (fault : Fault) → AreRefused module_bytes script_bytes fault → ⊥
+      both-refused fault (ByModule x) = value-no q checked fault is (refused fault x)
+      both-refused fault (ByScript m taken x) = value-no s script fault at (refused-for m fault taken x)
+
+      pub both-same : (m : Module) (other : Script) → AreInputs module_bytes script_bytes m other → both checked script ≡ both m other
+      both-same m other inputs =
+          ap (λ n. both n script) (sym (same m inputs.is_module)) ∙ ap (both m) (sym (value-one s script other at (for-module m other inputs)))
+
+-- ---- calls that begin with both
+
+-- a call is refused for its inputs, or for what its module and script are
+abbrev pub IsWhy : (module_bytes script_bytes : List ℕ) → (Why : Module → Script → Fault → Type 0) → Fault → Type 0
+IsWhy module_bytes script_bytes Why fault =
+    AreRefused module_bytes script_bytes fault ⊎ ((m : Module) × (script : Script) × AreInputs module_bytes script_bytes m script × Why m script fault)
+
+-- what holds of the fault that is passed on
+pub passed : {T : Type 0} (r : Result T Fault) (fault : Fault) (P : Fault → Type 0) → IsErrAnd r (λ other. other ≡ fault) → P fault → IfErr r P
+passed (Ok x) fault P e p = tt
+passed (Err other) fault P e p = subst P (sym e) p
+
+answer-passed : {T : Type 0} (r : Result T Fault) (fault wanted : Fault) → IsErrAnd r (λ other. other ≡ fault) → (fault ≡ wanted) ⊎ (fault ≡ Memory) → IsAnswer r wanted
+answer-passed (Ok x) fault wanted e either = absurd e
+answer-passed (Err other) fault wanted e (inl same) = inl (ap Err (e ∙ same))
+answer-passed (Err other) fault wanted e (inr memory) = inr (ap Err (e ∙ memory))
+
+module _ (module_bytes script_bytes : List ℕ) (q : Result (Module × Script) Fault)
+    (refused : (f : Fault) → AreRefused module_bytes script_bytes f → IsAnswer q f)
+    (accepted : (m : Module) (script : Script) → AreInputs module_bytes script_bytes m script → (q ≡ Ok (m, script)) ⊎ (q ≡ Err Memory)) where
+  -- they are not taken, and the call passes the fault on
+  module _ (err : Fault) (is : q ≡ Err err) where
+    pub inputs-memory : {T : Type 0} (r : Result T Fault) → IsErrAnd r (λ other. other ≡ err) → (m : Module) (script : Script) → AreInputs module_bytes script_bytes m script → IfErr r (λ other. other ≡ Memory)
+    inputs-memory r passes m script inputs =
+        passed r err (λ other. other ≡ Memory) passes (memory-err q (m, script) err is (accepted m script inputs))
+
+    pub inputs-answer : {T : Type 0} (r : Result T Fault) → IsErrAnd r (λ other. other ≡ err) → (Why : Module → Script → Fault → Type 0) (fault : Fault) → IsWhy module_bytes script_bytes Why fault → IsAnswer r fault
+    inputs-answer r passes Why fault (inl x) = answer-passed r err fault passes (answer-err q err fault is (refused fault x))
+    inputs-answer r passes Why fault (inr why) = answer-passed r err fault passes (inr (memory-err q (why.0, why.1) err is (accepted why.0 why.1 why.2)))
+
+  -- they are taken
+  module _ (checked : Module) (script : Script) (is : q ≡ Ok (checked, script)) where
+    pub inputs-same : (P : Module → Script → Type 0) (m : Module) (other : Script) → AreInputs module_bytes script_bytes m other → P m other → P checked script
+    inputs-same P m other inputs p =
+        subst (λ (both : Module × Script). P both.0 both.1) (value-one q (checked, script) (m, other) is (accepted m other inputs)) p
+
+    pub inputs-why : (Why : Module → Script → Fault → Type 0) (fault : Fault) → IsWhy module_bytes script_bytes Why fault → Why checked script fault
+    inputs-why Why fault (inl x) = absurd (value-no q (checked, script) fault is (refused fault x))
+    inputs-why Why fault (inr why) = inputs-same (λ m script. Why m script fault) why.0 why.1 why.2 why.3

@@ -1,0 +1,46 @@
+// The instantiation of an accepted module under a script.
+
+ghost use Rattle.std.specs.Prelude.{◌≡◌, ◌⊎◌, Ok, IfErr, IfOk};
+ghost use Rattle.wasm_syntax.specs.Profile.{IsSupported};
+ghost use Rattle.host_script.specs.Fits.{Fits};
+ghost use Rattle.history_spec.specs.Run.{run_start, start_in_store};
+ghost use Rattle.type_safety.specs.Stores.{IsStore};
+ghost use Rattle.type_safety.specs.Supplies.{HasBytes};
+ghost use Rattle.r3_faults.specs.declared.faults.Fault.TheVariants.{Memory};
+ghost use Rattle.accepted_runs.specs.Unlinked.{IsUnlinkedFor};
+
+use host_link::{LinkFault, link};
+use host_script::Script;
+use r3_faults::Fault;
+use std::alloc::Global;
+use wasm_store::Store;
+use wasm_validate::Checked;
+
+/// The store that the run of a module under a script that fits it starts with.
+///
+/// # Errors
+///
+/// `Missing`, `Mismatch` or `Segment` where the module does not link with the script; `Memory` where
+/// memory is out.
+pub fn start_store(alloc: Global, checked: &Checked, script: &Script) -> Result<Store, Fault>
+    requires supported { IsSupported checked.now }
+    requires fits { Fits checked.now script.now }
+    ensures typed { IfOk result (λ store. HasBytes checked.now → IsStore checked.now store) }
+    ensures opened { IfOk result (λ store.
+        run_start checked.now script.now ≡ Ok (start_in_store checked.now script.now store)) }
+    ensures cause { IfErr result (λ fault. (fault ≡ Memory) ⊎ IsUnlinkedFor checked.now script.now fault) }
+{
+    match link(alloc, checked, script) {
+        Ok(store) => Ok(store),
+        Err(LinkFault::Missing { import }) => Err(Fault::Missing {
+            import: u64::from(import),
+        }),
+        Err(LinkFault::Mismatch { import }) => Err(Fault::Mismatch {
+            import: u64::from(import),
+        }),
+        Err(LinkFault::Segment { number }) => Err(Fault::Segment {
+            number: u64::from(number),
+        }),
+        Err(LinkFault::Memory) => Err(Fault::Memory),
+    }
+}

@@ -1,0 +1,83 @@
+//! A program that measures: it runs a function of a module by the machine alone for at most a given number of
+//! turns. It prints where the machine pauses and how many turns it took, and what takes the time is the run.
+#![tactic(auto)]
+
+ghost use Rattle.std.specs.Prelude.{◌≤◌, IfOk, length};
+ghost use Rattle.wasm_syntax.specs.declared.limits.TheConstants.{MOST_FILE_BYTES};
+
+mod calls;
+mod runs;
+
+use calls::call_of;
+use r3_faults::Fault;
+use r3_outside::{DiskFiles, Files, LoadFault, Sink, StdSink, load, put_all};
+use runs::line_of_run;
+use std::alloc::Global;
+use std::io::ErrorKind;
+use std::process::ExitCode;
+use std::rt::Env;
+use std::{env, io};
+use wasm_syntax::Name;
+use wasm_syntax::limits::MOST_FILE_BYTES;
+
+/// The most bytes of a module.
+const MODULE: u64 = MOST_FILE_BYTES;
+
+fn main(rt: HostRuntime) -> ExitCode {
+    let mut out = StdSink::new(rt.stdout());
+    let mut err = StdSink::new(rt.stderr());
+    let words = match words(&rt) {
+        Ok(words) => words,
+        Err(fault) if fault.kind() == ErrorKind::OutOfMemory => {
+            let _ = Fault::Memory.put_line(&mut err);
+            return ExitCode::from(Fault::Memory.status());
+        }
+        // A word that is no text has no form.
+        Err(_) => Vec::new(rt.alloc()),
+    };
+    let alloc = rt.alloc();
+    let mut files = DiskFiles::new(rt);
+    match run(alloc, &words, &mut files, &mut out) {
+        Ok(()) => ExitCode::from(0),
+        Err(fault) => {
+            let _ = fault.put_line(&mut err);
+            ExitCode::from(fault.status())
+        }
+    }
+}
+
+/// The words after the program's name.
+fn words<R: Env + AllocGlobal>(rt: &R) -> io::Result<Vec<String>> {
+    Ok(env::args(rt)?.skip(1).collect(rt.alloc())?)
+}
+
+/// Runs what the words say, and prints the line.
+fn run<F: Files, O: Sink>(
+    alloc: Global,
+    words: &[String],
+    files: &mut F,
+    out: &mut O,
+) -> Result<(), Fault> {
+    let call = call_of(words)?;
+    let bytes = module_in(alloc, files, call.module)?;
+    let line = line_of_run(alloc, &bytes, &call)?;
+    put_all(out, line.as_bytes())?;
+    Ok(())
+}
+
+/// The bytes of a module's file.
+fn module_in<F: Files>(alloc: Global, files: &mut F, name: &str) -> Result<Vec<u8>, Fault>
+    ensures { IfOk result (λ bytes. length bytes.items ≤ MOST_FILE_BYTES) }
+{
+    match load(alloc, files, name, MODULE) {
+        Ok(bytes) => Ok(bytes),
+        Err(LoadFault::Failed) => Err(Fault::Read {
+            name: Name::from_string(String::from_str(alloc, name)?),
+        }),
+        Err(LoadFault::TooLong) => Err(Fault::TooLong {
+            name: Name::from_string(String::from_str(alloc, name)?),
+            limit: MODULE,
+        }),
+        Err(LoadFault::Memory) => Err(Fault::Memory),
+    }
+}

@@ -1,0 +1,98 @@
+// Instantiation of a module with what a script supplies.
+
+ghost use Rattle.std.specs.Prelude.{◌≡◌, Ok, Err, IfOk, IfErr};
+ghost use Rattle.wasm_syntax.specs.Profile.{IsSupported};
+ghost use Rattle.host_script.specs.declared.scripts.LinkFault.TheVariants.{Memory as NoMemoryLeft, Segment};
+ghost use Rattle.host_script.specs.Fits.{Fits};
+ghost use Rattle.history_spec.specs.Instantiation as history;
+ghost use Rattle.history_spec.specs.Run.{run_start, start_in_store};
+ghost use Rattle.type_safety.specs.Stores.{IsStore};
+ghost use Rattle.type_safety.specs.Supplies.{HasBytes};
+ghost use Rattle.host_link.specs.Link.{HasLimits, first_of, link_result};
+
+use crate::constants::all_globals;
+use crate::segments::{first_unfit, write_segments};
+use host_script::{LinkFault, Script, Supply};
+use host_supply::supply_of;
+use no_memory::NoMemory;
+use std::alloc::Global;
+use type_safety::typed_store;
+use wasm_store::Store;
+use wasm_syntax::{Limits, Module};
+use wasm_validate::Checked;
+
+/// The store that the module's run under the script begins with (Core 1.0, 4.5.4). No instruction of
+/// the module is refused, its quantities are within their limits, and the script fits it.
+///
+/// # Errors
+/// `Missing` or `Mismatch` for the first import in order that is not supplied or does not match;
+/// else `Segment` for the first segment that passes its table or memory, element segments before
+/// data segments; `Memory` where an allocation failed.
+pub fn link(alloc: Global, checked: &Checked, script: &Script) -> Result<Store, LinkFault>
+    requires supported { IsSupported checked.now }
+    requires fits { Fits checked.now script.now }
+    ensures ok { IfOk result (λ store. link_result checked.now script.now ≡ Ok store) }
+    ensures err { IfErr result (λ fault. (fault ≡ NoMemoryLeft → ⊥)
+        → link_result checked.now script.now ≡ Err fault) }
+    ensures typed { IfOk result (λ store. HasBytes checked.now → IsStore checked.now store) }
+    ensures opened { IfOk result (λ store.
+        run_start checked.now script.now ≡ Ok (start_in_store checked.now script.now store)) }
+    ensures not_opened { IfErr result (λ fault. (fault ≡ NoMemoryLeft → ⊥)
+        → run_start checked.now script.now ≡ Err fault) }
+{
+    typed_store();
+    let module = checked.module();
+    let supply = supply_of(alloc, module, script)?;
+    instantiate(alloc, module, &supply)
+}
+
+/// The store of a module with a supply that matches its imports, or the first segment that does not
+/// fit. Nothing is written before all segments are checked.
+fn instantiate(alloc: Global, module: &Module, supply: &Supply) -> Result<Store, LinkFault>
+    requires { HasLimits «module».now supply.now }
+    ensures ok { IfOk result (λ store. history.instantiate «module».now supply.now ≡ Ok store) }
+    ensures err { IfErr result (λ fault. (fault ≡ NoMemoryLeft → ⊥)
+        → history.instantiate «module».now supply.now ≡ Err fault) }
+{
+    let imported = supply.globals.as_slice();
+    let Ok(mut store) = new_store(alloc, module, supply) else {
+        return Err(LinkFault::Memory);
+    };
+    if let Some(place) = first_unfit(&store, imported, module) {
+        return Err(unfit(place));
+    }
+    write_segments(&mut store, imported, module);
+    Ok(store)
+}
+
+/// The fault of the segment at a place, which does not fit. Segments that 32 bits do not count do
+/// not fit into memory either.
+fn unfit(place: u128) -> LinkFault
+    ensures { (result ≡ NoMemoryLeft → ⊥) → result ≡ Segment place }
+{
+    match u32::try_from(place) {
+        Ok(number) => LinkFault::Segment { number },
+        Err(_) => LinkFault::Memory,
+    }
+}
+
+/// The store before its segments are written.
+fn new_store(alloc: Global, module: &Module, supply: &Supply) -> Result<Store, NoMemory>
+    requires { HasLimits «module».now supply.now }
+    ensures { IfOk result (λ store. store ≡ history.new_store «module».now supply.now) }
+{
+    let globals = all_globals(alloc, supply.globals.as_slice(), module.globals.as_slice())?;
+    let pages = first_of(supply.memory, module.memories.as_slice());
+    let entries = first_of(supply.table, module.tables.as_slice());
+    Store::new(alloc, pages, entries, globals)
+}
+
+/// What is supplied, or else what is declared first.
+fn first_of(supplied: Option<Limits>, declared: &[Limits]) -> Option<Limits>
+    ensures { result ≡ first_of supplied declared.now }
+{
+    match supplied {
+        Some(limits) => Some(limits),
+        None => declared.first().copied(),
+    }
+}

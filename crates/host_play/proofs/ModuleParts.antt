@@ -1,0 +1,166 @@
+-- The module's part of a run, by many turns at once.
+use Rattle.std.proofs.Common.{◌≡◌, ℕ, suc, zero, ◌+◌, ◌*◌, ◌<◌, ◌≤◌, List, ◌∷◌, ◌++◌, length, Some, None, refl, sym, ap, ◌∙◌, subst, arith, inl, inr, append_assoc}
+use Rattle.wasm_syntax.specs.declared.modules.Module.{Module}
+use Rattle.wasm_syntax.specs.Index.{imported_funcs}
+use Rattle.host_script.specs.declared.scripts.Script.{Script}
+use Rattle.trace_model.specs.declared.outcomes.Outcome.TheVariants.{Trapped as ByTrap}
+use Rattle.history_spec.specs.declared.entries.Entry.{Entry}
+use Rattle.history_spec.specs.Budget.{IsSpent}
+use Rattle.history_spec.specs.Configuration.{Config, InModule}
+use Rattle.history_spec.specs.Settle.{settle}
+use Rattle.history_spec.specs.Store.{Store}
+use Rattle.history_spec.specs.Step.{StepResult, after_settling}
+use Rattle.history_spec.specs.Run.{Run, all_one, program_of, run_from, weight}
+use Rattle.wasm_flat.specs.declared.code.Flat.{Flat}
+use Rattle.wasm_flat.specs.Meters.{Weighing}
+use Rattle.flat_steps.specs.declared.frames.FlatFrame.{FlatFrame}
+use Rattle.flat_steps.specs.FlatStep as flat
+use Rattle.flat_steps.specs.Follows.{outside_of}
+use Rattle.flat_steps.specs.Runs.{taken, taken_by, turns, turns_by, weight_at}
+use Rattle.wasm_interp.specs.declared.machine.Pause.{Pause}
+use Rattle.wasm_interp.specs.declared.machine.Pause.TheVariants as pause
+use Rattle.wasm_interp.specs.Advance.{Advances, EndsBy, flat_meter, without_entries}
+use Rattle.wasm_interp.specs.State.{State}
+use Rattle.wasm_interp.specs.Calls.{Advanced, AdvancesRun, AreOwnUpTo, ComesToImport, EndsRun, config_of}
+use Rattle.host_play.specs.declared.play_state.Host.{Host}
+use Rattle.host_play.specs.declared.play_state.PlayState.{PlayState}
+use Rattle.host_play.specs.declared.play_state.Refusal.{Refusal}
+use Rattle.host_play.specs.declared.play_state.Stand.TheVariants as at
+use Rattle.host_play.specs.Hosts.{BeginsAnswer, HasNoResponse}
+use Rattle.host_play.specs.RunsSoFar.{CountsSoFar, HasCounted}
+use Rattle.host_play.specs.Results.{Refuses, play_fault}
+use Rattle.host_play.specs.Stands.{StandsAt}
+use Rattle.host_play.proofs.AnswerStarts as answering
+use Rattle.host_play.proofs.CallCounts as counting
+use Rattle.host_play.proofs.Arrivals.{at_host, at_trap}
+use Rattle.host_play.proofs.Joins.{run_joined}
+use Rattle.host_play.proofs.Reaches.{led, run_of, stopped, weight_one}
+use Rattle.host_play.proofs.Returns.{IsSettled, settle_pause}
+
+-- ---- a call of an import takes a turn
+
+pauses_at : (p : flat.Pause) (weight left index : ℕ) → EndsBy p weight left (pause.Import index) → p ≡ flat.Imports index
+pauses_at flat.Stands weight left index ends = let no : pause.Import index ≡ pause.Spent = ends.0 in cc
+pauses_at (flat.Imports i) weight left index ends = let same : Some (pause.Import i) ≡ Some (pause.Import index) = ends in cc
+pauses_at flat.Returned weight left index ends = let no : Some pause.Returned ≡ Some (pause.Import index) = ends in cc
+pauses_at flat.Trapped weight left index ends = let no : Some pause.Trapped ≡ Some (pause.Import index) = ends in cc
+
+taken_standing : (f : Flat) (count index : ℕ) (p : flat.Part) → p.pause ≡ flat.Stands → weight_at all_one p.frames ≡ 1 → (turns_by f count p flat.Stands).pause ≡ flat.Imports index → 0 < taken_by f all_one count p flat.Stands
+taken_standing f zero index p stands one is = cc
+taken_standing f (suc k) index p stands one is = omega arith
+
+stays_returned : (f : Flat) (count : ℕ) (p : flat.Part) → turns_by f count p flat.Returned ≡ p
+stays_returned f zero p = refl
+stays_returned f (suc k) p = refl
+
+taken_some : (f : Flat) (count index : ℕ) (p : flat.Part) → IsSettled p → (turns f count p).pause ≡ flat.Imports index → 0 < taken f all_one count p
+taken_some f count index p (inl stands) is =
+    subst (λ a. 0 < taken_by f all_one count p a) (sym stands.0) (taken_standing f count index p stands.0 stands.1 (subst (λ a. (turns_by f count p a).pause ≡ flat.Imports index) stands.0 is))
+taken_some f count index p (inr returned) is =
+    let there : (turns_by f count p flat.Returned).pause ≡ flat.Imports index = subst (λ a. (turns_by f count p a).pause ≡ flat.Imports index) returned is in
+    let no : flat.Returned ≡ flat.Imports index = sym returned ∙ sym (ap (λ (q : flat.Part). q.pause) (stays_returned f count p)) ∙ there in
+    cc
+
+pub import_takes_turn : (f : Flat) (store : Store) (frames : List FlatFrame) (slots : List ℕ) (weighing : Weighing) (given index left : ℕ) (new : State) → weighing ≡ None
+    → Advances f store frames slots weighing given (pause.Import index) left new → left < given
+import_takes_turn f store frames slots weighing given index left new none advances =
+    let a : Advances f store frames slots None given (pause.Import index) left new = subst (λ w. Advances f store frames slots w given (pause.Import index) left new) none advances in
+    let p : flat.Part = without_entries (flat.settle f store frames slots) in
+    let ends : (turns f a.count p).pause ≡ flat.Imports index = ap (λ (q : flat.Part). q.pause) a.made ∙ pauses_at a.last.pause (weight_at all_one a.last.frames) left index a.ends in
+    let some : 0 < taken f all_one a.count p = taken_some f a.count index p (settle_pause f store frames slots) ends in
+    let all : taken f all_one a.count p + left ≡ given = a.all in
+    omega arith
+
+pub no_more_left : {f : Flat} {store : Store} {frames : List FlatFrame} {slots : List ℕ} {weighing : Weighing} {given left : ℕ} {end : Pause} {new : State} → Advances f store frames slots weighing given end left new → left ≤ given
+no_more_left {f = f} {store = store} {frames = frames} {slots = slots} {weighing = weighing} {given = given} {left = left} a =
+    let all : taken f (flat_meter f weighing) a.count (without_entries (flat.settle f store frames slots)) + left ≡ given = a.all in
+    omega arith
+
+pub import_decreases : (hosts new_hosts : List Host) (answer : Host) (now left : ℕ) → new_hosts ≡ answer ∷ hosts → now < left
+    → 4 * now + (2 * length new_hosts + 1) < 4 * left + (2 * length hosts + 2)
+import_decreases hosts new_hosts answer now left is took =
+    let one : length new_hosts ≡ suc (length hosts) = ap length is in
+    omega arith
+
+-- ---- where the module's part ends
+
+module _ (m : Module) (script : Script) (s : StepResult) (playing : PlayState) (standing : StandsAt m script at.Module playing s) (left : ℕ) (end : Pause) (new : State) (now : ℕ) (run : AdvancesRun playing.machine None left end now new) where
+  abbrev pub after : PlayState
+  after = record playing { machine = new }
+
+  a : Advanced m standing.heights (program_of m script) all_one (outside_of standing.goes_on.below) standing.counts (after_settling playing.machine.store standing.counts (settle (InModule standing.goes_on.frame ∷ standing.goes_on.below))) left end now new
+  a = run m standing.heights (program_of m script) standing.counts standing.goes_on.frame standing.goes_on.below standing.is_run standing.goes_on.stack.machine
+
+  ends_as : (e : Pause) → end ≡ e → EndsRun m standing.heights (program_of m script) all_one (outside_of standing.goes_on.below) standing.counts e now a.entries new a.last
+  ends_as e is = subst (λ e'. EndsRun m standing.heights (program_of m script) all_one (outside_of standing.goes_on.below) standing.counts e' now a.entries new a.last) is a.ends
+
+  own_as : (e : Pause) → end ≡ e → AreOwnUpTo e (a.before ++ a.entries)
+  own_as e is = subst (λ e'. AreOwnUpTo e' (a.before ++ a.entries)) is a.own
+
+  module _ (index : ℕ) (is : end ≡ pause.Import index) where
+    comes : ComesToImport m standing.heights (program_of m script) (outside_of standing.goes_on.below) standing.counts index a.entries new a.last
+    comes = ends_as (pause.Import index) is
+
+    pub counted_import : index < length playing.counts.items
+    counted_import =
+        answering.counted_import m standing.heights script standing.counts standing.is_run standing.goes_on.below playing standing.functions standing.counted standing.goes_on.stack.hosts a.entries new a.last index comes
+
+  module _ (initial : StepResult) (budget steps used : ℕ) (history : List Entry) (so_far : run_from (program_of m script) all_one initial steps ≡ run_of (history ++ s.entries) used s.next) (spent : used + left ≡ budget) where
+    whole : run_from (program_of m script) all_one initial (steps + a.count) ≡ run_of ((history ++ a.before) ++ a.last.entries) (used + a.taken) a.last.next
+    whole = run_joined (program_of m script) all_one initial s a.last steps a.count history a.before used a.taken so_far (ap (λ start. run_from (program_of m script) all_one start a.count) standing.goes_on.same ∙ a.run)
+
+    all : (used + a.taken) + now ≡ budget
+    all = let some : a.taken + now ≡ left = a.all in omega arith
+
+    module _ (calls : ℕ) (counted : HasCounted (imported_funcs m) playing.counts.items calls history) where
+      pub to_host : end ≡ pause.Returned → CountsSoFar m script initial budget calls at.Host after now
+      to_host is = record {
+        history = (history ++ a.before) ++ a.entries;
+        reached = led m script initial budget at.Host after (steps + a.count) now (used + a.taken) (history ++ a.before) a.entries a.last whole all
+            (at_host m standing.heights script standing.counts standing.is_run standing.goes_on.below after standing.functions standing.counted a.entries a.last standing.goes_on.stack.hosts (ends_as pause.Returned is));
+        counted = subst (HasCounted (imported_funcs m) playing.counts.items calls) (sym (append_assoc history a.before a.entries))
+            (counting.counted_own (imported_funcs m) playing.counts.items calls history (a.before ++ a.entries) (own_as pause.Returned is) counted);
+      }
+
+      pub to_trap : end ≡ pause.Trapped → CountsSoFar m script initial budget calls (at.Over ByTrap) after now
+      to_trap is = record {
+        history = (history ++ a.before) ++ a.entries;
+        reached = led m script initial budget (at.Over ByTrap) after (steps + a.count) now (used + a.taken) (history ++ a.before) a.entries a.last whole all
+            (at_trap m standing.heights script standing.counts standing.is_run standing.goes_on.below after standing.functions standing.counted a.entries a.last (ends_as pause.Trapped is));
+        counted = subst (HasCounted (imported_funcs m) playing.counts.items calls) (sym (append_assoc history a.before a.entries))
+            (counting.counted_own (imported_funcs m) playing.counts.items calls history (a.before ++ a.entries) (own_as pause.Trapped is) counted);
+      }
+
+      pub to_import : (index : ℕ) → end ≡ pause.Import index → (hosts : List Host) (new_playing : PlayState) → new_playing.machine ≡ new → new_playing.functions ≡ playing.functions → new_playing.hosts ≡ hosts
+          → BeginsAnswer script playing.hosts playing.counts.items index hosts new_playing.counts.items → CountsSoFar m script initial budget calls at.Host new_playing now
+      to_import index is hosts new_playing same_machine same_functions same_hosts begins =
+          let own : AreOwnUpTo (pause.Import index) (a.before ++ a.entries) = own_as (pause.Import index) is in
+          record {
+            history = (history ++ a.before) ++ a.entries;
+            reached = led m script initial budget at.Host new_playing (steps + a.count) now (used + a.taken) (history ++ a.before) a.entries a.last whole all
+                (answering.import_begins m standing.heights script standing.counts standing.is_run standing.goes_on.below playing standing.functions standing.counted standing.goes_on.stack.hosts a.entries new a.last index (comes index is)
+                hosts new_playing same_machine same_functions same_hosts begins);
+            counted = subst (HasCounted (imported_funcs m) new_playing.counts.items calls) (sym (append_assoc history a.before a.entries))
+                (counting.counted_import (imported_funcs m) playing.counts.items new_playing.counts.items calls index own.1 history (a.before ++ a.entries) own.0 own.2 own.3 (counted_import index is) begins.counted counted);
+          }
+
+    pub without_response : (index : ℕ) → end ≡ pause.Import index → (refusal : Refusal) (turn : ℕ) → turn + now ≡ budget → HasNoResponse script playing.counts.items index refusal
+        → Refuses (program_of m script) initial budget (play_fault refusal turn)
+    without_response index is refusal turn at none =
+        stopped m script initial budget (steps + a.count) now (used + a.taken) turn (history ++ a.before) a.last refusal whole all at
+        (answering.no_response m standing.heights script standing.counts standing.is_run standing.goes_on.below playing standing.functions standing.counted standing.goes_on.stack.hosts a.entries new a.last index (comes index is) refusal none)
+
+    pub to_spent : end ≡ pause.Spent → IsSpent (run_from (program_of m script) all_one initial) all_one budget
+    to_spent is =
+        let ends = ends_as pause.Spent is in
+        let config : Config = config_of new (InModule ends.comes.frame ∷ ends.comes.below) standing.counts in
+        let none : now ≡ 0 = ends.none_left in
+        let sum : (used + a.taken) + now ≡ budget = all in
+        let one : weight all_one config ≡ 1 = weight_one config.stack in
+        record {
+          count = steps + a.count;
+          config = config;
+          standing = ap (λ (r : Run). r.at) whole ∙ ap (λ (t : StepResult). t.next) ends.comes.same;
+          used = ap (λ (r : Run). r.turns) whole ∙ (let same : used + a.taken ≡ budget = omega arith in same);
+          wants = omega arith;
+        }

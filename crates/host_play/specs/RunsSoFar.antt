@@ -1,0 +1,96 @@
+-- How far a run within a budget of turns has come.
+use Rattle.std.specs.Prelude.{◌≡◌, ℕ, ◌+◌, ◌-◌, ◌<◌, List, ◌++◌, slice_index, Result, Ok, Err}
+use Rattle.wasm_syntax.specs.declared.modules.Module.{Module}
+use Rattle.wasm_syntax.specs.Index.{imported_funcs}
+use Rattle.host_script.specs.declared.scripts.Script.{Script}
+use Rattle.history_spec.specs.declared.entries.Entry.{Entry}
+use Rattle.history_spec.specs.Step.{Program, StepResult}
+use Rattle.history_spec.specs.Run.{all_one, program_of, run_from}
+use Rattle.host_play.specs.declared.host_steps.PlayStep.{PlayStep}
+use Rattle.host_play.specs.declared.play_state.Stand.{Stand}
+use Rattle.host_play.specs.declared.play_state.Stand.TheVariants as at
+use Rattle.host_play.specs.declared.play_state.PlayState.{PlayState}
+use Rattle.host_play.specs.declared.results.PlayFault.{PlayFault}
+use Rattle.host_play.specs.declared.results.RunEnd.{RunEnd}
+use Rattle.host_play.specs.CallCounts.{host_calls, import_calls}
+use Rattle.host_play.specs.Hosts.{kept}
+use Rattle.host_play.specs.Results.{Refuses}
+use Rattle.host_play.specs.Stands.{StandsAt}
+use Rattle.host_play.specs.ToldLines.{HasTold, ToldLines}
+
+-- a number of steps is made, with this history, and the run goes on from here with what is left of the turns
+pub record ComesTo (m : Module) (script : Script) (initial : StepResult) (budget : ℕ) (history : List Entry)
+    (stand : Stand) (playing : PlayState) (left : ℕ) : Type 0 where
+  pub steps : ℕ
+  pub pending : StepResult
+  pub used : ℕ
+  pub run : run_from (program_of m script) all_one initial steps
+      ≡ record { history = history ++ pending.entries; turns = used; at = pending.next }
+  pub spent : used + left ≡ budget
+  pub standing : StandsAt m script stand playing pending
+
+-- the run has come on from such a history, or there is no outcome
+abbrev pub GoesBy : Module → Script → (initial : StepResult) → (budget : ℕ) → (history : List Entry)
+    → Result PlayStep PlayFault → PlayState → (left : ℕ) → Type 0
+GoesBy m script initial budget history (Ok step) playing left =
+    ComesTo m script initial budget (history ++ step.entries) step.stand playing left
+GoesBy m script initial budget history (Err fault) playing left = Refuses (program_of m script) initial budget fault
+
+-- each run that has come to here goes on so
+abbrev pub GoesFrom : Script → (budget : ℕ) → Stand → PlayState → (left : ℕ)
+    → Result PlayStep PlayFault → PlayState → (left : ℕ) → Type 0
+GoesFrom script budget stand playing left result after after_left =
+    (m : Module) (initial : StepResult) (history : List Entry)
+    → ComesTo m script initial budget history stand playing left
+    → GoesBy m script initial budget history result after after_left
+
+-- ---- what is kept of the history
+
+-- its lines are told
+pub record TellsSoFar (m : Module) (script : Script) (initial : StepResult) (budget : ℕ) (told : ToldLines)
+    (stand : Stand) (playing : PlayState) (left : ℕ) : Type 0 where
+  pub history : List Entry
+  pub reached : ComesTo m script initial budget history stand playing left
+  pub tells : HasTold told history
+
+abbrev pub TellsOn : Module → Script → (initial : StepResult) → (budget : ℕ)
+    → Result Stand PlayFault → ToldLines → PlayState → (left : ℕ) → Type 0
+TellsOn m script initial budget (Ok stand) told playing left =
+    TellsSoFar m script initial budget told stand playing left
+TellsOn m script initial budget (Err fault) told playing left = Refuses (program_of m script) initial budget fault
+
+-- its calls are counted
+pub record HasCounted (imported : ℕ) (counts : List ℕ) (calls : ℕ) (history : List Entry) : Type 0 where
+  pub imports : (import : ℕ) → import < imported → slice_index counts import ≡ kept (import_calls import history)
+  pub calls_are : calls ≡ kept (host_calls history)
+
+pub record CountsSoFar (m : Module) (script : Script) (initial : StepResult) (budget : ℕ) (calls : ℕ)
+    (stand : Stand) (playing : PlayState) (left : ℕ) : Type 0 where
+  pub history : List Entry
+  pub reached : ComesTo m script initial budget history stand playing left
+  pub counted : HasCounted (imported_funcs m) playing.counts.items calls history
+
+abbrev pub CountsOn : Module → Script → (initial : StepResult) → (budget : ℕ) → (calls : ℕ)
+    → Result Stand PlayFault → PlayState → (left : ℕ) → Type 0
+CountsOn m script initial budget calls (Ok stand) playing left =
+    CountsSoFar m script initial budget calls stand playing left
+CountsOn m script initial budget calls (Err fault) playing left = Refuses (program_of m script) initial budget fault
+
+-- where the run is over, such a thing is kept of its whole history; or there is no outcome
+abbrev pub UpToEnd : Program → (initial : StepResult) → (budget : ℕ) → (Kept : Stand → (left : ℕ) → Type 0)
+    → Result RunEnd PlayFault → Type 0
+UpToEnd program initial budget Kept (Ok e) =
+    (left : ℕ) × Kept (at.Over e.outcome) left × (e.turns ≡ budget - left)
+UpToEnd program initial budget Kept (Err fault) = Refuses program initial budget fault
+
+-- ---- stands
+
+-- the run is not over
+abbrev pub IsOn : Stand → Type 0
+IsOn (at.Over outcome) = ⊥
+IsOn stand = Unit {0}
+
+-- the module or the host begins its part, or the run is over
+abbrev pub BeginsPart : Stand → Type 0
+BeginsPart at.Instruction = ⊥
+BeginsPart stand = Unit {0}

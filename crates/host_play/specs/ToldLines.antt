@@ -1,0 +1,24 @@
+-- The text of a history while it is told.
+use Rattle.std.specs.Prelude.{◌≡◌, ℕ, ◌+◌, List, ◌++◌, length}
+use Rattle.std.specs.List.{flat_map}
+use Rattle.history_spec.specs.declared.entries.Entry.{Entry}
+use Rattle.history_spec.specs.Line.{line, entry_text}
+
+-- the lines of entries
+abbrev pub lines : List Entry → List ℕ
+lines entries = flat_map (λ entry. line (entry_text entry)) entries
+
+-- the lines so far, and how many entries they are of
+pub record ToldLines : Type 0 where
+  pub text : List ℕ
+  pub entries : ℕ
+
+-- the lines of entries were told after those
+pub record Tells (old new : ToldLines) (entries : List Entry) : Type 0 where
+  pub lines_are : new.text ≡ old.text ++ lines entries
+  pub count_is : new.entries ≡ old.entries + length entries
+
+-- all entries of a history are told
+pub record HasTold (told : ToldLines) (history : List Entry) : Type 0 where
+  pub text_is : told.text ≡ lines history
+  pub entries_are : told.entries ≡ length history

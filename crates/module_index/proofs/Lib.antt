@@ -1,0 +1,5 @@
+mod Alignment
+mod IndexLemmas
+mod MarkLemmas
+mod RunLemmas
+mod TableLemmas

@@ -1,0 +1,5 @@
+pub mod Marks
+pub mod IndexSpaces
+pub mod Runs
+pub mod Tables
+pub mod Contexts

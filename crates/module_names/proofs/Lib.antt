@@ -1,0 +1,5 @@
+pub mod Lists
+pub mod Firsts
+pub mod NameIndex
+pub mod ImportLoops
+pub mod Spaces

@@ -1,0 +1,152 @@
+// What a module imports, by the names of modules and of imports.
+
+ghost use Rattle.std.specs.Prelude.{◌≡◌, IfOk, OnOk, map, option_map};
+ghost use Rattle.wasm_syntax.specs.Index.{func_import, global_import};
+ghost use Rattle.module_names.specs.Indexes.{HoldsModules, HoldsTypes, HoldsFirsts, AddsType};
+ghost use Rattle.module_names.specs.Names.{is_kind, imports_with, import_type as type_of_import};
+
+use indexmap::{IndexMap, IndexSet};
+use no_memory::NoMemory;
+use std::alloc::Global;
+use wasm_syntax::{FuncType, Import, ImportKind, Module};
+
+/// The names of an import: of its module, and its own.
+pub type Names<'a> = (&'a str, &'a str);
+
+/// The types of the functions imported under two names, in order.
+pub(crate) type TypesByNames<'a> = IndexMap<Names<'a>, Vec<&'a FuncType>>;
+
+/// The index of the first import under two names.
+pub type FirstsByNames<'a> = IndexMap<Names<'a>, usize>;
+
+fn is_func(import: &Import) -> bool
+    ensures { result ≡ is_kind func_import import.now }
+{
+    matches!(import.kind, ImportKind::Func(_))
+}
+
+fn is_global(import: &Import) -> bool
+    ensures { result ≡ is_kind global_import import.now }
+{
+    matches!(import.kind, ImportKind::Global(_))
+}
+
+/// The imported functions, in order.
+pub(crate) fn imported_funcs<'a>(
+    alloc: Global,
+    module: &'a Module,
+) -> Result<Vec<&'a Import>, NoMemory>
+    ensures { IfOk result (λ funcs. map (λ import. import.now) funcs.items
+        ≡ imports_with func_import «module».now) }
+{
+    let imports = module.imports.as_slice();
+    let mut found = Vec::new(alloc);
+    'imports: for import in imports {
+        if is_func(import) {
+            found.push(import)?;
+        }
+    }
+    Ok(found)
+}
+
+/// The imported globals, in order.
+pub(crate) fn imported_globals<'a>(
+    alloc: Global,
+    module: &'a Module,
+) -> Result<Vec<&'a Import>, NoMemory>
+    ensures { IfOk result (λ globals. map (λ import. import.now) globals.items
+        ≡ imports_with global_import «module».now) }
+{
+    let imports = module.imports.as_slice();
+    let mut found = Vec::new(alloc);
+    'imports: for import in imports {
+        if is_global(import) {
+            found.push(import)?;
+        }
+    }
+    Ok(found)
+}
+
+/// The names of the modules that these are imported from.
+pub(crate) fn modules_of<'a>(
+    alloc: Global,
+    imports: &[&'a Import],
+) -> Result<IndexSet<&'a str>, NoMemory>
+    ensures { IfOk result (λ names. HoldsModules names.keys (map (λ import. import.now) imports.now)) }
+{
+    let mut names = IndexSet::new(alloc);
+    'imports: for import in imports {
+        let import: &'a Import = *import;
+        names.insert(import.module.as_str())?;
+    }
+    Ok(names)
+}
+
+/// The index among these imports of the first under two names.
+///
+/// # Errors
+///
+/// `NoMemory` where an allocation failed.
+pub fn firsts_by_names<'a>(
+    alloc: Global,
+    imports: &[&'a Import],
+) -> Result<FirstsByNames<'a>, NoMemory>
+    ensures { IfOk result (λ firsts. HoldsFirsts firsts.entries (map (λ import. import.now) imports.now)) }
+{
+    let mut firsts = IndexMap::new(alloc);
+    'imports: for (index, import) in imports.iter().enumerate() {
+        let import: &'a Import = *import;
+        let names = (import.module.as_str(), import.name.as_str());
+        if !firsts.contains_key(&names) {
+            firsts.insert(names, index)?;
+        }
+    }
+    Ok(firsts)
+}
+
+/// Notes the type of an imported function under its names.
+fn add_type<'a>(
+    alloc: Global,
+    types: &mut TypesByNames<'a>,
+    import: &'a Import,
+    ty: Option<&'a FuncType>,
+) -> Result<(), NoMemory>
+    ensures { OnOk result (AddsType types.old.entries types.new.entries import.now
+        (option_map (λ t. t.now) ty.entry)) }
+{
+    let names = (import.module.as_str(), import.name.as_str());
+    let mut found = types.swap_remove(&names).unwrap_or(Vec::new(alloc));
+    match ty {
+        Some(ty) => found.push(ty)?,
+        None => {}
+    }
+    types.insert(names, found)?;
+    Ok(())
+}
+
+/// The types of the imported functions under two names.
+pub(crate) fn types_by_names<'a>(
+    alloc: Global,
+    module: &'a Module,
+    imports: &[&'a Import],
+) -> Result<TypesByNames<'a>, NoMemory>
+    ensures { IfOk result (λ types. HoldsTypes types.entries «module».now
+        (map (λ import. import.now) imports.now)) }
+{
+    let mut types = IndexMap::new(alloc);
+    'imports: for import in imports {
+        let import: &'a Import = *import;
+        add_type(alloc, &mut types, import, import_type(module, import))?;
+    }
+    Ok(types)
+}
+
+/// The type of an imported function.
+fn import_type<'a>(module: &'a Module, import: &Import) -> Option<&'a FuncType>
+    ensures { option_map (λ ty. ty.now) result ≡ type_of_import «module».now import.now }
+{
+    match import.kind {
+        ImportKind::Func(ty) => module.types.as_slice().get(ty as usize),
+        _ => None,
+    }
+}

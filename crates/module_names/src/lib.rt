@@ -1,0 +1,13 @@
+//! A module with indexes of its names: what it imports, by the names of modules and of imports, and
+//! what it exports, by name.
+#![tactic(auto)]
+
+mod exports;
+mod funcs;
+mod globals;
+pub mod imports;
+pub mod names;
+
+pub use imports::{FirstsByNames, firsts_by_names};
+pub use names::ModuleNames;
+pub use no_memory::NoMemory;

@@ -1,0 +1,16 @@
+use Rattle.std.proofs.Common.{◌≡◌, ◌≤◌, take, zip, None, vec_len}
+use Rattle.std.specs.Option.{ForSome}
+use Rattle.r3_core.specs.Words.{texts}
+use Rattle.r3_core.specs.Causes.{first_longer, AreBytesOf, AreWithin, all_bytes}
+use Rattle.r3_core.proofs.loads.load_files.Given as goal
+
+abbrev pub invariant-files : goal.invariant-files
+invariant-files g l = record {
+  all : vec_len l.loaded ≡ l.index;
+  bytes : AreBytesOf (g.F.Files.contents l.initial.files) (texts (take l.index l.names)) (all_bytes l.loaded.items);
+  within : AreWithin (all_bytes l.loaded.items) l.limits;
+  contents_unchanged : g.F.Files.contents l.files ≡ g.F.Files.contents l.initial.files;
+  faults_never_fall : g.F.Files.faults l.initial.files ≤ g.F.Files.faults l.files;
+  taken_never_falls : g.F.Files.taken l.initial.files ≤ g.F.Files.taken l.files;
+  within_limits : ForSome (g.F.Files.contents l.initial.files) (λ told. first_longer told (take l.index (zip (texts l.names) l.limits)) ≡ None);
+}

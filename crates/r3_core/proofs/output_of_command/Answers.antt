@@ -1,0 +1,56 @@
+use Rattle.std.proofs.Common.{◌≡◌, ℕ, ◌<◌, ◌≤◌, List, [], ◌∷◌, length, get_or, Option, Some, Vec, sym, subst, arith}
+use Rattle.r3_make.specs.Refusals.{AreReplayable, IsMakeRefusal}
+use Rattle.r3_history.specs.Histories.{IsHistory, IsHistoryRefusal}
+use Rattle.r3_core.specs.declared.words.Command.{Command}
+use Rattle.r3_core.specs.declared.words.Command.TheVariants.{Make, History}
+use Rattle.r3_core.specs.Causes.{IsRefusal, IsDoable, all_bytes}
+use Rattle.r3_core.proofs.output_of_command.Goals as goal
+
+-- what is said of two files
+two-files : {Z : Type 0} (command here : Command) (P : List ℕ → List ℕ → ℕ → Type 0) (Q : Command → List (List ℕ) → Option ℕ → Type 0) (loaded : List (Vec ℕ Z)) (number : Option ℕ) (m s : Vec ℕ Z) (turns : ℕ) → ((a b : List ℕ) → Q here (a ∷ b ∷ []) (Some turns) → P a b turns)
+    → command ≡ here → number ≡ Some turns → m ≡ get_or loaded 0 m → s ≡ get_or loaded 1 s → 2 ≤ length loaded → length loaded < 3 → Q command (all_bytes loaded) number → P m.items s.items turns
+two-files command here P Q [] number m s turns at c n first second least most sure = absurd (omega (arith, least))
+two-files command here P Q (a ∷ []) number m s turns at c n first second least most sure = absurd (omega (arith, least))
+two-files command here P Q (a ∷ b ∷ []) number m s turns at c n first second least most sure =
+    let made = subst (λ command. Q command (a.items ∷ b.items ∷ []) number) c sure in
+    let numbered : P a.items b.items turns = at a.items b.items (subst (λ number. Q here (a.items ∷ b.items ∷ []) number) n made) in
+    subst (λ (s : Vec ℕ _). P m.items s.items turns) (sym second) (subst (λ (m : Vec ℕ _). P m.items b.items turns) (sym first) numbered)
+two-files command here P Q (a ∷ b ∷ x ∷ more) number m s turns at c n first second least most sure = absurd (omega (arith, most))
+
+pub returns-in-Make-len2-Some-clause-refused : goal.returns-in-Make-len2-Some-clause-refused
+returns-in-Make-len2-Some-clause-refused c = λ fault sure.
+    let here = c.in-Make-len2-Some in
+    c.make.ensures.refused fault
+    (subst (λ bytes. IsMakeRefusal bytes c.deref-in-Make-len2-Some.result.now here.turns fault) (sym c.deref.ensures.value)
+    (subst (λ bytes. IsMakeRefusal c.module-item.result.items bytes here.turns fault) (sym c.deref-in-Make-len2-Some.ensures.value)
+    (two-files c.args.command Make (λ a b turns. IsMakeRefusal a b turns fault) (λ command loaded number. IsRefusal command loaded number fault) c.args.loaded.now c.args.number c.module-item.result c.script-item.result here.turns (λ a b sure. sure) here.is-0 here.is-2 c.module-item.is c.script-item.is (omega (arith, here.len_at_least)) (omega (arith, here.len_below)) sure)))
+
+pub returns-in-History-len2-Some-clause-refused : goal.returns-in-History-len2-Some-clause-refused
+returns-in-History-len2-Some-clause-refused c = λ fault sure.
+    let here = c.in-History-len2-Some in
+    c.history.ensures.refused fault
+    (subst (λ bytes. IsHistoryRefusal bytes c.deref-in-History-len2-Some-2.result.now here.turns fault) (sym c.deref-in-History-len2-Some.ensures.value)
+    (subst (λ bytes. IsHistoryRefusal c.module-item-in-Some-this-2-1.result.items bytes here.turns fault) (sym c.deref-in-History-len2-Some-2.ensures.value)
+    (two-files c.args.command History (λ a b turns. IsHistoryRefusal a b turns fault) (λ command loaded number. IsRefusal command loaded number fault) c.args.loaded.now c.args.number c.module-item-in-Some-this-2-1.result c.script-item-in-Some-this-2-1.result here.turns (λ a b sure. sure) here.is-0 here.is-2 c.module-item-in-Some-this-2-1.is c.script-item-in-Some-this-2-1.is (omega (arith, here.len_at_least)) (omega (arith, here.len_below)) sure)))
+
+pub returns-in-Make-len2-Some-clause-done : goal.returns-in-Make-len2-Some-clause-done
+returns-in-Make-len2-Some-clause-done c = λ doable.
+    let here = c.in-Make-len2-Some in
+    c.make.ensures.accepted
+    (subst (λ bytes. AreReplayable bytes c.deref-in-Make-len2-Some.result.now here.turns) (sym c.deref.ensures.value)
+    (subst (λ bytes. AreReplayable c.module-item.result.items bytes here.turns) (sym c.deref-in-Make-len2-Some.ensures.value)
+    (two-files c.args.command Make (λ a b turns. AreReplayable a b turns) (λ command loaded number. IsDoable command loaded number) c.args.loaded.now c.args.number c.module-item.result c.script-item.result here.turns (λ a b doable. doable) here.is-0 here.is-2 c.module-item.is c.script-item.is (omega (arith, here.len_at_least)) (omega (arith, here.len_below)) doable)))
+
+-- they have a history
+abbrev HasHistory : (module_bytes script_bytes : List ℕ) → (turns : ℕ) → Type 0
+HasHistory module_bytes script_bytes turns = (text : List ℕ) × IsHistory module_bytes script_bytes turns text
+
+pub returns-in-History-len2-Some-clause-done : goal.returns-in-History-len2-Some-clause-done
+returns-in-History-len2-Some-clause-done c = λ doable.
+    let here = c.in-History-len2-Some in
+    let history =
+    (subst (λ bytes. HasHistory bytes c.deref-in-History-len2-Some-2.result.now here.turns) (sym c.deref-in-History-len2-Some.ensures.value)
+    (subst (λ bytes. HasHistory c.module-item-in-Some-this-2-1.result.items bytes here.turns) (sym c.deref-in-History-len2-Some-2.ensures.value)
+    (two-files c.args.command History (λ a b turns. HasHistory a b turns) (λ command loaded number. IsDoable command loaded number) c.args.loaded.now c.args.number c.module-item-in-Some-this-2-1.result c.script-item-in-Some-this-2-1.result here.turns (λ a b doable. doable) here.is-0 here.is-2 c.module-item-in-Some-this-2-1.is c.script-item-in-Some-this-2-1.is (omega (arith, here.len_at_least)) (omega (arith, here.len_below)) doable)))
+    in
+    (c.history.ensures.accepted history.0 history.1).1

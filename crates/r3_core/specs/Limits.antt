@@ -1,0 +1,33 @@
+-- The limits of the commands: the most bytes of each kind of file, and the greatest numbers after them.
+use Rattle.std.specs.Prelude.{ℕ}
+use Rattle.wasm_syntax.specs.declared.limits.TheConstants.{MOST_FILE_BYTES, MOST_TURNS}
+
+abbrev pub module_bytes : ℕ
+module_bytes = MOST_FILE_BYTES
+
+abbrev pub script_bytes : ℕ
+script_bytes = MOST_FILE_BYTES
+
+-- of a module with hooks
+abbrev pub hooked_bytes : ℕ
+hooked_bytes = 134217728
+
+-- of a log, a tape or a trace
+abbrev pub trace_bytes : ℕ
+trace_bytes = 268435456
+
+-- of a module that is replayed, and of any file
+abbrev pub binary_bytes : ℕ
+binary_bytes = 536870912
+
+-- of `make` and `history`
+abbrev pub most_turns : ℕ
+most_turns = MOST_TURNS
+
+-- of `record` and `replay`
+abbrev pub most_record_turns : ℕ
+most_record_turns = 20000000
+
+-- of `load`
+abbrev pub most_load : ℕ
+most_load = 60000

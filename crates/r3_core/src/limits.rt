@@ -1,0 +1,27 @@
+// The limits of the commands: the most bytes of each kind of file, and the greatest numbers after them.
+
+use wasm_syntax::limits::{MOST_FILE_BYTES, MOST_TURNS};
+
+/// The most bytes of a module.
+pub(crate) const MODULE_BYTES: u64 = MOST_FILE_BYTES;
+
+/// The most bytes of a script.
+pub(crate) const SCRIPT_BYTES: u64 = MOST_FILE_BYTES;
+
+/// The most bytes of a module with hooks, as `record` takes one.
+pub(crate) const HOOKED_BYTES: u64 = 134_217_728;
+
+/// The most bytes of a log, a tape or a trace.
+pub(crate) const TRACE_BYTES: u64 = 268_435_456;
+
+/// The most bytes of a module that `replay` takes, and of any file.
+pub(crate) const BINARY_BYTES: u64 = 536_870_912;
+
+/// The most turns of `make` and `history`.
+pub(crate) const TURNS: u64 = MOST_TURNS;
+
+/// The most turns of `record` and `replay`.
+pub(crate) const RECORD_TURNS: u64 = 20_000_000;
+
+/// The greatest number of `load`.
+pub(crate) const LOAD_NUMBER: u64 = 60_000;

@@ -1,0 +1,116 @@
+-- What holds of an accepted module that few bytes encode: running asks for it, and so does accepting.
+use Rattle.std.proofs.Common.{◌≡◌, ℕ, ◌≤◌, ◌<◌, ◌^◌, List, [], ◌∷◌, ◌++◌, length, All, Option, Some, None, Bool, true, false, cond, refl, arith}
+use Rattle.std.specs.Prelude.{filter_map, nat_lt}
+use Rattle.std.specs.List.{AllByRecursion, cons_option}
+use Rattle.std.proofs.lemmas.Bool.{ltb-false, ltb-true}
+use Rattle.std.proofs.lemmas.List.Elements.{All-head, All-tail, All-weaker}
+use Rattle.list_laws.proofs.Lists.{nil_parts}
+use Rattle.wasm_syntax.specs.declared.limits.TheConstants.{MOST_ENTRIES, MOST_FILE_BYTES, MOST_LOCALS, MOST_LOCALS_HOOKED, MOST_PAGES, MOST_PARAMETERS}
+use Rattle.wasm_syntax.specs.declared.signatures.FuncType.{FuncType}
+use Rattle.wasm_syntax.specs.declared.profile.Which.TheVariants.{Parameters, Table, Memory, Locals}
+use Rattle.wasm_syntax.specs.declared.modules.Func.{Func}
+use Rattle.wasm_syntax.specs.declared.modules.Module.{Module}
+use Rattle.wasm_syntax.specs.Index.{all_memories, all_tables}
+use Rattle.wasm_syntax.specs.Profile.{Refusal, Limit, past, count_of_locals, refused_instructions, quantities_past, reserved_imports, IsAccepted, IsSupported}
+use Rattle.wasm_profile.specs.Sizes.{HasShortLists, IsShortFunc}
+use Rattle.wasm_flat.specs.Sizes.{IsShort}
+use Rattle.encoding_sizes.specs.Within.{HasListsWithin}
+
+-- ---- what accepting asks for
+
+abbrev HasFew : ℕ → (Func → ℕ) → List Func → Type 0
+HasFew most count funcs = All (λ (func : Func). count func ≤ most) funcs
+
+funcs_short : (most : ℕ) (funcs : List Func) → most < 2 ^ 31 → HasFew most (λ func. length func.locals) funcs
+    → HasFew most (λ func. length func.body) funcs → AllByRecursion IsShortFunc funcs
+funcs_short most [] h locals bodies = tt
+funcs_short most (func ∷ funcs) h locals bodies = (
+  record {
+    body = omega (arith, h, All-head (λ (func : Func). length func.body ≤ most) func funcs bodies);
+    locals = omega (arith, h, All-head (λ (func : Func). length func.locals ≤ most) func funcs locals);
+  },
+  funcs_short most funcs h (All-tail (λ (func : Func). length func.locals ≤ most) func funcs locals)
+      (All-tail (λ (func : Func). length func.body ≤ most) func funcs bodies),
+)
+
+pub short_lists : (most : ℕ) (m : Module) → most ≤ MOST_FILE_BYTES → HasListsWithin most m → HasShortLists m
+short_lists most m h within = record {
+  imports = omega (arith, h, within.parts);
+  funcs = omega (arith, h, within.funcs);
+  each_func = funcs_short most m.funcs (omega (arith, h)) within.locals within.bodies;
+}
+
+-- ---- what running asks for
+
+nil_both : {X : Type 0} (xs ys : List X) → xs ≡ [] → ys ≡ [] → xs ++ ys ≡ []
+nil_both [] ys e h = h
+nil_both (x ∷ xs) ys e h = cc
+
+-- few locals are within a greater limit too
+within_more : (count : ℕ) → past MOST_LOCALS Locals count ≡ None → past MOST_LOCALS_HOOKED Locals count ≡ None
+within_more count none = by (nat_lt MOST_LOCALS count) (nat_lt MOST_LOCALS_HOOKED count) refl refl none
+  where
+    by : (few many : Bool) → nat_lt MOST_LOCALS count ≡ few → nat_lt MOST_LOCALS_HOOKED count ≡ many
+        → cond few (Some (Limit Locals count)) None ≡ None → cond many (Some (Limit Locals count)) None ≡ None
+    by few false e f i = refl
+    by true true e f i = cc
+    by false true e f i = absurd (omega (arith, ltb-false MOST_LOCALS count e, ltb-true MOST_LOCALS_HOOKED count f))
+
+locals_within_more : (funcs : List Func) → filter_map (λ f. past MOST_LOCALS Locals (count_of_locals f)) funcs ≡ []
+    → filter_map (λ f. past MOST_LOCALS_HOOKED Locals (count_of_locals f)) funcs ≡ []
+locals_within_more [] h = refl
+locals_within_more (f ∷ funcs) h =
+    by (past MOST_LOCALS Locals (count_of_locals f)) (past MOST_LOCALS_HOOKED Locals (count_of_locals f))
+    (within_more (count_of_locals f)) (locals_within_more funcs) h
+  where
+    by : (few many : Option Refusal) → (few ≡ None → many ≡ None)
+        → (filter_map (λ f. past MOST_LOCALS Locals (count_of_locals f)) funcs ≡ []
+        → filter_map (λ f. past MOST_LOCALS_HOOKED Locals (count_of_locals f)) funcs ≡ [])
+        → cons_option few (filter_map (λ f. past MOST_LOCALS Locals (count_of_locals f)) funcs) ≡ []
+        → cons_option many (filter_map (λ f. past MOST_LOCALS_HOOKED Locals (count_of_locals f)) funcs) ≡ []
+    by (Some r) many less later h = cc
+    by None None less later h = later h
+    by None (Some r) less later h = cc (less refl)
+
+module _ (m : Module) (accepted : IsAccepted false m) where
+  -- none is refused, of the three kinds
+  by_kind : ((refused_instructions m ≡ []) × (quantities_past false m ≡ [])) × (reserved_imports false m ≡ [])
+  by_kind =
+      let both = nil_parts (refused_instructions m ++ quantities_past false m) (reserved_imports false m)
+      accepted.none_refused in
+      (nil_parts (refused_instructions m) (quantities_past false m) both.0, both.1)
+
+  abbrev parameters : List Refusal
+  parameters = filter_map (λ ty. past MOST_PARAMETERS Parameters (length ty.params)) m.types
+
+  abbrev tables : List Refusal
+  tables = filter_map (λ limits. past MOST_ENTRIES Table limits.min) (all_tables m)
+
+  abbrev memories : List Refusal
+  memories = filter_map (λ limits. past MOST_PAGES Memory limits.min) (all_memories m)
+
+  abbrev locals : ℕ → List Refusal
+  locals most = filter_map (λ f. past most Locals (count_of_locals f)) m.funcs
+
+  quantities : quantities_past true m ≡ []
+  quantities =
+      let few = nil_parts (parameters ++ tables ++ memories) (locals MOST_LOCALS) by_kind.0.1 in
+      nil_both (parameters ++ tables ++ memories) (locals MOST_LOCALS_HOOKED) few.0 (locals_within_more m.funcs few.1)
+
+  -- no instruction is refused, and the quantities are within their limits
+  pub supported_when_accepted : IsSupported m
+  supported_when_accepted = record { instructions = by_kind.0.0; quantities = quantities }
+
+  -- the lists are short where few bytes encode the module
+  pub short_when_accepted : (most : ℕ) → most ≤ MOST_FILE_BYTES → HasListsWithin most m → IsShort m
+  short_when_accepted most few within = record {
+    types = omega (arith, few, within.parts);
+    funcs = omega (arith, few, within.funcs);
+    params =
+        All-weaker (λ (ty : FuncType). length ty.params ≤ most) (λ (ty : FuncType). length ty.params < 2 ^ 31)
+        (λ ty short. omega (arith, few, short)) m.types within.params;
+    bodies =
+        All-weaker (λ (f : Func). length f.body ≤ most) (λ (f : Func). length f.body < 2 ^ 31)
+        (λ f short. omega (arith, few, short)) m.funcs within.bodies;
+    quantities = quantities;
+  }

@@ -1,0 +1,35 @@
+// `make`: a replay module of a run.
+
+ghost use Rattle.std.specs.Prelude.{◌≡◌, ◌≤◌, ◌⊎◌, Err, IfErr, IfOk, length};
+ghost use Rattle.wasm_syntax.specs.declared.limits.TheConstants.{MOST_FILE_BYTES, MOST_TURNS};
+ghost use Rattle.r3_faults.specs.declared.faults.Fault.{Fault};
+ghost use Rattle.r3_faults.specs.declared.faults.Fault.TheVariants.{Memory};
+ghost use Rattle.r3_make.specs.Refusals.{AreReplayable, IsMakeRefusal};
+ghost use Rattle.r3_make.specs.Printed.{IsPrinted};
+
+use crate::replays::replay_of;
+use accepted_runs::inputs_of;
+use r3_faults::Fault;
+use std::alloc::Global;
+
+/// Makes the replay module of the run of a module with a script, within a number of turns, in its binary
+/// format. The module has at most 8,388,608 bytes, and the turns are at most 2,000,000.
+///
+/// # Errors
+///
+/// The fault names why there is none: the module or the script is refused, the module does not link,
+/// one of the two has another form than those that are built (`NotBuilt`), the host cannot do what
+/// the script says, or the run needs more turns. Each comes exactly where it stands and none before it
+/// does. `Memory` comes where memory is out.
+pub fn make(alloc: Global, module: &[u8], script: &[u8], turns: u64) -> Result<Vec<u8>, Fault>
+    requires small { length «module».now ≤ MOST_FILE_BYTES }
+    requires few { turns ≤ MOST_TURNS }
+    ensures cause { IfErr result (λ fault. (fault ≡ Memory) ⊎ IsMakeRefusal «module».now script.now turns fault) }
+    ensures refused { (fault : Fault) → IsMakeRefusal «module».now script.now turns fault
+        → (result ≡ Err fault) ⊎ (result ≡ Err Memory) }
+    ensures printed { IfOk result (λ bytes. IsPrinted «module».now script.now turns bytes.items) }
+    ensures accepted { AreReplayable «module».now script.now turns → IfErr result (λ fault. fault ≡ Memory) }
+{
+    let (checked, script) = inputs_of(alloc, module, script)?;
+    replay_of(alloc, module, checked, &script, turns)
+}

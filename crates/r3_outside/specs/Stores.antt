@@ -1,0 +1,71 @@
+-- The files and sinks that are kept in memory, as values.
+use Rattle.std.specs.Prelude.{ℕ, ◌==◌, Bool, not, ◌||◌, List, map, refl, String, Vec, string_bytes}
+use Rattle.std.specs.Coded.{Coded, code_by, coded×, coded_list, coded_ℕ}
+use Rattle.std.specs.List.{list_any}
+use Rattle.std.specs.FinMap as files
+use Rattle.r3_outside.specs.Contents.{FileMap}
+
+-- the code of what files hold
+abbrev pub file_map_code : Coded FileMap
+file_map_code = files.code (coded_list coded_ℕ) (coded_list coded_ℕ)
+
+-- what the entries of a table of files hold
+abbrev pub file_map : {Y Z : Type 0} → List (String Y × Vec ℕ Z) → FileMap
+file_map entries = files.from_entries (map (λ entry. (string_bytes entry.0, entry.1.items)) entries)
+
+-- files that never fail: what they hold, and how many bytes were taken
+pub record SureStore : Type 0 where
+  pub files : FileMap
+  pub taken : ℕ
+
+abbrev pub sure_store_code : Coded SureStore
+sure_store_code =
+    code_by (FileMap × ℕ) (coded× file_map_code coded_ℕ) (λ s. (s.files, s.taken))
+    (λ p. record { files = p.0; taken = p.1 }) (λ _. refl)
+
+-- files some of whose calls fail: what they hold, the numbers of those calls, and the counts of calls,
+-- of faults and of bytes taken
+pub record MemStore : Type 0 where
+  pub files : FileMap
+  pub failing : List ℕ
+  pub calls : ℕ
+  pub faults : ℕ
+  pub taken : ℕ
+
+abbrev pub mem_store_code : Coded MemStore
+mem_store_code =
+    code_by (FileMap × (List ℕ × (ℕ × (ℕ × ℕ))))
+    (coded× file_map_code (coded× (coded_list coded_ℕ) (coded× coded_ℕ (coded× coded_ℕ coded_ℕ))))
+    (λ s. (s.files, (s.failing, (s.calls, (s.faults, s.taken)))))
+    (λ p. record { files = p.0; failing = p.1.0; calls = p.1.1.0; faults = p.1.1.1.0; taken = p.1.1.1.1 })
+    (λ _. refl)
+
+-- whether the next call on a name fails: by its number, or since the name isn't there
+abbrev pub is_failing_read : MemStore → List ℕ → Bool
+is_failing_read s name = list_any (λ n. n == s.calls) s.failing || not (files.contains_key s.files name)
+
+-- a sink some of whose calls fail: what was written, the most bytes that it takes in a call, the numbers of
+-- the calls that fail, and the counts of calls and of faults
+pub record MemOutput : Type 0 where
+  pub written : List ℕ
+  pub most : ℕ
+  pub failing : List ℕ
+  pub calls : ℕ
+  pub faults : ℕ
+
+abbrev pub mem_output_code : Coded MemOutput
+mem_output_code =
+    code_by (List ℕ × (ℕ × (List ℕ × (ℕ × ℕ))))
+    (coded× (coded_list coded_ℕ) (coded× coded_ℕ (coded× (coded_list coded_ℕ) (coded× coded_ℕ coded_ℕ))))
+    (λ s. (s.written, (s.most, (s.failing, (s.calls, s.faults)))))
+    (λ p. record { written = p.0; most = p.1.0; failing = p.1.1.0; calls = p.1.1.1.0; faults = p.1.1.1.1 })
+    (λ _. refl)
+
+-- whether the next call fails by its number
+abbrev pub is_failing_write : MemOutput → Bool
+is_failing_write s = list_any (λ n. n == s.calls) s.failing
+
+-- files of which no more is known than how many calls failed and how many bytes were taken
+pub record Counts : Type 0 where
+  pub faults : ℕ
+  pub taken : ℕ

@@ -1,8 +1,0 @@
-use Rattle.std.proofs.Common.{◌≡◌, ℕ, List, drop}
-use Rattle.script_text.specs.Names.{exported}
-use Rattle.script_text.proofs.Named.{so_far}
-use Rattle.script_text.proofs.exports.Exports.of.Given as goal
-
--- what is exported is in the index, or is still to come
-abbrev pub invariant-exports : goal.invariant-exports
-invariant-exports l = (q : List ℕ) → so_far (λ export. export.kind) (λ export. export.name) l.kinds.entries (drop l.export-index l.export-items) q ≡ exported l.fn.module q

@@ -1,0 +1,11 @@
+//! Calls of the commands by what they are about, and what makes them.
+
+mod calls;
+mod edge_modules;
+mod edges;
+mod files;
+mod histories;
+mod modules;
+mod replays;
+mod runs;
+mod scripts;

@@ -1,0 +1,76 @@
+//! Files and sinks that fail, and files that are too long.
+
+use crate::tests::calls::{ANSWERS, TWO_ANSWERS, files_of, outcome_into, outcome_of};
+use r3_outside::MemSink;
+use std::test::Fail;
+
+const WORDS: [&str; 4] = ["make", "m.wasm", "s.json", "4"];
+
+#[test]
+fn the_first_read_fails(rt: HostRuntime) -> Result<(), Fail> {
+    let alloc = rt.alloc();
+    let mut files = files_of(alloc, TWO_ANSWERS, ANSWERS, vec![in alloc; 0u64]?)?;
+    let answer = outcome_of(alloc, &WORDS, &mut files)?;
+    assert_eq!(rt; answer.status, 3);
+    assert_eq!(rt; answer.line.as_slice(), b"read: m.wasm\n".as_slice());
+    assert!(rt; answer.printed.is_empty());
+    Ok(())
+}
+
+#[test]
+fn a_file_is_not_there(rt: HostRuntime) -> Result<(), Fail> {
+    let alloc = rt.alloc();
+    let mut files = files_of(alloc, TWO_ANSWERS, ANSWERS, Vec::new(alloc))?;
+    let words = ["make", "m.wasm", "a\\b\n\u{e9}~", "4"];
+    let answer = outcome_of(alloc, &words, &mut files)?;
+    assert_eq!(rt; answer.status, 3);
+    assert_eq!(rt;
+        answer.line.as_slice(),
+        b"read: a\\5cb\\0a\\c3\\a9~\n".as_slice()
+    );
+    Ok(())
+}
+
+#[test]
+fn files_at_and_past_their_limit(rt: HostRuntime) -> Result<(), Fail> {
+    let alloc = rt.alloc();
+    let mut files = files_of(alloc, TWO_ANSWERS, ANSWERS, Vec::new(alloc))?;
+    let mut zeros = vec![in alloc; 0u8; 8_388_608]?;
+    files.add("long", zeros.as_slice())?;
+    zeros.push(0)?;
+    files.add("longer", zeros.as_slice())?;
+    let rows = [
+        ("longer", "s.json", 4, "too long: longer 8388608\n"),
+        ("m.wasm", "longer", 4, "too long: longer 8388608\n"),
+        ("long", "s.json", 5, "malformed: at 0\n"),
+        ("m.wasm", "long", 9, "script: not json\n"),
+    ];
+    for (module, script, status, line) in rows {
+        let answer = outcome_of(alloc, &["make", module, script, "4"], &mut files)?;
+        assert_eq!(rt; answer.status, status);
+        assert_eq!(rt; answer.line.as_slice(), line.as_bytes());
+    }
+    Ok(())
+}
+
+/// Words, and what is printed before the second call of the sink, which takes ten bytes a call: the preamble
+/// and the begin of a section with the types; the begin of the first line.
+const CUT_SHORT: &[(&str, &str, &[u8])] = &[
+    ("make", "4", b"\0asm\x01\0\0\0\x01\x08"),
+    ("history", "100", b"host-call "),
+];
+
+#[test]
+fn the_second_write_fails(rt: HostRuntime) -> Result<(), Fail> {
+    let alloc = rt.alloc();
+    for &(command, turns, printed) in CUT_SHORT {
+        let mut files = files_of(alloc, TWO_ANSWERS, ANSWERS, Vec::new(alloc))?;
+        let out = MemSink::new(alloc, 10, vec![in alloc; 1u64]?);
+        let words = [command, "m.wasm", "s.json", turns];
+        let answer = outcome_into(alloc, &words, &mut files, out)?;
+        assert_eq!(rt; answer.status, 13, "{command}");
+        assert_eq!(rt; answer.line.as_slice(), b"write\n".as_slice(), "{command}");
+        assert_eq!(rt; answer.printed.as_slice(), printed, "{command}");
+    }
+    Ok(())
+}

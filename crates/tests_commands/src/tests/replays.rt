@@ -1,0 +1,210 @@
+//! What is printed for runs: bytes of valid modules in the form of replay modules, whose own runs have the
+//! steps of the original's function.
+
+use crate::tests::calls::{
+    ANSWERS, Outcome, TWO_ANSWERS, outcome_of, outcome_of_history, outcome_of_make,
+};
+use r3_outside::MemFiles;
+use std::alloc::Global;
+use std::test::Fail;
+use wasm_decode::decode;
+use wasm_syntax::Form;
+use wasm_validate::validate;
+
+/// The replay module of two answers, section by section: types, functions, the counter, `_start`, the bodies
+/// of the import, of the original and of `_start`, and the layout.
+// (module (type (func (result i32))) (type (func)) (global (mut i32) (i32.const 0))
+//   (func (type 0) (local i32) global.get 0 local.set 0 local.get 0 i32.const 1 i32.add global.set 0
+//     local.get 0 i32.const 0 i32.eq if i32.const 5 return end local.get 0 i32.const 1 i32.eq if i32.const 7 return
+//     end unreachable) (func (type 0) call 0 call 0 i32.add) (func (type 1) call 1 drop)
+//   (export "_start" (func 2))), with a custom section "r3.layout" of the bytes 01 01 at the end
+const TWO_ANSWERS_REPLAYED: &str = "0061736d01000000\
+     0108026000017f600000\
+     030403000001\
+     0606017f0141000b\
+     070a01065f73746172740002\
+     0a36032601017f23002100200041016a24002000410046044041050f0b2000410146044041070f0b000b\
+     0700100010006a0b\
+     050010011a0b\
+     000c0972332e6c61796f75740101";
+
+/// A loop that adds what 200 calls of its import give.
+const LOOP: &str =
+    // (module (import "h" "f" (func (result i32)))
+    //   (func (export "g") (result i32) (local i32 i32) loop local.get 0 call 0 i32.add local.set 0
+    //     local.get 1 i32.const 1 i32.add local.tee 1 i32.const 200 i32.lt_u br_if 0 end local.get 0))
+    "0061736d010000000105016000017f0207010168016600000302010007050101670001\
+     0a1f011d01027f0340200010006a2100200141016a220141c801490d000b20000b";
+
+/// It divides 100 by what a call of its import gives.
+const TRAP: &str =
+    // (module (import "h" "f" (func (result i32))) (func (export "g") (result i32) i32.const 100 call 0 i32.div_u))
+    "0061736d010000000105016000017f02070101680166000003020100070501016700010a0a01080041e40010006e0b";
+
+/// A program compiled from C, `examples/collatz.c`.
+const COLLATZ: &str =
+    // examples/collatz.wat
+    "0061736d010000000105016000017f020d0104686f7374046e6578740000030201000707010372756e0001\
+     0a860101830102057f017e4100210041002101034002400240100022020d00200141ffff037120004110747221030c010b41\
+     002104024020024101460d002002ad2105410021040340200441016a21042005420188200542037e42017c2005420183501b\
+     22054201560d000b0b20042000200420004b1b2100200420016a21010b20020d000b20030b";
+
+/// The numbers whose Collatz sequences it follows, up to a 0.
+const NUMBERS: &str = concat!(
+    r#"{"imports":{"host":{"next":{"calls":[{"return":{"i32":7}},{"return":{"i32":6}},{"return":{"i32":1}},"#,
+    r#"{"return":{"i32":0}}]}}},"main":[{"call":"run"}]}"#
+);
+
+/// A script that answers the import's calls by these numbers and then by those from 0 to below `count`, and
+/// calls `g`.
+fn script_of_answers(alloc: Global, first: &[u32], count: u32) -> Result<String, Fail> {
+    let mut script = String::from_str(alloc, r#"{"imports":{"h":{"f":{"calls":["#)?;
+    for (index, number) in first.iter().copied().chain(0..count).enumerate() {
+        if index > 0 {
+            script.push_str(",")?;
+        }
+        write!(script, "{{\"return\":{{\"i32\":{number}}}}}")?;
+    }
+    script.push_str(r#"]}}},"main":[{"call":"g"}]}"#)?;
+    Ok(script)
+}
+
+/// Whether the bytes encode a valid module in the form of replay modules.
+fn is_valid(alloc: Global, bytes: &[u8]) -> bool {
+    if bytes.len() > 1_000_000 {
+        return false;
+    }
+    match decode(alloc, bytes, Form::Replay) {
+        Ok(module) => validate(alloc, module).is_ok(),
+        Err(_) => false,
+    }
+}
+
+/// The run of a module that is printed, within a given number of turns: its `_start` is called.
+fn run_of_replay(alloc: Global, printed: &[u8], turns: &str) -> Result<Outcome, Fail> {
+    let mut files = MemFiles::new(alloc, Vec::new(alloc));
+    files.add("m.wasm", printed)?;
+    files.add("s.json", br#"{"main":[{"call":"_start"}]}"#)?;
+    outcome_of(alloc, &["history", "m.wasm", "s.json", turns], &mut files)
+}
+
+/// How the lines for what function 1 does begin, and the outcomes.
+const KEPT: [&str; 4] = ["step 1 ", "trap 1 ", "ended", "trapped"];
+
+/// Those lines of a history.
+fn original_lines(alloc: Global, text: &[u8]) -> Result<Vec<u8>, Fail> {
+    let mut kept = Vec::new(alloc);
+    for line in text.split_inclusive(|byte| *byte == b'\n') {
+        if KEPT.iter().any(|begin| line.starts_with(begin.as_bytes())) {
+            kept.extend_from_slice(line)?;
+        }
+    }
+    Ok(kept)
+}
+
+/// Whether what is printed for a run within `turns` is a valid module whose own run takes `own` turns, and not
+/// one less, which is `spent`, and in which function 1 does what it does in the run of the original.
+fn is_replay(
+    alloc: Global,
+    module: &str,
+    script: &str,
+    turns: &str,
+    spent: &str,
+    own: &str,
+) -> Result<bool, Fail> {
+    let printed = outcome_of_make(alloc, module, script, turns)?.printed;
+    let history = outcome_of_history(alloc, module, script, turns)?.printed;
+    let short = run_of_replay(alloc, &printed, spent)?;
+    let replay = run_of_replay(alloc, &printed, own)?;
+    let original = original_lines(alloc, &history)?;
+    let same = original_lines(alloc, &replay.printed)?;
+    Ok(
+        is_valid(alloc, &printed)
+            && short.status == 12
+            && replay.status == 0
+            && original.as_slice() == same.as_slice(),
+    )
+}
+
+#[test]
+fn two_answers_as_bytes(rt: HostRuntime) -> Result<(), Fail> {
+    let alloc = rt.alloc();
+    let wanted = hex::decode(alloc, TWO_ANSWERS_REPLAYED)?;
+    let answer = outcome_of_make(alloc, TWO_ANSWERS, ANSWERS, "4")?;
+    assert_eq!(rt; answer.printed.as_slice(), wanted.as_slice());
+    assert!(rt; is_valid(alloc, &answer.printed));
+    // 198 more answers, which the run does not take.
+    let script = script_of_answers(alloc, &[5, 7], 198)?;
+    let more = outcome_of_make(alloc, TWO_ANSWERS, script.as_str(), "4")?;
+    assert_eq!(rt; more.status, 0);
+    assert_eq!(rt; more.printed.as_slice(), wanted.as_slice());
+    Ok(())
+}
+
+#[test]
+fn a_loop_that_calls_its_import_200_times(rt: HostRuntime) -> Result<(), Fail> {
+    let alloc = rt.alloc();
+    let script = script_of_answers(alloc, &[], 200)?;
+    // A call of the host, twelve instructions for each call of the import, and the last `local.get`.
+    let spent = outcome_of_make(alloc, LOOP, script.as_str(), "2401")?;
+    assert_eq!(rt; spent.status, 12);
+    assert_eq!(rt; spent.line.as_slice(), b"turns spent: 2401\n".as_slice());
+    let answer = outcome_of_make(alloc, LOOP, script.as_str(), "2402")?;
+    assert_eq!(rt; answer.status, 0);
+    // Call k of the import takes 8 instructions and 4 for each test, of which it makes k; `_start` has 2 more.
+    assert!(rt; is_replay(alloc, LOOP, script.as_str(), "2402", "84403", "84404")?);
+    let short = script_of_answers(alloc, &[], 199)?;
+    let fault = outcome_of_make(alloc, LOOP, short.as_str(), "2402")?;
+    assert_eq!(rt; fault.status, 11);
+    assert_eq!(rt;
+        fault.line.as_slice(),
+        b"script fault: turn 2392 no response\n".as_slice()
+    );
+    Ok(())
+}
+
+/// The run of the replay module of a trap.
+const TRAP_REPLAYED: &[u8] = b"host-call 2\n\
+    step 2 0 ->\n\
+    enter 1\n\
+    step 1 0 -> i32:00000064\n\
+    step 1 1 ->\n\
+    enter 0\n\
+    step 0 0 -> i32:00000000\n\
+    step 0 1 i32:00000000 ->\n\
+    step 0 2 -> i32:00000000\n\
+    step 0 3 -> i32:00000001\n\
+    step 0 4 i32:00000000 i32:00000001 -> i32:00000001\n\
+    step 0 5 i32:00000001 ->\n\
+    step 0 6 -> i32:00000000\n\
+    step 0 7 -> i32:00000000\n\
+    step 0 8 i32:00000000 i32:00000000 -> i32:00000001\n\
+    step 0 9 i32:00000001 ->\n\
+    step 0 10 -> i32:00000000\n\
+    step 0 11 ->\n\
+    exit 0 i32:00000000\n\
+    trap 1 2 divide i32:00000064 i32:00000000\n\
+    trapped\n";
+
+#[test]
+fn a_trap_is_an_outcome(rt: HostRuntime) -> Result<(), Fail> {
+    let alloc = rt.alloc();
+    let script = script_of_answers(alloc, &[], 1)?;
+    let answer = outcome_of_make(alloc, TRAP, script.as_str(), "4")?;
+    assert_eq!(rt; answer.status, 0);
+    let replay = run_of_replay(alloc, &answer.printed, "17")?;
+    assert_eq!(rt; replay.printed.as_slice(), TRAP_REPLAYED);
+    assert!(rt; is_replay(alloc, TRAP, script.as_str(), "4", "16", "17")?);
+    Ok(())
+}
+
+#[test]
+fn a_program_compiled_from_c(rt: HostRuntime) -> Result<(), Fail> {
+    let alloc = rt.alloc();
+    let spent = outcome_of_make(alloc, COLLATZ, NUMBERS, "638")?;
+    assert_eq!(rt; spent.status, 12);
+    let answer = outcome_of_make(alloc, COLLATZ, NUMBERS, "639")?;
+    assert_eq!(rt; answer.status, 0);
+    assert!(rt; is_replay(alloc, COLLATZ, NUMBERS, "639", "712", "713")?);
+    Ok(())
+}

@@ -1,0 +1,119 @@
+// Calls with the machine alone, by many turns at once and turn by turn.
+
+ghost use Rattle.std.specs.Prelude.{◌≤◌, IfOk};
+ghost use Rattle.bench_machine.specs.Positions.{IsRunning};
+
+use bench_machine::{Instance, instance_of};
+use history_lines::print_entry;
+use no_memory::NoMemory;
+use std::alloc::Global;
+use std::test::Fail;
+use wasm_flat::Meter;
+use wasm_interp::{Pause, Turn};
+use wasm_syntax::limits::MOST_FILE_BYTES;
+use wasm_syntax::{Val, ValType};
+
+/// A call of a function of a module, in hexadecimal, with values of one type, under a script.
+#[derive(Clone, Copy)]
+pub(crate) struct Case {
+    pub(crate) module: &'static str,
+    pub(crate) script: &'static str,
+    pub(crate) func: u32,
+    pub(crate) ty: ValType,
+    pub(crate) args: &'static [u64],
+}
+
+/// Where a call comes to: where the machine pauses, how many turns it took, and the line of the last
+/// entry, where there are entries; the bytes of the memory.
+#[derive(Drop)]
+pub(crate) struct CallOutcome {
+    pub(crate) pause: Pause,
+    pub(crate) turns: u64,
+    pub(crate) line: Vec<u8>,
+    pub(crate) bytes: Vec<u8>,
+}
+
+/// Values of one type, by their bits.
+fn values_of(alloc: Global, ty: ValType, numbers: &[u64]) -> Result<Vec<Val>, NoMemory> {
+    let mut values = Vec::new(alloc);
+    'numbers: for number in numbers {
+        values.push(Val { ty, bits: *number })?;
+    }
+    Ok(values)
+}
+
+/// An instance in which a function is called.
+pub(crate) fn running_instance(alloc: Global, case: Case) -> Result<Instance, Fail>
+    ensures { IfOk result (λ instance. IsRunning instance.«module» instance.machine) }
+{
+    let bytes = hex::decode(alloc, case.module)?;
+    if bytes.len() as u64 > MOST_FILE_BYTES {
+        return Err(Fail::from("a module that is too long"));
+    }
+    let args = values_of(alloc, case.ty, case.args)?;
+    let Ok(mut instance) = instance_of(alloc, &bytes, case.script.as_bytes()) else {
+        return Err(Fail::from("a module without an instance"));
+    };
+    if instance.call(alloc, case.func, &args)? {
+        Ok(instance)
+    } else {
+        Err(Fail::from("a function that is not called"))
+    }
+}
+
+/// A call by `advance`.
+pub(crate) fn outcome_by_advance(
+    alloc: Global,
+    case: Case,
+    turns: u64,
+) -> Result<CallOutcome, Fail> {
+    let mut instance = running_instance(alloc, case)?;
+    let meter = Meter::all_one();
+    let (pause, left) = instance.advance(&meter, turns)?;
+    Ok(CallOutcome {
+        pause,
+        turns: turns - left,
+        line: Vec::new(alloc),
+        bytes: Vec::from_slice(alloc, instance.machine.store().bytes())?,
+    })
+}
+
+/// The same turn by turn.
+pub(crate) fn outcome_by_turns(alloc: Global, case: Case, turns: u64) -> Result<CallOutcome, Fail> {
+    let mut instance = running_instance(alloc, case)?;
+    let (pause, taken, line) = end_by_turns(alloc, &mut instance, turns)?;
+    Ok(CallOutcome {
+        pause,
+        turns: taken,
+        line,
+        bytes: Vec::from_slice(alloc, instance.machine.store().bytes())?,
+    })
+}
+
+/// Goes on by single turns: where the machine pauses, how many turns it took, and the last line.
+fn end_by_turns(
+    alloc: Global,
+    instance: &mut Instance,
+    turns: u64,
+) -> Result<(Pause, u64, Vec<u8>), NoMemory>
+    requires { IsRunning instance.old.«module» instance.old.machine }
+{
+    let mut turn = instance.settle()?;
+    'turns: for taken in 0..turns {
+        if let Some(pause) = turn.pause {
+            return Ok((pause, taken, last_line(alloc, &turn)?));
+        }
+        turn = instance.turn()?;
+    }
+    let pause = turn.pause.unwrap_or(Pause::Spent);
+    Ok((pause, turns, last_line(alloc, &turn)?))
+}
+
+/// The line of the last entry of a turn, where it has entries.
+fn last_line(alloc: Global, turn: &Turn) -> Result<Vec<u8>, NoMemory> {
+    let mut line = Vec::new(alloc);
+    if let Some(entry) = turn.entries.as_slice().last() {
+        print_entry(&mut line, entry)?;
+    }
+    Ok(line)
+}

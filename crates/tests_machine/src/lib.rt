@@ -1,0 +1,8 @@
+//! Tests alone: what calls of functions come to with the machine alone, by many turns at once and turn by turn,
+//! worked out by hand from the standard.
+#![tactic(auto)]
+
+#[cfg(test)]
+mod both_ways;
+#[cfg(test)]
+mod rows;

@@ -1,0 +1,263 @@
+//! Instructions of memories (Core 1.0, 3.3.4), each rule kept and broken.
+
+use crate::tests::answers::Answer::{self, Invalid, Taken};
+
+pub const ROWS: &[(&str, &str, Answer)] = &[
+    (
+        "each load aligned as its width",
+        // (module (memory 1) (func i32.const 0 i32.load drop i32.const 0 i64.load drop i32.const 0 f32.load drop
+        //     i32.const 0 f64.load drop i32.const 0 i32.load8_s drop i32.const 0 i32.load8_u drop
+        //     i32.const 0 i32.load16_s drop i32.const 0 i32.load16_u drop i32.const 0 i64.load8_s drop
+        //     i32.const 0 i64.load8_u drop i32.const 0 i64.load16_s drop i32.const 0 i64.load16_u drop
+        //     i32.const 0 i64.load32_s drop i32.const 0 i64.load32_u drop))
+        "0061736d01000000010401600000030201000503010001\
+         0a5801560041002802001a41002903001a41002a02001a41002b03001a41002c00001a41002d00001a41002e01001a41002f\
+         01001a41003000001a41003100001a41003201001a41003301001a41003402001a41003502001a0b",
+        Taken,
+    ),
+    (
+        "each store aligned as its width",
+        // (module (memory 1) (func i32.const 0 i32.const 0 i32.store i32.const 0 i64.const 0 i64.store
+        //     i32.const 0 f32.const 0 f32.store i32.const 0 f64.const 0 f64.store i32.const 0 i32.const 0 i32.store8
+        //     i32.const 0 i32.const 0 i32.store16 i32.const 0 i64.const 0 i64.store8
+        //     i32.const 0 i64.const 0 i64.store16 i32.const 0 i64.const 0 i64.store32))
+        "0061736d01000000010401600000030201000503010001\
+         0a4d014b004100410036020041004200370300410043000000003802004100440000000000000000390300410041003a0000\
+         410041003b0100410042003c0000410042003d0100410042003e02000b",
+        Taken,
+    ),
+    (
+        "i32.load aligned past its width",
+        // (module (memory 1) (func i32.const 0 i32.load align=8 drop))
+        "0061736d010000000104016000000302010005030100010a0a01080041002803001a0b",
+        Invalid(0),
+    ),
+    (
+        "i64.load aligned past its width",
+        // (module (memory 1) (func i32.const 0 i64.load align=16 drop))
+        "0061736d010000000104016000000302010005030100010a0a01080041002904001a0b",
+        Invalid(0),
+    ),
+    (
+        "f32.load aligned past its width",
+        // (module (memory 1) (func i32.const 0 f32.load align=8 drop))
+        "0061736d010000000104016000000302010005030100010a0a01080041002a03001a0b",
+        Invalid(0),
+    ),
+    (
+        "f64.load aligned past its width",
+        // (module (memory 1) (func i32.const 0 f64.load align=16 drop))
+        "0061736d010000000104016000000302010005030100010a0a01080041002b04001a0b",
+        Invalid(0),
+    ),
+    (
+        "i32.load8_s aligned past its width",
+        // (module (memory 1) (func i32.const 0 i32.load8_s align=2 drop))
+        "0061736d010000000104016000000302010005030100010a0a01080041002c01001a0b",
+        Invalid(0),
+    ),
+    (
+        "i32.load8_u aligned past its width",
+        // (module (memory 1) (func i32.const 0 i32.load8_u align=2 drop))
+        "0061736d010000000104016000000302010005030100010a0a01080041002d01001a0b",
+        Invalid(0),
+    ),
+    (
+        "i32.load16_s aligned past its width",
+        // (module (memory 1) (func i32.const 0 i32.load16_s align=4 drop))
+        "0061736d010000000104016000000302010005030100010a0a01080041002e02001a0b",
+        Invalid(0),
+    ),
+    (
+        "i32.load16_u aligned past its width",
+        // (module (memory 1) (func i32.const 0 i32.load16_u align=4 drop))
+        "0061736d010000000104016000000302010005030100010a0a01080041002f02001a0b",
+        Invalid(0),
+    ),
+    (
+        "i64.load8_s aligned past its width",
+        // (module (memory 1) (func i32.const 0 i64.load8_s align=2 drop))
+        "0061736d010000000104016000000302010005030100010a0a01080041003001001a0b",
+        Invalid(0),
+    ),
+    (
+        "i64.load8_u aligned past its width",
+        // (module (memory 1) (func i32.const 0 i64.load8_u align=2 drop))
+        "0061736d010000000104016000000302010005030100010a0a01080041003101001a0b",
+        Invalid(0),
+    ),
+    (
+        "i64.load16_s aligned past its width",
+        // (module (memory 1) (func i32.const 0 i64.load16_s align=4 drop))
+        "0061736d010000000104016000000302010005030100010a0a01080041003202001a0b",
+        Invalid(0),
+    ),
+    (
+        "i64.load16_u aligned past its width",
+        // (module (memory 1) (func i32.const 0 i64.load16_u align=4 drop))
+        "0061736d010000000104016000000302010005030100010a0a01080041003302001a0b",
+        Invalid(0),
+    ),
+    (
+        "i64.load32_s aligned past its width",
+        // (module (memory 1) (func i32.const 0 i64.load32_s align=8 drop))
+        "0061736d010000000104016000000302010005030100010a0a01080041003403001a0b",
+        Invalid(0),
+    ),
+    (
+        "i64.load32_u aligned past its width",
+        // (module (memory 1) (func i32.const 0 i64.load32_u align=8 drop))
+        "0061736d010000000104016000000302010005030100010a0a01080041003503001a0b",
+        Invalid(0),
+    ),
+    (
+        "i32.store aligned past its width",
+        // (module (memory 1) (func i32.const 0 i32.const 0 i32.store align=8))
+        "0061736d010000000104016000000302010005030100010a0b010900410041003603000b",
+        Invalid(0),
+    ),
+    (
+        "i64.store aligned past its width",
+        // (module (memory 1) (func i32.const 0 i64.const 0 i64.store align=16))
+        "0061736d010000000104016000000302010005030100010a0b010900410042003704000b",
+        Invalid(0),
+    ),
+    (
+        "f32.store aligned past its width",
+        // (module (memory 1) (func i32.const 0 f32.const 0 f32.store align=8))
+        "0061736d010000000104016000000302010005030100010a0e010c00410043000000003803000b",
+        Invalid(0),
+    ),
+    (
+        "f64.store aligned past its width",
+        // (module (memory 1) (func i32.const 0 f64.const 0 f64.store align=16))
+        "0061736d010000000104016000000302010005030100010a1201100041004400000000000000003904000b",
+        Invalid(0),
+    ),
+    (
+        "i32.store8 aligned past its width",
+        // (module (memory 1) (func i32.const 0 i32.const 0 i32.store8 align=2))
+        "0061736d010000000104016000000302010005030100010a0b010900410041003a01000b",
+        Invalid(0),
+    ),
+    (
+        "i32.store16 aligned past its width",
+        // (module (memory 1) (func i32.const 0 i32.const 0 i32.store16 align=4))
+        "0061736d010000000104016000000302010005030100010a0b010900410041003b02000b",
+        Invalid(0),
+    ),
+    (
+        "i64.store8 aligned past its width",
+        // (module (memory 1) (func i32.const 0 i64.const 0 i64.store8 align=2))
+        "0061736d010000000104016000000302010005030100010a0b010900410042003c01000b",
+        Invalid(0),
+    ),
+    (
+        "i64.store16 aligned past its width",
+        // (module (memory 1) (func i32.const 0 i64.const 0 i64.store16 align=4))
+        "0061736d010000000104016000000302010005030100010a0b010900410042003d02000b",
+        Invalid(0),
+    ),
+    (
+        "i64.store32 aligned past its width",
+        // (module (memory 1) (func i32.const 0 i64.const 0 i64.store32 align=8))
+        "0061736d010000000104016000000302010005030100010a0b010900410042003e03000b",
+        Invalid(0),
+    ),
+    (
+        "an alignment of 2^31",
+        // (module (memory 1) (func i32.const 0 i32.load align=2147483648 drop))
+        "0061736d010000000104016000000302010005030100010a0a0108004100281f001a0b",
+        Invalid(0),
+    ),
+    (
+        "an alignment of 2^32",
+        // (module (memory 1) (func i32.const 0 i32.load drop)), but aligned to 2^32 bytes
+        "0061736d010000000104016000000302010005030100010a0a01080041002820001a0b",
+        Invalid(0),
+    ),
+    (
+        "a load without a memory",
+        // (module (func i32.const 0 i32.load drop))
+        "0061736d01000000010401600000030201000a0a01080041002802001a0b",
+        Invalid(0),
+    ),
+    (
+        "a store without a memory",
+        // (module (func i32.const 0 i32.const 0 i32.store))
+        "0061736d01000000010401600000030201000a0b010900410041003602000b",
+        Invalid(0),
+    ),
+    (
+        "memory.size without a memory",
+        // (module (func memory.size drop))
+        "0061736d01000000010401600000030201000a070105003f001a0b",
+        Invalid(0),
+    ),
+    (
+        "memory.grow without a memory",
+        // (module (func i32.const 0 memory.grow drop))
+        "0061736d01000000010401600000030201000a09010700410040001a0b",
+        Invalid(0),
+    ),
+    (
+        "a load by another type",
+        // (module (memory 1) (func i64.const 0 i32.load drop))
+        "0061736d010000000104016000000302010005030100010a0a01080042002802001a0b",
+        Invalid(0),
+    ),
+    (
+        "a load by nothing",
+        // (module (memory 1) (func i32.load drop))
+        "0061736d010000000104016000000302010005030100010a080106002802001a0b",
+        Invalid(0),
+    ),
+    (
+        "a load as another type",
+        // (module (memory 1) (func i32.const 0 i32.load i64.eqz drop))
+        "0061736d010000000104016000000302010005030100010a0b0109004100280200501a0b",
+        Invalid(0),
+    ),
+    (
+        "a store by another type",
+        // (module (memory 1) (func i64.const 0 i32.const 0 i32.store))
+        "0061736d010000000104016000000302010005030100010a0b010900420041003602000b",
+        Invalid(0),
+    ),
+    (
+        "a store of another type",
+        // (module (memory 1) (func i32.const 0 i64.const 0 i32.store))
+        "0061736d010000000104016000000302010005030100010a0b010900410042003602000b",
+        Invalid(0),
+    ),
+    (
+        "a store of nothing",
+        // (module (memory 1) (func i32.const 0 i32.store))
+        "0061736d010000000104016000000302010005030100010a0901070041003602000b",
+        Invalid(0),
+    ),
+    (
+        "memory.grow by another type",
+        // (module (memory 1) (func i64.const 0 memory.grow drop))
+        "0061736d010000000104016000000302010005030100010a09010700420040001a0b",
+        Invalid(0),
+    ),
+    (
+        "memory.size as another type",
+        // (module (memory 1) (func memory.size i64.eqz drop))
+        "0061736d010000000104016000000302010005030100010a080106003f00501a0b",
+        Invalid(0),
+    ),
+    (
+        "memory.grow as another type",
+        // (module (memory 1) (func i32.const 0 memory.grow i64.eqz drop))
+        "0061736d010000000104016000000302010005030100010a0a01080041004000501a0b",
+        Invalid(0),
+    ),
+    (
+        "a load with an imported memory",
+        // (module (import "h" "f" (memory 1)) (func i32.const 0 i32.load drop))
+        "0061736d0100000001040160000002080101680166020001030201000a0a01080041002802001a0b",
+        Taken,
+    ),
+];

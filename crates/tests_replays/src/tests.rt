@@ -1,0 +1,8 @@
+//! Runs whose replay modules are run, and what runs them.
+
+mod by_hand;
+mod long_runs;
+mod projections;
+mod replays;
+mod rows;
+mod runs;

@@ -1,0 +1,201 @@
+// What the run of a replay module shows of the original's functions, line by line, as the definition of
+// the projection says it.
+
+use crate::tests::runs::FinishedRun;
+use history_lines::{print_entry, print_outcome};
+use history_spec::{Entry, Outcome};
+use std::alloc::Global;
+use std::test::Fail;
+use wasm_interp::Pause;
+use wasm_syntax::{List, Val, Vals};
+
+/// How many functions the original imports and defines.
+#[derive(Clone, Copy)]
+pub struct Layout {
+    pub imports: u32,
+    pub defined: u32,
+}
+
+/// What a function is: the body that stands for an import, an original, or one that is appended.
+#[derive(Clone, Copy)]
+enum Side {
+    Import,
+    Original,
+    Appended,
+}
+
+impl Layout {
+    fn side(self, func: u32) -> Side {
+        if func < self.imports {
+            Side::Import
+        } else if func - self.imports < self.defined {
+            Side::Original
+        } else {
+            Side::Appended
+        }
+    }
+}
+
+/// The entry of a call from one side to a function of another.
+fn call_shown(caller: Side, callee: Side, func: u32, args: Vals) -> Option<Entry> {
+    match (caller, callee) {
+        (Side::Original, Side::Original) => Some(Entry::Enter { func }),
+        (Side::Original, Side::Import) => Some(Entry::ImportCall { import: func, args }),
+        (_, Side::Original) => Some(Entry::HostCall { func, args }),
+        _ => None,
+    }
+}
+
+/// The entry of its return.
+fn return_shown(caller: Side, callee: Side, func: u32, results: Vals) -> Option<Entry> {
+    match (caller, callee) {
+        (Side::Original, Side::Original) => Some(Entry::Exit { func, results }),
+        (Side::Original, Side::Import) => Some(Entry::ImportReturn {
+            import: func,
+            results,
+        }),
+        (_, Side::Original) => Some(Entry::HostReturn { func, results }),
+        _ => None,
+    }
+}
+
+/// A history that is walked.
+#[derive(Drop)]
+struct Walk {
+    alloc: Global,
+    layout: Layout,
+    /// The functions that control is in, the innermost last.
+    inside: Vec<u32>,
+    /// The arguments of the latest call.
+    args: Vec<Val>,
+    lines: Vec<u8>,
+}
+
+impl Walk {
+    /// The side of the innermost function; the caller of the first is outside.
+    fn innermost(&self) -> Side {
+        match self.inside.last() {
+            Some(func) => self.layout.side(*func),
+            None => Side::Appended,
+        }
+    }
+
+    /// Keeps the arguments among a call's operands: all but the index of a `call_indirect`, which alone
+    /// of calls has found a function.
+    fn keep_args(&mut self, operands: &[Val], found: Option<u32>) -> Result<(), Fail> {
+        let count = match found {
+            Some(_func) => operands.len().saturating_sub(1),
+            None => operands.len(),
+        };
+        let args = match operands.get(..count) {
+            Some(args) => args,
+            None => &[],
+        };
+        self.args = Vec::from_slice(self.alloc, args)?;
+        Ok(())
+    }
+
+    fn enter(&mut self, func: u32) -> Result<(), Fail> {
+        let args = List::from_vec(Vec::from_slice(self.alloc, self.args.as_slice())?);
+        let callee = self.layout.side(func);
+        if let Some(entry) = call_shown(self.innermost(), callee, func, args) {
+            print_entry(&mut self.lines, &entry)?;
+        }
+        self.inside.push(func)?;
+        Ok(())
+    }
+
+    fn leave(&mut self, func: u32, results: Vals) -> Result<(), Fail> {
+        let _left = self.inside.pop();
+        let callee = self.layout.side(func);
+        if let Some(entry) = return_shown(self.innermost(), callee, func, results) {
+            print_entry(&mut self.lines, &entry)?;
+        }
+        Ok(())
+    }
+
+    /// Steps of originals are shown.
+    fn step(&mut self, func: u32, entry: &Entry) -> Result<(), Fail> {
+        if let Side::Original = self.layout.side(func) {
+            print_entry(&mut self.lines, entry)?;
+        }
+        Ok(())
+    }
+
+    /// A trap outside is the host's.
+    fn trap(&mut self, func: u32, entry: &Entry) -> Result<(), Fail> {
+        match self.layout.side(func) {
+            Side::Original => print_entry(&mut self.lines, entry)?,
+            _ => print_entry(&mut self.lines, &Entry::HostTrap)?,
+        }
+        Ok(())
+    }
+
+    fn entry(&mut self, entry: &Entry) -> Result<(), Fail> {
+        match entry {
+            Entry::HostCall { func, args } => {
+                self.keep_args(args.as_slice(), None)?;
+                self.enter(*func)
+            }
+            Entry::Enter { func } => self.enter(*func),
+            Entry::HostReturn { func, results } | Entry::Exit { func, results } => {
+                self.leave(*func, results.clone()?)
+            }
+            Entry::Step {
+                func,
+                operands,
+                found,
+                ..
+            } => {
+                self.step(*func, entry)?;
+                self.keep_args(operands.as_slice(), *found)
+            }
+            Entry::Trap { func, .. } => self.trap(*func, entry),
+            // A replay module imports nothing.
+            _ => Err(Fail::from("an entry of an import")),
+        }
+    }
+}
+
+/// Whose the trap is that a history ends with.
+fn trap_outcome(layout: Layout, entries: &[Entry]) -> Outcome {
+    for entry in entries {
+        if let Entry::Trap { func, .. } = entry {
+            return match layout.side(*func) {
+                Side::Original => Outcome::Trapped,
+                _ => Outcome::HostTrapped,
+            };
+        }
+    }
+    Outcome::Trapped
+}
+
+fn outcome_shown(layout: Layout, run: &FinishedRun) -> Result<Outcome, Fail> {
+    match run.pause {
+        Pause::Returned => Ok(Outcome::Ended),
+        Pause::Trapped => Ok(trap_outcome(layout, run.entries.as_slice())),
+        _ => Err(Fail::from("the run is not over")),
+    }
+}
+
+/// The lines of the history and of the outcome that a run shows.
+pub fn lines_of_projection(
+    alloc: Global,
+    layout: Layout,
+    run: &FinishedRun,
+) -> Result<Vec<u8>, Fail> {
+    let mut walk = Walk {
+        alloc,
+        layout,
+        inside: Vec::new(alloc),
+        args: Vec::new(alloc),
+        lines: Vec::new(alloc),
+    };
+    for entry in run.entries.as_slice() {
+        walk.entry(entry)?;
+    }
+    let Walk { lines, .. } = walk;
+    let mut lines = lines;
+    print_outcome(&mut lines, outcome_shown(layout, run)?)?;
+    Ok(lines)
+}

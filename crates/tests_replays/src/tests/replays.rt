@@ -1,0 +1,112 @@
+// Replay modules, and what their runs show.
+
+ghost use Rattle.std.specs.Prelude.{◌≤◌, IfOk, length};
+ghost use Rattle.wasm_syntax.specs.declared.limits.TheConstants.{MOST_FILE_BYTES};
+
+use crate::tests::projections::{Layout, lines_of_projection};
+use crate::tests::runs::run;
+use bench_machine::instance_of;
+use leb_bytes::read_u32;
+use r3_history::history;
+use r3_make::make;
+use std::alloc::Global;
+use std::test::Fail;
+use wasm_syntax::limits::{MOST_FILE_BYTES, MOST_TURNS};
+use wasm_syntax::{ExportKind, Module};
+
+/// The layout that a replay module tells: two numbers in a custom section.
+fn layout_of(module: &Module) -> Result<Layout, Fail> {
+    for custom in module.customs.as_slice() {
+        if custom.name.as_str() == "r3.layout" {
+            return layout_in(custom.bytes.as_slice());
+        }
+    }
+    Err(Fail::from("no layout"))
+}
+
+fn layout_in(bytes: &[u8]) -> Result<Layout, Fail> {
+    let (imports, next) = read_u32(bytes, 0)?;
+    if next > bytes.len() {
+        return Err(Fail::from("the layout is cut short"));
+    }
+    let (defined, end) = read_u32(bytes, next)?;
+    if end != bytes.len() {
+        return Err(Fail::from("the layout goes on"));
+    }
+    Ok(Layout { imports, defined })
+}
+
+/// The function of the one export, which is named `_start`.
+fn entry_of(module: &Module) -> Result<u32, Fail> {
+    let [export] = module.exports.as_slice() else {
+        return Err(Fail::from("other than one export"));
+    };
+    match export.kind {
+        ExportKind::Func(func) if export.name.as_str() == "_start" => Ok(func),
+        _ => Err(Fail::from("no function `_start`")),
+    }
+}
+
+/// The lines that the run of a replay module shows of the original: its history, then its outcome. It is
+/// one without a start function, as those of plain scripts are.
+pub fn lines_shown_by(alloc: Global, bytes: &[u8]) -> Result<Vec<u8>, Fail> {
+    if bytes.len() as u64 > MOST_FILE_BYTES {
+        return Err(Fail::from("too many bytes"));
+    }
+    // It imports nothing, so a script without anything supplies all that it asks for.
+    let mut instance = instance_of(alloc, bytes, b"{}")?;
+    if instance.module.start.is_some() {
+        return Err(Fail::from("a start function"));
+    }
+    let layout = layout_of(&instance.module)?;
+    let func = entry_of(&instance.module)?;
+    let run = run(alloc, &mut instance, func)?;
+    lines_of_projection(alloc, layout, &run)
+}
+
+/// The bytes of a module in hexadecimal.
+fn bytes_of(alloc: Global, module: &str) -> Result<Vec<u8>, Fail>
+    ensures { IfOk result (λ bytes. length bytes.items ≤ MOST_FILE_BYTES) }
+{
+    let bytes = hex::decode(alloc, module)?;
+    if bytes.len() as u64 > MOST_FILE_BYTES {
+        return Err(Fail::from("too many bytes"));
+    }
+    Ok(bytes)
+}
+
+/// The replay module of the run of a module, in hexadecimal, with a script.
+pub fn replay_of_run(
+    alloc: Global,
+    module: &str,
+    script: &str,
+    turns: u64,
+) -> Result<Vec<u8>, Fail> {
+    if turns > MOST_TURNS {
+        return Err(Fail::from("too many turns"));
+    }
+    let bytes = bytes_of(alloc, module)?;
+    Ok(make(alloc, bytes.as_slice(), script.as_bytes(), turns)?)
+}
+
+/// The lines that the run of this replay module shows.
+pub fn lines_of_replay(
+    alloc: Global,
+    module: &str,
+    script: &str,
+    turns: u64,
+) -> Result<Vec<u8>, Fail> {
+    let replay = replay_of_run(alloc, module, script, turns)?;
+    lines_shown_by(alloc, replay.as_slice())
+}
+
+/// The lines of the history and of the outcome of the scripted run itself.
+pub fn lines_of_history(
+    alloc: Global,
+    module: &str,
+    script: &str,
+    turns: u64,
+) -> Result<Vec<u8>, Fail> {
+    let bytes = bytes_of(alloc, module)?;
+    Ok(history(alloc, bytes.as_slice(), script.as_bytes(), turns)?)
+}

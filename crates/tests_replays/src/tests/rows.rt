@@ -1,0 +1,222 @@
+//! The lines of scripted runs, worked out by hand, and what the runs of their replay modules show.
+
+use crate::tests::replays::{lines_of_history, lines_of_replay, replay_of_run};
+use std::test::Fail;
+
+/// A function that adds what two calls of its import give.
+const TWO_ANSWERS: &str =
+    // (module (import "h" "f" (func (result i32))) (func (export "g") (result i32) call 0 call 0 i32.add))
+    "0061736d010000000105016000017f02070101680166000003020100070501016700010a09010700100010006a0b";
+
+/// It answers 5 and 7.
+const ANSWERS: &str =
+    r#"{"imports":{"h":{"f":{"calls":[{"return":{"i32":5}},{"return":{"i32":7}}]}}},"main":[{"call":"g"}]}"#;
+
+/// Two calls of the host, with four answers.
+const TWO_CALLS: &str = concat!(
+    r#"{"imports":{"h":{"f":{"calls":[{"return":{"i32":5}},{"return":{"i32":7}},{"return":{"i32":-1}},"#,
+    r#"{"return":{"i32":2}}]}}},"main":[{"call":"g"},{"call":"g"}]}"#
+);
+
+/// It divides 100 by what a call of its import gives.
+const TRAP: &str =
+    // (module (import "h" "f" (func (result i32))) (func (export "g") (result i32) i32.const 100 call 0 i32.div_u))
+    "0061736d010000000105016000017f02070101680166000003020100070501016700010a0a01080041e40010006e0b";
+
+/// A function that calls another one with an argument, which calls the import; then it calls the import itself.
+// (module (import "h" "f" (func (result i32))) (func (export "g") (result i32) i32.const 3 call 2 call 0 i32.add)
+//   (func (param i32) (result i32) local.get 0 call 0 i32.add))
+const WITHIN: &str = "0061736d01000000\
+    010a026000017f60017f017f\
+    020701016801660000\
+    0303020001\
+    07050101670001\
+    0a130209004103100210006a0b0700200010006a0b";
+
+/// A function `g` that calls `k` twice, which calls the import, and which the host may call too.
+// (module (import "h" "f" (func (result i32))) (func (export "g") (result i32) call 2 call 2 i32.sub)
+//   (func (export "k") (result i32) call 0))
+const BOTH: &str = "0061736d01000000\
+    0105016000017f\
+    020701016801660000\
+    0303020000\
+    07090201670001016b0002\
+    0a0e020700100210026b0b040010000b";
+
+/// A function that calls two imports in turn.
+// (module (import "h" "f" (func (result i32))) (import "h" "g" (func (result i32)))
+//   (func (export "run") (result i32) call 0 call 1 call 0 call 1 i32.sub i32.sub i32.sub))
+const IN_TURN: &str = "0061736d01000000\
+    0105016000017f\
+    020d02016801660000016801670000\
+    03020100\
+    0707010372756e0002\
+    0a0f010d0010001001100010016b6b6b0b";
+
+/// Modules and scripts with the turns that their runs take, and the lines of these runs.
+const ROWS: &[(&str, &str, &str, u64, &str)] = &[
+    (
+        "two answers",
+        TWO_ANSWERS,
+        ANSWERS,
+        4,
+        "host-call 1\n\
+         step 1 0 ->\n\
+         import-call 0\n\
+         import-return 0 i32:00000005\n\
+         step 1 1 ->\n\
+         import-call 0\n\
+         import-return 0 i32:00000007\n\
+         step 1 2 i32:00000005 i32:00000007 -> i32:0000000c\n\
+         host-return 1 i32:0000000c\n\
+         ended\n",
+    ),
+    (
+        "a host that calls nothing",
+        TWO_ANSWERS,
+        r#"{"main":[]}"#,
+        1,
+        "ended\n",
+    ),
+    (
+        "two calls of the host",
+        TWO_ANSWERS,
+        TWO_CALLS,
+        8,
+        "host-call 1\n\
+         step 1 0 ->\n\
+         import-call 0\n\
+         import-return 0 i32:00000005\n\
+         step 1 1 ->\n\
+         import-call 0\n\
+         import-return 0 i32:00000007\n\
+         step 1 2 i32:00000005 i32:00000007 -> i32:0000000c\n\
+         host-return 1 i32:0000000c\n\
+         host-call 1\n\
+         step 1 0 ->\n\
+         import-call 0\n\
+         import-return 0 i32:ffffffff\n\
+         step 1 1 ->\n\
+         import-call 0\n\
+         import-return 0 i32:00000002\n\
+         step 1 2 i32:ffffffff i32:00000002 -> i32:00000001\n\
+         host-return 1 i32:00000001\n\
+         ended\n",
+    ),
+    (
+        "a trap",
+        TRAP,
+        r#"{"imports":{"h":{"f":{"calls":[{"return":{"i32":0}}]}}},"main":[{"call":"g"}]}"#,
+        4,
+        "host-call 1\n\
+         step 1 0 -> i32:00000064\n\
+         step 1 1 ->\n\
+         import-call 0\n\
+         import-return 0 i32:00000000\n\
+         trap 1 2 divide i32:00000064 i32:00000000\n\
+         trapped\n",
+    ),
+    (
+        "a function that calls another one with an argument, and an import within",
+        WITHIN,
+        ANSWERS,
+        8,
+        "host-call 1\n\
+         step 1 0 -> i32:00000003\n\
+         step 1 1 i32:00000003 ->\n\
+         enter 2\n\
+         step 2 0 -> i32:00000003\n\
+         step 2 1 ->\n\
+         import-call 0\n\
+         import-return 0 i32:00000005\n\
+         step 2 2 i32:00000003 i32:00000005 -> i32:00000008\n\
+         exit 2 i32:00000008\n\
+         step 1 2 ->\n\
+         import-call 0\n\
+         import-return 0 i32:00000007\n\
+         step 1 3 i32:00000008 i32:00000007 -> i32:0000000f\n\
+         host-return 1 i32:0000000f\n\
+         ended\n",
+    ),
+    (
+        "a function that the host calls, and then the module",
+        BOTH,
+        concat!(
+            r#"{"imports":{"h":{"f":{"calls":[{"return":{"i32":9}},{"return":{"i32":4}},"#,
+            r#"{"return":{"i32":6}}]}}},"main":[{"call":"k"},{"call":"g"}]}"#
+        ),
+        8,
+        "host-call 2\n\
+         step 2 0 ->\n\
+         import-call 0\n\
+         import-return 0 i32:00000009\n\
+         host-return 2 i32:00000009\n\
+         host-call 1\n\
+         step 1 0 ->\n\
+         enter 2\n\
+         step 2 0 ->\n\
+         import-call 0\n\
+         import-return 0 i32:00000004\n\
+         exit 2 i32:00000004\n\
+         step 1 1 ->\n\
+         enter 2\n\
+         step 2 0 ->\n\
+         import-call 0\n\
+         import-return 0 i32:00000006\n\
+         exit 2 i32:00000006\n\
+         step 1 2 i32:00000004 i32:00000006 -> i32:fffffffe\n\
+         host-return 1 i32:fffffffe\n\
+         ended\n",
+    ),
+    (
+        "two imports in turn",
+        IN_TURN,
+        concat!(
+            r#"{"imports":{"h":{"f":{"calls":[{"return":{"i32":1}},"#,
+            r#"{"return":{"i32":2}}]},"g":{"calls":[{"return":{"i32":10}},"#,
+            r#"{"return":{"i32":20}}]}}},"main":[{"call":"run"}]}"#
+        ),
+        8,
+        "host-call 2\n\
+         step 2 0 ->\n\
+         import-call 0\n\
+         import-return 0 i32:00000001\n\
+         step 2 1 ->\n\
+         import-call 1\n\
+         import-return 1 i32:0000000a\n\
+         step 2 2 ->\n\
+         import-call 0\n\
+         import-return 0 i32:00000002\n\
+         step 2 3 ->\n\
+         import-call 1\n\
+         import-return 1 i32:00000014\n\
+         step 2 4 i32:00000002 i32:00000014 -> i32:ffffffee\n\
+         step 2 5 i32:0000000a i32:ffffffee -> i32:0000001c\n\
+         step 2 6 i32:00000001 i32:0000001c -> i32:ffffffe5\n\
+         host-return 2 i32:ffffffe5\n\
+         ended\n",
+    ),
+];
+
+#[test]
+fn replays_show_what_was_worked_out(rt: HostRuntime) -> Result<(), Fail> {
+    let alloc = rt.alloc();
+    for (what, module, script, turns, lines) in ROWS {
+        let shown = lines_of_replay(alloc, module, script, *turns)?;
+        assert_eq!(rt; shown.as_slice(), lines.as_bytes(), "{what}");
+        let history = lines_of_history(alloc, module, script, *turns)?;
+        assert_eq!(rt; history.as_slice(), lines.as_bytes(), "{what}");
+    }
+    Ok(())
+}
+
+#[test]
+fn a_replay_is_made_anew_with_the_same_bytes(rt: HostRuntime) -> Result<(), Fail> {
+    let alloc = rt.alloc();
+    for (what, module, script, turns, _lines) in ROWS {
+        let once = replay_of_run(alloc, module, script, *turns)?;
+        let again = replay_of_run(alloc, module, script, *turns)?;
+        assert_eq!(rt; once.as_slice(), again.as_slice(), "{what}");
+    }
+    Ok(())
+}

@@ -1,0 +1,76 @@
+// The entries of a run on the machine.
+
+ghost use Rattle.std.specs.Prelude.{IfOk};
+ghost use Rattle.bench_machine.specs.Positions.{ComesBy, IsIdle};
+
+use bench_machine::Instance;
+use history_spec::{Entries, Entry};
+use std::alloc::Global;
+use std::test::Fail;
+use wasm_interp::{Pause, Turn};
+use wasm_syntax::List;
+
+/// More turns than the run of any row takes.
+const MOST_TURNS: u32 = 100_000;
+
+/// The entries of a run that is over, and where it came to.
+#[derive(Drop)]
+pub struct FinishedRun {
+    pub entries: Vec<Entry>,
+    pub pause: Pause,
+}
+
+/// The run from a call of a function without parameters on, that call included.
+pub fn run(alloc: Global, instance: &mut Instance, func: u32) -> Result<FinishedRun, Fail>
+    requires { IsIdle instance.old.«module» instance.old.machine }
+{
+    let first = first_turn(alloc, instance, func)?;
+    let mut entries = Vec::new(alloc);
+    entries.push(Entry::HostCall {
+        func,
+        args: List::new(alloc),
+    })?;
+    append(&mut entries, first.entries)?;
+    let pause = pause_of(instance, first.pause, &mut entries)?;
+    Ok(FinishedRun { entries, pause })
+}
+
+/// Calls a function, and makes the returns that are due.
+fn first_turn(alloc: Global, instance: &mut Instance, func: u32) -> Result<Turn, Fail>
+    requires { IsIdle instance.old.«module» instance.old.machine }
+    ensures { IfOk result (λ turn. ComesBy instance.new.«module» turn.pause instance.new.machine) }
+{
+    if !instance.call(alloc, func, &[])? {
+        return Err(Fail::from("no defined function without parameters"));
+    }
+    let turn = instance.settle()?;
+    Ok(turn)
+}
+
+/// Goes on until the machine pauses: where it does. The entries are appended.
+fn pause_of(
+    instance: &mut Instance,
+    pause: Option<Pause>,
+    entries: &mut Vec<Entry>,
+) -> Result<Pause, Fail>
+    requires { ComesBy instance.old.«module» pause instance.old.machine }
+{
+    let mut pause = pause;
+    'turns: for _turn in 0..MOST_TURNS {
+        if let Some(pause) = pause {
+            return Ok(pause);
+        }
+        let turn = instance.turn()?;
+        pause = turn.pause;
+        append(entries, turn.entries)?;
+    }
+    Err(Fail::from("the run takes too many turns"))
+}
+
+/// Appends entries.
+fn append(all: &mut Vec<Entry>, entries: Entries) -> Result<(), Fail> {
+    for entry in entries.into_vec() {
+        all.push(entry)?;
+    }
+    Ok(())
+}

@@ -1,0 +1,117 @@
+// The lines of error that scripts are answered with.
+
+use r3_faults::Fault;
+use r3_inputs::{module_of, script_of};
+use r3_outside::MemSink;
+use std::alloc::Global;
+use std::test::Fail;
+use wasm_syntax::limits::MOST_FILE_BYTES;
+use wasm_validate::Checked;
+
+/// Imports the functions `h.f` of type `[i32 i64] -> [i32]` and `h.v` of type `[] -> []`, two
+/// functions `h.p` of types `[i64 i32] -> []` and `[i32 i32] -> []`, two functions `h.r` with the
+/// results i32 and i64, and the globals `h.g` (mutable i32), `h.k` (i64) and `a/b.c~d` (f32).
+/// Exports a table `tab`, a memory `mem`, the globals `x` (mutable f64) and `y` (i32), the functions
+/// `run` of the type of `h.f` and `go` of type `[] -> []`, and the first import as `own`.
+pub const EVERY: &str =
+    // (module (import "h" "f" (func (param i32 i64) (result i32))) (import "h" "v" (func))
+    //   (import "h" "g" (global (mut i32))) (import "h" "k" (global i64)) (import "a/b" "c~d" (global f32))
+    //   (import "h" "p" (func (param i64 i32))) (import "h" "p" (func (param i32 i32)))
+    //   (import "h" "r" (func (result i32))) (import "h" "r" (func (result i64))) (table (export "tab") 2 funcref)
+    //   (memory (export "mem") 1) (global (export "x") (mut f64) (f64.const 0))
+    //   (global (export "y") i32 (i32.const 0)) (func (export "run") (param i32 i64) (result i32) i32.const 0)
+    //   (func (export "go")) (export "own" (func 0)))
+    "0061736d01000000011c0660027f7e017f60000060027e7f0060027f7f006000017f6000017e\
+     023e0901680166000001680176000101680167037f010168016b037e0003612f6203637e64037d0001680170000201680170\
+     0003016801720004016801720005030302000104040170000205030100010612027c014400000000000000000b7f0041000b\
+     072607037461620100036d656d020001780303017903040372756e000602676f0007036f776e0000\
+     0a0902040041000b02000b";
+
+/// Imports a function `h.f` of type `[i64] -> []`, has a memory and a table of its own, and exports
+/// a function `go` of type `[] -> []` alone.
+pub const CLOSED: &str =
+    // (module (import "h" "f" (func (param i64))) (table 1 funcref) (memory 1) (func (export "go")))
+    "0061736d0100000001080260017e0060000002070101680166000003020101040401700001050301000107060102676f00010a040102000b";
+
+/// Imports a table `h.t` of 2 to 4 entries, a memory `h.m` of 1 to 3 pages and the globals `h.g`
+/// (i32) and `h.k` (i64), in this order, and exports a function `go` of type `[] -> []`.
+pub const IMPORTED: &str =
+    // (module (import "h" "t" (table 2 4 funcref)) (import "h" "m" (memory 1 3)) (import "h" "g" (global i32))
+    //   (import "h" "k" (global i64)) (func (export "go")))
+    "0061736d010000000104016000000220040168017401700102040168016d0201010301680167037f000168016b037e00\
+     0302010007060102676f00000a040102000b";
+
+/// The module of bytes in hexadecimal digits.
+pub fn module(alloc: Global, text: &str) -> Result<Checked, Fail> {
+    let bytes = hex::decode(alloc, text)?;
+    if bytes.len() as u64 > MOST_FILE_BYTES {
+        return Err(Fail::from("too many bytes"));
+    }
+    match module_of(alloc, bytes.as_slice()) {
+        Ok(checked) => Ok(checked),
+        Err(_fault) => Err(Fail::from("a module that is not taken")),
+    }
+}
+
+/// The line of a fault, without its line feed.
+fn line_of(alloc: Global, fault: &Fault) -> Result<String, Fail> {
+    let mut err = MemSink::new(alloc, 1000, Vec::new(alloc));
+    if fault.put_line(&mut err).is_err() {
+        return Err(Fail::from("a sink that fails"));
+    }
+    let line = String::from_utf8_lossy(alloc, err.bytes())?;
+    match line.strip_suffix('\n') {
+        Some(line) => Ok(String::from_str(alloc, line)?),
+        None => Err(Fail::from("a line without its end")),
+    }
+}
+
+/// The line that a script is answered with, or `taken`.
+pub fn answer_to(alloc: Global, checked: &Checked, script: &[u8]) -> Result<String, Fail> {
+    match script_of(alloc, script, checked) {
+        Ok(_script) => Ok(String::from_str(alloc, "taken")?),
+        Err(fault) => line_of(alloc, &fault),
+    }
+}
+
+/// Compares the answer to a script with the one that is wanted.
+fn check_row(
+    alloc: Global,
+    checked: &Checked,
+    name: &str,
+    script: &str,
+    want: &str,
+) -> Result<(), Fail> {
+    let line = answer_to(alloc, checked, script.as_bytes())?;
+    if line.as_str() == want {
+        return Ok(());
+    }
+    Err(Fail::new(format_args!("{name}: {line}")))
+}
+
+/// Compares the answers to scripts for a module: rows have a name, a script, and its answer.
+pub fn check_rows(alloc: Global, text: &str, rows: &[(&str, &str, &str)]) -> Result<(), Fail> {
+    let checked = module(alloc, text)?;
+    for &(name, script, want) in rows {
+        check_row(alloc, &checked, name, script, want)?;
+    }
+    Ok(())
+}
+
+/// The same for the rows of a table, and how many there are. Each begins with `- ` on a line of its
+/// own, and is `NAME | SCRIPT => ANSWER`; white space around a script and an answer is left out.
+pub fn check_table(alloc: Global, text: &str, table: &str) -> Result<u64, Fail> {
+    let checked = module(alloc, text)?;
+    let mut count = 0u64;
+    for row in table.split("\n- ").skip(1) {
+        let Some((name, rest)) = row.split_once(" |") else {
+            return Err(Fail::from("a row without a name"));
+        };
+        let Some((script, want)) = rest.split_once("=>") else {
+            return Err(Fail::from("a row without an answer"));
+        };
+        check_row(alloc, &checked, name, script.trim(), want.trim())?;
+        count = count.saturating_add(1);
+    }
+    Ok(count)
+}

@@ -1,0 +1,171 @@
+-- The instructions on memory in a well-typed activation have rules, and lead to what is well typed.
+use Rattle.std.proofs.Common.{◌≡◌, ℕ, ◌+◌, ◌^◌, ◌<◌, List, [], ◌∷◌, ◌++◌, Option, Some, None, option_and_then, refl, arith}
+use Rattle.std.specs.Prelude.{reverse}
+use Rattle.wasm_syntax.specs.declared.values.ValType.{ValType}
+use Rattle.wasm_syntax.specs.declared.values.ValType.TheVariants.{I32}
+use Rattle.wasm_syntax.specs.declared.values.Val.{Val}
+use Rattle.wasm_syntax.specs.declared.instructions.MemArg.{MemArg}
+use Rattle.wasm_syntax.specs.declared.instructions.Instr.{Instr}
+use Rattle.wasm_syntax.specs.declared.instructions.Instr.TheVariants.{Load, Store as StoreTo, MemorySize, MemoryGrow}
+use Rattle.wasm_syntax.specs.Index.{all_memories}
+use Rattle.wasm_syntax.specs.Opcodes.{Access, load_of, store_of}
+use Rattle.wasm_syntax.specs.Typing.{Moves, has_memory, load_type, store_type, is_aligned, Leads, instr_type}
+use Rattle.wasm_syntax.specs.Profile.{refused_feature}
+use Rattle.history_spec.specs.Store.{Store, Memory, pages, grown_memory, bytes_at, with_bytes_at, number_of, bytes_of, with_memory}
+use Rattle.history_spec.specs.Code.{code_of, i32_value}
+use Rattle.history_spec.specs.Numeric.{loaded_number}
+use Rattle.history_spec.specs.Configuration.{Place, Frame}
+use Rattle.history_spec.specs.Instruction.{on, bits_at, gives, load_result, store_result, grow_result, execute_plain, takes}
+use Rattle.type_safety.specs.Values.{count_of, AreValues}
+use Rattle.type_safety.specs.Stores.{func_count, IsStore}
+use Rattle.type_safety.specs.Frames.{Scope, context, IsCode, base_of, IsAround}
+use Rattle.type_safety.proofs.Memories.{memory_there, bytes_at_fits, load_fits, load_is_narrow, bytes_of_fit, written_fits, memory_written, memory_grown}
+use Rattle.type_safety.proofs.Effects.{then_leads, cond_leads, ready}
+use Rattle.type_safety.specs.Results.{HasRule}
+use Rattle.type_safety.proofs.Fine.{on_fine, takes_fine, gives_fine}
+
+module _ (s : Scope) (store : Store) (is_store : IsStore s.m store) (frame : Frame) (labels : List (List ValType))
+    (given : List ValType) (around : IsAround s labels given frame) (next : Place) where
+  abbrev n : ℕ
+  n = func_count s.m
+
+  abbrev IsNext : List ValType → Type 0
+  IsNext types = IsCode s labels next (base_of frame.labels) types given
+
+  -- it gives results in the store as it is
+  give : (types below : List ValType) (operands rest results : List Val) → AreValues n types results
+      → AreValues n below rest → IsNext (reverse types ++ below)
+      → HasRule s (gives store frame next operands rest results)
+  give types below operands rest results p q code =
+      gives_fine s store frame next labels given types below operands rest results None is_store around p q code
+
+  abbrev Fine : Instr → Type 0
+  Fine i = (before middle : List ValType) → AreValues n before frame.values
+      → Leads (context s labels) (instr_type (context s labels) i) before middle
+      → refused_feature i ≡ None → IsNext middle → HasRule s (execute_plain (code_of s.m) store frame next i)
+
+  -- ---- what they come to
+
+  loaded_fine : (memory : Memory) (access : Access) (below : List ValType) (operands rest : List Val)
+      (bytes : Option (List ℕ))
+      → ((read : List ℕ) → bytes ≡ Some read → loaded_number access (number_of read) < count_of n access.ty)
+      → AreValues n below rest → IsNext (access.ty ∷ below)
+      → HasRule s (load_result store frame next memory access operands rest bytes)
+  loaded_fine memory access below operands rest None fits q code = tt
+  loaded_fine memory access below operands rest (Some read) fits q code =
+      give (access.ty ∷ []) below operands rest
+      (record { ty = access.ty; bits = loaded_number access (number_of read) } ∷ [])
+      (record { typed = refl; in_range = fits read refl }, tt) q code
+
+  stored_fine : (memory : Memory) (below : List ValType) (operands rest : List Val) (bytes : Option (List ℕ))
+      → ((new : List ℕ) → bytes ≡ Some new → IsStore s.m (with_memory store (record memory { bytes = new })))
+      → AreValues n below rest → IsNext below
+      → HasRule s (store_result store frame next memory operands rest bytes)
+  stored_fine memory below operands rest None changed q code = tt
+  stored_fine memory below operands rest (Some new) changed q code =
+      gives_fine s (with_memory store (record memory { bytes = new })) frame next labels given [] below operands rest
+      [] None (changed new refl) around tt q code
+
+  grown_fine : (memory : Memory) (below : List ValType) (operands rest : List Val) (larger : Option Memory)
+      → ((new : Memory) → larger ≡ Some new → IsStore s.m (with_memory store new)) → pages memory < 2 ^ 32
+      → AreValues n below rest → IsNext (I32 ∷ below)
+      → HasRule s (grow_result store frame next memory operands rest larger)
+  grown_fine memory below operands rest None changed few q code =
+      gives_fine s store frame next labels given (I32 ∷ []) below operands rest (i32_value 0xFFFFFFFF ∷ [])
+      (Some (pages memory)) is_store around (record { typed = refl; in_range = omega arith }, tt) q code
+  grown_fine memory below operands rest (Some new) changed few q code =
+      gives_fine s (with_memory store new) frame next labels given (I32 ∷ []) below operands rest
+      (i32_value (pages memory) ∷ []) (Some (pages memory)) (changed new refl) around
+      (record { typed = refl; in_range = few }, tt) q code
+
+  -- ---- the instructions
+
+  pub load_fine : (at : MemArg) → Fine (Load at)
+  load_fine at before middle p leads supported code =
+      let c = cond_leads (context s labels) before middle (has_memory (context s labels))
+      (option_and_then (load_type at) (load_of at.op)) leads in
+      let e = then_leads (context s labels) before middle (load_type at) (load_of at.op) c.1 in
+      let c' = cond_leads (context s labels) before middle (is_aligned at e.0) (Some (Moves (I32 ∷ []) (e.0.ty ∷ [])))
+      e.2 in
+      let r = ready s labels given (I32 ∷ []) (e.0.ty ∷ []) before middle frame.values next (base_of frame.labels)
+      c'.1 p code in
+      let there = memory_there (all_memories s.m) store.memory c.0 is_store.memory in
+      let go = λ (access : Access) (memory : Memory) (operands rest : List Val).
+      load_result store frame next memory access operands rest
+      (bytes_at memory.bytes (bits_at operands 0 + at.offset) access.width) in
+      on_fine s (load_of at.op) e.0 (λ access. on store.memory (λ memory. takes frame (I32 ∷ []) (go access memory)))
+      e.1
+      (on_fine s store.memory there.memory (λ memory. takes frame (I32 ∷ []) (go e.0 memory)) there.is
+      (takes_fine s frame (I32 ∷ []) r.below (go e.0 there.memory) r.had
+      (λ operands rest of_operands of_rest.
+      loaded_fine there.memory e.0 r.below operands rest
+      (bytes_at there.memory.bytes (bits_at operands 0 + at.offset) e.0.width)
+      (λ read is. let f =
+      bytes_at_fits there.memory.bytes (bits_at operands 0 + at.offset) e.0.width read there.good.bytes is in
+      load_fits n e.0 read (load_is_narrow at.op e.0 e.1) f.0 f.1) of_rest r.code)))
+
+  pub store_fine : (at : MemArg) → Fine (StoreTo at)
+  store_fine at before middle p leads supported code =
+      let c = cond_leads (context s labels) before middle (has_memory (context s labels))
+      (option_and_then (store_type at) (store_of at.op)) leads in
+      let e = then_leads (context s labels) before middle (store_type at) (store_of at.op) c.1 in
+      let c' = cond_leads (context s labels) before middle (is_aligned at e.0) (Some (Moves (e.0.ty ∷ I32 ∷ []) []))
+      e.2 in
+      let r = ready s labels given (e.0.ty ∷ I32 ∷ []) [] before middle frame.values next (base_of frame.labels) c'.1
+      p code in
+      let there = memory_there (all_memories s.m) store.memory c.0 is_store.memory in
+      let go = λ (access : Access) (memory : Memory) (operands rest : List Val).
+      store_result store frame next memory operands rest
+      (with_bytes_at memory.bytes (bits_at operands 0 + at.offset)
+      (bytes_of access.width (bits_at operands 1))) in
+      on_fine s (store_of at.op) e.0
+      (λ access. on store.memory (λ memory. takes frame (I32 ∷ access.ty ∷ []) (go access memory))) e.1
+      (on_fine s store.memory there.memory (λ memory. takes frame (I32 ∷ e.0.ty ∷ []) (go e.0 memory)) there.is
+      (takes_fine s frame (I32 ∷ e.0.ty ∷ []) r.below (go e.0 there.memory) r.had
+      (λ operands rest of_operands of_rest.
+      stored_fine there.memory r.below operands rest
+      (with_bytes_at there.memory.bytes (bits_at operands 0 + at.offset)
+      (bytes_of e.0.width (bits_at operands 1)))
+      (λ new is. let f =
+      written_fits there.memory.bytes (bits_at operands 0 + at.offset) (bytes_of e.0.width (bits_at operands 1))
+      new there.good.bytes (bytes_of_fit e.0.width (bits_at operands 1)) is in
+      record {
+        memory =
+            there.change (record there.memory { bytes = new })
+            (λ l good. memory_written l there.memory new good f.0 f.1);
+        table = is_store.table;
+        globals =
+            is_store.globals;
+      }) of_rest r.code)))
+
+  pub size_fine : Fine MemorySize
+  size_fine before middle p leads supported code =
+      let c = cond_leads (context s labels) before middle (has_memory (context s labels)) (Some (Moves [] (I32 ∷ [])))
+      leads in
+      let r = ready s labels given [] (I32 ∷ []) before middle frame.values next (base_of frame.labels) c.1 p code in
+      let there = memory_there (all_memories s.m) store.memory c.0 is_store.memory in
+      let few : pages there.memory < 2 ^ 32 = omega (arith, there.good.most) in
+      on_fine s store.memory there.memory
+      (λ memory. gives store frame next [] frame.values (i32_value (pages memory) ∷ [])) there.is
+      (give (I32 ∷ []) r.below [] frame.values (i32_value (pages there.memory) ∷ [])
+      (record { typed = refl; in_range = few }, tt) r.had r.code)
+
+  pub grow_fine : Fine MemoryGrow
+  grow_fine before middle p leads supported code =
+      let c = cond_leads (context s labels) before middle (has_memory (context s labels))
+      (Some (Moves (I32 ∷ []) (I32 ∷ []))) leads in
+      let r = ready s labels given (I32 ∷ []) (I32 ∷ []) before middle frame.values next (base_of frame.labels) c.1 p
+      code in
+      let there = memory_there (all_memories s.m) store.memory c.0 is_store.memory in
+      let few : pages there.memory < 2 ^ 32 = omega (arith, there.good.most) in
+      let go = λ (memory : Memory) (operands rest : List Val).
+      grow_result store frame next memory operands rest (grown_memory memory (bits_at operands 0)) in
+      on_fine s store.memory there.memory (λ memory. takes frame (I32 ∷ []) (go memory)) there.is
+      (takes_fine s frame (I32 ∷ []) r.below (go there.memory) r.had
+      (λ operands rest of_operands of_rest.
+      grown_fine there.memory r.below operands rest (grown_memory there.memory (bits_at operands 0))
+      (λ new is. record {
+        memory = there.change new (λ l good. memory_grown l there.memory (bits_at operands 0) new good is);
+        table = is_store.table;
+        globals = is_store.globals;
+      }) few of_rest r.code))

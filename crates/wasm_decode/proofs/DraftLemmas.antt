@@ -1,0 +1,191 @@
+-- What a draft holds after sections in lawful order is what the sections hold: since each kind comes at most once,
+-- its list
+-- may be put in place of the one that was there, which is empty.
+use Rattle.std.proofs.Common.{◌≡◌, ℕ, ◌<◌, ◌≤◌, ◌≢◌, ◌⊎◌, List, [], ◌∷◌, ◌++◌, Option, Some, None, refl, ap, sym, ◌∙◌, inl, inr, append_assoc, append-nil, arith}
+use Rattle.std.specs.Prelude.{flat_map, option_to_list}
+use Rattle.std.proofs.lemmas.Bool.{cases_lt}
+use Rattle.wasm_syntax.specs.Encoding.Sections.{Section, CustomSection, TypeSection, ImportSection, FunctionSection, TableSection, MemorySection, GlobalSection, ExportSection, StartSection, ElementSection, CodeSection, DataSection, id_of}
+use Rattle.wasm_syntax.specs.Encoding.Modules.{AreInOrder, types_in, imports_in, functions_in, tables_in, memories_in, globals_in, exports_in, starts_in, elems_in, codes_in, datas_in, customs_in}
+use Rattle.wasm_syntax.specs.Encoding.ReadModules.{first_of, module_of}
+use Rattle.wasm_decode.specs.declared.draft.Draft.{Draft}
+use Rattle.wasm_decode.specs.Drafts.{empty_draft, draft_with, draft_with_all, module_of_draft}
+
+-- a section is of this kind, and its list is put in place; or it is of another, and nothing is
+abbrev IsPart : {A : Type 0} → ℕ → (Draft → List A) → (Section → List A) → Type 0
+IsPart id get held =
+    (section : Section) (draft : Draft)
+    → ((id_of section ≡ id) × (get (draft_with section draft) ≡ held section))
+    ⊎ ((id_of section ≢ id) × (get (draft_with section draft) ≡ get draft) × (held section ≡ []))
+
+order_cases : (last : ℕ) (section : Section) (rest : List Section) → AreInOrder last (section ∷ rest)
+    → ((id_of section ≡ 0) × AreInOrder last rest) ⊎ ((last < id_of section) × AreInOrder (id_of section) rest)
+order_cases last (CustomSection custom) rest h = inl (refl, h)
+order_cases last section rest h = inr h
+
+-- where the kind can't come any more
+after : {A : Type 0} (id : ℕ) (get : Draft → List A) (held : Section → List A) → IsPart id get held → 0 < id
+    → (last : ℕ) (sections : List Section) → id ≤ last → AreInOrder last sections
+    → (draft : Draft) → (get (draft_with_all sections draft) ≡ get draft) × (flat_map held sections ≡ [])
+after id get held part some last [] past order draft = (refl, refl)
+after id get held part some last (section ∷ rest) past order draft =
+    elim (order_cases last section rest order) [
+      | inl custom ↦ go (λ (e : id_of section ≡ id). omega arith)
+          (after id get held part some last rest past custom.1 (draft_with section draft))
+      | inr other ↦ go (λ (e : id_of section ≡ id). omega arith)
+          (after id get held part some (id_of section) rest (omega arith) other.1 (draft_with section draft))
+    ]
+  where
+    go : (id_of section ≢ id)
+        → (get (draft_with_all rest (draft_with section draft)) ≡ get (draft_with section draft))
+        × (flat_map held rest ≡ [])
+        → (get (draft_with_all rest (draft_with section draft)) ≡ get draft) × (held section ++ flat_map held rest ≡ [])
+    go differs h = elim (part section draft) [
+      | inl same ↦ absurd (differs same.0)
+      | inr kept ↦ (h.0 ∙ kept.1, ap (λ items. items ++ flat_map held rest) kept.2 ∙ h.1)
+    ]
+
+-- where it may come still
+upto : {A : Type 0} (id : ℕ) (get : Draft → List A) (held : Section → List A) → IsPart id get held → 0 < id
+    → (last : ℕ) (sections : List Section) → last < id → AreInOrder last sections
+    → (draft : Draft) → get draft ≡ [] → get (draft_with_all sections draft) ≡ flat_map held sections
+upto id get held part some last [] before order draft empty = empty
+upto id get held part some last (section ∷ rest) before order draft empty =
+    elim (part section draft) [
+      | inl same ↦ elim (order_cases last section rest order) [
+        | inl custom ↦ absurd (omega arith)
+        | inr other ↦
+            let h = after id get held part some (id_of section) rest (omega arith) other.1 (draft_with section draft) in
+            h.0 ∙ same.1 ∙ sym (append-nil (held section)) ∙ sym (ap (λ items. held section ++ items) h.1)
+      ]
+      | inr kept ↦ elim (order_cases last section rest order) [
+        | inl custom ↦ later kept.2
+            (upto id get held part some last rest before custom.1 (draft_with section draft) (kept.1 ∙ empty))
+        | inr other ↦ elim (cases_lt (id_of section) id) [
+          | inl below ↦ later kept.2
+              (upto id get held part some (id_of section) rest below other.1 (draft_with section draft) (kept.1 ∙ empty))
+          | inr above ↦
+              let h = after id get held part some (id_of section) rest above other.1 (draft_with section draft) in
+              h.0 ∙ kept.1 ∙ empty ∙ sym h.1 ∙ sym (ap (λ items. items ++ flat_map held rest) kept.2)
+        ]
+      ]
+    ]
+  where
+    later : held section ≡ [] → get (draft_with_all rest (draft_with section draft)) ≡ flat_map held rest
+        → get (draft_with_all rest (draft_with section draft)) ≡ held section ++ flat_map held rest
+    later none h = h ∙ sym (ap (λ items. items ++ flat_map held rest) none)
+
+-- custom sections stand after one another
+customs : (sections : List Section) (draft : Draft)
+    → (draft_with_all sections draft).customs ≡ draft.customs ++ flat_map customs_in sections
+customs [] draft = sym (append-nil draft.customs)
+customs (section ∷ rest) draft =
+    customs rest (draft_with section draft)
+    ∙ ap (λ items. items ++ flat_map customs_in rest) (one section)
+    ∙ append_assoc draft.customs (customs_in section) (flat_map customs_in rest)
+  where
+    one : (s : Section) → (draft_with s draft).customs ≡ draft.customs ++ customs_in s
+    one (CustomSection custom) = refl
+    one other = sym (append-nil draft.customs)
+
+types : IsPart 1 (λ d. d.types) types_in
+types (TypeSection held) draft = inl (refl, refl)
+types other draft = inr (λ e. omega arith, refl, refl)
+
+imports : IsPart 2 (λ d. d.imports) imports_in
+imports (ImportSection held) draft = inl (refl, refl)
+imports other draft = inr (λ e. omega arith, refl, refl)
+
+functions : IsPart 3 (λ d. d.functions) functions_in
+functions (FunctionSection held) draft = inl (refl, refl)
+functions other draft = inr (λ e. omega arith, refl, refl)
+
+tables : IsPart 4 (λ d. d.tables) tables_in
+tables (TableSection held) draft = inl (refl, refl)
+tables other draft = inr (λ e. omega arith, refl, refl)
+
+memories : IsPart 5 (λ d. d.memories) memories_in
+memories (MemorySection held) draft = inl (refl, refl)
+memories other draft = inr (λ e. omega arith, refl, refl)
+
+globals : IsPart 6 (λ d. d.globals) globals_in
+globals (GlobalSection held) draft = inl (refl, refl)
+globals other draft = inr (λ e. omega arith, refl, refl)
+
+exports : IsPart 7 (λ d. d.exports) exports_in
+exports (ExportSection held) draft = inl (refl, refl)
+exports other draft = inr (λ e. omega arith, refl, refl)
+
+starts : IsPart 8 (λ d. option_to_list d.start) starts_in
+starts (StartSection held) draft = inl (refl, refl)
+starts other draft = inr (λ e. omega arith, refl, refl)
+
+elems : IsPart 9 (λ d. d.elems) elems_in
+elems (ElementSection held) draft = inl (refl, refl)
+elems other draft = inr (λ e. omega arith, refl, refl)
+
+codes : IsPart 10 (λ d. d.codes) codes_in
+codes (CodeSection held) draft = inl (refl, refl)
+codes other draft = inr (λ e. omega arith, refl, refl)
+
+datas : IsPart 11 (λ d. d.datas) datas_in
+datas (DataSection held) draft = inl (refl, refl)
+datas other draft = inr (λ e. omega arith, refl, refl)
+
+first_start : (start : Option ℕ) → first_of (option_to_list start) ≡ start
+first_start None = refl
+first_start (Some func) = refl
+
+-- what the sections hold, as a draft
+abbrev held_by : List Section → Draft
+held_by sections = record {
+  types = flat_map types_in sections;
+  imports = flat_map imports_in sections;
+  functions = flat_map functions_in sections;
+  tables = flat_map tables_in sections;
+  memories = flat_map memories_in sections;
+  globals = flat_map globals_in sections;
+  exports = flat_map exports_in sections;
+  start = first_of (flat_map starts_in sections);
+  elems = flat_map elems_in sections;
+  codes = flat_map codes_in sections;
+  datas = flat_map datas_in sections;
+  customs = flat_map customs_in sections;
+}
+
+same : (a b : Draft) → a.types ≡ b.types → a.imports ≡ b.imports → a.functions ≡ b.functions → a.tables ≡ b.tables
+    → a.memories ≡ b.memories
+    → a.globals ≡ b.globals → a.exports ≡ b.exports → a.start ≡ b.start → a.elems ≡ b.elems → a.codes ≡ b.codes
+    → a.datas ≡ b.datas → a.customs ≡ b.customs
+    → a ≡ b
+same a b e1 e2 e3 e4 e5 e6 e7 e8 e9 e10 e11 e0 = λ i. record {
+  types = e1 i;
+  imports = e2 i;
+  functions = e3 i;
+  tables = e4 i;
+  memories = e5 i;
+  globals = e6 i;
+  exports = e7 i;
+  start = e8 i;
+  elems = e9 i;
+  codes = e10 i;
+  datas = e11 i;
+  customs = e0 i;
+}
+
+pub drafted : (sections : List Section) → AreInOrder 0 sections
+    → module_of_draft (draft_with_all sections empty_draft) ≡ module_of sections
+drafted sections order = ap module_of_draft (same (draft_with_all sections empty_draft) (held_by sections)
+    (upto 1 (λ d. d.types) types_in types (omega arith) 0 sections (omega arith) order empty_draft refl)
+    (upto 2 (λ d. d.imports) imports_in imports (omega arith) 0 sections (omega arith) order empty_draft refl)
+    (upto 3 (λ d. d.functions) functions_in functions (omega arith) 0 sections (omega arith) order empty_draft refl)
+    (upto 4 (λ d. d.tables) tables_in tables (omega arith) 0 sections (omega arith) order empty_draft refl)
+    (upto 5 (λ d. d.memories) memories_in memories (omega arith) 0 sections (omega arith) order empty_draft refl)
+    (upto 6 (λ d. d.globals) globals_in globals (omega arith) 0 sections (omega arith) order empty_draft refl)
+    (upto 7 (λ d. d.exports) exports_in exports (omega arith) 0 sections (omega arith) order empty_draft refl)
+    (sym (first_start (draft_with_all sections empty_draft).start)
+    ∙ ap first_of (upto 8 (λ d. option_to_list d.start) starts_in starts (omega arith) 0 sections (omega arith) order
+    empty_draft refl))
+    (upto 9 (λ d. d.elems) elems_in elems (omega arith) 0 sections (omega arith) order empty_draft refl)
+    (upto 10 (λ d. d.codes) codes_in codes (omega arith) 0 sections (omega arith) order empty_draft refl)
+    (upto 11 (λ d. d.datas) datas_in datas (omega arith) 0 sections (omega arith) order empty_draft refl)
+    (customs sections empty_draft))

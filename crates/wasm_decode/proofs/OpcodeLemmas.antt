@@ -1,0 +1,142 @@
+-- What opcodes say to read: nothing between those that have an instruction, and two of the control instructions.
+use Rattle.std.proofs.Common.{◌≡◌, ◌≢◌, ℕ, ◌<◌, List, ◌∷◌, Option, Some, None, Result, refl, ap, sym, ◌∙◌, subst, inl, inr, arith}
+use Rattle.std.specs.Prelude.{option_and_then}
+use Rattle.std.proofs.lemmas.Bool.{cases_eq}
+use Rattle.wasm_syntax.specs.declared.forms.Form.{Form}
+use Rattle.wasm_syntax.specs.declared.forms.Form.TheVariants.{Core, Replay}
+use Rattle.wasm_syntax.specs.declared.instructions.Instr.{Instr}
+use Rattle.leb_bytes.specs.Unsigned.{first_u32}
+use Rattle.wasm_syntax.specs.declared.instructions.Instr.TheVariants.{BrTable, Return}
+use Rattle.wasm_syntax.specs.Encoding.Combinators.{Reader, by_mark, first_then, map_read}
+use Rattle.wasm_syntax.specs.Encoding.Readers.{first_indices, instr_at}
+use Rattle.wasm_decode.specs.declared.unread.Unread.{Unread}
+use Rattle.wasm_decode.specs.ReadResults.{Gives}
+
+abbrev IsGap : ℕ → Type 0
+IsGap op = (form : Form) → instr_at form op ≡ None
+
+gap_6 : IsGap 6
+gap_6 Core = refl
+gap_6 Replay = refl
+
+gap_7 : IsGap 7
+gap_7 Core = refl
+gap_7 Replay = refl
+
+gap_8 : IsGap 8
+gap_8 Core = refl
+gap_8 Replay = refl
+
+gap_9 : IsGap 9
+gap_9 Core = refl
+gap_9 Replay = refl
+
+gap_10 : IsGap 10
+gap_10 Core = refl
+gap_10 Replay = refl
+
+gap_28 : IsGap 28
+gap_28 Core = refl
+gap_28 Replay = refl
+
+gap_29 : IsGap 29
+gap_29 Core = refl
+gap_29 Replay = refl
+
+gap_30 : IsGap 30
+gap_30 Core = refl
+gap_30 Replay = refl
+
+gap_31 : IsGap 31
+gap_31 Core = refl
+gap_31 Replay = refl
+
+gap_37 : IsGap 37
+gap_37 Core = refl
+gap_37 Replay = refl
+
+gap_39 : IsGap 39
+gap_39 Core = refl
+gap_39 Replay = refl
+
+nothing : (form : Form) (op n : ℕ) (bytes : List ℕ) → op ≡ n → IsGap n → by_mark (instr_at form) (op ∷ bytes) ≡ None
+nothing form op n bytes is gap =
+    ap (λ (choice : Option (Reader Instr)). option_and_then (λ (read : Reader Instr). read bytes) choice)
+    (ap (instr_at form) is ∙ gap form)
+
+-- between `else` and `end`
+pub no_block : (form : Form) (op : ℕ) (bytes : List ℕ) → 5 < op → op < 11
+    → by_mark (instr_at form) (op ∷ bytes) ≡ None
+no_block form op bytes low high =
+    elim (cases_eq op 6) [
+      | inl e ↦ nothing form op 6 bytes e gap_6
+      | inr n6 ↦
+          elim (cases_eq op 7) [
+            | inl e ↦ nothing form op 7 bytes e gap_7
+            | inr n7 ↦
+                elim (cases_eq op 8) [
+                  | inl e ↦ nothing form op 8 bytes e gap_8
+                  | inr n8 ↦
+                      elim (cases_eq op 9) [
+                        | inl e ↦ nothing form op 9 bytes e gap_9
+                        | inr n9 ↦
+                            let last : op ≡ 10 = omega (arith, low, high, n6, n7, n8, n9) in
+                            nothing form op 10 bytes last gap_10
+                      ]
+                ]
+          ]
+    ]
+
+-- between `select` and `local.get`
+pub no_parametric : (form : Form) (op : ℕ) (bytes : List ℕ) → 27 < op → op < 32
+    → by_mark (instr_at form) (op ∷ bytes) ≡ None
+no_parametric form op bytes low high =
+    elim (cases_eq op 28) [
+      | inl e ↦ nothing form op 28 bytes e gap_28
+      | inr n28 ↦
+          elim (cases_eq op 29) [
+            | inl e ↦ nothing form op 29 bytes e gap_29
+            | inr n29 ↦
+                elim (cases_eq op 30) [
+                  | inl e ↦ nothing form op 30 bytes e gap_30
+                  | inr n30 ↦
+                      let last : op ≡ 31 = omega (arith, low, high, n28, n29, n30) in
+                      nothing form op 31 bytes last gap_31
+                ]
+          ]
+    ]
+
+-- between `global.set` and `i32.load`, but for `table.set`
+pub no_table : (form : Form) (op : ℕ) (bytes : List ℕ) → 36 < op → op < 40 → op ≢ 38
+    → by_mark (instr_at form) (op ∷ bytes) ≡ None
+no_table form op bytes low high n38 =
+    elim (cases_eq op 37) [
+      | inl e ↦ nothing form op 37 bytes e gap_37
+      | inr n37 ↦
+          let last : op ≡ 39 = omega (arith, low, high, n37, n38) in
+          nothing form op 39 bytes last gap_39
+    ]
+
+-- ---- control instructions
+
+abbrev br_table_operands : Reader Instr
+br_table_operands bytes = map_read (λ labels. BrTable labels.0 labels.1) (first_then first_indices first_u32) bytes
+
+br_table_at : (form : Form) (bytes : List ℕ) → by_mark (instr_at form) (14 ∷ bytes) ≡ br_table_operands bytes
+br_table_at Core bytes = refl
+br_table_at Replay bytes = refl
+
+pub gives_br_table : {A : Type 0} (view : A → Instr × List ℕ) (result : Result A Unread)
+    (form : Form) (op : ℕ) (bytes : List ℕ) → op ≡ 14 → Gives view result (br_table_operands bytes)
+    → Gives view result (by_mark (instr_at form) (op ∷ bytes))
+gives_br_table view result form op bytes is gives =
+    subst (Gives view result)
+    (sym (ap (λ (n : ℕ). by_mark (instr_at form) (n ∷ bytes)) is ∙ br_table_at form bytes)) gives
+
+return_at : (form : Form) (bytes : List ℕ) → by_mark (instr_at form) (15 ∷ bytes) ≡ Some (Return, bytes)
+return_at Core bytes = refl
+return_at Replay bytes = refl
+
+pub reads_return : (form : Form) (op : ℕ) (bytes : List ℕ) → op ≡ 15
+    → by_mark (instr_at form) (op ∷ bytes) ≡ Some (Return, bytes)
+reads_return form op bytes is = ap (λ (n : ℕ). by_mark (instr_at form) (n ∷ bytes)) is ∙ return_at form bytes

@@ -1,8 +1,0 @@
--- The arms name each opcode of the kind and the type.
-use Rattle.std.proofs.Common.{arith, inl, inr}
-use Rattle.wasm_numeric.proofs.OpcodeTable.{binary_opcodes}
-use Rattle.wasm_numeric.proofs.i64_ops.i64_binary_op.Goals as goal
-
-pub unreachable-requires : goal.unreachable-requires
-unreachable-requires c =
-    elim (binary_opcodes c.args.op c.requires.kind) [ inl low ↦ omega (arith, low.1) | inr high ↦ grind (arith, high, c.in_default) ]

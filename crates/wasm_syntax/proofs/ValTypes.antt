@@ -1,0 +1,43 @@
+-- The tests for equality of value types, of lists of them and of function types: each passes for equals alone.
+use Rattle.std.proofs.Common.{◌≡◌, List, [], ◌∷◌, true, ◌&&◌, refl, ap, ◌∙◌}
+use Rattle.list_laws.proofs.Booleans.{and_parts, and_true}
+use Rattle.wasm_syntax.specs.declared.values.ValType.{ValType}
+use Rattle.wasm_syntax.specs.declared.values.ValType.TheVariants.{I32, I64, F32, F64, FuncRef}
+use Rattle.wasm_syntax.specs.declared.signatures.FuncType.{FuncType}
+use Rattle.wasm_syntax.specs.Alike.{same_type, same_types, same_signature}
+
+pub type_same : (t u : ValType) → same_type t u ≡ true → t ≡ u
+type_same I32 I32 h = refl
+type_same I64 I64 h = refl
+type_same F32 F32 h = refl
+type_same F64 F64 h = refl
+type_same FuncRef FuncRef h = refl
+type_same t u h = cc
+
+pub type_own : (t : ValType) → same_type t t ≡ true
+type_own I32 = refl
+type_own I64 = refl
+type_own F32 = refl
+type_own F64 = refl
+type_own FuncRef = refl
+
+pub types_same : (ts us : List ValType) → same_types ts us ≡ true → ts ≡ us
+types_same [] [] h = refl
+types_same [] (u ∷ us) h = cc
+types_same (t ∷ ts) [] h = cc
+types_same (t ∷ ts) (u ∷ us) h =
+    let p = and_parts (same_type t u) (same_types ts us) h in
+    (λ i. type_same t u p.0 i ∷ types_same ts us p.1 i)
+
+pub types_own : (ts : List ValType) → same_types ts ts ≡ true
+types_own [] = refl
+types_own (t ∷ ts) = and_true (same_type t t) (same_types ts ts) (type_own t) (types_own ts)
+
+pub signature_same : (a b : FuncType) → same_signature a b ≡ true → a ≡ b
+signature_same a b h =
+    let p = and_parts (same_types a.params b.params) (same_types a.results b.results) h in
+    (λ i. record { params = types_same a.params b.params p.0 i; results = types_same a.results b.results p.1 i })
+
+pub signature_own : (a : FuncType) → same_signature a a ≡ true
+signature_own a =
+    and_true (same_types a.params a.params) (same_types a.results a.results) (types_own a.params) (types_own a.results)

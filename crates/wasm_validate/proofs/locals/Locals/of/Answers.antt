@@ -1,5 +1,0 @@
-use Rattle.wasm_validate.proofs.RunLemmas.{kept-and_rest}
-use Rattle.wasm_validate.proofs.locals.Locals.of.Goals as goal
-
-pub returns : goal.returns
-returns c = kept-and_rest c.args.params.now c.fill.new.ends.items c.in_ok-count.count c.args.runs.now c.in_ok-count.ensures

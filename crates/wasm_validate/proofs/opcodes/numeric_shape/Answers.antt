@@ -1,8 +1,0 @@
-use Rattle.std.proofs.Common.{◌∙◌, ap, arith}
-use Rattle.std.specs.Prelude.{option_map}
-use Rattle.wasm_validate.specs.Tables.{shape_of}
-use Rattle.wasm_validate.proofs.TableLemmas.{numeric-entry}
-use Rattle.wasm_validate.proofs.opcodes.numeric_shape.Goals as goal
-
-pub returns : goal.returns
-returns c = ap (option_map shape_of) c.entry.ensures ∙ numeric-entry c.args.op (omega arith) (omega arith)

@@ -1,0 +1,15 @@
+;; overwrite: the text of the module; assembled, it gives overwrite.wasm byte for byte.
+(module
+  (type (;0;) (func))
+  (type (;1;) (func (result i32)))
+  (import "h" "f" (func (;0;) (type 0)))
+  (func (;1;) (type 1) (result i32)
+    call 0
+    i32.const 8
+    i32.const 1
+    i32.store16
+    i32.const 8
+    i32.load)
+  (memory (;0;) 1)
+  (export "g" (func 1))
+  (export "m" (memory 0)))
