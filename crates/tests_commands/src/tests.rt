@@ -5,6 +5,7 @@ mod edge_modules;
 mod edges;
 mod files;
 mod histories;
+mod large;
 mod modules;
 mod replays;
 mod runs;
