@@ -28,6 +28,15 @@ pub fn outcome_of(alloc: Global, words: &[&str], files: &mut MemFiles) -> Result
     outcome_into(alloc, words, files, out)
 }
 
+/// Words as the call takes them.
+pub fn texts_of(alloc: Global, words: &[&str]) -> Result<Vec<String>, Fail> {
+    let mut texts = Vec::new(alloc);
+    for word in words {
+        texts.push(String::from_str(alloc, word)?)?;
+    }
+    Ok(texts)
+}
+
 /// The outcome of a call with these words, and with a sink for what is printed.
 pub fn outcome_into(
     alloc: Global,
@@ -36,10 +45,7 @@ pub fn outcome_into(
     out: MemSink,
 ) -> Result<Outcome, Fail> {
     let mut out = out;
-    let mut texts = Vec::new(alloc);
-    for word in words {
-        texts.push(String::from_str(alloc, word)?)?;
-    }
+    let texts = texts_of(alloc, words)?;
     let mut err = MemSink::new(alloc, 1_000_000, Vec::new(alloc));
     let status = r3(alloc, texts.as_slice(), files, &mut out, &mut err);
     Ok(Outcome {

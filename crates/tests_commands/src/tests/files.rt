@@ -1,7 +1,8 @@
 //! Files and sinks that fail, and files that are too long.
 
-use crate::tests::calls::{ANSWERS, TWO_ANSWERS, files_of, outcome_into, outcome_of};
-use r3_outside::MemSink;
+use crate::tests::calls::{ANSWERS, TWO_ANSWERS, files_of, outcome_into, outcome_of, texts_of};
+use r3_core::r3_in_memory;
+use r3_outside::{MemSink, SureFiles, SureSink};
 use std::test::Fail;
 
 const WORDS: [&str; 4] = ["make", "m.wasm", "s.json", "4"];
@@ -15,6 +16,22 @@ fn the_first_read_fails(rt: HostRuntime) -> Result<(), Fail> {
     assert_eq!(rt; answer.line.as_slice(), b"read: m.wasm\n".as_slice());
     assert!(rt; answer.printed.is_empty());
     Ok(())
+}
+
+#[test]
+fn each_failing_read_is_a_read_fault(rt: HostRuntime) -> Result<(), Fail> {
+    let alloc = rt.alloc();
+    for call in 0..9u64 {
+        let mut files = files_of(alloc, TWO_ANSWERS, ANSWERS, vec![in alloc; call]?)?;
+        let answer = outcome_of(alloc, &WORDS, &mut files)?;
+        if answer.status == 0 {
+            assert_eq!(rt; call, 4);
+            return Ok(());
+        }
+        assert_eq!(rt; answer.status, 3);
+        assert!(rt; answer.printed.is_empty());
+    }
+    panic!(rt; "a run without a fault");
 }
 
 #[test]
@@ -72,5 +89,40 @@ fn the_second_write_fails(rt: HostRuntime) -> Result<(), Fail> {
         assert_eq!(rt; answer.line.as_slice(), b"write\n".as_slice(), "{command}");
         assert_eq!(rt; answer.printed.as_slice(), printed, "{command}");
     }
+    Ok(())
+}
+
+#[test]
+fn each_failing_write_leaves_what_was_written_before(rt: HostRuntime) -> Result<(), Fail> {
+    let alloc = rt.alloc();
+    let mut files = files_of(alloc, TWO_ANSWERS, ANSWERS, Vec::new(alloc))?;
+    let whole = outcome_of(alloc, &WORDS, &mut files)?.printed;
+    for call in 0..100u64 {
+        let out = MemSink::new(alloc, 10, vec![in alloc; call]?);
+        let answer = outcome_into(alloc, &WORDS, &mut files, out)?;
+        if answer.status == 0 {
+            assert_eq!(rt; answer.printed.as_slice(), whole.as_slice());
+            return Ok(());
+        }
+        let before = (call as usize * 10).min(whole.len());
+        assert_eq!(rt; answer.status, 13);
+        assert_eq!(rt; Some(answer.printed.as_slice()), whole.get(..before));
+        assert_eq!(rt; answer.line.as_slice(), b"write\n".as_slice());
+    }
+    panic!(rt; "a run without a fault");
+}
+
+#[test]
+fn sure_files_and_sinks_do_the_job(rt: HostRuntime) -> Result<(), Fail> {
+    let alloc = rt.alloc();
+    let mut files = SureFiles::new(alloc);
+    files.add("m.wasm", hex::decode(alloc, TWO_ANSWERS)?.as_slice())?;
+    files.add("s.json", ANSWERS.as_bytes())?;
+    let words = texts_of(alloc, &WORDS)?;
+    let mut out = SureSink::new(alloc);
+    let mut err = SureSink::new(alloc);
+    let status = r3_in_memory(alloc, words.as_slice(), &mut files, &mut out, &mut err);
+    assert_eq!(rt; status, 0);
+    assert_eq!(rt; err.bytes(), Some(b"".as_slice()));
     Ok(())
 }

@@ -1,6 +1,7 @@
 //! Runs and their budgets.
 
 use crate::tests::calls::{ANSWERS, TWO_ANSWERS, files_of, outcome_of, outcome_of_make};
+use r3_outside::MemFiles;
 use std::test::Fail;
 
 #[test]
@@ -124,5 +125,36 @@ fn forms_that_are_not_built(rt: HostRuntime) -> Result<(), Fail> {
         assert_eq!(rt; answer.line.as_slice(), b"not built\n".as_slice());
         assert!(rt; answer.printed.is_empty(), "{name}");
     }
+    Ok(())
+}
+
+#[test]
+fn commands_that_are_not_built_read_no_file(rt: HostRuntime) -> Result<(), Fail> {
+    let alloc = rt.alloc();
+    let mut files = MemFiles::new(alloc, Vec::new(alloc));
+    let calls: [&[&str]; 7] = [
+        &["instrument", "m"],
+        &["record", "m", "s", "20000000"],
+        &["reduce", "l"],
+        &["build", "m", "s", "t"],
+        &["replay", "b", "1"],
+        &["show", "t"],
+        &["load", "60000"],
+    ];
+    for words in calls {
+        let answer = outcome_of(alloc, words, &mut files)?;
+        assert_eq!(rt; answer.status, 19);
+        assert_eq!(rt; answer.line.as_slice(), b"not built\n".as_slice());
+    }
+    Ok(())
+}
+
+#[test]
+fn a_recursion_without_end_is_spent(rt: HostRuntime) -> Result<(), Fail> {
+    let recursion =
+        // (module (import "h" "f" (func (result i32))) (func (export "g") (result i32) call 1))
+        "0061736d010000000105016000017f02070101680166000003020100070501016700010a0601040010010b";
+    let answer = outcome_of_make(rt.alloc(), recursion, ANSWERS, "10000")?;
+    assert_eq!(rt; answer.status, 12);
     Ok(())
 }
