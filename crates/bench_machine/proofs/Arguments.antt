@@ -3,10 +3,10 @@ use Rattle.std.proofs.Common.{◌≡◌, ℕ, suc, List, [], ◌∷◌, length, 
 use Rattle.std.specs.Prelude.{map, All}
 use Rattle.std.proofs.lemmas.List.Elements.{All-nil, All-cons, All-head, All-tail}
 use Rattle.wasm_syntax.specs.declared.values.ValType.{ValType}
-use Rattle.wasm_syntax.specs.declared.values.ValType.TheVariants.{I32, I64, F32, F64, FuncRef}
 use Rattle.wasm_syntax.specs.declared.values.Val.{Val}
 use Rattle.wasm_syntax.specs.Alike.{same_type}
 use Rattle.wasm_syntax.specs.Typing.{is_constant}
+use Rattle.wasm_syntax.proofs.ValTypes.{type_same, type_own}
 use Rattle.wasm_syntax.specs.declared.signatures.FuncType.{FuncType}
 use Rattle.wasm_syntax.specs.declared.modules.Module.{Module}
 use Rattle.wasm_syntax.specs.Index.{func_type, imported_funcs}
@@ -24,21 +24,6 @@ differ_long [] (v ∷ vs) h = refl
 differ_long (t ∷ ts) [] h = refl
 differ_long (t ∷ ts) (v ∷ vs) h =
     sym (ap (λ r. is_of t v && r) (sym (differ_long ts vs (λ e. h (ap suc e)))) ∙ false_right (is_of t v))
-
-same_is : (a b : ValType) → same_type a b ≡ true → a ≡ b
-same_is I32 I32 h = refl
-same_is I64 I64 h = refl
-same_is F32 F32 h = refl
-same_is F64 F64 h = refl
-same_is FuncRef FuncRef h = refl
-same_is a b h = cc
-
-same_self : (a : ValType) → same_type a a ≡ true
-same_self I32 = refl
-same_self I64 = refl
-same_self F32 = refl
-same_self F64 = refl
-same_self FuncRef = refl
 
 first : (a b : Bool) → (a && b) ≡ true → a ≡ true
 first true b h = refl
@@ -59,7 +44,7 @@ are_of_types (t ∷ ts) [] h = cc
 are_of_types (t ∷ ts) (v ∷ vs) h =
     let here : is_of t v ≡ true = first (is_of t v) (are_of ts vs) h in
     let rest : AreOfTypes ts vs = are_of_types ts vs (second (is_of t v) (are_of ts vs) h) in
-    let same : t ≡ v.ty = same_is t v.ty (first (same_type t v.ty) (is_constant v) here) in
+    let same : t ≡ v.ty = type_same t v.ty (first (same_type t v.ty) (is_constant v) here) in
     record {
       in_range = All-cons (λ value. IsTrue (is_constant value)) v vs (second (same_type t v.ty) (is_constant v) here) rest.in_range;
       typed = ap (λ a. a ∷ map (λ value. value.ty) vs) (sym same) ∙ ap (λ as'. t ∷ as') rest.typed;
@@ -84,7 +69,7 @@ of_types_are (t ∷ ts) [] h = absurd (no_nil t ts h.typed)
 of_types_are (t ∷ ts) (v ∷ vs) h =
     let same : v.ty ≡ t = head_is v.ty t (map (λ value. value.ty) vs) ts h.typed in
     both (is_of t v) (are_of ts vs)
-    (both (same_type t v.ty) (is_constant v) (ap (same_type t) same ∙ same_self t) (All-head (λ value. IsTrue (is_constant value)) v vs h.in_range))
+    (both (same_type t v.ty) (is_constant v) (ap (same_type t) same ∙ type_own t) (All-head (λ value. IsTrue (is_constant value)) v vs h.in_range))
     (of_types_are ts vs (record { in_range = All-tail (λ value. IsTrue (is_constant value)) v vs h.in_range; typed = tail_is v.ty t (map (λ value. value.ty) vs) ts h.typed }))
 
 one_type : (found : Option FuncType) (a b : FuncType) → Some a ≡ found → found ≡ Some b → b ≡ a

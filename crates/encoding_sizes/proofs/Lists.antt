@@ -96,11 +96,15 @@ instr_some form (instr.Load access) fits = omega arith
 instr_some form (instr.Store access) fits = omega arith
 instr_some form instr.MemorySize fits = omega arith
 instr_some form instr.MemoryGrow fits = omega arith
+instr_some form instr.MemoryCopy fits = omega arith
+instr_some form instr.MemoryFill fits = omega arith
 instr_some form (instr.Const value) fits = const_some value.ty value.bits fits
 instr_some form (instr.Numeric op) fits = omega arith
 instr_some form instr.RefNull fits = omega arith
 instr_some form (instr.RefFunc func) fits = omega arith
 instr_some form (instr.TableSet table) fits = omega arith
+instr_some form (instr.TableGrow table) fits = omega arith
+instr_some form (instr.TableSize table) fits = omega arith
 
 -- the code of a function takes as many bytes as its body has instructions, and its locals runs
 func_body : (form : Form) (func : Func) → FitsFunc form func → length func.body ≤ length (code_bytes (code_of func))

@@ -21,10 +21,10 @@ use Rattle.host_script.specs.Fits.{AreConstants, FitsAddress, IsCallable, FitsAc
 use Rattle.serde_json.specs.Data.{Data}
 use Rattle.script_text.specs.declared.faults.ScriptFault.TheVariants.{WrongType, CallsOwn}
 use Rattle.script_text.specs.declared.leads.Lead.{Lead}
-use Rattle.script_text.specs.declared.leads.Lead.TheVariants.{Write, Copy, SetTable, SetGlobal, Grow, Call, CallTable}
+use Rattle.script_text.specs.declared.leads.Lead.TheVariants.{Write, Copy, SetTable, SetGlobal, Grow, GrowTable, Call, CallTable}
 use Rattle.script_text.specs.Walk.{only, under}
 use Rattle.script_text.specs.Values.{u32_of, value_of, values_under, text_of, text_or_null, bytes_of}
-use Rattle.script_text.specs.Actions.{Place, InMain, InResponse, is_i32, takes_i32, address_of, fits_address, memory_access, table_access, write_of, copy_of, func_named, entry_named, set_table_of, target_of, global_at, name_of, fits_global, set_global_of, grow_of, is_defined, are_arguments, fits_params, call_of, call_table_of, leads_in, action_with, action_by, action_of, actions_under}
+use Rattle.script_text.specs.Actions.{Place, InMain, InResponse, is_i32, takes_i32, address_of, fits_address, memory_access, table_access, write_of, copy_of, func_named, entry_named, set_table_of, target_of, global_at, name_of, fits_global, set_global_of, grow_of, grow_table_of, is_defined, are_arguments, fits_params, call_of, call_table_of, leads_in, action_with, action_by, action_of, actions_under}
 use Rattle.fitting_scripts.proofs.Steps.{ok_one, both_ok, passed, under_holds, under_or_holds, list_holds}
 use Rattle.fitting_scripts.proofs.Tests.{Among}
 use Rattle.wasm_syntax.proofs.ValTypes.{type_same, types_same}
@@ -151,6 +151,14 @@ module _ (m : Module) (place : Place) (params : List ValType) (valid : IsValid m
       let access = both_ok (memory_access m) _ action pages.2 in
       subst (FitsAction m params) (ok_one (actions.Grow pages.0) action access.2) (has_memory m access.0 valid access.1)
 
+  grow_table_fits : grow_table_of m d ≡ Ok action → FitsAction m params action
+  unfolding grow_table_of
+  grow_table_fits h =
+      let listed = both_ok (only (codes "grow_table" ∷ []) d) _ action h in
+      let entries = both_ok (under (codes "grow_table") u32_of d) _ action listed.2 in
+      let access = both_ok (table_access m) _ action entries.2 in
+      subst (FitsAction m params) (ok_one (actions.GrowTable entries.0) action access.2) (has_table m access.0 valid access.1)
+
   call_fits : call_of m d ≡ Ok action → FitsAction m params action
   unfolding call_of
   call_fits h =
@@ -179,6 +187,7 @@ module _ (m : Module) (place : Place) (params : List ValType) (valid : IsValid m
   with_fits SetTable h = set_table_fits h
   with_fits SetGlobal h = set_global_fits h
   with_fits Grow h = grow_fits h
+  with_fits GrowTable h = grow_table_fits h
   with_fits Call h = call_fits h
   with_fits CallTable h = call_table_fits h
 

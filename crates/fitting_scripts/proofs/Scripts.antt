@@ -1,5 +1,5 @@
 -- A script that was read fits the module.
-use Rattle.std.proofs.Common.{◌≡◌, ℕ, zero, suc, List, [], ◌∷◌, length, map, codes, filter, All, Contains, get_or, Option, Some, None, IfSome, is_some, option_and_then, Result, Ok, Err, IsTrue, true, cond, refl, sym, subst, ◌∙◌, arith}
+use Rattle.std.proofs.Common.{◌≡◌, ℕ, zero, suc, List, [], ◌∷◌, map, codes, filter, All, Contains, get_or, Option, Some, None, IfSome, is_some, option_and_then, Result, Ok, Err, IsTrue, true, cond, refl, sym, subst, ◌∙◌, arith}
 use Rattle.std.specs.List.{cons_option, AllZip}
 use Rattle.std.specs.Result.{result_ok}
 use Rattle.std.specs.Str.{bytes_eq, is_utf8}
@@ -17,7 +17,6 @@ use Rattle.wasm_syntax.specs.Index.{of_kind, func_import, global_import, type_at
 use Rattle.wasm_syntax.specs.Typing.{is_constant}
 use Rattle.wasm_syntax.specs.Validity.{IsImport, IsValid}
 use Rattle.host_script.specs.declared.scripts.Answer.{Answer}
-use Rattle.host_script.specs.declared.scripts.Script.{Script}
 use Rattle.host_script.specs.Fits.{FitsImport, Fits}
 use Rattle.serde_json.specs.Data.{Data}
 use Rattle.serde_json.specs.Find.{get}
@@ -28,7 +27,7 @@ use Rattle.script_text.specs.Walk.{only, under_or, under_if_there}
 use Rattle.script_text.specs.Values.{value_of, limits_of}
 use Rattle.module_names.specs.Names.{is_kind, imports_with, is_named, import_type, func_types_named}
 use Rattle.script_text.specs.Actions.{InMain, actions_under}
-use Rattle.script_text.specs.Texts.{each_import, look_value, look_answer, member_for, value_for, answer_of, answer_for, script_of, script_in, script_of_text}
+use Rattle.script_text.specs.Texts.{each_import, look_value, look_answer, member_for, value_for, answer_of, answer_for, script_of, script_in}
 use Rattle.module_names.proofs.Spaces.{length-of_kind}
 use Rattle.fitting_scripts.specs.FittingScripts.{ValuesFit, TextsFit}
 use Rattle.fitting_scripts.proofs.Steps.{ok_one, both_ok, passed}

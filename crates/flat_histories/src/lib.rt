@@ -5,6 +5,7 @@ ghost use Rattle.std.specs.Prelude.{[], ◌∷◌};
 ghost use Rattle.worked_histories.specs.Build.{i32};
 ghost use Rattle.worked_histories.specs.Modules.{grow_access, overwrite, two_answers};
 ghost use Rattle.worked_histories.specs.Scripts.{does_nothing, five_seven};
+ghost use Rattle.flat_histories.specs.Bulk.{copies, grows};
 ghost use Rattle.flat_histories.specs.Loops.{called_with, either, leaves, sum_down, switch};
 ghost use Rattle.flat_histories.specs.Plays.{PlaysAs};
 
@@ -20,4 +21,8 @@ pub fn flat_code_has_the_histories()
     ensures switch_second { PlaysAs switch (called_with 1) 0 (i32 1 ∷ []) [] 60 }
     ensures switch_default { PlaysAs switch (called_with 2) 0 (i32 2 ∷ []) [] 60 }
     ensures leaves { PlaysAs leaves (called_with 6) 0 (i32 6 ∷ []) [] 60 }
+    ensures copies { PlaysAs copies (called_with 1) 0 (i32 1 ∷ []) [] 60 }
+    ensures copies_past_the_end { PlaysAs copies (called_with 2) 0 (i32 2 ∷ []) [] 60 }
+    ensures grows { PlaysAs grows (called_with 3) 0 (i32 3 ∷ []) [] 60 }
+    ensures grows_refused { PlaysAs grows (called_with 4) 0 (i32 4 ∷ []) [] 60 }
 {}

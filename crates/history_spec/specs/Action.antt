@@ -5,10 +5,10 @@ use Rattle.wasm_syntax.specs.declared.values.Val.{Val}
 use Rattle.host_script.specs.declared.scripts.Address.{Address}
 use Rattle.host_script.specs.declared.scripts.Address.TheVariants.{Fixed, Arg}
 use Rattle.host_script.specs.declared.scripts.Action.{Action}
-use Rattle.host_script.specs.declared.scripts.Action.TheVariants.{Write, Copy, SetTable, SetGlobal, Grow, Call, CallTable}
+use Rattle.host_script.specs.declared.scripts.Action.TheVariants.{Write, Copy, SetTable, SetGlobal, Grow, GrowTable, Call, CallTable}
 use Rattle.history_spec.specs.declared.entries.FaultKind.{FaultKind}
 use Rattle.history_spec.specs.declared.entries.FaultKind.TheVariants.{Outside, TableOutside, GrowRefused, EmptyEntry, CallsOwn, EntryType}
-use Rattle.history_spec.specs.Store.{Store, Memory, grown_memory, bytes_at, with_bytes_at, with_entry, with_memory, with_table, with_global}
+use Rattle.history_spec.specs.Store.{Store, Memory, grown_memory, grown_table, bytes_at, with_bytes_at, with_entry, with_memory, with_table, with_global}
 use Rattle.wasm_syntax.specs.Alike.{same_types}
 use Rattle.history_spec.specs.Code.{Code, signature, types_of}
 
@@ -76,6 +76,9 @@ perform code store args (SetGlobal global value) =
 perform code store args (Grow by) =
     on store.memory (λ memory.
     or_fault GrowRefused (grown_memory memory by) (λ larger. Changes (with_memory store larger)))
+perform code store args (GrowTable by) =
+    on store.table (λ table.
+    or_fault GrowRefused (grown_table table by None) (λ larger. Changes (with_table store larger)))
 perform code store args (Call func given) = Enters func given
 perform code store args (CallTable index given) =
     on store.table (λ table. or_fault TableOutside (slice_get table.entries index) (calls_entry code given))

@@ -82,7 +82,7 @@ pub enum FaultKind {
     /// A table index is not below the table's size.
     #[error("table outside")]
     TableOutside,
-    /// The memory cannot grow so far.
+    /// The memory or the table cannot grow so far.
     #[error("grow refused")]
     GrowRefused,
     /// The table entry to be called is empty.

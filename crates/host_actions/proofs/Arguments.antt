@@ -1,7 +1,7 @@
 -- Arguments that an action names.
 use Rattle.wasm_syntax.specs.declared.values.ValType.TheVariants.{I32}
 use Rattle.host_script.specs.declared.scripts.Address.TheVariants.{Fixed, Arg}
-use Rattle.host_script.specs.declared.scripts.Action.TheVariants.{Write, Copy, SetTable, SetGlobal, Grow, Call, CallTable}
+use Rattle.host_script.specs.declared.scripts.Action.TheVariants.{Write, Copy, SetTable, SetGlobal, Grow, GrowTable, Call, CallTable}
 use Rattle.type_safety.specs.Stores.{func_count}
 use Rattle.type_safety.proofs.Values.{value_at}
 use Rattle.host_actions.specs.Ready.{FittingArgumentIsThere, FittingArgumentsAreThere}
@@ -22,5 +22,6 @@ arguments_there m params args (Copy to source count) are fits = (
 arguments_there m params args (SetTable index func) are fits = tt
 arguments_there m params args (SetGlobal global value) are fits = tt
 arguments_there m params args (Grow by) are fits = tt
+arguments_there m params args (GrowTable by) are fits = tt
 arguments_there m params args (Call func given) are fits = tt
 arguments_there m params args (CallTable index given) are fits = tt

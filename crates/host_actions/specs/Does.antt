@@ -1,8 +1,10 @@
 -- What the result of `perform` says that an action of the host did.
-use Rattle.std.specs.Prelude.{◌≡◌, List, [], Bool, true, false, IsTrue, Result, Ok, Err}
+use Rattle.std.specs.Prelude.{◌≡◌, ℕ, List, [], Option, Some, None, Bool, true, false, IsTrue, Result, Ok, Err}
+use Rattle.no_memory.specs.declared.NoMemory.{NoMemory}
+use Rattle.history_spec.specs.declared.entries.FaultKind.TheVariants.{GrowRefused}
 use Rattle.wasm_syntax.specs.declared.values.Val.{Val}
 use Rattle.host_script.specs.declared.scripts.Action.{Action}
-use Rattle.host_script.specs.declared.scripts.Action.TheVariants.{Write, Copy, SetTable, SetGlobal, Grow, Call, CallTable}
+use Rattle.host_script.specs.declared.scripts.Action.TheVariants.{Write, Copy, SetTable, SetGlobal, Grow, GrowTable, Call, CallTable}
 use Rattle.history_spec.specs.Store.{Store}
 use Rattle.history_spec.specs.Code.{Code}
 use Rattle.history_spec.specs.Action as history
@@ -19,6 +21,7 @@ args_in (Copy to source count) = []
 args_in (SetTable index func) = []
 args_in (SetGlobal global value) = []
 args_in (Grow by) = []
+args_in (GrowTable by) = []
 args_in (Call func given) = given
 args_in (CallTable index given) = given
 
@@ -29,8 +32,15 @@ takes_memory (Copy to source count) = false
 takes_memory (SetTable index func) = false
 takes_memory (SetGlobal global value) = false
 takes_memory (Grow by) = true
+takes_memory (GrowTable by) = true
 takes_memory (Call func given) = false
 takes_memory (CallTable index given) = false
+
+-- what an answer of a growth comes to
+abbrev pub growth_result : Result (Option ℕ) NoMemory → Result Done ActionFault
+growth_result (Ok (Some size)) = Ok Changed
+growth_result (Ok None) = Err (Fault GrowRefused)
+growth_result (Err fault) = Err Memory
 
 -- the store is changed as the action says; or it is as it was, and the host calls this function with the action's
 -- arguments, or there is this fault, or an allocation failed

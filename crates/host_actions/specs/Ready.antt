@@ -8,7 +8,7 @@ use Rattle.host_script.specs.Fits.{FitsAction, FitsAddress}
 use Rattle.host_script.specs.declared.scripts.Address.{Address}
 use Rattle.host_script.specs.declared.scripts.Address.TheVariants.{Fixed, Arg}
 use Rattle.host_script.specs.declared.scripts.Action.{Action}
-use Rattle.host_script.specs.declared.scripts.Action.TheVariants.{Write, Copy, SetTable, SetGlobal, Grow, Call, CallTable}
+use Rattle.host_script.specs.declared.scripts.Action.TheVariants.{Write, Copy, SetTable, SetGlobal, Grow, GrowTable, Call, CallTable}
 use Rattle.history_spec.specs.Store.{Store}
 use Rattle.history_spec.specs.Code.{Code, code_of}
 use Rattle.history_spec.specs.Action.{address_of}
@@ -43,6 +43,7 @@ AreThere args (Copy to source count) = IsThere args to × IsThere args source
 AreThere args (SetTable index func) = Unit {0}
 AreThere args (SetGlobal global value) = Unit {0}
 AreThere args (Grow by) = Unit {0}
+AreThere args (GrowTable by) = Unit {0}
 AreThere args (Call func given) = Unit {0}
 AreThere args (CallTable index given) = Unit {0}
 
@@ -54,6 +55,7 @@ AreAddresses args (Copy to source count) at =
 AreAddresses args (SetTable index func) at = Unit {0}
 AreAddresses args (SetGlobal global value) at = Unit {0}
 AreAddresses args (Grow by) at = Unit {0}
+AreAddresses args (GrowTable by) at = Unit {0}
 AreAddresses args (Call func given) at = Unit {0}
 AreAddresses args (CallTable index given) at = Unit {0}
 
@@ -70,6 +72,7 @@ IsReady functions store (Copy to source count) = IsSome store.memory
 IsReady functions store (SetTable index func) = IsSome store.table
 IsReady functions store (SetGlobal global value) = global < length store.globals
 IsReady functions store (Grow by) = IsSome store.memory
+IsReady functions store (GrowTable by) = IsSome store.table
 IsReady functions store (Call func given) = Unit {0}
 IsReady functions store (CallTable index given) = IsSome store.table × IsTyped functions (entry_at store index)
 

@@ -3,11 +3,11 @@
 ghost use Rattle.std.specs.Prelude.{◌≡◌, List, Some, IsSome, ◌<◌, length};
 ghost use Rattle.wasm_syntax.specs.declared.values.Val.{Val};
 ghost use Rattle.host_script.specs.declared.scripts.Address.{Address};
-ghost use Rattle.host_script.specs.declared.scripts.Action.TheVariants.{Copy, Grow, SetGlobal, SetTable, Write};
+ghost use Rattle.host_script.specs.declared.scripts.Action.TheVariants.{Copy, Grow, GrowTable, SetGlobal, SetTable, Write};
 ghost use Rattle.history_spec.specs.Action.{address_of};
 ghost use Rattle.history_spec.specs.Code.{Code};
 ghost use Rattle.host_actions.specs.Ready.{AreAddresses, AreOf, IsReady};
-ghost use Rattle.host_actions.specs.Does.{Does};
+ghost use Rattle.host_actions.specs.Does.{Does, growth_result};
 
 use crate::addresses::Addresses;
 use crate::calls::{Functions, call_table};
@@ -33,7 +33,7 @@ pub enum ActionFault {
     /// The host cannot do it.
     #[error("{kind}")]
     Fault { kind: FaultKind },
-    /// No memory was left for the memory to grow.
+    /// No memory was left for the memory or the table to grow.
     #[error("out of memory")]
     Memory,
 }
@@ -61,6 +61,7 @@ pub fn perform(
         Action::SetTable { index, func } => set_table(store, *index, *func),
         Action::SetGlobal { global, value } => set_global(store, *global, *value),
         Action::Grow { pages } => grow(store, *pages),
+        Action::GrowTable { entries } => grow_table(store, *entries),
         Action::Call { func, .. } => Ok(Done::Enters { func: *func }),
         Action::CallTable { index, args } => {
             match call_table(store, functions, *index, args.as_slice()) {
@@ -130,7 +131,23 @@ fn grow(store: &mut Store, pages: u32) -> Result<Done, ActionFault>
     ensures { (code : Code) (args : List Val)
         → Does code args (Grow pages) result store.old store.new }
 {
-    match store.grow(pages) {
+    growth_result(store.grow(pages))
+}
+
+/// Adds empty entries to the table.
+fn grow_table(store: &mut Store, entries: u32) -> Result<Done, ActionFault>
+    requires { IsSome store.old.table }
+    ensures { (code : Code) (args : List Val)
+        → Does code args (GrowTable entries) result store.old store.new }
+{
+    growth_result(store.grow_table(entries))
+}
+
+/// What an answer of a growth comes to.
+fn growth_result(answer: Result<Option<u32>, NoMemory>) -> Result<Done, ActionFault>
+    ensures { result ≡ growth_result answer }
+{
+    match answer {
         Ok(Some(_)) => Ok(Done::Changed),
         Ok(None) => Err(ActionFault::Fault {
             kind: FaultKind::GrowRefused,

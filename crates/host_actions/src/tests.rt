@@ -15,13 +15,17 @@ fn i32(bits: u64) -> Val {
     }
 }
 
-/// A store with a page of memory that may not grow to three, and with a table of four entries.
+/// A store with a page of memory that may not grow to three, and with a table of four entries that
+/// may not grow to seven.
 fn store(alloc: Global) -> Result<Store, NoMemory> {
     let pages = Limits {
         min: 1,
         max: Some(2),
     };
-    let entries = Limits { min: 4, max: None };
+    let entries = Limits {
+        min: 4,
+        max: Some(6),
+    };
     Store::new(alloc, Some(pages), Some(entries), vec![in alloc; i32(5)]?)
 }
 
@@ -94,6 +98,18 @@ fn grow_answer(store: &mut Store, functions: &Functions, pages: u32) -> Result<D
     perform(store, functions, Addresses::of(&action, &[]), &action)
 }
 
+fn grow_table_answer(
+    store: &mut Store,
+    functions: &Functions,
+    entries: u32,
+) -> Result<Done, ActionFault> {
+    if !store.has_table() {
+        return Err(ActionFault::Memory);
+    }
+    let action = Action::GrowTable { entries };
+    perform(store, functions, Addresses::of(&action, &[]), &action)
+}
+
 fn set_answer(
     store: &mut Store,
     functions: &Functions,
@@ -136,6 +152,22 @@ fn a_memory_and_a_table_are_changed_within_their_bounds(rt: HostRuntime) -> Resu
     assert!(rt; set_answer(&mut store, &functions, 3, Some(2)) == Ok(Done::Changed));
     assert!(rt; store.entry(3) == Ok(Some(2)));
     assert!(rt; set_answer(&mut store, &functions, 4, None) == fault(FaultKind::TableOutside));
+    Ok(())
+}
+
+#[test]
+fn a_table_grows_by_empty_entries_to_its_maximum(rt: HostRuntime) -> Result<(), Fail> {
+    let alloc = rt.alloc();
+    let mut store = store(alloc)?;
+    let functions = functions(alloc)?;
+    assert!(rt; store.put_funcs(0, &[1, 2, 1, 2]).is_ok());
+    assert!(rt; grow_table_answer(&mut store, &functions, 3) == fault(FaultKind::GrowRefused));
+    assert!(rt; store.table_size() == 4);
+    assert!(rt; grow_table_answer(&mut store, &functions, 2) == Ok(Done::Changed));
+    assert!(rt; store.entries() == [Some(1), Some(2), Some(1), Some(2), None, None].as_slice());
+    assert!(rt; grow_table_answer(&mut store, &functions, 0) == Ok(Done::Changed));
+    assert!(rt; grow_table_answer(&mut store, &functions, 1) == fault(FaultKind::GrowRefused));
+    assert!(rt; store.table_size() == 6 && store.pages() == 1);
     Ok(())
 }
 

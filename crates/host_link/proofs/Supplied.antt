@@ -1,5 +1,5 @@
 -- What follows from what a script supplies.
-use Rattle.std.proofs.Common.{◌≡◌, Option, Some, None, Result, Ok, Err, IfOk, IfErr, ap, subst, ◌∙◌}
+use Rattle.std.proofs.Common.{◌≡◌, Option, Some, None, Result, Ok, Err, IfOk, IfErr, ap, refl, subst, ◌∙◌}
 use Rattle.wasm_syntax.specs.declared.modules.Module.{Module}
 use Rattle.host_script.specs.declared.scripts.Script.{Script}
 use Rattle.host_script.specs.declared.scripts.Supply.{Supply}
@@ -25,13 +25,16 @@ pub links_by : (m same : Module) (script : Script) (supply : Supply) (made : Res
 links_by m same script supply made e supplies instantiates =
     subst (λ x. link_result x script ≡ made) e (ap (with_supply same) supplies ∙ instantiates)
 
--- so does its run start
-pub starts_by : (m same : Module) (script : Script) (supply : Supply) (made : Result Store LinkFault) → same ≡ m
-    → supply_of same script ≡ Ok supply → instantiate same supply ≡ made
-    → run_start m script ≡ start_or_fault m script made
-starts_by m same script supply made e supplies instantiates =
-    subst (λ x. run_start x script ≡ start_or_fault x script made) e
-    (ap (start_with_supply same script) supplies ∙ ap (start_or_fault same script) instantiates)
+starts_with : (m : Module) (script : Script) (supplied : Result Supply LinkFault)
+    → start_with_supply m script supplied ≡ start_or_fault m script (with_supply m supplied)
+starts_with m script (Ok supply) = refl
+starts_with m script (Err fault) = refl
+
+-- its run starts as it links
+pub starts_by : (m : Module) (script : Script) (linked : Result Store LinkFault) → link_result m script ≡ linked
+    → run_start m script ≡ start_or_fault m script linked
+starts_by m script linked links =
+    starts_with m script (supply_of m script) ∙ ap (start_or_fault m script) links
 
 -- what holds of any store, and of any fault
 pub at_ok : {T E : Type 0} {P Q : T → Type 0} (r : Result T E) → ((x : T) → P x → Q x) → IfOk r P → IfOk r Q

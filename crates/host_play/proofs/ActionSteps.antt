@@ -6,7 +6,7 @@ use Rattle.wasm_syntax.specs.declared.signatures.FuncType.{FuncType}
 use Rattle.wasm_syntax.specs.declared.modules.Module.{Module}
 use Rattle.wasm_syntax.specs.Index.{imported_funcs}
 use Rattle.host_script.specs.declared.scripts.Action.{Action}
-use Rattle.host_script.specs.declared.scripts.Action.TheVariants.{Write, Copy, SetTable, SetGlobal, Grow, Call, CallTable}
+use Rattle.host_script.specs.declared.scripts.Action.TheVariants.{Write, Copy, SetTable, SetGlobal, Grow, GrowTable, Call, CallTable}
 use Rattle.host_script.specs.declared.scripts.Address.{Address}
 use Rattle.host_script.specs.declared.scripts.Address.TheVariants.{Fixed, Arg}
 use Rattle.host_script.specs.declared.scripts.Script.{Script}
@@ -22,7 +22,7 @@ use Rattle.history_spec.specs.Run.{program_of}
 use Rattle.type_safety.specs.Stores.{IsStore, func_count}
 use Rattle.type_safety.specs.Values.{AreValues}
 use Rattle.host_actions.specs.declared.addresses.Addresses.{Addresses}
-use Rattle.host_actions.specs.Ready.{AreAddresses, AreOf, AreThere, IsThere}
+use Rattle.host_actions.specs.Ready.{AreAddresses, AreThere, IsThere}
 use Rattle.wasm_interp.specs.Frames.{argument_of}
 use Rattle.wasm_interp.specs.Loans.{with_store}
 use Rattle.wasm_interp.specs.Calls.{InvokesRun, config_of}
@@ -60,6 +60,7 @@ module _ (machine : State) (args : List Val) (each : (number : ℕ) (value : Val
   known_action (SetTable index func) there = tt
   known_action (SetGlobal global value) there = tt
   known_action (Grow by) there = tt
+  known_action (GrowTable by) there = tt
   known_action (Call func given) there = tt
   known_action (CallTable index given) there = tt
 
@@ -69,6 +70,7 @@ module _ (machine : State) (args : List Val) (each : (number : ℕ) (value : Val
   read_action (SetTable index func) addresses there is = tt
   read_action (SetGlobal global value) addresses there is = tt
   read_action (Grow by) addresses there is = tt
+  read_action (GrowTable by) addresses there is = tt
   read_action (Call func given) addresses there is = tt
   read_action (CallTable index given) addresses there is = tt
 

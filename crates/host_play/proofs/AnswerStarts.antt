@@ -16,6 +16,7 @@ use Rattle.history_spec.specs.Settle.{settle}
 use Rattle.history_spec.specs.Step.{StepResult, Faulted, after_entries, answer_call, after_settling, response_to}
 use Rattle.history_spec.specs.Run.{program_of}
 use Rattle.type_safety.specs.Heights.{Heights}
+use Rattle.type_safety.proofs.Responses.{response_fits}
 use Rattle.flat_steps.specs.Follows.{outside_of}
 use Rattle.host_actions.specs.Ready.{AreOf}
 use Rattle.wasm_interp.specs.State.{State, StandsFor}
@@ -30,7 +31,6 @@ use Rattle.host_play.specs.Stands.{Leads, Stops}
 use Rattle.host_play.proofs.Arrivals.{after_both}
 use Rattle.host_play.proofs.Counts.{kept_at, kept_more, kept_there}
 use Rattle.host_play.proofs.Outside.{plays_same}
-use Rattle.host_play.proofs.FitResponses.{response_fits}
 
 module _ (m : Module) (heights : Heights) (script : Script) (counts : List ℕ) (is_run : IsRun m heights (program_of m script) counts) (below : List Activation) (playing : PlayState) (functions : AreOf (code_of m) playing.functions) (counted : playing.counts.items ≡ map kept counts)
     (hosts : Plays script below playing.hosts) (entries : List Entry) (machine : State) (s : StepResult) (index : ℕ) (comes : ComesToImport m heights (program_of m script) (outside_of below) counts index entries machine s) where

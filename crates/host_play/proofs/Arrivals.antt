@@ -44,45 +44,36 @@ stands_then m script stand playing s standing next_stand new_playing next same_f
 
 module _ (m : Module) (heights : Heights) (script : Script) (counts : List ℕ) (is_run : IsRun m heights (program_of m script) counts) (below : List Activation) (playing : PlayState) (functions : AreOf (code_of m) playing.functions) (counted : playing.counts.items ≡ map kept counts)
     (entries : List Entry) (s : StepResult) where
+  standing_at : (stand : Stand) (next : StepResult) → GoesOn m heights script counts stand playing next → StandsAt m script stand playing next
+  standing_at stand next goes_on = record { heights = heights; counts = counts; is_run = is_run; functions = functions; counted = counted; goes_on = goes_on }
+
   pub at_instruction : Plays script below playing.hosts → ComesToInstruction m heights (outside_of below) counts entries playing.machine s → Leads m script s entries at.Instruction playing
   at_instruction hosts c =
+      let next : StepResult = step_result [] (Running (config_of playing.machine (InModule c.frame ∷ c.below) counts)) in
       record {
-        next = step_result [] (Running (config_of playing.machine (InModule c.frame ∷ c.below) counts));
+        next = next;
         same = c.same ∙ with_none entries (Running (config_of playing.machine (InModule c.frame ∷ c.below) counts));
-        standing = record {
-          heights = heights;
-          counts = counts;
-          is_run = is_run;
-          functions = functions;
-          counted = counted;
-          goes_on = record {
-            frame = c.frame;
-            below = c.below;
-            stack = record { machine = c.stands; hosts = plays_same script below c.below playing.hosts c.same_outside hosts };
-            going = c.going;
-            same = refl;
-          };
-        };
+        standing = standing_at at.Instruction next (record {
+          frame = c.frame;
+          below = c.below;
+          stack = record { machine = c.stands; hosts = plays_same script below c.below playing.hosts c.same_outside hosts };
+          going = c.going;
+          same = refl;
+        });
       }
 
   pub at_host : Plays script below playing.hosts → ComesToHost m heights (outside_of below) counts entries playing.machine s → Leads m script s entries at.Host playing
   at_host hosts c =
+      let next : StepResult = after_settling playing.machine.store counts (settle (outside_of below)) in
       record {
-        next = after_settling playing.machine.store counts (settle (outside_of below));
+        next = next;
         same = c.same;
-        standing = record {
-          heights = heights;
-          counts = counts;
-          is_run = is_run;
-          functions = functions;
-          counted = counted;
-          goes_on = record {
-            activations = outside_of below;
-            stack = record { machine = c.stands; hosts = plays_outside script below playing.hosts hosts };
-            awaits = awaits_outside script below playing.hosts hosts;
-            same = refl;
-          };
-        };
+        standing = standing_at at.Host next (record {
+          activations = outside_of below;
+          stack = record { machine = c.stands; hosts = plays_outside script below playing.hosts hosts };
+          awaits = awaits_outside script below playing.hosts hosts;
+          same = refl;
+        });
       }
 
   pub at_trap : s ≡ step_result entries (Finished ByTrap) → Leads m script s entries (at.Over ByTrap) playing
@@ -90,5 +81,5 @@ module _ (m : Module) (heights : Heights) (script : Script) (counts : List ℕ) 
       record {
         next = step_result [] (Finished ByTrap);
         same = same ∙ with_none entries (Finished ByTrap);
-        standing = record { heights = heights; counts = counts; is_run = is_run; functions = functions; counted = counted; goes_on = refl };
+        standing = standing_at (at.Over ByTrap) (step_result [] (Finished ByTrap)) refl;
       }

@@ -37,15 +37,6 @@ drop_past [] (suc i) is = refl
 drop_past (x ∷ xs) zero is = cc
 drop_past (x ∷ xs) (suc i) is = drop_past xs i is
 
-pub imports_of : {a b c d e f : ℕ} → host.Answer a b c ≡ host.Answer d e f → a ≡ d
-imports_of is = cc
-
-pub numbers_of : {a b c d e f : ℕ} → host.Answer a b c ≡ host.Answer d e f → b ≡ e
-numbers_of is = cc
-
-pub some_of : {a b : Response} → Some a ≡ Some b → a ≡ b
-some_of is = cc
-
 -- the activation that is at its end
 pub record Done (m : Module) (heights : Heights) (script : Script) (counts : List ℕ) (playing : PlayState) (top : Host) (s : StepResult) : Type 0 where
   pub import : ℕ
@@ -131,6 +122,24 @@ module _ (m : Module) (heights : Heights) (script : Script) (counts : List ℕ) 
       let top_is : host.Answer called n nx ≡ host.Answer import number next = cc in
       subst (λ t. Done m heights script counts playing t s) top_is
       (done_called below i args actions «end» called n nx plays.1 (subst (λ hs. Plays script (InImport i args actions «end» ∷ below) (host.Answer called n nx ∷ hs)) (sym (ap below_of are)) plays) stands same (ap (action_at script) top_is ∙ none))
+
+-- the host is at the end of what it does by this response
+pub record Answered (m : Module) (script : Script) (s : StepResult) (playing : PlayState) (import : ℕ) (top : Host) («end» : ResponseEnd) (standing : StandsAt m script at.Host playing s) : Type 0 where
+  pub done : Done m standing.heights script standing.counts playing top s
+  pub same_import : import ≡ done.import
+  pub same_end : done.response.«end» ≡ «end»
+
+pub answered : (m : Module) (script : Script) (s : StepResult) (playing : PlayState) (top : Host) (import number next : ℕ) (response : Response) (standing : StandsAt m script at.Host playing s)
+    → top ≡ host.Answer import number next → top_of playing.hosts ≡ Some top → action_at script top ≡ None → response_to script.imports import number ≡ Some response
+    → Answered m script s playing import (host.Answer import number next) response.«end» standing
+answered m script s playing top import number next response standing is top_is none chosen =
+    let d : Done m standing.heights script standing.counts playing (host.Answer import number next) s =
+    answer_done m standing.heights script standing.counts playing s standing.goes_on.activations playing.hosts import number next refl standing.goes_on.awaits standing.goes_on.stack.machine standing.goes_on.stack.hosts standing.goes_on.same (top_is ∙ ap (λ t. Some t) is) (ap (action_at script) (sym is) ∙ none) in
+    let same : import ≡ d.import = let all : host.Answer import number next ≡ host.Answer d.import d.number d.next = d.is_top in cc in
+    let numbers : number ≡ d.number = let all : host.Answer import number next ≡ host.Answer d.import d.number d.next = d.is_top in cc in
+    let found : Some response ≡ Some d.response = sym chosen ∙ ap (λ i. response_to script.imports i number) same ∙ ap (response_to script.imports d.import) numbers ∙ d.chosen in
+    let responses : response ≡ d.response = cc in
+    record { done = d; same_import = same; same_end = ap (λ (r : Response). r.«end») (sym responses) }
 
 -- ---- what the run goes on with
 

@@ -2,7 +2,6 @@ mod Stacks
 mod Outside
 mod Arrivals
 mod Returns
-mod FitResponses
 mod Counts
 mod AnswerStarts
 mod Turns

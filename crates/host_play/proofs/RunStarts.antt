@@ -20,13 +20,15 @@ use Rattle.type_safety.specs.Heights.{Heights}
 use Rattle.type_safety.specs.Stores.{func_count}
 use Rattle.type_safety.specs.Values.{AreValues}
 use Rattle.host_actions.specs.Ready.{AreOf}
+use Rattle.wasm_flat.specs.declared.code.Flat.{Flat}
+use Rattle.wasm_flat.specs.FlatCode.{flat_of}
 use Rattle.wasm_interp.specs.Calls.{IsCallable, IsRun}
-use Rattle.wasm_interp.specs.State.{IsAtHost, StandsFor}
+use Rattle.wasm_interp.specs.State.{IsAtHost, StandsFor, State, state}
 use Rattle.host_play.specs.declared.host_steps.HostStep.{HostStep}
 use Rattle.host_play.specs.declared.play_state.Host.TheVariants as host
 use Rattle.host_play.specs.declared.play_state.Stand.TheVariants as at
 use Rattle.host_play.specs.declared.play_state.PlayState.{PlayState}
-use Rattle.host_play.specs.Starts.{AtWork, Starts, StartsBy, CallsStart, CanStart}
+use Rattle.host_play.specs.Starts.{AtWork, Starts, StartsBy, CallsStart, CanStart, functions_in}
 use Rattle.host_play.specs.HostSteps.{stand_after, entries_of}
 use Rattle.host_play.specs.Hosts.{Plays, kept}
 use Rattle.host_play.specs.Stands.{Leads}
@@ -39,6 +41,23 @@ if_ok (Err e) P Q more is = tt
 pub kept_zeros : (n : ℕ) → replicate n 0 ≡ map kept (replicate n 0)
 kept_zeros zero = refl
 kept_zeros (suc n) = ap (λ xs. 0 ∷ xs) (kept_zeros n)
+
+-- the machine that a run begins with stands for the host at its own work
+pub record IsFirst (m : Module) (heights : Heights) (script : Script) (store : Store) (first : PlayState) : Type 0 where
+  pub stands : StandsFor m heights (InMain script.main ∷ []) first.machine
+  pub same_store : first.machine.store ≡ store
+  pub functions : AreOf (code_of m) first.functions
+
+pub is_first : (m : Module) (heights : Heights) (script : Script) (store : Store) (flat : Flat) (first : PlayState)
+    → StandsFor m heights (InMain script.main ∷ []) (state (flat_of m) store [] [] false) → flat ≡ flat_of m
+    → first.machine ≡ state flat store [] [] false → first.functions ≡ functions_in flat → IsFirst m heights script store first
+is_first m heights script store flat first begins is machine functions =
+    let own : first.machine ≡ state (flat_of m) store [] [] false = machine ∙ ap (λ flat. state flat store [] [] false) is in
+    record {
+      stands = subst (StandsFor m heights (InMain script.main ∷ [])) (sym own) begins;
+      same_store = ap (λ (s : State). s.store) own;
+      functions = subst (AreOf (code_of m)) (sym (functions ∙ ap functions_in is)) (record { types = refl; indices = refl; imported = refl });
+    }
 
 -- the start function can be called
 pub can_start : (m : Module) (first : PlayState) → AreOf (code_of m) first.functions → IsAtHost first.machine.flat first.machine.frames

@@ -13,7 +13,7 @@ use Rattle.wasm_syntax.specs.Typing.{is_constant}
 use Rattle.host_script.specs.declared.scripts.Address.{Address}
 use Rattle.host_script.specs.declared.scripts.Address.TheVariants.{Fixed, Arg}
 use Rattle.host_script.specs.declared.scripts.Action.{Action}
-use Rattle.host_script.specs.declared.scripts.Action.TheVariants.{Write, Copy, SetTable, SetGlobal, Grow, Call, CallTable}
+use Rattle.host_script.specs.declared.scripts.Action.TheVariants.{Write, Copy, SetTable, SetGlobal, Grow, GrowTable, Call, CallTable}
 use Rattle.host_script.specs.declared.scripts.Answer.{Answer}
 use Rattle.host_script.specs.declared.scripts.Response.{Response}
 use Rattle.host_script.specs.declared.scripts.ResponseEnd.{ResponseEnd}
@@ -62,6 +62,7 @@ FitsAction m params (Copy to source count) = HasMemory m × FitsAddress params t
 FitsAction m params (SetTable index func) = HasTable m × IfSome func (λ f. f < length (func_indices m))
 FitsAction m params (SetGlobal global value) = IsSettable m global value
 FitsAction m params (Grow by) = HasMemory m
+FitsAction m params (GrowTable by) = HasTable m
 FitsAction m params (Call func args) = IsCallable m func args
 FitsAction m params (CallTable index args) = HasTable m × AreConstants args
 

@@ -33,6 +33,7 @@ impl Action {
                 value: *value,
             }),
             Action::Grow { pages } => Ok(Action::Grow { pages: *pages }),
+            Action::GrowTable { entries } => Ok(Action::GrowTable { entries: *entries }),
             Action::Call { func, args } => {
                 let args = args.clone()?;
                 Ok(Action::Call { func: *func, args })

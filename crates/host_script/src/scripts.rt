@@ -67,6 +67,9 @@ pub enum Action {
     Grow {
         pages: u32,
     },
+    GrowTable {
+        entries: u32,
+    },
     Call {
         func: u32,
         args: Vals,

@@ -25,8 +25,8 @@ pub struct Transfer {
     pub width: u32,
 }
 
-/// The numeric instructions from `I32_EQZ` on (Core 1.0, 5.4.5).
-static NUMERIC: [Operation; 123] = [
+/// The numeric instructions from `I32_EQZ` on (Core 1.0, 5.4.5; Core 2.0, 5.4.7).
+static NUMERIC: [Operation; 128] = [
     // I32_EQZ
     One(I32, I32),
     // I32_EQ to I32_GE_U
@@ -180,6 +180,13 @@ static NUMERIC: [Operation; 123] = [
     One(I32, F32),
     // F64_REINTERPRET_I64
     One(I64, F64),
+    // I32_EXTEND8_S to I32_EXTEND16_S
+    One(I32, I32),
+    One(I32, I32),
+    // I64_EXTEND8_S to I64_EXTEND32_S
+    One(I64, I64),
+    One(I64, I64),
+    One(I64, I64),
 ];
 
 /// The loads from `I32_LOAD` on (Core 1.0, 5.4.4).

@@ -64,5 +64,6 @@ module _ (m : Module) (code : IsIntegerCode m) where
       from (action.SetTable index func) t = absurd (false-true t)
       from (action.SetGlobal global value) t = absurd (false-true t)
       from (action.Grow pages) t = absurd (false-true t)
+      from (action.GrowTable entries) t = absurd (false-true t)
       from (action.Call func args) t = call-plain func args t
       from (action.CallTable index args) t = absurd (false-true t)

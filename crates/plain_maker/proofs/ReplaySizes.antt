@@ -11,8 +11,6 @@ use Rattle.wasm_syntax.specs.declared.signatures.FuncType.{FuncType}
 use Rattle.wasm_syntax.specs.declared.instructions.Instr.{Instr}
 use Rattle.wasm_syntax.specs.declared.instructions.Instr.TheVariants.{Unreachable, If, End, Return, Call, Drop, LocalGet, LocalSet, GlobalGet, GlobalSet, Const}
 use Rattle.wasm_syntax.specs.declared.modules.Func.{Func}
-use Rattle.wasm_syntax.specs.declared.modules.Global.{Global}
-use Rattle.wasm_syntax.specs.declared.modules.Export.{Export}
 use Rattle.wasm_syntax.specs.declared.modules.Module.{Module}
 use Rattle.wasm_syntax.specs.Nest.{Nest, flat}
 use Rattle.wasm_syntax.specs.Index.{func_indices, func_type, type_at, imported_funcs}

@@ -1,21 +1,21 @@
 -- An activation of a function that two modules share does the same in both, in a store that has globals of
 -- its own after those of the other.
-use Rattle.std.proofs.Common.{◌≡◌, ℕ, zero, suc, ◌+◌, ◌-◌, List, [], ◌∷◌, ◌++◌, length, take, slice_get, slice_index_or, Option, Some, None, Bool, true, false, refl, sym, ap, ◌∙◌, subst, arith, length-append, length-take-le, length-set, ◌&&◌}
+use Rattle.std.proofs.Common.{◌≡◌, ℕ, zero, suc, ◌+◌, ◌-◌, ◌%◌, List, [], ◌∷◌, ◌++◌, length, take, slice_get, slice_index_or, Option, Some, None, Bool, true, false, refl, sym, ap, ◌∙◌, subst, arith, length-append, length-take-le, length-set, ◌&&◌}
 use Rattle.wasm_syntax.specs.declared.values.ValType.{ValType}
 use Rattle.wasm_syntax.specs.declared.values.ValType.TheVariants.{I32, FuncRef}
 use Rattle.wasm_syntax.specs.declared.values.Val.{Val}
 use Rattle.wasm_syntax.specs.declared.signatures.FuncType.{FuncType}
 use Rattle.wasm_syntax.specs.declared.instructions.Instr.{Instr}
-use Rattle.wasm_syntax.specs.declared.instructions.Instr.TheVariants.{Unreachable, Nop, Br, BrIf, BrTable, Return, Call, CallIndirect, Drop, Select, LocalGet, LocalSet, LocalTee, GlobalGet, GlobalSet, Load, Store as StoreTo, MemorySize, MemoryGrow, Const, Numeric, RefNull, RefFunc, TableSet}
+use Rattle.wasm_syntax.specs.declared.instructions.Instr.TheVariants.{Unreachable, Nop, Br, BrIf, BrTable, Return, Call, CallIndirect, Drop, Select, LocalGet, LocalSet, LocalTee, GlobalGet, GlobalSet, Load, Store as StoreTo, MemorySize, MemoryGrow, MemoryCopy, MemoryFill, Const, Numeric, RefNull, RefFunc, TableSet, TableGrow, TableSize}
 use Rattle.wasm_syntax.specs.Nest.{Nest, Empty, Plain, InBlock, InLoop, InIf, InIfElse}
 use Rattle.wasm_syntax.specs.Opcodes.{Access, numeric_shape, load_of, store_of}
 use Rattle.wasm_syntax.specs.Alike.{same_types, same_signature}
-use Rattle.history_spec.specs.Store.{Store, Memory, Table, grown_memory, bytes_at, with_bytes_at, bytes_of, with_entry}
+use Rattle.history_spec.specs.Store.{Store, Memory, Table, grown_memory, grown_table, bytes_at, with_bytes_at, with_bytes_copied, with_bytes_filled, bytes_of, with_entry}
 use Rattle.history_spec.specs.Code.{Code, signature}
 use Rattle.history_spec.specs.Numeric.{NumericValue, Computed, Undefined, Unsupported, numeric_value}
 use Rattle.history_spec.specs.Configuration.{Place, place, Label, Frame, topmost}
 use Rattle.history_spec.specs.Projection.{call_args}
-use Rattle.history_spec.specs.Instruction.{Control, Goes, Calls, Returns, Execution, Did, Traps, NoRule, on, pop, takes, bits_at, gives, choice, to_label, to_caller, branch_to, calls_if, calls_entry, load_result, store_result, grow_result, table_result, referent, numeric_result, type_of_top, execute_plain, execute_at, execute}
+use Rattle.history_spec.specs.Instruction.{Control, Goes, Calls, Returns, Execution, Did, Traps, NoRule, on, pop, takes, bits_at, gives, choice, to_label, to_caller, branch_to, calls_if, calls_entry, load_result, store_result, grow_result, table_result, table_grow_result, referent, numeric_result, type_of_top, execute_plain, execute_at, execute}
 use Rattle.plain_replay.proofs.Lists.{get_front, set_front, topmost_length, popped_length, alike_length}
 
 -- the store with more globals after its own
@@ -146,6 +146,13 @@ module _ (original replay : Code) (shares : Shares original replay) (own : List 
   set_follows store frame next table operands rest None = refl
   set_follows store frame next table operands rest (Some entries) = (refl, (refl, refl, refl))
 
+  table_grows_follows : (store : Store) (frame : Frame) (next : Place) (table : Table) (operands rest : List Val)
+      (o : Option Table)
+      → Follows original own store frame (table_grow_result store frame next table operands rest o)
+      (table_grow_result (beside own store) frame next table operands rest o)
+  table_grows_follows store frame next table operands rest None = (refl, (refl, refl, refl))
+  table_grows_follows store frame next table operands rest (Some larger) = (refl, (refl, refl, refl))
+
   computed_follows : (store : Store) (frame : Frame) (next : Place) (ty : ValType) (operands rest : List Val) (value : NumericValue)
       → Follows original own store frame (numeric_result store frame next ty operands rest value) (numeric_result (beside own store) frame next ty operands rest value)
   computed_follows store frame next ty operands rest (Computed bits) = (refl, (refl, refl, refl))
@@ -214,6 +221,16 @@ module _ (original replay : Code) (shares : Shares original replay) (own : List 
       on_follows store frame store.memory store.memory _ _ (λ x e. e) (λ memory is.
       takes_follows store frame (I32 ∷ []) _ _ (λ operands rest e.
       grows_follows store frame next memory operands rest (grown_memory memory (bits_at operands 0))))
+  plain_follows store frame next MemoryCopy =
+      on_follows store frame store.memory store.memory _ _ (λ x e. e) (λ memory is.
+      takes_follows store frame (I32 ∷ I32 ∷ I32 ∷ []) _ _ (λ operands rest e.
+      stored_follows store frame next memory operands rest
+      (with_bytes_copied memory.bytes (bits_at operands 0) (bits_at operands 1) (bits_at operands 2))))
+  plain_follows store frame next MemoryFill =
+      on_follows store frame store.memory store.memory _ _ (λ x e. e) (λ memory is.
+      takes_follows store frame (I32 ∷ I32 ∷ I32 ∷ []) _ _ (λ operands rest e.
+      stored_follows store frame next memory operands rest
+      (with_bytes_filled memory.bytes (bits_at operands 0) (bits_at operands 1 % 256) (bits_at operands 2))))
   plain_follows store frame next (Const value) = (refl, (refl, refl, refl))
   plain_follows store frame next (Numeric op) =
       on_follows store frame (numeric_shape op) (numeric_shape op) _ _ (λ x e. e) (λ shape has.
@@ -226,6 +243,15 @@ module _ (original replay : Code) (shares : Shares original replay) (own : List 
       takes_follows store frame (I32 ∷ FuncRef ∷ []) _ _ (λ operands rest e.
       set_follows store frame next table operands rest (with_entry table.entries (bits_at operands 0) (referent (bits_at operands 1)))))
   plain_follows store frame next (TableSet (suc t)) = tt
+  plain_follows store frame next (TableGrow zero) =
+      on_follows store frame store.table store.table _ _ (λ x e. e) (λ table is.
+      takes_follows store frame (FuncRef ∷ I32 ∷ []) _ _ (λ operands rest e.
+      table_grows_follows store frame next table operands rest
+      (grown_table table (bits_at operands 1) (referent (bits_at operands 0)))))
+  plain_follows store frame next (TableGrow (suc t)) = tt
+  plain_follows store frame next (TableSize zero) =
+      on_follows store frame store.table store.table _ _ (λ x e. e) (λ table is. (refl, (refl, refl, refl)))
+  plain_follows store frame next (TableSize (suc t)) = tt
   plain_follows store frame next i = tt
 
   nest_follows : (store : Store) (frame : Frame) (nest : Nest) (n : ℕ)

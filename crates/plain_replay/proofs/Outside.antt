@@ -1,8 +1,7 @@
 -- Steps of generated code, which show nothing.
 use Rattle.std.proofs.Common.{◌≡◌, ℕ, List, [], ◌∷◌, ◌++◌, length, Option, Some, true, false, nat_lt, refl, sym, ap, subst, arith, nat_le}
 use Rattle.std.proofs.lemmas.Bool.Decides.{nat_tests}
-use Rattle.wasm_syntax.specs.declared.values.ValType.{ValType}
-use Rattle.wasm_syntax.specs.declared.values.ValType.TheVariants.{I32, I64, F32, F64, FuncRef}
+use Rattle.wasm_syntax.proofs.ValTypes.{type_own}
 use Rattle.wasm_syntax.specs.declared.values.Val.{Val}
 use Rattle.host_script.specs.declared.scripts.Action.{Action}
 use Rattle.host_script.specs.declared.scripts.Action.TheVariants.{Call}
@@ -15,7 +14,6 @@ use Rattle.history_spec.specs.Instruction.{Control, Goes, Calls, Returns, Did, e
 use Rattle.history_spec.specs.Settle.{return_entry, deliver}
 use Rattle.history_spec.specs.Step.{Program, Running, StepResult, step_result, after_entries, after_settling, enter_function, call_function, after_instruction, after_control}
 use Rattle.history_spec.specs.Projection.{Layout, Side, Original, Import, Appended, side, shown_step, shown_entries, call_args}
-use Rattle.wasm_syntax.specs.Alike.{same_type}
 use Rattle.plain_replay.proofs.Shows.{Shows, shows_entry, shows_step, Leads}
 use Rattle.plain_replay.proofs.Mirrors.{funcs, IsOutside, Plays, Acts}
 
@@ -26,17 +24,10 @@ not_shown Appended entry h = refl
 
 -- ---- the topmost value
 
-same_type_own : (ty : ValType) → same_type ty ty ≡ true
-same_type_own I32 = refl
-same_type_own I64 = refl
-same_type_own F32 = refl
-same_type_own F64 = refl
-same_type_own FuncRef = refl
-
 pub pop_one : (value : Val) (values : List Val) → pop (value.ty ∷ []) (value ∷ values) ≡ Some (record { operands = value ∷ []; rest = values })
 pop_one value values =
     let enough : nat_le 1 (length (value ∷ values)) ≡ true = grind (arith, nat_tests) in
-    rw enough (rw (same_type_own value.ty) refl)
+    rw enough (rw (type_own value.ty) refl)
 
 -- ---- steps
 

@@ -5,7 +5,7 @@ use Rattle.wasm_syntax.specs.declared.values.Val.{Val}
 use Rattle.wasm_syntax.specs.declared.signatures.FuncType.{FuncType}
 use Rattle.wasm_syntax.specs.Nest.{Nest, Empty}
 use Rattle.host_script.specs.declared.scripts.Action.{Action}
-use Rattle.host_script.specs.declared.scripts.Action.TheVariants.{Write, Copy, SetTable, SetGlobal, Grow, Call, CallTable}
+use Rattle.host_script.specs.declared.scripts.Action.TheVariants.{Write, Copy, SetTable, SetGlobal, Grow, GrowTable, Call, CallTable}
 use Rattle.host_script.specs.declared.scripts.Response.{Response}
 use Rattle.host_script.specs.declared.scripts.ResponseEnd.{ResponseEnd}
 use Rattle.host_script.specs.declared.scripts.ResponseEnd.TheVariants.{Return, Trap as Traps}
@@ -148,6 +148,7 @@ module _ (layout : Layout) (original replay : Program) (globals : ℕ) (Counters
     act_sim k delivers host (SetTable index func) given' stack below rest t inside store counts acts mirrors known args = absurd acts
     act_sim k delivers host (SetGlobal global value) given' stack below rest t inside store counts acts mirrors known args = absurd acts
     act_sim k delivers host (Grow by) given' stack below rest t inside store counts acts mirrors known args = absurd acts
+    act_sim k delivers host (GrowTable by) given' stack below rest t inside store counts acts mirrors known args = absurd acts
     act_sim k delivers host (CallTable index args') given' stack below rest t inside store counts acts mirrors known args = absurd acts
 
     -- what stands below an activation of the host gets its results

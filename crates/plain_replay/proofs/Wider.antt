@@ -8,7 +8,7 @@ use Rattle.wasm_syntax.specs.declared.signatures.FuncType.{FuncType}
 use Rattle.wasm_syntax.specs.declared.signatures.Limits.{Limits}
 use Rattle.wasm_syntax.specs.declared.signatures.GlobalType.{GlobalType}
 use Rattle.wasm_syntax.specs.declared.instructions.Instr.{Instr}
-use Rattle.wasm_syntax.specs.declared.instructions.Instr.TheVariants.{Unreachable, Nop, Else, End, Br, BrIf, BrTable, Return, Call, CallIndirect, Drop, Select, LocalGet, LocalSet, LocalTee, GlobalGet, GlobalSet, Load, Store, MemorySize, MemoryGrow, Const, Numeric, RefNull, RefFunc, TableSet}
+use Rattle.wasm_syntax.specs.declared.instructions.Instr.TheVariants.{Unreachable, Nop, Else, End, Br, BrIf, BrTable, Return, Call, CallIndirect, Drop, Select, LocalGet, LocalSet, LocalTee, GlobalGet, GlobalSet, Load, Store, MemorySize, MemoryGrow, MemoryCopy, MemoryFill, Const, Numeric, RefNull, RefFunc, TableSet, TableGrow, TableSize}
 use Rattle.wasm_syntax.specs.Nest.{Nest, Empty, Plain, InBlock, InLoop, InIf, InIfElse, flat}
 use Rattle.wasm_syntax.specs.Opcodes.{load_of, store_of}
 use Rattle.wasm_syntax.specs.Typing.{Context, InstrType, Moves, Drops, Selects, Leaves, Switches, IsSwitch, call_of, indirect_of, set_of, load_type, store_type, func_at, instr_type, Leads, results_of, inside, IsTyped}
@@ -65,11 +65,15 @@ module _ (ctx wider : Context) (widens : Widens ctx wider) where
       some_wider (slice_get ctx.memories 0) (slice_get wider.memories 0) (option_and_then (store_type arg) (store_of arg.op)) (option_and_then (store_type arg) (store_of arg.op)) e (widens.memories 0) (λ q. q) h
   effect_wider MemorySize e free h = some_wider (slice_get ctx.memories 0) (slice_get wider.memories 0) _ _ e (widens.memories 0) (λ q. q) h
   effect_wider MemoryGrow e free h = some_wider (slice_get ctx.memories 0) (slice_get wider.memories 0) _ _ e (widens.memories 0) (λ q. q) h
+  effect_wider MemoryCopy e free h = some_wider (slice_get ctx.memories 0) (slice_get wider.memories 0) _ _ e (widens.memories 0) (λ q. q) h
+  effect_wider MemoryFill e free h = some_wider (slice_get ctx.memories 0) (slice_get wider.memories 0) _ _ e (widens.memories 0) (λ q. q) h
   effect_wider (Const v) e free h = h
   effect_wider (Numeric op) e free h = h
   effect_wider RefNull e free h = h
   effect_wider (RefFunc f) e free h = cc
   effect_wider (TableSet x) e free h = some_wider (slice_get ctx.tables x) (slice_get wider.tables x) _ _ e (widens.tables x) (λ q. q) h
+  effect_wider (TableGrow x) e free h = some_wider (slice_get ctx.tables x) (slice_get wider.tables x) _ _ e (widens.tables x) (λ q. q) h
+  effect_wider (TableSize x) e free h = some_wider (slice_get ctx.tables x) (slice_get wider.tables x) _ _ e (widens.tables x) (λ q. q) h
   effect_wider i e free h = absurd (none-some e h)
 
   same_effect : (e : InstrType) (before after : List ValType) → Leads ctx (Some e) before after → Leads wider (Some e) before after

@@ -151,6 +151,7 @@ unmade-status m played turns fault (refusals.OfLink u) = named-other fault (unli
 unmade-status m played turns fault (refusals.OfForm u) = named-other fault faults.NotBuilt u.named refl
 unmade-status m played turns fault (refusals.OfRun built (runs.OfScript u)) = named-other fault (faults.Script u.turn u.kind) u.named refl
 unmade-status m played turns fault (refusals.OfRun built (runs.OfTurns u)) = named-other fault (faults.Spent turns) u.named refl
+unmade-status m played turns fault (refusals.OfLength built u) = named-other fault faults.NotBuilt u.named refl
 
 make-status : (module_bytes script_bytes : List ℕ) (turns : ℕ) (fault : Fault)
     → IsMakeRefusal module_bytes script_bytes turns fault → IsOther (status_of fault)
@@ -160,9 +161,8 @@ make-status m s turns fault (OfModule n played inputs unmade) = unmade-status n 
 untold-status : (m : Module) (played : Script) (turns : ℕ) (fault : Fault) → IsUntold m played turns fault
     → IsOther (status_of fault)
 untold-status m played turns fault (OfLink u) = named-other fault (unlinked.link_fault u.found) u.named (link-other u.found u.differs)
-untold-status m played turns fault (histories.OfForm u) = named-other fault faults.NotBuilt u.named refl
-untold-status m played turns fault (histories.OfOutcome flat (runs.OfScript u)) = named-other fault (faults.Script u.turn u.kind) u.named refl
-untold-status m played turns fault (histories.OfOutcome flat (runs.OfTurns u)) = named-other fault (faults.Spent turns) u.named refl
+untold-status m played turns fault (histories.OfOutcome (runs.OfScript u)) = named-other fault (faults.Script u.turn u.kind) u.named refl
+untold-status m played turns fault (histories.OfOutcome (runs.OfTurns u)) = named-other fault (faults.Spent turns) u.named refl
 
 history-status : (module_bytes script_bytes : List ℕ) (turns : ℕ) (fault : Fault)
     → IsHistoryRefusal module_bytes script_bytes turns fault → IsOther (status_of fault)

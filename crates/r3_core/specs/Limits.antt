@@ -1,6 +1,6 @@
 -- The limits of the commands: the most bytes of each kind of file, and the greatest numbers after them.
 use Rattle.std.specs.Prelude.{ℕ}
-use Rattle.wasm_syntax.specs.declared.limits.TheConstants.{MOST_FILE_BYTES, MOST_TURNS}
+use Rattle.wasm_syntax.specs.declared.limits.TheConstants.{MOST_FILE_BYTES, MOST_TURNS, MOST_TURNS_TOLD}
 
 abbrev pub module_bytes : ℕ
 module_bytes = MOST_FILE_BYTES
@@ -20,9 +20,13 @@ trace_bytes = 268435456
 abbrev pub binary_bytes : ℕ
 binary_bytes = 536870912
 
--- of `make` and `history`
+-- of `make`
 abbrev pub most_turns : ℕ
 most_turns = MOST_TURNS
+
+-- of `history`
+abbrev pub most_turns_told : ℕ
+most_turns_told = MOST_TURNS_TOLD
 
 -- of `record` and `replay`
 abbrev pub most_record_turns : ℕ

@@ -5,7 +5,7 @@ use Rattle.std.specs.Option.{option_map_or}
 use Rattle.std.specs.Str.{bytes_eq}
 use Rattle.r3_core.specs.declared.words.Command.{Command}
 use Rattle.r3_core.specs.declared.words.Command.TheVariants.{Make, Instrument, Record, Reduce, Build, History, Replay, Show, Load}
-use Rattle.r3_core.specs.Limits.{module_bytes, script_bytes, hooked_bytes, trace_bytes, binary_bytes, most_turns, most_record_turns, most_load}
+use Rattle.r3_core.specs.Limits.{module_bytes, script_bytes, hooked_bytes, trace_bytes, binary_bytes, most_turns, most_turns_told, most_record_turns, most_load}
 
 -- a command's name, the limit of each of its files, and the greatest number where it takes one
 pub record Form : Type 0 where
@@ -19,7 +19,7 @@ form Instrument = record { name = codes "instrument"; limits = module_bytes ∷ 
 form Record = record { name = codes "record"; limits = hooked_bytes ∷ script_bytes ∷ []; most = Some most_record_turns }
 form Reduce = record { name = codes "reduce"; limits = trace_bytes ∷ []; most = None }
 form Build = record { name = codes "build"; limits = module_bytes ∷ script_bytes ∷ trace_bytes ∷ []; most = None }
-form History = record { name = codes "history"; limits = module_bytes ∷ script_bytes ∷ []; most = Some most_turns }
+form History = record { name = codes "history"; limits = module_bytes ∷ script_bytes ∷ []; most = Some most_turns_told }
 form Replay = record { name = codes "replay"; limits = binary_bytes ∷ []; most = Some most_record_turns }
 form Show = record { name = codes "show"; limits = trace_bytes ∷ []; most = None }
 form Load = record { name = codes "load"; limits = []; most = Some most_load }

@@ -1,6 +1,6 @@
 // The limits of the commands: the most bytes of each kind of file, and the greatest numbers after them.
 
-use wasm_syntax::limits::{MOST_FILE_BYTES, MOST_TURNS};
+use wasm_syntax::limits::{MOST_FILE_BYTES, MOST_TURNS, MOST_TURNS_TOLD};
 
 /// The most bytes of a module.
 pub(crate) const MODULE_BYTES: u64 = MOST_FILE_BYTES;
@@ -17,8 +17,11 @@ pub(crate) const TRACE_BYTES: u64 = 268_435_456;
 /// The most bytes of a module that `replay` takes, and of any file.
 pub(crate) const BINARY_BYTES: u64 = 536_870_912;
 
-/// The most turns of `make` and `history`.
+/// The most turns of `make`.
 pub(crate) const TURNS: u64 = MOST_TURNS;
+
+/// The most turns of `history`.
+pub(crate) const TOLD_TURNS: u64 = MOST_TURNS_TOLD;
 
 /// The most turns of `record` and `replay`.
 pub(crate) const RECORD_TURNS: u64 = 20_000_000;

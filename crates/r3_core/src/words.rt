@@ -4,8 +4,8 @@ ghost use Rattle.std.specs.Prelude.{◌≡◌, ℕ, Option, IfOk, IfErr, MatchOp
 ghost use Rattle.r3_core.specs.Words.{form, texts, command_of_name, is_built, IsNumber, IsAfterFiles, IsListed, Says};
 
 use crate::limits::{
-    BINARY_BYTES, HOOKED_BYTES, LOAD_NUMBER, MODULE_BYTES, RECORD_TURNS, SCRIPT_BYTES, TRACE_BYTES,
-    TURNS,
+    BINARY_BYTES, HOOKED_BYTES, LOAD_NUMBER, MODULE_BYTES, RECORD_TURNS, SCRIPT_BYTES, TOLD_TURNS,
+    TRACE_BYTES, TURNS,
 };
 use itoa::Buffer;
 use r3_faults::Fault;
@@ -63,7 +63,8 @@ impl Command {
         ensures { result ≡ (form self).most }
     {
         match self {
-            Command::Make | Command::History => Some(TURNS),
+            Command::Make => Some(TURNS),
+            Command::History => Some(TOLD_TURNS),
             Command::Record | Command::Replay => Some(RECORD_TURNS),
             Command::Load => Some(LOAD_NUMBER),
             Command::Instrument | Command::Reduce | Command::Build | Command::Show => None,

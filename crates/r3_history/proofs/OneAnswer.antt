@@ -1,8 +1,7 @@
 -- A run under a script has one answer.
-use Rattle.std.proofs.Common.{◌≡◌, ◌⊎◌, inl, inr, ℕ, List, true, false, Result, Ok, Err, IfOk, IfErr, sym, ◌∙◌, ap}
+use Rattle.std.proofs.Common.{◌≡◌, ◌⊎◌, inl, inr, ℕ, List, Result, Ok, Err, IfOk, IfErr, sym, ◌∙◌, ap}
 use Rattle.wasm_syntax.specs.declared.modules.Module.{Module}
 use Rattle.host_script.specs.declared.scripts.Script.{Script}
-use Rattle.script_text.specs.Plain.{is_flat}
 use Rattle.history_spec.specs.Step.{StepResult}
 use Rattle.history_spec.specs.Run.{Run, all_one, program_of, run_from}
 use Rattle.history_spec.specs.Budget.{HasOneResultAtMost}
@@ -10,27 +9,18 @@ use Rattle.history_spec.specs.Line.{history_text}
 use Rattle.r3_faults.specs.declared.faults.Fault.{Fault}
 use Rattle.r3_faults.specs.declared.faults.Fault.TheVariants.{Memory}
 use Rattle.accepted_runs.proofs.OneResult.{none-one, outcome-none, outcome-one, run-one, unlinked-one, unlinked-run, unlinked-started}
-use Rattle.r3_history.specs.Histories.{IsHistoryOf, IsUntold, OfLink, OfForm, OfOutcome}
-
-flat-calls : (script : Script) → is_flat script ≡ true → is_flat script ≡ false → ⊥
-flat-calls script e f = absurd (cc (sym e ∙ f))
+use Rattle.r3_history.specs.Histories.{IsHistoryOf, IsUntold, OfLink, OfOutcome}
 
 module _ (m : Module) (script : Script) (turns : ℕ) (one : (initial : StepResult) → HasOneResultAtMost (run_from (program_of m script) all_one initial) all_one turns) where
   untold-one : (f g : Fault) → IsUntold m script turns f → IsUntold m script turns g → f ≡ g
   untold-one f g (OfLink u) (OfLink v) = unlinked-one m script f g u v
-  untold-one f g (OfLink u) (OfForm v) = absurd (unlinked-started m script f v.initial u v.starts)
-  untold-one f g (OfLink u) (OfOutcome flat v) = absurd (unlinked-run m script turns f g u v)
-  untold-one f g (OfForm u) (OfLink v) = absurd (unlinked-started m script g u.initial v u.starts)
-  untold-one f g (OfForm u) (OfForm v) = u.named ∙ sym v.named
-  untold-one f g (OfForm u) (OfOutcome flat v) = absurd (flat-calls script flat u.calls)
-  untold-one f g (OfOutcome flat u) (OfLink v) = absurd (unlinked-run m script turns g f v u)
-  untold-one f g (OfOutcome flat u) (OfForm v) = absurd (flat-calls script flat v.calls)
-  untold-one f g (OfOutcome flat u) (OfOutcome other v) = none-one m script turns one f g u v
+  untold-one f g (OfLink u) (OfOutcome v) = absurd (unlinked-run m script turns f g u v)
+  untold-one f g (OfOutcome u) (OfLink v) = absurd (unlinked-run m script turns g f v u)
+  untold-one f g (OfOutcome u) (OfOutcome v) = none-one m script turns one f g u v
 
   told-untold : (text : List ℕ) (fault : Fault) → IsHistoryOf m script turns text → IsUntold m script turns fault → ⊥
   told-untold text fault h (OfLink u) = unlinked-started m script fault h.ends.initial u h.ends.starts
-  told-untold text fault h (OfForm u) = flat-calls script h.flat u.calls
-  told-untold text fault h (OfOutcome flat u) = outcome-none m script turns one h.run h.outcome fault h.ends u
+  told-untold text fault h (OfOutcome u) = outcome-none m script turns one h.run h.outcome fault h.ends u
 
   told-one : (x y : List ℕ) → IsHistoryOf m script turns x → IsHistoryOf m script turns y → x ≡ y
   told-one x y h i =

@@ -1,40 +1,28 @@
 -- The history that a module's run under a script has within a budget of turns, or why there is none.
-use Rattle.std.specs.Prelude.{◌≡◌, ℕ, List, Ok, true, false}
+use Rattle.std.specs.Prelude.{◌≡◌, ℕ, List}
 use Rattle.wasm_syntax.specs.declared.modules.Module.{Module}
 use Rattle.host_script.specs.declared.scripts.Script.{Script}
-use Rattle.script_text.specs.Plain.{is_flat}
 use Rattle.trace_model.specs.declared.outcomes.Outcome.{Outcome}
-use Rattle.history_spec.specs.Step.{StepResult}
-use Rattle.history_spec.specs.Run.{Run, run_start}
+use Rattle.history_spec.specs.Run.{Run}
 use Rattle.history_spec.specs.Line.{history_text}
 use Rattle.accepted_runs.specs.Unlinked.{IsUnlinkedFor}
 use Rattle.accepted_runs.specs.Runs.{HasOutcome, HasNoOutcome}
 use Rattle.r3_faults.specs.declared.faults.Fault.{Fault}
-use Rattle.r3_faults.specs.declared.faults.Fault.TheVariants.{NotBuilt}
 use Rattle.r3_inputs.specs.Inputs.{AreInputs, AreRefused}
 
 -- ---- the run of a module under a script
 
--- no response calls, the run is over within the turns by an outcome, and these are its lines
+-- the run is over within the turns by an outcome, and these are its lines
 pub record IsHistoryOf (m : Module) (script : Script) (turns : ℕ) (text : List ℕ) : Type 0 where
-  pub flat : is_flat script ≡ true
   pub run : Run
   pub outcome : Outcome
   pub ends : HasOutcome m script turns run outcome
   pub lines : text ≡ history_text run.history outcome
 
--- it links, and a response calls a function
-pub record HasCalls (m : Module) (script : Script) (fault : Fault) : Type 0 where
-  pub named : fault ≡ NotBuilt
-  pub initial : StepResult
-  pub starts : run_start m script ≡ Ok initial
-  pub calls : is_flat script ≡ false
-
--- why there is no history of it: it does not link, a response calls, or none does and the run has no outcome
+-- why there is no history of it: it does not link, or its run has no outcome
 pub data IsUntold (m : Module) (script : Script) (turns : ℕ) (fault : Fault) : Type 0 where
   OfLink : (unlinked : IsUnlinkedFor m script fault) → IsUntold m script turns fault
-  OfForm : (calls : HasCalls m script fault) → IsUntold m script turns fault
-  OfOutcome : (flat : is_flat script ≡ true) (none : HasNoOutcome m script turns fault) → IsUntold m script turns fault
+  OfOutcome : (none : HasNoOutcome m script turns fault) → IsUntold m script turns fault
 
 -- ---- the bytes of a module and of a script
 

@@ -17,9 +17,8 @@ use std::alloc::Global;
 /// # Errors
 ///
 /// The fault names why there are none: the module or the script is refused, the module does not
-/// link, a response calls (`NotBuilt`), the host cannot do what the script says, or the run needs
-/// more turns. Each comes exactly where it stands and none before it does. `Memory` comes where memory
-/// is out.
+/// link, the host cannot do what the script says, or the run needs more turns. Each comes exactly
+/// where it stands and none before it does. `Memory` comes where memory is out.
 pub fn history(alloc: Global, module: &[u8], script: &[u8], turns: u64) -> Result<Vec<u8>, Fault>
     requires { length «module».now ≤ MOST_FILE_BYTES }
     ensures cause { IfErr result (λ fault. (fault ≡ Memory) ⊎ IsHistoryRefusal «module».now script.now turns fault) }

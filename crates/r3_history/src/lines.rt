@@ -11,7 +11,6 @@ use accepted_runs::{start_store, told_run};
 use history_spec::runs_have_one_result_at_most;
 use host_script::Script;
 use r3_faults::Fault;
-use script_text::is_flat;
 use std::alloc::Global;
 use wasm_validate::Checked;
 
@@ -43,9 +42,6 @@ fn lines_of(alloc: Global, checked: &Checked, script: &Script, turns: u64) -> Re
     ensures printed { IfOk result (λ bytes. IsHistoryOf checked.now script.now turns bytes.items) }
 {
     let store = start_store(alloc, checked, script)?;
-    if !is_flat(script) {
-        return Err(Fault::NotBuilt);
-    }
     let told = told_run(alloc, checked, script, store, turns)?;
     Ok(told.text.into_vec())
 }

@@ -1,6 +1,7 @@
 -- What a run that is played says of the answers and calls that are read from its script.
 use Rattle.std.proofs.Common.{◌≡◌, ℕ, suc, ◌+◌, ◌≤◌, List, [], ◌∷◌, length, map, take, replicate, None, Ok, refl, sym, ◌∙◌, ap, subst, arith}
 use Rattle.std.specs.List.{AllZip}
+use Rattle.wasm_syntax.specs.declared.limits.TheConstants.{MOST_TURNS}
 use Rattle.wasm_syntax.specs.declared.values.Val.{Val}
 use Rattle.wasm_syntax.specs.declared.modules.Module.{Module}
 use Rattle.wasm_syntax.specs.Index.{func_import, imported_funcs, of_kind}
@@ -40,7 +41,7 @@ begins-without m script store code none =
     ∙ none (program_of m script) store (replicate (program_of m script).code.imported 0) script.main
 
 pub of-run : (m : Module) (script : Script) (turns : ℕ) (initial : StepResult) (played : Played) (table : List (List Val)) (calls : List ℕ)
-    → IsBuilt m script → turns ≤ 2000000 → run_start m script ≡ Ok initial → PlaysRun (program_of m script) initial turns played
+    → IsBuilt m script → turns ≤ MOST_TURNS → run_start m script ≡ Ok initial → PlaysRun (program_of m script) initial turns played
     → ((steps : ℕ) (outcome : Outcome) → (run_from (program_of m script) all_one initial steps).at ≡ Finished outcome → FollowsScript script (run_from (program_of m script) all_one initial steps).history)
     → ((steps : ℕ) → all_calls (run_from (program_of m script) all_one initial steps).history ≤ all_calls initial.entries + (run_from (program_of m script) all_one initial steps).turns)
     → all_calls initial.entries ≡ 0
@@ -58,7 +59,6 @@ of-run m script turns initial played table calls built few starts plays follows 
     host_agrees run.history,
     ap (λ (l : List ℕ). length l) uses.made,
   );
-  within = some;
 }
   where
     run : Run
@@ -79,7 +79,7 @@ of-run m script turns initial played table calls built few starts plays follows 
       plays.within.in_budget,
     )
 
-    within : all_calls run.history ≤ 2000000
+    within : all_calls run.history ≤ MOST_TURNS
     within = omega (arith, some, few)
 
     uses : Uses run.history table calls

@@ -5,6 +5,7 @@ use Rattle.std.proofs.Math.Seq.{take-nil}
 use Rattle.std.proofs.lemmas.Bool.{cases_lt}
 use Rattle.std.proofs.lemmas.List.{get_or_past, length-map}
 use Rattle.std.proofs.lemmas.List.Elements.{All-head, All-tail}
+use Rattle.wasm_syntax.specs.declared.limits.TheConstants.{MOST_TURNS}
 use Rattle.wasm_syntax.specs.declared.values.Val.{Val}
 use Rattle.host_script.specs.declared.scripts.Script.{Script}
 use Rattle.host_script.specs.declared.scripts.Action.{Action}
@@ -75,12 +76,12 @@ first-calls [] rest = refl
 first-calls (func ∷ calls) rest = ap (λ l. calling func ∷ l) (first-calls calls rest)
 
 -- a count that 64 bits hold is kept
-kept-same : (n m : ℕ) → n ≤ m → m ≤ 2000000 → kept n ≡ n
+kept-same : (n m : ℕ) → n ≤ m → m ≤ MOST_TURNS → kept n ≡ n
 kept-same n m less few = omega arith
 
 -- ---- what the run has
 
-module _ (script : Script) (history : List Entry) (plain : All (λ answer. IfSome answer IsPlainAnswer) script.imports) (own : FollowsScript script history) (few : all_calls history ≤ 2000000) where
+module _ (script : Script) (history : List Entry) (plain : All (λ answer. IfSome answer IsPlainAnswer) script.imports) (own : FollowsScript script history) (few : all_calls history ≤ MOST_TURNS) where
   -- the values of an import, as many as its calls, are the answers that the run has
   run-row : (import : ℕ) → take (import_calls import history) (values_of (map values_in script.imports) import) ≡ answers_in import history
   run-row import =

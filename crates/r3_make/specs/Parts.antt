@@ -1,5 +1,5 @@
 -- The answers and calls that a plain script has, and those of them that its run takes.
-use Rattle.std.specs.Prelude.{ℕ, ◌+◌, ◌≤◌, List, [], ◌∷◌, length, map, sum_by, take, Option, Some, None}
+use Rattle.std.specs.Prelude.{◌≡◌, ℕ, ◌+◌, List, [], ◌∷◌, length, map, sum_by, take, Option, Some, None}
 use Rattle.wasm_syntax.specs.declared.values.Val.{Val}
 use Rattle.wasm_syntax.specs.declared.modules.Module.{Module}
 use Rattle.host_script.specs.declared.scripts.ResponseEnd.{ResponseEnd}
@@ -31,12 +31,11 @@ first_values [] answers = []
 first_values (count ∷ counts) [] = []
 first_values (count ∷ counts) (answer ∷ answers) = take count (values_in answer) ∷ first_values counts answers
 
--- the run has an outcome within the turns; these are its answers and its host's calls, no more than its history has
--- calls, and those no more than the turns
+-- the run has an outcome within the turns; these are its answers and its host's calls, as many as its history has
+-- calls
 pub record AreOfRun (m : Module) (script : Script) (turns : ℕ) (table : List (List Val)) (calls : List ℕ) : Type 0 where
   pub run : Run
   pub outcome : Outcome
   pub ends : HasOutcome m script turns run outcome
   pub uses : Uses run.history table calls
-  pub counted : sum_by length table + length calls ≤ all_calls run.history
-  pub within : all_calls run.history ≤ turns
+  pub counted : sum_by length table + length calls ≡ all_calls run.history

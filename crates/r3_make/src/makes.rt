@@ -13,14 +13,15 @@ use r3_faults::Fault;
 use std::alloc::Global;
 
 /// Makes the replay module of the run of a module with a script, within a number of turns, in its binary
-/// format. The module has at most 8,388,608 bytes, and the turns are at most 2,000,000.
+/// format. The module has at most 8,388,608 bytes, and the turns are at most 1,000,000,000.
 ///
 /// # Errors
 ///
 /// The fault names why there is none: the module or the script is refused, the module does not link,
 /// one of the two has another form than those that are built (`NotBuilt`), the host cannot do what
-/// the script says, or the run needs more turns. Each comes exactly where it stands and none before it
-/// does. `Memory` comes where memory is out.
+/// the script says, the run needs more turns, or it has more than 2,000,000 calls of imports and by the
+/// host (`NotBuilt`). Each comes exactly where it stands and none before it does. `Memory` comes where
+/// memory is out.
 pub fn make(alloc: Global, module: &[u8], script: &[u8], turns: u64) -> Result<Vec<u8>, Fault>
     requires small { length «module».now ≤ MOST_FILE_BYTES }
     requires few { turns ≤ MOST_TURNS }

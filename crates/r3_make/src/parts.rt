@@ -1,6 +1,7 @@
 // The answers and the calls of a plain script that its run takes.
 
-ghost use Rattle.std.specs.Prelude.{◌≡◌, IfOk, IfSome, All, length, map, take};
+ghost use Rattle.std.specs.Prelude.{◌≡◌, ◌+◌, nat_le, sum_by, IfOk, IfSome, All, length, map, take};
+ghost use Rattle.r3_make.specs.declared.parts.TheConstants.{MOST_CALLS};
 ghost use Rattle.wasm_syntax.specs.declared.modules.Module.{Module};
 ghost use Rattle.history_spec.specs.Code.{i32_value};
 ghost use Rattle.plain_maker.specs.Parts.{table_of};
@@ -10,6 +11,9 @@ ghost use Rattle.r3_make.specs.Parts.{first_values, values_in};
 
 use host_script::{Action, Answer, ResponseEnd, Script};
 use std::alloc::{AllocError, Global};
+
+/// The most calls of imports and by the host that a run may have for its replay module to be made.
+pub const MOST_CALLS: u32 = 2_000_000;
 
 /// The numbers that calls of each import are answered by, and the functions that the host calls by
 /// itself, both in order.
@@ -37,6 +41,34 @@ pub(crate) fn parts_of(
         answers: answers_of(alloc, script, imports)?,
         calls: calls_of(alloc, script, calls)?,
     })
+}
+
+impl Parts {
+    /// Whether these are at most as many as are replayed.
+    pub(crate) fn are_few(&self) -> bool
+        ensures { let parts = sum_by length (table_of self.now.answers.items) + length self.now.calls.items
+            in result ≡ nat_le parts MOST_CALLS }
+    {
+        let most = MOST_CALLS as usize;
+        if self.calls.len() > most {
+            return false;
+        }
+        fits(self.answers.as_slice(), most - self.calls.len())
+    }
+}
+
+/// Whether there are at most `most` answers.
+fn fits(answers: &[Vec<u32>], most: usize) -> bool
+    ensures { result ≡ nat_le (sum_by length (table_of answers.now)) most }
+{
+    let mut left = most;
+    'answers: for numbers in answers {
+        if numbers.len() > left {
+            return false;
+        }
+        left -= numbers.len();
+    }
+    true
 }
 
 /// The numbers that the first calls of each import are answered by, in order.

@@ -1,6 +1,6 @@
 // The replay module of a run, in its binary format.
 
-ghost use Rattle.std.specs.Prelude.{◌≡◌, ◌≤◌, ◌⊎◌, ℕ, Err, IfErr, IfOk, OnOk, length};
+ghost use Rattle.std.specs.Prelude.{◌≡◌, ◌+◌, ◌≤◌, ◌⊎◌, ℕ, Err, IfErr, IfOk, OnOk, length, sum_by};
 ghost use Rattle.wasm_syntax.specs.declared.limits.TheConstants.{MOST_FILE_BYTES, MOST_TURNS};
 ghost use Rattle.wasm_syntax.specs.declared.forms.Form.TheVariants.{Core};
 ghost use Rattle.wasm_syntax.specs.Encoding.Modules.{Encodes};
@@ -13,6 +13,7 @@ ghost use Rattle.r3_faults.specs.declared.faults.Fault.{Fault};
 ghost use Rattle.r3_faults.specs.declared.faults.Fault.TheVariants.{Memory};
 ghost use Rattle.r3_make.specs.Parts.{AreOfRun};
 ghost use Rattle.r3_make.specs.Printed.{IsReplayFor};
+ghost use Rattle.r3_make.specs.declared.parts.TheConstants.{MOST_CALLS};
 ghost use Rattle.r3_make.specs.Refusals.{IsBuilt, IsReplayable, IsUnmade};
 
 use crate::parts::{Parts, parts_of};
@@ -90,6 +91,8 @@ fn used_parts(alloc: Global, checked: &Checked, script: &Script, turns: u64) -> 
     ensures built { OnOk result (IsBuilt checked.now script.now) }
     ensures used { IfOk result (λ used.
         AreOfRun checked.now script.now turns (table_of used.answers.items) used.calls.items) }
+    ensures few { IfOk result (λ used.
+        sum_by length (table_of used.answers.items) + length used.calls.items ≤ MOST_CALLS) }
 {
     let store = start_store(alloc, checked, script)?;
     if !is_integer_code(checked.module()) || !is_plain(checked.module(), script) {
@@ -114,11 +117,16 @@ fn used_in_run(
     ensures built { OnOk result (IsBuilt checked.now script.now) }
     ensures used { IfOk result (λ used.
         AreOfRun checked.now script.now turns (table_of used.answers.items) used.calls.items) }
+    ensures few { IfOk result (λ used.
+        sum_by length (table_of used.answers.items) + length used.calls.items ≤ MOST_CALLS) }
 {
     plain_runs_follow_scripts();
     calls_take_turns();
     let run = played_run(alloc, checked, script, store, turns)?;
     let parts = parts_of(alloc, script, run.imports.as_slice(), run.calls)?;
+    if !parts.are_few() {
+        return Err(Fault::NotBuilt);
+    }
     Ok(parts)
 }
 
@@ -136,8 +144,8 @@ fn replay_bytes(
     requires within { HasListsWithin (length bytes.now) «module» }
     requires valid { IsValid «module» }
     requires built { IsBuilt «module» script.now }
-    requires used { (turns : ℕ) × (turns ≤ MOST_TURNS)
-        × AreOfRun «module» script.now turns (table_of answers.now) calls.now }
+    requires used { (turns : ℕ) × AreOfRun «module» script.now turns (table_of answers.now) calls.now }
+    requires few { sum_by length (table_of answers.now) + length calls.now ≤ MOST_CALLS }
     ensures cause { IfErr result (λ fault. fault ≡ Memory) }
     ensures printed { IfOk result (λ printed.
         (turns : ℕ) → AreOfRun «module» script.now turns (table_of answers.now) calls.now

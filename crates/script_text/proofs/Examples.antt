@@ -1,5 +1,5 @@
 -- Scripts and their faults, computed from the definitions.
-use Rattle.std.proofs.Common.{◌≡◌, ℕ, List, [], ◌∷◌, None, Err, codes, refl}
+use Rattle.std.proofs.Common.{◌≡◌, ℕ, List, [], ◌∷◌, None, Ok, Err, codes, refl}
 use Rattle.std.specs.Bool.{⊤}
 use Rattle.serde_json.proofs.OnLiterals.{serde_json_on_literals}
 use Rattle.hex.proofs.OnLiterals.{hex_on_literals}
@@ -8,18 +8,19 @@ use Rattle.std.specs.Fmt.{digits}
 use Rattle.wasm_syntax.specs.declared.values.ValType.TheVariants.{I32}
 use Rattle.wasm_syntax.specs.declared.instructions.Instr.TheVariants.{End, Call, Numeric}
 use Rattle.wasm_syntax.specs.declared.modules.ImportKind.TheVariants.{Func}
-use Rattle.wasm_syntax.specs.declared.modules.ExportKind.TheVariants.{Func as ExportFunc}
+use Rattle.wasm_syntax.specs.declared.modules.ExportKind.TheVariants.{Func as ExportFunc, Table as ExportTable}
 use Rattle.wasm_syntax.specs.declared.modules.Module.{Module}
+use Rattle.host_script.specs.declared.scripts.Action.TheVariants.{GrowTable}
 use Rattle.script_text.specs.declared.faults.ScriptFault.{ScriptFault}
 use Rattle.script_text.specs.declared.faults.ScriptFault.TheVariants.{Shape, UnknownName, WrongType, NoAccess, CallsOwn, NotJson}
 use Rattle.script_text.specs.Walk.{items_from}
 use Rattle.script_text.specs.Values.{value_of}
-use Rattle.script_text.specs.Actions.{address_of, fits_address, memory_access, table_access, write_of, copy_of, func_named, entry_named, set_table_of, target_of, global_at, fits_global, set_global_of, grow_of, is_defined, fits_params, call_of, call_table_of, action_of}
+use Rattle.script_text.specs.Actions.{address_of, fits_address, memory_access, table_access, write_of, copy_of, func_named, entry_named, set_table_of, target_of, global_at, fits_global, set_global_of, grow_of, grow_table_of, is_defined, fits_params, call_of, call_table_of, action_of}
 use Rattle.script_text.specs.Texts.{fits_results, trap_of, return_of, end_of, response_of, answer_of, each_name, script_of, script_of_text}
 
 -- what is unfolded to compute what a text means
 unfoldable script_on_literals : ⊤
-unfolding serde_json_on_literals hex_on_literals is_utf8 chars digits items_from value_of address_of fits_address memory_access table_access write_of copy_of func_named entry_named set_table_of target_of global_at fits_global set_global_of grow_of is_defined fits_params call_of call_table_of action_of fits_results trap_of return_of end_of response_of answer_of each_name script_of
+unfolding serde_json_on_literals hex_on_literals is_utf8 chars digits items_from value_of address_of fits_address memory_access table_access write_of copy_of func_named entry_named set_table_of target_of global_at fits_global set_global_of grow_of grow_table_of is_defined fits_params call_of call_table_of action_of fits_results trap_of return_of end_of response_of answer_of each_name script_of
 script_on_literals = tt
 
 -- it calls the one import twice and adds the answers
@@ -61,6 +62,16 @@ wrong_arguments = refl
 no_memory : fault_of_two_answers (codes "{\"main\":[{\"write\":0,\"bytes\":\"00\"}]}") (NoAccess (codes "memory"))
 unfolding script_on_literals
 no_memory = refl
+
+no_table : fault_of_two_answers (codes "{\"main\":[{\"grow_table\":0}]}") (NoAccess (codes "table"))
+unfolding script_on_literals
+no_table = refl
+
+-- the table is exported
+grows_table : script_of_text (record two_answers { tables = record { min = 1; max = None } ∷ []; exports = record { name = codes "t"; kind = ExportTable 0 } ∷ [] })
+    (codes "{\"main\":[{\"grow_table\":4294967295}]}") ≡ Ok (record { memory = None; table = None; globals = []; imports = None ∷ []; main = GrowTable 4294967295 ∷ [] })
+unfolding script_on_literals
+grows_table = refl
 
 -- the export names the import
 calls_own : script_of_text (record two_answers { exports = record { name = codes "g"; kind = ExportFunc 0 } ∷ [] }) (codes "{\"main\":[{\"call\":\"g\"}]}") ≡ Err (CallsOwn (codes "g"))

@@ -20,7 +20,7 @@ use Rattle.serde_json.specs.Find.{get, as_array, as_object}
 use Rattle.script_text.specs.declared.faults.ScriptFault.{ScriptFault}
 use Rattle.script_text.specs.declared.faults.ScriptFault.TheVariants.{Shape, UnknownName, WrongType, NoAccess, CallsOwn}
 use Rattle.script_text.specs.declared.leads.Lead.{Lead}
-use Rattle.script_text.specs.declared.leads.Lead.TheVariants.{Write, Copy, SetTable, SetGlobal, Grow, Call, CallTable}
+use Rattle.script_text.specs.declared.leads.Lead.TheVariants.{Write, Copy, SetTable, SetGlobal, Grow, GrowTable, Call, CallTable}
 use Rattle.script_text.specs.Walk.{◌>>=◌, below, only, under, under_or, list_of}
 use Rattle.script_text.specs.Values.{u32_of, value_of, values_under, text_of, text_or_null, bytes_of}
 use Rattle.module_names.specs.Names.{imports_from, imported_global, exported_func, exported_global, reaches_memory, reaches_table}
@@ -190,12 +190,20 @@ set_global_of m d = do
   _ ← fits_global m global (name_of target) value
   Ok (actions.SetGlobal global value)
 
+-- growth of the memory, and of the table
 unfoldable pub grow_of : Module → Data → Result Action ScriptFault
 grow_of m d = do
   _ ← only (codes "grow" ∷ []) d
   pages ← under (codes "grow") u32_of d
   _ ← memory_access m
   Ok (actions.Grow pages)
+
+unfoldable pub grow_table_of : Module → Data → Result Action ScriptFault
+grow_table_of m d = do
+  _ ← only (codes "grow_table" ∷ []) d
+  entries ← under (codes "grow_table") u32_of d
+  _ ← table_access m
+  Ok (actions.GrowTable entries)
 
 -- a function that the module defines
 unfoldable pub is_defined : Module → ℕ → List ℕ → Result ⊤ ScriptFault
@@ -236,11 +244,12 @@ key_of Copy = codes "copy"
 key_of SetTable = codes "set_table"
 key_of SetGlobal = codes "set_global"
 key_of Grow = codes "grow"
+key_of GrowTable = codes "grow_table"
 key_of Call = codes "call"
 key_of CallTable = codes "call_table"
 
 abbrev pub all_leads : List Lead
-all_leads = Write ∷ Copy ∷ SetTable ∷ SetGlobal ∷ Grow ∷ Call ∷ CallTable ∷ []
+all_leads = Write ∷ Copy ∷ SetTable ∷ SetGlobal ∷ Grow ∷ GrowTable ∷ Call ∷ CallTable ∷ []
 
 abbrev pub leads_in : Data → List Lead
 leads_in d = filter (λ lead. is_some (get (key_of lead) d)) all_leads
@@ -251,6 +260,7 @@ action_with m place Copy d = copy_of m place d
 action_with m place SetTable d = set_table_of m d
 action_with m place SetGlobal d = set_global_of m d
 action_with m place Grow d = grow_of m d
+action_with m place GrowTable d = grow_table_of m d
 action_with m place Call d = call_of m d
 action_with m place CallTable d = call_table_of m d
 

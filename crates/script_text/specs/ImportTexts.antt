@@ -1,5 +1,5 @@
 -- What is looked at under the names of imports, by what stands there, as code says it.
-use Rattle.std.specs.Prelude.{List, ℕ, Bool, Option, Result, Err, if◌then◌else◌, ⊤}
+use Rattle.std.specs.Prelude.{List, ℕ, Bool, Result, Err, if◌then◌else◌, ⊤}
 use Rattle.wasm_syntax.specs.declared.modules.Module.{Module}
 use Rattle.wasm_syntax.specs.Index.{func_import, global_import}
 use Rattle.serde_json.specs.Data.{Data}

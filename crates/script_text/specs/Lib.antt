@@ -5,4 +5,3 @@ pub mod Places
 pub mod Texts
 pub mod ImportTexts
 pub mod CommonTypes
-pub mod Plain

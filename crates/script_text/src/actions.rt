@@ -4,7 +4,7 @@ ghost use Rattle.std.specs.Prelude.{◌≡◌, ◌≤◌, option_map, OnOk};
 ghost use Rattle.serde_json.specs.View.{view};
 ghost use Rattle.wasm_syntax.specs.Index.{imported_funcs};
 ghost use Rattle.script_text.specs.Walk.{Gives};
-ghost use Rattle.script_text.specs.Actions.{access_to as access_where, memory_access as memory_reached, table_access as table_reached, write_of, copy_of, func_named as func_under, entry_named as entry_under, set_table_of, grow_of, is_defined as defined_func, fits_params as fitting_params, call_of, call_table_of};
+ghost use Rattle.script_text.specs.Actions.{access_to as access_where, memory_access as memory_reached, table_access as table_reached, write_of, copy_of, func_named as func_under, entry_named as entry_under, set_table_of, grow_of, grow_table_of, is_defined as defined_func, fits_params as fitting_params, call_of, call_table_of};
 ghost use Rattle.script_text.specs.Places.{place_of};
 
 use crate::faults::ScriptFault;
@@ -135,6 +135,20 @@ pub(crate) fn read_grow(
     let pages = u32_under(alloc, value, "grow")?;
     memory_access(alloc, names)?;
     Ok(Action::Grow { pages })
+}
+
+#[tactic(auto, unfolding(crate::specs::Actions::grow_table_of))]
+pub(crate) fn read_grow_table(
+    alloc: Global,
+    names: &ModuleNames<'_>,
+    value: &Value,
+) -> Result<Action, ScriptFault>
+    ensures { Gives (λ a. a) result (grow_table_of names.now (view value.now)) }
+{
+    only(alloc, value, &["grow_table"])?;
+    let entries = u32_under(alloc, value, "grow_table")?;
+    table_access(alloc, names)?;
+    Ok(Action::GrowTable { entries })
 }
 
 /// Tests that a function is none of the imports.

@@ -6,7 +6,8 @@ ghost use Rattle.script_text.specs.Actions.{takes_i32 as type_takes_i32};
 ghost use Rattle.script_text.specs.Texts.{returns as type_returns};
 ghost use Rattle.script_text.specs.CommonTypes.{params_of_first, value_of_types as value_of_few, HoldsFlags, HoldsReturns};
 
-use crate::types::{are_of_types, is_type};
+use crate::types::are_of_types;
+use host_script::is_type;
 use no_memory::NoMemory;
 use std::alloc::Global;
 use std::marker::Model;

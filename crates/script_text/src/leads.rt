@@ -8,6 +8,7 @@ pub enum Lead {
     SetTable,
     SetGlobal,
     Grow,
+    GrowTable,
     Call,
     CallTable,
 }

@@ -10,7 +10,7 @@ ghost use Rattle.module_names.specs.Names.{func_types_named};
 ghost use Rattle.script_text.specs.Texts.{fits_results as fitting_results, trap_of, return_of, end_of, response_of, answer_of};
 
 use crate::actions::{
-    read_call, read_call_table, read_copy, read_grow, read_set_table, read_write,
+    read_call, read_call_table, read_copy, read_grow, read_grow_table, read_set_table, read_write,
 };
 use crate::common_types::CommonTypes;
 use crate::faults::ScriptFault;
@@ -42,6 +42,7 @@ fn read_with<'a>(
         Lead::SetTable => read_set_table(alloc, names, value),
         Lead::SetGlobal => read_set_global(alloc, names, value),
         Lead::Grow => read_grow(alloc, names, value),
+        Lead::GrowTable => read_grow_table(alloc, names, value),
         Lead::Call => read_call(alloc, names, value),
         Lead::CallTable => read_call_table(alloc, names, value),
     }
@@ -57,18 +58,20 @@ fn key_text(lead: Lead) -> &'static str
         Lead::SetTable => "set_table",
         Lead::SetGlobal => "set_global",
         Lead::Grow => "grow",
+        Lead::GrowTable => "grow_table",
         Lead::Call => "call",
         Lead::CallTable => "call_table",
     }
 }
 
 /// Every lead key.
-const LEADS: [Lead; 7] = [
+const LEADS: [Lead; 8] = [
     Lead::Write,
     Lead::Copy,
     Lead::SetTable,
     Lead::SetGlobal,
     Lead::Grow,
+    Lead::GrowTable,
     Lead::Call,
     Lead::CallTable,
 ];

@@ -1,23 +1,10 @@
 // Tests of value types.
 
 ghost use Rattle.std.specs.Prelude.{◌≡◌, map};
-ghost use Rattle.wasm_syntax.specs.Alike.{same_type as alike, same_types};
+ghost use Rattle.wasm_syntax.specs.Alike.{same_types};
 
+use host_script::is_type;
 use wasm_syntax::{Val, ValType};
-
-/// Whether two types are one.
-pub(crate) fn is_type(a: ValType, b: ValType) -> bool
-    ensures { result ≡ alike a b }
-{
-    match (a, b) {
-        (ValType::I32, ValType::I32) => true,
-        (ValType::I64, ValType::I64) => true,
-        (ValType::F32, ValType::F32) => true,
-        (ValType::F64, ValType::F64) => true,
-        (ValType::FuncRef, ValType::FuncRef) => true,
-        _ => false,
-    }
-}
 
 /// Whether values are of these types.
 pub(crate) fn are_of_types(values: &[Val], types: &[ValType]) -> bool

@@ -5,4 +5,6 @@
 #[cfg(test)]
 mod both_ways;
 #[cfg(test)]
+mod core_2_rows;
+#[cfg(test)]
 mod rows;

@@ -15,11 +15,11 @@ use Rattle.wasm_syntax.specs.Index.{imported_funcs, all_tables, all_memories, al
 use Rattle.host_script.specs.declared.scripts.Address.{Address}
 use Rattle.host_script.specs.declared.scripts.Address.TheVariants.{Fixed, Arg}
 use Rattle.host_script.specs.declared.scripts.Action.{Action}
-use Rattle.host_script.specs.declared.scripts.Action.TheVariants.{Write, Copy, SetTable, SetGlobal, Grow, Call, CallTable}
+use Rattle.host_script.specs.declared.scripts.Action.TheVariants.{Write, Copy, SetTable, SetGlobal, Grow, GrowTable, Call, CallTable}
 use Rattle.host_script.specs.Fits.{AreConstants, FitsAddress, FitsAction}
 use Rattle.history_spec.specs.declared.entries.FaultKind.{FaultKind}
 use Rattle.history_spec.specs.declared.entries.FaultKind.TheVariants.{Outside, TableOutside, GrowRefused}
-use Rattle.history_spec.specs.Store.{Store, Memory, Table, grown_memory, bytes_at, with_bytes_at, with_entry, with_memory, with_table, with_global}
+use Rattle.history_spec.specs.Store.{Store, Memory, Table, grown_memory, grown_table, bytes_at, with_bytes_at, with_entry, with_memory, with_table, with_global}
 use Rattle.history_spec.specs.Code.{code_of, signature, types_of}
 use Rattle.history_spec.specs.Action.{ActionResult, Changes, Enters, on, or_fault, if_fits, address_of, with_new_bytes, calls_defined, calls_entry, perform}
 use Rattle.type_safety.specs.Values.{IsValue, AreValues}
@@ -27,8 +27,8 @@ use Rattle.type_safety.specs.Stores.{func_count, global_types, IsStore}
 use Rattle.type_safety.specs.Results.{IsActionResult}
 use Rattle.type_safety.proofs.Values.{value_at, set_value}
 use Rattle.type_safety.proofs.Constants.{constant_value, constants_values}
-use Rattle.type_safety.proofs.Memories.{memory_there, bytes_at_fits, written_fits, memory_written, memory_grown}
-use Rattle.type_safety.proofs.Tables.{table_there, entry_set_fits}
+use Rattle.type_safety.proofs.Memories.{memory_there, bytes_at_fits, store_written, memory_grown}
+use Rattle.type_safety.proofs.Tables.{table_there, entry_set_fits, table_grown}
 
 on_acted : {X : Type 0} (m : Module) (o : Option X) (x : X) (go : X → ActionResult) → o ≡ Some x
     → IsActionResult m (go x) → IsActionResult m (on o go)
@@ -91,15 +91,7 @@ module _ (m : Module)
       (λ a. or_fault Outside (with_bytes_at there.memory.bytes a bytes) (with_new_bytes store there.memory))
       address.1
       (or_acted m Outside (with_bytes_at there.memory.bytes address.0 bytes) (with_new_bytes store there.memory)
-      (λ new is. let f = written_fits there.memory.bytes address.0 bytes new there.good.bytes fits.2 is in
-      record {
-        memory =
-            there.change (record there.memory { bytes = new })
-            (λ l good. memory_written l there.memory new good f.0 f.1);
-        table = is_store.table;
-        globals =
-            is_store.globals;
-      })))
+      (λ new is. store_written m store is_store there address.0 bytes new fits.2 is)))
   act_fine (Copy to source count) fits =
       let there = memory_there (all_memories m) store.memory (there_first (all_memories m) fits.0) is_store.memory in
       let address = address_there (func_count m) params args to values fits.1 in
@@ -114,15 +106,7 @@ module _ (m : Module)
       (or_acted m Outside (bytes_at there.memory.bytes from.0 count) (last there.memory address.0)
       (λ bytes read. let b = bytes_at_fits there.memory.bytes from.0 count bytes there.good.bytes read in
       or_acted m Outside (with_bytes_at there.memory.bytes address.0 bytes) (with_new_bytes store there.memory)
-      (λ new is. let f = written_fits there.memory.bytes address.0 bytes new there.good.bytes b.0 is in
-      record {
-        memory =
-            there.change (record there.memory { bytes = new })
-            (λ l good. memory_written l there.memory new good f.0 f.1);
-        table = is_store.table;
-        globals =
-            is_store.globals;
-      })))))
+      (λ new is. store_written m store is_store there address.0 bytes new b.0 is)))))
   act_fine (SetTable index func) fits =
       let there = table_there (func_count m) (all_tables m) store.table (there_first (all_tables m) fits.0)
       is_store.table in
@@ -162,6 +146,17 @@ module _ (m : Module)
       (λ new is. record {
         memory = there.change new (λ l good. memory_grown l there.memory by new good is);
         table = is_store.table;
+        globals = is_store.globals;
+      }))
+  act_fine (GrowTable by) fits =
+      let there = table_there (func_count m) (all_tables m) store.table (there_first (all_tables m) fits)
+      is_store.table in
+      let go = λ (larger : Table). Changes (with_table store larger) in
+      on_acted m store.table there.table (λ table. or_fault GrowRefused (grown_table table by None) go) there.is
+      (or_acted m GrowRefused (grown_table there.table by None) go
+      (λ new is. record {
+        memory = is_store.memory;
+        table = there.change new (λ l good. table_grown (func_count m) l there.table by None new good tt is);
         globals = is_store.globals;
       }))
   act_fine (Call func given) fits = (

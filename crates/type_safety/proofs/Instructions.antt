@@ -1,6 +1,6 @@
 -- Each instruction of a well-typed activation has a rule, and leads to what is well typed.
-use Rattle.std.proofs.Common.{◌≡◌, ℕ, suc, zero, ◌+◌, ◌<◌, ◌≤◌, List, [], ◌∷◌, ◌++◌, length, Option, Some, None, Bool, true, false, slice_get, option_map, refl, sym, ap, ◌∙◌, subst, arith}
-use Rattle.std.specs.Prelude.{nat_lt, nat_eq, is_some, reverse, take, IfSome, slice_set, slice_index_or}
+use Rattle.std.proofs.Common.{◌≡◌, ℕ, suc, zero, ◌<◌, ◌≤◌, List, [], ◌∷◌, ◌++◌, length, Option, Some, None, Bool, true, false, slice_get, option_map, refl, sym, ap, ◌∙◌, subst, arith}
+use Rattle.std.specs.Prelude.{nat_lt, nat_eq, reverse, take, IfSome, slice_set, slice_index_or}
 use Rattle.std.specs.List.{list_any}
 use Rattle.std.proofs.lemmas.Bool.{ltb-true}
 use Rattle.std.proofs.lemmas.List.{reverse-append, take_at}
@@ -14,29 +14,30 @@ use Rattle.wasm_syntax.specs.declared.values.Val.{Val}
 use Rattle.wasm_syntax.specs.declared.signatures.FuncType.{FuncType}
 use Rattle.wasm_syntax.specs.declared.signatures.Limits.{Limits}
 use Rattle.wasm_syntax.specs.declared.instructions.Instr.{Instr}
-use Rattle.wasm_syntax.specs.declared.instructions.Instr.TheVariants.{Unreachable, Nop, Br, BrIf, BrTable, Return, Call, CallIndirect, Drop, Select, LocalGet, LocalSet, LocalTee, GlobalGet, GlobalSet, Load, Store as StoreTo, MemorySize, MemoryGrow, Const, Numeric, RefNull, RefFunc, TableSet}
+use Rattle.wasm_syntax.specs.declared.instructions.Instr.TheVariants.{Unreachable, Nop, Br, BrIf, BrTable, Return, Call, CallIndirect, Drop, Select, LocalGet, LocalSet, LocalTee, GlobalGet, GlobalSet, Load, Store as StoreTo, MemorySize, MemoryGrow, MemoryCopy, MemoryFill, Const, Numeric, RefNull, RefFunc, TableSet, TableGrow, TableSize}
 use Rattle.wasm_syntax.specs.Alike.{same_signature}
 use Rattle.wasm_syntax.specs.Index.{all_tables, all_globals}
 use Rattle.wasm_syntax.specs.Opcodes.{numeric_shape, Shape}
 use Rattle.wasm_syntax.specs.Typing.{Moves, Leaves, is_constant, is_declared, has_table, func_at, call_of, indirect_of, set_of, Leads, instr_type}
 use Rattle.wasm_syntax.specs.Validity.{declared_funcs}
 use Rattle.wasm_syntax.specs.Profile.{refused_feature}
-use Rattle.history_spec.specs.Store.{Store, Table, with_entry, with_table, with_global}
+use Rattle.history_spec.specs.Store.{Store, Table, with_global}
 use Rattle.history_spec.specs.Code.{code_of, signature}
 use Rattle.history_spec.specs.Numeric.{NumericValue, Computed, Undefined, Unsupported, numeric_value}
 use Rattle.history_spec.specs.Configuration.{Place, Label, Frame}
-use Rattle.history_spec.specs.Instruction.{Execution, on, bits_at, gives, choice, branch, calls, calls_if, calls_entry, referent, reference, table_result, numeric_result, type_of_top, execute_plain, takes}
+use Rattle.history_spec.specs.Instruction.{Execution, on, bits_at, gives, choice, branch, calls, calls_if, calls_entry, reference, numeric_result, type_of_top, execute_plain, takes}
 use Rattle.type_safety.specs.Values.{count_of, IsValue, AreValues}
 use Rattle.type_safety.specs.Stores.{func_count, global_types, IsTable, IsStore}
 use Rattle.type_safety.specs.Frames.{Scope, context, IsCode, base_of, AreLabels, IsAround}
 use Rattle.type_safety.proofs.Values.{split_values, value_at, set_value, length_values}
 use Rattle.type_safety.proofs.Constants.{constant_value}
 use Rattle.type_safety.proofs.Numbers.{ResultsFit, IsNumber, number_fine, operands_reversed}
-use Rattle.type_safety.proofs.Tables.{table_there, entry_set_fits, referred_fits}
+use Rattle.type_safety.proofs.Tables.{table_there}
 use Rattle.type_safety.proofs.Effects.{mapped_leads, then_leads, cond_leads, ready}
 use Rattle.type_safety.specs.Results.{HasRule}
 use Rattle.type_safety.proofs.Fine.{on_fine, takes_fine, gives_fine, caller_fine, branch_fine, calls_fine}
-use Rattle.type_safety.proofs.MemoryAccesses.{load_fine, store_fine, size_fine, grow_fine}
+use Rattle.type_safety.proofs.TableAccesses.{table_set_fine, table_size_fine, table_grow_fine}
+use Rattle.type_safety.proofs.MemoryAccesses.{load_fine, store_fine, size_fine, grow_fine, copy_fine, fill_fine}
 
 -- what is known of a module's functions: each has a type
 abbrev pub HaveTypes : Scope → Type 0
@@ -56,11 +57,6 @@ chosen_value : (n : ℕ) (t : ValType) (bits : ℕ) (a b : ℕ) → a < count_of
     → choice bits a b < count_of n t
 chosen_value n t zero a b p q = q
 chosen_value n t (suc k) a b p q = p
-
-no_second : (t : ℕ) (tables : List Limits) → is_some (slice_get tables (suc t)) ≡ true → length tables ≤ 1 → ⊥
-no_second t [] there one = cc
-no_second t (l ∷ []) there one = cc
-no_second t (l ∷ k ∷ more) there one = omega arith
 
 module _ (laws : ResultsFit) (s : Scope) (have : HaveTypes s) (one : length (all_tables s.m) ≤ 1) (store : Store)
     (is_store : IsStore s.m store) (frame : Frame) (labels : List (List ValType)) (given : List ValType)
@@ -149,18 +145,6 @@ module _ (laws : ResultsFit) (s : Scope) (have : HaveTypes s) (one : length (all
       entry_fine ty table below operands rest (slice_get table.entries (bits_at operands (length ty.params)))
       (λ func e. all_at (λ entry. IfSome entry (λ f. f < n)) table.entries (bits_at operands (length ty.params))
       (Some func) good.entries e) of_operands of_rest code)
-
-  -- ---- the table
-
-  entry_set_fine : (table : Table) (below : List ValType) (operands rest : List Val)
-      (entries : Option (List (Option ℕ)))
-      → ((new : List (Option ℕ)) → entries ≡ Some new
-      → IsStore s.m (with_table store (record table { entries = new }))) → AreValues n below rest → IsNext below
-      → HasRule s (table_result store frame next table operands rest entries)
-  entry_set_fine table below operands rest None changed q code = tt
-  entry_set_fine table below operands rest (Some new) changed q code =
-      gives_fine s (with_table store (record table { entries = new })) frame next labels given [] below operands rest
-      [] None (changed new refl) around tt q code
 
   -- ---- numbers
 
@@ -408,40 +392,6 @@ module _ (laws : ResultsFit) (s : Scope) (have : HaveTypes s) (one : length (all
       give (FuncRef ∷ []) r.below [] frame.values (reference (suc func) ∷ [])
       (record { typed = refl; in_range = omega arith }, tt) r.had r.code
 
-  table_set_fine : (t : ℕ) → Fine (TableSet t)
-  table_set_fine zero before middle p leads supported code =
-      let c = cond_leads (context s labels) before middle (has_table (context s labels) 0)
-      (Some (Moves (FuncRef ∷ I32 ∷ []) [])) leads in
-      let r = ready s labels given (FuncRef ∷ I32 ∷ []) [] before middle frame.values next (base_of frame.labels) c.1
-      p code in
-      let there = table_there n (all_tables s.m) store.table c.0 is_store.table in
-      let go = λ (table : Table) (operands rest : List Val).
-      table_result store frame next table operands rest
-      (with_entry table.entries (bits_at operands 0) (referent (bits_at operands 1))) in
-      on_fine s store.table there.table (λ table. takes frame (I32 ∷ FuncRef ∷ []) (go table)) there.is
-      (takes_fine s frame (I32 ∷ FuncRef ∷ []) r.below (go there.table) r.had
-      (λ operands rest of_operands of_rest.
-      entry_set_fine there.table r.below operands rest
-      (with_entry there.table.entries (bits_at operands 0) (referent (bits_at operands 1)))
-      (λ new is. record {
-        memory = is_store.memory;
-        table =
-            there.change (record there.table { entries = new })
-            (λ l good. entry_set_fits n l there.table (bits_at operands 0) (referent (bits_at operands 1)) new good
-            (second operands of_operands) is);
-        globals = is_store.globals;
-      }) of_rest r.code))
-    where
-      second : (operands : List Val) → AreValues n (I32 ∷ FuncRef ∷ []) operands
-          → IfSome (referent (bits_at operands 1)) (λ func. func < n)
-      second [] h = absurd h
-      second (a ∷ []) h = absurd h.1
-      second (a ∷ b ∷ vs) h = referred_fits n b.bits h.1.0.in_range
-  table_set_fine (suc t) before middle p leads supported code =
-      let c = cond_leads (context s labels) before middle (has_table (context s labels) (suc t))
-      (Some (Moves (FuncRef ∷ I32 ∷ []) [])) leads in
-      absurd (no_second t (all_tables s.m) c.0 one)
-
   pub plain_fine : (i : Instr) → Fine i
   plain_fine Unreachable before middle p leads supported code = tt
   plain_fine Nop before middle p leads supported code =
@@ -475,10 +425,19 @@ module _ (laws : ResultsFit) (s : Scope) (have : HaveTypes s) (one : length (all
       size_fine s store is_store frame labels given around next before middle p leads supported code
   plain_fine MemoryGrow before middle p leads supported code =
       grow_fine s store is_store frame labels given around next before middle p leads supported code
+  plain_fine MemoryCopy before middle p leads supported code =
+      copy_fine s store is_store frame labels given around next before middle p leads supported code
+  plain_fine MemoryFill before middle p leads supported code =
+      fill_fine s store is_store frame labels given around next before middle p leads supported code
   plain_fine (Const value) before middle p leads supported code = const_fine value before middle p leads supported code
   plain_fine (Numeric op) before middle p leads supported code = numeric_fine op before middle p leads supported code
   plain_fine RefNull before middle p leads supported code = null_fine before middle p leads supported code
   plain_fine (RefFunc func) before middle p leads supported code =
       reference_fine func before middle p leads supported code
-  plain_fine (TableSet t) before middle p leads supported code = table_set_fine t before middle p leads supported code
+  plain_fine (TableSet t) before middle p leads supported code =
+      table_set_fine s one store is_store frame labels given around next t before middle p leads supported code
+  plain_fine (TableGrow t) before middle p leads supported code =
+      table_grow_fine s one store is_store frame labels given around next t before middle p leads supported code
+  plain_fine (TableSize t) before middle p leads supported code =
+      table_size_fine s one store is_store frame labels given around next t before middle p leads supported code
   plain_fine i before middle p leads supported code = absurd leads

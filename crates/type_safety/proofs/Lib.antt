@@ -8,6 +8,7 @@ pub mod Memories
 pub mod Tables
 pub mod Effects
 pub mod MemoryAccesses
+pub mod TableAccesses
 pub mod Instructions
 pub mod Execution
 pub mod Responses

@@ -14,15 +14,17 @@ use Rattle.host_script.specs.Supply.{is_within}
 use Rattle.wasm_syntax.specs.declared.values.ValType.{ValType}
 use Rattle.wasm_syntax.specs.declared.values.ValType.TheVariants.{I32, I64, F32, F64, FuncRef}
 use Rattle.wasm_syntax.specs.declared.signatures.Limits.{Limits}
+use Rattle.wasm_syntax.specs.declared.modules.Module.{Module}
+use Rattle.wasm_syntax.specs.Index.{all_memories}
 use Rattle.wasm_syntax.specs.Opcodes.{is_from, Access, load_table, load_of}
 use Rattle.wasm_syntax.specs.Typing.{is_number, bits_of}
 use Rattle.wasm_numeric.specs.Integer.{modulo, signed}
-use Rattle.history_spec.specs.Store.{Memory, pages, zeros, grown_memory_if, grown_memory, bytes_at, with_items_at, with_bytes_at, number_of, bytes_of}
+use Rattle.history_spec.specs.Store.{Store, Memory, pages, zeros, grown_memory_if, grown_memory, bytes_at, with_items_at, with_bytes_at, with_memory, number_of, bytes_of}
 use Rattle.history_spec.specs.Numeric.{extend_if, loaded_number}
 use Rattle.type_safety.specs.Values.{count_of}
-use Rattle.type_safety.specs.Stores.{IsMemory, MayBeMemory}
+use Rattle.type_safety.specs.Stores.{IsMemory, MayBeMemory, IsStore}
 
-abbrev AreBytes : List ℕ → Type 0
+abbrev pub AreBytes : List ℕ → Type 0
 AreBytes bytes = All (λ byte. byte < 256) bytes
 
 -- ---- a memory that is there
@@ -118,7 +120,7 @@ bytes_of_fit (suc count) number =
     All-cons (λ byte. byte < 256) (number % 256) (bytes_of count (number / 256)) (mod-lt number (omega arith))
     (bytes_of_fit count (number / 256))
 
-pub written_fits : (bytes : List ℕ) (address : ℕ) (news new : List ℕ) → AreBytes bytes → AreBytes news
+written_fits : (bytes : List ℕ) (address : ℕ) (news new : List ℕ) → AreBytes bytes → AreBytes news
     → with_bytes_at bytes address news ≡ Some new → AreBytes new × (length new ≡ length bytes)
 written_fits bytes address news new all more is =
     let p = cond_some (nat_le (address + length news) (length bytes)) (with_items_at bytes address news) new is in
@@ -148,6 +150,21 @@ memory_written limits memory new good all size = record {
   within = subst (λ k. IsTrue (is_within (k / PAGE_SIZE) memory.max)) (sym size) good.within;
   most = subst (λ k. k / PAGE_SIZE ≤ MOST_PAGES) (sym size) good.most;
 }
+
+-- bytes in place of others in the memory leave a store that is well typed
+pub store_written : (m : Module) (store : Store) → IsStore m store
+    → (there : MemoryThere (all_memories m) store.memory) (to : ℕ) (news new : List ℕ) → AreBytes news
+    → with_bytes_at there.memory.bytes to news ≡ Some new
+    → IsStore m (with_memory store (record there.memory { bytes = new }))
+store_written m store is_store there to news new fit is =
+    let f = written_fits there.memory.bytes to news new there.good.bytes fit is in
+    record {
+      memory =
+          there.change (record there.memory { bytes = new })
+          (λ l good. memory_written l there.memory new good f.0 f.1);
+      table = is_store.table;
+      globals = is_store.globals;
+    }
 
 -- ---- growth
 

@@ -1,17 +1,19 @@
 -- The instructions on memory in a well-typed activation have rules, and lead to what is well typed.
-use Rattle.std.proofs.Common.{◌≡◌, ℕ, ◌+◌, ◌^◌, ◌<◌, List, [], ◌∷◌, ◌++◌, Option, Some, None, option_and_then, refl, arith}
-use Rattle.std.specs.Prelude.{reverse}
+use Rattle.std.proofs.Common.{◌≡◌, ℕ, ◌+◌, ◌%◌, ◌^◌, ◌<◌, List, [], ◌∷◌, ◌++◌, Option, Some, None, option_and_then, refl, arith}
+use Rattle.std.specs.Prelude.{reverse, replicate}
+use Rattle.std.proofs.Math.Nat.{mod-lt}
+use Rattle.std.proofs.lemmas.List.Elements.{All-replicate}
 use Rattle.wasm_syntax.specs.declared.values.ValType.{ValType}
 use Rattle.wasm_syntax.specs.declared.values.ValType.TheVariants.{I32}
 use Rattle.wasm_syntax.specs.declared.values.Val.{Val}
 use Rattle.wasm_syntax.specs.declared.instructions.MemArg.{MemArg}
 use Rattle.wasm_syntax.specs.declared.instructions.Instr.{Instr}
-use Rattle.wasm_syntax.specs.declared.instructions.Instr.TheVariants.{Load, Store as StoreTo, MemorySize, MemoryGrow}
+use Rattle.wasm_syntax.specs.declared.instructions.Instr.TheVariants.{Load, Store as StoreTo, MemorySize, MemoryGrow, MemoryCopy, MemoryFill}
 use Rattle.wasm_syntax.specs.Index.{all_memories}
 use Rattle.wasm_syntax.specs.Opcodes.{Access, load_of, store_of}
 use Rattle.wasm_syntax.specs.Typing.{Moves, has_memory, load_type, store_type, is_aligned, Leads, instr_type}
 use Rattle.wasm_syntax.specs.Profile.{refused_feature}
-use Rattle.history_spec.specs.Store.{Store, Memory, pages, grown_memory, bytes_at, with_bytes_at, number_of, bytes_of, with_memory}
+use Rattle.history_spec.specs.Store.{Store, Memory, pages, grown_memory, bytes_at, with_bytes_at, with_bytes_copied, with_bytes_filled, number_of, bytes_of, with_memory}
 use Rattle.history_spec.specs.Code.{code_of, i32_value}
 use Rattle.history_spec.specs.Numeric.{loaded_number}
 use Rattle.history_spec.specs.Configuration.{Place, Frame}
@@ -19,7 +21,7 @@ use Rattle.history_spec.specs.Instruction.{on, bits_at, gives, load_result, stor
 use Rattle.type_safety.specs.Values.{count_of, AreValues}
 use Rattle.type_safety.specs.Stores.{func_count, IsStore}
 use Rattle.type_safety.specs.Frames.{Scope, context, IsCode, base_of, IsAround}
-use Rattle.type_safety.proofs.Memories.{memory_there, bytes_at_fits, load_fits, load_is_narrow, bytes_of_fit, written_fits, memory_written, memory_grown}
+use Rattle.type_safety.proofs.Memories.{MemoryThere, memory_there, bytes_at_fits, load_fits, load_is_narrow, bytes_of_fit, store_written, memory_grown}
 use Rattle.type_safety.proofs.Effects.{then_leads, cond_leads, ready}
 use Rattle.type_safety.specs.Results.{HasRule}
 use Rattle.type_safety.proofs.Fine.{on_fine, takes_fine, gives_fine}
@@ -78,6 +80,27 @@ module _ (s : Scope) (store : Store) (is_store : IsStore s.m store) (frame : Fra
       (i32_value (pages memory) ∷ []) (Some (pages memory)) (changed new refl) around
       (record { typed = refl; in_range = few }, tt) q code
 
+  copied_store : (there : MemoryThere (all_memories s.m) store.memory) (to source count : ℕ) (new : List ℕ)
+      → with_bytes_copied there.memory.bytes to source count ≡ Some new
+      → IsStore s.m (with_memory store (record there.memory { bytes = new }))
+  copied_store there to source count new is = by (bytes_at there.memory.bytes source count) refl is
+    where
+      by : (o : Option (List ℕ)) → bytes_at there.memory.bytes source count ≡ o
+          → option_and_then (with_bytes_at there.memory.bytes to) o ≡ Some new
+          → IsStore s.m (with_memory store (record there.memory { bytes = new }))
+      by None e copied = cc
+      by (Some read) e copied =
+          store_written s.m store is_store there to read new
+          (bytes_at_fits there.memory.bytes source count read there.good.bytes e).0
+          copied
+
+  filled_store : (there : MemoryThere (all_memories s.m) store.memory) (to number count : ℕ) (new : List ℕ)
+      → with_bytes_filled there.memory.bytes to (number % 256) count ≡ Some new
+      → IsStore s.m (with_memory store (record there.memory { bytes = new }))
+  filled_store there to number count new is =
+      store_written s.m store is_store there to (replicate count (number % 256)) new
+      (All-replicate (λ byte. byte < 256) count (number % 256) (mod-lt number (omega arith))) is
+
   -- ---- the instructions
 
   pub load_fine : (at : MemArg) → Fine (Load at)
@@ -126,17 +149,9 @@ module _ (s : Scope) (store : Store) (is_store : IsStore s.m store) (frame : Fra
       stored_fine there.memory r.below operands rest
       (with_bytes_at there.memory.bytes (bits_at operands 0 + at.offset)
       (bytes_of e.0.width (bits_at operands 1)))
-      (λ new is. let f =
-      written_fits there.memory.bytes (bits_at operands 0 + at.offset) (bytes_of e.0.width (bits_at operands 1))
-      new there.good.bytes (bytes_of_fit e.0.width (bits_at operands 1)) is in
-      record {
-        memory =
-            there.change (record there.memory { bytes = new })
-            (λ l good. memory_written l there.memory new good f.0 f.1);
-        table = is_store.table;
-        globals =
-            is_store.globals;
-      }) of_rest r.code)))
+      (λ new is. store_written s.m store is_store there (bits_at operands 0 + at.offset)
+      (bytes_of e.0.width (bits_at operands 1)) new
+      (bytes_of_fit e.0.width (bits_at operands 1)) is) of_rest r.code)))
 
   pub size_fine : Fine MemorySize
   size_fine before middle p leads supported code =
@@ -169,3 +184,43 @@ module _ (s : Scope) (store : Store) (is_store : IsStore s.m store) (frame : Fra
         table = is_store.table;
         globals = is_store.globals;
       }) few of_rest r.code))
+
+  -- one that takes three numbers, by the bytes that it leaves
+  range_fine : (bytes : Memory → List Val → Option (List ℕ))
+      → ((there : MemoryThere (all_memories s.m) store.memory) (operands : List Val) (new : List ℕ)
+      → bytes there.memory operands ≡ Some new
+      → IsStore s.m (with_memory store (record there.memory { bytes = new })))
+      → (before middle : List ValType) → AreValues n before frame.values
+      → Leads (context s labels) (instr_type (context s labels) MemoryCopy) before middle → IsNext middle
+      → HasRule s (on store.memory
+      (λ memory. takes frame (I32 ∷ I32 ∷ I32 ∷ [])
+      (λ operands rest. store_result store frame next memory operands rest (bytes memory operands))))
+  range_fine bytes changed before middle p leads code =
+      let c = cond_leads (context s labels) before middle (has_memory (context s labels))
+      (Some (Moves (I32 ∷ I32 ∷ I32 ∷ []) [])) leads in
+      let r = ready s labels given (I32 ∷ I32 ∷ I32 ∷ []) [] before middle frame.values next (base_of frame.labels) c.1
+      p code in
+      let there = memory_there (all_memories s.m) store.memory c.0 is_store.memory in
+      let go = λ (memory : Memory) (operands rest : List Val).
+      store_result store frame next memory operands rest (bytes memory operands) in
+      on_fine s store.memory there.memory (λ memory. takes frame (I32 ∷ I32 ∷ I32 ∷ []) (go memory)) there.is
+      (takes_fine s frame (I32 ∷ I32 ∷ I32 ∷ []) r.below (go there.memory) r.had
+      (λ operands rest of_operands of_rest.
+      stored_fine there.memory r.below operands rest (bytes there.memory operands) (changed there operands) of_rest
+      r.code))
+
+  pub copy_fine : Fine MemoryCopy
+  copy_fine before middle p leads supported code =
+      range_fine
+      (λ memory operands.
+      with_bytes_copied memory.bytes (bits_at operands 0) (bits_at operands 1) (bits_at operands 2))
+      (λ there operands. copied_store there (bits_at operands 0) (bits_at operands 1) (bits_at operands 2)) before
+      middle p leads code
+
+  pub fill_fine : Fine MemoryFill
+  fill_fine before middle p leads supported code =
+      range_fine
+      (λ memory operands.
+      with_bytes_filled memory.bytes (bits_at operands 0) (bits_at operands 1 % 256) (bits_at operands 2))
+      (λ there operands. filled_store there (bits_at operands 0) (bits_at operands 1) (bits_at operands 2)) before
+      middle p leads code

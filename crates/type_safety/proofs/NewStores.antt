@@ -1,10 +1,9 @@
 -- The store that a valid module begins with is well typed, where what is supplied matches its imports.
 use Rattle.std.proofs.Common.{◌≡◌, ℕ, ◌+◌, ◌*◌, ◌/◌, ◌^◌, ◌<◌, ◌≤◌, List, [], ◌∷◌, ◌++◌, length, Option, Some, None, Ok, Bool, true, false, ◌&&◌, cond, map, option_map, slice_get, refl, sym, ap, ◌∙◌, subst, arith}
-use Rattle.std.specs.Prelude.{nat_lt, nat_le, fold, filter_map, replicate, take, drop, unwrap_or, IsTrue, IfSome, All}
-use Rattle.std.specs.List.{cons_option}
-use Rattle.std.proofs.lemmas.Bool.{leb-true, le-leb, ltb-false}
+use Rattle.std.specs.Prelude.{nat_le, fold, replicate, take, drop, unwrap_or, IsTrue, IfSome, All}
+use Rattle.std.proofs.lemmas.Bool.{leb-true, le-leb}
 use Rattle.std.proofs.lemmas.List.{map-append, length-append, length-take, length-drop, length-replicate, length-map}
-use Rattle.std.proofs.lemmas.List.Elements.{All-head, All-tail, All-nil, All-cons, All-append, All-take, All-drop, All-replicate, All-map}
+use Rattle.std.proofs.lemmas.List.Elements.{All-head, All-tail, All-append, All-take, All-drop, All-replicate, All-map}
 use Rattle.std.proofs.lemmas.Option.{slice_get-map}
 use Rattle.list_laws.proofs.Options.{and_then_some}
 use Rattle.list_laws.proofs.Booleans.{and_parts}
@@ -21,12 +20,10 @@ use Rattle.wasm_syntax.specs.declared.modules.Global.{Global}
 use Rattle.wasm_syntax.specs.declared.modules.ElemSeg.{ElemSeg}
 use Rattle.wasm_syntax.specs.declared.modules.ElemSeg.TheVariants.{Active, Declared}
 use Rattle.wasm_syntax.specs.declared.modules.DataSeg.{DataSeg}
-use Rattle.wasm_syntax.specs.declared.profile.Which.{Which}
-use Rattle.wasm_syntax.specs.declared.profile.Which.TheVariants.{Parameters, Table as TheTable, Memory as TheMemory, Locals}
 use Rattle.wasm_syntax.specs.Index.{of_kind, memory_import, table_import, imported_globals, all_tables, all_memories}
 use Rattle.wasm_syntax.specs.Typing.{is_constant}
 use Rattle.wasm_syntax.specs.Validity.{IsLimits, IsConstant, IsGlobal, IsElem, AreFuncs, IsValid, single, constant_type, immutable_type}
-use Rattle.wasm_syntax.specs.Profile.{Refusal, Limit, past, count_of_locals, IsSupported}
+use Rattle.wasm_syntax.specs.Profile.{IsSupported}
 use Rattle.host_script.specs.declared.scripts.Supply.{Supply}
 use Rattle.host_script.specs.Supply.{keeps_max, limits_match, is_within}
 use Rattle.history_spec.specs.Store.{Memory, Table, Store, zeros, with_items_at}

@@ -30,7 +30,8 @@ pub record ResultsFit : Type 0 where
 pub results_fit : ((op a : ℕ) → test_of op a ≤ 1)
     → ((op a b : ℕ) → compare_of op a b ≤ 1)
     → ((op a : ℕ) → kind_of op ≡ Unary → unary_of op a < 2 ^ width (result_of op))
-    → ((op a b n : ℕ) → kind_of op ≡ Binary → a < 2 ^ width_of op → binary_of op a b ≡ Bits n → n < 2 ^ width (result_of op))
+    → ((op a b n : ℕ) → kind_of op ≡ Binary → a < 2 ^ width_of op → binary_of op a b ≡ Bits n
+    → n < 2 ^ width (result_of op))
     → ((op a : ℕ) → kind_of op ≡ Convert → a < 2 ^ width_of op → convert_of op a < 2 ^ width (result_of op))
     → ResultsFit
 results_fit test compare unary binary convert = record {

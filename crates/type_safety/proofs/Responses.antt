@@ -1,5 +1,5 @@
 -- The response to a call of an import fits the import's type.
-use Rattle.std.proofs.Common.{◌≡◌, ℕ, suc, zero, ◌<◌, List, [], ◌∷◌, ◌++◌, length, Option, Some, None, map, slice_get, option_and_then, refl, sym, ◌∙◌, subst, arith, ap}
+use Rattle.std.proofs.Common.{◌≡◌, ℕ, suc, zero, List, [], ◌∷◌, ◌++◌, Option, Some, None, map, slice_get, option_and_then, refl, sym, ◌∙◌, subst, ap}
 use Rattle.std.specs.Prelude.{IfSome, All}
 use Rattle.std.specs.List.{AllZip}
 use Rattle.list_laws.proofs.Lists.{all_at}

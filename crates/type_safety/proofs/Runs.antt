@@ -1,10 +1,8 @@
 -- Runs of a valid and supported module are safe from their start on: under a script that fits it, and alone.
-use Rattle.std.proofs.Common.{◌≡◌, ◌≢◌, ℕ, suc, zero, ◌≤◌, List, [], ◌∷◌, length, Option, Some, None, Result, Ok, Err, refl, sym, ap, subst, arith}
+use Rattle.std.proofs.Common.{◌≡◌, ◌≢◌, ℕ, suc, zero, List, [], ◌∷◌, length, Option, Some, None, Result, Ok, Err, refl, sym, ap, subst, arith}
 use Rattle.std.specs.Prelude.{nat_lt, replicate, IfSome, IsTrue}
 use Rattle.std.proofs.lemmas.List.{length-replicate}
 use Rattle.std.proofs.lemmas.List.Elements.{All-nil, All-cons}
-use Rattle.wasm_syntax.specs.declared.values.ValType.{ValType}
-use Rattle.wasm_syntax.specs.declared.values.Val.{Val}
 use Rattle.wasm_syntax.specs.declared.signatures.FuncType.{FuncType}
 use Rattle.wasm_syntax.specs.declared.modules.Module.{Module}
 use Rattle.wasm_syntax.specs.Index.{of_kind, func_import, imported_funcs, func_type}
@@ -20,25 +18,19 @@ use Rattle.host_script.specs.declared.scripts.LinkFault.{LinkFault}
 use Rattle.host_script.specs.Supply.{supply_of}
 use Rattle.host_script.specs.Fits.{AreOfTypes, IsCallable, FitsAction, FitActions, FitAnswers, Fits}
 use Rattle.history_spec.specs.Store.{Store}
-use Rattle.history_spec.specs.Code.{Definition, code_of, signature}
-use Rattle.history_spec.specs.Configuration.{Frame, Activation, InMain, Config}
-use Rattle.history_spec.specs.Instruction.{execute}
-use Rattle.history_spec.specs.Action.{perform}
+use Rattle.history_spec.specs.Code.{code_of}
+use Rattle.history_spec.specs.Configuration.{InMain, Config}
 use Rattle.history_spec.specs.Instantiation.{instantiate}
-use Rattle.history_spec.specs.Step.{Program, Progress, Running, Finished, Faulted, Stuck, StepResult, after_settling, enter_function, step, start}
+use Rattle.history_spec.specs.Step.{Program, Progress, Running, Finished, Faulted, Stuck, StepResult, step, start}
 use Rattle.history_spec.specs.Settle.{deliver}
 use Rattle.history_spec.specs.Run.{Meter, steps, run_from, program_of, start_in_store, start_or_fault, start_with_supply, run_start}
 use Rattle.history_spec.specs.Replay.{alone, program_alone, start_alone_or_fault, run_start_alone}
-use Rattle.type_safety.specs.Values.{AreValues}
-use Rattle.type_safety.specs.Stores.{func_count, IsStore}
+use Rattle.type_safety.specs.Stores.{IsStore}
 use Rattle.type_safety.specs.Heights.{Heights}
-use Rattle.type_safety.specs.Frames.{IsFrame}
-use Rattle.type_safety.specs.Configurations.{scope, Accept, IsGoing, IsTypedCode, IsConfig, IsSafe, IsProgram}
-use Rattle.type_safety.specs.Supplies.{HasBytes, IsRunnable, IsSupply}
+use Rattle.type_safety.specs.Configurations.{scope, IsTypedCode, IsConfig, IsSafe, IsProgram}
+use Rattle.type_safety.specs.Supplies.{HasBytes, IsSupply}
 use Rattle.type_safety.proofs.Numbers.{ResultsFit}
-use Rattle.type_safety.specs.Results.{HasRule}
 use Rattle.type_safety.proofs.Execution.{execute_fine}
-use Rattle.type_safety.specs.Results.{IsActionResult}
 use Rattle.type_safety.specs.Laws.{CallsAreSafe, FittingActionsHaveResults, InstructionsHaveRules, ResultsAreSafe, RunsAloneAreNeverStuck, RunsAreNeverStuck}
 use Rattle.type_safety.proofs.Actions.{act_fine}
 use Rattle.type_safety.proofs.SettleEnds.{deliver_safe}

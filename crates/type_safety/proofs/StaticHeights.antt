@@ -1,16 +1,14 @@
 -- The values above an activation's base are as many as the typing gives.
-use Rattle.std.proofs.Common.{◌≡◌, ◌+◌, ◌<◌, List, [], ◌∷◌, ◌++◌, length, refl, sym, ap, ◌∙◌, subst, arith}
+use Rattle.std.proofs.Common.{◌≡◌, ◌+◌, ◌<◌, List, [], ◌++◌, length, refl, sym, ap, ◌∙◌, subst, arith}
 use Rattle.std.specs.Prelude.{reverse}
 use Rattle.std.proofs.lemmas.List.{length-append, length-reverse}
 use Rattle.wasm_syntax.specs.declared.values.ValType.{ValType}
-use Rattle.wasm_syntax.specs.declared.modules.Module.{Module}
 use Rattle.wasm_syntax.specs.Nest.{Nest, Empty, Plain, InBlock, InLoop, InIf, InIfElse, size}
 use Rattle.wasm_syntax.specs.Typing.{Context, IsTyped}
-use Rattle.history_spec.specs.Configuration.{Frame, Activation, InModule, Config}
 use Rattle.type_safety.specs.Stores.{func_count}
-use Rattle.type_safety.specs.Heights.{height, Heights}
-use Rattle.type_safety.specs.Frames.{context, base_of, height_of}
-use Rattle.type_safety.specs.Configurations.{scope, Accept, IsGoing, IsAtStep, IsConfig}
+use Rattle.type_safety.specs.Heights.{height}
+use Rattle.type_safety.specs.Frames.{context, base_of}
+use Rattle.type_safety.specs.Configurations.{scope, Accept, IsGoing, IsAtStep}
 use Rattle.type_safety.specs.Laws.{HeightsAtCalls, HeightsAtSteps}
 use Rattle.type_safety.proofs.Values.{length_values}
 

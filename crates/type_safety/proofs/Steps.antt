@@ -5,7 +5,6 @@ use Rattle.std.proofs.lemmas.Bool.{ltb-true, ltb-false}
 use Rattle.std.proofs.lemmas.List.{length-set}
 use Rattle.std.proofs.lemmas.List.Elements.{All-head, All-tail}
 use Rattle.wasm_syntax.specs.declared.values.ValType.{ValType}
-use Rattle.wasm_syntax.specs.declared.values.ValType.TheVariants.{I32, I64, F32, F64, FuncRef}
 use Rattle.wasm_syntax.specs.declared.values.Val.{Val}
 use Rattle.wasm_syntax.specs.declared.signatures.FuncType.{FuncType}
 use Rattle.wasm_syntax.specs.declared.modules.Module.{Module}
@@ -21,7 +20,7 @@ use Rattle.history_spec.specs.Instruction.{Control, Goes, Calls, Returns, Execut
 use Rattle.history_spec.specs.Action.{ActionResult, Changes, Enters, Fails, Unfit, perform}
 use Rattle.history_spec.specs.Settle.{SettleEnd, Continues, Finishes, NoRule as NoneHolds, deliver, settle}
 use Rattle.history_spec.specs.Step.{Program, progress_of, after_settling, frame_of, enter_defined, enter_function, response_to, answer_call, call_function, after_control, after_instruction, after_action, step_of, step, start_with_call}
-use Rattle.type_safety.specs.Values.{IsValue, AreValues}
+use Rattle.type_safety.specs.Values.{AreValues}
 use Rattle.type_safety.specs.Stores.{func_count, IsStore}
 use Rattle.type_safety.specs.Frames.{IsFrame}
 use Rattle.type_safety.specs.Heights.{Heights}

@@ -9,7 +9,6 @@ use Rattle.wasm_syntax.specs.declared.limits.TheConstants.{MOST_ENTRIES, MOST_PA
 use Rattle.wasm_syntax.specs.declared.values.Val.{Val}
 use Rattle.wasm_syntax.specs.declared.signatures.Limits.{Limits}
 use Rattle.wasm_syntax.specs.declared.signatures.GlobalType.{GlobalType}
-use Rattle.wasm_syntax.specs.declared.modules.Module.{Module}
 use Rattle.wasm_syntax.specs.declared.modules.Import.{Import}
 use Rattle.wasm_syntax.specs.declared.modules.ImportKind.{ImportKind}
 use Rattle.wasm_syntax.specs.declared.modules.ImportKind.TheVariants.{Func, Table, Memory, Global}
@@ -19,8 +18,7 @@ use Rattle.wasm_syntax.specs.Typing.{is_constant}
 use Rattle.host_script.specs.declared.scripts.Script.{Script}
 use Rattle.host_script.specs.declared.scripts.Supply.{Supply}
 use Rattle.host_script.specs.declared.scripts.LinkFault.{LinkFault}
-use Rattle.host_script.specs.Supply.{limits_match, ImportMatch, Nothing, Unlike, Alike, alike_if, match_of_limits, match_of_value, import_match, globals_in, fault_or, first_fault, given_values, if_imported, supply_for, supply_unless, supply_of}
-use Rattle.host_script.specs.Fits.{Fits}
+use Rattle.host_script.specs.Supply.{limits_match, ImportMatch, Nothing, Unlike, Alike, alike_if, match_of_limits, match_of_value, import_match, globals_in, fault_or, first_fault, given_values, if_imported, supply_for, supply_unless}
 use Rattle.type_safety.specs.Values.{IsValue, AreValues}
 use Rattle.type_safety.specs.Stores.{func_count}
 use Rattle.type_safety.specs.Supplies.{Match, IsSupply}

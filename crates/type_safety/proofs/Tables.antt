@@ -1,13 +1,14 @@
 -- Tables under look-ups and writes, and references.
-use Rattle.std.proofs.Common.{◌≡◌, ℕ, suc, zero, ◌+◌, ◌<◌, ◌≤◌, List, [], ◌∷◌, ◌++◌, length, Option, Some, None, true, slice_get, refl, sym, ap, ◌∙◌, subst, arith}
-use Rattle.std.specs.Prelude.{nat_lt, is_some, IsTrue, IfSome, All, slice_set, slice_index_or}
-use Rattle.std.proofs.lemmas.List.{length-set}
-use Rattle.std.proofs.lemmas.List.Elements.{All-head, All-tail, All-get_or, All-set}
-use Rattle.std.proofs.lemmas.Option.{slice_get_within, get_or_from_slice_get}
+use Rattle.std.proofs.Common.{◌≡◌, ℕ, suc, zero, ◌+◌, ◌<◌, ◌≤◌, List, [], ◌∷◌, ◌++◌, length, Option, Some, None, Bool, true, false, ◌&&◌, slice_get, refl, sym, ap, ◌∙◌, subst, arith}
+use Rattle.std.specs.Prelude.{nat_le, nat_lt, replicate, is_some, IsTrue, IfSome, All, slice_set}
+use Rattle.std.proofs.lemmas.Bool.{leb-true}
+use Rattle.std.proofs.lemmas.List.{length-append, length-replicate, length-set}
+use Rattle.std.proofs.lemmas.List.Elements.{All-set, All-append, All-replicate}
+use Rattle.list_laws.proofs.Booleans.{and_parts}
 use Rattle.wasm_syntax.specs.declared.limits.TheConstants.{MOST_ENTRIES}
 use Rattle.host_script.specs.Supply.{is_within}
 use Rattle.wasm_syntax.specs.declared.signatures.Limits.{Limits}
-use Rattle.history_spec.specs.Store.{Table, with_entry}
+use Rattle.history_spec.specs.Store.{Table, grown_table_if, grown_table, with_entry}
 use Rattle.history_spec.specs.Instruction.{referent}
 use Rattle.type_safety.specs.Stores.{IsTable, MayBeTable}
 use Rattle.type_safety.proofs.Memories.{cond_some}
@@ -42,6 +43,38 @@ entry_set_fits n limits table index entry entries good fits is =
       within = subst (λ k. IsTrue (is_within k table.max)) size good.within;
       most = subst (λ k. k ≤ MOST_ENTRIES) size good.most;
     }
+
+pub table_grown : (n : ℕ) (limits : Limits) (table : Table) (by : ℕ) (entry : Option ℕ) (new : Table)
+    → IsTable n limits table → IfSome entry (λ func. func < n) → grown_table table by entry ≡ Some new
+    → IsTable n limits new
+table_grown n limits table by entry new good fits is =
+    from (is_within (length table.entries + by) table.max && nat_le (length table.entries + by) MOST_ENTRIES) refl is
+  where
+    larger : Table
+    larger = record table { entries = table.entries ++ replicate by entry }
+
+    size : length table.entries + by ≡ length (table.entries ++ replicate by entry)
+    size = omega (
+      arith,
+      length-append table.entries (replicate by entry),
+      length-replicate {A = Option ℕ} by entry,
+    )
+
+    from : (b : Bool)
+        → (is_within (length table.entries + by) table.max && nat_le (length table.entries + by) MOST_ENTRIES) ≡ b
+        → grown_table_if b table by entry ≡ Some new → IsTable n limits new
+    from true e made =
+        let tests = and_parts (is_within (length table.entries + by) table.max)
+        (nat_le (length table.entries + by) MOST_ENTRIES) e in
+        let it : larger ≡ new = cc in
+        subst (λ new'. IsTable n limits new') it (record {
+          entries = All-append (IsEntry n) table.entries (replicate by entry) good.entries
+              (All-replicate (IsEntry n) by entry fits);
+          least = subst (λ k. limits.min ≤ k) size (omega (arith, good.least));
+          within = subst (λ k. IsTrue (is_within k table.max)) size tests.0;
+          most = subst (λ k. k ≤ MOST_ENTRIES) size (leb-true (length table.entries + by) MOST_ENTRIES tests.1);
+        })
+    from false e made = cc
 
 pub referred_fits : (n bits : ℕ) → bits < n + 1 → IfSome (referent bits) (λ func. func < n)
 referred_fits n zero h = tt

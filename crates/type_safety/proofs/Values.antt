@@ -1,5 +1,5 @@
 -- Lists of values of their types: parts, reversal, a look-up, and what operands are taken off.
-use Rattle.std.proofs.Common.{◌≡◌, ℕ, suc, zero, ◌≤◌, List, [], ◌∷◌, ◌++◌, length, Some, None, Bool, true, ◌&&◌, cond, slice_get, refl, sym, ap, ◌∙◌, subst, arith, map}
+use Rattle.std.proofs.Common.{◌≡◌, ℕ, suc, zero, ◌≤◌, List, [], ◌∷◌, ◌++◌, length, Some, None, true, cond, slice_get, refl, sym, ap, ◌∙◌, subst, arith, map}
 use Rattle.std.specs.Prelude.{reverse, take, drop, slice_set}
 use Rattle.std.proofs.lemmas.List.{reverse-append, reverse-reverse, length-reverse, length-append, take_at, drop_at}
 use Rattle.std.proofs.lemmas.Bool.{le-leb}
@@ -7,7 +7,7 @@ use Rattle.wasm_syntax.proofs.ValTypes.{types_own}
 use Rattle.wasm_syntax.specs.declared.values.ValType.{ValType}
 use Rattle.wasm_syntax.specs.declared.values.ValType.TheVariants.{I32, I64, F32, F64, FuncRef}
 use Rattle.wasm_syntax.specs.declared.values.Val.{Val}
-use Rattle.wasm_syntax.specs.Alike.{same_type, same_types}
+use Rattle.wasm_syntax.specs.Alike.{same_types}
 use Rattle.history_spec.specs.Code.{types_of, zero_of}
 use Rattle.history_spec.specs.Configuration.{topmost, push_all}
 use Rattle.history_spec.specs.Instruction.{Operands, pop, operands_as, operands_if}

@@ -1,12 +1,12 @@
--- What opcodes say to read: nothing between those that have an instruction, and two of the control instructions.
+-- What opcodes say to read: nothing between those that have an instruction, and three of the control instructions.
 use Rattle.std.proofs.Common.{◌≡◌, ◌≢◌, ℕ, ◌<◌, List, ◌∷◌, Option, Some, None, Result, refl, ap, sym, ◌∙◌, subst, inl, inr, arith}
-use Rattle.std.specs.Prelude.{option_and_then}
+use Rattle.std.specs.Prelude.{option_and_then, option_map}
 use Rattle.std.proofs.lemmas.Bool.{cases_eq}
 use Rattle.wasm_syntax.specs.declared.forms.Form.{Form}
 use Rattle.wasm_syntax.specs.declared.forms.Form.TheVariants.{Core, Replay}
 use Rattle.wasm_syntax.specs.declared.instructions.Instr.{Instr}
 use Rattle.leb_bytes.specs.Unsigned.{first_u32}
-use Rattle.wasm_syntax.specs.declared.instructions.Instr.TheVariants.{BrTable, Return}
+use Rattle.wasm_syntax.specs.declared.instructions.Instr.TheVariants.{BrIf, BrTable, Return}
 use Rattle.wasm_syntax.specs.Encoding.Combinators.{Reader, by_mark, first_then, map_read}
 use Rattle.wasm_syntax.specs.Encoding.Readers.{first_indices, instr_at}
 use Rattle.wasm_decode.specs.declared.unread.Unread.{Unread}
@@ -118,6 +118,16 @@ no_table form op bytes low high n38 =
     ]
 
 -- ---- control instructions
+
+br_if_at : (form : Form) (bytes : List ℕ) → by_mark (instr_at form) (13 ∷ bytes) ≡ map_read BrIf first_u32 bytes
+br_if_at Core bytes = refl
+br_if_at Replay bytes = refl
+
+pub reads_br_if : (form : Form) (op label : ℕ) (bytes rest : List ℕ) → op ≡ 13 → first_u32 bytes ≡ Some (label, rest)
+    → by_mark (instr_at form) (op ∷ bytes) ≡ Some (BrIf label, rest)
+reads_br_if form op label bytes rest is read =
+    ap (λ (n : ℕ). by_mark (instr_at form) (n ∷ bytes)) is ∙ br_if_at form bytes
+    ∙ ap (λ (first : Option (ℕ × List ℕ)). option_map (λ (f : ℕ × List ℕ). (BrIf f.0, f.1)) first) read
 
 abbrev br_table_operands : Reader Instr
 br_table_operands bytes = map_read (λ labels. BrTable labels.0 labels.1) (first_then first_indices first_u32) bytes

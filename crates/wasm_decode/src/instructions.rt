@@ -1,13 +1,13 @@
 // Readers of instructions (Core 1.0, 5.4).
 
-ghost use Rattle.std.specs.Prelude.{◌≡◌, ◌≤◌, ◌<◌, [], ◌∷◌};
+ghost use Rattle.std.specs.Prelude.{◌≡◌, ◌≢◌, ◌≤◌, ◌<◌, [], ◌∷◌, option_and_then};
 ghost use Rattle.leb_bytes.specs.Unsigned.{first_u32};
-ghost use Rattle.wasm_syntax.specs.Encoding.Combinators.{by_mark, first_exactly, first_then, map_read};
-ghost use Rattle.wasm_syntax.specs.Encoding.Readers.{first_indices, first_instr, instr_at, const, mem_arg};
+ghost use Rattle.wasm_syntax.specs.Encoding.Combinators.{by_mark, first_exactly, first_then, map_read, row_at};
+ghost use Rattle.wasm_syntax.specs.Encoding.Readers.{first_indices, first_instr, instr_at, const, mem_arg, prefixed_rows};
 ghost use Rattle.wasm_syntax.specs.declared.forms.Form.TheVariants.{Core, Replay};
 ghost use Rattle.wasm_syntax.specs.declared.instructions.Instr.TheVariants.{BrTable};
 ghost use Rattle.wasm_decode.specs.ReadResults.{Gives};
-ghost use Rattle.wasm_opcodes.specs.declared.TheConstants.{BR, ELSE, END, F64_CONST, F64_REINTERPRET_I64, GLOBAL_SET, I32_LOAD, LOCAL_GET, MEMORY_SIZE, SELECT, TABLE_SET};
+ghost use Rattle.wasm_opcodes.specs.declared.TheConstants.{BR, ELSE, END, F64_CONST, GLOBAL_SET, I32_LOAD, I64_EXTEND32_S, LOCAL_GET, MEMORY_COPY, MEMORY_FILL, MEMORY_SIZE, PREFIX, SELECT, TABLE_SET};
 
 use crate::types::first_block_type;
 use crate::unread::Unread;
@@ -17,9 +17,10 @@ use std::alloc::Global;
 use wasm_opcodes::marks::TYPE_FUNCREF;
 use wasm_opcodes::{
     BLOCK, BR, BR_IF, BR_TABLE, CALL, CALL_INDIRECT, DROP, ELSE, END, F32_CONST, F64_CONST,
-    F64_REINTERPRET_I64, GLOBAL_GET, GLOBAL_SET, I32_CONST, I32_EQZ, I32_LOAD, I32_STORE,
-    I64_CONST, I64_LOAD32_U, I64_STORE32, IF, LOCAL_GET, LOCAL_SET, LOCAL_TEE, LOOP, MEMORY_GROW,
-    MEMORY_SIZE, NOP, REF_FUNC, REF_NULL, RETURN, SELECT, TABLE_SET, UNREACHABLE,
+    GLOBAL_GET, GLOBAL_SET, I32_CONST, I32_EQZ, I32_LOAD, I32_STORE, I64_CONST, I64_EXTEND32_S,
+    I64_LOAD32_U, I64_STORE32, IF, LOCAL_GET, LOCAL_SET, LOCAL_TEE, LOOP, MEMORY_COPY, MEMORY_FILL,
+    MEMORY_GROW, MEMORY_SIZE, NOP, PREFIX, REF_FUNC, REF_NULL, RETURN, SELECT, TABLE_GROW,
+    TABLE_SET, TABLE_SIZE, UNREACHABLE,
 };
 use wasm_syntax::{Form, Instr, MemArg, Val, ValType};
 
@@ -38,7 +39,8 @@ const AFTER_GLOBAL_SET: u8 = 0x25;
 
 const BEFORE_I32_LOAD: u8 = 0x27;
 
-/// The byte that ends `call_indirect`, `memory.size` and `memory.grow` (Core 1.0, 5.4.1 and 5.4.4).
+/// The byte that ends `call_indirect`, `memory.size`, `memory.grow` and `memory.fill`, and twice `memory.copy` (Core
+/// 1.0, 5.4.1 and 5.4.4; Core 2.0, 5.4.6).
 const RESERVED: u8 = 0x00;
 
 /// An instruction; `Else` and `End` are read as such.
@@ -48,7 +50,7 @@ pub(crate) fn first_instr(alloc: Global, form: Form, bytes: &[u8]) -> Result<(In
 {
     let (op, rest) = first_byte(bytes)?;
     match op {
-        I32_EQZ..=F64_REINTERPRET_I64 => Ok((Instr::Numeric(op), rest)),
+        I32_EQZ..=I64_EXTEND32_S => Ok((Instr::Numeric(op), rest)),
         I32_LOAD..=I64_LOAD32_U => {
             let (access, rest) = mem_arg_of(op, rest)?;
             Ok((Instr::Load(access), rest))
@@ -65,7 +67,7 @@ pub(crate) fn first_instr(alloc: Global, form: Form, bytes: &[u8]) -> Result<(In
         MEMORY_SIZE..=F64_CONST => constant_instr(form, op, rest),
         AFTER_SELECT..=BEFORE_LOCAL_GET => no_parametric_instr(form, op, rest),
         AFTER_GLOBAL_SET..=BEFORE_I32_LOAD => table_instr(form, op, rest),
-        _ => reference_instr(form, op, rest),
+        _ => late_instr(form, op, rest),
     }
 }
 
@@ -233,28 +235,33 @@ fn table_set_instr(form: Form, bytes: &[u8]) -> Result<(Instr, &[u8]), Unread>
     }
 }
 
-/// The instruction of an opcode after those of the numeric instructions: the replay form alone has some.
-fn reference_instr(form: Form, op: u8, bytes: &[u8]) -> Result<(Instr, &[u8]), Unread>
-    requires { F64_REINTERPRET_I64 < op }
+/// The instruction of an opcode after those of the numeric instructions.
+fn late_instr(form: Form, op: u8, bytes: &[u8]) -> Result<(Instr, &[u8]), Unread>
+    requires { I64_EXTEND32_S < op }
     ensures { Gives (λ read. (read.0, read.1.now)) result (by_mark (instr_at form) (op ∷ bytes.now)) }
 {
+    if op == PREFIX {
+        return prefixed_instr(form, bytes);
+    }
     match form {
         Form::Core => no_core_instr(op, bytes),
-        Form::Replay => replay_reference_instr(op, bytes),
+        Form::Replay => reference_instr(op, bytes),
     }
 }
 
-/// The core form has no instruction after the numeric ones.
+/// The core form has no instruction after the numeric ones but those of the prefix.
 fn no_core_instr(op: u8, bytes: &[u8]) -> Result<(Instr, &[u8]), Unread>
-    requires { F64_REINTERPRET_I64 < op }
+    requires late { I64_EXTEND32_S < op }
+    requires plain { op ≢ PREFIX }
     ensures { Gives (λ read. (read.0, read.1.now)) result (by_mark (instr_at Core) (op ∷ bytes.now)) }
 {
     Err(Unread::NotThere)
 }
 
-/// The instruction of an opcode after those of the numeric instructions, in the replay form.
-fn replay_reference_instr(op: u8, bytes: &[u8]) -> Result<(Instr, &[u8]), Unread>
-    requires { F64_REINTERPRET_I64 < op }
+/// The instruction of an opcode after those of the numeric instructions, in the replay form; none of the prefix.
+fn reference_instr(op: u8, bytes: &[u8]) -> Result<(Instr, &[u8]), Unread>
+    requires late { I64_EXTEND32_S < op }
+    requires plain { op ≢ PREFIX }
     ensures { Gives (λ read. (read.0, read.1.now)) result (by_mark (instr_at Replay) (op ∷ bytes.now)) }
 {
     match op {
@@ -262,6 +269,60 @@ fn replay_reference_instr(op: u8, bytes: &[u8]) -> Result<(Instr, &[u8]), Unread
         REF_FUNC => {
             let (func, rest) = first_u32(bytes)?;
             Ok((Instr::RefFunc(func), rest))
+        }
+        _ => Err(Unread::NotThere),
+    }
+}
+
+/// The instruction of the prefix and the number after it (Core 2.0, 5.4.5 and 5.4.6).
+fn prefixed_instr(form: Form, bytes: &[u8]) -> Result<(Instr, &[u8]), Unread>
+    ensures { Gives (λ read. (read.0, read.1.now)) result
+        (by_mark (instr_at form) (PREFIX ∷ bytes.now)) }
+{
+    let (number, rest) = first_u32(bytes)?;
+    numbered_instr(form, number, rest)
+}
+
+/// The instruction of a number after the prefix.
+fn numbered_instr(form: Form, number: u32, bytes: &[u8]) -> Result<(Instr, &[u8]), Unread>
+    ensures { Gives (λ read. (read.0, read.1.now)) result
+        (option_and_then (λ read. read bytes.now) (row_at (prefixed_rows form) number)) }
+{
+    match number {
+        MEMORY_COPY => Ok((Instr::MemoryCopy, rest_after_two(bytes)?)),
+        MEMORY_FILL => Ok((Instr::MemoryFill, rest_after(RESERVED, bytes)?)),
+        _ => numbered_table_instr(form, number, bytes),
+    }
+}
+
+/// The instruction of another number after the prefix: the replay form alone has some.
+fn numbered_table_instr(form: Form, number: u32, bytes: &[u8]) -> Result<(Instr, &[u8]), Unread>
+    requires no_copy { number ≢ MEMORY_COPY }
+    requires no_fill { number ≢ MEMORY_FILL }
+    ensures { Gives (λ read. (read.0, read.1.now)) result
+        (option_and_then (λ read. read bytes.now) (row_at (prefixed_rows form) number)) }
+{
+    match form {
+        Form::Core => Err(Unread::NotThere),
+        Form::Replay => replay_table_instr(number, bytes),
+    }
+}
+
+/// The instruction of another number after the prefix, in the replay form.
+fn replay_table_instr(number: u32, bytes: &[u8]) -> Result<(Instr, &[u8]), Unread>
+    requires no_copy { number ≢ MEMORY_COPY }
+    requires no_fill { number ≢ MEMORY_FILL }
+    ensures { Gives (λ read. (read.0, read.1.now)) result
+        (option_and_then (λ read. read bytes.now) (row_at (prefixed_rows Replay) number)) }
+{
+    match number {
+        TABLE_GROW => {
+            let (table, rest) = first_u32(bytes)?;
+            Ok((Instr::TableGrow(table), rest))
+        }
+        TABLE_SIZE => {
+            let (table, rest) = first_u32(bytes)?;
+            Ok((Instr::TableSize(table), rest))
         }
         _ => Err(Unread::NotThere),
     }
@@ -283,4 +344,11 @@ fn rest_after(byte: u8, bytes: &[u8]) -> Result<&[u8], Unread>
         return Err(Unread::NotThere);
     }
     Ok(rest)
+}
+
+/// What comes after the two bytes that end `memory.copy`, where they come first.
+fn rest_after_two(bytes: &[u8]) -> Result<&[u8], Unread>
+    ensures { Gives (λ rest. (tt, rest.now)) result (first_exactly (0x00 ∷ 0x00 ∷ []) bytes.now) }
+{
+    rest_after(RESERVED, rest_after(RESERVED, bytes)?)
 }

@@ -1,9 +1,10 @@
 //! Modules written by hand from the grammar (Core 1.0, section 5), and the example modules.
 
+use crate::expressions::first_expr;
 use crate::{DecodeFault, decode};
 use std::alloc::Global;
 use std::test::Fail;
-use wasm_syntax::Form;
+use wasm_syntax::{Form, Instr};
 
 const PREAMBLE: &[u8] = b"\0asm\x01\0\0\0";
 
@@ -140,14 +141,41 @@ fn bodies_are_decoded_or_not(rt: HostRuntime) -> Result<(), Fail> {
         (Form::Core, "42ffffffffffffffffff800b", false),
         (Form::Core, "430000000b", false),
         // Numeric instructions.
-        (Form::Core, "45a0bf0b", true),
-        (Form::Core, "c00b", false),
+        (Form::Core, "45a0bfc0c1c2c3c40b", true),
+        (Form::Core, "c50b", false),
+        // Copying and filling memory, the number after the prefix in one byte, in two and in five.
+        (Form::Core, "fc0a0000fc0b000b", true),
+        (Form::Replay, "fc0a0000fc0b000b", true),
+        (Form::Core, "fc8a000000fc8b80808000000b", true),
+        // The number in six bytes, past 32 bits, cut short.
+        (Form::Core, "fc8a808080800000000b", false),
+        (Form::Core, "fc8b8080801000000b", false),
+        (Form::Core, "fc8b", false),
+        // A byte after it that is not zero, one that is missing.
+        (Form::Core, "fc0a01000b", false),
+        (Form::Core, "fc0a00010b", false),
+        (Form::Core, "fc0a000b", false),
+        (Form::Core, "fc0b010b", false),
+        (Form::Core, "fc0b0b", false),
+        // Numbers of other instructions: `i32.trunc_sat_f32_s`, `data.drop`, `table.copy`, `table.fill`; 266, whose
+        // low byte is that of `memory.copy`.
+        (Form::Replay, "fc000b", false),
+        (Form::Replay, "fc09000b", false),
+        (Form::Replay, "fc0e00000b", false),
+        (Form::Replay, "fc11000b", false),
+        (Form::Core, "fc8a0200000b", false),
         // References and table entries, in replay binaries alone.
         (Form::Replay, "2600d070d2000b", true),
         (Form::Replay, "d06f0b", false),
         (Form::Core, "26000b", false),
         (Form::Core, "d0700b", false),
         (Form::Core, "d2000b", false),
+        // Growing tables and their sizes, in replay binaries alone; numbers in more bytes than they need.
+        (Form::Replay, "fc0f00fc10010b", true),
+        (Form::Replay, "fc8f00ffffffff0ffc90808080008080000b", true),
+        (Form::Replay, "fc0fffffffff1f0b", false),
+        (Form::Core, "fc0f000b", false),
+        (Form::Core, "fc10000b", false),
     ];
     for (form, instructions, is_good) in rows {
         let body = hex::decode(alloc, instructions)?;
@@ -163,6 +191,28 @@ fn bodies_are_decoded_or_not(rt: HostRuntime) -> Result<(), Fail> {
         let at = if is_good { None } else { Some(18) };
         assert_eq!(rt; place(alloc, bytes.as_slice(), form)?, at, "{instructions}");
     }
+    Ok(())
+}
+
+#[test]
+fn later_instructions_are_told_apart(rt: HostRuntime) -> Result<(), Fail> {
+    let alloc = rt.alloc();
+    // The numbers after the prefix in one byte, in two, in three and in five.
+    let bytes = hex::decode(alloc, "fc0a0000fc8b0000fc8f800003fc9080808000ac02c40b")?;
+    let (body, rest) = first_expr(alloc, Form::Replay, bytes.as_slice())?;
+    let is_read = matches!(
+        body.as_slice(),
+        [
+            Instr::MemoryCopy,
+            Instr::MemoryFill,
+            Instr::TableGrow(3),
+            Instr::TableSize(300),
+            Instr::Numeric(0xc4),
+            Instr::End,
+        ]
+    );
+    assert!(rt; is_read);
+    assert!(rt; rest.is_empty());
     Ok(())
 }
 

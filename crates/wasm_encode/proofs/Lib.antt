@@ -1,3 +1,4 @@
+mod InstructionLemmas
 mod LengthLemmas
 mod ModuleLemmas
 mod TwoAnswers

@@ -10,7 +10,8 @@ ghost use Rattle.wasm_encode.specs.NotEmpty.{instr_some};
 ghost use Rattle.wasm_syntax.specs.Encoding.Encodable.{FitsConst, FitsInstr, FitsU32};
 ghost use Rattle.wasm_syntax.specs.Encoding.Shortest.{access_bytes, body_bytes, const_bytes, instr_bytes};
 ghost use Rattle.wasm_syntax.specs.declared.forms.Form.TheVariants.{Replay};
-ghost use Rattle.wasm_syntax.specs.declared.instructions.Instr.TheVariants.{BrTable, CallIndirect};
+ghost use Rattle.wasm_syntax.specs.declared.instructions.Instr.TheVariants.{BrTable, CallIndirect, MemoryCopy, MemoryFill};
+ghost use Rattle.wasm_opcodes.specs.declared.TheConstants.{PREFIX};
 
 use crate::encoding::Encoding;
 use crate::lengths::{i64_length, u32_length};
@@ -23,11 +24,13 @@ use wasm_opcodes::marks::TYPE_FUNCREF;
 use wasm_opcodes::{
     BLOCK, BR, BR_IF, BR_TABLE, CALL, CALL_INDIRECT, DROP, ELSE, END, F32_CONST, F64_CONST,
     GLOBAL_GET, GLOBAL_SET, I32_CONST, I64_CONST, IF, LOCAL_GET, LOCAL_SET, LOCAL_TEE, LOOP,
-    MEMORY_GROW, MEMORY_SIZE, NOP, REF_FUNC, REF_NULL, RETURN, SELECT, TABLE_SET, UNREACHABLE,
+    MEMORY_COPY, MEMORY_FILL, MEMORY_GROW, MEMORY_SIZE, NOP, PREFIX, REF_FUNC, REF_NULL, RETURN,
+    SELECT, TABLE_GROW, TABLE_SET, TABLE_SIZE, UNREACHABLE,
 };
 use wasm_syntax::{Body, Instr, Labels, MemArg, Val, ValType};
 
-/// The byte that ends `call_indirect`, `memory.size` and `memory.grow` (Core 1.0, 5.4.1 and 5.4.4).
+/// The byte that ends `call_indirect`, `memory.size`, `memory.grow` and `memory.fill`, and twice `memory.copy` (Core
+/// 1.0, 5.4.1 and 5.4.4; Core 2.0, 5.4.6).
 const RESERVED: u8 = 0x00;
 
 /// Instructions (Core 1.0, 5.4).
@@ -56,9 +59,12 @@ impl Encoding for Instrs {
             | Instr::GlobalSet(index)
             | Instr::RefFunc(index)
             | Instr::TableSet(index) => 1 + u32_length(u64::from(*index)),
+            Instr::TableGrow(table) | Instr::TableSize(table) => 2 + u32_length(u64::from(*table)),
             Instr::Load(access) | Instr::Store(access) => access_length(*access),
             Instr::Const(value) => const_length(*value),
             Instr::MemorySize | Instr::MemoryGrow | Instr::RefNull => 2,
+            Instr::MemoryCopy => 4,
+            Instr::MemoryFill => 3,
             _ => 1,
         }
     }
@@ -88,11 +94,15 @@ impl Encoding for Instrs {
             Instr::Load(access) | Instr::Store(access) => write_access(*access, out),
             Instr::MemorySize => push_pair(out, MEMORY_SIZE, RESERVED),
             Instr::MemoryGrow => push_pair(out, MEMORY_GROW, RESERVED),
+            Instr::MemoryCopy => write_memory_copy(out),
+            Instr::MemoryFill => write_memory_fill(out),
             Instr::Const(value) => write_const(*value, out),
             Instr::Numeric(op) => push_byte(out, *op),
             Instr::TableSet(table) => push_marked(out, TABLE_SET, *table),
             Instr::RefNull => push_pair(out, REF_NULL, TYPE_FUNCREF),
             Instr::RefFunc(func) => push_marked(out, REF_FUNC, *func),
+            Instr::TableGrow(table) => push_prefixed(out, TABLE_GROW, *table),
+            Instr::TableSize(table) => push_prefixed(out, TABLE_SIZE, *table),
         }
     }
 
@@ -146,6 +156,33 @@ fn write_call_indirect(ty: u32, out: &mut Vec<u8>) -> Result<(), NoMemory>
 {
     push_marked(out, CALL_INDIRECT, ty)?;
     push_byte(out, RESERVED)
+}
+
+/// Appends a `memory.copy`.
+#[tactic(auto, unfolding(wasm_syntax::specs::Encoding::Shortest::instr_bytes))]
+fn write_memory_copy(out: &mut Vec<u8>) -> Result<(), NoMemory>
+    ensures { OnOk result (out.new.items ≡ out.old.items ++ instr_bytes MemoryCopy) }
+{
+    push_marked(out, PREFIX, MEMORY_COPY)?;
+    push_pair(out, RESERVED, RESERVED)
+}
+
+/// Appends a `memory.fill`.
+#[tactic(auto, unfolding(wasm_syntax::specs::Encoding::Shortest::instr_bytes))]
+fn write_memory_fill(out: &mut Vec<u8>) -> Result<(), NoMemory>
+    ensures { OnOk result (out.new.items ≡ out.old.items ++ instr_bytes MemoryFill) }
+{
+    push_marked(out, PREFIX, MEMORY_FILL)?;
+    push_byte(out, RESERVED)
+}
+
+/// Appends the instruction of the prefix and a number, with an index (Core 2.0, 5.4.5).
+fn push_prefixed(out: &mut Vec<u8>, number: u32, index: u32) -> Result<(), NoMemory>
+    ensures { OnOk result
+        (out.new.items ≡ out.old.items ++ PREFIX ∷ (u32_bytes number ++ u32_bytes index)) }
+{
+    push_marked(out, PREFIX, number)?;
+    push_u32(out, index)
 }
 
 /// How many bytes a load or a store has.

@@ -1,15 +1,18 @@
-//! A module in bytes that were written by hand, with ample memory.
+//! A module and a body in bytes that were written by hand, with ample memory.
 
-ghost use Rattle.std.specs.Prelude.{◌≡◌, ◌∷◌, [], IfOk};
+ghost use Rattle.std.specs.Prelude.{◌≡◌, ◌^◌, ◌<◌, ◌∷◌, [], length, IfOk};
+ghost use Rattle.std.specs.List.{AllByRecursion};
 ghost use Rattle.wasm_opcodes.specs.declared.TheConstants.{I32_ADD};
-ghost use Rattle.wasm_syntax.specs.Encoding.Encodable.{IsEncodable};
+ghost use Rattle.wasm_syntax.specs.Encoding.Encodable.{FitsInstr, IsEncodable};
+ghost use Rattle.wasm_syntax.specs.Encoding.Shortest.{body_bytes};
 ghost use Rattle.wasm_syntax.specs.declared.forms.Form.TheVariants.{Replay};
 ghost use Rattle.wasm_syntax.specs.declared.instructions.Instr.TheVariants.{Call, End, Numeric};
 
 use super::*;
+use crate::instructions::{body_length, write_body};
 use std::alloc::{AllocError, Global as Heap};
 use std::test::Fail;
-use wasm_opcodes::I32_ADD;
+use wasm_opcodes::{I32_ADD, I64_EXTEND32_S};
 use wasm_syntax::{
     Body, Export, ExportKind, Func, FuncType, Import, ImportKind, Instr, List, Module, Name,
     ValType,
@@ -97,5 +100,37 @@ fn two_answers_not_in_45_bytes(rt: HostRuntime) -> Result<(), Fail> {
     let module = two_answers(rt.alloc())?;
     let refused = encode(rt.alloc(), &module, 45).err();
     assert_eq!(rt; refused, Some(EncodeFault::TooLong));
+    Ok(())
+}
+
+fn later_instructions(alloc: Heap) -> Result<Body, AllocError>
+    ensures fits { IfOk result (AllByRecursion (FitsInstr Replay)) }
+    ensures sizes { IfOk result (λ body. length (body_bytes body) < 2 ^ 32) }
+{
+    let mut body = Vec::new(alloc);
+    body.push(Instr::MemoryCopy)?;
+    body.push(Instr::MemoryFill)?;
+    body.push(Instr::TableGrow(3))?;
+    body.push(Instr::TableSize(300))?;
+    body.push(Instr::Numeric(I64_EXTEND32_S))?;
+    body.push(Instr::End)?;
+    Ok(List::from_vec(body))
+}
+
+#[test]
+fn later_instructions_in_16_bytes(rt: HostRuntime) -> Result<(), Fail> {
+    let body = later_instructions(rt.alloc())?;
+    let mut bytes = Vec::new(rt.alloc());
+    write_body(&body, &mut bytes)?;
+    let expected: [u8; 16] = [
+        0xfc, 0x0a, 0x00, 0x00, // memory.copy
+        0xfc, 0x0b, 0x00, // memory.fill
+        0xfc, 0x0f, 0x03, // table.grow 3
+        0xfc, 0x10, 0xac, 0x02, // table.size 300
+        0xc4, // i64.extend32_s
+        0x0b, // end
+    ];
+    assert_eq!(rt; bytes.as_slice(), expected.as_slice());
+    assert_eq!(rt; body_length(&body), 16);
     Ok(())
 }

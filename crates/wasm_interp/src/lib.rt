@@ -20,6 +20,7 @@ mod returns;
 mod signatures;
 mod stack;
 mod stretch_ends;
+mod table;
 mod turns;
 mod values;
 mod walks;

@@ -14,8 +14,9 @@ use std::alloc::Global;
 use wasm_flat::{Flat, Op};
 use wasm_opcodes::{
     F32_LOAD, F32_REINTERPRET_I32, F32_STORE, F64_GE, F64_LOAD, F64_REINTERPRET_I64, F64_STORE,
-    I32_GE_U, I32_LOAD, I32_LOAD8_S, I32_LOAD8_U, I32_LOAD16_S, I32_LOAD16_U, I32_REINTERPRET_F32,
-    I32_ROTR, I32_STORE, I32_STORE8, I32_STORE16, I32_WRAP_I64, I64_REINTERPRET_F64, I64_ROTR,
+    I32_EXTEND8_S, I32_EXTEND16_S, I32_GE_U, I32_LOAD, I32_LOAD8_S, I32_LOAD8_U, I32_LOAD16_S,
+    I32_LOAD16_U, I32_REINTERPRET_F32, I32_ROTR, I32_STORE, I32_STORE8, I32_STORE16, I32_WRAP_I64,
+    I64_EXTEND8_S, I64_REINTERPRET_F64, I64_ROTR,
 };
 use wasm_syntax::ValType;
 
@@ -37,6 +38,8 @@ fn operand_type(opcode: u8) -> ValType
         ValType::F32
     } else if opcode == I64_REINTERPRET_F64 {
         ValType::F64
+    } else if I64_EXTEND8_S <= opcode {
+        ValType::I64
     } else {
         ValType::I32
     }
@@ -53,6 +56,8 @@ fn result_type(opcode: u8) -> ValType
     } else if opcode <= I64_ROTR {
         ValType::I64
     } else if opcode == I32_WRAP_I64 || opcode == I32_REINTERPRET_F32 {
+        ValType::I32
+    } else if opcode == I32_EXTEND8_S || opcode == I32_EXTEND16_S {
         ValType::I32
     } else if opcode == F32_REINTERPRET_I32 {
         ValType::F32
@@ -118,7 +123,12 @@ pub(crate) fn operand_types(alloc: Global, flat: &Flat, op: &Op) -> Result<Vec<V
         Op::Test { op } | Op::Unary { op } => one_operand(alloc, *op),
         Op::Convert { op } => one_operand(alloc, *op),
         Op::Compare { op } | Op::Binary { op } => two_operands(alloc, *op),
+        Op::MemoryCopy | Op::MemoryFill => list_of_types(
+            alloc,
+            &[ValType::I32, ValType::I32, ValType::I32],
+        ),
         Op::TableSet => list_of_types(alloc, &[ValType::I32, ValType::FuncRef]),
+        Op::TableGrow => list_of_types(alloc, &[ValType::FuncRef, ValType::I32]),
         _ => list_of_types(alloc, &[]),
     }
 }
@@ -133,6 +143,7 @@ pub(crate) fn result_types(alloc: Global, op: &Op) -> Result<Vec<ValType>, NoMem
         Op::LocalTee { ty, .. } | Op::GlobalGet { ty, .. } => list_of_types(alloc, &[*ty]),
         Op::Load { op, .. } => list_of_types(alloc, &[load_type(*op)]),
         Op::MemorySize | Op::MemoryGrow => list_of_types(alloc, &[ValType::I32]),
+        Op::TableGrow | Op::TableSize => list_of_types(alloc, &[ValType::I32]),
         Op::Const { value } => list_of_types(alloc, &[value.ty]),
         Op::Test { op } | Op::Compare { op } => numeric_result(alloc, *op),
         Op::Unary { op } | Op::Binary { op } => numeric_result(alloc, *op),

@@ -8,7 +8,7 @@ ghost use Rattle.flat_steps.specs.FlatStep.{same_types_there, calls_entry};
 ghost use Rattle.wasm_interp.specs.Controls.{control_of};
 
 use crate::control::Control;
-use crate::memory::entry;
+use crate::table::entry;
 use history_spec::TrapKind;
 use wasm_flat::Flat;
 use wasm_opcodes::marks::{TYPE_F32, TYPE_F64, TYPE_FUNCREF, TYPE_I32, TYPE_I64};

@@ -1,9 +1,9 @@
 -- Which opcodes each kind has, and how wide its operands are: a test that is computed over the table, and what it says at each opcode.
-use Rattle.std.proofs.Common.{◌≡◌, ℕ, zero, suc, ◌<◌, ◌≤◌, ◌⊎◌, ◌≢◌, Bool, true, false, ◌&&◌, ◌||◌, List, [], ◌∷◌, nat_le, nat_lt, if◌then◌else◌, ◌==◌, refl, sym, subst, arith, inl, inr}
+use Rattle.std.proofs.Common.{◌≡◌, ℕ, ◌<◌, ◌≤◌, ◌⊎◌, ◌≢◌, Bool, true, false, ◌&&◌, ◌||◌, List, [], ◌∷◌, nat_le, nat_lt, if◌then◌else◌, ◌==◌, refl, sym, subst, arith, inl, inr}
 use Rattle.std.proofs.lemmas.Bool.{eqb-true, ltb-true, lt-leb, and_right, cases_lt}
 use Rattle.std.proofs.lemmas.Bool.Decides.{nat_tests}
 use Rattle.list_laws.proofs.Booleans.{all_below, and_parts, passes_below}
-use Rattle.wasm_opcodes.specs.declared.TheConstants.{I32_EQ, I32_GE_U, I64_EQ, I64_GE_U, I32_CLZ, I32_POPCNT, I64_CLZ, I64_POPCNT, I32_ADD, I32_ROTR, I64_ADD, I64_ROTR, I32_WRAP_I64, I64_EXTEND_I32_S}
+use Rattle.wasm_opcodes.specs.declared.TheConstants.{I32_EQ, I32_GE_U, I64_EQ, I64_GE_U, I32_CLZ, I32_POPCNT, I64_CLZ, I64_POPCNT, I32_EXTEND8_S, I32_EXTEND16_S, I64_EXTEND8_S, I64_EXTEND32_S, I32_ADD, I32_ROTR, I64_ADD, I64_ROTR, I32_WRAP_I64, I64_EXTEND_I32_S}
 use Rattle.wasm_numeric.specs.Opcode.{Row, Kind, Compare, Unary, Binary, Convert, NotNumeric, kind_of, width, width_of, result_of, rows, row_among}
 
 -- each row ends below 256
@@ -30,7 +30,9 @@ lies first last op = nat_le first op && nat_le op last
 -- what the table says of an opcode of a kind whose operands have w bits
 abbrev says : Kind → (w op : ℕ) → Bool
 says Compare w op = (lies I32_EQ I32_GE_U op && w == 32) || (lies I64_EQ I64_GE_U op && w == 64)
-says Unary w op = (lies I32_CLZ I32_POPCNT op && w == 32) || (lies I64_CLZ I64_POPCNT op && w == 64)
+says Unary w op =
+    ((lies I32_CLZ I32_POPCNT op && w == 32) || (lies I64_CLZ I64_POPCNT op && w == 64))
+    || ((lies I32_EXTEND8_S I32_EXTEND16_S op && w == 32) || (lies I64_EXTEND8_S I64_EXTEND32_S op && w == 64))
 says Binary w op = (lies I32_ADD I32_ROTR op && w == 32) || (lies I64_ADD I64_ROTR op && w == 64)
 says _ w op = true
 
@@ -52,8 +54,31 @@ in_ranges first32 last32 first64 last64 w op h = grind (arith, nat_tests)
 pub compare_opcodes : (op : ℕ) → kind_of op ≡ Compare → InRanges I32_EQ I32_GE_U I64_EQ I64_GE_U (width_of op) op
 compare_opcodes op is = in_ranges I32_EQ I32_GE_U I64_EQ I64_GE_U (width_of op) op (said op Compare is)
 
-pub unary_opcodes : (op : ℕ) → kind_of op ≡ Unary → InRanges I32_CLZ I32_POPCNT I64_CLZ I64_POPCNT (width_of op) op
-unary_opcodes op is = in_ranges I32_CLZ I32_POPCNT I64_CLZ I64_POPCNT (width_of op) op (said op Unary is)
+-- counts of bits, or sign extensions
+abbrev pub IsUnary : (w op : ℕ) → Type 0
+IsUnary w op =
+    InRanges I32_CLZ I32_POPCNT I64_CLZ I64_POPCNT w op
+    ⊎ InRanges I32_EXTEND8_S I32_EXTEND16_S I64_EXTEND8_S I64_EXTEND32_S w op
+
+unary_says : (w op : ℕ) → says Unary w op ≡ true → IsUnary w op
+unary_says w op h = grind (arith, nat_tests)
+
+pub unary_opcodes : (op : ℕ) → kind_of op ≡ Unary → IsUnary (width_of op) op
+unary_opcodes op is = unary_says (width_of op) op (said op Unary is)
+
+-- one whose operand is no `i32` is on an `i64`
+pub unary_width : (w op : ℕ) → IsUnary w op → w == 32 ≡ false → w ≡ 64
+unary_width w op is other = grind (arith, nat_tests)
+
+-- those on `i32` stand up to the counts of bits on `i32`, and from the sign extensions to `i32` on, before those to `i64`
+pub unary_between : (w op : ℕ) → IsUnary w op → I32_POPCNT < op → op < I32_EXTEND8_S → w == 32 ≡ false
+unary_between w op is low high = grind (arith, nat_tests)
+
+pub unary_from : (w op : ℕ) → IsUnary w op → I32_EXTEND8_S ≤ op → w == 32 ≡ nat_le op I32_EXTEND16_S
+unary_from w op (inl (inl low)) past = absurd (omega (arith, low.1))
+unary_from w op (inl (inr high)) past = absurd (omega (arith, high.1))
+unary_from w op (inr (inl low)) past = grind (arith, nat_tests, low)
+unary_from w op (inr (inr high)) past = grind (arith, nat_tests, high)
 
 pub binary_opcodes : (op : ℕ) → kind_of op ≡ Binary → InRanges I32_ADD I32_ROTR I64_ADD I64_ROTR (width_of op) op
 binary_opcodes op is = in_ranges I32_ADD I32_ROTR I64_ADD I64_ROTR (width_of op) op (said op Binary is)

@@ -6,7 +6,7 @@ use Rattle.std.proofs.lemmas.Bool.{cases_eq, eq-eqb, ne_eqb}
 use Rattle.std.proofs.lemmas.Nat.{pow_pos, or_lt}
 use Rattle.wasm_opcodes.specs.declared.TheConstants.{I32_WRAP_I64, I64_EXTEND_I32_S}
 use Rattle.wasm_numeric.specs.declared.operation.UnaryOp.{UnaryOp}
-use Rattle.wasm_numeric.specs.declared.operation.UnaryOp.TheVariants.{Clz, Ctz, Popcnt}
+use Rattle.wasm_numeric.specs.declared.operation.UnaryOp.TheVariants.{Clz, Ctz, Popcnt, Extend8S, Extend16S, Extend32S}
 use Rattle.wasm_numeric.specs.declared.operation.BinaryOp.{BinaryOp}
 use Rattle.wasm_numeric.specs.declared.operation.BinaryOp.TheVariants.{Add, Sub, Mul, DivS, DivU, RemS, RemU, And, Or, Xor, Shl, ShrS, ShrU, Rotl, Rotr}
 use Rattle.wasm_numeric.specs.Integer.{sum_below, greatest_below, modulo, signed, quotient, remainder, floor_quotient, bit, number_of_bits, rotl_by, BinaryValue, Bits, DivideByZero, Overflow, binary_value, unary_value, wrap, extend_s}
@@ -55,6 +55,9 @@ unary_value_fits Clz w a = count_fits w a (w - 1 - greatest_below w (λ i. nat_l
 unary_value_fits Ctz w a =
     count_fits w a (greatest_below w (λ i. a % 2 ^ i == 0)) (greatest_below-le w (λ i. a % 2 ^ i == 0))
 unary_value_fits Popcnt w a = omega (arith, sum_of_bits w a, width_fits w)
+unary_value_fits Extend8S w a = modulo_fits w (signed 8 (a % 2 ^ 8))
+unary_value_fits Extend16S w a = modulo_fits w (signed 16 (a % 2 ^ 16))
+unary_value_fits Extend32S w a = modulo_fits w (signed 32 (a % 2 ^ 32))
 
 -- the value, if there is one, has w bits
 abbrev pub FitsIn : ℕ → BinaryValue → Type 0

@@ -1,7 +1,8 @@
--- What the integer operations compute (Core 1.0, 4.3.2; conversions 4.3.4). A value of w bits is a number below 2 ^ w.
+-- What the integer operations compute (Core 1.0, 4.3.2; conversions 4.3.4; sign extensions: Core 2.0, 4.3.2). A value
+-- of w bits is a number below 2 ^ w.
 use Rattle.std.specs.Prelude.{ℕ, zero, suc, ◌+◌, ◌-◌, ◌*◌, ◌/◌, ◌%◌, ◌^◌, max, Bool, true, false, not, ◌&&◌, if◌then◌else◌, nat_lt, nat_le, ◌==◌, ℤ, pos, negsuc, ◌-ℤ◌, neg_ℤ, unsigned_abs, int_lt, int_le}
 use Rattle.wasm_numeric.specs.declared.operation.UnaryOp.{UnaryOp}
-use Rattle.wasm_numeric.specs.declared.operation.UnaryOp.TheVariants.{Clz, Ctz, Popcnt}
+use Rattle.wasm_numeric.specs.declared.operation.UnaryOp.TheVariants.{Clz, Ctz, Popcnt, Extend8S, Extend16S, Extend32S}
 use Rattle.wasm_numeric.specs.declared.operation.BinaryOp.{BinaryOp}
 use Rattle.wasm_numeric.specs.declared.operation.BinaryOp.TheVariants.{Add, Sub, Mul, DivS, DivU, RemS, RemU, And, Or, Xor, Shl, ShrS, ShrU, Rotl, Rotr}
 use Rattle.wasm_numeric.specs.declared.operation.CompareOp.{CompareOp}
@@ -126,11 +127,18 @@ clz w a = if a == 0 then w else w - 1 - greatest_below w (λ i. nat_le (2 ^ i) a
 abbrev pub ctz : (w a : ℕ) → ℕ
 ctz w a = if a == 0 then w else greatest_below w (λ i. a % 2 ^ i == 0)
 
+-- "iextend_s": the lowest `low` bits of a with their sign, as a number of w bits
+abbrev pub extended : (low w a : ℕ) → ℕ
+extended low w a = modulo w (signed low (a % 2 ^ low))
+
 -- what each operation computes of a, at w bits
 abbrev pub unary_value : UnaryOp → (w a : ℕ) → ℕ
 unary_value Clz w a = clz w a
 unary_value Ctz w a = ctz w a
 unary_value Popcnt w a = sum_below w (λ i. bit a i)
+unary_value Extend8S w a = extended 8 w a
+unary_value Extend16S w a = extended 16 w a
+unary_value Extend32S w a = extended 32 w a
 
 -- ---- tests, which give 1 or 0
 

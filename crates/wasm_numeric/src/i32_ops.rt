@@ -15,6 +15,9 @@ pub fn i32_unary(operation: UnaryOp, a: u32) -> u32
         UnaryOp::Clz => a.leading_zeros(),
         UnaryOp::Ctz => a.trailing_zeros(),
         UnaryOp::Popcnt => a.count_ones(),
+        UnaryOp::Extend8S => i32::from(((a % 0x100) as u8).cast_signed()).cast_unsigned(),
+        UnaryOp::Extend16S => i32::from(((a % 0x1_0000) as u16).cast_signed()).cast_unsigned(),
+        UnaryOp::Extend32S => a,
     }
 }
 

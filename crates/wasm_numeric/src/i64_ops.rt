@@ -15,6 +15,9 @@ pub fn i64_unary(operation: UnaryOp, a: u64) -> u64
         UnaryOp::Clz => u64::from(a.leading_zeros()),
         UnaryOp::Ctz => u64::from(a.trailing_zeros()),
         UnaryOp::Popcnt => u64::from(a.count_ones()),
+        UnaryOp::Extend8S => i64::from(((a % 0x100) as u8).cast_signed()).cast_unsigned(),
+        UnaryOp::Extend16S => i64::from(((a % 0x1_0000) as u16).cast_signed()).cast_unsigned(),
+        UnaryOp::Extend32S => i64::from(((a % 0x1_0000_0000) as u32).cast_signed()).cast_unsigned(),
     }
 }
 

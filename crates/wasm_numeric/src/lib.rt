@@ -2,7 +2,7 @@
 //! instructions (5.4.5). No operation takes memory.
 #![tactic(auto)]
 
-ghost use Rattle.std.specs.Prelude.{◌≡◌, ℕ, ◌^◌, ◌<◌, ◌≤◌, IfOk};
+ghost use Rattle.std.specs.Prelude.{◌≡◌, ℕ, ◌^◌, ◌<◌, ◌≤◌, ◌==◌, IfOk};
 ghost use Rattle.wasm_numeric.specs.Integer.{Bits};
 ghost use Rattle.wasm_numeric.specs.Opcode.{Test, Compare, Unary, Binary, Convert, kind_of, width, width_of, result_of, test_of, compare_of, unary_of, binary_of, convert_of, answer_of};
 
@@ -14,7 +14,9 @@ use i32_ops::{i32_binary, i32_compare, i32_unary};
 use i64_ops::{i64_binary, i64_compare, i64_unary};
 use operation::{binary_op, compare_op, unary_op};
 use thiserror::Error;
-use wasm_opcodes::{I32_GE_U, I32_POPCNT, I32_ROTR, I32_WRAP_I64, I64_EXTEND_I32_S};
+use wasm_opcodes::{
+    I32_EXTEND8_S, I32_EXTEND16_S, I32_GE_U, I32_POPCNT, I32_ROTR, I32_WRAP_I64, I64_EXTEND_I32_S,
+};
 
 /// Why an integer operation has no value.
 #[derive(Clone, Copy, PartialEq, Eq, Debug, Error)]
@@ -51,7 +53,8 @@ pub fn compare(op: u8, a: u64, b: u64) -> u32
     }
 }
 
-/// What a unary operation computes of `a` (Core 1.0, 4.3.2, "iclz", "ictz", "ipopcnt").
+/// What a unary operation computes of `a` (Core 1.0, 4.3.2, "iclz", "ictz", "ipopcnt"; Core 2.0, 4.3.2,
+/// "iextendM_s").
 #[inline]
 pub fn unary(op: u8, a: u64) -> u64
     requires kind { kind_of op ≡ Unary }
@@ -60,11 +63,20 @@ pub fn unary(op: u8, a: u64) -> u64
     ensures fits { result < 2 ^ width (result_of op) }
 {
     let operation = unary_op(op);
-    if op <= I32_POPCNT {
+    if is_of_i32(op) {
         u64::from(i32_unary(operation, a as u32))
     } else {
         i64_unary(operation, a)
     }
+}
+
+/// Whether the operand of a unary operation is an `i32`.
+#[inline]
+fn is_of_i32(op: u8) -> bool
+    requires { kind_of op ≡ Unary }
+    ensures { result ≡ width_of op == 32 }
+{
+    op <= I32_POPCNT || (I32_EXTEND8_S <= op && op <= I32_EXTEND16_S)
 }
 
 /// What a binary operation computes of `a` and `b`, or why it has no value (Core 1.0, 4.3.2,

@@ -3,10 +3,11 @@ ghost use Rattle.std.specs.Prelude.{◌≡◌};
 ghost use Rattle.wasm_numeric.specs.Opcode.{Compare, Unary, Binary, kind_of, unary_op_of, binary_op_of, compare_op_of};
 
 use wasm_opcodes::{
-    I32_ADD, I32_AND, I32_CLZ, I32_CTZ, I32_DIV_S, I32_DIV_U, I32_EQ, I32_GE_S, I32_GE_U, I32_GT_S,
-    I32_GT_U, I32_LE_S, I32_LE_U, I32_LT_S, I32_LT_U, I32_MUL, I32_NE, I32_OR, I32_POPCNT,
-    I32_REM_S, I32_REM_U, I32_ROTL, I32_ROTR, I32_SHL, I32_SHR_S, I32_SHR_U, I32_SUB, I32_XOR,
-    I64_ADD, I64_AND, I64_CLZ, I64_CTZ, I64_DIV_S, I64_DIV_U, I64_EQ, I64_GE_S, I64_GE_U, I64_GT_S,
+    I32_ADD, I32_AND, I32_CLZ, I32_CTZ, I32_DIV_S, I32_DIV_U, I32_EQ, I32_EXTEND8_S,
+    I32_EXTEND16_S, I32_GE_S, I32_GE_U, I32_GT_S, I32_GT_U, I32_LE_S, I32_LE_U, I32_LT_S, I32_LT_U,
+    I32_MUL, I32_NE, I32_OR, I32_POPCNT, I32_REM_S, I32_REM_U, I32_ROTL, I32_ROTR, I32_SHL,
+    I32_SHR_S, I32_SHR_U, I32_SUB, I32_XOR, I64_ADD, I64_AND, I64_CLZ, I64_CTZ, I64_DIV_S,
+    I64_DIV_U, I64_EQ, I64_EXTEND8_S, I64_EXTEND16_S, I64_EXTEND32_S, I64_GE_S, I64_GE_U, I64_GT_S,
     I64_GT_U, I64_LE_S, I64_LE_U, I64_LT_S, I64_LT_U, I64_MUL, I64_NE, I64_OR, I64_POPCNT,
     I64_REM_S, I64_REM_U, I64_ROTL, I64_ROTR, I64_SHL, I64_SHR_S, I64_SHR_U, I64_SUB, I64_XOR,
 };
@@ -17,6 +18,9 @@ pub enum UnaryOp {
     Clz,
     Ctz,
     Popcnt,
+    Extend8S,
+    Extend16S,
+    Extend32S,
 }
 
 /// An operation on two integers.
@@ -64,6 +68,9 @@ pub fn unary_op(op: u8) -> UnaryOp
         I32_CLZ | I64_CLZ => UnaryOp::Clz,
         I32_CTZ | I64_CTZ => UnaryOp::Ctz,
         I32_POPCNT | I64_POPCNT => UnaryOp::Popcnt,
+        I32_EXTEND8_S | I64_EXTEND8_S => UnaryOp::Extend8S,
+        I32_EXTEND16_S | I64_EXTEND16_S => UnaryOp::Extend16S,
+        I64_EXTEND32_S => UnaryOp::Extend32S,
         _ => unreachable!(),
     }
 }

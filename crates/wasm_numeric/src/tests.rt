@@ -3,12 +3,14 @@
 use super::*;
 use wasm_opcodes::{
     F32_REINTERPRET_I32, F64_REINTERPRET_I64, I32_ADD, I32_AND, I32_CLZ, I32_CTZ, I32_DIV_S,
-    I32_DIV_U, I32_EQ, I32_EQZ, I32_GE_S, I32_GT_S, I32_GT_U, I32_LE_S, I32_LE_U, I32_LT_S,
-    I32_LT_U, I32_MUL, I32_NE, I32_OR, I32_REINTERPRET_F32, I32_REM_S, I32_REM_U, I32_ROTL,
-    I32_SHL, I32_SHR_S, I32_SHR_U, I32_SUB, I32_XOR, I64_ADD, I64_AND, I64_CLZ, I64_CTZ, I64_DIV_S,
-    I64_DIV_U, I64_EQ, I64_EQZ, I64_EXTEND_I32_U, I64_GE_S, I64_GE_U, I64_GT_S, I64_GT_U, I64_LE_S,
-    I64_LE_U, I64_LT_S, I64_LT_U, I64_MUL, I64_NE, I64_OR, I64_POPCNT, I64_REINTERPRET_F64,
-    I64_REM_S, I64_REM_U, I64_ROTL, I64_ROTR, I64_SHL, I64_SHR_S, I64_SHR_U, I64_SUB, I64_XOR,
+    I32_DIV_U, I32_EQ, I32_EQZ, I32_EXTEND8_S, I32_EXTEND16_S, I32_GE_S, I32_GT_S, I32_GT_U,
+    I32_LE_S, I32_LE_U, I32_LT_S, I32_LT_U, I32_MUL, I32_NE, I32_OR, I32_REINTERPRET_F32,
+    I32_REM_S, I32_REM_U, I32_ROTL, I32_SHL, I32_SHR_S, I32_SHR_U, I32_SUB, I32_XOR, I64_ADD,
+    I64_AND, I64_CLZ, I64_CTZ, I64_DIV_S, I64_DIV_U, I64_EQ, I64_EQZ, I64_EXTEND_I32_U,
+    I64_EXTEND8_S, I64_EXTEND16_S, I64_EXTEND32_S, I64_GE_S, I64_GE_U, I64_GT_S, I64_GT_U,
+    I64_LE_S, I64_LE_U, I64_LT_S, I64_LT_U, I64_MUL, I64_NE, I64_OR, I64_POPCNT,
+    I64_REINTERPRET_F64, I64_REM_S, I64_REM_U, I64_ROTL, I64_ROTR, I64_SHL, I64_SHR_S, I64_SHR_U,
+    I64_SUB, I64_XOR,
 };
 
 // Opcode, operand, result.
@@ -32,6 +34,17 @@ const UNARY: [(u8, u64, u64); 12] = [
     (I64_CTZ, 0, 64),
     (I64_POPCNT, 0xDEAD_BEEF_DEAD_BEEF, 48),
     (I64_POPCNT, 0xFFFF_FFFF_FFFF_FFFF, 64),
+];
+
+const SIGN_EXTENSIONS: [(u8, u64, u64); 8] = [
+    (I32_EXTEND8_S, 0x1234_567F, 0x7F),
+    (I32_EXTEND8_S, 0x1234_5680, 0xFFFF_FF80),
+    (I32_EXTEND16_S, 0x1234_7FFF, 0x7FFF),
+    (I32_EXTEND16_S, 0x1234_8000, 0xFFFF_8000),
+    (I64_EXTEND8_S, 0xFE, 0xFFFF_FFFF_FFFF_FFFE),
+    (I64_EXTEND16_S, 0x1_FFFE, 0xFFFF_FFFF_FFFF_FFFE),
+    (I64_EXTEND32_S, 0x1_7FFF_FFFF, 0x7FFF_FFFF),
+    (I64_EXTEND32_S, 0x1_8000_0000, 0xFFFF_FFFF_8000_0000),
 ];
 
 // Opcode, operands, result.
@@ -256,6 +269,17 @@ fn unary_at(op: u8, a: u64) -> Option<u64> {
     }
 }
 
+fn sign_extension_at(op: u8, a: u64) -> Option<u64> {
+    match op {
+        I32_EXTEND8_S if a < PAST_I32 => Some(unary(I32_EXTEND8_S, a)),
+        I32_EXTEND16_S if a < PAST_I32 => Some(unary(I32_EXTEND16_S, a)),
+        I64_EXTEND8_S => Some(unary(I64_EXTEND8_S, a)),
+        I64_EXTEND16_S => Some(unary(I64_EXTEND16_S, a)),
+        I64_EXTEND32_S => Some(unary(I64_EXTEND32_S, a)),
+        _ => None,
+    }
+}
+
 fn binary_at(op: u8, a: u64, b: u64) -> Option<Result<u64, NumTrap>> {
     match op {
         I32_ADD..=I32_ROTR if a < PAST_I32 && b < PAST_I32 => Some(binary(op, a, b)),
@@ -287,6 +311,13 @@ fn comparisons(rt: HostRuntime) {
     }
     for (op, a, b, want) in COMPARISONS_64 {
         assert_eq!(rt; compare_at(op, a, b), Some(want), "{op} of {a} and {b}");
+    }
+}
+
+#[test]
+fn sign_extensions(rt: HostRuntime) {
+    for (op, a, want) in SIGN_EXTENSIONS {
+        assert_eq!(rt; sign_extension_at(op, a), Some(want), "{op} of {a}");
     }
 }
 

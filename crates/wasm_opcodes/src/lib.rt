@@ -1,5 +1,6 @@
-//! The opcodes of instructions (Core 1.0, 5.4), by the standard's names in capitals, and the bytes that mark the other
-//! constructs of the binary format. Code and definitions name them from here: `TheConstants` in clauses.
+//! The opcodes of instructions (Core 1.0, 5.4; some of Core 2.0, 5.4), by the standard's names in capitals, and the
+//! bytes that mark the other constructs of the binary format. Code and definitions name them from here: `TheConstants`
+//! in clauses.
 #![tactic(auto)]
 
 pub mod marks;
@@ -365,9 +366,35 @@ pub const F32_REINTERPRET_I32: u8 = 0xbe;
 /// `f64.reinterpret_i64`
 pub const F64_REINTERPRET_I64: u8 = 0xbf;
 
+// Sign extensions (Core 2.0, 5.4.7).
+
+/// `i32.extend8_s`
+pub const I32_EXTEND8_S: u8 = 0xc0;
+/// `i32.extend16_s`
+pub const I32_EXTEND16_S: u8 = 0xc1;
+/// `i64.extend8_s`
+pub const I64_EXTEND8_S: u8 = 0xc2;
+/// `i64.extend16_s`
+pub const I64_EXTEND16_S: u8 = 0xc3;
+/// `i64.extend32_s`
+pub const I64_EXTEND32_S: u8 = 0xc4;
+
 // Reference instructions (Core 2.0, 5.4.2).
 
 /// `ref.null`
 pub const REF_NULL: u8 = 0xd0;
 /// `ref.func`
 pub const REF_FUNC: u8 = 0xd2;
+
+// Instructions of a prefix and a number (Core 2.0, 5.4.5 and 5.4.6): the prefix, and the numbers.
+
+/// The prefix.
+pub const PREFIX: u8 = 0xfc;
+/// `memory.copy`
+pub const MEMORY_COPY: u32 = 10;
+/// `memory.fill`
+pub const MEMORY_FILL: u32 = 11;
+/// `table.grow`
+pub const TABLE_GROW: u32 = 15;
+/// `table.size`
+pub const TABLE_SIZE: u32 = 16;

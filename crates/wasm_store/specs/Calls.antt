@@ -1,7 +1,7 @@
 -- What each call on a store gives, or the store after it, by the definitions that the steps of a run use (Core 1.0,
 -- 4.4.3, 4.4.4 and 4.4.5.11).
 use Rattle.std.specs.Prelude.{ℕ, ◌+◌, ◌==◌, cond, map, nat_le, List, [], length, Option, Some, None, Bool, ◌||◌, slice_get, option_map, option_and_then}
-use Rattle.history_spec.specs.Store.{Store, Memory, Table, pages, grown_memory, bytes_at, with_items_at, with_bytes_at, number_of, with_entry, with_memory}
+use Rattle.history_spec.specs.Store.{Store, Memory, Table, pages, grown_memory, grown_table, bytes_at, with_items_at, with_bytes_at, with_bytes_filled, number_of, with_entry, with_memory, with_table}
 
 -- the widths of accesses, in bytes
 abbrev pub is_width : ℕ → Bool
@@ -51,9 +51,18 @@ put_bytes store address news = option_map (with_bytes store) (with_bytes_at (byt
 abbrev pub move_bytes : Store → (to source count : ℕ) → Option Store
 move_bytes store to source count = option_and_then (put_bytes store to) (bytes_at (bytes_in store) source count)
 
+-- the store with `count` times the byte written from an address on, where these are all within its memory
+abbrev pub fill_bytes : Store → (to byte count : ℕ) → Option Store
+fill_bytes store to byte count = option_map (with_bytes store) (with_bytes_filled (bytes_in store) to byte count)
+
 -- the store with its memory grown, where there is one and it may grow so far
 abbrev pub grow : Store → ℕ → Option Store
 grow store by = option_map (with_memory store) (option_and_then (λ memory. grown_memory memory by) store.memory)
+
+-- the store with its table grown by entries that each hold the same, where there is one and it may grow so far
+abbrev pub grow_table : Store → (by : ℕ) → (entry : Option ℕ) → Option Store
+grow_table store by entry =
+    option_map (with_table store) (option_and_then (λ table. grown_table table by entry) store.table)
 
 -- the entry of the table at an index, where it is there
 abbrev pub entry_at : Store → ℕ → Option (Option ℕ)

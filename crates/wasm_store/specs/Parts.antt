@@ -10,6 +10,11 @@ abbrev pub minimum_of : Option Limits → ℕ
 minimum_of None = 0
 minimum_of (Some limits) = limits.min
 
+-- the most pages or entries that these limits allow, where they name it
+abbrev pub maximum_of : Option Limits → Option ℕ
+maximum_of None = None
+maximum_of (Some limits) = limits.max
+
 -- the memory of these bytes, where there is one with these limits
 abbrev pub memory_of : List ℕ → Option Limits → Option Memory
 memory_of bytes None = None

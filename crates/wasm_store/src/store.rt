@@ -5,7 +5,7 @@ ghost use Rattle.wasm_syntax.specs.declared.limits.TheConstants.{MOST_ENTRIES, M
 ghost use Rattle.host_script.specs.Supply.{is_within};
 ghost use Rattle.history_spec.specs.Store.{bytes_of, with_global};
 ghost use Rattle.history_spec.specs.Instantiation.{new_memory, new_table};
-ghost use Rattle.wasm_store.specs.Parts.{minimum_of, size_if};
+ghost use Rattle.wasm_store.specs.Parts.{maximum_of, minimum_of, size_if};
 ghost use Rattle.wasm_store.specs.Calls as calls;
 
 use crate::bounds::{OutOfBounds, OutOfTable};
@@ -13,7 +13,7 @@ use crate::{bytes, table};
 use no_memory::NoMemory;
 use std::alloc::Global;
 use std::marker::Model;
-use wasm_syntax::limits::{MOST_PAGES, PAGE_SIZE};
+use wasm_syntax::limits::{MOST_ENTRIES, MOST_PAGES, PAGE_SIZE};
 use wasm_syntax::{Limits, Val};
 
 /// A memory, a table and globals (Core 1.0, 4.2.3). There may be no memory and no table.
@@ -56,20 +56,29 @@ fn byte_count(pages: u32) -> usize
     pages as usize * PAGE_SIZE as usize
 }
 
-/// The size of a memory with `by` pages more, where neither its maximum nor the most pages of any
-/// memory forbid it.
-fn grown_size(pages: u32, max: Option<u32>, by: u32) -> Option<u32>
-    requires { pages ≤ MOST_PAGES }
-    ensures { let size = pages + by
-        in result ≡ size_if (is_within size max && nat_le size MOST_PAGES) size }
+/// The most pages or entries by these limits. None where they name none.
+fn maximum(limits: Option<Limits>) -> Option<u32>
+    ensures { result ≡ maximum_of limits }
 {
-    let size = pages.checked_add(by)?;
+    match limits {
+        Some(limits) => limits.max,
+        None => None,
+    }
+}
+
+/// The size of a memory or a table with `by` pages or entries more, where neither its maximum nor
+/// the most of any memory or table forbid it.
+fn grown_size(size: u32, by: u32, max: Option<u32>, most: u32) -> Option<u32>
+    ensures { let grown = size + by
+        in result ≡ size_if (is_within grown max && nat_le grown most) grown }
+{
+    let grown = size.checked_add(by)?;
     let is_within = match max {
-        Some(max) => size <= max,
+        Some(max) => grown <= max,
         None => true,
     };
-    if is_within && size <= MOST_PAGES {
-        Some(size)
+    if is_within && grown <= most {
+        Some(grown)
     } else {
         None
     }
@@ -168,16 +177,59 @@ impl Store {
         ensures err { OnErr result (self.new ≡ self.old) }
     {
         let old = self.pages;
-        let max = match self.memory {
-            Some(limits) => limits.max,
-            None => None,
-        };
-        let Some(size) = grown_size(old, max, pages) else {
+        let Some(size) = grown_size(old, pages, maximum(self.memory), MOST_PAGES) else {
             return Ok(None);
         };
         self.bytes.resize(byte_count(size), 0)?;
         self.pages = size;
         Ok(Some(old))
+    }
+
+    /// Adds empty entries to the table, which is there, and answers its old size. None, and nothing
+    /// is changed, where its maximum or the most entries of any table forbid the new size.
+    ///
+    /// # Errors
+    /// Where an allocation failed; nothing is changed then.
+    pub fn grow_table(&mut self, entries: u32) -> Result<Option<u32>, NoMemory>
+        requires { IsSome self.old.table }
+        ensures grown { IfOk result
+            (λ answer. OnSome answer (calls.grow_table self.old entries None ≡ Some self.new)) }
+        ensures size { IfOk result
+            (λ answer. IfSome answer (λ size. size ≡ length (calls.entries_in self.old))) }
+        ensures refused { IfOk result
+            (λ answer. IfNone answer (calls.grow_table self.old entries None ≡ None)) }
+        ensures same { IfOk result (λ answer. IfNone answer (self.new ≡ self.old)) }
+        ensures err { OnErr result (self.new ≡ self.old) }
+    {
+        self.grow_table_with(entries, None)
+    }
+
+    /// The same with entries that hold a function (Core 2.0, 4.4.6, `table.grow`), or are empty.
+    ///
+    /// # Errors
+    /// Where an allocation failed; nothing is changed then.
+    #[inline]
+    pub fn grow_table_with(
+        &mut self,
+        entries: u32,
+        func: Option<u32>,
+    ) -> Result<Option<u32>, NoMemory>
+        requires { IsSome self.old.table }
+        ensures grown { IfOk result
+            (λ answer. OnSome answer (calls.grow_table self.old entries func ≡ Some self.new)) }
+        ensures size { IfOk result
+            (λ answer. IfSome answer (λ size. size ≡ length (calls.entries_in self.old))) }
+        ensures refused { IfOk result
+            (λ answer. IfNone answer (calls.grow_table self.old entries func ≡ None)) }
+        ensures same { IfOk result (λ answer. IfNone answer (self.new ≡ self.old)) }
+        ensures err { OnErr result (self.new ≡ self.old) }
+    {
+        let old_size = self.table_size();
+        let Some(size) = grown_size(old_size, entries, maximum(self.table), MOST_ENTRIES) else {
+            return Ok(None);
+        };
+        self.entries.resize(size as usize, func)?;
+        Ok(Some(old_size))
     }
 
     /// The number that `width` bytes at `addr` stand for, the lowest first (Core 1.0, 4.4.4). The
@@ -227,6 +279,7 @@ impl Store {
     ///
     /// # Errors
     /// Where either range is not within the memory; nothing is changed then.
+    #[inline]
     pub fn move_bytes(&mut self, to: u64, from: u64, count: u64) -> Result<(), OutOfBounds>
         ensures ok { OnOk result (calls.move_bytes self.old to from count ≡ Some self.new) }
         ensures err { OnErr result (calls.move_bytes self.old to from count ≡ None) }
@@ -239,6 +292,22 @@ impl Store {
         Ok(())
     }
 
+    /// Writes `count` times `byte` from `to` on.
+    ///
+    /// # Errors
+    /// Where the range is not within the memory; nothing is changed then.
+    #[inline]
+    pub fn fill_bytes(&mut self, to: u64, byte: u8, count: u64) -> Result<(), OutOfBounds>
+        ensures ok { OnOk result (calls.fill_bytes self.old to byte count ≡ Some self.new) }
+        ensures err { OnErr result (calls.fill_bytes self.old to byte count ≡ None) }
+        ensures same { OnErr result (self.new ≡ self.old) }
+    {
+        let length = self.bytes.len();
+        let end = bytes::end_of(length, to, count)?;
+        self.bytes[to as usize..end].fill(byte);
+        Ok(())
+    }
+
     /// Whether there is a table.
     pub fn has_table(&self) -> bool
         ensures { result ≡ is_some self.now.table }
@@ -247,6 +316,7 @@ impl Store {
     }
 
     /// The number of entries of the table, 0 where there is no table.
+    #[inline]
     pub fn table_size(&self) -> u32
         ensures size { result ≡ length (calls.entries_in self.now) }
         ensures most { result ≤ MOST_ENTRIES }
@@ -293,8 +363,10 @@ impl Store {
         self.entries.as_slice()
     }
 
-    /// Puts functions into the entries from `index` on. `OutOfTable` where these are not all below
-    /// the table's size; nothing is changed then.
+    /// Puts functions into the entries from `index` on.
+    ///
+    /// # Errors
+    /// Where these are not all below the table's size; nothing is changed then.
     pub fn put_funcs(&mut self, index: u64, funcs: &[u32]) -> Result<(), OutOfTable>
         ensures ok { OnOk result (calls.put_funcs self.old index funcs.now ≡ Some self.new) }
         ensures err { OnErr result (calls.put_funcs self.old index funcs.now ≡ None) }

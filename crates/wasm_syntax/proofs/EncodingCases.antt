@@ -12,7 +12,7 @@ use Rattle.wasm_syntax.specs.declared.forms.Form.TheVariants.{Core, Replay}
 use Rattle.wasm_syntax.specs.declared.values.ValType.TheVariants.{I32, I64, F32}
 use Rattle.wasm_syntax.specs.declared.signatures.Limits.{Limits}
 use Rattle.wasm_syntax.specs.declared.instructions.Instr.{Instr}
-use Rattle.wasm_syntax.specs.declared.instructions.Instr.TheVariants.{Nop, If, Else, End, CallIndirect, Const, RefNull, RefFunc, TableSet}
+use Rattle.wasm_syntax.specs.declared.instructions.Instr.TheVariants.{Nop, If, Else, End, CallIndirect, MemoryCopy, MemoryFill, Const, Numeric, RefNull, RefFunc, TableSet, TableGrow, TableSize}
 use Rattle.wasm_syntax.specs.declared.modules.Run.{Run}
 use Rattle.wasm_syntax.specs.declared.modules.ElemSeg.{ElemSeg}
 use Rattle.wasm_syntax.specs.declared.modules.ElemSeg.TheVariants.{Active, Declared}
@@ -95,11 +95,45 @@ float_one : instr Core (0x43 ∷ 0x00 ∷ 0x00 ∷ 0x80 ∷ 0x3F ∷ []) ≡ Som
 unfolding instr
 float_one = refl
 
--- opcodes that Core 1.0 doesn't have
+-- opcodes that are not known
 unknown : (instr Core (0x06 ∷ []) ≡ None) × (instr Core (0x12 ∷ 0x00 ∷ []) ≡ None) × (instr Core (0x1C ∷ []) ≡ None) × (instr Core (0x25 ∷ 0x00 ∷ []) ≡ None)
-    × (instr Core (0xC0 ∷ []) ≡ None) × (instr Core (0xFC ∷ 0x0A ∷ 0x00 ∷ 0x00 ∷ []) ≡ None)
+    × (instr Core (0xC5 ∷ []) ≡ None) × (instr Replay (0xC5 ∷ []) ≡ None) × (instr Core (0xFD ∷ 0x0C ∷ []) ≡ None)
 unfolding instr
-unknown = (refl, refl, refl, refl, refl, refl)
+unknown = (refl, refl, refl, refl, refl, refl, refl)
+
+-- the first and the last sign extension
+sign_extensions : (instr Core (0xC0 ∷ []) ≡ Some (Numeric 0xC0)) × (instr Core (0xC4 ∷ []) ≡ Some (Numeric 0xC4)) × (instr Replay (0xC2 ∷ []) ≡ Some (Numeric 0xC2))
+unfolding instr
+sign_extensions = (refl, refl, refl)
+
+-- `memory.copy`, its number in one byte, in two and in five, which are the most
+copies : (instr Core (0xFC ∷ 0x0A ∷ 0x00 ∷ 0x00 ∷ []) ≡ Some MemoryCopy) × (instr Replay (0xFC ∷ 0x0A ∷ 0x00 ∷ 0x00 ∷ []) ≡ Some MemoryCopy)
+    × (instr Core (0xFC ∷ 0x8A ∷ 0x00 ∷ 0x00 ∷ 0x00 ∷ []) ≡ Some MemoryCopy)
+    × (instr Core (0xFC ∷ 0x8A ∷ 0x80 ∷ 0x80 ∷ 0x80 ∷ 0x00 ∷ 0x00 ∷ 0x00 ∷ []) ≡ Some MemoryCopy)
+    × (instr Core (0xFC ∷ 0x8A ∷ 0x80 ∷ 0x80 ∷ 0x80 ∷ 0x80 ∷ 0x00 ∷ 0x00 ∷ 0x00 ∷ []) ≡ None)
+unfolding instr
+copies = (refl, refl, refl, refl, refl)
+
+-- bytes that lack, that name another memory, that spell its index longer
+no_copies : (instr Core (0xFC ∷ []) ≡ None) × (instr Core (0xFC ∷ 0x0A ∷ []) ≡ None) × (instr Core (0xFC ∷ 0x0A ∷ 0x00 ∷ []) ≡ None)
+    × (instr Core (0xFC ∷ 0x0A ∷ 0x01 ∷ 0x00 ∷ []) ≡ None) × (instr Core (0xFC ∷ 0x0A ∷ 0x00 ∷ 0x01 ∷ []) ≡ None)
+    × (instr Core (0xFC ∷ 0x0A ∷ 0x80 ∷ 0x00 ∷ 0x00 ∷ []) ≡ None)
+unfolding instr
+no_copies = (refl, refl, refl, refl, refl, refl)
+
+fills : (instr Core (0xFC ∷ 0x0B ∷ 0x00 ∷ []) ≡ Some MemoryFill) × (instr Replay (0xFC ∷ 0x8B ∷ 0x00 ∷ 0x00 ∷ []) ≡ Some MemoryFill)
+    × (instr Core (0xFC ∷ 0x0B ∷ []) ≡ None) × (instr Core (0xFC ∷ 0x0B ∷ 0x01 ∷ []) ≡ None) × (instr Core (0xFC ∷ 0x0B ∷ 0x00 ∷ 0x00 ∷ []) ≡ None)
+unfolding instr
+fills = (refl, refl, refl, refl, refl)
+
+-- other numbers of the prefix: `i32.trunc_sat_f32_s`, `memory.init`, `data.drop`, `table.init`, `table.copy`,
+-- `table.fill`, and the number of `memory.copy` and 256
+other_prefixed : (instr Core (0xFC ∷ 0x00 ∷ []) ≡ None) × (instr Core (0xFC ∷ 0x08 ∷ 0x00 ∷ 0x00 ∷ []) ≡ None) × (instr Core (0xFC ∷ 0x09 ∷ 0x00 ∷ []) ≡ None)
+    × (instr Core (0xFC ∷ 0x0C ∷ 0x00 ∷ 0x00 ∷ []) ≡ None) × (instr Core (0xFC ∷ 0x0E ∷ 0x00 ∷ 0x00 ∷ []) ≡ None)
+    × (instr Core (0xFC ∷ 0x8A ∷ 0x02 ∷ 0x00 ∷ 0x00 ∷ []) ≡ None)
+    × (instr Replay (0xFC ∷ 0x08 ∷ 0x00 ∷ 0x00 ∷ []) ≡ None) × (instr Replay (0xFC ∷ 0x0C ∷ 0x00 ∷ 0x00 ∷ []) ≡ None) × (instr Replay (0xFC ∷ 0x11 ∷ 0x00 ∷ []) ≡ None)
+unfolding instr
+other_prefixed = (refl, refl, refl, refl, refl, refl, refl, refl, refl)
 
 -- what the replay form alone has
 replay_alone : (instr Core (0x26 ∷ 0x00 ∷ []) ≡ None) × (instr Core (0xD0 ∷ 0x70 ∷ []) ≡ None) × (instr Core (0xD2 ∷ 0x05 ∷ []) ≡ None)
@@ -107,6 +141,13 @@ replay_alone : (instr Core (0x26 ∷ 0x00 ∷ []) ≡ None) × (instr Core (0xD0
     × (instr Replay (0xD0 ∷ 0x6F ∷ []) ≡ None)
 unfolding instr
 replay_alone = (refl, refl, refl, refl, refl, refl, refl)
+
+-- `table.grow` and `table.size`, with a number in one byte and in two
+tables_alone : (instr Core (0xFC ∷ 0x0F ∷ 0x00 ∷ []) ≡ None) × (instr Core (0xFC ∷ 0x10 ∷ 0x00 ∷ []) ≡ None)
+    × (instr Replay (0xFC ∷ 0x0F ∷ 0x00 ∷ []) ≡ Some (TableGrow 0)) × (instr Replay (0xFC ∷ 0x10 ∷ 0x00 ∷ []) ≡ Some (TableSize 0))
+    × (instr Replay (0xFC ∷ 0x8F ∷ 0x00 ∷ 0x81 ∷ 0x00 ∷ []) ≡ Some (TableGrow 1)) × (instr Replay (0xFC ∷ 0x10 ∷ []) ≡ None)
+unfolding instr
+tables_alone = (refl, refl, refl, refl, refl, refl)
 
 -- ---- element segments
 

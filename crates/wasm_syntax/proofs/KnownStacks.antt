@@ -1,11 +1,11 @@
 -- What pushing and popping on known stacks means for the stacks of which this is known.
-use Rattle.std.proofs.Common.{◌≡◌, List, [], ◌∷◌, ◌++◌, Option, Some, None, Bool, true, false, cond, ◌&&◌, option_and_then, refl, sym, ap, ◌∙◌, subst}
+use Rattle.std.proofs.Common.{◌≡◌, List, [], ◌∷◌, ◌++◌, Option, Some, None, Bool, true, false, option_and_then, refl, sym, ap, ◌∙◌, subst}
 use Rattle.std.proofs.lemmas.List.{append-nil}
 use Rattle.list_laws.proofs.Options.{and_then_some, cond_some}
 use Rattle.wasm_syntax.proofs.ValTypes.{type_same, type_own}
 use Rattle.wasm_syntax.specs.declared.values.ValType.{ValType}
-use Rattle.wasm_syntax.specs.declared.values.ValType.TheVariants.{I32, I64, F32, F64, FuncRef}
-use Rattle.wasm_syntax.specs.KnownStacks.{Known, known_stack, anything, IsSlot, AreSlots, Fits, same_type, may_be, push_types, pop_from, pop, pops, none_left, is_over, ends}
+use Rattle.wasm_syntax.specs.declared.values.ValType.TheVariants.{I32}
+use Rattle.wasm_syntax.specs.KnownStacks.{Known, known_stack, anything, IsSlot, AreSlots, Fits, may_be, push_types, pop_from, pop, pops, none_left, is_over, ends}
 
 -- ---- one operand
 

@@ -1,5 +1,5 @@
--- The types of the opcodes by the standard's table of names (Core 1.0, 5.4 and 7.7), and their classes in the
--- accepted profile.
+-- The types of the opcodes by the standard's table of names (Core 1.0, 5.4 and 7.7; Core 2.0, 5.4.7), and their
+-- classes in the accepted profile.
 use Rattle.std.proofs.Common.{◌≡◌, ℕ, List, [], ◌∷◌, Option, Some, None, true, false, map, refl}
 use Rattle.wasm_syntax.specs.declared.values.ValType.{ValType}
 use Rattle.wasm_syntax.specs.declared.values.ValType.TheVariants.{I32, I64, F32, F64}
@@ -21,7 +21,7 @@ plain op operands result = record { op = op; operands = operands; result = resul
 abbrev float : Feature → ℕ → List ValType → ValType → Numeric
 float feature op operands result = record { op = op; operands = operands; result = result; feature = Some feature }
 
--- `i32.eqz` to `f64.reinterpret_i64`
+-- `i32.eqz` to `i64.extend32_s`
 abbrev numeric_names : List Numeric
 numeric_names =
     -- `i32.eqz`, `i32.eq`, `i32.ne` .. `i32.ge_u`
@@ -156,6 +156,12 @@ numeric_names =
     ∷ plain 0xBD (F64 ∷ []) I64
     ∷ plain 0xBE (I32 ∷ []) F32
     ∷ plain 0xBF (I64 ∷ []) F64
+    -- `i32.extend8_s`, `i32.extend16_s`, `i64.extend8_s`, `i64.extend16_s`, `i64.extend32_s`
+    ∷ plain 0xC0 (I32 ∷ []) I32
+    ∷ plain 0xC1 (I32 ∷ []) I32
+    ∷ plain 0xC2 (I64 ∷ []) I64
+    ∷ plain 0xC3 (I64 ∷ []) I64
+    ∷ plain 0xC4 (I64 ∷ []) I64
     ∷ []
 
 shapes_agree : map (λ (n : Numeric). numeric_shape n.op) numeric_names ≡ map (λ (n : Numeric). Some (record { operands = n.operands; result = n.result })) numeric_names
@@ -164,7 +170,7 @@ shapes_agree = refl
 classes_agree : map (λ (n : Numeric). feature_of n.op) numeric_names ≡ map (λ (n : Numeric). n.feature) numeric_names
 classes_agree = refl
 
-no_others : map numeric_shape (0x44 ∷ 0xC0 ∷ 0xFF ∷ []) ≡ None ∷ None ∷ None ∷ []
+no_others : map numeric_shape (0x44 ∷ 0xC5 ∷ 0xFF ∷ []) ≡ None ∷ None ∷ None ∷ []
 no_others = refl
 
 -- `i32.load`, `i64.load`, `f32.load`, `f64.load`, `i32.load8_s`, `i32.load8_u`, `i32.load16_s`, `i32.load16_u`, `i64.load8_s`, `i64.load8_u`, `i64.load16_s`, `i64.load16_u`, `i64.load32_s`, `i64.load32_u`

@@ -1,11 +1,12 @@
--- Bodies that have a typing and bodies that have none, at least one of each for each rule (Core 1.0, 3.3).
+-- Bodies that have a typing and bodies that have none, at least one of each for each rule (Core 1.0, 3.3; Core 2.0,
+-- 3.3.1, 3.3.2, 3.3.6 and 3.3.7).
 use Rattle.std.proofs.Common.{◌≡◌, ℕ, ◌^◌, List, [], ◌∷◌, ◌++◌, Option, Some, None, Bool, true, false, not, All, Decides, refl, ap, ◌∙◌}
 use Rattle.std.specs.List.{list_all}
 use Rattle.std.proofs.lemmas.Bool.Decides.{Decides-by_and, Decides-not}
 use Rattle.wasm_syntax.specs.declared.values.ValType.{ValType}
 use Rattle.wasm_syntax.specs.declared.values.ValType.TheVariants.{I32, I64, F32, F64, FuncRef}
 use Rattle.wasm_syntax.specs.declared.instructions.Instr.{Instr}
-use Rattle.wasm_syntax.specs.declared.instructions.Instr.TheVariants.{Unreachable, Nop, Block, Loop, If, Else, End, Br, BrIf, BrTable, Return, Call, CallIndirect, Drop, Select, LocalGet, LocalSet, LocalTee, GlobalGet, GlobalSet, Load, Store, MemorySize, MemoryGrow, Const, Numeric, RefNull, RefFunc, TableSet}
+use Rattle.wasm_syntax.specs.declared.instructions.Instr.TheVariants.{Unreachable, Nop, Block, Loop, If, Else, End, Br, BrIf, BrTable, Return, Call, CallIndirect, Drop, Select, LocalGet, LocalSet, LocalTee, GlobalGet, GlobalSet, Load, Store, MemorySize, MemoryGrow, MemoryCopy, MemoryFill, Const, Numeric, RefNull, RefFunc, TableSet, TableGrow, TableSize}
 use Rattle.wasm_syntax.specs.Nest.{Nest, IsBody, nest_of}
 use Rattle.wasm_syntax.specs.Typing.{Context, IsTyped}
 use Rattle.wasm_syntax.specs.ValidityTests.{nest_ends}
@@ -118,6 +119,10 @@ typed_bodies =
     ∷ (F64 ∷ [], f32 ∷ Numeric 0xBB ∷ [])
     ∷ (I32 ∷ [], f32 ∷ Numeric 0xBC ∷ [])
     ∷ (F64 ∷ [], i64 ∷ Numeric 0xBF ∷ [])
+    ∷ (I32 ∷ [], i32 ∷ Numeric 0xC0 ∷ [])
+    ∷ (I32 ∷ [], i32 ∷ Numeric 0xC1 ∷ [])
+    ∷ (I64 ∷ [], i64 ∷ Numeric 0xC2 ∷ [])
+    ∷ (I64 ∷ [], i64 ∷ Numeric 0xC4 ∷ [])
     -- parametric instructions
     ∷ ([], f64 ∷ Drop ∷ [])
     ∷ ([], RefNull ∷ Drop ∷ [])
@@ -143,6 +148,8 @@ typed_bodies =
     ∷ ([], i32 ∷ i32 ∷ store 0x3A 0 ∷ [])
     ∷ (I32 ∷ [], MemorySize ∷ [])
     ∷ (I32 ∷ [], i32 ∷ MemoryGrow ∷ [])
+    ∷ ([], i32 ∷ i32 ∷ i32 ∷ MemoryCopy ∷ [])
+    ∷ ([], i32 ∷ i32 ∷ i32 ∷ MemoryFill ∷ [])
     -- blocks
     ∷ (I32 ∷ [], Block (Some I32) ∷ i32 ∷ End ∷ [])
     ∷ (I32 ∷ [], i32 ∷ Block None ∷ End ∷ [])
@@ -171,6 +178,9 @@ typed_bodies =
     -- references to functions (Core 2.0)
     ∷ ([], i32 ∷ RefNull ∷ TableSet 0 ∷ [])
     ∷ ([], i32 ∷ RefFunc 1 ∷ TableSet 0 ∷ [])
+    ∷ (I32 ∷ [], RefNull ∷ i32 ∷ TableGrow 0 ∷ [])
+    ∷ (I32 ∷ [], RefFunc 1 ∷ i32 ∷ TableGrow 0 ∷ [])
+    ∷ (I32 ∷ [], TableSize 0 ∷ [])
     -- after `unreachable`, `br`, `br_table` and `return`
     ∷ (I32 ∷ [], Unreachable ∷ [])
     ∷ (I32 ∷ [], Unreachable ∷ Numeric 0x6A ∷ [])
@@ -191,6 +201,8 @@ typed_bodies =
     ∷ (I32 ∷ [], Block (Some I32) ∷ Unreachable ∷ End ∷ [])
     ∷ ([], Block None ∷ Br 0 ∷ Drop ∷ End ∷ [])
     ∷ ([], Unreachable ∷ TableSet 0 ∷ [])
+    ∷ (I32 ∷ [], Unreachable ∷ TableGrow 0 ∷ [])
+    ∷ ([], Unreachable ∷ MemoryCopy ∷ [])
     ∷ []
 
 abbrev untyped_bodies : List Row
@@ -207,9 +219,11 @@ untyped_bodies =
     ∷ (I32 ∷ [], f32 ∷ i32 ∷ Numeric 0x6A ∷ [])
     ∷ (I64 ∷ [], i64 ∷ Numeric 0x50 ∷ [])
     ∷ (F64 ∷ [], f64 ∷ Numeric 0xBB ∷ [])
+    ∷ (I32 ∷ [], i64 ∷ Numeric 0xC0 ∷ [])
+    ∷ (I64 ∷ [], i32 ∷ Numeric 0xC4 ∷ [])
     -- no opcode of its kind, no value
     ∷ (I32 ∷ [], i32 ∷ Numeric 0x44 ∷ [])
-    ∷ (I32 ∷ [], i32 ∷ Numeric 0xC0 ∷ [])
+    ∷ (I32 ∷ [], i32 ∷ Numeric 0xC5 ∷ [])
     ∷ (I32 ∷ [], i32 ∷ load 0x36 0 ∷ [])
     ∷ (I32 ∷ [], i32 ∷ load 0x27 0 ∷ [])
     ∷ ([], i32 ∷ i32 ∷ store 0x35 0 ∷ [])
@@ -247,6 +261,12 @@ untyped_bodies =
     ∷ ([], f64 ∷ i32 ∷ store 0x39 3 ∷ [])
     ∷ (I32 ∷ [], i64 ∷ MemoryGrow ∷ [])
     ∷ (I32 ∷ [], MemoryGrow ∷ [])
+    ∷ ([], i32 ∷ i32 ∷ MemoryCopy ∷ [])
+    ∷ ([], i32 ∷ i32 ∷ MemoryFill ∷ [])
+    ∷ ([], i64 ∷ i32 ∷ i32 ∷ MemoryCopy ∷ [])
+    ∷ ([], i32 ∷ i64 ∷ i32 ∷ MemoryFill ∷ [])
+    ∷ ([], i32 ∷ i32 ∷ i64 ∷ MemoryCopy ∷ [])
+    ∷ (I32 ∷ [], i32 ∷ i32 ∷ i32 ∷ MemoryFill ∷ [])
     -- blocks
     ∷ ([], Block None ∷ i32 ∷ End ∷ [])
     ∷ (I32 ∷ [], Block (Some I32) ∷ End ∷ [])
@@ -296,6 +316,12 @@ untyped_bodies =
     ∷ ([], i32 ∷ i32 ∷ TableSet 0 ∷ [])
     ∷ ([], RefNull ∷ i32 ∷ TableSet 0 ∷ [])
     ∷ ([], RefNull ∷ [])
+    ∷ (I32 ∷ [], RefNull ∷ i32 ∷ TableGrow 1 ∷ [])
+    ∷ (I32 ∷ [], i32 ∷ RefNull ∷ TableGrow 0 ∷ [])
+    ∷ (I32 ∷ [], i32 ∷ i32 ∷ TableGrow 0 ∷ [])
+    ∷ ([], RefNull ∷ i32 ∷ TableGrow 0 ∷ [])
+    ∷ (I32 ∷ [], TableSize 1 ∷ [])
+    ∷ (I64 ∷ [], TableSize 0 ∷ [])
     -- after `unreachable`, `br`, `br_table` and `return`
     ∷ ([], Unreachable ∷ i32 ∷ [])
     ∷ (I32 ∷ [], Unreachable ∷ i64 ∷ [])
@@ -309,6 +335,8 @@ untyped_bodies =
     ∷ (I32 ∷ [], Unreachable ∷ i64 ∷ i32 ∷ Select ∷ [])
     ∷ ([], Unreachable ∷ RefNull ∷ i32 ∷ Select ∷ Drop ∷ [])
     ∷ ([], Unreachable ∷ Select ∷ TableSet 0 ∷ [])
+    ∷ (I32 ∷ [], Unreachable ∷ Select ∷ i32 ∷ TableGrow 0 ∷ [])
+    ∷ (I32 ∷ [], Unreachable ∷ TableGrow 1 ∷ [])
     ∷ (I32 ∷ [], Unreachable ∷ i64 ∷ BrIf 0 ∷ [])
     ∷ ([], Return ∷ Block None ∷ i32 ∷ End ∷ [])
     ∷ ([], Unreachable ∷ Block None ∷ Drop ∷ End ∷ [])
@@ -327,7 +355,11 @@ needing_bodies =
     ∷ ([], i32 ∷ i32 ∷ store 0x36 0 ∷ [])
     ∷ (I32 ∷ [], MemorySize ∷ [])
     ∷ (I32 ∷ [], i32 ∷ MemoryGrow ∷ [])
+    ∷ ([], i32 ∷ i32 ∷ i32 ∷ MemoryCopy ∷ [])
+    ∷ ([], i32 ∷ i32 ∷ i32 ∷ MemoryFill ∷ [])
     ∷ ([], i32 ∷ RefNull ∷ TableSet 0 ∷ [])
+    ∷ (I32 ∷ [], RefNull ∷ i32 ∷ TableGrow 0 ∷ [])
+    ∷ (I32 ∷ [], TableSize 0 ∷ [])
     ∷ []
 
 all_typed : All (λ row. HasTyping (giving row.0) row) typed_bodies

@@ -1,5 +1,5 @@
 -- The tests for equality of value types, of lists of them and of function types: each passes for equals alone.
-use Rattle.std.proofs.Common.{◌≡◌, List, [], ◌∷◌, true, ◌&&◌, refl, ap, ◌∙◌}
+use Rattle.std.proofs.Common.{◌≡◌, List, [], ◌∷◌, true, refl}
 use Rattle.list_laws.proofs.Booleans.{and_parts, and_true}
 use Rattle.wasm_syntax.specs.declared.values.ValType.{ValType}
 use Rattle.wasm_syntax.specs.declared.values.ValType.TheVariants.{I32, I64, F32, F64, FuncRef}

@@ -7,7 +7,7 @@ use Rattle.std.proofs.lemmas.List.Sums.{AllPass-from_list_all}
 use Rattle.wasm_syntax.specs.declared.values.ValType.{ValType}
 use Rattle.wasm_syntax.specs.declared.values.ValType.TheVariants.{I32, I64, F32, F64, FuncRef}
 use Rattle.wasm_syntax.specs.declared.instructions.Instr.{Instr}
-use Rattle.wasm_syntax.specs.declared.instructions.Instr.TheVariants.{Nop, End, Drop, GlobalGet, MemorySize, RefFunc, TableSet}
+use Rattle.wasm_syntax.specs.declared.instructions.Instr.TheVariants.{Nop, End, Drop, GlobalGet, MemorySize, MemoryCopy, MemoryFill, Numeric, RefFunc, TableSet, TableGrow, TableSize}
 use Rattle.wasm_syntax.specs.declared.modules.Module.{Module}
 use Rattle.wasm_syntax.specs.declared.modules.Func.{Func as Function}
 use Rattle.wasm_syntax.specs.declared.modules.ImportKind.{ImportKind}
@@ -106,8 +106,26 @@ declared_by_export = record blank {
   exports = record { name = codes "f"; kind = Func 0 } ∷ [];
 }
 
-valid_modules_are : All IsValid (valid_modules ++ whole ∷ declared_by_export ∷ [])
-valid_modules_are = all_valid (valid_modules ++ whole ∷ declared_by_export ∷ []) refl
+-- a copy, a fill, a table that grows, a sign extension
+abbrev three_numbers : List Instr
+three_numbers = constant I32 0 ∷ constant I32 0 ∷ constant I32 0 ∷ []
+
+abbrev wide_bodies : List Function
+wide_bodies =
+    body (three_numbers ++ MemoryCopy ∷ []) ∷ body (three_numbers ++ MemoryFill ∷ [])
+    ∷ body (RefFunc 0 ∷ TableSize 0 ∷ TableGrow 0 ∷ Drop ∷ []) ∷ body (constant I64 0 ∷ Numeric 0xC3 ∷ Drop ∷ []) ∷ []
+
+abbrev wide : Module
+wide = record blank {
+  types = func_type [] [] ∷ [];
+  funcs = wide_bodies;
+  tables = limits 1 None ∷ [];
+  memories = limits 1 None ∷ [];
+  exports = record { name = codes "f"; kind = Func 0 } ∷ [];
+}
+
+valid_modules_are : All IsValid (valid_modules ++ whole ∷ declared_by_export ∷ wide ∷ [])
+valid_modules_are = all_valid (valid_modules ++ whole ∷ declared_by_export ∷ wide ∷ []) refl
 
 -- ---- modules that are invalid outside their bodies
 
@@ -210,6 +228,10 @@ invalid_inside =
     ∷ (Some 0, record blank { types = func_type [] [] ∷ []; funcs = record { ty = 0; locals = []; body = End ∷ End ∷ [] } ∷ [] })
     ∷ (Some 0, record blank { types = func_type [] [] ∷ []; funcs = record { ty = 0; locals = []; body = [] } ∷ [] })
     ∷ (Some 1, record whole { funcs = body (constant I32 0 ∷ RefFunc 1 ∷ TableSet 0 ∷ []) ∷ []; exports = []; start = None; elems = [] })
+    -- no memory, no table
+    ∷ (Some 0, record wide { memories = [] })
+    ∷ (Some 1, record wide { funcs = body [] ∷ body (three_numbers ++ MemoryFill ∷ []) ∷ []; memories = [] })
+    ∷ (Some 2, record wide { tables = [] })
     ∷ []
 
 inside_are_invalid : All (λ (row : Row). IsInvalidAt row.1 row.0) invalid_inside

@@ -1,4 +1,4 @@
--- What opcodes take and give: the types of numeric instructions (Core 1.0, 3.3.1 and 5.4.5), and the
+-- What opcodes take and give: the types of numeric instructions (Core 1.0, 3.3.1 and 5.4.5; Core 2.0, 5.4.7), and the
 -- type, width and sign of loads and stores (Core 1.0, 3.3.4 and 5.4.4).
 use Rattle.std.specs.Prelude.{ℕ, ◌-◌, List, [], ◌∷◌, Option, Some, None, Bool, true, false, cond, ◌&&◌, nat_le, slice_get, replicate}
 use Rattle.wasm_opcodes.specs.declared.TheConstants.{I32_LOAD, I64_LOAD32_U, I32_STORE, I64_STORE32}
@@ -43,7 +43,7 @@ abbrev pub shapes_of : List opcodes.Row → List Row
 shapes_of [] = []
 shapes_of (r ∷ rs) = row r.first r.last (shape_of r) ∷ shapes_of rs
 
--- the numeric opcodes, 0x45 to 0xBF
+-- the numeric opcodes, 0x45 to 0xC4
 abbrev pub numeric_rows : List Row
 numeric_rows = shapes_of opcodes.rows
 

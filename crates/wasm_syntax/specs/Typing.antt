@@ -1,4 +1,5 @@
--- The typing of instructions (Core 1.0, 3.3) on nested bodies. An operand stack is a list of types, the top first.
+-- The typing of instructions (Core 1.0, 3.3; Core 2.0, 3.3) on nested bodies. An operand stack is a list of types, the
+-- top first.
 use Rattle.std.specs.Prelude.{◌≡◌, ℕ, ◌^◌, List, [], ◌∷◌, ◌++◌, length, reverse, Option, Some, None, Bool, true, false, cond, ◌&&◌, IsTrue, nat_eq, nat_lt, nat_le, is_some, slice_get, option_map, option_and_then, All}
 use Rattle.std.specs.List.{list_any}
 use Rattle.wasm_syntax.specs.declared.values.ValType.{ValType}
@@ -9,7 +10,7 @@ use Rattle.wasm_syntax.specs.declared.signatures.Limits.{Limits}
 use Rattle.wasm_syntax.specs.declared.signatures.GlobalType.{GlobalType}
 use Rattle.wasm_syntax.specs.declared.instructions.MemArg.{MemArg}
 use Rattle.wasm_syntax.specs.declared.instructions.Instr.{Instr}
-use Rattle.wasm_syntax.specs.declared.instructions.Instr.TheVariants.{Unreachable, Nop, Br, BrIf, BrTable, Return, Call, CallIndirect, Drop, Select, LocalGet, LocalSet, LocalTee, GlobalGet, GlobalSet, Load, Store, MemorySize, MemoryGrow, Const, Numeric, RefNull, RefFunc, TableSet}
+use Rattle.wasm_syntax.specs.declared.instructions.Instr.TheVariants.{Unreachable, Nop, Br, BrIf, BrTable, Return, Call, CallIndirect, Drop, Select, LocalGet, LocalSet, LocalTee, GlobalGet, GlobalSet, Load, Store, MemorySize, MemoryGrow, MemoryCopy, MemoryFill, Const, Numeric, RefNull, RefFunc, TableSet, TableGrow, TableSize}
 use Rattle.wasm_syntax.specs.Nest.{Nest, Empty, Plain, InBlock, InLoop, InIf, InIfElse}
 use Rattle.wasm_syntax.specs.Opcodes.{numeric_shape, Access, load_of, store_of}
 
@@ -79,7 +80,7 @@ load_type arg access = if_true (is_aligned arg access) (Moves (I32 ∷ []) (acce
 abbrev pub store_type : MemArg → Access → Option InstrType
 store_type arg access = if_true (is_aligned arg access) (Moves (access.ty ∷ I32 ∷ []) [])
 
--- there is a table of this index, a memory (Core 1.0, 3.3.4 and 3.3.5.11)
+-- there is a table of this index, a memory (Core 1.0, 3.3.4 and 3.3.5.11; Core 2.0, 3.3.6 and 3.3.7)
 abbrev pub has_table : Context → ℕ → Bool
 has_table ctx x = is_some (slice_get ctx.tables x)
 
@@ -95,7 +96,7 @@ abbrev pub func_at : Context → ℕ → Option FuncType
 func_at ctx f = option_and_then (slice_get ctx.types) (slice_get ctx.funcs f)
 
 -- the type of each instruction that stands alone, where it has one (Core 1.0, 3.3.1 to 3.3.5; Core 2.0,
--- 3.3.2 and 3.3.6.2). The operands of a numeric instruction are of one type, so either may be on top
+-- 3.3.1, 3.3.2, 3.3.6 and 3.3.7). The operands of a numeric instruction are of one type, so either may be on top
 abbrev pub instr_type : Context → Instr → Option InstrType
 instr_type ctx Unreachable = Some (Leaves [])
 instr_type ctx Nop = Some (Moves [] [])
@@ -116,11 +117,15 @@ instr_type ctx (Load arg) = cond (has_memory ctx) (option_and_then (load_type ar
 instr_type ctx (Store arg) = cond (has_memory ctx) (option_and_then (store_type arg) (store_of arg.op)) None
 instr_type ctx MemorySize = if_true (has_memory ctx) (Moves [] (I32 ∷ []))
 instr_type ctx MemoryGrow = if_true (has_memory ctx) (Moves (I32 ∷ []) (I32 ∷ []))
+instr_type ctx MemoryCopy = if_true (has_memory ctx) (Moves (I32 ∷ I32 ∷ I32 ∷ []) [])
+instr_type ctx MemoryFill = if_true (has_memory ctx) (Moves (I32 ∷ I32 ∷ I32 ∷ []) [])
 instr_type ctx (Const v) = if_true (is_constant v) (Moves [] (v.ty ∷ []))
 instr_type ctx (Numeric op) = option_map (λ shape. Moves shape.operands (shape.result ∷ [])) (numeric_shape op)
 instr_type ctx RefNull = Some (Moves [] (FuncRef ∷ []))
 instr_type ctx (RefFunc f) = if_true (is_declared ctx f) (Moves [] (FuncRef ∷ []))
 instr_type ctx (TableSet x) = if_true (has_table ctx x) (Moves (FuncRef ∷ I32 ∷ []) [])
+instr_type ctx (TableGrow x) = if_true (has_table ctx x) (Moves (I32 ∷ FuncRef ∷ []) (I32 ∷ []))
+instr_type ctx (TableSize x) = if_true (has_table ctx x) (Moves [] (I32 ∷ []))
 instr_type ctx other = None
 
 -- the operands are on top of the stack before, the results take their place on the stack after

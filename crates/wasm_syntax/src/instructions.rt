@@ -6,8 +6,9 @@ use crate::lists::{Item, List};
 use crate::values::{Val, ValType};
 use no_memory::NoMemory;
 
-/// One instruction of a flat body (Core 1.0, 2.4). `Numeric` holds an opcode from 0x45 to 0xBF
-/// (Core 1.0, 5.4.5). The last three are forms of Core 2.0 that the replay form alone spells.
+/// One instruction of a flat body (Core 1.0, 2.4; of Core 2.0 the sign extensions, `memory.copy` and
+/// `memory.fill`, 2.4.1 and 2.4.7). `Numeric` holds an opcode from 0x45 to 0xC4 (Core 1.0, 5.4.5;
+/// Core 2.0, 5.4.7). The last five are forms of Core 2.0 that the replay form alone spells.
 #[derive(Debug, Drop)]
 pub enum Instr {
     Unreachable,
@@ -34,11 +35,15 @@ pub enum Instr {
     Store(MemArg),
     MemorySize,
     MemoryGrow,
+    MemoryCopy,
+    MemoryFill,
     Const(Val),
     Numeric(u8),
     RefNull,
     RefFunc(u32),
     TableSet(u32),
+    TableGrow(u32),
+    TableSize(u32),
 }
 
 /// The operand of a load or store (Core 1.0, 2.4.4): its opcode from 0x28 to 0x3E, the base 2
@@ -87,11 +92,15 @@ impl Instr {
             Instr::Store(access) => Instr::Store(*access),
             Instr::MemorySize => Instr::MemorySize,
             Instr::MemoryGrow => Instr::MemoryGrow,
+            Instr::MemoryCopy => Instr::MemoryCopy,
+            Instr::MemoryFill => Instr::MemoryFill,
             Instr::Const(value) => Instr::Const(*value),
             Instr::Numeric(op) => Instr::Numeric(*op),
             Instr::RefNull => Instr::RefNull,
             Instr::RefFunc(func) => Instr::RefFunc(*func),
             Instr::TableSet(table) => Instr::TableSet(*table),
+            Instr::TableGrow(table) => Instr::TableGrow(*table),
+            Instr::TableSize(table) => Instr::TableSize(*table),
         })
     }
 }

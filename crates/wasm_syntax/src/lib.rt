@@ -1,5 +1,5 @@
-//! The syntax trees of WebAssembly modules: Core 1.0 and the few forms of Core 2.0 that replay
-//! binaries use (Core 1.0, section 2).
+//! The syntax trees of WebAssembly modules (Core 1.0, section 2): Core 1.0; of Core 2.0 the sign
+//! extensions, `memory.copy` and `memory.fill`, and the few forms that replay binaries alone have.
 #![tactic(auto)]
 
 pub mod appended_types;

@@ -12,7 +12,7 @@ pub const MOST_LOCALS: u32 = 50_000;
 /// The same in an instrumented module, which has five more.
 pub const MOST_LOCALS_HOOKED: u32 = 50_005;
 
-/// The most entries that a table may begin with.
+/// The most entries that a table may begin with or grow to.
 pub const MOST_ENTRIES: u32 = 1_000_000;
 
 /// The most pages that a memory may begin with or grow to.
@@ -22,4 +22,7 @@ pub const MOST_PAGES: u32 = 4_096;
 pub const PAGE_SIZE: u32 = 65_536;
 
 /// The most turns of a run.
-pub const MOST_TURNS: u64 = 2_000_000;
+pub const MOST_TURNS: u64 = 1_000_000_000;
+
+/// The most turns of a run whose history is told.
+pub const MOST_TURNS_TOLD: u64 = 2_000_000;

@@ -1,11 +1,11 @@
 -- What the changes of the operand stack that code makes stand for.
-use Rattle.std.specs.Prelude.{List, ◌++◌, reverse, Option, Some, None, option_and_then}
+use Rattle.std.specs.Prelude.{List, [], ◌∷◌, ◌++◌, reverse, Option, Some, None, option_and_then}
 use Rattle.wasm_syntax.specs.declared.values.ValType.{ValType}
 use Rattle.wasm_syntax.specs.declared.values.ValType.TheVariants.{I32}
 use Rattle.wasm_syntax.specs.Typing.{results_of}
 use Rattle.wasm_syntax.specs.KnownStacks.{Known, anything, push_types, pop, pops, drop_any, select_slot}
 use Rattle.wasm_validate.specs.declared.changes.Change.{Change}
-use Rattle.wasm_validate.specs.declared.changes.Change.TheVariants.{Moves, Calls, Drops, Selects, Leaves}
+use Rattle.wasm_validate.specs.declared.changes.Change.TheVariants.{Moves, Takes, Calls, Drops, Selects, Leaves}
 
 -- operands are off, results on
 abbrev pub after_replace : List ValType → List ValType → Known → Option Known
@@ -23,6 +23,7 @@ abbrev pub after_change : Option Change → Known → Option Known
 after_change None here = None
 after_change (Some (Moves first second result)) here =
     after_replace (results_of first ++ results_of second) (results_of result) here
+after_change (Some (Takes first second third)) here = pops (first ∷ second ∷ third ∷ []) here
 after_change (Some (Calls index ty)) here =
     after_replace (results_of index ++ reverse ty.now.params) (reverse ty.now.results) here
 after_change (Some Drops) here = drop_any here.slots here.free

@@ -1,6 +1,6 @@
 // What an instruction that stands alone does to the operand stack.
 
-ghost use Rattle.std.specs.Prelude.{◌≡◌, ◌++◌, [], reverse, Some, OnOk};
+ghost use Rattle.std.specs.Prelude.{◌≡◌, ◌++◌, [], ◌∷◌, reverse, Some, OnOk};
 ghost use Rattle.wasm_syntax.specs.Typing.{results_of};
 ghost use Rattle.wasm_syntax.specs.KnownStacks.{push_types, pops, common_slot as common_slot_of, ends};
 ghost use Rattle.wasm_validate.specs.Stacks.{PassesAs, then_some};
@@ -19,6 +19,12 @@ pub(crate) enum Change<'a> {
         first: Option<ValType>,
         second: Option<ValType>,
         result: Option<ValType>,
+    },
+    /// Three operands are taken, `first` on top of `second`, and that on top of `third`.
+    Takes {
+        first: ValType,
+        second: ValType,
+        third: ValType,
     },
     /// The arguments of a call are taken, below the index of a call through the table, and its
     /// results are given.
@@ -49,6 +55,11 @@ impl Operands {
                 second,
                 result,
             } => self.replace(first, second, result),
+            Change::Takes {
+                first,
+                second,
+                third,
+            } => Ok(self.pop_three(first, second, third)),
             Change::Calls { index, ty } => self.call(index, ty),
             Change::Drops => Ok(self.take().is_some()),
             Change::Selects => self.choose(),
@@ -127,6 +138,14 @@ impl Operands {
         ensures here { then_some result self.new.here ≡ pops (results_of first ++ results_of second) self.old.here }
     {
         self.pop_known(first) && self.pop_known(second)
+    }
+
+    /// Takes three operands of these types off, `first` on top, if they may be there.
+    fn pop_three(&mut self, first: ValType, second: ValType, third: ValType) -> bool
+        ensures outer { self.new.outer ≡ self.old.outer }
+        ensures here { then_some result self.new.here ≡ pops (first ∷ second ∷ third ∷ []) self.old.here }
+    {
+        self.pop(first) && self.pop(second) && self.pop(third)
     }
 
     /// Takes an operand of this type off, if there is a type and it may be one.

@@ -2,7 +2,7 @@
 use Rattle.std.proofs.Common.{refl}
 use Rattle.std.specs.Fmt.{digits}
 use Rattle.worked_histories.proofs.GrowFailed.{grow_failed_lines}
-use Rattle.worked_histories.specs.Histories.{WorkedHistories, TwoAnswers, TwoAnswersSpent, Empty, NeverCalled, AnswersUsedUp, Overwrite, UnreadWrite, GrowAccess, GrowAccessTraps, NestedCall, NestedTrap, HostTrap, TableEntry, TableEntryEmptied, TableEntryImport, FloatGlobal, ImportedOffset, ImportedOffsetMissing, ImportedOffsetMismatch, CBuffers, CBuffersSpent, ReplayTwoAnswers}
+use Rattle.worked_histories.specs.Histories.{WorkedHistories, TwoAnswers, TwoAnswersSpent, Empty, NeverCalled, AnswersUsedUp, Overwrite, UnreadWrite, GrowAccess, GrowAccessTraps, CopyLoad, CopyLoadSpent, CopyOverlap, FillPast, FillGrown, NestedCall, NestedTrap, HostTrap, TableEntry, TableEntryEmptied, TableEntryImport, TableGrowth, TableGrowthShort, TableNotGrown, TableGrowthRefused, TableSizes, FloatGlobal, ImportedOffset, ImportedOffsetMissing, ImportedOffsetMismatch, CBuffers, CBuffersSpent, ReplayTwoAnswers}
 
 pub two_answers : TwoAnswers
 unfolding digits
@@ -40,6 +40,26 @@ pub grow_access_traps : GrowAccessTraps
 unfolding digits
 grow_access_traps = refl
 
+pub copy_load : CopyLoad
+unfolding digits
+copy_load = refl
+
+pub copy_load_spent : CopyLoadSpent
+unfolding digits
+copy_load_spent = refl
+
+pub copy_overlap : CopyOverlap
+unfolding digits
+copy_overlap = refl
+
+pub fill_past : FillPast
+unfolding digits
+fill_past = refl
+
+pub fill_grown : FillGrown
+unfolding digits
+fill_grown = refl
+
 pub nested_call : NestedCall
 unfolding digits
 nested_call = refl
@@ -63,6 +83,26 @@ table_entry_emptied = refl
 pub table_entry_import : TableEntryImport
 unfolding digits
 table_entry_import = refl
+
+pub table_growth : TableGrowth
+unfolding digits
+table_growth = refl
+
+pub table_growth_short : TableGrowthShort
+unfolding digits
+table_growth_short = refl
+
+pub table_not_grown : TableNotGrown
+unfolding digits
+table_not_grown = refl
+
+pub table_growth_refused : TableGrowthRefused
+unfolding digits
+table_growth_refused = refl
+
+pub table_sizes : TableSizes
+unfolding digits
+table_sizes = refl
 
 pub float_global : FloatGlobal
 unfolding digits
@@ -104,6 +144,11 @@ worked_histories =
       unread_write = unread_write;
       grow_access = grow_access;
       grow_access_traps = grow_access_traps;
+      copy_load = copy_load;
+      copy_load_spent = copy_load_spent;
+      copy_overlap = copy_overlap;
+      fill_past = fill_past;
+      fill_grown = fill_grown;
       grow_failed = grow_failed_lines;
       nested_call = nested_call;
       nested_trap = nested_trap;
@@ -111,6 +156,11 @@ worked_histories =
       table_entry = table_entry;
       table_entry_emptied = table_entry_emptied;
       table_entry_import = table_entry_import;
+      table_growth = table_growth;
+      table_growth_short = table_growth_short;
+      table_not_grown = table_not_grown;
+      table_growth_refused = table_growth_refused;
+      table_sizes = table_sizes;
       float_global = float_global;
       imported_offset = imported_offset;
       imported_offset_missing = imported_offset_missing;

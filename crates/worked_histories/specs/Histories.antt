@@ -2,12 +2,12 @@
 use Rattle.std.specs.Prelude.{◌≡◌, ℕ, List, [], ◌∷◌, ◌++◌, Some, None, codes}
 use Rattle.wasm_syntax.specs.declared.values.ValType.TheVariants.{I64, F32}
 use Rattle.host_script.specs.declared.scripts.Address.TheVariants.{Fixed}
-use Rattle.host_script.specs.declared.scripts.Action.TheVariants.{Write, SetTable, SetGlobal, Grow}
+use Rattle.host_script.specs.declared.scripts.Action.TheVariants.{Write, SetTable, SetGlobal, Grow, GrowTable, Call}
 use Rattle.host_script.specs.declared.scripts.LinkFault.TheVariants.{Missing, Mismatch}
-use Rattle.history_spec.specs.declared.entries.FaultKind.TheVariants.{NoResponse}
+use Rattle.history_spec.specs.declared.entries.FaultKind.TheVariants.{NoResponse, GrowRefused}
 use Rattle.worked_histories.specs.Build.{value, i32, script, layout}
-use Rattle.worked_histories.specs.Modules.{empty, two_answers, overwrite, grow_access, grow_failed, nested_call, nested_trap, table_entry, float_global, imported_offset, c_buffers, replay_two_answers}
-use Rattle.worked_histories.specs.Scripts.{idle, five_seven, five_seven_twice, does, does_nothing, host_traps, calls_back, gives_global, reads_hi}
+use Rattle.worked_histories.specs.Modules.{empty, two_answers, overwrite, grow_access, copy_load, copy_overlap, fill_past, grow_failed, nested_call, nested_trap, table_entry, table_growth, table_sizes, float_global, imported_offset, c_buffers, replay_two_answers}
+use Rattle.worked_histories.specs.Scripts.{idle, five_seven, five_seven_twice, does, does_all, does_nothing, host_traps, calls_back, gives_global, reads_hi}
 use Rattle.worked_histories.specs.Tells.{tell, tell_replay, Lines, Fault, Spent, NoLink}
 
 -- the lines of a run whose first step calls the import
@@ -100,6 +100,63 @@ GrowAccessTraps =
     ∷ codes "trap 1 3 memory i32:00010000 i32:00000009 found 1"
     ∷ codes "trapped" ∷ [])
 
+-- a copy of what the host wrote, which is read back with its sign; ten turns suffice
+abbrev pub CopyLoad : Type 0
+CopyLoad =
+    tell copy_load (does (Write (Fixed 8) (0x85 ∷ 0x00 ∷ 0x00 ∷ 0x01 ∷ []))) 10 ≡ Lines 10
+    (import_returns ++ codes "step 1 1 -> i32:00000000"
+    ∷ codes "step 1 2 -> i32:00000008"
+    ∷ codes "step 1 3 -> i32:00000004"
+    ∷ codes "step 1 4 i32:00000000 i32:00000008 i32:00000004 ->"
+    ∷ codes "step 1 5 -> i32:00000000"
+    ∷ codes "step 1 6 i32:00000000 -> i32:01000085"
+    ∷ codes "step 1 7 i32:01000085 -> i32:ffffff85"
+    ∷ codes "host-return 1 i32:ffffff85"
+    ∷ codes "ended" ∷ [])
+
+-- nine do not
+abbrev pub CopyLoadSpent : Type 0
+CopyLoadSpent =
+    tell copy_load (does (Write (Fixed 8) (0x85 ∷ 0x00 ∷ 0x00 ∷ 0x01 ∷ []))) 9 ≡ Spent
+
+-- a copy reads the bytes that stood there before it
+abbrev pub CopyOverlap : Type 0
+CopyOverlap =
+    tell copy_overlap (does (Write (Fixed 8) (1 ∷ 2 ∷ 3 ∷ []))) 100 ≡ Lines 13
+    (import_returns ++ codes "step 1 1 -> i32:00000009"
+    ∷ codes "step 1 2 -> i32:00000008"
+    ∷ codes "step 1 3 -> i32:00000003"
+    ∷ codes "step 1 4 i32:00000009 i32:00000008 i32:00000003 ->"
+    ∷ codes "step 1 5 -> i32:0000000a"
+    ∷ codes "step 1 6 -> i32:000001a5"
+    ∷ codes "step 1 7 -> i32:00000001"
+    ∷ codes "step 1 8 i32:0000000a i32:000001a5 i32:00000001 ->"
+    ∷ codes "step 1 9 -> i32:00000008"
+    ∷ codes "step 1 10 i32:00000008 -> i32:03a50101"
+    ∷ codes "host-return 1 i32:03a50101"
+    ∷ codes "ended" ∷ [])
+
+-- a fill that ends past the memory traps
+abbrev pub FillPast : Type 0
+FillPast =
+    tell fill_past does_nothing 100 ≡ Lines 6
+    (import_returns ++ codes "step 1 1 -> i32:0000ffff"
+    ∷ codes "step 1 2 -> i32:00000007"
+    ∷ codes "step 1 3 -> i32:00000002"
+    ∷ codes "trap 1 4 memory i32:0000ffff i32:00000007 i32:00000002 found 1"
+    ∷ codes "trapped" ∷ [])
+
+-- and is done where the host grew it
+abbrev pub FillGrown : Type 0
+FillGrown =
+    tell fill_past (does (Grow 1)) 100 ≡ Lines 7
+    (import_returns ++ codes "step 1 1 -> i32:0000ffff"
+    ∷ codes "step 1 2 -> i32:00000007"
+    ∷ codes "step 1 3 -> i32:00000002"
+    ∷ codes "step 1 4 i32:0000ffff i32:00000007 i32:00000002 ->"
+    ∷ codes "host-return 1"
+    ∷ codes "ended" ∷ [])
+
 -- a failed growth sees that the host grew the memory
 abbrev pub GrowFailed : Type 0
 GrowFailed =
@@ -163,6 +220,58 @@ TableEntryImport =
     (import_returns ++ codes "step 1 1 -> i32:00000000"
     ∷ codes "trap 1 2 signature i32:00000000 found 0"
     ∷ codes "trapped" ∷ [])
+
+-- or stands past what the table was; six turns suffice
+abbrev pub TableGrowth : Type 0
+TableGrowth =
+    tell table_growth (does_all (GrowTable 4 ∷ SetTable 5 (Some 3) ∷ [])) 6 ≡ Lines 6
+    (import_returns ++ codes "step 1 1 -> i32:00000005"
+    ∷ codes "trap 1 2 signature i32:00000005 found 3"
+    ∷ codes "trapped" ∷ [])
+
+-- an index is past a table that the host grew
+abbrev pub TableGrowthShort : Type 0
+TableGrowthShort =
+    tell table_growth (does (GrowTable 2)) 100 ≡ Lines 5
+    (import_returns ++ codes "step 1 1 -> i32:00000005"
+    ∷ codes "trap 1 2 table i32:00000005 found 4"
+    ∷ codes "trapped" ∷ [])
+
+-- or that it did not
+abbrev pub TableNotGrown : Type 0
+TableNotGrown =
+    tell table_growth does_nothing 100 ≡ Lines 4
+    (import_returns ++ codes "step 1 1 -> i32:00000005"
+    ∷ codes "trap 1 2 table i32:00000005 found 2"
+    ∷ codes "trapped" ∷ [])
+
+-- no table grows to more than a million entries
+abbrev pub TableGrowthRefused : Type 0
+TableGrowthRefused =
+    tell table_growth (does (GrowTable 999999)) 100 ≡ Fault 3 GrowRefused
+
+-- a table grows where its maximum allows it, and its new entries hold the function
+abbrev pub TableSizes : Type 0
+TableSizes =
+    tell table_sizes (script [] (Call 0 [] ∷ [])) 100 ≡ Lines 14
+    (codes "host-call 0"
+    ∷ codes "step 0 0 -> funcref:0000000000000002"
+    ∷ codes "step 0 1 -> i32:00000002"
+    ∷ codes "step 0 2 funcref:0000000000000002 i32:00000002 -> i32:00000002"
+    ∷ codes "step 0 3 -> funcref:0000000000000000"
+    ∷ codes "step 0 4 -> i32:00000001"
+    ∷ codes "step 0 5 funcref:0000000000000000 i32:00000001 -> i32:ffffffff"
+    ∷ codes "step 0 6 i32:00000002 i32:ffffffff -> i32:00000001"
+    ∷ codes "step 0 7 -> i32:00000004"
+    ∷ codes "step 0 8 i32:00000001 i32:00000004 -> i32:00000005"
+    ∷ codes "step 0 9 -> i32:00000003"
+    ∷ codes "step 0 10 i32:00000003 -> found 1"
+    ∷ codes "enter 1"
+    ∷ codes "step 1 0 -> i32:00000007"
+    ∷ codes "exit 1 i32:00000007"
+    ∷ codes "step 0 11 i32:00000005 i32:00000007 -> i32:0000000c"
+    ∷ codes "host-return 0 i32:0000000c"
+    ∷ codes "ended" ∷ [])
 
 -- the bits of a NaN are kept
 abbrev pub FloatGlobal : Type 0
@@ -252,6 +361,11 @@ pub record WorkedHistories : Type 0 where
   pub unread_write : UnreadWrite
   pub grow_access : GrowAccess
   pub grow_access_traps : GrowAccessTraps
+  pub copy_load : CopyLoad
+  pub copy_load_spent : CopyLoadSpent
+  pub copy_overlap : CopyOverlap
+  pub fill_past : FillPast
+  pub fill_grown : FillGrown
   pub grow_failed : GrowFailed
   pub nested_call : NestedCall
   pub nested_trap : NestedTrap
@@ -259,6 +373,11 @@ pub record WorkedHistories : Type 0 where
   pub table_entry : TableEntry
   pub table_entry_emptied : TableEntryEmptied
   pub table_entry_import : TableEntryImport
+  pub table_growth : TableGrowth
+  pub table_growth_short : TableGrowthShort
+  pub table_not_grown : TableNotGrown
+  pub table_growth_refused : TableGrowthRefused
+  pub table_sizes : TableSizes
   pub float_global : FloatGlobal
   pub imported_offset : ImportedOffset
   pub imported_offset_missing : ImportedOffsetMissing

@@ -1,8 +1,8 @@
 -- The modules of the examples, as values.
 use Rattle.std.specs.Prelude.{[], ◌∷◌, Some, None, true, false, codes}
-use Rattle.wasm_opcodes.specs.declared.TheConstants.{F64_ADD, I32_ADD, I32_LOAD, I32_LOAD8_U, I32_SHL, I32_STORE16, I32_STORE8, I32_SUB}
+use Rattle.wasm_opcodes.specs.declared.TheConstants.{F64_ADD, I32_ADD, I32_EXTEND8_S, I32_LOAD, I32_LOAD8_U, I32_SHL, I32_STORE16, I32_STORE8, I32_SUB}
 use Rattle.wasm_syntax.specs.declared.values.ValType.TheVariants.{I32, F32, F64}
-use Rattle.wasm_syntax.specs.declared.instructions.Instr.TheVariants.{If, Else, End, Call, CallIndirect, Drop, LocalGet, LocalTee, GlobalGet, GlobalSet, Load, Store, MemoryGrow, Const, Numeric, Unreachable, Nop}
+use Rattle.wasm_syntax.specs.declared.instructions.Instr.TheVariants.{If, Else, End, Call, CallIndirect, Drop, LocalGet, LocalTee, GlobalGet, GlobalSet, Load, Store, MemoryGrow, MemoryCopy, MemoryFill, Const, Numeric, RefNull, RefFunc, TableGrow, TableSize, Unreachable, Nop}
 use Rattle.wasm_syntax.specs.declared.modules.ImportKind.TheVariants.{Func, Global}
 use Rattle.wasm_syntax.specs.declared.modules.ExportKind.TheVariants.{Func as ExportFunc, Table as ExportTable, Memory as ExportMemory, Global as ExportGlobal}
 use Rattle.wasm_syntax.specs.declared.modules.ElemSeg.TheVariants.{Active}
@@ -63,6 +63,34 @@ grow_access =
       exports = export_of (codes "g") (ExportFunc 1) ∷ export_of (codes "m") (ExportMemory 0) ∷ [];
     }
 
+-- copies what the host writes, and reads it with its sign
+abbrev pub copy_load : Module
+copy_load =
+    record overwrite {
+      funcs = func 1 []
+          (Call 0 ∷ Const (value I32 0) ∷ Const (value I32 8) ∷ Const (value I32 4) ∷ MemoryCopy
+          ∷ Const (value I32 0) ∷ Load (memory_arg I32_LOAD 2 0) ∷ Numeric I32_EXTEND8_S ∷ End ∷ []) ∷ [];
+    }
+
+-- copies bytes onto some of themselves, and fills with a number of more than a byte
+abbrev pub copy_overlap : Module
+copy_overlap =
+    record overwrite {
+      funcs = func 1 []
+          (Call 0 ∷ Const (value I32 9) ∷ Const (value I32 8) ∷ Const (value I32 3) ∷ MemoryCopy
+          ∷ Const (value I32 10) ∷ Const (value I32 0x1A5) ∷ Const (value I32 1) ∷ MemoryFill
+          ∷ Const (value I32 8) ∷ Load (memory_arg I32_LOAD 2 0) ∷ End ∷ []) ∷ [];
+    }
+
+-- fills past the first page
+abbrev pub fill_past : Module
+fill_past =
+    record grow_access {
+      funcs = func 0 []
+          (Call 0 ∷ Const (value I32 65535) ∷ Const (value I32 7) ∷ Const (value I32 2) ∷ MemoryFill
+          ∷ End ∷ []) ∷ [];
+    }
+
 -- grows a memory of ten pages at most by three
 abbrev pub grow_failed : Module
 grow_failed =
@@ -114,6 +142,30 @@ table_entry =
           export_of (codes "g") (ExportFunc 1) ∷ export_of (codes "b") (ExportFunc 3)
           ∷ export_of (codes "t") (ExportTable 0) ∷ [];
       elems = Active 0 (Const (value I32 0) ∷ End ∷ []) (2 ∷ []) ∷ [];
+    }
+
+-- the same, by an index past the table
+abbrev pub table_growth : Module
+table_growth =
+    record table_entry {
+      funcs = func 1 []
+          (Call 0 ∷ Const (value I32 5) ∷ CallIndirect 1 ∷ End ∷ []) ∷ func 1 []
+          (Const (value I32 7) ∷ End ∷ []) ∷ func 0 []
+          (End ∷ []) ∷ [];
+    }
+
+-- grows a table of four entries at most by two that hold a function, then by one, and calls the last
+abbrev pub table_sizes : Module
+table_sizes =
+    record empty {
+      types = func_type [] (I32 ∷ []) ∷ [];
+      funcs = func 0 []
+          (RefFunc 1 ∷ Const (value I32 2) ∷ TableGrow 0 ∷ RefNull ∷ Const (value I32 1) ∷ TableGrow 0
+          ∷ Numeric I32_ADD ∷ TableSize 0 ∷ Numeric I32_ADD ∷ Const (value I32 3) ∷ CallIndirect 0
+          ∷ Numeric I32_ADD ∷ End ∷ []) ∷ func 0 []
+          (Const (value I32 7) ∷ End ∷ []) ∷ [];
+      tables = limits 2 (Some 4) ∷ [];
+      exports = export_of (codes "g") (ExportFunc 0) ∷ export_of (codes "e") (ExportFunc 1) ∷ [];
     }
 
 -- reads a global that the host sets

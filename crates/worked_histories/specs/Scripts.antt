@@ -1,5 +1,5 @@
 -- The scripts of the examples, with their names resolved.
-use Rattle.std.specs.Prelude.{[], ◌∷◌, Option, Some, None}
+use Rattle.std.specs.Prelude.{List, [], ◌∷◌, Option, Some, None}
 use Rattle.wasm_syntax.specs.declared.values.Val.{Val}
 use Rattle.host_script.specs.declared.scripts.Script.{Script}
 use Rattle.host_script.specs.declared.scripts.Address.TheVariants.{Fixed, Arg}
@@ -18,12 +18,15 @@ five_seven = one_call 1 (returns [] (Some (i32 5)) ∷ returns [] (Some (i32 7))
 abbrev pub five_seven_twice : Script
 five_seven_twice = record five_seven { main = Call 1 [] ∷ Call 1 [] ∷ [] }
 
--- one call of function 1, whose one call of the import is answered by one action, by none, or by a trap
+-- one call of function 1, whose one call of the import is answered by actions, by one, by none, or by a trap
+abbrev pub does_all : List Action → Script
+does_all actions = one_call 1 (returns actions None ∷ [])
+
 abbrev pub does : Action → Script
-does action = one_call 1 (returns (action ∷ []) None ∷ [])
+does action = does_all (action ∷ [])
 
 abbrev pub does_nothing : Script
-does_nothing = one_call 1 (returns [] None ∷ [])
+does_nothing = does_all []
 
 abbrev pub host_traps : Script
 host_traps = one_call 1 (traps ∷ [])

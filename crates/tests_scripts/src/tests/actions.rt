@@ -73,6 +73,15 @@ const ROWS: &str = r#"
   => script: shape /main/0
 - grow | {"main":[{"grow":1}]} => taken
 - grow with an unlisted key | {"main":[{"grow":-1,"max":1}]} => script: shape /main/0
+- grow and a table's growth | {"main":[{"grow":1,"grow_table":1}]} => script: shape /main/0
+- grow with a key of another action | {"main":[{"grow":1,"func":null}]} => script: shape /main/0
+- grow the table | {"main":[{"grow_table":1}]} => taken
+- grow the table, with an unlisted key | {"main":[{"grow_table":-1,"max":1}]} => script: shape /main/0
+- grow the table, with a key of another action | {"main":[{"grow_table":1,"func":null}]} => script: shape /main/0
+- grow the table and set an entry | {"main":[{"set_table":0,"func":null,"grow_table":1}]} => script: shape /main/0
+- grow the table and call an entry | {"main":[{"grow_table":-1,"call_table":"x"}]} => script: shape /main/0
+- grow the table by a negative number, behind a growth | {"main":[{"grow_table":0},{"grow_table":-1}]}
+  => script: shape /main/1/grow_table
 - call | {"main":[{"call":"go"}]} => taken
 - call with arguments | {"main":[{"call":"run","args":[{"i32":-1},{"i64":-1}]}]} => taken
 - call without the arguments | {"main":[{"call":"run"}]} => script: type run
@@ -97,7 +106,7 @@ const ROWS: &str = r#"
 
 #[test]
 fn each_action(rt: HostRuntime) -> Result<(), Fail> {
-    assert_eq!(rt; check_table(rt.alloc(), EVERY, ROWS)?, 81);
+    assert_eq!(rt; check_table(rt.alloc(), EVERY, ROWS)?, 89);
     Ok(())
 }
 
@@ -106,10 +115,16 @@ const OUT_OF_REACH: &str = r#"
 - copy | {"main":[{"copy":0,"from":0,"count":0}]} => script: no access memory
 - grow | {"main":[{"grow":0}]} => script: no access memory
 - set an entry | {"main":[{"set_table":0,"func":null}]} => script: no access table
+- grow the table | {"main":[{"grow_table":0}]} => script: no access table
 - call an entry | {"main":[{"call_table":0}]} => script: no access table
 - write an odd length | {"main":[{"write":0,"bytes":"0"}]} => script: shape /main/0/bytes
 - copy an unlisted key | {"main":[{"copy":0,"zz":0}]} => script: shape /main/0
 - grow by a text | {"main":[{"grow":"0"}]} => script: shape /main/0/grow
+- grow the table by a text | {"main":[{"grow_table":"0"}]} => script: shape /main/0/grow_table
+- grow the table by 2^32 | {"main":[{"grow_table":4294967296}]} => script: shape /main/0/grow_table
+- grow the table, with an unlisted key | {"main":[{"grow_table":0,"max":1}]} => script: shape /main/0
+- grow the table in a response | {"imports":{"h":{"f":{"calls":[{"do":[{"grow_table":1}]}]}}}}
+  => script: no access table
 - set an entry to an unknown function | {"main":[{"set_table":0,"func":"zz"}]} => script: no access table
 - set an entry to a number | {"main":[{"set_table":0,"func":0}]} => script: shape /main/0/func
 - call an entry with a number | {"main":[{"call_table":0,"args":5}]} => script: shape /main/0/args
@@ -121,7 +136,7 @@ const OUT_OF_REACH: &str = r#"
 
 #[test]
 fn memory_and_table_out_of_reach(rt: HostRuntime) -> Result<(), Fail> {
-    assert_eq!(rt; check_table(rt.alloc(), CLOSED, OUT_OF_REACH)?, 14);
+    assert_eq!(rt; check_table(rt.alloc(), CLOSED, OUT_OF_REACH)?, 19);
     Ok(())
 }
 
@@ -129,6 +144,7 @@ const IMPORTS: &str = r#"
 - write | {"main":[{"write":0,"bytes":""}]} => taken
 - copy | {"main":[{"copy":0,"from":0,"count":0}]} => taken
 - grow | {"main":[{"grow":0}]} => taken
+- grow the table | {"main":[{"grow_table":0}]} => taken
 - set an entry | {"main":[{"set_table":0,"func":"go"}]} => taken
 - call an entry | {"main":[{"call_table":0}]} => taken
 - nothing under a module of no functions | {"imports":{"h":{}}} => script: unknown h
@@ -136,6 +152,6 @@ const IMPORTS: &str = r#"
 
 #[test]
 fn imported_memory_and_table(rt: HostRuntime) -> Result<(), Fail> {
-    assert_eq!(rt; check_table(rt.alloc(), IMPORTED, IMPORTS)?, 6);
+    assert_eq!(rt; check_table(rt.alloc(), IMPORTED, IMPORTS)?, 7);
     Ok(())
 }

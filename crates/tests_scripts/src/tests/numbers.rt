@@ -16,6 +16,13 @@ const ROWS: &str = r#"
 - pages: null | {"main":[{"grow":null}]} => script: shape /main/0/grow
 - pages: true | {"main":[{"grow":true}]} => script: shape /main/0/grow
 - pages: a list | {"main":[{"grow":[1]}]} => script: shape /main/0/grow
+- entries: 0 | {"main":[{"grow_table":0}]} => taken
+- entries: past 16 bits | {"main":[{"grow_table":65536}]} => taken
+- entries: the most | {"main":[{"grow_table":4294967295}]} => taken
+- entries: one more | {"main":[{"grow_table":4294967296}]} => script: shape /main/0/grow_table
+- entries: a negative number | {"main":[{"grow_table":-1}]} => script: shape /main/0/grow_table
+- entries: a float | {"main":[{"grow_table":1.0}]} => script: shape /main/0/grow_table
+- entries: null | {"main":[{"grow_table":null}]} => script: shape /main/0/grow_table
 - i32: the least | {"main":[{"call":"run","args":[{"i32":-2147483648},{"i64":0}]}]} => taken
 - i32: one less | {"main":[{"call":"run","args":[{"i32":-2147483649},{"i64":0}]}]} => script: shape /main/0/args/0/i32
 - i32: the most | {"main":[{"call":"run","args":[{"i32":4294967295},{"i64":0}]}]} => taken
@@ -59,6 +66,6 @@ const ROWS: &str = r#"
 
 #[test]
 fn numbers_and_values(rt: HostRuntime) -> Result<(), Fail> {
-    assert_eq!(rt; check_table(rt.alloc(), EVERY, ROWS)?, 48);
+    assert_eq!(rt; check_table(rt.alloc(), EVERY, ROWS)?, 55);
     Ok(())
 }

@@ -24,6 +24,9 @@ const ROWS: &str = r#"
   => script: unknown zz
 - an action before a missing value | {"imports":{"h":{"f":{"calls":[{"do":[{"grow":-1}]}]}}}}
   => script: shape /imports/h/f/calls/0/do/0/grow
+- a table's growth | {"imports":{"h":{"f":{"calls":[{"do":[{"grow_table":1}],"return":{"i32":0}}]}}}} => taken
+- a table's growth before a missing value | {"imports":{"h":{"f":{"calls":[{"do":[{"grow_table":-1}]}]}}}}
+  => script: shape /imports/h/f/calls/0/do/0/grow_table
 - an action before a value of another type |
   {"imports":{"h":{"f":{"calls":[{"do":[{"call":"own"}],"return":{"i64":0}}]}}}}
   => script: calls own own
@@ -84,6 +87,6 @@ const ROWS: &str = r#"
 
 #[test]
 fn responses_and_addresses(rt: HostRuntime) -> Result<(), Fail> {
-    assert_eq!(rt; check_table(rt.alloc(), EVERY, ROWS)?, 39);
+    assert_eq!(rt; check_table(rt.alloc(), EVERY, ROWS)?, 41);
     Ok(())
 }

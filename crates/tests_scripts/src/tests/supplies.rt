@@ -58,6 +58,18 @@ const ROWS: &[(&str, &str, &str, LinkFault)] = &[
         GLOBALS,
         Mismatch { import: 0 },
     ),
+    (
+        r#""table":{"size":4,"max":3},"#,
+        "",
+        GLOBALS,
+        Mismatch { import: 0 },
+    ),
+    (
+        r#""table":{"size":3,"max":3},"#,
+        "",
+        GLOBALS,
+        Missing { import: 1 },
+    ),
     (TABLE, "", GLOBALS, Missing { import: 1 }),
     (
         TABLE,

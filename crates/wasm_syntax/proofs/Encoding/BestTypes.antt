@@ -10,10 +10,10 @@ use Rattle.wasm_syntax.specs.declared.values.ValType.{ValType}
 use Rattle.wasm_syntax.specs.declared.values.ValType.TheVariants.{I32, I64, F32, F64, FuncRef}
 use Rattle.wasm_syntax.specs.declared.signatures.GlobalType.{GlobalType}
 use Rattle.wasm_syntax.specs.declared.instructions.MemArg.{MemArg}
-use Rattle.wasm_syntax.specs.declared.instructions.Instr.TheVariants.{Unreachable, Nop, Block, Loop, If, Else, End, Br, BrIf, BrTable, Return, Call, CallIndirect, Drop, Select, LocalGet, LocalSet, LocalTee, GlobalGet, GlobalSet, Load, Store, MemorySize, MemoryGrow, Const, Numeric, RefNull, RefFunc, TableSet}
-use Rattle.wasm_syntax.specs.Encoding.Grammar.{Exactly, Raw, Marked, ◌then◌, VectorOf}
+use Rattle.wasm_syntax.specs.declared.instructions.Instr.TheVariants.{Unreachable, Nop, Block, Loop, If, Else, End, Br, BrIf, BrTable, Return, Call, CallIndirect, Drop, Select, LocalGet, LocalSet, LocalTee, GlobalGet, GlobalSet, Load, Store, MemorySize, MemoryGrow, MemoryCopy, MemoryFill, Const, Numeric, RefNull, RefFunc, TableSet, TableGrow, TableSize}
+use Rattle.wasm_syntax.specs.Encoding.Grammar.{Grammar, Exactly, Raw, Marked, ◌then◌, VectorOf}
 use Rattle.wasm_syntax.specs.Encoding.Types.{EncodesF32, EncodesF64, EncodesBytes, EncodesIndices, EncodesName, EncodesValType, EncodesBlockType, EncodesFuncType, EncodesBounds, EncodesLimits, EncodesTableType, EncodesMutability, EncodesGlobalType}
-use Rattle.wasm_syntax.specs.Encoding.Instructions.{EncodesConst, EncodesInstr, EncodesExpr}
+use Rattle.wasm_syntax.specs.Encoding.Instructions.{IsReplay, EncodesConst, Prefixed, EncodesInstr, EncodesExpr}
 use Rattle.wasm_syntax.specs.Encoding.Encodable.{FitsU32, FitsValType, FitsBlockType, FitsFuncType, FitsBounds, FitsLimits, FitsConst, FitsMemArg, FitsInstr, FitsBody}
 use Rattle.wasm_syntax.specs.Encoding.Shortest.{sized_bytes, vector_bytes, val_type_bytes, block_type_bytes, func_type_bytes, bounds_bytes, limits_bytes, table_type_bytes, mutability_byte, global_type_bytes, const_bytes, access_bytes, instr_bytes, body_bytes}
 use Rattle.wasm_syntax.proofs.Encoding.Numbers.{NumberLaws}
@@ -134,6 +134,27 @@ module _ (laws : NumberLaws) where
       → IsBest (λ bytes. Marked mark EncodesBlockType bytes ty) (FitsBlockType ty) (mark ∷ block_type_bytes ty)
   typed mark ty = marked_best mark EncodesBlockType FitsBlockType block_type_bytes block_type_best ty
 
+  -- an instruction of the prefix
+  prefixed : {A : Type 0} (number : ℕ) (E : Grammar A) (Fits : A → Type 0) (write : A → List ℕ) → FitsU32 number → IsWrittenBy E Fits write
+      → (x : A) → IsBest (λ bytes. Prefixed number E bytes x) (Fits x) (0xFC ∷ (u32_bytes number ++ write x))
+  prefixed {A} number E Fits write small best x =
+      refit (λ bytes. Prefixed number E bytes x) (0xFC ∷ (u32_bytes number ++ write x)) (λ fits. (small, fits)) (λ both. both.1)
+      (marked_best 0xFC (EncodesU32 then E) (λ (p : ℕ × A). FitsU32 p.0 × Fits p.1) (λ (p : ℕ × A). u32_bytes p.0 ++ write p.1)
+      (λ (p : ℕ × A). then_best EncodesU32 E FitsU32 Fits u32_bytes write (u32_best laws) best p.0 p.1)
+      (number, x))
+
+  prefixed_exactly : (number : ℕ) (word : List ℕ) → FitsU32 number
+      → IsBest (λ bytes. Prefixed number (Exactly word) bytes tt) (Unit {0}) (0xFC ∷ (u32_bytes number ++ word))
+  prefixed_exactly number word small =
+      prefixed number (Exactly word) (λ it. Unit {0}) (λ it. word) small (λ it. exactly_best word) tt
+
+  -- one with a table, in the form of replay binaries
+  prefixed_table : (form : Form) (number table : ℕ) → FitsU32 number
+      → IsBest (λ bytes. IsReplay form × Prefixed number EncodesU32 bytes table) (IsReplay form × FitsU32 table) (0xFC ∷ (u32_bytes number ++ u32_bytes table))
+  prefixed_table form number table small =
+      under_best (λ bytes. Prefixed number EncodesU32 bytes table) (FitsU32 table) (0xFC ∷ (u32_bytes number ++ u32_bytes table))
+      (prefixed number EncodesU32 FitsU32 u32_bytes small (u32_best laws) table)
+
   pub instr_best : (form : Form) → IsWrittenBy (EncodesInstr form) (FitsInstr form) instr_bytes
   unfolding instr_bytes
   instr_best form Unreachable = exactly_best (0x00 ∷ [])
@@ -170,6 +191,8 @@ module _ (laws : NumberLaws) where
       under_best (λ bytes. Marked access.op (EncodesU32 then EncodesU32) bytes (access.align, access.offset)) (FitsMemArg access) (access_bytes access) (access_best access)
   instr_best form MemorySize = exactly_best (0x3F ∷ 0x00 ∷ [])
   instr_best form MemoryGrow = exactly_best (0x40 ∷ 0x00 ∷ [])
+  instr_best form MemoryCopy = prefixed_exactly 10 (0x00 ∷ 0x00 ∷ []) (omega arith)
+  instr_best form MemoryFill = prefixed_exactly 11 (0x00 ∷ []) (omega arith)
   instr_best form (Const value) = const_best value.ty value.bits
   instr_best form (Numeric op) =
       refit (λ bytes. EncodesInstr form bytes (Numeric op)) (op ∷ []) (λ fits. (fits, tt)) (λ both. both.0)
@@ -179,6 +202,8 @@ module _ (laws : NumberLaws) where
       refit (λ bytes. EncodesInstr form bytes RefNull) (0xD0 ∷ 0x70 ∷ []) (λ fits. (fits, tt)) (λ both. both.0)
       (under_best (λ bytes. Exactly (0xD0 ∷ 0x70 ∷ []) bytes tt) (Unit {0}) (0xD0 ∷ 0x70 ∷ []) (exactly_best (0xD0 ∷ 0x70 ∷ [])))
   instr_best form (RefFunc func) = under_best (λ bytes. Marked 0xD2 EncodesU32 bytes func) (FitsU32 func) (0xD2 ∷ u32_bytes func) (indexed 0xD2 func)
+  instr_best form (TableGrow table) = prefixed_table form 15 table (omega arith)
+  instr_best form (TableSize table) = prefixed_table form 16 table (omega arith)
 
   pub body_best : (form : Form) → IsWrittenBy (EncodesExpr form) (FitsBody form) body_bytes
   body_best form body =

@@ -3,7 +3,7 @@ use Rattle.std.proofs.Common.{◌<◌, ◌^◌, List, [], ◌∷◌, sym, subst,
 use Rattle.std.specs.List.{AllByRecursion}
 use Rattle.wasm_syntax.specs.declared.forms.Form.TheVariants.{Core, Replay}
 use Rattle.wasm_syntax.specs.declared.instructions.Instr.{Instr}
-use Rattle.wasm_syntax.specs.declared.instructions.Instr.TheVariants.{RefNull, RefFunc, TableSet}
+use Rattle.wasm_syntax.specs.declared.instructions.Instr.TheVariants.{RefNull, RefFunc, TableSet, TableGrow, TableSize}
 use Rattle.wasm_syntax.specs.declared.modules.Func.{Func}
 use Rattle.wasm_syntax.specs.declared.modules.Global.{Global}
 use Rattle.wasm_syntax.specs.declared.modules.ElemSeg.{ElemSeg}
@@ -29,6 +29,8 @@ instr_core : (i : Instr) → FitsInstr Core i → IsCoreInstr i
 instr_core (TableSet table) h = h.0
 instr_core RefNull h = h
 instr_core (RefFunc func) h = h.0
+instr_core (TableGrow table) h = h.0
+instr_core (TableSize table) h = h.0
 instr_core i h = tt
 
 body_core : (body : List Instr) → FitsBody Core body → AreCoreInstrs body
@@ -52,6 +54,8 @@ instr_replay : (i : Instr) → FitsInstr Core i → FitsInstr Replay i
 instr_replay (TableSet table) h = absurd h.0
 instr_replay RefNull h = absurd h
 instr_replay (RefFunc func) h = absurd h.0
+instr_replay (TableGrow table) h = absurd h.0
+instr_replay (TableSize table) h = absurd h.0
 instr_replay i h = h
 
 body_replay : (body : List Instr) → FitsBody Core body → FitsBody Replay body
@@ -82,6 +86,8 @@ core_instr : (i : Instr) → FitsInstr Replay i → IsCoreInstr i → FitsInstr 
 core_instr (TableSet table) h core = absurd core
 core_instr RefNull h core = absurd core
 core_instr (RefFunc func) h core = absurd core
+core_instr (TableGrow table) h core = absurd core
+core_instr (TableSize table) h core = absurd core
 core_instr i h core = h
 
 core_body : (body : List Instr) → FitsBody Replay body → AreCoreInstrs body → FitsBody Core body

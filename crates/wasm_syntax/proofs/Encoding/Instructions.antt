@@ -2,6 +2,7 @@
 use Rattle.std.proofs.Common.{◌≡◌, ℕ, ◌⊎◌, List, [], ◌∷◌, ◌++◌, Bool, true, false, cond, Option, Some, refl, ap, subst, inl, inr, arith}
 use Rattle.std.specs.Prelude.{nat_eq, ◌||◌}
 use Rattle.std.specs.List.{AllByRecursion}
+use Rattle.std.proofs.lemmas.Bool.{or_parts}
 use Rattle.std.proofs.lemmas.Bool.Decides.{nat_tests}
 use Rattle.std.proofs.lemmas.Option.{same_Some}
 use Rattle.leb_bytes.specs.Encoding.{IsReadBy}
@@ -12,14 +13,14 @@ use Rattle.wasm_syntax.specs.declared.forms.Form.TheVariants.{Core, Replay}
 use Rattle.wasm_syntax.specs.declared.values.ValType.{ValType}
 use Rattle.wasm_syntax.specs.declared.values.ValType.TheVariants.{I32, I64, F32, F64, FuncRef}
 use Rattle.wasm_syntax.specs.declared.instructions.Instr.{Instr}
-use Rattle.wasm_syntax.specs.declared.instructions.Instr.TheVariants.{Unreachable, Nop, Block, Loop, If, Else, End, Br, BrIf, BrTable, Return, Call, CallIndirect, Drop, Select, LocalGet, LocalSet, LocalTee, GlobalGet, GlobalSet, Load, Store, MemorySize, MemoryGrow, Const, Numeric, RefNull, RefFunc, TableSet}
+use Rattle.wasm_syntax.specs.declared.instructions.Instr.TheVariants.{Unreachable, Nop, Block, Loop, If, Else, End, Br, BrIf, BrTable, Return, Call, CallIndirect, Drop, Select, LocalGet, LocalSet, LocalTee, GlobalGet, GlobalSet, Load, Store, MemorySize, MemoryGrow, MemoryCopy, MemoryFill, Const, Numeric, RefNull, RefFunc, TableSet, TableGrow, TableSize}
 use Rattle.wasm_syntax.specs.Opcodes.{is_from}
-use Rattle.wasm_syntax.specs.Encoding.Grammar.{Exactly, ◌then◌}
+use Rattle.wasm_syntax.specs.Encoding.Grammar.{Grammar, Exactly, ◌then◌}
 use Rattle.wasm_syntax.specs.Encoding.Types.{EncodesF32, EncodesF64, EncodesIndices, EncodesBlockType}
-use Rattle.wasm_syntax.specs.Encoding.Instructions.{IsReplay, EncodesInstr, EncodesConst}
-use Rattle.wasm_syntax.specs.Encoding.Combinators.{Reader, always, map_read, first_then, first_exactly, by_mark, row_at}
-use Rattle.wasm_syntax.specs.Encoding.Readers.{first_f32, first_f64, first_indices, first_block_type, const, mem_arg, core_rows, instr_rows, instr_at, first_instr}
-use Rattle.wasm_syntax.proofs.Encoding.Tools.{then_is, exactly_is, FindsBehind, ChoosesWell, RowFinds, by_mark_found, rows_well, done_finds, read_finds, done_only, read_only}
+use Rattle.wasm_syntax.specs.Encoding.Instructions.{IsReplay, EncodesInstr, EncodesConst, Prefixed}
+use Rattle.wasm_syntax.specs.Encoding.Combinators.{Reader, always, map_read, first_then, first_exactly, by_mark, by_number, row_at}
+use Rattle.wasm_syntax.specs.Encoding.Readers.{first_f32, first_f64, first_indices, first_block_type, const, mem_arg, core_rows, core_prefixed_rows, prefixed_rows, instr_rows, instr_at, first_instr}
+use Rattle.wasm_syntax.proofs.Encoding.Tools.{then_is, exactly_is, FindsBehind, ChoosesWell, RowFinds, by_mark_found, rows_well, done_finds, read_finds, Numbered, numbered_finds, done_only, read_only, numbered_only}
 use Rattle.wasm_syntax.proofs.Encoding.Numbers.{NumberLaws, f32_is, f64_is, indices_is}
 use Rattle.wasm_syntax.proofs.Encoding.Types.{block_type_is}
 
@@ -28,40 +29,54 @@ pub chosen : {A : Type 0} (b : Bool) (x y z : A) → cond b x y ≡ z → ((b �
 chosen true x y z e = inl (refl, e)
 chosen false x y z e = inr (refl, e)
 
--- opcodes that no row of the form Core has
+-- opcodes that none of the rows of the form Core by their opcodes alone has
 abbrev special : ℕ → Bool
-special op = is_from 0x45 0xBF op || (is_from 0x28 0x35 op || (is_from 0x36 0x3E op || (nat_eq 0x26 op || (nat_eq 0xD0 op || nat_eq 0xD2 op))))
+special op =
+    is_from 0x45 0xC4 op || (is_from 0x28 0x35 op || (is_from 0x36 0x3E op || (nat_eq 0xFC op || (nat_eq 0x26 op || (nat_eq 0xD0 op || nat_eq 0xD2 op)))))
 
-none_of : (a b c d e f : Bool) → (a || (b || (c || (d || (e || f))))) ≡ false
-    → (a ≡ false) × (b ≡ false) × (c ≡ false) × (d ≡ false) × (e ≡ false) × (f ≡ false)
-none_of false false false false false false h = (refl, refl, refl, refl, refl, refl)
-none_of true b c d e f h = absurd cc
-none_of false true c d e f h = absurd cc
-none_of false false true d e f h = absurd cc
-none_of false false false true e f h = absurd cc
-none_of false false false false true f h = absurd cc
-none_of false false false false false true h = absurd cc
+none_of : (a b c d e f g : Bool) → (a || (b || (c || (d || (e || (f || g)))))) ≡ false
+    → (a ≡ false) × (b ≡ false) × (c ≡ false) × (d ≡ false) × (e ≡ false) × (f ≡ false) × (g ≡ false)
+none_of a b c d e f g h =
+    let first = or_parts a (b || (c || (d || (e || (f || g))))) h in
+    let second = or_parts b (c || (d || (e || (f || g)))) first.1 in
+    let third = or_parts c (d || (e || (f || g))) second.1 in
+    let fourth = or_parts d (e || (f || g)) third.1 in
+    let fifth = or_parts e (f || g) fourth.1 in
+    let last = or_parts f g fifth.1 in
+    (first.0, second.0, third.0, fourth.0, fifth.0, last.0, last.1)
 
 core_at : (form : Form) (op : ℕ) (read : Reader Instr) → special op ≡ false → row_at core_rows op ≡ Some read
     → instr_at form op ≡ Some read
 core_at Core op read h e =
-    let n = none_of (is_from 0x45 0xBF op) (is_from 0x28 0x35 op) (is_from 0x36 0x3E op) (nat_eq 0x26 op) (nat_eq 0xD0 op) (nat_eq 0xD2 op) h in
-    rw (n.0, n.1, n.2) e
+    let n = none_of (is_from 0x45 0xC4 op) (is_from 0x28 0x35 op) (is_from 0x36 0x3E op) (nat_eq 0xFC op) (nat_eq 0x26 op) (nat_eq 0xD0 op) (nat_eq 0xD2 op) h in
+    rw (n.0, n.1, n.2, n.3) e
 core_at Replay op read h e =
-    let n = none_of (is_from 0x45 0xBF op) (is_from 0x28 0x35 op) (is_from 0x36 0x3E op) (nat_eq 0x26 op) (nat_eq 0xD0 op) (nat_eq 0xD2 op) h in
-    rw (n.0, n.1, n.2, n.3, n.4, n.5) e
+    let n = none_of (is_from 0x45 0xC4 op) (is_from 0x28 0x35 op) (is_from 0x36 0x3E op) (nat_eq 0xFC op) (nat_eq 0x26 op) (nat_eq 0xD0 op) (nat_eq 0xD2 op) h in
+    rw (n.0, n.1, n.2, n.3, n.4, n.5, n.6) e
+
+-- the instructions of the prefix
+prefix_at : (form : Form) → instr_at form 0xFC ≡ Some (by_number (row_at (prefixed_rows form)))
+prefix_at Core = refl
+prefix_at Replay = refl
+
+core_prefixed_at : (form : Form) (number : ℕ) (read : Reader Instr) → (nat_eq 15 number || nat_eq 16 number) ≡ false
+    → row_at core_prefixed_rows number ≡ Some read → row_at (prefixed_rows form) number ≡ Some read
+core_prefixed_at Core number read h e = e
+core_prefixed_at Replay number read h e =
+    let n = or_parts (nat_eq 15 number) (nat_eq 16 number) h in
+    rw (n.0, n.1) e
 
 -- the three tests of a range exclude one another
-load_no_numeric : (op : ℕ) → is_from 0x28 0x35 op ≡ true → is_from 0x45 0xBF op ≡ false
+load_no_numeric : (op : ℕ) → is_from 0x28 0x35 op ≡ true → is_from 0x45 0xC4 op ≡ false
 load_no_numeric op h = grind (arith, nat_tests)
 
-store_no_numeric : (op : ℕ) → is_from 0x36 0x3E op ≡ true → is_from 0x45 0xBF op ≡ false
+store_no_numeric : (op : ℕ) → is_from 0x36 0x3E op ≡ true → is_from 0x45 0xC4 op ≡ false
 store_no_numeric op h = grind (arith, nat_tests)
 
 store_no_load : (op : ℕ) → is_from 0x36 0x3E op ≡ true → is_from 0x28 0x35 op ≡ false
 store_no_load op h = grind (arith, nat_tests)
 
-numeric_at : (form : Form) (op : ℕ) → is_from 0x45 0xBF op ≡ true → instr_at form op ≡ Some (always (Numeric op))
+numeric_at : (form : Form) (op : ℕ) → is_from 0x45 0xC4 op ≡ true → instr_at form op ≡ Some (always (Numeric op))
 numeric_at form op h = rw (h) refl
 
 load_at : (form : Form) (op : ℕ) → is_from 0x28 0x35 op ≡ true
@@ -164,22 +179,57 @@ module _ (laws : NumberLaws) where
     ),
   )
 
-  rows_find : (form : Form) → AllByRecursion (RowFinds (EncodesInstr form)) (instr_rows form)
-  rows_find Core = core_find Core
-  rows_find Replay = (
-    read_finds (EncodesInstr Replay) EncodesU32 0x26 first_u32 TableSet laws.u32 (λ bytes a h. (tt, (bytes, refl, h))),
+  -- the bytes behind the prefix, whichever way the number is spelled
+  abbrev AtPrefix : Form → List ℕ → Instr → Type 0
+  AtPrefix form bytes i = EncodesInstr form (0xFC ∷ bytes) i
+
+  core_prefixed_find : (form : Form) → AllByRecursion (RowFinds (Numbered (AtPrefix form))) core_prefixed_rows
+  core_prefixed_find form = (
+    read_finds (Numbered (AtPrefix form)) (Exactly (0x00 ∷ 0x00 ∷ [])) 10 (first_exactly (0x00 ∷ 0x00 ∷ [])) (λ it. MemoryCopy) (exactly_is (0x00 ∷ 0x00 ∷ []))
+        (λ bytes a h spelled s. (spelled ++ bytes, refl, (spelled, bytes, refl, s, h))),
     (
-      read_finds (EncodesInstr Replay) (Exactly (0x70 ∷ [])) 0xD0 (first_exactly (0x70 ∷ [])) (λ it. RefNull) (exactly_is (0x70 ∷ [])) (λ bytes a h. (tt, ap (λ r. 0xD0 ∷ r) h)),
+      read_finds (Numbered (AtPrefix form)) (Exactly (0x00 ∷ [])) 11 (first_exactly (0x00 ∷ [])) (λ it. MemoryFill) (exactly_is (0x00 ∷ []))
+          (λ bytes a h spelled s. (spelled ++ bytes, refl, (spelled, bytes, refl, s, h))),
+      tt,
+    ),
+  )
+
+  prefixed_find : (form : Form) → AllByRecursion (RowFinds (Numbered (AtPrefix form))) (prefixed_rows form)
+  prefixed_find Core = core_prefixed_find Core
+  prefixed_find Replay = (
+    read_finds (Numbered (AtPrefix Replay)) EncodesU32 15 first_u32 TableGrow laws.u32
+        (λ bytes a h spelled s. (tt, (spelled ++ bytes, refl, (spelled, bytes, refl, s, h)))),
+    (
+      read_finds (Numbered (AtPrefix Replay)) EncodesU32 16 first_u32 TableSize laws.u32
+          (λ bytes a h spelled s. (tt, (spelled ++ bytes, refl, (spelled, bytes, refl, s, h)))),
+      core_prefixed_find Replay,
+    ),
+  )
+
+  prefix_find : (form : Form) → RowFinds (EncodesInstr form) (0xFC, by_number (row_at (prefixed_rows form)))
+  prefix_find form =
+      numbered_finds (EncodesInstr form) 0xFC (row_at (prefixed_rows form)) laws.u32
+      (rows_well (Numbered (AtPrefix form)) (prefixed_rows form) (prefixed_find form))
+
+  rows_find : (form : Form) → AllByRecursion (RowFinds (EncodesInstr form)) (instr_rows form)
+  rows_find Core = (prefix_find Core, core_find Core)
+  rows_find Replay = (
+    prefix_find Replay,
+    (
+      read_finds (EncodesInstr Replay) EncodesU32 0x26 first_u32 TableSet laws.u32 (λ bytes a h. (tt, (bytes, refl, h))),
       (
-        read_finds (EncodesInstr Replay) EncodesU32 0xD2 first_u32 RefFunc laws.u32 (λ bytes a h. (tt, (bytes, refl, h))),
-        core_find Replay,
+        read_finds (EncodesInstr Replay) (Exactly (0x70 ∷ [])) 0xD0 (first_exactly (0x70 ∷ [])) (λ it. RefNull) (exactly_is (0x70 ∷ [])) (λ bytes a h. (tt, ap (λ r. 0xD0 ∷ r) h)),
+        (
+          read_finds (EncodesInstr Replay) EncodesU32 0xD2 first_u32 RefFunc laws.u32 (λ bytes a h. (tt, (bytes, refl, h))),
+          core_find Replay,
+        ),
       ),
     ),
   )
 
   instr_well : (form : Form) → ChoosesWell (EncodesInstr form) (instr_at form)
   instr_well form op read e =
-      elim (chosen (is_from 0x45 0xBF op) (Some (always (Numeric op))) (rest op) (Some read) e) [
+      elim (chosen (is_from 0x45 0xC4 op) (Some (always (Numeric op))) (rest op) (Some read) e) [
         | inl numeric ↦ subst (λ r. FindsBehind (EncodesInstr form) op r) (same_Some _ _ numeric.1)
             (done_finds (EncodesInstr form) op (Numeric op) (numeric.0, refl))
         | inr others ↦ elim (chosen (is_from 0x28 0x35 op) (Some (map_read (λ numbers. Load (mem_arg op numbers)) (first_then first_u32 first_u32))) (rows op) (Some read) others.1) [
@@ -217,6 +267,12 @@ module _ (laws : NumberLaws) where
       → by_mark (instr_at form) (bytes ++ rest) ≡ Some (i, rest)
   replay_only Core bytes rest i e h = absurd h
   replay_only Replay bytes rest i e h = e
+
+  prefixed_only : {A : Type 0} (form : Form) (number : ℕ) (F : Grammar A) (read : Reader A) (make : A → Instr)
+      → row_at (prefixed_rows form) number ≡ Some (map_read make read) → IsReadBy F read
+      → (bytes rest : List ℕ) (a : A) → Prefixed number F bytes a → by_mark (instr_at form) (bytes ++ rest) ≡ Some (make a, rest)
+  prefixed_only form number F read make row is bytes rest a h =
+      numbered_only (instr_at form) (row_at (prefixed_rows form)) 0xFC number F read make (prefix_at form) row laws.u32 is bytes rest a h
 
   instr_only : (form : Form) (bytes rest : List ℕ) (i : Instr) → EncodesInstr form bytes i
       → by_mark (instr_at form) (bytes ++ rest) ≡ Some (i, rest)
@@ -257,6 +313,12 @@ module _ (laws : NumberLaws) where
       read_only (instr_at form) 0x3F (Exactly (0x00 ∷ [])) (first_exactly (0x00 ∷ [])) (λ it. MemorySize) (core_at form 0x3F (map_read (λ it. MemorySize) (first_exactly (0x00 ∷ []))) refl refl) (exactly_is (0x00 ∷ [])) bytes rest tt (0x00 ∷ [], h, refl)
   instr_only form bytes rest MemoryGrow h =
       read_only (instr_at form) 0x40 (Exactly (0x00 ∷ [])) (first_exactly (0x00 ∷ [])) (λ it. MemoryGrow) (core_at form 0x40 (map_read (λ it. MemoryGrow) (first_exactly (0x00 ∷ []))) refl refl) (exactly_is (0x00 ∷ [])) bytes rest tt (0x00 ∷ [], h, refl)
+  instr_only form bytes rest MemoryCopy h =
+      prefixed_only form 10 (Exactly (0x00 ∷ 0x00 ∷ [])) (first_exactly (0x00 ∷ 0x00 ∷ [])) (λ it. MemoryCopy)
+      (core_prefixed_at form 10 (map_read (λ it. MemoryCopy) (first_exactly (0x00 ∷ 0x00 ∷ []))) refl refl) (exactly_is (0x00 ∷ 0x00 ∷ [])) bytes rest tt h
+  instr_only form bytes rest MemoryFill h =
+      prefixed_only form 11 (Exactly (0x00 ∷ [])) (first_exactly (0x00 ∷ [])) (λ it. MemoryFill)
+      (core_prefixed_at form 11 (map_read (λ it. MemoryFill) (first_exactly (0x00 ∷ []))) refl refl) (exactly_is (0x00 ∷ [])) bytes rest tt h
   instr_only form bytes rest (Const value) h = const_only form bytes rest value.ty value.bits h
   instr_only form bytes rest (Load access) h =
       read_only (instr_at form) access.op (EncodesU32 then EncodesU32) (first_then first_u32 first_u32) (λ numbers. Load (mem_arg access.op numbers))
@@ -271,6 +333,10 @@ module _ (laws : NumberLaws) where
       replay_only form bytes rest RefNull (read_only (instr_at Replay) 0xD0 (Exactly (0x70 ∷ [])) (first_exactly (0x70 ∷ [])) (λ it. RefNull) refl (exactly_is (0x70 ∷ [])) bytes rest tt (0x70 ∷ [], h.1, refl)) h.0
   instr_only form bytes rest (RefFunc func) h =
       replay_only form bytes rest (RefFunc func) (read_only (instr_at Replay) 0xD2 EncodesU32 first_u32 RefFunc refl laws.u32 bytes rest func h.1) h.0
+  instr_only form bytes rest (TableGrow table) h =
+      replay_only form bytes rest (TableGrow table) (prefixed_only Replay 15 EncodesU32 first_u32 TableGrow refl laws.u32 bytes rest table h.1) h.0
+  instr_only form bytes rest (TableSize table) h =
+      replay_only form bytes rest (TableSize table) (prefixed_only Replay 16 EncodesU32 first_u32 TableSize refl laws.u32 bytes rest table h.1) h.0
 
   pub instr_is : (form : Form) → IsReadBy (EncodesInstr form) (first_instr form)
   unfolding first_instr

@@ -11,9 +11,8 @@ use Rattle.std.proofs.lemmas.List.Sums.{AllPass-from_list_all}
 use Rattle.std.proofs.lemmas.Option.{some_pair_parts, same_Some}
 use Rattle.std.proofs.lemmas.Str.{IsUtf8-from_is_utf8, is_utf8-from_IsUtf8}
 use Rattle.list_laws.proofs.Options.{and_then_some, cond_some, cond_none_some}
-use Rattle.leb_bytes.specs.Encoding.{IsReadBy, IsShortest}
-use Rattle.leb_bytes.specs.Unsigned.{EncodesU32, first_u32, u32_bytes}
-use Rattle.leb_bytes.specs.Signed.{EncodesI32, EncodesI64, first_i32, first_i64, i32_bytes, i64_bytes}
+use Rattle.leb_bytes.specs.Encoding.{IsReadBy}
+use Rattle.leb_bytes.specs.Unsigned.{EncodesU32, first_u32}
 use Rattle.wasm_syntax.specs.Encoding.Grammar.{Raw}
 use Rattle.wasm_syntax.specs.Encoding.Types.{EncodesF32, EncodesF64, EncodesBytes, EncodesName, EncodesIndices}
 use Rattle.wasm_syntax.specs.Encoding.Readers.{first_raw, where_bytes, first_f32, first_f64, first_bytes, first_name, first_indices}

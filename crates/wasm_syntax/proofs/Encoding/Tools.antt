@@ -1,13 +1,14 @@
 -- What holds of the parts that grammars and their readers are made of.
-use Rattle.std.proofs.Common.{◌≡◌, ℕ, Bool, true, false, cond, List, [], ◌∷◌, ◌++◌, Option, Some, None, refl, ap, sym, ◌∙◌, subst, append_assoc, inl, inr, eq-eqb, ne_eqb}
+use Rattle.std.proofs.Common.{◌≡◌, ℕ, cond, List, [], ◌∷◌, ◌++◌, Option, Some, refl, ap, sym, ◌∙◌, subst, append_assoc, inl, inr, eq-eqb, ne_eqb}
 use Rattle.std.specs.Prelude.{option_map, option_and_then, nat_eq}
 use Rattle.std.specs.List.{AllByRecursion}
 use Rattle.std.proofs.lemmas.Bool.{cases_eq, eqb-true}
 use Rattle.std.proofs.lemmas.Option.{none-some, some_pair_parts, same_Some}
 use Rattle.list_laws.proofs.Options.{map_some, and_then_some, cond_some}
 use Rattle.leb_bytes.specs.Encoding.{IsReadBy}
+use Rattle.leb_bytes.specs.Unsigned.{EncodesU32, first_u32}
 use Rattle.wasm_syntax.specs.Encoding.Grammar.{Grammar, Exactly, Marked, ◌then◌}
-use Rattle.wasm_syntax.specs.Encoding.Combinators.{Reader, always, map_read, first_then, first_exactly, by_mark, Rows, row_at}
+use Rattle.wasm_syntax.specs.Encoding.Combinators.{Reader, always, map_read, first_then, first_exactly, by_mark, by_number, Rows, row_at}
 
 -- ---- what is read, made into something else
 
@@ -120,24 +121,60 @@ plain_finds E F mark read is into input rest y e =
     let f = is.found input rest y e in
     (f.0, into f.0 y f.1, f.2)
 
--- what is encoded after a mark is read where its reader is chosen
+-- ---- by a number
+
+-- a list of a number and bytes, where the bytes stand behind any spelling of the number
+abbrev pub Numbered : {A : Type 0} → Grammar A → Grammar A
+Numbered E [] x = ⊥
+Numbered E (number ∷ bytes) x = (spelled : List ℕ) → EncodesU32 spelled number → E (spelled ++ bytes) x
+
+pub numbered_finds : {A : Type 0} (E : Grammar A) (mark : ℕ) (choose : ℕ → Option (Reader A)) → IsReadBy EncodesU32 first_u32
+    → ChoosesWell (Numbered (λ bytes x. E (mark ∷ bytes) x)) choose → FindsBehind E mark (by_number choose)
+numbered_finds {A} E mark choose u32 well input rest x e =
+    let b = and_then_some (first_u32 input) (λ (number : ℕ × List ℕ). option_and_then (λ (read : Reader A). read number.1) (choose number.0)) (x, rest) e in
+    let r = and_then_some (choose b.0.0) (λ (read : Reader A). read b.0.1) (x, rest) b.2 in
+    let one = u32.found input b.0.1 b.0.0 b.1 in
+    let two = well b.0.0 r.0 r.1 b.0.1 rest x r.2 in
+    (one.0 ++ two.0, two.1 one.0 one.1, one.2 ∙ ap (λ bs. one.0 ++ bs) two.2 ∙ sym (append_assoc one.0 two.0 rest))
+
+-- ---- what is encoded after a mark is read where its reader is chosen
+
 pub done_only : {A : Type 0} (choose : ℕ → Option (Reader A)) (mark : ℕ) (x : A) → choose mark ≡ Some (always x)
     → (bytes rest : List ℕ) → bytes ≡ mark ∷ [] → by_mark choose (bytes ++ rest) ≡ Some (x, rest)
 done_only {A} choose mark x chosen bytes rest h =
     ap (λ bs. by_mark choose (bs ++ rest)) h ∙ ap (option_and_then (λ (read : Reader A). read rest)) chosen
 
+-- of a reader that reads one value from its encodings
+behind_only : {A B : Type 0} (choose : ℕ → Option (Reader B)) (mark : ℕ) (E : Grammar A) (read : Reader B) (a : A) (b : B) (rest : List ℕ)
+    → choose mark ≡ Some read → ((bytes : List ℕ) → E bytes a → read (bytes ++ rest) ≡ Some (b, rest))
+    → (bytes : List ℕ) → Marked mark E bytes a → by_mark choose (bytes ++ rest) ≡ Some (b, rest)
+behind_only {A} {B} choose mark E read a b rest chosen only bytes h =
+    ap (λ bs. by_mark choose (bs ++ rest)) h.1
+    ∙ ap (option_and_then (λ (r : Reader B). r (h.0 ++ rest))) chosen
+    ∙ only h.0 h.2
+
 pub read_only : {A B : Type 0} (choose : ℕ → Option (Reader B)) (mark : ℕ) (F : Grammar A) (read : Reader A) (make : A → B)
     → choose mark ≡ Some (map_read make read) → IsReadBy F read
     → (bytes rest : List ℕ) (a : A) → Marked mark F bytes a → by_mark choose (bytes ++ rest) ≡ Some (make a, rest)
-read_only {A} {B} choose mark F read make chosen is bytes rest a h =
-    ap (λ bs. by_mark choose (bs ++ rest)) h.1
-    ∙ ap (option_and_then (λ (r : Reader B). r (h.0 ++ rest))) chosen
-    ∙ ap (option_map (λ (first : A × List ℕ). (make first.0, first.1))) (is.only h.0 rest a h.2)
+read_only {A} choose mark F read make chosen is bytes rest a h =
+    behind_only choose mark F (map_read make read) a (make a) rest chosen
+    (λ bytes h. ap (option_map (λ (first : A × List ℕ). (make first.0, first.1))) (is.only bytes rest a h)) bytes h
 
 pub plain_only : {A : Type 0} (choose : ℕ → Option (Reader A)) (mark : ℕ) (F : Grammar A) (read : Reader A)
     → choose mark ≡ Some read → IsReadBy F read
     → (bytes rest : List ℕ) (a : A) → Marked mark F bytes a → by_mark choose (bytes ++ rest) ≡ Some (a, rest)
-plain_only {A} choose mark F read chosen is bytes rest a h =
-    ap (λ bs. by_mark choose (bs ++ rest)) h.1
-    ∙ ap (option_and_then (λ (r : Reader A). r (h.0 ++ rest))) chosen
-    ∙ is.only h.0 rest a h.2
+plain_only choose mark F read chosen is bytes rest a h =
+    behind_only choose mark F read a a rest chosen (λ bytes h. is.only bytes rest a h) bytes h
+
+pub numbered_only : {A B : Type 0} (choose numbered : ℕ → Option (Reader B)) (mark number : ℕ) (F : Grammar A) (read : Reader A) (make : A → B)
+    → choose mark ≡ Some (by_number numbered) → numbered number ≡ Some (map_read make read)
+    → IsReadBy EncodesU32 first_u32 → IsReadBy F read
+    → (bytes rest : List ℕ) (a : A) → Marked mark (EncodesU32 then F) bytes (number, a) → by_mark choose (bytes ++ rest) ≡ Some (make a, rest)
+numbered_only {A} {B} choose numbered mark number F read make chosen row u32 is bytes rest a h =
+    behind_only choose mark (EncodesU32 then F) (by_number numbered) (number, a) (make a) rest chosen
+    (λ bytes h.
+    ap (λ bs. by_number numbered (bs ++ rest)) h.2
+    ∙ ap (by_number numbered) (append_assoc h.0 h.1 rest)
+    ∙ ap (option_and_then (λ (found : ℕ × List ℕ). option_and_then (λ (r : Reader B). r found.1) (numbered found.0))) (u32.only h.0 (h.1 ++ rest) number h.3)
+    ∙ ap (option_and_then (λ (r : Reader B). r (h.1 ++ rest))) row
+    ∙ ap (option_map (λ (first : A × List ℕ). (make first.0, first.1))) (is.only h.1 rest a h.4)) bytes h

@@ -30,6 +30,11 @@ abbrev pub by_mark : {A : Type 0} → (ℕ → Option (Reader A)) → Reader A
 by_mark choose [] = None
 by_mark choose (mark ∷ rest) = option_and_then (λ read. read rest) (choose mark)
 
+-- what the number at the front tells to read after it
+abbrev pub by_number : {A : Type 0} → (ℕ → Option (Reader A)) → Reader A
+by_number choose bytes =
+    option_and_then (λ number. option_and_then (λ read. read number.1) (choose number.0)) (first_u32 bytes)
+
 -- the first of the rows with this mark
 abbrev pub Rows : Type 0 → Type 0
 Rows A = List (ℕ × Reader A)

@@ -2,7 +2,7 @@
 -- its bodies are nests, and it has only what its form spells.
 use Rattle.std.specs.Prelude.{◌≡◌, ℕ, ◌^◌, ◌<◌, List, Option, Some, None, IfSome, IsTrue, IsUtf8, sum_by}
 use Rattle.std.specs.List.{AllByRecursion}
-use Rattle.wasm_opcodes.specs.declared.TheConstants.{I32_LOAD, I64_LOAD32_U, I32_STORE, I64_STORE32, I32_EQZ, F64_REINTERPRET_I64}
+use Rattle.wasm_opcodes.specs.declared.TheConstants.{I32_LOAD, I64_LOAD32_U, I32_STORE, I64_STORE32, I32_EQZ, I64_EXTEND32_S}
 use Rattle.wasm_syntax.specs.Nest.{Nest, IsBody}
 use Rattle.wasm_syntax.specs.Opcodes.{is_from}
 use Rattle.wasm_syntax.specs.Encoding.Instructions.{IsReplay}
@@ -15,7 +15,7 @@ use Rattle.wasm_syntax.specs.declared.signatures.FuncType.{FuncType}
 use Rattle.wasm_syntax.specs.declared.signatures.Limits.{Limits}
 use Rattle.wasm_syntax.specs.declared.instructions.MemArg.{MemArg}
 use Rattle.wasm_syntax.specs.declared.instructions.Instr.{Instr}
-use Rattle.wasm_syntax.specs.declared.instructions.Instr.TheVariants.{Block, Loop, If, Br, BrIf, BrTable, Call, CallIndirect, LocalGet, LocalSet, LocalTee, GlobalGet, GlobalSet, Load, Store, Const, Numeric, RefNull, RefFunc, TableSet}
+use Rattle.wasm_syntax.specs.declared.instructions.Instr.TheVariants.{Block, Loop, If, Br, BrIf, BrTable, Call, CallIndirect, LocalGet, LocalSet, LocalTee, GlobalGet, GlobalSet, Load, Store, Const, Numeric, RefNull, RefFunc, TableSet, TableGrow, TableSize}
 use Rattle.wasm_syntax.specs.declared.modules.Import.{Import}
 use Rattle.wasm_syntax.specs.declared.modules.ImportKind.{ImportKind}
 use Rattle.wasm_syntax.specs.declared.modules.ImportKind.TheVariants as imports
@@ -53,7 +53,7 @@ FitsBounds least (Some most) = FitsU32 least × FitsU32 most
 abbrev pub FitsLimits : Limits → Type 0
 FitsLimits limits = FitsBounds limits.min limits.max
 
--- ---- instructions (Core 1.0, 5.4)
+-- ---- instructions (Core 1.0, 5.4; Core 2.0, 5.4)
 
 abbrev pub FitsConst : ValType → ℕ → Type 0
 FitsConst I32 bits = bits < 2 ^ 32
@@ -82,10 +82,12 @@ FitsInstr form (GlobalSet global) = FitsU32 global
 FitsInstr form (Load access) = IsTrue (is_from I32_LOAD I64_LOAD32_U access.op) × FitsMemArg access
 FitsInstr form (Store access) = IsTrue (is_from I32_STORE I64_STORE32 access.op) × FitsMemArg access
 FitsInstr form (Const value) = FitsConst value.ty value.bits
-FitsInstr form (Numeric op) = IsTrue (is_from I32_EQZ F64_REINTERPRET_I64 op)
+FitsInstr form (Numeric op) = IsTrue (is_from I32_EQZ I64_EXTEND32_S op)
 FitsInstr form (TableSet table) = IsReplay form × FitsU32 table
 FitsInstr form RefNull = IsReplay form
 FitsInstr form (RefFunc func) = IsReplay form × FitsU32 func
+FitsInstr form (TableGrow table) = IsReplay form × FitsU32 table
+FitsInstr form (TableSize table) = IsReplay form × FitsU32 table
 FitsInstr form other = Unit {0}
 
 pub record FitsBody (form : Form) (body : List Instr) : Type 0 where

@@ -2,16 +2,18 @@
 use Rattle.std.specs.Prelude.{◌≡◌, List}
 use Rattle.std.specs.List.{AllByRecursion}
 use Rattle.wasm_syntax.specs.declared.instructions.Instr.{Instr}
-use Rattle.wasm_syntax.specs.declared.instructions.Instr.TheVariants.{RefNull, RefFunc, TableSet}
+use Rattle.wasm_syntax.specs.declared.instructions.Instr.TheVariants.{RefNull, RefFunc, TableSet, TableGrow, TableSize}
 use Rattle.wasm_syntax.specs.declared.modules.ElemSeg.{ElemSeg}
 use Rattle.wasm_syntax.specs.declared.modules.ElemSeg.TheVariants.{Active, Declared}
 use Rattle.wasm_syntax.specs.declared.modules.Module.{Module}
 
--- an instruction of Core 1.0 (2.4)
+-- an instruction of Core 1.0 (2.4), or one of those of Core 2.0 that a module of the form Core may have (2.4.1, 2.4.7)
 abbrev pub IsCoreInstr : Instr → Type 0
 IsCoreInstr (TableSet table) = ⊥
 IsCoreInstr RefNull = ⊥
 IsCoreInstr (RefFunc func) = ⊥
+IsCoreInstr (TableGrow table) = ⊥
+IsCoreInstr (TableSize table) = ⊥
 IsCoreInstr other = Unit {0}
 
 abbrev pub AreCoreInstrs : List Instr → Type 0

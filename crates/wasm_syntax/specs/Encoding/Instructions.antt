@@ -1,19 +1,19 @@
--- Which bytes encode instructions and expressions (Core 1.0, 5.4).
+-- Which bytes encode instructions and expressions (Core 1.0, 5.4; Core 2.0, 5.4.2 and 5.4.5 to 5.4.7).
 use Rattle.std.specs.Prelude.{ℕ, List, [], ◌∷◌, IsTrue}
 use Rattle.leb_bytes.specs.Unsigned.{EncodesU32}
 use Rattle.leb_bytes.specs.Signed.{EncodesI32, EncodesI64}
-use Rattle.wasm_opcodes.specs.declared.TheConstants.{I32_LOAD, I64_LOAD32_U, I32_STORE, I64_STORE32, I32_EQZ, F64_REINTERPRET_I64, REF_NULL, UNREACHABLE, NOP, ELSE, END, RETURN, DROP, SELECT, MEMORY_SIZE, MEMORY_GROW, I32_CONST, I64_CONST, F32_CONST, F64_CONST, BLOCK, LOOP, IF, BR, BR_IF, BR_TABLE, CALL, CALL_INDIRECT, LOCAL_GET, LOCAL_SET, LOCAL_TEE, GLOBAL_GET, GLOBAL_SET, TABLE_SET, REF_FUNC}
+use Rattle.wasm_opcodes.specs.declared.TheConstants.{I32_LOAD, I64_LOAD32_U, I32_STORE, I64_STORE32, I32_EQZ, I64_EXTEND32_S, REF_NULL, UNREACHABLE, NOP, ELSE, END, RETURN, DROP, SELECT, MEMORY_SIZE, MEMORY_GROW, I32_CONST, I64_CONST, F32_CONST, F64_CONST, BLOCK, LOOP, IF, BR, BR_IF, BR_TABLE, CALL, CALL_INDIRECT, LOCAL_GET, LOCAL_SET, LOCAL_TEE, GLOBAL_GET, GLOBAL_SET, TABLE_SET, REF_FUNC, PREFIX, MEMORY_COPY, MEMORY_FILL, TABLE_GROW, TABLE_SIZE}
 use Rattle.wasm_opcodes.specs.declared.marks.TheConstants.{TYPE_FUNCREF}
 use Rattle.wasm_syntax.specs.Nest.{Nest, IsBody}
 use Rattle.wasm_syntax.specs.Opcodes.{is_from}
-use Rattle.wasm_syntax.specs.Encoding.Grammar.{Exactly, Marked, ◌then◌, Each}
+use Rattle.wasm_syntax.specs.Encoding.Grammar.{Grammar, Exactly, Marked, ◌then◌, Each}
 use Rattle.wasm_syntax.specs.Encoding.Types.{EncodesF32, EncodesF64, EncodesIndices, EncodesBlockType}
 use Rattle.wasm_syntax.specs.declared.forms.Form.{Form}
 use Rattle.wasm_syntax.specs.declared.forms.Form.TheVariants as forms
 use Rattle.wasm_syntax.specs.declared.values.ValType.{ValType}
 use Rattle.wasm_syntax.specs.declared.values.ValType.TheVariants.{I32, I64, F32, F64, FuncRef}
 use Rattle.wasm_syntax.specs.declared.instructions.Instr.{Instr}
-use Rattle.wasm_syntax.specs.declared.instructions.Instr.TheVariants.{Unreachable, Nop, Block, Loop, If, Else, End, Br, BrIf, BrTable, Return, Call, CallIndirect, Drop, Select, LocalGet, LocalSet, LocalTee, GlobalGet, GlobalSet, Load, Store, MemorySize, MemoryGrow, Const, Numeric, RefNull, RefFunc, TableSet}
+use Rattle.wasm_syntax.specs.declared.instructions.Instr.TheVariants.{Unreachable, Nop, Block, Loop, If, Else, End, Br, BrIf, BrTable, Return, Call, CallIndirect, Drop, Select, LocalGet, LocalSet, LocalTee, GlobalGet, GlobalSet, Load, Store, MemorySize, MemoryGrow, MemoryCopy, MemoryFill, Const, Numeric, RefNull, RefFunc, TableSet, TableGrow, TableSize}
 
 -- the form of replay binaries
 abbrev pub IsReplay : Form → Type 0
@@ -28,8 +28,14 @@ EncodesConst bytes F32 bits = Marked F32_CONST EncodesF32 bytes bits
 EncodesConst bytes F64 bits = Marked F64_CONST EncodesF64 bytes bits
 EncodesConst bytes FuncRef bits = ⊥
 
+-- an instruction of the prefix and a number, which has as many bytes as a u32 may have; then its operands (Core 2.0,
+-- 5.4.5 and 5.4.6)
+abbrev pub Prefixed : {A : Type 0} → ℕ → Grammar A → Grammar A
+Prefixed number E bytes x = Marked PREFIX (EncodesU32 then E) bytes (number, x)
+
 -- One instruction of a flat body (Core 1.0, 5.4.1 to 5.4.5); what stands inside a block, its `Else` and its `End` are
--- instructions of their own here. The last three: Core 2.0, 5.4.2 and 5.4.5.
+-- instructions of their own here. The numeric ones up to the sign extensions: Core 2.0, 5.4.7; `memory.copy` and
+-- `memory.fill`: 5.4.6; the last five: 5.4.2 and 5.4.5.
 abbrev pub EncodesInstr : Form → List ℕ → Instr → Type 0
 EncodesInstr form bytes Unreachable = Exactly (UNREACHABLE ∷ []) bytes tt
 EncodesInstr form bytes Nop = Exactly (NOP ∷ []) bytes tt
@@ -60,11 +66,15 @@ EncodesInstr form bytes (Store access) =
     × Marked access.op (EncodesU32 then EncodesU32) bytes (access.align, access.offset)
 EncodesInstr form bytes MemorySize = Exactly (MEMORY_SIZE ∷ 0x00 ∷ []) bytes tt
 EncodesInstr form bytes MemoryGrow = Exactly (MEMORY_GROW ∷ 0x00 ∷ []) bytes tt
+EncodesInstr form bytes MemoryCopy = Prefixed MEMORY_COPY (Exactly (0x00 ∷ 0x00 ∷ [])) bytes tt
+EncodesInstr form bytes MemoryFill = Prefixed MEMORY_FILL (Exactly (0x00 ∷ [])) bytes tt
 EncodesInstr form bytes (Const value) = EncodesConst bytes value.ty value.bits
-EncodesInstr form bytes (Numeric op) = IsTrue (is_from I32_EQZ F64_REINTERPRET_I64 op) × Exactly (op ∷ []) bytes tt
+EncodesInstr form bytes (Numeric op) = IsTrue (is_from I32_EQZ I64_EXTEND32_S op) × Exactly (op ∷ []) bytes tt
 EncodesInstr form bytes (TableSet table) = IsReplay form × Marked TABLE_SET EncodesU32 bytes table
 EncodesInstr form bytes RefNull = IsReplay form × Exactly (REF_NULL ∷ TYPE_FUNCREF ∷ []) bytes tt
 EncodesInstr form bytes (RefFunc func) = IsReplay form × Marked REF_FUNC EncodesU32 bytes func
+EncodesInstr form bytes (TableGrow table) = IsReplay form × Prefixed TABLE_GROW EncodesU32 bytes table
+EncodesInstr form bytes (TableSize table) = IsReplay form × Prefixed TABLE_SIZE EncodesU32 bytes table
 
 -- An expression (Core 1.0, 5.4.6): instructions up to its own `End`, which are a nest of blocks, so that each block has
 -- its `End` and only an `if` has an `Else` (5.4.1).

@@ -1,14 +1,14 @@
--- Reading types, instructions and the items of sections (Core 1.0, 5.2 to 5.5).
+-- Reading types, instructions and the items of sections (Core 1.0, 5.2 to 5.5; Core 2.0, 5.4).
 use Rattle.std.specs.Prelude.{ℕ, zero, suc, ◌+◌, ◌^◌, List, [], ◌∷◌, length, take, drop, Option, Some, None, option_map, option_and_then, Bool, true, false, cond, nat_eq, nat_lt, sum_by}
 use Rattle.std.specs.Int.{w32, w64, from_le_bytes}
 use Rattle.std.specs.Str.{is_utf8}
 use Rattle.std.specs.List.{list_all}
 use Rattle.leb_bytes.specs.Unsigned.{first_u32}
 use Rattle.leb_bytes.specs.Signed.{first_i32, first_i64}
-use Rattle.wasm_opcodes.specs.declared.TheConstants.{UNREACHABLE, NOP, BLOCK, LOOP, IF, ELSE, END, BR, BR_IF, BR_TABLE, RETURN, CALL, CALL_INDIRECT, DROP, SELECT, LOCAL_GET, LOCAL_SET, LOCAL_TEE, GLOBAL_GET, GLOBAL_SET, MEMORY_SIZE, MEMORY_GROW, I32_CONST, I64_CONST, F32_CONST, F64_CONST, TABLE_SET, REF_NULL, REF_FUNC, I32_EQZ, F64_REINTERPRET_I64, I32_LOAD, I64_LOAD32_U, I32_STORE, I64_STORE32}
+use Rattle.wasm_opcodes.specs.declared.TheConstants.{UNREACHABLE, NOP, BLOCK, LOOP, IF, ELSE, END, BR, BR_IF, BR_TABLE, RETURN, CALL, CALL_INDIRECT, DROP, SELECT, LOCAL_GET, LOCAL_SET, LOCAL_TEE, GLOBAL_GET, GLOBAL_SET, MEMORY_SIZE, MEMORY_GROW, I32_CONST, I64_CONST, F32_CONST, F64_CONST, TABLE_SET, REF_NULL, REF_FUNC, PREFIX, MEMORY_COPY, MEMORY_FILL, TABLE_GROW, TABLE_SIZE, I32_EQZ, I64_EXTEND32_S, I32_LOAD, I64_LOAD32_U, I32_STORE, I64_STORE32}
 use Rattle.wasm_opcodes.specs.declared.marks.TheConstants.{TYPE_I32, TYPE_I64, TYPE_F32, TYPE_F64, TYPE_EMPTY, TYPE_FUNC, LIMITS_MIN, LIMITS_MIN_MAX, TYPE_FUNCREF, MUTABILITY_CONST, MUTABILITY_VAR, EXTERNAL_FUNC, EXTERNAL_TABLE, EXTERNAL_MEMORY, EXTERNAL_GLOBAL, ELEMENT_DECLARED, ELEMENT_FUNCS}
 use Rattle.wasm_syntax.specs.Opcodes.{is_from}
-use Rattle.wasm_syntax.specs.Encoding.Combinators.{Reader, always, map_read, first_then, first_exactly, by_mark, Rows, row_at, first_vector, whole, first_sized}
+use Rattle.wasm_syntax.specs.Encoding.Combinators.{Reader, always, map_read, first_then, first_exactly, by_mark, by_number, Rows, row_at, first_vector, whole, first_sized}
 use Rattle.wasm_syntax.specs.Encoding.Shortest.{val_type_byte}
 use Rattle.wasm_syntax.specs.Encoding.Sections.{Code}
 use Rattle.wasm_syntax.specs.declared.forms.Form.{Form}
@@ -20,7 +20,7 @@ use Rattle.wasm_syntax.specs.declared.signatures.Limits.{Limits}
 use Rattle.wasm_syntax.specs.declared.signatures.GlobalType.{GlobalType}
 use Rattle.wasm_syntax.specs.declared.instructions.MemArg.{MemArg}
 use Rattle.wasm_syntax.specs.declared.instructions.Instr.{Instr}
-use Rattle.wasm_syntax.specs.declared.instructions.Instr.TheVariants.{Unreachable, Nop, Block, Loop, If, Else, End, Br, BrIf, BrTable, Return, Call, CallIndirect, Drop, Select, LocalGet, LocalSet, LocalTee, GlobalGet, GlobalSet, Load, Store, MemorySize, MemoryGrow, Const, Numeric, RefNull, RefFunc, TableSet}
+use Rattle.wasm_syntax.specs.declared.instructions.Instr.TheVariants.{Unreachable, Nop, Block, Loop, If, Else, End, Br, BrIf, BrTable, Return, Call, CallIndirect, Drop, Select, LocalGet, LocalSet, LocalTee, GlobalGet, GlobalSet, Load, Store, MemorySize, MemoryGrow, MemoryCopy, MemoryFill, Const, Numeric, RefNull, RefFunc, TableSet, TableGrow, TableSize}
 use Rattle.wasm_syntax.specs.declared.modules.Import.{Import}
 use Rattle.wasm_syntax.specs.declared.modules.ImportKind.{ImportKind}
 use Rattle.wasm_syntax.specs.declared.modules.ImportKind.TheVariants as imports
@@ -138,16 +138,29 @@ core_rows =
     ∷ (F32_CONST, map_read (const F32) first_f32) ∷ (F64_CONST, map_read (const F64) first_f64)
     ∷ []
 
+-- the instructions of the prefix, by their numbers
+abbrev pub core_prefixed_rows : Rows Instr
+core_prefixed_rows =
+    (MEMORY_COPY, map_read (λ it. MemoryCopy) (first_exactly (0x00 ∷ 0x00 ∷ [])))
+    ∷ (MEMORY_FILL, map_read (λ it. MemoryFill) (first_exactly (0x00 ∷ []))) ∷ []
+
+abbrev pub prefixed_rows : Form → Rows Instr
+prefixed_rows forms.Core = core_prefixed_rows
+prefixed_rows forms.Replay =
+    (TABLE_GROW, map_read TableGrow first_u32) ∷ (TABLE_SIZE, map_read TableSize first_u32) ∷ core_prefixed_rows
+
 abbrev pub instr_rows : Form → Rows Instr
-instr_rows forms.Core = core_rows
+instr_rows forms.Core = (PREFIX, by_number (row_at (prefixed_rows forms.Core))) ∷ core_rows
 instr_rows forms.Replay =
-    (TABLE_SET, map_read TableSet first_u32) ∷ (REF_NULL, map_read (λ it. RefNull) (first_exactly (TYPE_FUNCREF ∷ [])))
+    (PREFIX, by_number (row_at (prefixed_rows forms.Replay)))
+    ∷ (TABLE_SET, map_read TableSet first_u32)
+    ∷ (REF_NULL, map_read (λ it. RefNull) (first_exactly (TYPE_FUNCREF ∷ [])))
     ∷ (REF_FUNC, map_read RefFunc first_u32)
     ∷ core_rows
 
 abbrev pub instr_at : Form → ℕ → Option (Reader Instr)
 instr_at form op =
-    cond (is_from I32_EQZ F64_REINTERPRET_I64 op) (Some (always (Numeric op)))
+    cond (is_from I32_EQZ I64_EXTEND32_S op) (Some (always (Numeric op)))
     (cond (is_from I32_LOAD I64_LOAD32_U op)
     (Some (map_read (λ numbers. Load (mem_arg op numbers)) (first_then first_u32 first_u32)))
     (cond (is_from I32_STORE I64_STORE32 op)

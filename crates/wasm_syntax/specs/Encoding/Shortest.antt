@@ -5,7 +5,7 @@ use Rattle.std.specs.Int.{w32, w64, to_le_bytes}
 use Rattle.leb_bytes.specs.Unsigned.{u32_bytes}
 use Rattle.leb_bytes.specs.Signed.{i32_bytes, i64_bytes}
 pub use Rattle.wasm_syntax.specs.Alike.{type_byte as val_type_byte}
-use Rattle.wasm_opcodes.specs.declared.TheConstants.{I32_CONST, I64_CONST, F32_CONST, F64_CONST, UNREACHABLE, NOP, BLOCK, LOOP, IF, ELSE, END, BR, BR_IF, BR_TABLE, RETURN, CALL, CALL_INDIRECT, DROP, SELECT, LOCAL_GET, LOCAL_SET, LOCAL_TEE, GLOBAL_GET, GLOBAL_SET, MEMORY_SIZE, MEMORY_GROW, TABLE_SET, REF_NULL, REF_FUNC}
+use Rattle.wasm_opcodes.specs.declared.TheConstants.{I32_CONST, I64_CONST, F32_CONST, F64_CONST, UNREACHABLE, NOP, BLOCK, LOOP, IF, ELSE, END, BR, BR_IF, BR_TABLE, RETURN, CALL, CALL_INDIRECT, DROP, SELECT, LOCAL_GET, LOCAL_SET, LOCAL_TEE, GLOBAL_GET, GLOBAL_SET, MEMORY_SIZE, MEMORY_GROW, TABLE_SET, REF_NULL, REF_FUNC, PREFIX, MEMORY_COPY, MEMORY_FILL, TABLE_GROW, TABLE_SIZE}
 use Rattle.wasm_opcodes.specs.declared.marks.TheConstants.{TYPE_EMPTY, TYPE_FUNC, LIMITS_MIN, LIMITS_MIN_MAX, TYPE_FUNCREF, MUTABILITY_CONST, MUTABILITY_VAR, EXTERNAL_FUNC, EXTERNAL_TABLE, EXTERNAL_MEMORY, EXTERNAL_GLOBAL, ELEMENT_DECLARED, ELEMENT_FUNCS}
 use Rattle.wasm_syntax.specs.Encoding.Sections.{Code, Section, CustomSection, TypeSection, ImportSection, FunctionSection, TableSection, MemorySection, GlobalSection, ExportSection, StartSection, ElementSection, CodeSection, DataSection, id_of}
 use Rattle.wasm_syntax.specs.Encoding.Modules.{preamble, code_of}
@@ -16,7 +16,7 @@ use Rattle.wasm_syntax.specs.declared.signatures.Limits.{Limits}
 use Rattle.wasm_syntax.specs.declared.signatures.GlobalType.{GlobalType}
 use Rattle.wasm_syntax.specs.declared.instructions.MemArg.{MemArg}
 use Rattle.wasm_syntax.specs.declared.instructions.Instr.{Instr}
-use Rattle.wasm_syntax.specs.declared.instructions.Instr.TheVariants.{Unreachable, Nop, Block, Loop, If, Else, End, Br, BrIf, BrTable, Return, Call, CallIndirect, Drop, Select, LocalGet, LocalSet, LocalTee, GlobalGet, GlobalSet, Load, Store, MemorySize, MemoryGrow, Const, Numeric, RefNull, RefFunc, TableSet}
+use Rattle.wasm_syntax.specs.declared.instructions.Instr.TheVariants.{Unreachable, Nop, Block, Loop, If, Else, End, Br, BrIf, BrTable, Return, Call, CallIndirect, Drop, Select, LocalGet, LocalSet, LocalTee, GlobalGet, GlobalSet, Load, Store, MemorySize, MemoryGrow, MemoryCopy, MemoryFill, Const, Numeric, RefNull, RefFunc, TableSet, TableGrow, TableSize}
 use Rattle.wasm_syntax.specs.declared.modules.Import.{Import}
 use Rattle.wasm_syntax.specs.declared.modules.ImportKind.{ImportKind}
 use Rattle.wasm_syntax.specs.declared.modules.ImportKind.TheVariants as imports
@@ -67,7 +67,7 @@ mutability_byte true = MUTABILITY_VAR
 unfoldable pub global_type_bytes : GlobalType → List ℕ
 global_type_bytes ty = val_type_bytes ty.ty ++ mutability_byte ty.mutable ∷ []
 
--- ---- instructions (Core 1.0, 5.4)
+-- ---- instructions (Core 1.0, 5.4; Core 2.0, 5.4)
 
 unfoldable pub const_bytes : ValType → ℕ → List ℕ
 const_bytes I32 bits = I32_CONST ∷ i32_bytes bits
@@ -104,11 +104,15 @@ instr_bytes (Load access) = access_bytes access
 instr_bytes (Store access) = access_bytes access
 instr_bytes MemorySize = MEMORY_SIZE ∷ 0x00 ∷ []
 instr_bytes MemoryGrow = MEMORY_GROW ∷ 0x00 ∷ []
+instr_bytes MemoryCopy = PREFIX ∷ (u32_bytes MEMORY_COPY ++ 0x00 ∷ 0x00 ∷ [])
+instr_bytes MemoryFill = PREFIX ∷ (u32_bytes MEMORY_FILL ++ 0x00 ∷ [])
 instr_bytes (Const value) = const_bytes value.ty value.bits
 instr_bytes (Numeric op) = op ∷ []
 instr_bytes (TableSet table) = TABLE_SET ∷ u32_bytes table
 instr_bytes RefNull = REF_NULL ∷ TYPE_FUNCREF ∷ []
 instr_bytes (RefFunc func) = REF_FUNC ∷ u32_bytes func
+instr_bytes (TableGrow table) = PREFIX ∷ (u32_bytes TABLE_GROW ++ u32_bytes table)
+instr_bytes (TableSize table) = PREFIX ∷ (u32_bytes TABLE_SIZE ++ u32_bytes table)
 
 abbrev pub body_bytes : List Instr → List ℕ
 body_bytes = flat_map instr_bytes

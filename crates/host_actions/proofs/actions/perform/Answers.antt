@@ -1,9 +1,9 @@
 use Rattle.std.proofs.Common.{Ok, Err, refl, subst}
-use Rattle.host_script.specs.declared.scripts.Action.TheVariants.{Write, Copy, SetTable, SetGlobal, Grow, CallTable}
+use Rattle.host_script.specs.declared.scripts.Action.TheVariants.{Write, Copy, SetTable, SetGlobal, Grow, GrowTable}
 use Rattle.host_actions.specs.declared.actions.Done.TheVariants.{Enters}
 use Rattle.host_actions.specs.declared.actions.ActionFault.TheVariants.{Fault}
 use Rattle.host_actions.specs.Does.{Does}
-use Rattle.host_actions.proofs.Answering.{does_so, addresses_so}
+use Rattle.host_actions.proofs.Answering.{does_so, addresses_so, calls_so}
 use Rattle.host_actions.proofs.actions.perform.Goals as goal
 
 pub returns-in-Write : goal.returns-in-Write
@@ -38,20 +38,17 @@ returns-in-Grow c code args own at =
     does_so code c.args.store.now c.grow.new.store args c.grow.result c.args.action.now (Grow c.in-Grow.pages)
     c.in-Grow.is (c.grow.ensures code args)
 
+pub returns-in-GrowTable : goal.returns-in-GrowTable
+returns-in-GrowTable c code args own at =
+    does_so code c.args.store.now c.grow_table.new.store args c.grow_table.result c.args.action.now
+    (GrowTable c.in-GrowTable.entries) c.in-GrowTable.is (c.grow_table.ensures code args)
+
 pub returns-in-Ok : goal.returns-in-Ok
 returns-in-Ok c code args own at =
-    let old = c.args.store.now in
-    let index = c.in-CallTable.index in
-    does_so code old old args (Ok (Enters c.in-Ok.func)) c.args.action.now (CallTable index c.in-CallTable.args)
-    c.in-CallTable.is
-    (subst (λ given. Does code args (CallTable index given) (Ok (Enters c.in-Ok.func)) old old)
-    c.as_slice-in-CallTable.ensures (c.in-Ok.ensures.ok code args own, refl))
+    calls_so code c.args.store.now args (Ok (Enters c.in-Ok.func)) c.args.action.now c.in-CallTable.index
+    c.in-CallTable.args _ c.in-CallTable.is c.as_slice-in-CallTable.ensures (c.in-Ok.ensures.ok code args own, refl)
 
 pub returns-in-Err : goal.returns-in-Err
 returns-in-Err c code args own at =
-    let old = c.args.store.now in
-    let index = c.in-CallTable.index in
-    does_so code old old args (Err (Fault c.in-Err.kind)) c.args.action.now (CallTable index c.in-CallTable.args)
-    c.in-CallTable.is
-    (subst (λ given. Does code args (CallTable index given) (Err (Fault c.in-Err.kind)) old old)
-    c.as_slice-in-CallTable.ensures (c.in-Err.ensures.err code args own, refl))
+    calls_so code c.args.store.now args (Err (Fault c.in-Err.kind)) c.args.action.now c.in-CallTable.index
+    c.in-CallTable.args _ c.in-CallTable.is c.as_slice-in-CallTable.ensures (c.in-Err.ensures.err code args own, refl)

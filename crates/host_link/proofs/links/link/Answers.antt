@@ -55,16 +55,11 @@ returns-clause-typed c =
 
 pub returns-clause-opened : goal.returns-clause-opened
 returns-clause-opened c =
-    at_ok c.instantiate.result
-    (λ store made.
-    starts_by c.args.checked.now _ c.args.script.now c.in_ok-supply.supply (Ok store)
-    c.module-module.ensures.same c.in_ok-supply.ensures.ok made)
-    c.instantiate.ensures.ok
+    at_ok c.instantiate.result (λ store links. starts_by c.args.checked.now c.args.script.now (Ok store) links)
+    (returns-clause-ok c)
 
 pub returns-clause-not_opened : goal.returns-clause-not_opened
 returns-clause-not_opened c =
     at_err c.instantiate.result
-    (λ fault made other.
-    starts_by c.args.checked.now _ c.args.script.now c.in_ok-supply.supply (Err fault)
-    c.module-module.ensures.same c.in_ok-supply.ensures.ok (made other))
-    c.instantiate.ensures.err
+    (λ fault links other. starts_by c.args.checked.now c.args.script.now (Err fault) (links other))
+    (returns-clause-err c)

@@ -1,33 +1,27 @@
-use Rattle.std.proofs.Common.{◌≡◌, ◌∷◌, [], refl, sym, subst, ap, ◌∙◌}
-use Rattle.std.specs.Prelude.{map, replicate, false}
+use Rattle.std.proofs.Common.{◌≡◌, ◌∷◌, [], refl, ap, ◌∙◌}
+use Rattle.std.specs.Prelude.{map, replicate}
 use Rattle.std.proofs.lemmas.List.{length-replicate}
 use Rattle.wasm_syntax.specs.Index.{imported_funcs}
-use Rattle.history_spec.specs.Code.{code_of}
 use Rattle.history_spec.specs.Configuration.{InMain}
 use Rattle.history_spec.specs.Run.{program_of}
 use Rattle.type_safety.specs.Configurations.{IsTypedCode}
-use Rattle.host_actions.specs.Ready.{AreOf}
 use Rattle.wasm_flat.specs.declared.code.Flat.{Flat}
-use Rattle.wasm_flat.specs.FlatCode.{flat_of}
-use Rattle.wasm_interp.specs.State.{StandsFor, State, state}
 use Rattle.wasm_interp.specs.Calls.{IsRun}
 use Rattle.host_play.specs.Hosts.{kept}
-use Rattle.host_play.specs.Starts.{LeadsFirst, Starts, functions_in}
-use Rattle.host_play.proofs.RunStarts.{can_start, if_ok, kept_zeros, start_leads}
+use Rattle.host_play.specs.Starts.{LeadsFirst, Starts}
+use Rattle.host_play.proofs.RunStarts.{IsFirst, can_start, if_ok, is_first, kept_zeros, start_leads}
 use Rattle.host_play.proofs.starts.start.Goals as goal
 
 pub with_first_step-requires : goal.with_first_step-requires
 with_first_step-requires c =
     let found = c.typed_code.ensures.heights c.args.module.now c.requires.valid in
     let first = c.in_ok-playing.playing in
-    let machine : first.machine ≡ state (flat_of c.args.module.now) c.args.store [] [] false = c.in_ok-playing.ensures.machine ∙ ap (λ flat. state flat c.args.store [] [] false) c.requires.flat in
-    let stands : StandsFor c.args.module.now found.0 (InMain c.args.script.now.main ∷ []) first.machine =
-    subst (StandsFor c.args.module.now found.0 (InMain c.args.script.now.main ∷ [])) (sym machine) (c.hosts_go_on.ensures.begins c.args.module.now found.0 c.args.store c.args.script.now.main c.requires.store c.requires.fits.main) in
-    let functions : AreOf (code_of c.args.module.now) first.functions =
-    subst (AreOf (code_of c.args.module.now)) (sym (c.in_ok-playing.ensures.functions ∙ ap functions_in c.requires.flat)) (record { types = refl; indices = refl; imported = refl }) in
-    can_start c.args.module.now first functions
-    (c.calls_are_ready.ensures.host c.args.module.now found.0 (InMain c.args.script.now.main ∷ []) first.machine stands tt)
-    (λ func ty args. c.calls_are_ready.ensures.callable c.args.module.now found.0 (InMain c.args.script.now.main ∷ []) first.machine func ty args stands)
+    let begun : IsFirst c.args.module.now found.0 c.args.script.now c.args.store first =
+    is_first c.args.module.now found.0 c.args.script.now c.args.store c.args.flat first (c.hosts_go_on.ensures.begins c.args.module.now found.0 c.args.store c.args.script.now.main c.requires.store c.requires.fits.main)
+    c.requires.flat c.in_ok-playing.ensures.machine c.in_ok-playing.ensures.functions in
+    can_start c.args.module.now first begun.functions
+    (c.calls_are_ready.ensures.host c.args.module.now found.0 (InMain c.args.script.now.main ∷ []) first.machine begun.stands tt)
+    (λ func ty args. c.calls_are_ready.ensures.callable c.args.module.now found.0 (InMain c.args.script.now.main ∷ []) first.machine func ty args begun.stands)
     c.args.module.now.start c.requires.valid.outside.start
 
 pub returns-clause-leads : goal.returns-clause-leads
@@ -41,18 +35,16 @@ returns-clause-leads c =
       counted = length-replicate (imported_funcs c.args.module.now) 0;
     } in
     let first = c.in_ok-playing.playing in
-    let machine : first.machine ≡ state (flat_of c.args.module.now) c.args.store [] [] false = c.in_ok-playing.ensures.machine ∙ ap (λ flat. state flat c.args.store [] [] false) c.requires.flat in
-    let stands : StandsFor c.args.module.now found.0 (InMain c.args.script.now.main ∷ []) first.machine =
-    subst (StandsFor c.args.module.now found.0 (InMain c.args.script.now.main ∷ [])) (sym machine) (c.hosts_go_on.ensures.begins c.args.module.now found.0 c.args.store c.args.script.now.main c.requires.store c.requires.fits.main) in
-    let functions : AreOf (code_of c.args.module.now) first.functions =
-    subst (AreOf (code_of c.args.module.now)) (sym (c.in_ok-playing.ensures.functions ∙ ap functions_in c.requires.flat)) (record { types = refl; indices = refl; imported = refl }) in
+    let begun : IsFirst c.args.module.now found.0 c.args.script.now c.args.store first =
+    is_first c.args.module.now found.0 c.args.script.now c.args.store c.args.flat first (c.hosts_go_on.ensures.begins c.args.module.now found.0 c.args.store c.args.script.now.main c.requires.store c.requires.fits.main)
+    c.requires.flat c.in_ok-playing.ensures.machine c.in_ok-playing.ensures.functions in
     let counted : first.counts.items ≡ map kept (replicate (imported_funcs c.args.module.now) 0) =
     c.in_ok-playing.ensures.counts ∙ ap (λ (flat : Flat). replicate flat.imported 0) c.requires.flat ∙ kept_zeros (imported_funcs c.args.module.now) in
     if_ok c.with_first_step.result
     (λ started. Starts c.args.module.now.start first started.1 started.0)
     (λ started. LeadsFirst c.args.module.now c.args.script.now c.args.store started.1 started.0)
     (λ started starts.
-    start_leads c.args.module.now c.args.script.now c.args.store found.0 is_run first stands (ap (λ (m : State). m.store) machine) functions c.in_ok-playing.ensures.hosts counted started.1 started.0
+    start_leads c.args.module.now c.args.script.now c.args.store found.0 is_run first begun.stands begun.same_store begun.functions c.in_ok-playing.ensures.hosts counted started.1 started.0
     c.args.module.now.start c.requires.valid.outside.start starts)
     c.with_first_step.ensures.starts
 

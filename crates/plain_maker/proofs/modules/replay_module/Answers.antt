@@ -1,4 +1,4 @@
-use Rattle.std.proofs.Common.{◌≡◌, length, subst, arith}
+use Rattle.std.proofs.Common.{◌≡◌, subst, arith}
 use Rattle.std.specs.Prelude.{IfOk}
 use Rattle.wasm_syntax.specs.declared.modules.Module.{Module}
 use Rattle.plain_maker.specs.Parts.{table_of}

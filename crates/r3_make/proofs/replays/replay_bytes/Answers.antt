@@ -20,7 +20,7 @@ pub replay_module-requires-clause-few_funcs : goal.replay_module-requires-clause
 replay_module-requires-clause-few_funcs c = omega (arith, c.requires.within.parts, c.requires.small)
 
 pub replay_module-requires-clause-few_answers : goal.replay_module-requires-clause-few_answers
-replay_module-requires-clause-few_answers c = c.requires.used.2.uses.number
+replay_module-requires-clause-few_answers c = c.requires.used.1.uses.number
 
 pub encode-requires : goal.encode-requires
 encode-requires c =
@@ -29,7 +29,7 @@ encode-requires c =
     let table = table_of c.args.answers.now in
     let calls = c.args.calls.now in
     let built = c.requires.built in
-    let used = c.requires.used.2 in
+    let used = c.requires.used.1 in
     let is_run = used.ends.within.is_run in
     let count = used.ends.within.count in
     let covers =
@@ -46,7 +46,6 @@ returns-in-Ok-clause-printed c = λ turns used.
     let table = table_of c.args.answers.now in
     let calls = c.args.calls.now in
     let built = c.requires.built in
-    let few = c.requires.used.2 in
     let count = used.ends.within.count in
     let is_run = used.ends.within.is_run in
     let replay = replay_module m table calls in
@@ -65,7 +64,7 @@ returns-in-Ok-clause-printed c = λ turns used.
           (c.replay_of_run.ensures.replay c.args.bytes.now m script used.ends.initial count used.outcome table calls c.requires.encoded c.requires.small c.requires.valid built.code built.plain used.ends.starts
           (subst (λ (r : Run). r.at ≡ Finished used.outcome) (sym is_run) used.ends.ends)
           (subst (λ (r : Run). Uses r.history table calls) (sym is_run) used.uses)
-          (omega (arith, few.counted, few.within, c.requires.used.1))));
+          (omega (arith, c.requires.few))));
       most = omega (arith, ap length shortest, used.counted, c.size_of_replay.ensures.most Core c.args.bytes.now m table calls c.requires.encoded c.requires.valid);
     }
 
@@ -73,7 +72,6 @@ pub unreachable-requires : goal.unreachable-requires
 unreachable-requires c =
     let table = table_of c.args.answers.now in
     let calls = c.args.calls.now in
-    let used = c.requires.used.2 in
     let most = c.size_of_replay.ensures.most Core c.args.bytes.now c.args.module table calls c.requires.encoded c.requires.valid in
     let long = c.in-Err-TooLong.ensures.too_long in
     omega (
@@ -82,9 +80,7 @@ unreachable-requires c =
       c.requires.within.funcs,
       length-append (of_kind func_import c.args.module.imports) (map (λ f. f.ty) c.args.module.funcs),
       c.requires.small,
-      used.counted,
-      used.within,
-      c.requires.used.1,
+      c.requires.few,
       ap (λ m. length (encoding_of m)) c.in_ok-replay.ensures,
       long c.in-Err-TooLong.field-0-is,
     )
