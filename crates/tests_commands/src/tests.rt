@@ -5,6 +5,8 @@ mod edge_modules;
 mod edges;
 mod files;
 mod histories;
+mod history_modules;
+mod history_refusals;
 mod large;
 mod modules;
 mod replays;

@@ -1,6 +1,7 @@
-//! A run that takes the greatest budget, and a module of some megabytes.
+//! Runs of some million turns and calls, and a module of some megabytes.
 
 use crate::tests::calls::{ANSWERS, TWO_ANSWERS, files_of, outcome_of, outcome_of_make};
+use crate::tests::replays::script_of_answers;
 use std::test::Fail;
 
 /// A loop whose run takes 2,000,000 turns: the host's call, seven instructions before the loop, and six in
@@ -25,10 +26,83 @@ fn a_run_of_two_million_turns(rt: HostRuntime) -> Result<(), Fail> {
     Ok(())
 }
 
+/// A loop of as many rounds as its import answers. In a round are six instructions, and outside three.
+const ROUNDS: &str =
+    // (module (import "h" "f" (func (result i32)))
+    //   (func (export "g") (result i32) (local i32) call 0 local.set 0
+    //     loop local.get 0 i32.const -1 i32.add local.tee 0 br_if 0 end local.get 0))
+    "0061736d010000000105016000017f02070101680166000003020100070501016700010a18011601017f1000210003402000417f\
+     6a22000d000b20000b";
+
+/// The replay module of 500,000 rounds, section by section: types, functions, the counter, `_start`, the
+/// bodies of the import, of the original and of `_start`, and the layout.
+const ROUNDS_REPLAYED: &str =
+    // (module (type (func (result i32))) (type (func)) (global (mut i32) (i32.const 0))
+    //   (func (type 0) (local i32) global.get 0 local.set 0 local.get 0 i32.const 1 i32.add global.set 0
+    //     local.get 0 i32.const 0 i32.eq if i32.const 500000 return end unreachable)
+    //   (func (type 0) (local i32) call 0 local.set 0
+    //     loop local.get 0 i32.const -1 i32.add local.tee 0 br_if 0 end local.get 0)
+    //   (func (type 1) call 1 drop) (export "_start" (func 2))),
+    //   with a custom section "r3.layout" of the bytes 01 01 at the end
+    "0061736d01000000\
+     0108026000017f600000\
+     030403000001\
+     0606017f0141000b\
+     070a01065f73746172740002\
+     0a3c031d01017f23002100200041016a24002000410046044041a0c21e0f0b000b\
+     1601017f1000210003402000417f6a22000d000b20000b\
+     050010011a0b\
+     000c0972332e6c61796f75740101";
+
+#[test]
+fn a_run_of_three_million_turns(rt: HostRuntime) -> Result<(), Fail> {
+    let alloc = rt.alloc();
+    let script = script_of_answers(alloc, &[500_000], 0)?;
+    // The host's call, three instructions, and six in each round.
+    let answer = outcome_of_make(alloc, ROUNDS, script.as_str(), "3000004")?;
+    assert_eq!(rt; answer.status, 0);
+    assert!(rt; answer.line.is_empty());
+    let wanted = hex::decode(alloc, ROUNDS_REPLAYED)?;
+    assert_eq!(rt; answer.printed.as_slice(), wanted.as_slice());
+    let spent = outcome_of_make(alloc, ROUNDS, script.as_str(), "3000003")?;
+    assert_eq!(rt; spent.status, 12);
+    assert_eq!(rt; spent.line.as_slice(), "turns spent: 3000003\n".as_bytes());
+    assert!(rt; spent.printed.is_empty());
+    Ok(())
+}
+
+/// 250,000 rounds with a call of each of eight imports, which share their answers.
+const EIGHT_IMPORTS: &str =
+    // (module (import "h" "f" (func (result i32))) (import "h" "f" (func (result i32)))
+    //   (import "h" "f" (func (result i32))) (import "h" "f" (func (result i32)))
+    //   (import "h" "f" (func (result i32))) (import "h" "f" (func (result i32)))
+    //   (import "h" "f" (func (result i32))) (import "h" "f" (func (result i32)))
+    //   (func (export "g") (local i32) loop call 0 drop call 1 drop call 2 drop call 3 drop call 4 drop call 5 drop
+    //     call 6 drop call 7 drop local.get 0 i32.const 1 i32.add local.tee 0 i32.const 250000 i32.lt_u br_if 0 end))
+    "0061736d010000000108026000017f60000002310801680166000001680166000001680166000001680166000001680166000001\
+     680166000001680166000001680166000003020101070501016700080a2f012d01017f034010001a10011a10021a10031a10041a\
+     10051a10061a10071a200041016a22004190a10f490d000b0b";
+
+/// The calls of the imports and the one by the host are one more than the most that are replayed.
+#[test]
+fn a_run_of_two_million_calls_and_one(rt: HostRuntime) -> Result<(), Fail> {
+    let alloc = rt.alloc();
+    let script = script_of_answers(alloc, &[], 250_000)?;
+    // The host's call, and 24 instructions in each round.
+    let spent = outcome_of_make(alloc, EIGHT_IMPORTS, script.as_str(), "6000000")?;
+    assert_eq!(rt; spent.status, 12);
+    let answer = outcome_of_make(alloc, EIGHT_IMPORTS, script.as_str(), "6000001")?;
+    assert_eq!(rt; answer.status, 19);
+    assert_eq!(rt; answer.line.as_slice(), b"not built\n".as_slice());
+    assert!(rt; answer.printed.is_empty());
+    Ok(())
+}
+
 /// All of a module but the 3,000,000 `nop`s that begin the body of its second function, and the end of that body.
 const BEFORE_THE_NOPS: &str =
     // (module (import "h" "f" (func (result i32))) (func (export "g") (result i32) call 0 call 0 i32.add)
-    //   (func (result i32) .. i32.const 1))
+    //   (func (result i32) i32.const 1)), but with 3,000,000 `nop`s before the `i32.const`, and the bytes from
+    //   these on are left out
     "0061736d010000000105016000017f020701016801660000030302000007050101670001\
      0ad18db701020700100010006a0bc48db70100";
 

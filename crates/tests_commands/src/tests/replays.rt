@@ -57,7 +57,7 @@ const NUMBERS: &str = concat!(
 
 /// A script that answers the import's calls by these numbers and then by those from 0 to below `count`, and
 /// calls `g`.
-fn script_of_answers(alloc: Global, first: &[u32], count: u32) -> Result<String, Fail> {
+pub fn script_of_answers(alloc: Global, first: &[u32], count: u32) -> Result<String, Fail> {
     let mut script = String::from_str(alloc, r#"{"imports":{"h":{"f":{"calls":["#)?;
     for (index, number) in first.iter().copied().chain(0..count).enumerate() {
         if index > 0 {

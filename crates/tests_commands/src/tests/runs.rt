@@ -1,6 +1,9 @@
 //! Runs and their budgets.
 
-use crate::tests::calls::{ANSWERS, TWO_ANSWERS, files_of, outcome_of, outcome_of_make};
+use crate::tests::calls::{
+    ANSWERS, TWO_ANSWERS, files_of, outcome_of, outcome_of_history, outcome_of_make,
+};
+use crate::tests::history_modules::{COPY_LOAD, NESTED_CALL, NESTED_TRAP, OVERWRITE, TABLE_GROWTH};
 use r3_outside::MemFiles;
 use std::test::Fail;
 
@@ -18,6 +21,21 @@ fn two_answers_in_four_turns(rt: HostRuntime) -> Result<(), Fail> {
     let other = outcome_of_make(alloc, long, ANSWERS, "4")?;
     assert_eq!(rt; other.status, 0);
     assert_eq!(rt; other.printed.as_slice(), answer.printed.as_slice());
+    Ok(())
+}
+
+#[test]
+fn the_most_turns_are_taken(rt: HostRuntime) -> Result<(), Fail> {
+    let alloc = rt.alloc();
+    let wanted = outcome_of_make(alloc, TWO_ANSWERS, ANSWERS, "4")?.printed;
+    for turns in ["2000001", "1000000000"] {
+        let answer = outcome_of_make(alloc, TWO_ANSWERS, ANSWERS, turns)?;
+        assert_eq!(rt; answer.status, 0, "{turns}");
+        assert_eq!(rt; answer.printed.as_slice(), wanted.as_slice(), "{turns}");
+    }
+    let history = outcome_of_history(alloc, TWO_ANSWERS, ANSWERS, "2000000")?;
+    assert_eq!(rt; history.status, 0);
+    assert!(rt; history.line.is_empty());
     Ok(())
 }
 
@@ -75,8 +93,13 @@ fn turns_are_spent(rt: HostRuntime) -> Result<(), Fail> {
 #[test]
 fn words_of_no_form(rt: HostRuntime) -> Result<(), Fail> {
     let alloc = rt.alloc();
-    for turns in ["0", "04", "2000001", "", "+4", "99999999999999999999"] {
+    for turns in ["0", "04", "1000000001", "", "+4", "99999999999999999999"] {
         let answer = outcome_of_make(alloc, TWO_ANSWERS, ANSWERS, turns)?;
+        assert_eq!(rt; answer.status, 2, "{turns}");
+        assert_eq!(rt; answer.line.as_slice(), b"usage\n".as_slice());
+    }
+    for turns in ["0", "04", "2000001", "1000000000"] {
+        let answer = outcome_of_history(alloc, TWO_ANSWERS, ANSWERS, turns)?;
         assert_eq!(rt; answer.status, 2, "{turns}");
         assert_eq!(rt; answer.line.as_slice(), b"usage\n".as_slice());
     }
@@ -96,27 +119,49 @@ fn words_of_no_form(rt: HostRuntime) -> Result<(), Fail> {
     Ok(())
 }
 
+/// The host calls `g` in the first answer to a call of `g`.
+const CALLING: &str = concat!(
+    r#"{"imports":{"h":{"f":{"calls":[{"do":[{"call":"g"}],"return":{"i32":1}},{"return":{"i32":2}},"#,
+    r#"{"return":{"i32":3}},{"return":{"i32":4}}]}}},"main":[{"call":"g"}]}"#
+);
+
 #[test]
 fn forms_that_are_not_built(rt: HostRuntime) -> Result<(), Fail> {
     let alloc = rt.alloc();
-    let overwrite =
-        // (module (import "h" "f" (func)) (memory 1)
-        //   (func (result i32) call 0 i32.const 8 i32.const 1 i32.store16 i32.const 8 i32.load) (export "g" (func 1))
-        //   (export "m" (memory 0)))
-        "0061736d010000000108026000006000017f02070101680166000003020101050301000107090201670001016d0200\
-         0a120110001000410841013b010041082802000b";
     let rows = [
         // (module (memory 4096))
         ("a memory", "0061736d01000000050401008020", "{}"),
         (
             "a host that writes",
-            overwrite,
+            OVERWRITE,
             r#"{"imports":{"h":{"f":{"calls":[{"do":[{"write":8,"bytes":"aabbccdd"}]}]}}},"main":[{"call":"g"}]}"#,
         ),
         (
             "a host that traps",
             TWO_ANSWERS,
             r#"{"imports":{"h":{"f":{"calls":[{"trap":true}]}}},"main":[{"call":"g"}]}"#,
+        ),
+        (
+            "an answer to every call",
+            TWO_ANSWERS,
+            r#"{"imports":{"h":{"f":{"rest":{"return":{"i32":5}}}}},"main":[{"call":"g"}]}"#,
+        ),
+        ("a host that calls in an answer", TWO_ANSWERS, CALLING),
+        (
+            "a host that calls in an answer, and a memory",
+            NESTED_CALL,
+            r#"{"imports":{"h":{"f":{"calls":[{"do":[{"call":"e"}],"return":{"i32":1}}]}}},"main":[{"call":"g"}]}"#,
+        ),
+        (
+            "a call in an answer that traps",
+            NESTED_TRAP,
+            r#"{"imports":{"h":{"f":{"calls":[{"do":[{"call":"e"}],"return":{"i32":1}}]}}},"main":[{"call":"g"}]}"#,
+        ),
+        ("a copy", COPY_LOAD, r#"{}"#),
+        (
+            "a host that grows a table",
+            TABLE_GROWTH,
+            r#"{"main":[{"grow_table":999999}]}"#,
         ),
     ];
     for (name, module, script) in rows {
