@@ -5,6 +5,7 @@ mod bodies;
 mod jumps;
 mod memory;
 mod numeric;
+mod opcode_numbers;
 mod outside;
 mod places;
 mod profile;
@@ -31,6 +32,11 @@ fn memory_instructions(rt: HostRuntime) -> Result<(), Fail> {
 #[test]
 fn numeric_families(rt: HostRuntime) -> Result<(), Fail> {
     check_rows(rt.alloc(), numeric::ROWS)
+}
+
+#[test]
+fn numbers_behind_a_prefix(rt: HostRuntime) -> Result<(), Fail> {
+    check_rows(rt.alloc(), opcode_numbers::ROWS)
 }
 
 #[test]

@@ -184,6 +184,31 @@ pub const ROWS: &[(&str, &str, Answer)] = &[
         Taken,
     ),
     (
+        "sign extensions after unreachable",
+        // (module (func unreachable i32.extend8_s drop i32.extend16_s drop i64.extend8_s drop i64.extend16_s drop
+        //   i64.extend32_s drop))
+        "0061736d01000000010401600000030201000a0f010d0000c01ac11ac21ac31ac41a0b",
+        Taken,
+    ),
+    (
+        "memory.copy after unreachable",
+        // (module (memory 1) (func unreachable memory.copy))
+        "0061736d010000000104016000000302010005030100010a0901070000fc0a00000b",
+        Taken,
+    ),
+    (
+        "memory.fill of two of any type and one known",
+        // (module (memory 1) (func unreachable i32.const 0 memory.fill))
+        "0061736d010000000104016000000302010005030100010a0a010800004100fc0b000b",
+        Taken,
+    ),
+    (
+        "memory.copy gives nothing after unreachable",
+        // (module (memory 1) (func (result i32) unreachable memory.copy))
+        "0061736d010000000105016000017f0302010005030100010a0901070000fc0a00000b",
+        Taken,
+    ),
+    (
         "an operand of another type after unreachable",
         // (module (func unreachable i64.const 0 i32.add drop))
         "0061736d01000000010401600000030201000a090107000042006a1a0b",
@@ -253,6 +278,48 @@ pub const ROWS: &[(&str, &str, Answer)] = &[
         "a label that is not there after unreachable",
         // (module (func unreachable br 1))
         "0061736d01000000010401600000030201000a07010500000c010b",
+        Invalid(0),
+    ),
+    (
+        "a sign extension as another type after unreachable",
+        // (module (func (result i64) unreachable i32.extend16_s))
+        "0061736d010000000105016000017e030201000a0601040000c10b",
+        Invalid(0),
+    ),
+    (
+        "a sign extension of another type after unreachable",
+        // (module (func unreachable i32.const 0 i64.extend32_s drop))
+        "0061736d01000000010401600000030201000a09010700004100c41a0b",
+        Invalid(0),
+    ),
+    (
+        "memory.copy with a target of another type after unreachable",
+        // (module (memory 1) (func unreachable i64.const 0 i32.const 0 i32.const 0 memory.copy))
+        "0061736d010000000104016000000302010005030100010a0f010d0000420041004100fc0a00000b",
+        Invalid(0),
+    ),
+    (
+        "memory.fill with a byte of another type after unreachable",
+        // (module (memory 1) (func unreachable i64.const 0 i32.const 0 memory.fill))
+        "0061736d010000000104016000000302010005030100010a0c010a000042004100fc0b000b",
+        Invalid(0),
+    ),
+    (
+        "memory.copy without a memory after unreachable",
+        // (module (func unreachable memory.copy))
+        "0061736d01000000010401600000030201000a0901070000fc0a00000b",
+        Invalid(0),
+    ),
+    (
+        "memory.fill without a memory after unreachable",
+        // (module (func unreachable memory.fill))
+        "0061736d01000000010401600000030201000a0801060000fc0b000b",
+        Invalid(0),
+    ),
+    (
+        "memory.fill of an operand below the block",
+        // (module (memory 1) (func unreachable block i32.const 0 i32.const 0 memory.fill end))
+        "0061736d010000000104016000000302010005030100010a0f010d0000024041004100fc0b000b0b",
         Invalid(0),
     ),
     (

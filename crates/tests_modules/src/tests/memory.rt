@@ -1,4 +1,4 @@
-//! Instructions of memories (Core 1.0, 3.3.4), each rule kept and broken.
+//! Instructions of memories (Core 1.0, 3.3.4; Core 2.0, 3.3.7), each rule kept and broken.
 
 use crate::tests::answers::Answer::{self, Invalid, Taken};
 
@@ -259,5 +259,125 @@ pub const ROWS: &[(&str, &str, Answer)] = &[
         // (module (import "h" "f" (memory 1)) (func i32.const 0 i32.load drop))
         "0061736d0100000001040160000002080101680166020001030201000a0a01080041002802001a0b",
         Taken,
+    ),
+    (
+        "memory.copy",
+        // (module (memory 1) (func i32.const 0 i32.const 0 i32.const 0 memory.copy))
+        "0061736d010000000104016000000302010005030100010a0e010c00410041004100fc0a00000b",
+        Taken,
+    ),
+    (
+        "memory.copy with an imported memory",
+        // (module (import "h" "f" (memory 1)) (func i32.const 0 i32.const 0 i32.const 0 memory.copy))
+        "0061736d0100000001040160000002080101680166020001030201000a0e010c00410041004100fc0a00000b",
+        Taken,
+    ),
+    (
+        "memory.copy without a memory",
+        // (module (func i32.const 0 i32.const 0 i32.const 0 memory.copy))
+        "0061736d01000000010401600000030201000a0e010c00410041004100fc0a00000b",
+        Invalid(0),
+    ),
+    (
+        "memory.copy with a target of another type",
+        // (module (memory 1) (func i64.const 0 i32.const 0 i32.const 0 memory.copy))
+        "0061736d010000000104016000000302010005030100010a0e010c00420041004100fc0a00000b",
+        Invalid(0),
+    ),
+    (
+        "memory.copy with a source of another type",
+        // (module (memory 1) (func i32.const 0 i64.const 0 i32.const 0 memory.copy))
+        "0061736d010000000104016000000302010005030100010a0e010c00410042004100fc0a00000b",
+        Invalid(0),
+    ),
+    (
+        "memory.copy with a count of another type",
+        // (module (memory 1) (func i32.const 0 i32.const 0 i64.const 0 memory.copy))
+        "0061736d010000000104016000000302010005030100010a0e010c00410041004200fc0a00000b",
+        Invalid(0),
+    ),
+    (
+        "memory.copy of two operands",
+        // (module (memory 1) (func i32.const 0 i32.const 0 memory.copy))
+        "0061736d010000000104016000000302010005030100010a0c010a0041004100fc0a00000b",
+        Invalid(0),
+    ),
+    (
+        "memory.copy of an operand below the block",
+        // (module (memory 1) (func i32.const 0 block i32.const 0 i32.const 0 memory.copy end))
+        "0061736d010000000104016000000302010005030100010a11010f004100024041004100fc0a00000b0b",
+        Invalid(0),
+    ),
+    (
+        "memory.copy of three operands and one left over",
+        // (module (memory 1) (func i32.const 0 i32.const 0 i32.const 0 i32.const 0 memory.copy))
+        "0061736d010000000104016000000302010005030100010a10010e004100410041004100fc0a00000b",
+        Invalid(0),
+    ),
+    (
+        "memory.copy as a result",
+        // (module (memory 1) (func (result i32) i32.const 0 i32.const 0 i32.const 0 memory.copy))
+        "0061736d010000000105016000017f0302010005030100010a0e010c00410041004100fc0a00000b",
+        Invalid(0),
+    ),
+    (
+        "memory.fill",
+        // (module (memory 1) (func i32.const 0 i32.const 0 i32.const 0 memory.fill))
+        "0061736d010000000104016000000302010005030100010a0d010b00410041004100fc0b000b",
+        Taken,
+    ),
+    (
+        "memory.fill with an imported memory",
+        // (module (import "h" "f" (memory 1)) (func i32.const 0 i32.const 0 i32.const 0 memory.fill))
+        "0061736d0100000001040160000002080101680166020001030201000a0d010b00410041004100fc0b000b",
+        Taken,
+    ),
+    (
+        "memory.fill without a memory",
+        // (module (func i32.const 0 i32.const 0 i32.const 0 memory.fill))
+        "0061736d01000000010401600000030201000a0d010b00410041004100fc0b000b",
+        Invalid(0),
+    ),
+    (
+        "memory.fill with a target of another type",
+        // (module (memory 1) (func i64.const 0 i32.const 0 i32.const 0 memory.fill))
+        "0061736d010000000104016000000302010005030100010a0d010b00420041004100fc0b000b",
+        Invalid(0),
+    ),
+    (
+        "memory.fill with a byte of another type",
+        // (module (memory 1) (func i32.const 0 i64.const 0 i32.const 0 memory.fill))
+        "0061736d010000000104016000000302010005030100010a0d010b00410042004100fc0b000b",
+        Invalid(0),
+    ),
+    (
+        "memory.fill with a count of another type",
+        // (module (memory 1) (func i32.const 0 i32.const 0 i64.const 0 memory.fill))
+        "0061736d010000000104016000000302010005030100010a0d010b00410041004200fc0b000b",
+        Invalid(0),
+    ),
+    (
+        "memory.fill of two operands",
+        // (module (memory 1) (func i32.const 0 i32.const 0 memory.fill))
+        "0061736d010000000104016000000302010005030100010a0b01090041004100fc0b000b",
+        Invalid(0),
+    ),
+    (
+        "memory.fill of an operand below the block",
+        // (module (memory 1) (func i32.const 0 block i32.const 0 i32.const 0 memory.fill end))
+        "0061736d010000000104016000000302010005030100010a10010e004100024041004100fc0b000b0b",
+        Invalid(0),
+    ),
+    (
+        "memory.fill of three operands and one left over",
+        // (module (memory 1) (func i32.const 0 i32.const 0 i32.const 0 i32.const 0 memory.fill))
+        "0061736d010000000104016000000302010005030100010a0f010d004100410041004100fc0b000b",
+        Invalid(0),
+    ),
+    (
+        "memory.fill as a result",
+        // (module (memory 1) (func (result i32) i32.const 0 i32.const 0 i32.const 0 memory.fill))
+        "0061736d010000000105016000017f0302010005030100010a0d010b00410041004100fc0b000b",
+        Invalid(0),
     ),
 ];

@@ -1,4 +1,4 @@
-//! Numeric instructions (Core 1.0, 3.3.1), by families: well typed, and of another type.
+//! Numeric instructions (Core 1.0, 3.3.1; Core 2.0, 3.3.1), by families: well typed, and of another type.
 
 use crate::tests::answers::Answer::{self, Invalid, Taken};
 
@@ -290,6 +290,129 @@ pub const ROWS: &[(&str, &str, Answer)] = &[
         "f64.reinterpret_i64 as another type",
         // (module (func (local f32 f64) i64.const 0 f64.reinterpret_i64 i64.eqz drop))
         "0061736d01000000010401600000030201000a0d010b02017d017c4200bf501a0b",
+        Invalid(0),
+    ),
+    (
+        "sign extensions of i32",
+        // (module (func (local f32 f64) i32.const 0 i32.extend8_s i32.eqz drop i32.const 0 i32.extend16_s i32.eqz
+        //   drop))
+        "0061736d01000000010401600000030201000a12011002017d017c4100c0451a4100c1451a0b",
+        Taken,
+    ),
+    (
+        "sign extensions of i64",
+        // (module (func (local f32 f64) i64.const 0 i64.extend8_s i64.eqz drop i64.const 0 i64.extend16_s i64.eqz drop
+        //   i64.const 0 i64.extend32_s i64.eqz drop))
+        "0061736d01000000010401600000030201000a17011502017d017c4200c2501a4200c3501a4200c4501a0b",
+        Taken,
+    ),
+    (
+        "sign extensions one after the other",
+        // (module (func i64.const 0 i64.extend32_s i64.extend16_s i64.extend8_s i32.wrap_i64 i32.extend16_s
+        //   i32.extend8_s drop))
+        "0061736d01000000010401600000030201000a0d010b004200c4c3c2a7c1c01a0b",
+        Taken,
+    ),
+    (
+        "i32.extend8_s of another type",
+        // (module (func (local f32 f64) i64.const 0 i32.extend8_s i32.eqz drop))
+        "0061736d01000000010401600000030201000a0d010b02017d017c4200c0451a0b",
+        Invalid(0),
+    ),
+    (
+        "i32.extend8_s as another type",
+        // (module (func (local f32 f64) i32.const 0 i32.extend8_s i64.eqz drop))
+        "0061736d01000000010401600000030201000a0d010b02017d017c4100c0501a0b",
+        Invalid(0),
+    ),
+    (
+        "i32.extend8_s left over",
+        // (module (func (local f32 f64) i32.const 0 i32.extend8_s))
+        "0061736d01000000010401600000030201000a0b010902017d017c4100c00b",
+        Invalid(0),
+    ),
+    (
+        "i32.extend16_s of another type",
+        // (module (func (local f32 f64) i64.const 0 i32.extend16_s i32.eqz drop))
+        "0061736d01000000010401600000030201000a0d010b02017d017c4200c1451a0b",
+        Invalid(0),
+    ),
+    (
+        "i32.extend16_s as another type",
+        // (module (func (local f32 f64) i32.const 0 i32.extend16_s i64.eqz drop))
+        "0061736d01000000010401600000030201000a0d010b02017d017c4100c1501a0b",
+        Invalid(0),
+    ),
+    (
+        "i32.extend16_s left over",
+        // (module (func (local f32 f64) i32.const 0 i32.extend16_s))
+        "0061736d01000000010401600000030201000a0b010902017d017c4100c10b",
+        Invalid(0),
+    ),
+    (
+        "i64.extend8_s of another type",
+        // (module (func (local f32 f64) i32.const 0 i64.extend8_s i64.eqz drop))
+        "0061736d01000000010401600000030201000a0d010b02017d017c4100c2501a0b",
+        Invalid(0),
+    ),
+    (
+        "i64.extend8_s as another type",
+        // (module (func (local f32 f64) i64.const 0 i64.extend8_s i32.eqz drop))
+        "0061736d01000000010401600000030201000a0d010b02017d017c4200c2451a0b",
+        Invalid(0),
+    ),
+    (
+        "i64.extend8_s left over",
+        // (module (func (local f32 f64) i64.const 0 i64.extend8_s))
+        "0061736d01000000010401600000030201000a0b010902017d017c4200c20b",
+        Invalid(0),
+    ),
+    (
+        "i64.extend16_s of another type",
+        // (module (func (local f32 f64) i32.const 0 i64.extend16_s i64.eqz drop))
+        "0061736d01000000010401600000030201000a0d010b02017d017c4100c3501a0b",
+        Invalid(0),
+    ),
+    (
+        "i64.extend16_s as another type",
+        // (module (func (local f32 f64) i64.const 0 i64.extend16_s i32.eqz drop))
+        "0061736d01000000010401600000030201000a0d010b02017d017c4200c3451a0b",
+        Invalid(0),
+    ),
+    (
+        "i64.extend16_s left over",
+        // (module (func (local f32 f64) i64.const 0 i64.extend16_s))
+        "0061736d01000000010401600000030201000a0b010902017d017c4200c30b",
+        Invalid(0),
+    ),
+    (
+        "i64.extend32_s of another type",
+        // (module (func (local f32 f64) i32.const 0 i64.extend32_s i64.eqz drop))
+        "0061736d01000000010401600000030201000a0d010b02017d017c4100c4501a0b",
+        Invalid(0),
+    ),
+    (
+        "i64.extend32_s as another type",
+        // (module (func (local f32 f64) i64.const 0 i64.extend32_s i32.eqz drop))
+        "0061736d01000000010401600000030201000a0d010b02017d017c4200c4451a0b",
+        Invalid(0),
+    ),
+    (
+        "i64.extend32_s left over",
+        // (module (func (local f32 f64) i64.const 0 i64.extend32_s))
+        "0061736d01000000010401600000030201000a0b010902017d017c4200c40b",
+        Invalid(0),
+    ),
+    (
+        "i32.extend8_s of nothing",
+        // (module (func i32.extend8_s drop))
+        "0061736d01000000010401600000030201000a06010400c01a0b",
+        Invalid(0),
+    ),
+    (
+        "i64.extend32_s of an f64",
+        // (module (func f64.const 0 i64.extend32_s drop))
+        "0061736d01000000010401600000030201000a0f010d00440000000000000000c41a0b",
         Invalid(0),
     ),
 ];

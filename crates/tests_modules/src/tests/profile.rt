@@ -242,6 +242,21 @@ pub const INSTRUCTIONS: &[(&str, &str, Answer)] = &[
         "0061736d0100000001040160000002080102723301660000030201000504010081200a0b01090043000000008b1a0b",
         Unsupported(1, 1, Feature::FloatArithmetic),
     ),
+    (
+        "sign extensions before float arithmetic",
+        // (module (func i32.const 0 i32.extend8_s i32.extend16_s drop i64.const 0 i64.extend8_s i64.extend16_s
+        //   i64.extend32_s drop f32.const 0 f32.abs drop))
+        "0061736d01000000010401600000030201000a160114004100c0c11a4200c2c3c41a43000000008b1a0b",
+        Unsupported(0, 10, Feature::FloatArithmetic),
+    ),
+    (
+        "memory.copy and memory.fill before a float conversion",
+        // (module (memory 1) (func i32.const 0 i32.const 0 i32.const 0 memory.copy i32.const 0 i32.const 0 i32.const 0
+        //   memory.fill f32.const 0 i32.trunc_f32_s drop))
+        "0061736d01000000010401600000030201000503010001\
+         0a1e011c00410041004100fc0a0000410041004100fc0b004300000000a81a0b",
+        Unsupported(0, 9, Feature::FloatConversion),
+    ),
 ];
 
 pub const QUANTITIES: &[(&str, &str, Answer)] = &[
