@@ -63,21 +63,21 @@ call_place m func args ty old new i defined has_type values invokes =
     let enters = invokes m i.run.heights i.run.counts host ty i.run.is_run.code tt i.stands defined has_type values in
     record { run = i.run; frame = enters.frame; below = host; stands = enters.stands; called = refl }
 
+-- after a part of the run
+module _ (m : Module) (r : SomeRun m) (outside : List Activation) (is_host : outside ≡ host) (entries : List Entry) (new : State) (s : StepResult) where
+  pub part_place : (end : Option Pause) → Comes m r.heights r.program outside r.counts end entries new s → ComesBy m end new
+  part_place None e = record { running = record { run = r; frame = e.frame; below = e.below; stands = e.stands; called = e.same_outside ∙ is_host }; going = e.going }
+  part_place (Some (pause.Import index)) e =
+      record { run = r; frame = e.frame; below = e.below; ty = e.ty; args = e.args; has_type = e.has_type; values = e.values; stands = e.stands; called = e.same_outside ∙ is_host }
+  part_place (Some pause.Returned) e = record { run = r; stands = subst (λ o. StandsFor m r.heights o new) is_host e.stands }
+  part_place (Some pause.Trapped) e = tt
+  part_place (Some pause.Spent) e = absurd e
+
 -- a pause
 module _ (m : Module) (r : SomeRun m) (meter : Meter) (outside : List Activation) (is_host : outside ≡ host) (left : ℕ) (entries : List Entry) (new : State) (s : StepResult) where
   pub pause_place : (end : Pause) → EndsRun m r.heights r.program meter outside r.counts end left entries new s → IsPaused m end new
-  pause_place (pause.Import index) e = record {
-    run = r;
-    frame = e.frame;
-    below = e.below;
-    ty = e.ty;
-    args = e.args;
-    has_type = e.has_type;
-    values = e.values;
-    stands = e.stands;
-    called = e.same_outside ∙ is_host;
-  }
-  pause_place pause.Returned e = record { run = r; stands = subst (λ o. StandsFor m r.heights o new) is_host e.stands }
+  pause_place (pause.Import index) e = part_place m r outside is_host entries new s (Some (pause.Import index)) e
+  pause_place pause.Returned e = part_place m r outside is_host entries new s (Some pause.Returned) e
   pause_place pause.Trapped e = tt
   pause_place pause.Spent e = record { run = r; frame = e.comes.frame; below = e.comes.below; stands = e.comes.stands; called = e.comes.same_outside ∙ is_host }
 
@@ -85,25 +85,6 @@ pub advance_place : (m : Module) (old new : State) (weighing : Weighing) (turns 
 advance_place m old new weighing turns left end i advances =
     let a = advances m i.run.heights i.run.program i.run.counts i.frame i.below i.run.is_run i.stands in
     pause_place m i.run (meter_of m weighing) (outside_of i.below) i.called left a.entries new a.last end a.ends
-
--- after a part of the run
-module _ (m : Module) (r : SomeRun m) (outside : List Activation) (is_host : outside ≡ host) (entries : List Entry) (new : State) (s : StepResult) where
-  pub part_place : (end : Option Pause) → Comes m r.heights r.program outside r.counts end entries new s → ComesBy m end new
-  part_place None e = record { running = record { run = r; frame = e.frame; below = e.below; stands = e.stands; called = e.same_outside ∙ is_host }; going = e.going }
-  part_place (Some (pause.Import index)) e = record {
-    run = r;
-    frame = e.frame;
-    below = e.below;
-    ty = e.ty;
-    args = e.args;
-    has_type = e.has_type;
-    values = e.values;
-    stands = e.stands;
-    called = e.same_outside ∙ is_host;
-  }
-  part_place (Some pause.Returned) e = record { run = r; stands = subst (λ o. StandsFor m r.heights o new) is_host e.stands }
-  part_place (Some pause.Trapped) e = tt
-  part_place (Some pause.Spent) e = absurd e
 
 pub settle_place : (m : Module) (old new : State) (turn : Turn) → IsRunning m old → SettlesRun old turn new → ComesBy m turn.pause new
 settle_place m old new turn i run =

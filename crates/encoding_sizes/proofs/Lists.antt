@@ -4,39 +4,22 @@ use Rattle.std.specs.List.{AllByRecursion, cons_option}
 use Rattle.std.proofs.lemmas.List.{length-append, length-map, get_or-map}
 use Rattle.leb_bytes.specs.Unsigned.{u32_bytes}
 use Rattle.wasm_syntax.specs.declared.forms.Form.{Form}
-use Rattle.wasm_syntax.specs.declared.values.ValType.TheVariants.{I32, I64, F32, F64, FuncRef}
-use Rattle.wasm_syntax.specs.declared.values.ValType.{ValType}
 use Rattle.wasm_syntax.specs.declared.signatures.FuncType.{FuncType}
-use Rattle.wasm_syntax.specs.declared.instructions.Instr.{Instr}
 use Rattle.wasm_syntax.specs.declared.instructions.Instr.TheVariants as instr
 use Rattle.wasm_syntax.specs.declared.modules.Import.{Import}
 use Rattle.wasm_syntax.specs.declared.modules.Func.{Func}
-use Rattle.wasm_syntax.specs.declared.modules.Run.{Run}
 use Rattle.wasm_syntax.specs.declared.modules.Module.{Module}
 use Rattle.wasm_syntax.specs.Index.{func_import, of_kind}
-use Rattle.wasm_syntax.specs.Encoding.Encodable.{IsEncodable, FitsConst, FitsInstr, FitsFunc}
+use Rattle.wasm_syntax.specs.Encoding.Encodable.{IsEncodable, FitsInstr, FitsFunc}
 use Rattle.wasm_syntax.specs.Encoding.Sections.{Code}
 use Rattle.wasm_syntax.specs.Encoding.Modules.{code_of}
-use Rattle.wasm_syntax.specs.Encoding.Shortest.{vector_bytes, val_type_bytes, func_type_bytes, instr_bytes, const_bytes, import_bytes, import_kind_bytes, sized_bytes, run_bytes, body_bytes, code_bytes, encoding_of}
+use Rattle.wasm_syntax.specs.Encoding.Shortest.{vector_bytes, val_type_bytes, func_type_bytes, instr_bytes, import_bytes, run_bytes, body_bytes, code_bytes, encoding_of}
+use Rattle.wasm_syntax.proofs.Encoding.NotEmpty.{func_type_bytes_some, import_bytes_some, run_bytes_some, instr_bytes_some}
 use Rattle.encoding_sizes.specs.Within.{HasListsWithin}
 use Rattle.encoding_sizes.proofs.Items.{u32_some, items, items_as, items_some, items_some_of, items_one, vector_length, sized_length}
 use Rattle.encoding_sizes.proofs.Sections.{encoding_least}
 
 -- ---- items
-
-type_some : (ty : FuncType) → 0 < length (func_type_bytes ty)
-unfolding func_type_bytes
-type_some ty = omega arith
-
-import_some : (i : Import) → 0 < length (import_bytes i)
-unfolding import_bytes
-import_some i =
-    omega (
-      arith,
-      length-append (sized_bytes i.«module») (sized_bytes i.name ++ import_kind_bytes i.kind),
-      sized_length i.«module»,
-      u32_some (length i.«module»),
-    )
 
 -- the parameters of a type
 type_params : (ty : FuncType) → length ty.params ≤ length (func_type_bytes ty)
@@ -59,63 +42,16 @@ code_parts code = omega (
   items_as instr_bytes code.body,
 )
 
-run_some : (run : Run) → 0 < length (run_bytes run)
-run_some run = omega (arith, length-append (u32_bytes run.count) (val_type_bytes run.ty), u32_some run.count)
-
-const_some : (ty : ValType) (bits : ℕ) → FitsConst ty bits → 0 < length (const_bytes ty bits)
-unfolding const_bytes
-const_some I32 bits fits = omega arith
-const_some I64 bits fits = omega arith
-const_some F32 bits fits = omega arith
-const_some F64 bits fits = omega arith
-const_some FuncRef bits fits = absurd fits
-
-instr_some : (form : Form) (i : Instr) → FitsInstr form i → 0 < length (instr_bytes i)
-unfolding instr_bytes
-instr_some form instr.Unreachable fits = omega arith
-instr_some form instr.Nop fits = omega arith
-instr_some form (instr.Block ty) fits = omega arith
-instr_some form (instr.Loop ty) fits = omega arith
-instr_some form (instr.If ty) fits = omega arith
-instr_some form instr.Else fits = omega arith
-instr_some form instr.End fits = omega arith
-instr_some form (instr.Br label) fits = omega arith
-instr_some form (instr.BrIf label) fits = omega arith
-instr_some form (instr.BrTable labels default) fits = omega arith
-instr_some form instr.Return fits = omega arith
-instr_some form (instr.Call func) fits = omega arith
-instr_some form (instr.CallIndirect ty) fits = omega arith
-instr_some form instr.Drop fits = omega arith
-instr_some form instr.Select fits = omega arith
-instr_some form (instr.LocalGet local) fits = omega arith
-instr_some form (instr.LocalSet local) fits = omega arith
-instr_some form (instr.LocalTee local) fits = omega arith
-instr_some form (instr.GlobalGet global) fits = omega arith
-instr_some form (instr.GlobalSet global) fits = omega arith
-instr_some form (instr.Load access) fits = omega arith
-instr_some form (instr.Store access) fits = omega arith
-instr_some form instr.MemorySize fits = omega arith
-instr_some form instr.MemoryGrow fits = omega arith
-instr_some form instr.MemoryCopy fits = omega arith
-instr_some form instr.MemoryFill fits = omega arith
-instr_some form (instr.Const value) fits = const_some value.ty value.bits fits
-instr_some form (instr.Numeric op) fits = omega arith
-instr_some form instr.RefNull fits = omega arith
-instr_some form (instr.RefFunc func) fits = omega arith
-instr_some form (instr.TableSet table) fits = omega arith
-instr_some form (instr.TableGrow table) fits = omega arith
-instr_some form (instr.TableSize table) fits = omega arith
-
 -- the code of a function takes as many bytes as its body has instructions, and its locals runs
 func_body : (form : Form) (func : Func) → FitsFunc form func → length func.body ≤ length (code_bytes (code_of func))
 func_body form func fits = omega (
   arith,
   code_parts (code_of func),
-  items_some_of (FitsInstr form) instr_bytes (instr_some form) func.body fits.2.instructions,
+  items_some_of (FitsInstr form) instr_bytes (instr_bytes_some form) func.body fits.2.instructions,
 )
 
 func_locals : (func : Func) → length func.locals ≤ length (code_bytes (code_of func))
-func_locals func = omega (arith, code_parts (code_of func), items_some run_bytes run_some func.locals)
+func_locals func = omega (arith, code_parts (code_of func), items_some run_bytes run_bytes_some func.locals)
 
 -- a function's code among all
 code_one : (funcs : List Func) (k : ℕ) (d : Func) → k < length funcs
@@ -146,8 +82,8 @@ pub few_parts : (m : Module) → length m.types + length m.imports + length m.fu
 few_parts m = omega (
   arith,
   encoding_least m,
-  items_some func_type_bytes type_some m.types,
-  items_some import_bytes import_some m.imports,
+  items_some func_type_bytes func_type_bytes_some m.types,
+  items_some import_bytes import_bytes_some m.imports,
   items_some u32_bytes u32_some (map (λ func. func.ty) m.funcs),
   length-map m.funcs (λ func. func.ty),
 )

@@ -1,4 +1,4 @@
-//! The lines of a history, one for each entry, and the line of its outcome.
+//! The lines of a history, one for each entry, and the line of its outcome; and the words that lines are made of.
 #![tactic(auto)]
 
 mod lines;
@@ -6,6 +6,7 @@ mod words;
 
 pub use lines::{print_entry, print_outcome};
 pub use no_memory::NoMemory;
+pub use words::{put, put_number, put_value, put_values};
 
 #[cfg(test)]
 mod tests;

@@ -12,7 +12,10 @@ use wasm_syntax::{Val, ValType};
 const DIGITS: [u8; 16] = *b"0123456789abcdef";
 
 /// Appends bytes.
-pub(crate) fn put(out: &mut Vec<u8>, bytes: &[u8]) -> Result<(), NoMemory>
+///
+/// # Errors
+/// Where an allocation failed; a first part of them may be appended then.
+pub fn put(out: &mut Vec<u8>, bytes: &[u8]) -> Result<(), NoMemory>
     ensures ok { OnOk result (out.new.items ≡ out.old.items ++ bytes.now) }
     ensures refused { OnErr result (GrewByFirstPart out.old.items out.new.items bytes.now) }
 {
@@ -30,8 +33,11 @@ fn put_pair(out: &mut Vec<u8>, first: &[u8], second: &[u8]) -> Result<(), NoMemo
     put(out, second)
 }
 
-/// Appends a number in decimal.
-pub(crate) fn put_number(out: &mut Vec<u8>, number: u32) -> Result<(), NoMemory>
+/// Appends a number in decimal, after a space.
+///
+/// # Errors
+/// Where an allocation failed; a first part of its text may be appended then.
+pub fn put_number(out: &mut Vec<u8>, number: u32) -> Result<(), NoMemory>
     ensures ok { OnOk result (out.new.items ≡ out.old.items ++ number_text number) }
     ensures refused { OnErr result
         (GrewByFirstPart out.old.items out.new.items (number_text number)) }
@@ -55,8 +61,11 @@ pub(crate) fn put_found(out: &mut Vec<u8>, found: Option<u32>) -> Result<(), NoM
     }
 }
 
-/// Appends values.
-pub(crate) fn put_values(out: &mut Vec<u8>, values: &[Val]) -> Result<(), NoMemory>
+/// Appends values, each after a space.
+///
+/// # Errors
+/// Where an allocation failed; a first part of their text may be appended then.
+pub fn put_values(out: &mut Vec<u8>, values: &[Val]) -> Result<(), NoMemory>
     ensures ok { OnOk result (out.new.items ≡ out.old.items ++ values_text values.now) }
     ensures refused { OnErr result
         (GrewByFirstPart out.old.items out.new.items (values_text values.now)) }
@@ -67,8 +76,11 @@ pub(crate) fn put_values(out: &mut Vec<u8>, values: &[Val]) -> Result<(), NoMemo
     Ok(())
 }
 
-/// Appends a value: its type, and its bits in hexadecimal.
-fn put_value(out: &mut Vec<u8>, value: Val) -> Result<(), NoMemory>
+/// Appends a value after a space: its type, and its bits in hexadecimal.
+///
+/// # Errors
+/// Where an allocation failed; a first part of its text may be appended then.
+pub fn put_value(out: &mut Vec<u8>, value: Val) -> Result<(), NoMemory>
     ensures ok { OnOk result (out.new.items ≡ out.old.items ++ with_space (value_text value)) }
     ensures refused { OnErr result
         (GrewByFirstPart out.old.items out.new.items (with_space (value_text value))) }

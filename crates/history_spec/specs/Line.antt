@@ -4,8 +4,8 @@ use Rattle.std.specs.List.{flat_map}
 use Rattle.wasm_syntax.specs.declared.values.ValType.{ValType}
 use Rattle.wasm_syntax.specs.declared.values.ValType.TheVariants.{I32, I64, F32, F64, FuncRef}
 use Rattle.wasm_syntax.specs.declared.values.Val.{Val}
-use Rattle.trace_model.specs.declared.outcomes.Outcome.{Outcome}
-use Rattle.trace_model.specs.declared.outcomes.Outcome.TheVariants.{Ended, Trapped, HostTrapped}
+use Rattle.run_outcomes.specs.declared.outcomes.Outcome.{Outcome}
+use Rattle.run_outcomes.specs.declared.outcomes.Outcome.TheVariants.{Ended, Trapped, HostTrapped}
 use Rattle.history_spec.specs.declared.entries.TrapKind.{TrapKind}
 use Rattle.history_spec.specs.declared.entries.TrapKind.TheVariants.{Unreachable, DivideByZero, Overflow, Memory, Table, Empty, Signature}
 use Rattle.history_spec.specs.declared.entries.Entry.{Entry}

@@ -3,8 +3,8 @@
 -- other function, and the caller of the exported one, is outside.
 use Rattle.std.specs.Prelude.{ℕ, ◌+◌, ◌-◌, List, [], ◌∷◌, ◌++◌, length, take, Option, Some, None, Bool, true, false, nat_lt}
 use Rattle.wasm_syntax.specs.declared.values.Val.{Val}
-use Rattle.trace_model.specs.declared.outcomes.Outcome.{Outcome}
-use Rattle.trace_model.specs.declared.outcomes.Outcome.TheVariants.{Trapped, HostTrapped}
+use Rattle.run_outcomes.specs.declared.outcomes.Outcome.{Outcome}
+use Rattle.run_outcomes.specs.declared.outcomes.Outcome.TheVariants.{Trapped, HostTrapped}
 use Rattle.history_spec.specs.declared.entries.Entry.{Entry}
 use Rattle.history_spec.specs.declared.entries.Entry.TheVariants.{HostCall, HostReturn, ImportCall, ImportReturn, Enter, Exit, Step, Trap, HostTrap}
 

@@ -8,7 +8,7 @@ use Rattle.wasm_syntax.specs.declared.modules.ExportKind.TheVariants.{Func}
 use Rattle.host_script.specs.declared.scripts.Action.TheVariants.{Call}
 use Rattle.host_script.specs.declared.scripts.LinkFault.{LinkFault}
 use Rattle.host_script.specs.declared.scripts.Supply.{Supply}
-use Rattle.trace_model.specs.declared.outcomes.Outcome.{Outcome}
+use Rattle.run_outcomes.specs.declared.outcomes.Outcome.{Outcome}
 use Rattle.history_spec.specs.declared.entries.Entry.{Entry}
 use Rattle.history_spec.specs.Code.{code_of}
 use Rattle.history_spec.specs.Store.{Store}

@@ -6,4 +6,4 @@ pub mod laws;
 
 pub use entries::{Entries, Entry, FaultKind, TrapKind};
 pub use laws::{runs_have_one_result_at_most, runs_have_some_result};
-pub use trace_model::Outcome;
+pub use run_outcomes::Outcome;

@@ -11,7 +11,7 @@ use Rattle.host_script.specs.declared.scripts.ResponseEnd.{ResponseEnd}
 use Rattle.host_script.specs.declared.scripts.ResponseEnd.TheVariants.{Return, Trap}
 use Rattle.host_script.specs.declared.scripts.Script.{Script}
 use Rattle.host_script.specs.Fits.{AreOfTypes, FitsEnd}
-use Rattle.trace_model.specs.declared.outcomes.Outcome.TheVariants.{Ended, HostTrapped}
+use Rattle.run_outcomes.specs.declared.outcomes.Outcome.TheVariants.{Ended, HostTrapped}
 use Rattle.history_spec.specs.declared.entries.Entry.TheVariants.{HostTrap, ImportReturn}
 use Rattle.history_spec.specs.Code.{code_of, signature}
 use Rattle.history_spec.specs.Configuration.{Activation, Frame, InModule, InMain, InImport}

@@ -1,6 +1,6 @@
 -- Steps after steps of a run.
 use Rattle.std.proofs.Common.{◌≡◌, ℕ, suc, zero, ◌+◌, List, [], ◌++◌, refl, sym, ap, ◌∙◌, arith, append_assoc, zero-add}
-use Rattle.trace_model.specs.declared.outcomes.Outcome.{Outcome}
+use Rattle.run_outcomes.specs.declared.outcomes.Outcome.{Outcome}
 use Rattle.history_spec.specs.declared.entries.Entry.{Entry}
 use Rattle.history_spec.specs.declared.entries.FaultKind.{FaultKind}
 use Rattle.history_spec.specs.Step.{Program, Progress, Running, Finished, Faulted, Stuck, StepResult, step}

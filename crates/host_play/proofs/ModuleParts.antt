@@ -3,7 +3,7 @@ use Rattle.std.proofs.Common.{◌≡◌, ℕ, suc, zero, ◌+◌, ◌*◌, ◌<�
 use Rattle.wasm_syntax.specs.declared.modules.Module.{Module}
 use Rattle.wasm_syntax.specs.Index.{imported_funcs}
 use Rattle.host_script.specs.declared.scripts.Script.{Script}
-use Rattle.trace_model.specs.declared.outcomes.Outcome.TheVariants.{Trapped as ByTrap}
+use Rattle.run_outcomes.specs.declared.outcomes.Outcome.TheVariants.{Trapped as ByTrap}
 use Rattle.history_spec.specs.declared.entries.Entry.{Entry}
 use Rattle.history_spec.specs.Budget.{IsSpent}
 use Rattle.history_spec.specs.Configuration.{Config, InModule}
@@ -21,7 +21,7 @@ use Rattle.wasm_interp.specs.declared.machine.Pause.{Pause}
 use Rattle.wasm_interp.specs.declared.machine.Pause.TheVariants as pause
 use Rattle.wasm_interp.specs.Advance.{Advances, EndsBy, flat_meter, without_entries}
 use Rattle.wasm_interp.specs.State.{State}
-use Rattle.wasm_interp.specs.Calls.{Advanced, AdvancesRun, AreOwnUpTo, ComesToImport, EndsRun, config_of}
+use Rattle.wasm_interp.specs.Calls.{RunPart, AdvancesRun, AreOwnUpTo, ComesToImport, EndsRun, config_of}
 use Rattle.host_play.specs.declared.play_state.Host.{Host}
 use Rattle.host_play.specs.declared.play_state.PlayState.{PlayState}
 use Rattle.host_play.specs.declared.play_state.Refusal.{Refusal}
@@ -88,7 +88,7 @@ module _ (m : Module) (script : Script) (s : StepResult) (playing : PlayState) (
   abbrev pub after : PlayState
   after = record playing { machine = new }
 
-  a : Advanced m standing.heights (program_of m script) all_one (outside_of standing.goes_on.below) standing.counts (after_settling playing.machine.store standing.counts (settle (InModule standing.goes_on.frame ∷ standing.goes_on.below))) left end now new
+  a : RunPart m standing.heights (program_of m script) all_one (outside_of standing.goes_on.below) standing.counts (after_settling playing.machine.store standing.counts (settle (InModule standing.goes_on.frame ∷ standing.goes_on.below))) left end now new
   a = run m standing.heights (program_of m script) standing.counts standing.goes_on.frame standing.goes_on.below standing.is_run standing.goes_on.stack.machine
 
   ends_as : (e : Pause) → end ≡ e → EndsRun m standing.heights (program_of m script) all_one (outside_of standing.goes_on.below) standing.counts e now a.entries new a.last

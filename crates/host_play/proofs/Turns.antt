@@ -3,7 +3,7 @@ use Rattle.std.proofs.Common.{◌≡◌, ℕ, ◌<◌, ◌∷◌, length, Option
 use Rattle.std.specs.Prelude.{Result, Ok, Err}
 use Rattle.wasm_syntax.specs.declared.modules.Module.{Module}
 use Rattle.host_script.specs.declared.scripts.Script.{Script}
-use Rattle.trace_model.specs.declared.outcomes.Outcome.TheVariants.{Trapped as ByTrap}
+use Rattle.run_outcomes.specs.declared.outcomes.Outcome.TheVariants.{Trapped as ByTrap}
 use Rattle.history_spec.specs.Configuration.{Config, InModule}
 use Rattle.history_spec.specs.Step.{StepResult, step}
 use Rattle.history_spec.specs.Run.{program_of}

@@ -1,7 +1,7 @@
 -- What the host did: the entry that a history has of it, and where control stands after it.
 use Rattle.std.specs.Prelude.{List, [], ◌∷◌, Result, Ok, Err}
 use Rattle.std.specs.Option.{option_to_list}
-use Rattle.trace_model.specs.declared.outcomes.Outcome.TheVariants.{Ended, HostTrapped}
+use Rattle.run_outcomes.specs.declared.outcomes.Outcome.TheVariants.{Ended, HostTrapped}
 use Rattle.history_spec.specs.declared.entries.Entry.{Entry}
 use Rattle.history_spec.specs.declared.entries.Entry.TheVariants.{HostCall, HostTrap, ImportReturn}
 use Rattle.host_play.specs.declared.host_steps.HostStep.{HostStep}

@@ -3,7 +3,7 @@ use Rattle.std.proofs.Common.{◌≡◌, ℕ, ◌+◌, ◌-◌, ◌<◌, ◌≤�
 use Rattle.std.proofs.lemmas.List.{drop-drop, take-append-drop}
 use Rattle.std.proofs.Math.Seq.{take-append_seam, take-length}
 use Rattle.std.proofs.lemmas.Option.{none-some, some_pair_parts}
-use Rattle.std.specs.Prelude.{Result, Ok}
+use Rattle.std.specs.Prelude.{Result, Ok, Err}
 use Rattle.leb_bytes.specs.Encoding.{IsReadBy}
 use Rattle.leb_bytes.specs.Place.{IsEncodedAt}
 
@@ -81,6 +81,21 @@ read_there Encodes first reads some e bytes at taken x inside within is =
       only = λ other y. same_at Encodes first reads bytes at e (at + taken) other x y p.0 p.1;
     }
 
-pub none_there : {A : Type 0} (first : List ℕ → Option (A × List ℕ)) (bytes : List ℕ) (at : ℕ)
-    → first (take (length bytes - at) (drop at bytes)) ≡ None → first (drop at bytes) ≡ None
-none_there first bytes at is = ap first (sym (behind bytes at)) ∙ is
+-- Nothing is read at a place: all that the calls say of it.
+pub record IsUnreadAt {A E : Type 0} (Encodes : List ℕ → A → Type 0) (first : List ℕ → Option (A × List ℕ)) (bad : E)
+    (bytes : List ℕ) (at : ℕ) : Type 0 where
+  pub front : first (drop at bytes) ≡ None
+  pub none : (next : ℕ) (x : A) → IsEncodedAt Encodes bytes at next x → ⊥
+  pub only : (next : ℕ) (x : A) → IsEncodedAt Encodes bytes at next x
+      → ◌≡◌ {A = Result (A × ℕ) E} (Err bad) (Ok (x, next))
+
+pub none_there : {A E : Type 0} (Encodes : List ℕ → A → Type 0) (first : List ℕ → Option (A × List ℕ)) (bad : E)
+    → IsReadBy Encodes first → (bytes : List ℕ) (at : ℕ)
+    → first (take (length bytes - at) (drop at bytes)) ≡ None → IsUnreadAt Encodes first bad bytes at
+none_there Encodes first bad reads bytes at is =
+    let none = ap first (sym (behind bytes at)) ∙ is in
+    record {
+      front = none;
+      none = λ next x. none_at Encodes first reads bytes at next x none;
+      only = λ next x h. absurd (none_at Encodes first reads bytes at next x none h);
+    }

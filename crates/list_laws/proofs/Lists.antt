@@ -1,7 +1,8 @@
 -- Items of lists at a place, of lists joined, and tests and properties of all items.
-use Rattle.std.proofs.Common.{◌≡◌, ℕ, suc, zero, ◌+◌, ◌-◌, ◌<◌, ◌≤◌, List, [], ◌∷◌, ◌++◌, length, Option, Some, None, Bool, true, slice_get, refl, sym, ap, ◌∙◌, subst, arith}
-use Rattle.std.specs.Prelude.{drop, map}
+use Rattle.std.proofs.Common.{◌≡◌, ℕ, suc, zero, ◌+◌, ◌-◌, ◌<◌, ◌≤◌, List, [], ◌∷◌, ◌++◌, length, Option, Some, None, Bool, true, slice_get, take, refl, sym, ap, ◌∙◌, subst, arith}
+use Rattle.std.specs.Prelude.{drop, map, reverse, slice_set}
 use Rattle.std.specs.List.{All, AllByRecursion, list_all, slice_index_or}
+use Rattle.std.proofs.lemmas.List.{drop_all, reverse-append, set_split, take_all, take_more}
 use Rattle.std.proofs.lemmas.Option.{get_or_from_slice_get, slice_get_within}
 use Rattle.std.proofs.lemmas.List.Elements.{All-get_or, All-head, All-tail}
 use Rattle.list_laws.proofs.Booleans.{and_parts}
@@ -54,6 +55,21 @@ get_after_by (x ∷ xs) ys (suc i) j e = get_after_by xs ys i j (omega (arith, e
 pub nil_parts : {X : Type 0} (xs ys : List X) → xs ++ ys ≡ [] → (xs ≡ []) × (ys ≡ [])
 nil_parts [] ys h = (refl, h)
 nil_parts (x ∷ xs) ys h = cc
+
+-- ---- the last item, which stands first in the reverse
+
+pub last_set : {X : Type 0} (xs : List X) (n : ℕ) (y : X) → n + 1 ≡ length xs
+    → reverse (slice_set xs n y) ≡ y ∷ reverse (take n xs)
+last_set xs n y is =
+    ap reverse (set_split xs n y (omega arith))
+    ∙ ap (λ rest. reverse (take n xs ++ y ∷ rest)) (drop_all (suc n) xs (omega arith))
+    ∙ reverse-append (take n xs) (y ∷ [])
+
+pub last_is : {X : Type 0} (xs : List X) (n : ℕ) (d : X) → n + 1 ≡ length xs
+    → reverse xs ≡ slice_index_or xs n d ∷ reverse (take n xs)
+last_is xs n d is =
+    ap reverse (sym (take_all (n + 1) xs (omega arith)) ∙ take_more xs n d (omega arith))
+    ∙ reverse-append (take n xs) (slice_index_or xs n d ∷ [])
 
 -- ---- what holds of all items
 

@@ -11,7 +11,7 @@ use Rattle.wasm_syntax.specs.Encoding.Shortest.{encoding_of}
 use Rattle.wasm_syntax.specs.Index.{imported_funcs}
 use Rattle.wasm_syntax.specs.Validity.{IsValid}
 use Rattle.host_script.specs.declared.scripts.Script.{Script}
-use Rattle.trace_model.specs.declared.outcomes.Outcome.{Outcome}
+use Rattle.run_outcomes.specs.declared.outcomes.Outcome.{Outcome}
 use Rattle.history_spec.specs.declared.entries.Entry.{Entry}
 use Rattle.history_spec.specs.Step.{Finished, StepResult}
 use Rattle.history_spec.specs.Run.{all_one, run_start, program_of, run_from}

@@ -4,7 +4,7 @@ use Rattle.wasm_syntax.specs.declared.forms.Form.TheVariants.{Replay as ReplayFo
 use Rattle.wasm_syntax.specs.declared.modules.Module.{Module}
 use Rattle.wasm_syntax.specs.Encoding.Modules.{Encodes}
 use Rattle.wasm_syntax.specs.Validity.{IsValid}
-use Rattle.trace_model.specs.declared.outcomes.Outcome.{Outcome}
+use Rattle.run_outcomes.specs.declared.outcomes.Outcome.{Outcome}
 use Rattle.history_spec.specs.declared.entries.Entry.{Entry}
 use Rattle.history_spec.specs.Replay.{Replays}
 use Rattle.plain_replay.specs.ReplayModule.{layout_of, entry_of}

@@ -1,22 +1,21 @@
 -- Replays of two small modules, which the checker computes.
-use Rattle.std.proofs.Common.{◌≡◌, ℕ, zero, suc, ◌^◌, ◌<◌, ◌≤◌, List, [], ◌∷◌, length, map, slice_get, Option, Some, None, Result, Ok, Err, false, IfSome, codes, refl, ap, arith, option_map, nat_eq}
+use Rattle.std.proofs.Common.{◌≡◌, ℕ, zero, suc, ◌^◌, ◌<◌, ◌≤◌, List, [], ◌∷◌, length, map, slice_get, Option, Some, None, Result, Ok, Err, false, IfSome, refl, ap, arith, option_map, nat_eq}
 use Rattle.std.proofs.lemmas.Bool.Decides.{nat_tests}
 use Rattle.std.proofs.lemmas.List.Elements.{All-from_recursion}
 use Rattle.std.proofs.lemmas.Option.{none-some, same_Some}
 use Rattle.wasm_syntax.specs.declared.values.ValType.TheVariants.{I32}
 use Rattle.wasm_syntax.specs.declared.values.Val.{Val}
-use Rattle.wasm_opcodes.specs.declared.TheConstants.{I32_ADD, I32_EQZ, I32_SUB}
+use Rattle.wasm_opcodes.specs.declared.TheConstants.{I32_EQZ, I32_SUB}
 use Rattle.wasm_syntax.specs.declared.instructions.Instr.TheVariants.{Unreachable, Loop, If, End, BrIf, Call as CallFunc, LocalGet, LocalSet, LocalTee, Const, Numeric}
 use Rattle.wasm_syntax.specs.declared.modules.Module.{Module}
 use Rattle.wasm_syntax.specs.declared.modules.Import.{Import}
 use Rattle.wasm_syntax.specs.declared.modules.Export.{Export}
-use Rattle.wasm_syntax.specs.declared.modules.ImportKind.TheVariants.{Func}
-use Rattle.wasm_syntax.specs.declared.modules.ExportKind.TheVariants.{Func as ExportFunc}
+use Rattle.wasm_syntax.proofs.ModuleExamples.{two_answers}
 use Rattle.host_script.specs.declared.scripts.Script.{Script}
 use Rattle.host_script.specs.declared.scripts.Answer.{Answer}
 use Rattle.host_script.specs.declared.scripts.LinkFault.{LinkFault}
-use Rattle.trace_model.specs.declared.outcomes.Outcome.{Outcome}
-use Rattle.trace_model.specs.declared.outcomes.Outcome.TheVariants.{Ended, Trapped, HostTrapped}
+use Rattle.run_outcomes.specs.declared.outcomes.Outcome.{Outcome}
+use Rattle.run_outcomes.specs.declared.outcomes.Outcome.TheVariants.{Ended, Trapped, HostTrapped}
 use Rattle.history_spec.specs.declared.entries.Entry.{Entry}
 use Rattle.history_spec.specs.declared.entries.Entry.TheVariants.{HostCall, HostReturn, ImportCall, ImportReturn, Step, Trap}
 use Rattle.history_spec.specs.declared.entries.TrapKind.TheVariants.{Unreachable as ByUnreachable}
@@ -61,25 +60,6 @@ plain_script table calls =
 
 -- ---- two answers are added
 
-abbrev one_import : Import
-one_import = record { «module» = codes "h"; name = codes "f"; kind = Func 0 }
-
-abbrev two_answers : Module
-two_answers =
-    record {
-      types = record { params = []; results = I32 ∷ [] } ∷ [];
-      imports = one_import ∷ [];
-      funcs = record { ty = 0; locals = []; body = CallFunc 0 ∷ CallFunc 0 ∷ Numeric I32_ADD ∷ End ∷ [] } ∷ [];
-      tables = [];
-      memories = [];
-      globals = [];
-      exports = record { name = codes "g"; kind = ExportFunc 1 } ∷ [];
-      start = None;
-      elems = [];
-      datas = [];
-      customs = [];
-    }
-
 abbrev five_seven : List (List Val)
 five_seven = (i32_value 5 ∷ i32_value 7 ∷ []) ∷ []
 
@@ -98,23 +78,14 @@ two_answers_again = refl
 
 abbrev three_calls : Module
 three_calls =
-    record {
+    record two_answers {
       types = record { params = []; results = I32 ∷ [] } ∷ record { params = []; results = [] } ∷ [];
-      imports = one_import ∷ [];
       funcs = record {
         ty = 1;
         locals = record { count = 1; ty = I32 } ∷ [];
         body = Const (i32_value 3) ∷ LocalSet 0 ∷ Loop None ∷ CallFunc 0 ∷ Numeric I32_EQZ ∷ If None ∷ Unreachable ∷ End
             ∷ LocalGet 0 ∷ Const (i32_value 1) ∷ Numeric I32_SUB ∷ LocalTee 0 ∷ BrIf 0 ∷ End ∷ End ∷ [];
       } ∷ [];
-      tables = [];
-      memories = [];
-      globals = [];
-      exports = record { name = codes "g"; kind = ExportFunc 1 } ∷ [];
-      start = None;
-      elems = [];
-      datas = [];
-      customs = [];
     }
 
 -- answers to three calls, where the second is 0, and two calls by the host
@@ -152,7 +123,7 @@ three_calls_too_few = refl
 three_calls_code : IsIntegerCode three_calls
 three_calls_code =
     record {
-      imports = All-from_recursion (λ (i : Import). IsAnswered three_calls i.kind) (one_import ∷ []) (record { ty = 0; is_func = refl; has_type = refl }, tt);
+      imports = All-from_recursion (λ (i : Import). IsAnswered three_calls i.kind) two_answers.imports (record { ty = 0; is_func = refl; has_type = refl }, tt);
       exports = All-from_recursion (λ (e : Export). IsDefined three_calls e.kind) three_calls.exports (record { func = 1; is_func = refl; defined = omega arith }, tt);
       tables = refl;
       memories = refl;

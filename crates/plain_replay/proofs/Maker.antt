@@ -14,7 +14,7 @@ use Rattle.wasm_syntax.specs.Index.{func_type}
 use Rattle.host_script.specs.declared.scripts.Action.{Action}
 use Rattle.host_script.specs.declared.scripts.Response.{Response}
 use Rattle.host_script.specs.declared.scripts.ResponseEnd.TheVariants.{Return}
-use Rattle.trace_model.specs.declared.outcomes.Outcome.TheVariants.{Ended}
+use Rattle.run_outcomes.specs.declared.outcomes.Outcome.TheVariants.{Ended}
 use Rattle.history_spec.specs.declared.entries.Entry.TheVariants.{HostReturn, Exit}
 use Rattle.history_spec.specs.Store.{Store, with_global}
 use Rattle.history_spec.specs.Code.{Definition, signature, definition, i32_value}

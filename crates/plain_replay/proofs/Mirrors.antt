@@ -8,7 +8,7 @@ use Rattle.host_script.specs.declared.scripts.Action.TheVariants.{Call}
 use Rattle.host_script.specs.declared.scripts.Response.{Response}
 use Rattle.host_script.specs.declared.scripts.ResponseEnd.{ResponseEnd}
 use Rattle.host_script.specs.declared.scripts.ResponseEnd.TheVariants.{Return, Trap as Traps}
-use Rattle.trace_model.specs.declared.outcomes.Outcome.TheVariants.{Ended, HostTrapped}
+use Rattle.run_outcomes.specs.declared.outcomes.Outcome.TheVariants.{Ended, HostTrapped}
 use Rattle.history_spec.specs.declared.entries.Entry.TheVariants.{Enter, Exit, HostTrap}
 use Rattle.history_spec.specs.Store.{Store}
 use Rattle.history_spec.specs.Code.{Definition, signature, definition}

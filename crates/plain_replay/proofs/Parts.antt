@@ -8,8 +8,8 @@ use Rattle.wasm_syntax.specs.declared.signatures.FuncType.{FuncType}
 use Rattle.host_script.specs.declared.scripts.Answer.{Answer}
 use Rattle.host_script.specs.declared.scripts.Response.{Response}
 use Rattle.host_script.specs.declared.scripts.ResponseEnd.TheVariants.{Return}
-use Rattle.trace_model.specs.declared.outcomes.Outcome.{Outcome}
-use Rattle.trace_model.specs.declared.outcomes.Outcome.TheVariants.{Ended, Trapped}
+use Rattle.run_outcomes.specs.declared.outcomes.Outcome.{Outcome}
+use Rattle.run_outcomes.specs.declared.outcomes.Outcome.TheVariants.{Ended, Trapped}
 use Rattle.history_spec.specs.declared.entries.Entry.{Entry}
 use Rattle.history_spec.specs.declared.entries.Entry.TheVariants.{HostCall, ImportCall, ImportReturn, Enter, Step, Trap}
 use Rattle.history_spec.specs.declared.entries.FaultKind.{FaultKind}

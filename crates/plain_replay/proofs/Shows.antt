@@ -1,8 +1,8 @@
 -- What is left of a run of a replay module, and what it shows; beside what is left of the original run.
 use Rattle.std.proofs.Common.{◌≡◌, ℕ, zero, suc, List, [], ◌∷◌, ◌++◌, Option, Bool, true, false, refl, sym, ap, ◌∙◌, subst, append-nil}
 use Rattle.wasm_syntax.specs.declared.values.Val.{Val}
-use Rattle.trace_model.specs.declared.outcomes.Outcome.{Outcome}
-use Rattle.trace_model.specs.declared.outcomes.Outcome.TheVariants.{Ended, Trapped}
+use Rattle.run_outcomes.specs.declared.outcomes.Outcome.{Outcome}
+use Rattle.run_outcomes.specs.declared.outcomes.Outcome.TheVariants.{Ended, Trapped}
 use Rattle.history_spec.specs.declared.entries.Entry.{Entry}
 use Rattle.history_spec.specs.declared.entries.Entry.TheVariants.{Trap}
 use Rattle.history_spec.specs.declared.entries.FaultKind.{FaultKind}

@@ -9,7 +9,7 @@ use Rattle.host_script.specs.declared.scripts.Action.TheVariants.{Write, Copy, S
 use Rattle.host_script.specs.declared.scripts.Response.{Response}
 use Rattle.host_script.specs.declared.scripts.ResponseEnd.{ResponseEnd}
 use Rattle.host_script.specs.declared.scripts.ResponseEnd.TheVariants.{Return, Trap as Traps}
-use Rattle.trace_model.specs.declared.outcomes.Outcome.TheVariants.{Ended, Trapped, HostTrapped}
+use Rattle.run_outcomes.specs.declared.outcomes.Outcome.TheVariants.{Ended, Trapped, HostTrapped}
 use Rattle.history_spec.specs.declared.entries.Entry.{Entry}
 use Rattle.history_spec.specs.declared.entries.Entry.TheVariants.{HostCall, HostReturn, ImportCall, ImportReturn, Enter, Exit, Step, Trap, HostTrap}
 use Rattle.history_spec.specs.Store.{Store}
@@ -101,29 +101,29 @@ module _ (layout : Layout) (original replay : Program) (globals : ℕ) (Counters
     return_sim k func count results (InMain actions ∷ below) below' s t is mirrors r args =
         let hosted = mirrors.0 in let outside = player.outside (InMain actions) count hosted.frames hosted.waits in
         return_out k func results below' outside.frame (outside.others ++ hosted.rest) s t (hosted.is ∙ ap (λ frames. frames ++ hosted.rest) outside.is) outside.outside is r args
-    return_sim k func count results (InImport import end_results actions end ∷ below) below' s t is mirrors r args =
-        let hosted = mirrors.0 in let outside = player.outside (InImport import end_results actions end) count hosted.frames hosted.waits in
+    return_sim k func count results (InImport import arguments actions end ∷ below) below' s t is mirrors r args =
+        let hosted = mirrors.0 in let outside = player.outside (InImport import arguments actions end) count hosted.frames hosted.waits in
         return_out k func results below' outside.frame (outside.others ++ hosted.rest) s t (hosted.is ∙ ap (λ frames. frames ++ hosted.rest) outside.is) outside.outside is r args
 
     -- ---- control comes to a function of the original
 
-    enter_sim : (k : ℕ) → Delivers k → (func : ℕ) (entry : Entry) (inside : List ℕ) (args args' : List Val) (end_results : List Val) (stack stack' : List Activation) (store : Store) (counts : List ℕ) (own : List Val)
+    enter_sim : (k : ℕ) → Delivers k → (func : ℕ) (entry : Entry) (inside : List ℕ) (args args' : List Val) (arguments : List Val) (stack stack' : List Activation) (store : Store) (counts : List ℕ) (own : List Val)
         → (side layout func ≡ Original → (rest : List Entry) → shown_entries layout inside args (Enter func ∷ rest) ≡ entry ∷ shown_entries layout (func ∷ funcs stack') args' rest)
         → ((ty : FuncType) → signature original.code func ≡ Some ty → Mirrors layout original replay globals Counters Waits (length ty.results) stack stack')
         → Counters counts own → length store.globals ≡ globals
-        → At layout replay original k inside args (after_entries (entry ∷ []) (enter_function original.code store counts func end_results stack)) (after_entries (Enter func ∷ []) (enter_function replay.code (beside own store) [] func end_results stack'))
-    enter_sim k delivers func entry inside args args' end_results stack stack' store counts own shows mirrors counters known =
+        → At layout replay original k inside args (after_entries (entry ∷ []) (enter_function original.code store counts func arguments stack)) (after_entries (Enter func ∷ []) (enter_function replay.code (beside own store) [] func arguments stack'))
+    enter_sim k delivers func entry inside args args' arguments stack stack' store counts own shows mirrors counters known =
         go (signature original.code func) refl (definition original.code func) refl
       where
         go : (ty : Option FuncType) → signature original.code func ≡ ty → (d : Option Definition) → definition original.code func ≡ d
-            → At layout replay original k inside args (after_entries (entry ∷ []) (enter_defined ty d store counts func end_results stack)) (after_entries (Enter func ∷ []) (enter_function replay.code (beside own store) [] func end_results stack'))
+            → At layout replay original k inside args (after_entries (entry ∷ []) (enter_defined ty d store counts func arguments stack)) (after_entries (Enter func ∷ []) (enter_function replay.code (beside own store) [] func arguments stack'))
         go None e d f = at_stuck layout replay original k inside args (entry ∷ []) _
         go (Some ty) e None f = at_stuck layout replay original k inside args (entry ∷ []) _
         go (Some ty) e (Some d) f =
             let is = agrees.defined func d f in
-            let frame = frame_of func ty d end_results in
-            subst (λ ty'. At layout replay original k inside args (after_entries (entry ∷ []) (enter_defined (Some ty) (Some d) store counts func end_results stack)) (after_entries (Enter func ∷ []) (enter_defined ty' (definition replay.code func) (beside own store) [] func end_results stack'))) (sym (agrees.shares.signatures func ty e))
-            (subst (λ d'. At layout replay original k inside args (after_entries (entry ∷ []) (enter_defined (Some ty) (Some d) store counts func end_results stack)) (after_entries (Enter func ∷ []) (enter_defined (Some ty) d' (beside own store) [] func end_results stack'))) (sym (agrees.definitions func d f))
+            let frame = frame_of func ty d arguments in
+            subst (λ ty'. At layout replay original k inside args (after_entries (entry ∷ []) (enter_defined (Some ty) (Some d) store counts func arguments stack)) (after_entries (Enter func ∷ []) (enter_defined ty' (definition replay.code func) (beside own store) [] func arguments stack'))) (sym (agrees.shares.signatures func ty e))
+            (subst (λ d'. At layout replay original k inside args (after_entries (entry ∷ []) (enter_defined (Some ty) (Some d) store counts func arguments stack)) (after_entries (Enter func ∷ []) (enter_defined (Some ty) d' (beside own store) [] func arguments stack'))) (sym (agrees.definitions func d f))
             (at_entry layout replay original k inside (func ∷ funcs stack') args args' entry (Enter func)
             (after_settling store counts (deliver (InModule frame ∷ stack) [])) (after_settling (beside own store) [] (deliver (InModule frame ∷ stack') []))
             (shows is) refl
@@ -132,24 +132,24 @@ module _ (layout : Layout) (original replay : Program) (globals : ℕ) (Counters
     -- ---- the host
 
     act_sim : (k : ℕ) → Delivers k → ActsOn k
-    act_sim k delivers host (Call func end_results) given' stack below rest t inside store counts acts mirrors known args =
+    act_sim k delivers host (Call func arguments) host_args stack below rest t inside store counts acts mirrors known args =
         let frames = acts.0 in let own = acts.1 in let outside = acts.3 in
-        at_leads layout replay original k inside (funcs (frames ++ rest)) args end_results
-        (after_action original (record { store = store; stack = stack; counts = counts }) (host ∷ below) (perform original.code store given' (Call func end_results))) t
-        (after_entries (Enter func ∷ []) (enter_function replay.code (beside own store) [] func end_results (frames ++ rest)))
+        at_leads layout replay original k inside (funcs (frames ++ rest)) args arguments
+        (after_action original (record { store = store; stack = stack; counts = counts }) (host ∷ below) (perform original.code store host_args (Call func arguments))) t
+        (after_entries (Enter func ∷ []) (enter_function replay.code (beside own store) [] func arguments (frames ++ rest)))
         (acts.5 args)
-        (enter_sim k delivers func (HostCall func end_results) (funcs (frames ++ rest)) end_results end_results end_results (host ∷ below) (frames ++ rest) store counts own
-        (λ is. subst (λ other. (after : List Entry) → shown_entries layout (funcs (other ++ rest)) end_results (Enter func ∷ after) ≡ HostCall func end_results ∷ shown_entries layout (func ∷ funcs (other ++ rest)) end_results after) (sym outside.is)
-        (λ after. ap (λ callee. shown_call (side layout outside.frame.func) callee func end_results ++ shown_entries layout (func ∷ outside.frame.func ∷ funcs (outside.others ++ rest)) end_results after) is
-        ∙ ap (λ first. first ++ shown_entries layout (func ∷ outside.frame.func ∷ funcs (outside.others ++ rest)) end_results after) (call_from_outside (side layout outside.frame.func) func end_results outside.outside)))
+        (enter_sim k delivers func (HostCall func arguments) (funcs (frames ++ rest)) arguments arguments arguments (host ∷ below) (frames ++ rest) store counts own
+        (λ is. subst (λ other. (after : List Entry) → shown_entries layout (funcs (other ++ rest)) arguments (Enter func ∷ after) ≡ HostCall func arguments ∷ shown_entries layout (func ∷ funcs (other ++ rest)) arguments after) (sym outside.is)
+        (λ after. ap (λ callee. shown_call (side layout outside.frame.func) callee func arguments ++ shown_entries layout (func ∷ outside.frame.func ∷ funcs (outside.others ++ rest)) arguments after) is
+        ∙ ap (λ first. first ++ shown_entries layout (func ∷ outside.frame.func ∷ funcs (outside.others ++ rest)) arguments after) (call_from_outside (side layout outside.frame.func) func arguments outside.outside)))
         (λ ty e. mirrors (length ty.results) frames (acts.4 ty e)) acts.2 known)
-    act_sim k delivers host (Write to bytes) given' stack below rest t inside store counts acts mirrors known args = absurd acts
-    act_sim k delivers host (Copy to source count) given' stack below rest t inside store counts acts mirrors known args = absurd acts
-    act_sim k delivers host (SetTable index func) given' stack below rest t inside store counts acts mirrors known args = absurd acts
-    act_sim k delivers host (SetGlobal global value) given' stack below rest t inside store counts acts mirrors known args = absurd acts
-    act_sim k delivers host (Grow by) given' stack below rest t inside store counts acts mirrors known args = absurd acts
-    act_sim k delivers host (GrowTable by) given' stack below rest t inside store counts acts mirrors known args = absurd acts
-    act_sim k delivers host (CallTable index args') given' stack below rest t inside store counts acts mirrors known args = absurd acts
+    act_sim k delivers host (Write to bytes) host_args stack below rest t inside store counts acts mirrors known args = absurd acts
+    act_sim k delivers host (Copy to source count) host_args stack below rest t inside store counts acts mirrors known args = absurd acts
+    act_sim k delivers host (SetTable index func) host_args stack below rest t inside store counts acts mirrors known args = absurd acts
+    act_sim k delivers host (SetGlobal global value) host_args stack below rest t inside store counts acts mirrors known args = absurd acts
+    act_sim k delivers host (Grow by) host_args stack below rest t inside store counts acts mirrors known args = absurd acts
+    act_sim k delivers host (GrowTable by) host_args stack below rest t inside store counts acts mirrors known args = absurd acts
+    act_sim k delivers host (CallTable index args') host_args stack below rest t inside store counts acts mirrors known args = absurd acts
 
     -- what stands below an activation of the host gets its results
     abbrev Returns_to : ℕ → Store → List ℕ → List Activation → List Activation → ℕ → Type 0
@@ -183,11 +183,11 @@ module _ (layout : Layout) (original replay : Program) (globals : ℕ) (Counters
         (λ count frames waits. (record { frames = frames; rest = rest; is = refl; waits = waits; under = under }, mirrors)) known args)
 
     -- the host goes on with its answer to a call
-    import_sim : (k : ℕ) → Earlier k → (import : ℕ) (end_results : List Val) (actions : List Action) (end : ResponseEnd) (below rest : List Activation) (results : List Val) (t : StepResult) (inside : List ℕ) (store : Store) (counts : List ℕ)
-        → Plays layout original replay globals Counters Waits counts store inside rest t (InImport import end_results actions end) → Under layout (InImport import end_results actions end) rest
+    import_sim : (k : ℕ) → Earlier k → (import : ℕ) (arguments : List Val) (actions : List Action) (end : ResponseEnd) (below rest : List Activation) (results : List Val) (t : StepResult) (inside : List ℕ) (store : Store) (counts : List ℕ)
+        → Plays layout original replay globals Counters Waits counts store inside rest t (InImport import arguments actions end) → Under layout (InImport import arguments actions end) rest
         → Mirrors layout original replay globals Counters Waits (results_of end) below rest → Returns_to k store counts below rest (results_of end) → length store.globals ≡ globals
-        → Sim layout replay original k inside (after_settling store counts (deliver (InImport import end_results actions end ∷ below) results)) t
-    import_sim k earlier import end_results [] (Return value) below rest results t inside store counts plays under mirrors returns known args =
+        → Sim layout replay original k inside (after_settling store counts (deliver (InImport import arguments actions end ∷ below) results)) t
+    import_sim k earlier import arguments [] (Return value) below rest results t inside store counts plays under mirrors returns known args =
         let leads = plays.2 args in
         let values = option_to_list value in
         let s = after_settling store counts (deliver below values) in
@@ -195,14 +195,14 @@ module _ (layout : Layout) (original replay : Program) (globals : ℕ) (Counters
         at_leads layout replay original k inside (import ∷ funcs rest) args leads.0 (after_entries (ImportReturn import values ∷ []) s) t (after_entries (Exit import values ∷ []) s') leads.1
         (at_entry layout replay original k (import ∷ funcs rest) (funcs rest) leads.0 leads.0 (ImportReturn import values) (Exit import values) s s'
         (import_returns import values leads.0 leads.0 rest under.0 under.1) refl (returns values plays.0 refl plays.1 leads.0))
-    import_sim k earlier import end_results [] Traps below rest results t inside store counts plays under mirrors returns known args =
+    import_sim k earlier import arguments [] Traps below rest results t inside store counts plays under mirrors returns known args =
         at_finished layout replay original k inside args (HostTrap ∷ []) HostTrapped t (plays args)
-    import_sim zero earlier import end_results (action ∷ actions) end below rest results t inside store counts plays under mirrors returns known args =
+    import_sim zero earlier import arguments (action ∷ actions) end below rest results t inside store counts plays under mirrors returns known args =
         at_zero layout replay original inside args _ t
-    import_sim (suc k) earlier import end_results (action ∷ actions) end below rest results t inside store counts plays under mirrors returns known args =
-        let stack = InImport import end_results (action ∷ actions) end ∷ below in
+    import_sim (suc k) earlier import arguments (action ∷ actions) end below rest results t inside store counts plays under mirrors returns known args =
+        let stack = InImport import arguments (action ∷ actions) end ∷ below in
         at_step layout replay original k inside args (record { store = store; stack = stack; counts = counts }) t
-        (earlier k refl (InImport import end_results actions end) action end_results stack below rest t inside store counts plays
+        (earlier k refl (InImport import arguments actions end) action arguments stack below rest t inside store counts plays
         (λ count frames waits. (record { frames = frames; rest = rest; is = refl; waits = waits; under = under }, mirrors)) known args)
 
     -- ---- results come to a stack
@@ -227,40 +227,40 @@ module _ (layout : Layout) (original replay : Program) (globals : ℕ) (Counters
         subst (λ other. At layout replay original k (funcs other) args (after_settling store counts (deliver (InMain actions ∷ below) results)) (after_settling (beside own store) [] (deliver other results))) (sym hosted.is)
         (main_sim k earlier actions below hosted.rest results (after_settling (beside own store) [] (deliver (hosted.frames ++ hosted.rest) results)) (funcs (hosted.frames ++ hosted.rest)) store counts
         (player.resumes (InMain actions) count hosted.frames hosted.rest results counts own store hosted.waits hosted.under number counters known) hosted.under mirrors.1 known args)
-    deliver_sim k earlier runs (InImport import end_results actions end ∷ below) stack' results count store counts own mirrors number counters known args =
+    deliver_sim k earlier runs (InImport import arguments actions end ∷ below) stack' results count store counts own mirrors number counters known args =
         let hosted = mirrors.0 in
-        subst (λ other. At layout replay original k (funcs other) args (after_settling store counts (deliver (InImport import end_results actions end ∷ below) results)) (after_settling (beside own store) [] (deliver other results))) (sym hosted.is)
-        (import_sim k earlier import end_results actions end below hosted.rest results (after_settling (beside own store) [] (deliver (hosted.frames ++ hosted.rest) results)) (funcs (hosted.frames ++ hosted.rest)) store counts
-        (player.resumes (InImport import end_results actions end) count hosted.frames hosted.rest results counts own store hosted.waits hosted.under number counters known) hosted.under mirrors.1
+        subst (λ other. At layout replay original k (funcs other) args (after_settling store counts (deliver (InImport import arguments actions end ∷ below) results)) (after_settling (beside own store) [] (deliver other results))) (sym hosted.is)
+        (import_sim k earlier import arguments actions end below hosted.rest results (after_settling (beside own store) [] (deliver (hosted.frames ++ hosted.rest) results)) (funcs (hosted.frames ++ hosted.rest)) store counts
+        (player.resumes (InImport import arguments actions end) count hosted.frames hosted.rest results counts own store hosted.waits hosted.under number counters known) hosted.under mirrors.1
         (λ values own' e c. deliver_sim k earlier runs below hosted.rest values (results_of end) store counts own' mirrors.1 e c known) known args)
 
     -- ---- an instruction
 
     -- the module calls a function
-    call_sim : (k : ℕ) → Delivers k → Earlier k → (waiting : Frame) (below below' : List Activation) (func : ℕ) (end_results : List Val) (store : Store) (counts : List ℕ) (own : List Val)
-        → side layout waiting.func ≡ Original → Mirrors layout original replay globals Counters Waits waiting.arity below below' → AreArguments original.code func end_results
+    call_sim : (k : ℕ) → Delivers k → Earlier k → (waiting : Frame) (below below' : List Activation) (func : ℕ) (arguments : List Val) (store : Store) (counts : List ℕ) (own : List Val)
+        → side layout waiting.func ≡ Original → Mirrors layout original replay globals Counters Waits waiting.arity below below' → AreArguments original.code func arguments
         → Counters counts own → length store.globals ≡ globals → (b : Bool) → nat_lt func original.code.imported ≡ b
-        → At layout replay original k (waiting.func ∷ funcs below') end_results (call_function original b store counts func end_results (InModule waiting ∷ below)) (call_function replay false (beside own store) [] func end_results (InModule waiting ∷ below'))
-    call_sim k delivers earlier waiting below below' func end_results store counts own is mirrors fit counters known true b =
+        → At layout replay original k (waiting.func ∷ funcs below') arguments (call_function original b store counts func arguments (InModule waiting ∷ below)) (call_function replay false (beside own store) [] func arguments (InModule waiting ∷ below'))
+    call_sim k delivers earlier waiting below below' func arguments store counts own is mirrors fit counters known true b =
         go (response_to original.answers func (slice_index counts func)) refl
       where
         go : (response : Option Response) → response_to original.answers func (slice_index counts func) ≡ response
-            → At layout replay original k (waiting.func ∷ funcs below') end_results (answer_call response store counts func end_results (InModule waiting ∷ below)) (after_entries (Enter func ∷ []) (enter_function replay.code (beside own store) [] func end_results (InModule waiting ∷ below')))
-        go None e = at_fault layout replay original k (waiting.func ∷ funcs below') end_results _ _
+            → At layout replay original k (waiting.func ∷ funcs below') arguments (answer_call response store counts func arguments (InModule waiting ∷ below)) (after_entries (Enter func ∷ []) (enter_function replay.code (beside own store) [] func arguments (InModule waiting ∷ below')))
+        go None e = at_fault layout replay original k (waiting.func ∷ funcs below') arguments _ _
         go (Some response) e =
             let counts' = slice_set counts func (slice_index counts func + 1) in
-            let host = InImport func end_results response.actions response.end in
-            at_entry layout replay original k (waiting.func ∷ funcs below') (func ∷ waiting.func ∷ funcs below') end_results end_results (ImportCall func end_results) (Enter func)
-            (after_settling store counts' (deliver (host ∷ InModule waiting ∷ below) [])) (enter_function replay.code (beside own store) [] func end_results (InModule waiting ∷ below'))
-            (λ rest. ap (λ caller. shown_call caller (side layout func) func end_results ++ shown_entries layout (func ∷ waiting.func ∷ funcs below') end_results rest) is
-            ∙ ap (λ callee. shown_call Original callee func end_results ++ shown_entries layout (func ∷ waiting.func ∷ funcs below') end_results rest) (agrees.imports func b)) refl
-            (import_sim k earlier func end_results response.actions response.end (InModule waiting ∷ below) (InModule waiting ∷ below') [] (enter_function replay.code (beside own store) [] func end_results (InModule waiting ∷ below')) (func ∷ waiting.func ∷ funcs below') store counts'
-            (player.answers func end_results response counts own store waiting below' b fit e counters known) (agrees.imports func b, is) (below', refl, is, mirrors)
-            (λ values own' e' c. delivers (InModule waiting ∷ below) (InModule waiting ∷ below') values (results_of response.end) store counts' own' (below', refl, is, mirrors) e' c known) known end_results)
-    call_sim k delivers earlier waiting below below' func end_results store counts own is mirrors fit counters known false b =
-        enter_sim k delivers func (Enter func) (waiting.func ∷ funcs below') end_results end_results end_results (InModule waiting ∷ below) (InModule waiting ∷ below') store counts own
-        (λ inner rest. ap (λ caller. shown_call caller (side layout func) func end_results ++ shown_entries layout (func ∷ waiting.func ∷ funcs below') end_results rest) is
-        ∙ ap (λ callee. shown_call Original callee func end_results ++ shown_entries layout (func ∷ waiting.func ∷ funcs below') end_results rest) inner)
+            let host = InImport func arguments response.actions response.end in
+            at_entry layout replay original k (waiting.func ∷ funcs below') (func ∷ waiting.func ∷ funcs below') arguments arguments (ImportCall func arguments) (Enter func)
+            (after_settling store counts' (deliver (host ∷ InModule waiting ∷ below) [])) (enter_function replay.code (beside own store) [] func arguments (InModule waiting ∷ below'))
+            (λ rest. ap (λ caller. shown_call caller (side layout func) func arguments ++ shown_entries layout (func ∷ waiting.func ∷ funcs below') arguments rest) is
+            ∙ ap (λ callee. shown_call Original callee func arguments ++ shown_entries layout (func ∷ waiting.func ∷ funcs below') arguments rest) (agrees.imports func b)) refl
+            (import_sim k earlier func arguments response.actions response.end (InModule waiting ∷ below) (InModule waiting ∷ below') [] (enter_function replay.code (beside own store) [] func arguments (InModule waiting ∷ below')) (func ∷ waiting.func ∷ funcs below') store counts'
+            (player.answers func arguments response counts own store waiting below' b fit e counters known) (agrees.imports func b, is) (below', refl, is, mirrors)
+            (λ values own' e' c. delivers (InModule waiting ∷ below) (InModule waiting ∷ below') values (results_of response.end) store counts' own' (below', refl, is, mirrors) e' c known) known arguments)
+    call_sim k delivers earlier waiting below below' func arguments store counts own is mirrors fit counters known false b =
+        enter_sim k delivers func (Enter func) (waiting.func ∷ funcs below') arguments arguments arguments (InModule waiting ∷ below) (InModule waiting ∷ below') store counts own
+        (λ inner rest. ap (λ caller. shown_call caller (side layout func) func arguments ++ shown_entries layout (func ∷ waiting.func ∷ funcs below') arguments rest) is
+        ∙ ap (λ callee. shown_call Original callee func arguments ++ shown_entries layout (func ∷ waiting.func ∷ funcs below') arguments rest) inner)
         (λ ty e. (below', refl, is, mirrors)) counters known
 
     nothing_imported : (func : ℕ) → nat_lt func replay.code.imported ≡ false
@@ -276,12 +276,12 @@ module _ (layout : Layout) (original replay : Program) (globals : ℕ) (Counters
         subst (λ f. At layout replay original k (f ∷ funcs below') (call_args operands found) (after_settling after counts (deliver (InModule next ∷ below) [])) (after_settling (beside own after) [] (deliver (InModule next ∷ below') []))) keeps.0
         (delivers (InModule next ∷ below) (InModule next ∷ below') [] 0 after counts own
         (below', refl, ap (side layout) keeps.0 ∙ is, subst (λ n. Mirrors layout original replay globals Counters Waits n below below') (sym keeps.1) mirrors) refl counters (keeps.2 ∙ known) (call_args operands found))
-    effect_sim k delivers earlier frame below below' operands found (Calls waiting func end_results) store counts own is mirrors keeps counters known =
-        let s = call_function original (nat_lt func original.code.imported) store counts func end_results (InModule waiting ∷ below) in
-        subst (λ b. At layout replay original k (frame.func ∷ funcs below') (call_args operands found) s (call_function replay b (beside own store) [] func end_results (InModule waiting ∷ below'))) (sym (nothing_imported func))
-        (subst (λ args. At layout replay original k (frame.func ∷ funcs below') args s (call_function replay false (beside own store) [] func end_results (InModule waiting ∷ below'))) keeps.2
-        (subst (λ f. At layout replay original k (f ∷ funcs below') end_results s (call_function replay false (beside own store) [] func end_results (InModule waiting ∷ below'))) keeps.0
-        (call_sim k delivers earlier waiting below below' func end_results store counts own (ap (side layout) keeps.0 ∙ is) (subst (λ n. Mirrors layout original replay globals Counters Waits n below below') (sym keeps.1) mirrors)
+    effect_sim k delivers earlier frame below below' operands found (Calls waiting func arguments) store counts own is mirrors keeps counters known =
+        let s = call_function original (nat_lt func original.code.imported) store counts func arguments (InModule waiting ∷ below) in
+        subst (λ b. At layout replay original k (frame.func ∷ funcs below') (call_args operands found) s (call_function replay b (beside own store) [] func arguments (InModule waiting ∷ below'))) (sym (nothing_imported func))
+        (subst (λ args. At layout replay original k (frame.func ∷ funcs below') args s (call_function replay false (beside own store) [] func arguments (InModule waiting ∷ below'))) keeps.2
+        (subst (λ f. At layout replay original k (f ∷ funcs below') arguments s (call_function replay false (beside own store) [] func arguments (InModule waiting ∷ below'))) keeps.0
+        (call_sim k delivers earlier waiting below below' func arguments store counts own (ap (side layout) keeps.0 ∙ is) (subst (λ n. Mirrors layout original replay globals Counters Waits n below below') (sym keeps.1) mirrors)
         keeps.3 counters known (nat_lt func original.code.imported) refl)))
     effect_sim k delivers earlier frame below below' operands found (Returns results) store counts own is mirrors keeps counters known =
         return_sim k frame.func frame.arity results below below' (after_settling store counts (deliver below results)) (after_settling (beside own store) [] (deliver below' results)) is mirrors

@@ -6,7 +6,7 @@ use Rattle.wasm_syntax.specs.declared.forms.Form.TheVariants.{Core}
 use Rattle.wasm_syntax.specs.Encoding.Modules.{Encodes}
 use Rattle.wasm_syntax.specs.Validity.{IsValid}
 use Rattle.host_script.specs.declared.scripts.Script.{Script}
-use Rattle.trace_model.specs.declared.outcomes.Outcome.{Outcome}
+use Rattle.run_outcomes.specs.declared.outcomes.Outcome.{Outcome}
 use Rattle.history_spec.specs.declared.entries.Entry.{Entry}
 use Rattle.history_spec.specs.Step.{StepResult, Finished}
 use Rattle.history_spec.specs.Run.{run_from, all_one, program_of, run_start}

@@ -5,12 +5,12 @@ use Rattle.std.specs.List.{AllByRecursion, cons_option}
 use Rattle.std.proofs.lemmas.Bool.{ltb-false, ltb-true}
 use Rattle.std.proofs.lemmas.List.Elements.{All-head, All-tail, All-weaker}
 use Rattle.list_laws.proofs.Lists.{nil_parts}
-use Rattle.wasm_syntax.specs.declared.limits.TheConstants.{MOST_ENTRIES, MOST_FILE_BYTES, MOST_LOCALS, MOST_LOCALS_HOOKED, MOST_PAGES, MOST_PARAMETERS}
+use Rattle.wasm_syntax.specs.declared.limits.TheConstants.{MOST_FILE_BYTES, MOST_LOCALS, MOST_LOCALS_HOOKED}
 use Rattle.wasm_syntax.specs.declared.signatures.FuncType.{FuncType}
-use Rattle.wasm_syntax.specs.declared.profile.Which.TheVariants.{Parameters, Table, Memory, Locals}
+use Rattle.wasm_syntax.specs.declared.profile.Which.TheVariants.{Locals}
 use Rattle.wasm_syntax.specs.declared.modules.Func.{Func}
 use Rattle.wasm_syntax.specs.declared.modules.Module.{Module}
-use Rattle.wasm_syntax.specs.Index.{all_memories, all_tables}
+use Rattle.wasm_syntax.proofs.Quantities.{parameters_past, tables_past, memories_past}
 use Rattle.wasm_syntax.specs.Profile.{Refusal, Limit, past, count_of_locals, refused_instructions, quantities_past, reserved_imports, IsAccepted, IsSupported}
 use Rattle.wasm_profile.specs.Sizes.{HasShortLists, IsShortFunc}
 use Rattle.wasm_flat.specs.Sizes.{IsShort}
@@ -80,22 +80,13 @@ module _ (m : Module) (accepted : IsAccepted false m) where
       accepted.none_refused in
       (nil_parts (refused_instructions m) (quantities_past false m) both.0, both.1)
 
-  abbrev parameters : List Refusal
-  parameters = filter_map (λ ty. past MOST_PARAMETERS Parameters (length ty.params)) m.types
-
-  abbrev tables : List Refusal
-  tables = filter_map (λ limits. past MOST_ENTRIES Table limits.min) (all_tables m)
-
-  abbrev memories : List Refusal
-  memories = filter_map (λ limits. past MOST_PAGES Memory limits.min) (all_memories m)
-
   abbrev locals : ℕ → List Refusal
   locals most = filter_map (λ f. past most Locals (count_of_locals f)) m.funcs
 
   quantities : quantities_past true m ≡ []
   quantities =
-      let few = nil_parts (parameters ++ tables ++ memories) (locals MOST_LOCALS) by_kind.0.1 in
-      nil_both (parameters ++ tables ++ memories) (locals MOST_LOCALS_HOOKED) few.0 (locals_within_more m.funcs few.1)
+      let few = nil_parts (parameters_past m ++ tables_past m ++ memories_past m) (locals MOST_LOCALS) by_kind.0.1 in
+      nil_both (parameters_past m ++ tables_past m ++ memories_past m) (locals MOST_LOCALS_HOOKED) few.0 (locals_within_more m.funcs few.1)
 
   -- no instruction is refused, and the quantities are within their limits
   pub supported_when_accepted : IsSupported m

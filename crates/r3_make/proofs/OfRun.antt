@@ -9,7 +9,7 @@ use Rattle.host_script.specs.declared.scripts.Script.{Script}
 use Rattle.host_script.specs.declared.scripts.Action.{Action}
 use Rattle.host_script.specs.Fits.{Fits, FitsImport}
 use Rattle.plain_replay.specs.Forms.{IsIntegerCode}
-use Rattle.trace_model.specs.declared.outcomes.Outcome.{Outcome}
+use Rattle.run_outcomes.specs.declared.outcomes.Outcome.{Outcome}
 use Rattle.history_spec.specs.Store.{Store}
 use Rattle.history_spec.specs.Step.{Program, StepResult, Finished, start}
 use Rattle.history_spec.specs.Run.{Run, all_one, run_start, program_of, run_from, start_in_store}

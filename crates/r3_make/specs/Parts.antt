@@ -7,7 +7,7 @@ use Rattle.host_script.specs.declared.scripts.ResponseEnd.TheVariants.{Return, T
 use Rattle.host_script.specs.declared.scripts.Response.{Response}
 use Rattle.host_script.specs.declared.scripts.Answer.{Answer}
 use Rattle.host_script.specs.declared.scripts.Script.{Script}
-use Rattle.trace_model.specs.declared.outcomes.Outcome.{Outcome}
+use Rattle.run_outcomes.specs.declared.outcomes.Outcome.{Outcome}
 use Rattle.history_spec.specs.Code.{i32_value}
 use Rattle.history_spec.specs.Run.{Run}
 use Rattle.host_play.specs.CallCounts.{all_calls}

@@ -2,7 +2,7 @@
 use Rattle.std.specs.Prelude.{◌≡◌, ℕ, ◌<◌, ◌≤◌, List, Ok}
 use Rattle.host_script.specs.declared.scripts.Script.{Script}
 use Rattle.wasm_syntax.specs.declared.modules.Module.{Module}
-use Rattle.trace_model.specs.declared.outcomes.Outcome.{Outcome}
+use Rattle.run_outcomes.specs.declared.outcomes.Outcome.{Outcome}
 use Rattle.history_spec.specs.Run.{Run, run_start}
 use Rattle.history_spec.specs.Step.{StepResult}
 use Rattle.host_play.specs.CallCounts.{all_calls}

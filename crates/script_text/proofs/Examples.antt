@@ -5,11 +5,8 @@ use Rattle.serde_json.proofs.OnLiterals.{serde_json_on_literals}
 use Rattle.hex.proofs.OnLiterals.{hex_on_literals}
 use Rattle.std.specs.Str.{is_utf8, chars}
 use Rattle.std.specs.Fmt.{digits}
-use Rattle.wasm_syntax.specs.declared.values.ValType.TheVariants.{I32}
-use Rattle.wasm_syntax.specs.declared.instructions.Instr.TheVariants.{End, Call, Numeric}
-use Rattle.wasm_syntax.specs.declared.modules.ImportKind.TheVariants.{Func}
 use Rattle.wasm_syntax.specs.declared.modules.ExportKind.TheVariants.{Func as ExportFunc, Table as ExportTable}
-use Rattle.wasm_syntax.specs.declared.modules.Module.{Module}
+use Rattle.wasm_syntax.proofs.ModuleExamples.{two_answers}
 use Rattle.host_script.specs.declared.scripts.Action.TheVariants.{GrowTable}
 use Rattle.script_text.specs.declared.faults.ScriptFault.{ScriptFault}
 use Rattle.script_text.specs.declared.faults.ScriptFault.TheVariants.{Shape, UnknownName, WrongType, NoAccess, CallsOwn, NotJson}
@@ -23,23 +20,7 @@ unfoldable script_on_literals : ⊤
 unfolding serde_json_on_literals hex_on_literals is_utf8 chars digits items_from value_of address_of fits_address memory_access table_access write_of copy_of func_named entry_named set_table_of target_of global_at fits_global set_global_of grow_of grow_table_of is_defined fits_params call_of call_table_of action_of fits_results trap_of return_of end_of response_of answer_of each_name script_of
 script_on_literals = tt
 
--- it calls the one import twice and adds the answers
-abbrev two_answers : Module
-two_answers =
-    record {
-      types = record { params = []; results = I32 ∷ [] } ∷ [];
-      imports = record { «module» = codes "h"; name = codes "f"; kind = Func 0 } ∷ [];
-      funcs = record { ty = 0; locals = []; body = Call 0 ∷ Call 0 ∷ Numeric 0x6a ∷ End ∷ [] } ∷ [];
-      tables = [];
-      memories = [];
-      globals = [];
-      exports = record { name = codes "g"; kind = ExportFunc 1 } ∷ [];
-      start = None;
-      elems = [];
-      datas = [];
-      customs = [];
-    }
-
+-- the fault of a script for a module that calls its one import twice and adds the answers
 abbrev fault_of_two_answers : List ℕ → ScriptFault → Type 0
 fault_of_two_answers text fault = script_of_text two_answers text ≡ Err fault
 

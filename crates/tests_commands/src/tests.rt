@@ -12,3 +12,4 @@ mod modules;
 mod replays;
 mod runs;
 mod scripts;
+mod tables;

@@ -23,6 +23,13 @@ pub(crate) struct Case {
     pub(crate) args: &'static [u64],
 }
 
+impl Case {
+    /// The same with another function and its arguments.
+    pub(crate) fn call(self, func: u32, args: &'static [u64]) -> Case {
+        Case { func, args, ..self }
+    }
+}
+
 /// Where a call comes to: where the machine pauses, how many turns it took, and the line of the last
 /// entry, where there are entries; the bytes of the memory.
 #[derive(Drop)]

@@ -365,11 +365,7 @@ pub(crate) fn first_other(
 ) -> Result<Option<&'static str>, Fail> {
     for &(table, rows) in tables {
         for &row in rows {
-            let case = Case {
-                func: row.0,
-                args: row.1,
-                ..table
-            };
+            let case = table.call(row.0, row.1);
             if !takes_its_turns(alloc, case, row)? {
                 return Ok(Some(row.4));
             }
@@ -387,11 +383,7 @@ fn calls_come_to_the_same_in_both_ways(rt: HostRuntime) -> Result<(), Fail> {
 /// A function that calls itself 100,000 times, one within the other, and returns as often.
 #[test]
 fn a_deep_recursion(rt: HostRuntime) -> Result<(), Fail> {
-    let case = Case {
-        func: 2,
-        args: &[100_000],
-        ..CONTROL
-    };
+    let case = CONTROL.call(2, &[100_000]);
     let row = (
         2,
         case.args,
@@ -406,11 +398,7 @@ fn a_deep_recursion(rt: HostRuntime) -> Result<(), Fail> {
 /// -2 in the last word of the memory.
 #[test]
 fn a_store_leaves_its_bytes(rt: HostRuntime) -> Result<(), Fail> {
-    let case = Case {
-        func: 1,
-        args: &[65_532],
-        ..ACCESS
-    };
+    let case = ACCESS.call(1, &[65_532]);
     let at_once = outcome_by_advance(rt.alloc(), case, 3)?;
     assert!(rt;
         at_once
@@ -425,11 +413,7 @@ fn a_store_leaves_its_bytes(rt: HostRuntime) -> Result<(), Fail> {
 #[test]
 fn a_spent_budget_can_be_added_to(rt: HostRuntime) -> Result<(), Fail> {
     let alloc = rt.alloc();
-    let case = Case {
-        func: 1,
-        args: &[1],
-        ..CONTROL
-    };
+    let case = CONTROL.call(1, &[1]);
     let meter = Meter::all_one();
     for first in 0..7u64 {
         let mut instance = running_instance(alloc, case)?;

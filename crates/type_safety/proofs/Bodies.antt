@@ -1,97 +1,15 @@
--- The tree of a body is read off its flat list; no instruction of it is refused where none of the list is.
-use Rattle.std.proofs.Common.{◌≡◌, ℕ, suc, zero, ◌+◌, List, [], ◌∷◌, ◌++◌, Option, Some, None, Bool, true, false, cond, option_map, slice_get, refl, sym, ap, ◌∙◌, subst}
-use Rattle.std.specs.Prelude.{IsTrue, filter, filter_map, flat_map}
+-- No instruction of a body's tree is refused where none of its list is.
+use Rattle.std.proofs.Common.{◌≡◌, ℕ, suc, zero, ◌+◌, List, [], ◌∷◌, ◌++◌, Option, Some, None, Bool, true, false, cond, option_map, slice_get, refl, sym, subst}
+use Rattle.std.specs.Prelude.{filter, filter_map, flat_map}
 use Rattle.std.specs.List.{enumerate_from, cons_option}
 use Rattle.std.proofs.lemmas.List.{append_assoc}
 use Rattle.list_laws.proofs.Lists.{nil_parts}
 use Rattle.wasm_syntax.specs.declared.instructions.Instr.{Instr}
-use Rattle.wasm_syntax.specs.declared.instructions.Instr.TheVariants.{Block, Loop, If, Else, End, Numeric}
+use Rattle.wasm_syntax.specs.declared.instructions.Instr.TheVariants.{Else, End, Numeric}
 use Rattle.wasm_syntax.specs.declared.modules.Func.{Func}
-use Rattle.wasm_syntax.specs.Nest.{Nest, Empty, Plain, InBlock, InLoop, InIf, InIfElse, is_plain, IsNest, flat, IsBody, Open, Outside, InEnd, InElse, Within, in_front, open_nest, closed_nest, nest_of}
+use Rattle.wasm_syntax.specs.Nest.{Nest, Empty, Plain, InBlock, InLoop, InIf, InIfElse, flat, IsBody}
 use Rattle.wasm_syntax.specs.Profile.{Unsupported, refused_feature, is_numbered, refused_in}
 use Rattle.type_safety.specs.Frames.{HasNoneRefused}
-
--- ---- reading
-
--- a sequence in front of another
-abbrev joined : Nest → Nest → Nest
-joined Empty more = more
-joined (Plain i rest) more = Plain i (joined rest more)
-joined (InBlock ty body rest) more = InBlock ty body (joined rest more)
-joined (InLoop ty body rest) more = InLoop ty body (joined rest more)
-joined (InIf ty body rest) more = InIf ty body (joined rest more)
-joined (InIfElse ty body other rest) more = InIfElse ty body other (joined rest more)
-
-joined-empty : (t : Nest) → joined t Empty ≡ t
-joined-empty Empty = refl
-joined-empty (Plain i rest) = ap (Plain i) (joined-empty rest)
-joined-empty (InBlock ty body rest) = ap (InBlock ty body) (joined-empty rest)
-joined-empty (InLoop ty body rest) = ap (InLoop ty body) (joined-empty rest)
-joined-empty (InIf ty body rest) = ap (InIf ty body) (joined-empty rest)
-joined-empty (InIfElse ty body other rest) = ap (InIfElse ty body other) (joined-empty rest)
-
-plain_in_front : (i : Instr) (first : Nest) (around : Open) → IsTrue (is_plain i)
-    → in_front i (Within first around) ≡ Within (Plain i first) around
-plain_in_front (Block ty) first around h = cc
-plain_in_front (Loop ty) first around h = cc
-plain_in_front (If ty) first around h = cc
-plain_in_front Else first around h = cc
-plain_in_front End first around h = cc
-plain_in_front i first around h = refl
-
--- what is read of a block's body and its end
-body_read : (t : Nest) (more : List Instr) (first : Nest) (around : Open)
-    → (open_nest (flat t ++ End ∷ more) ≡ Within (joined t Empty) (InEnd around first))
-    → open_nest (flat t ++ End ∷ more) ≡ Within t (InEnd around first)
-body_read t more first around is = is ∙ ap (λ u. Within u (InEnd around first)) (joined-empty t)
-
--- what is read of a tree in front of a list
-nest_read : (t : Nest) (more : List Instr) (first : Nest) (around : Open) → IsNest t
-    → open_nest more ≡ Within first around → open_nest (flat t ++ more) ≡ Within (joined t first) around
-nest_read Empty more first around nested is = is
-nest_read (Plain i rest) more first around nested is =
-    ap (in_front i) (nest_read rest more first around nested.1 is)
-    ∙ plain_in_front i (joined rest first) around nested.0
-nest_read (InBlock ty body rest) more first around nested is =
-    let rest_read = ap (in_front End) (nest_read rest more first around nested.1 is) in
-    let inner = body_read body (flat rest ++ more) (joined rest first) around
-    (nest_read body (End ∷ (flat rest ++ more)) Empty (InEnd around (joined rest first)) nested.0 rest_read) in
-    ap (λ l. in_front (Block ty) (open_nest l)) (append_assoc (flat body) (End ∷ flat rest) more)
-    ∙ ap (in_front (Block ty)) inner
-nest_read (InLoop ty body rest) more first around nested is =
-    let rest_read = ap (in_front End) (nest_read rest more first around nested.1 is) in
-    let inner = body_read body (flat rest ++ more) (joined rest first) around
-    (nest_read body (End ∷ (flat rest ++ more)) Empty (InEnd around (joined rest first)) nested.0 rest_read) in
-    ap (λ l. in_front (Loop ty) (open_nest l)) (append_assoc (flat body) (End ∷ flat rest) more)
-    ∙ ap (in_front (Loop ty)) inner
-nest_read (InIf ty body rest) more first around nested is =
-    let rest_read = ap (in_front End) (nest_read rest more first around nested.1 is) in
-    let inner = body_read body (flat rest ++ more) (joined rest first) around
-    (nest_read body (End ∷ (flat rest ++ more)) Empty (InEnd around (joined rest first)) nested.0 rest_read) in
-    ap (λ l. in_front (If ty) (open_nest l)) (append_assoc (flat body) (End ∷ flat rest) more)
-    ∙ ap (in_front (If ty)) inner
-nest_read (InIfElse ty body other rest) more first around nested is =
-    let rest_read = ap (in_front End) (nest_read rest more first around nested.2 is) in
-    let second =
-    body_read other (flat rest ++ more) (joined rest first) around
-    (nest_read other (End ∷ (flat rest ++ more)) Empty (InEnd around (joined rest first)) nested.1 rest_read) in
-    let parted = ap (in_front Else) second in
-    let inner = nest_read body (Else ∷ (flat other ++ End ∷ (flat rest ++ more))) Empty
-    (InElse around other (joined rest first)) nested.0 parted in
-    let whole' = inner ∙ ap (λ u. Within u (InElse around other (joined rest first))) (joined-empty body) in
-    ap (λ l. in_front (If ty) (open_nest l))
-    (append_assoc (flat body) (Else ∷ (flat other ++ End ∷ flat rest)) more
-    ∙ ap (λ l. flat body ++ Else ∷ l) (append_assoc (flat other) (End ∷ flat rest) more)) ∙ ap (in_front
-    (If ty)) whole'
-
--- the tree of a body is read off it
-pub body_nest : (t : Nest) (body : List Instr) → IsBody t body → nest_of body ≡ Some t
-body_nest t body is =
-    let read = nest_read t (End ∷ []) Empty (InEnd Outside Empty) is.nested refl in
-    subst (λ l. nest_of l ≡ Some t) is.written
-    (ap closed_nest (read ∙ ap (λ u. Within u (InEnd Outside Empty)) (joined-empty t)))
-
--- ---- refused instructions
 
 -- none of a list is refused
 abbrev NoneIn : List Instr → Type 0

@@ -44,14 +44,7 @@ gives_fine s store frame next labels given types below operands rest results fou
     labels = labels;
     given = given;
     types = reverse types ++ below;
-    around = record {
-      scope = around.scope;
-      func = around.func;
-      arity = around.arity;
-      locals = around.locals;
-      blocks =
-          around.blocks;
-    };
+    around = record { scope = around.scope; func = around.func; arity = around.arity; locals = around.locals; blocks = around.blocks };
     values = pushed_values (func_count s.m) types below results rest p q;
     code = code;
   },
@@ -175,14 +168,7 @@ calls_fine s frame next labels given below ty func operands rest args found arou
     labels = labels;
     given = given;
     types = below;
-    around = record {
-      scope = around.scope;
-      func = around.func;
-      arity = around.arity;
-      locals = around.locals;
-      blocks =
-          around.blocks;
-    };
+    around = record { scope = around.scope; func = around.func; arity = around.arity; locals = around.locals; blocks = around.blocks };
     values = p;
     code = code;
   },

@@ -33,7 +33,7 @@ use Rattle.type_safety.proofs.Values.{split_values, value_at, set_value, length_
 use Rattle.type_safety.proofs.Constants.{constant_value}
 use Rattle.type_safety.proofs.Numbers.{ResultsFit, IsNumber, number_fine, operands_reversed}
 use Rattle.type_safety.proofs.Tables.{table_there}
-use Rattle.type_safety.proofs.Effects.{mapped_leads, then_leads, cond_leads, ready}
+use Rattle.type_safety.proofs.InstrTypes.{mapped_leads, then_leads, cond_leads, ready}
 use Rattle.type_safety.specs.Results.{HasRule}
 use Rattle.type_safety.proofs.Fine.{on_fine, takes_fine, gives_fine, caller_fine, branch_fine, calls_fine}
 use Rattle.type_safety.proofs.TableAccesses.{table_set_fine, table_size_fine, table_grow_fine}

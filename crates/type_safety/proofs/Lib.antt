@@ -6,7 +6,7 @@ pub mod Fine
 pub mod Numbers
 pub mod Memories
 pub mod Tables
-pub mod Effects
+pub mod InstrTypes
 pub mod MemoryAccesses
 pub mod TableAccesses
 pub mod Instructions

@@ -22,7 +22,7 @@ use Rattle.type_safety.specs.Values.{count_of, AreValues}
 use Rattle.type_safety.specs.Stores.{func_count, IsStore}
 use Rattle.type_safety.specs.Frames.{Scope, context, IsCode, base_of, IsAround}
 use Rattle.type_safety.proofs.Memories.{MemoryThere, memory_there, bytes_at_fits, load_fits, load_is_narrow, bytes_of_fit, store_written, memory_grown}
-use Rattle.type_safety.proofs.Effects.{then_leads, cond_leads, ready}
+use Rattle.type_safety.proofs.InstrTypes.{then_leads, cond_leads, ready}
 use Rattle.type_safety.specs.Results.{HasRule}
 use Rattle.type_safety.proofs.Fine.{on_fine, takes_fine, gives_fine}
 

@@ -34,13 +34,8 @@ pub results_fit : ((op a : ℕ) → test_of op a ≤ 1)
     → n < 2 ^ width (result_of op))
     → ((op a : ℕ) → kind_of op ≡ Convert → a < 2 ^ width_of op → convert_of op a < 2 ^ width (result_of op))
     → ResultsFit
-results_fit test compare unary binary convert = record {
-  test = test;
-  compare = compare;
-  unary = unary;
-  binary = binary;
-  convert = convert;
-}
+results_fit test compare unary binary convert =
+    record { test = test; compare = compare; unary = unary; binary = binary; convert = convert }
 
 -- ---- the two tables agree
 

@@ -1,16 +1,17 @@
 -- The quantities of a supported module are within their limits.
-use Rattle.std.proofs.Common.{◌≡◌, ℕ, ◌≤◌, List, [], ◌∷◌, ◌++◌, length, Option, Some, None, Bool, true, false, cond, refl}
+use Rattle.std.proofs.Common.{◌≡◌, ℕ, ◌≤◌, List, [], ◌∷◌, ◌++◌, Option, Some, None, Bool, true, false, cond, refl}
 use Rattle.std.specs.Prelude.{All, filter_map, nat_lt}
 use Rattle.std.specs.List.{cons_option}
 use Rattle.std.proofs.lemmas.Bool.{ltb-false}
 use Rattle.std.proofs.lemmas.List.Elements.{All-nil, All-cons}
 use Rattle.list_laws.proofs.Lists.{nil_parts}
-use Rattle.wasm_syntax.specs.declared.limits.TheConstants.{MOST_ENTRIES, MOST_LOCALS_HOOKED, MOST_PAGES, MOST_PARAMETERS}
+use Rattle.wasm_syntax.specs.declared.limits.TheConstants.{MOST_ENTRIES, MOST_LOCALS_HOOKED, MOST_PAGES}
 use Rattle.wasm_syntax.specs.declared.signatures.Limits.{Limits}
 use Rattle.wasm_syntax.specs.declared.modules.Module.{Module}
 use Rattle.wasm_syntax.specs.declared.profile.Which.{Which}
-use Rattle.wasm_syntax.specs.declared.profile.Which.TheVariants.{Parameters, Table, Memory, Locals}
+use Rattle.wasm_syntax.specs.declared.profile.Which.TheVariants.{Table, Memory, Locals}
 use Rattle.wasm_syntax.specs.Index.{all_memories, all_tables}
+use Rattle.wasm_syntax.proofs.Quantities.{parameters_past, tables_past, memories_past}
 use Rattle.wasm_syntax.specs.Profile.{Refusal, Limit, past, count_of_locals, IsSupported}
 
 pub past_none : (most value : ℕ) (which : Which) → past most which value ≡ None → value ≤ most
@@ -34,26 +35,17 @@ none_past most which (l ∷ all) h = by (past most which l.min) refl h (none_pas
 
 -- the memories and tables of a supported module begin within the limits
 module _ (m : Module) (supported : IsSupported m) where
-  abbrev parameters : List Refusal
-  parameters = filter_map (λ ty. past MOST_PARAMETERS Parameters (length ty.params)) m.types
-
-  abbrev tables : List Refusal
-  tables = filter_map (λ limits. past MOST_ENTRIES Table limits.min) (all_tables m)
-
-  abbrev memories : List Refusal
-  memories = filter_map (λ limits. past MOST_PAGES Memory limits.min) (all_memories m)
-
   abbrev locals : List Refusal
   locals = filter_map (λ f. past MOST_LOCALS_HOOKED Locals (count_of_locals f)) m.funcs
 
-  no_quantity : (parameters ++ tables ++ memories ≡ []) × (locals ≡ [])
-  no_quantity = nil_parts (parameters ++ tables ++ memories) locals supported.quantities
+  no_quantity : (parameters_past m ++ tables_past m ++ memories_past m ≡ []) × (locals ≡ [])
+  no_quantity = nil_parts (parameters_past m ++ tables_past m ++ memories_past m) locals supported.quantities
 
   pub small_memories : All (λ limits. limits.min ≤ MOST_PAGES) (all_memories m)
   small_memories =
-      none_past MOST_PAGES Memory (all_memories m) (nil_parts (parameters ++ tables) memories no_quantity.0).1
+      none_past MOST_PAGES Memory (all_memories m) (nil_parts (parameters_past m ++ tables_past m) (memories_past m) no_quantity.0).1
 
   pub small_tables : All (λ limits. limits.min ≤ MOST_ENTRIES) (all_tables m)
   small_tables =
       none_past MOST_ENTRIES Table (all_tables m)
-      (nil_parts parameters tables (nil_parts (parameters ++ tables) memories no_quantity.0).0).1
+      (nil_parts (parameters_past m) (tables_past m) (nil_parts (parameters_past m ++ tables_past m) (memories_past m) no_quantity.0).0).1

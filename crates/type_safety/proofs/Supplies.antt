@@ -67,16 +67,12 @@ module _ (script : Script) where
 
   memory_given : (globals : ℕ) (kind : ImportKind) (wanted : Limits) → memory_import kind ≡ Some wanted
       → import_match script globals kind ≡ match_of_limits MOST_PAGES script.memory wanted
-  memory_given globals (Memory limits) wanted e =
-      let same : limits ≡ wanted = cc in
-      ap (match_of_limits MOST_PAGES script.memory) same
+  memory_given globals (Memory limits) wanted e = let same : limits ≡ wanted = cc in ap (match_of_limits MOST_PAGES script.memory) same
   memory_given globals kind wanted e = cc
 
   table_given : (globals : ℕ) (kind : ImportKind) (wanted : Limits) → table_import kind ≡ Some wanted
       → import_match script globals kind ≡ match_of_limits MOST_ENTRIES script.table wanted
-  table_given globals (Table limits) wanted e =
-      let same : limits ≡ wanted = cc in
-      ap (match_of_limits MOST_ENTRIES script.table) same
+  table_given globals (Table limits) wanted e = let same : limits ≡ wanted = cc in ap (match_of_limits MOST_ENTRIES script.table) same
   table_given globals kind wanted e = cc
 
   -- the given values from a place on are those of the imported globals

@@ -18,7 +18,7 @@ use Rattle.type_safety.specs.Values.{AreValues}
 use Rattle.type_safety.specs.Stores.{func_count, IsStore}
 use Rattle.type_safety.specs.Frames.{Scope, context, IsCode, base_of, IsAround}
 use Rattle.type_safety.proofs.Tables.{table_there, entry_set_fits, table_grown, referred_fits}
-use Rattle.type_safety.proofs.Effects.{cond_leads, ready}
+use Rattle.type_safety.proofs.InstrTypes.{cond_leads, ready}
 use Rattle.type_safety.specs.Results.{HasRule}
 use Rattle.type_safety.proofs.Fine.{on_fine, takes_fine, gives_fine}
 

@@ -1,20 +1,18 @@
 -- The functions of a valid and supported module are typed.
 use Rattle.std.proofs.Common.{◌≡◌, ℕ, suc, zero, ◌+◌, ◌-◌, ◌<◌, ◌≤◌, List, [], ◌∷◌, length, Some, None, cond, map, option_map, option_and_then, slice_get, refl, sym, ap, ◌∙◌, subst, arith}
-use Rattle.std.specs.Prelude.{reverse, All}
-use Rattle.std.specs.List.{cons_option, AllByRecursion}
+use Rattle.std.specs.Prelude.{reverse}
+use Rattle.std.specs.List.{AllByRecursion}
 use Rattle.std.proofs.lemmas.Bool.{le-ltb}
-use Rattle.std.proofs.lemmas.List.Elements.{All-head, All-tail, All-nil, All-cons, All-append, All-map, All-weaker, recursion_from_All}
+use Rattle.std.proofs.lemmas.List.Elements.{recursion_from_All}
 use Rattle.std.proofs.lemmas.Option.{slice_get-map}
 use Rattle.list_laws.proofs.Lists.{get_after, all_at, item_there}
 use Rattle.list_laws.proofs.Options.{and_then_some, map_some}
 use Rattle.wasm_syntax.specs.declared.signatures.FuncType.{FuncType}
 use Rattle.wasm_syntax.specs.declared.modules.Module.{Module}
 use Rattle.wasm_syntax.specs.declared.modules.Func.{Func}
-use Rattle.wasm_syntax.specs.declared.modules.Import.{Import}
-use Rattle.wasm_syntax.specs.declared.modules.ImportKind.{ImportKind}
 use Rattle.wasm_syntax.specs.declared.modules.ImportKind.TheVariants as import
 use Rattle.wasm_syntax.specs.Index.{of_kind, func_import, func_indices, imported_funcs}
-use Rattle.wasm_syntax.specs.Validity.{IsImport, IsDeclaredFunc, IsTypedFunc, IsValid, body_context, each_local}
+use Rattle.wasm_syntax.specs.Validity.{IsTypedFunc, IsValid, body_context, each_local}
 use Rattle.wasm_syntax.specs.Profile.{IsSupported}
 use Rattle.history_spec.specs.Code.{Definition, definition_of, code_of, signature, definition}
 use Rattle.history_spec.specs.Configuration.{place}
@@ -23,7 +21,9 @@ use Rattle.type_safety.specs.Frames.{IsCode}
 use Rattle.type_safety.specs.Heights.{Heights, IsTypedWith, AreHeights, height}
 use Rattle.type_safety.specs.Configurations.{scope, IsTypedCode}
 use Rattle.type_safety.specs.Laws.{ValidCodeHasHeights}
-use Rattle.type_safety.proofs.Bodies.{body_nest, body_supported}
+use Rattle.wasm_syntax.proofs.FuncTypes.{func_types_there}
+use Rattle.wasm_syntax.proofs.Nests.{nest_of_body}
+use Rattle.type_safety.proofs.Bodies.{body_supported}
 
 -- ---- heights by the functions' typings
 
@@ -44,32 +44,12 @@ typed_at m (g ∷ funcs) all (suc k) f is = typed_at m funcs all.1 k f is
 
 -- ---- signatures
 
-imports_typed : (m : Module) (imports : List Import) → All (λ i. IsImport m i.kind) imports
-    → All (λ t. t < length m.types) (of_kind func_import imports)
-imports_typed m [] all = All-nil (λ t. t < length m.types)
-imports_typed m (i ∷ imports) all =
-    by i.kind (All-head (λ j. IsImport m j.kind) i imports all)
-    (imports_typed m imports (All-tail (λ j. IsImport m j.kind) i imports all))
-  where
-    by : (kind : ImportKind) → IsImport m kind → All (λ t. t < length m.types) (of_kind func_import imports)
-        → All (λ t. t < length m.types) (cons_option (func_import kind) (of_kind func_import imports))
-    by (import.Func t) own later = All-cons (λ u. u < length m.types) t (of_kind func_import imports) own later
-    by (import.Table limits) own later = later
-    by (import.Memory limits) own later = later
-    by (import.Global ty) own later = later
-
 pub signatures : (m : Module) → IsValid m → (func : ℕ) → func < func_count m
     → (ty : FuncType) × (signature (code_of m) func ≡ Some ty)
 signatures m valid func below =
-    let each : All (λ t. t < length m.types) (func_indices m) =
-    All-append (λ t. t < length m.types) (of_kind func_import m.imports) (map (λ f. f.ty) m.funcs)
-    (imports_typed m m.imports valid.outside.imports)
-    (All-map (λ t. t < length m.types) (λ (f : Func). f.ty) m.funcs
-    (All-weaker (IsDeclaredFunc m) (λ f. f.ty < length m.types) (λ f d. d.type_there) m.funcs
-    valid.outside.funcs)) in
     let index = item_there (func_indices m) func below in
     let there : index.0 < length m.types =
-    all_at (λ t. t < length m.types) (func_indices m) func index.0 each index.1 in
+    all_at (λ t. t < length m.types) (func_indices m) func index.0 (func_types_there m valid.outside) index.1 in
     let ty = item_there m.types index.0 there in
     (ty.0, ap (option_and_then (λ t. slice_get m.types t)) index.1 ∙ ty.1)
 
@@ -121,7 +101,7 @@ module _ (m : Module) (heights : Heights) (valid : IsValid m) (supported : IsSup
           ∙ ap (option_and_then (λ d. d))
           (slice_get-map definition_of m.funcs (func - imported_funcs m) ∙ ap (option_map definition_of) found.1)
           ∙ ap (option_map (λ nest. record { locals = each_local found.0.locals; body = nest }))
-          (body_nest at.typed.nest found.0.body at.typed.is_body)
+          (nest_of_body at.typed.nest found.0.body at.typed.is_body)
 
       own_code : IsCode (scope m heights func at.typed.ty body) [] (place at.typed.nest 0) 0 []
           (reverse at.typed.ty.results)

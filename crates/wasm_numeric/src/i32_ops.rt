@@ -42,6 +42,10 @@ pub fn i32_compare(operation: CompareOp, a: u32, b: u32) -> u32
 }
 
 /// What `operation` computes of `a` and `b`, or why it has no value.
+///
+/// # Errors
+///
+/// Where a division or remainder is by 0, or the quotient of a signed division is 2^31.
 #[inline]
 pub fn i32_binary(operation: BinaryOp, a: u32, b: u32) -> Result<u32, NumTrap>
     ensures { result ≡ answer_of (binary_value operation 32 a b) }

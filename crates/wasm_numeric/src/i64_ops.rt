@@ -42,6 +42,10 @@ pub fn i64_compare(operation: CompareOp, a: u64, b: u64) -> u32
 }
 
 /// What `operation` computes of `a` and `b`, or why it has no value.
+///
+/// # Errors
+///
+/// Where a division or remainder is by 0, or the quotient of a signed division is 2^63.
 #[inline]
 pub fn i64_binary(operation: BinaryOp, a: u64, b: u64) -> Result<u64, NumTrap>
     ensures { result ≡ answer_of (binary_value operation 64 a b) }

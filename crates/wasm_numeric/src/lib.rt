@@ -81,6 +81,10 @@ fn is_of_i32(op: u8) -> bool
 
 /// What a binary operation computes of `a` and `b`, or why it has no value (Core 1.0, 4.3.2,
 /// "iadd" to "irotr"): only divisions and remainders can have none.
+///
+/// # Errors
+///
+/// Where a division or remainder is by 0, or the quotient of a signed division overflows.
 #[inline]
 pub fn binary(op: u8, a: u64, b: u64) -> Result<u64, NumTrap>
     requires kind { kind_of op ≡ Binary }

@@ -1,8 +1,8 @@
 // Numbers and ranges in a slice of bytes. Each is one range of the slice after one test, which the
 // compiler makes one instruction of where the width is known.
 
-ghost use Rattle.std.specs.Prelude.{◌≡◌, ℕ, ◌+◌, ◌^◌, ◌<◌, ◌≤◌, List, length, Option, Some, None, IsTrue, IfOk, OnOk, OnErr, option_map};
-ghost use Rattle.history_spec.specs.Store.{bytes_at, with_bytes_at, number_of, bytes_of};
+ghost use Rattle.std.specs.Prelude.{◌≡◌, ℕ, ◌+◌, ◌^◌, ◌<◌, ◌≤◌, List, length, take, drop, Option, Some, None, IsTrue, IfOk, OnOk, OnErr, option_map};
+ghost use Rattle.history_spec.specs.Store.{bytes_at, with_bytes_at, with_items_at, number_of, bytes_of};
 ghost use Rattle.wasm_store.specs.Calls.{is_width};
 
 use crate::bounds::OutOfBounds;
@@ -111,4 +111,43 @@ pub(crate) fn put(bytes: &mut [u8], addr: u64, news: &[u8]) -> Result<(), OutOfB
     let end = end_of(bytes.len(), addr, news.len() as u64)?;
     bytes[addr as usize..end].copy_from_slice(news);
     Ok(())
+}
+
+/// Writes at `to` the `count` bytes that stand at `from`, which end before it.
+#[inline(always)]
+fn copy_up(bytes: &mut [u8], to: usize, from: usize, count: usize)
+    requires apart { from + count ≤ to }
+    requires within { to + count ≤ length bytes.old }
+    ensures { bytes.new ≡ with_items_at bytes.old to (take count (drop from bytes.old)) }
+{
+    let (front, back) = bytes.split_at_mut(to);
+    back[..count].copy_from_slice(&front[from..from + count]);
+}
+
+/// Writes at `to` the `count` bytes that stand at `from`, which begin after the place of the last.
+#[inline(always)]
+fn copy_down(bytes: &mut [u8], to: usize, from: usize, count: usize)
+    requires apart { to + count ≤ from }
+    requires within { from + count ≤ length bytes.old }
+    ensures { bytes.new ≡ with_items_at bytes.old to (take count (drop from bytes.old)) }
+{
+    let (front, back) = bytes.split_at_mut(from);
+    front[to..to + count].copy_from_slice(&back[..count]);
+}
+
+/// Writes at `to` the `count` bytes that stand at `from`, as if all were read first. Ranges apart
+/// from each other are copied by the one instruction for that.
+#[inline]
+pub(crate) fn copy_range(bytes: &mut [u8], to: usize, from: usize, count: usize)
+    requires source { from + count ≤ length bytes.old }
+    requires target { to + count ≤ length bytes.old }
+    ensures { bytes.new ≡ with_items_at bytes.old to (take count (drop from bytes.old)) }
+{
+    if count <= to && from <= to - count {
+        copy_up(bytes, to, from, count);
+    } else if count <= from && to <= from - count {
+        copy_down(bytes, to, from, count);
+    } else {
+        bytes.copy_within(from..from + count, to);
+    }
 }

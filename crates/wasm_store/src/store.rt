@@ -286,9 +286,14 @@ impl Store {
         ensures same { OnErr result (self.new ≡ self.old) }
     {
         let length = self.bytes.len();
-        let end = bytes::end_of(length, from, count)?;
+        bytes::end_of(length, from, count)?;
         bytes::end_of(length, to, count)?;
-        self.bytes.copy_within(from as usize..end, to as usize);
+        bytes::copy_range(
+            self.bytes.as_mut_slice(),
+            to as usize,
+            from as usize,
+            count as usize,
+        );
         Ok(())
     }
 

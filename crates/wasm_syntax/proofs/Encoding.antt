@@ -14,6 +14,7 @@ pub mod Modules
 pub mod Writing
 pub mod BestTypes
 pub mod BestItems
+pub mod NotEmpty
 pub mod BestSections
 pub mod Arrangements
 pub mod BestModules

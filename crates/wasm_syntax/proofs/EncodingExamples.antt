@@ -11,7 +11,8 @@ use Rattle.wasm_syntax.specs.Encoding.ReadModules.{first_section, next_section, 
 use Rattle.wasm_syntax.specs.declared.forms.Form.{Form}
 use Rattle.wasm_syntax.specs.declared.forms.Form.TheVariants.{Core, Replay}
 use Rattle.wasm_syntax.specs.declared.modules.Module.{Module}
-use Rattle.wasm_syntax.proofs.ModuleExamples.{blank, two_answers}
+use Rattle.wasm_syntax.specs.EmptyModule.{empty_module}
+use Rattle.wasm_syntax.proofs.ModuleExamples.{two_answers}
 
 -- reading, and writing, with all of their parts open
 read : Form → List ℕ → Option Module
@@ -24,11 +25,11 @@ write m = encoding_of m
 
 -- ---- the empty module
 
-empty_read : read_module Core preamble ≡ Some blank
+empty_read : read_module Core preamble ≡ Some empty_module
 unfolding read
 empty_read = refl
 
-empty_written : encoding_of blank ≡ preamble
+empty_written : encoding_of empty_module ≡ preamble
 unfolding write
 empty_written = refl
 

@@ -2,11 +2,13 @@ mod InstrTypes
 mod NestTypes
 mod ValidityTests
 mod KnownStacks
-mod ModuleExamples
+pub mod FuncTypes
+pub mod ModuleExamples
 pub mod Nests
 mod OpcodeExamples
 mod Places
 mod ProfileExamples
+pub mod Quantities
 mod SameTypes
 mod EncodingExamples
 mod TypingExamples

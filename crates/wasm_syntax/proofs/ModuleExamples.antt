@@ -11,22 +11,7 @@ use Rattle.wasm_syntax.specs.declared.modules.Module.{Module}
 use Rattle.wasm_syntax.specs.declared.modules.ImportKind.TheVariants as import
 use Rattle.wasm_syntax.specs.declared.modules.ExportKind.TheVariants.{Func, Table, Memory, Global}
 use Rattle.wasm_syntax.specs.declared.modules.ElemSeg.TheVariants.{Active}
-
--- a module without parts
-abbrev pub blank : Module
-blank = record {
-  types = [];
-  imports = [];
-  funcs = [];
-  tables = [];
-  memories = [];
-  globals = [];
-  exports = [];
-  start = None;
-  elems = [];
-  datas = [];
-  customs = [];
-}
+use Rattle.wasm_syntax.specs.EmptyModule.{empty_module}
 
 abbrev pub func_type : List ValType → List ValType → FuncType
 func_type params results = record { params = params; results = results }
@@ -45,7 +30,7 @@ store op align offset = Store (record { op = op; align = align; offset = offset 
 
 -- a function that adds two answers of an import
 abbrev pub two_answers : Module
-two_answers = record blank {
+two_answers = record empty_module {
   types = func_type [] (I32 ∷ []) ∷ [];
   imports = record { «module» = codes "h"; name = codes "f"; kind = import.Func 0 } ∷ [];
   funcs = record { ty = 0; locals = []; body = Call 0 ∷ Call 0 ∷ Numeric 0x6A ∷ End ∷ [] } ∷ [];
@@ -54,7 +39,7 @@ two_answers = record blank {
 
 -- two bytes are written, and read within four
 abbrev pub overwrite : Module
-overwrite = record blank {
+overwrite = record empty_module {
   types =
       func_type [] []
       ∷ func_type [] (I32 ∷ [])
@@ -70,7 +55,7 @@ overwrite = record blank {
 
 -- a store past the first page
 abbrev pub grow_access : Module
-grow_access = record blank {
+grow_access = record empty_module {
   types = func_type [] [] ∷ [];
   imports = record { «module» = codes "h"; name = codes "f"; kind = import.Func 0 } ∷ [];
   funcs = record { ty = 0; locals = []; body = Call 0 ∷ constant I32 65536 ∷ constant I32 9 ∷ store 0x3A 0 0 ∷ End ∷ [] } ∷ [];
@@ -83,7 +68,7 @@ grow_access = record blank {
 
 -- a growth past the maximum
 abbrev pub grow_failed : Module
-grow_failed = record blank {
+grow_failed = record empty_module {
   types =
       func_type [] []
       ∷ func_type [] (I32 ∷ [])
@@ -99,7 +84,7 @@ grow_failed = record blank {
 
 -- two functions that call an import
 abbrev pub nested_call : Module
-nested_call = record blank {
+nested_call = record empty_module {
   types = func_type [] (I32 ∷ []) ∷ [];
   imports = record { «module» = codes "h"; name = codes "f"; kind = import.Func 0 } ∷ [];
   funcs =
@@ -116,7 +101,7 @@ nested_call = record blank {
 
 -- a call through an exported table
 abbrev pub table_entry : Module
-table_entry = record blank {
+table_entry = record empty_module {
   types =
       func_type [] []
       ∷ func_type [] (I32 ∷ [])
@@ -138,7 +123,7 @@ table_entry = record blank {
 
 -- an exported mutable global
 abbrev pub float_global : Module
-float_global = record blank {
+float_global = record empty_module {
   types =
       func_type [] []
       ∷ func_type [] (F32 ∷ [])
@@ -154,7 +139,7 @@ float_global = record blank {
 
 -- a data segment at an imported place
 abbrev pub imported_offset : Module
-imported_offset = record blank {
+imported_offset = record empty_module {
   types = func_type [] (I32 ∷ []) ∷ [];
   imports = record { «module» = codes "h"; name = codes "b"; kind = import.Global (record { ty = I32; mutable = false }) } ∷ [];
   funcs = record { ty = 0; locals = []; body = constant I32 16 ∷ load 0x2D 0 0 ∷ End ∷ [] } ∷ [];
@@ -165,7 +150,7 @@ imported_offset = record blank {
 
 -- an addition of floats in the third function
 abbrev pub float_body : Module
-float_body = record blank {
+float_body = record empty_module {
   types = func_type [] [] ∷ [];
   funcs =
       record { ty = 0; locals = []; body = End ∷ [] }
@@ -176,7 +161,7 @@ float_body = record blank {
 
 -- buffers on a stack in memory
 abbrev pub c_buffers : Module
-c_buffers = record blank {
+c_buffers = record empty_module {
   types =
       func_type (I32 ∷ I32 ∷ I32 ∷ []) (I32 ∷ [])
       ∷ func_type (I32 ∷ []) (I32 ∷ [])
@@ -199,7 +184,7 @@ c_buffers = record blank {
 
 -- a module without imports that replays two answers
 abbrev pub replay_two_answers : Module
-replay_two_answers = record blank {
+replay_two_answers = record empty_module {
   types =
       func_type [] (I32 ∷ [])
       ∷ func_type [] []
@@ -216,7 +201,7 @@ replay_two_answers = record blank {
 
 -- the same with two `nop`s in place of the second call
 abbrev pub two_answers_untyped : Module
-two_answers_untyped = record blank {
+two_answers_untyped = record empty_module {
   types = func_type [] (I32 ∷ []) ∷ [];
   imports = record { «module» = codes "h"; name = codes "f"; kind = import.Func 0 } ∷ [];
   funcs = record { ty = 0; locals = []; body = Call 0 ∷ Nop ∷ Nop ∷ Numeric 0x6A ∷ End ∷ [] } ∷ [];
@@ -225,12 +210,12 @@ two_answers_untyped = record blank {
 
 -- a memory of 4,097 pages
 abbrev pub too_many_pages : Module
-too_many_pages = record blank {
+too_many_pages = record empty_module {
   memories = limits 4097 None ∷ [];
 }
 
 -- a memory of 4,096 pages
 abbrev pub most_pages : Module
-most_pages = record blank {
+most_pages = record empty_module {
   memories = limits 4096 None ∷ [];
 }

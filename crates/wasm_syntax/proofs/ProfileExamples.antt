@@ -12,7 +12,8 @@ use Rattle.wasm_syntax.specs.declared.modules.ImportKind.TheVariants as import
 use Rattle.wasm_syntax.specs.declared.modules.Func.{Func}
 use Rattle.wasm_syntax.specs.Profile.{Refusal, Unsupported, Limit, Reserved, first_refusal, IsAccepted}
 use Rattle.wasm_syntax.proofs.Places.{valid_if}
-use Rattle.wasm_syntax.proofs.ModuleExamples.{blank, func_type, limits, constant, two_answers, c_buffers, float_body, replay_two_answers, too_many_pages, most_pages}
+use Rattle.wasm_syntax.specs.EmptyModule.{empty_module}
+use Rattle.wasm_syntax.proofs.ModuleExamples.{func_type, limits, constant, two_answers, c_buffers, float_body, replay_two_answers, too_many_pages, most_pages}
 
 -- a module that is not instrumented; one that may be
 abbrev refused : Module → Option Refusal
@@ -71,7 +72,7 @@ pages_within : refused most_pages ≡ None
 pages_within = refl
 
 abbrev importing : ImportKind → Module
-importing kind = record blank { imports = record { «module» = codes "env"; name = codes "f"; kind = kind } ∷ [] }
+importing kind = record empty_module { imports = record { «module» = codes "env"; name = codes "f"; kind = kind } ∷ [] }
 
 imported_pages_past : refused (importing (import.Memory (limits 4097 None))) ≡ Some (Limit Memory 4097)
 imported_pages_past = refl
@@ -80,17 +81,17 @@ imported_pages_past = refl
 maximum_free : refused (importing (import.Memory (limits 1 (Some 65536)))) ≡ None
 maximum_free = refl
 
-entries_within : refused (record blank { tables = limits 1000000 None ∷ [] }) ≡ None
+entries_within : refused (record empty_module { tables = limits 1000000 None ∷ [] }) ≡ None
 entries_within = refl
 
-entries_past : refused (record blank { tables = limits 1000001 None ∷ [] }) ≡ Some (Limit Table 1000001)
+entries_past : refused (record empty_module { tables = limits 1000001 None ∷ [] }) ≡ Some (Limit Table 1000001)
 entries_past = refl
 
 imported_entries_past : refused (importing (import.Table (limits 1000001 None))) ≡ Some (Limit Table 1000001)
 imported_entries_past = refl
 
 abbrev taking : ℕ → Module
-taking n = record blank { types = func_type [] [] ∷ func_type (replicate n I32) [] ∷ [] }
+taking n = record empty_module { types = func_type [] [] ∷ func_type (replicate n I32) [] ∷ [] }
 
 parameters_within : refused (taking 1000) ≡ None
 parameters_within = refl
@@ -99,7 +100,7 @@ parameters_past : refused (taking 1001) ≡ Some (Limit Parameters 1001)
 parameters_past = refl
 
 abbrev having : ℕ → ℕ → Module
-having some more = record blank {
+having some more = record empty_module {
   types = func_type (I64 ∷ []) [] ∷ [];
   funcs = record { ty = 0; locals = record { count = some; ty = I32 } ∷ record { count = more; ty = F64 } ∷ []; body = End ∷ [] } ∷ [];
 }
@@ -139,7 +140,7 @@ then_locals = refl
 -- ---- reserved imports
 
 abbrev importing_from : List ℕ → List ℕ → Module
-importing_from one other = record blank {
+importing_from one other = record empty_module {
   imports =
       record { «module» = one; name = codes "f"; kind = import.Memory (limits 0 None) }
       ∷ record { «module» = other; name = codes "f"; kind = import.Table (limits 0 None) }

@@ -19,7 +19,8 @@ use Rattle.wasm_syntax.specs.declared.modules.ElemSeg.TheVariants.{Active, Decla
 use Rattle.wasm_syntax.specs.Validity.{IsValid, IsInvalidAt}
 use Rattle.wasm_syntax.specs.ValidityTests.{invalid_at}
 use Rattle.wasm_syntax.proofs.Places.{valid_if, invalid_if}
-use Rattle.wasm_syntax.proofs.ModuleExamples.{blank, func_type, limits, constant, two_answers, two_answers_untyped, overwrite, grow_access, grow_failed, nested_call, table_entry, float_global, imported_offset, float_body, c_buffers, replay_two_answers, too_many_pages, most_pages}
+use Rattle.wasm_syntax.specs.EmptyModule.{empty_module}
+use Rattle.wasm_syntax.proofs.ModuleExamples.{func_type, limits, constant, two_answers, two_answers_untyped, overwrite, grow_access, grow_failed, nested_call, table_entry, float_global, imported_offset, float_body, c_buffers, replay_two_answers, too_many_pages, most_pages}
 
 -- ---- the plain tests decide this
 
@@ -67,7 +68,7 @@ all_invalid rows h k d below =
 
 abbrev valid_modules : List Module
 valid_modules =
-    blank ∷ two_answers ∷ overwrite ∷ grow_access ∷ grow_failed ∷ nested_call ∷ table_entry ∷ float_global ∷ imported_offset ∷ float_body ∷ c_buffers
+    empty_module ∷ two_answers ∷ overwrite ∷ grow_access ∷ grow_failed ∷ nested_call ∷ table_entry ∷ float_global ∷ imported_offset ∷ float_body ∷ c_buffers
     ∷ replay_two_answers ∷ too_many_pages ∷ most_pages ∷ []
 
 abbrev expression : Instr → List Instr
@@ -99,7 +100,7 @@ whole = record {
 
 -- a reference that an export alone declares
 abbrev declared_by_export : Module
-declared_by_export = record blank {
+declared_by_export = record empty_module {
   types = func_type [] [] ∷ [];
   funcs = body [] ∷ body (constant I32 0 ∷ RefFunc 0 ∷ TableSet 0 ∷ []) ∷ [];
   tables = limits 1 None ∷ [];
@@ -116,7 +117,7 @@ wide_bodies =
     ∷ body (RefFunc 0 ∷ TableSize 0 ∷ TableGrow 0 ∷ Drop ∷ []) ∷ body (constant I64 0 ∷ Numeric 0xC3 ∷ Drop ∷ []) ∷ []
 
 abbrev wide : Module
-wide = record blank {
+wide = record empty_module {
   types = func_type [] [] ∷ [];
   funcs = wide_bodies;
   tables = limits 1 None ∷ [];
@@ -134,7 +135,7 @@ outside m = (None, m)
 
 abbrev with_import : ImportKind → Row
 with_import kind =
-    outside (record blank { imports = record { «module» = codes "env"; name = codes "f"; kind = kind } ∷ [] })
+    outside (record empty_module { imports = record { «module» = codes "env"; name = codes "f"; kind = kind } ∷ [] })
 
 abbrev with_export : ExportKind → Row
 with_export kind = outside (record whole { exports = record { name = codes "f"; kind = kind } ∷ [] })
@@ -156,9 +157,9 @@ with_data memory offset =
 abbrev invalid_outside : List Row
 invalid_outside =
     -- a function type with two results, with a reference
-    outside (record blank { types = func_type [] (I32 ∷ I32 ∷ []) ∷ [] })
-    ∷ outside (record blank { types = func_type (FuncRef ∷ []) [] ∷ [] })
-    ∷ outside (record blank { types = func_type [] (FuncRef ∷ []) ∷ [] })
+    outside (record empty_module { types = func_type [] (I32 ∷ I32 ∷ []) ∷ [] })
+    ∷ outside (record empty_module { types = func_type (FuncRef ∷ []) [] ∷ [] })
+    ∷ outside (record empty_module { types = func_type [] (FuncRef ∷ []) ∷ [] })
     -- an import: no type of this index, limits, a reference
     ∷ with_import (import.Func 0)
     ∷ with_import (import.Table (limits 2 (Some 1)))
@@ -166,13 +167,13 @@ invalid_outside =
     ∷ with_import (import.Memory (limits 0 (Some 65537)))
     ∷ with_import (import.Global (record { ty = FuncRef; mutable = false }))
     -- a function: no type of this index, a local that is a reference
-    ∷ outside (record blank { funcs = body [] ∷ [] })
-    ∷ outside (record blank { types = func_type [] [] ∷ []; funcs = record { ty = 0; locals = record { count = 1; ty = FuncRef } ∷ []; body = End ∷ [] } ∷ [] })
+    ∷ outside (record empty_module { funcs = body [] ∷ [] })
+    ∷ outside (record empty_module { types = func_type [] [] ∷ []; funcs = record { ty = 0; locals = record { count = 1; ty = FuncRef } ∷ []; body = End ∷ [] } ∷ [] })
     -- a table, a memory: limits
-    ∷ outside (record blank { tables = limits 2 (Some 1) ∷ [] })
-    ∷ outside (record blank { memories = limits 2 (Some 1) ∷ [] })
-    ∷ outside (record blank { memories = limits 65537 None ∷ [] })
-    ∷ outside (record blank { memories = limits 1 (Some 65537) ∷ [] })
+    ∷ outside (record empty_module { tables = limits 2 (Some 1) ∷ [] })
+    ∷ outside (record empty_module { memories = limits 2 (Some 1) ∷ [] })
+    ∷ outside (record empty_module { memories = limits 65537 None ∷ [] })
+    ∷ outside (record empty_module { memories = limits 1 (Some 65537) ∷ [] })
     -- a global: another type, a reference, none or two instructions, no constant, a global that is mutable, defined or not there
     ∷ with_global I32 (expression (constant I64 0))
     ∷ with_global FuncRef (expression (constant FuncRef 0))
@@ -194,22 +195,22 @@ invalid_outside =
     -- a start function that is not there, that takes arguments, that gives a result
     ∷ with_start 3
     ∷ with_start 0
-    ∷ outside (record blank { types = func_type [] (I32 ∷ []) ∷ []; funcs = body (constant I32 0 ∷ []) ∷ []; start = Some 0 })
+    ∷ outside (record empty_module { types = func_type [] (I32 ∷ []) ∷ []; funcs = body (constant I32 0 ∷ []) ∷ []; start = Some 0 })
     -- an element segment: no table, another type, a mutable global, no function
     ∷ with_elem (Active 1 (expression (constant I32 0)) [])
-    ∷ outside (record blank { elems = Active 0 (expression (constant I32 0)) [] ∷ [] })
+    ∷ outside (record empty_module { elems = Active 0 (expression (constant I32 0)) [] ∷ [] })
     ∷ with_elem (Active 0 (expression (constant I64 0)) [])
     ∷ with_elem (Active 0 (expression (GlobalGet 1)) [])
     ∷ with_elem (Active 0 (expression (constant I32 0)) (3 ∷ []))
     ∷ with_elem (Declared (3 ∷ []))
     -- a data segment: no memory, another type
     ∷ with_data 1 (expression (constant I32 0))
-    ∷ outside (record blank { datas = record { memory = 0; offset = expression (constant I32 0); bytes = [] } ∷ [] })
+    ∷ outside (record empty_module { datas = record { memory = 0; offset = expression (constant I32 0); bytes = [] } ∷ [] })
     ∷ with_data 0 (expression (constant F32 0))
     -- two tables, two memories, one of them imported
-    ∷ outside (record blank { tables = limits 0 None ∷ limits 0 None ∷ [] })
-    ∷ outside (record blank { memories = limits 0 None ∷ limits 0 None ∷ [] })
-    ∷ outside (record blank { imports = record { «module» = codes "env"; name = codes "m"; kind = import.Memory (limits 0 None) } ∷ []; memories = limits 0 None ∷ [] })
+    ∷ outside (record empty_module { tables = limits 0 None ∷ limits 0 None ∷ [] })
+    ∷ outside (record empty_module { memories = limits 0 None ∷ limits 0 None ∷ [] })
+    ∷ outside (record empty_module { imports = record { «module» = codes "env"; name = codes "m"; kind = import.Memory (limits 0 None) } ∷ []; memories = limits 0 None ∷ [] })
     -- a fault outside the bodies beside one inside
     ∷ outside (record two_answers_untyped { start = Some 0 })
     ∷ []
@@ -225,8 +226,8 @@ invalid_inside =
     -- the first of two, after one import
     ∷ (Some 2, record whole { funcs = body [] ∷ body (Drop ∷ []) ∷ body [] ∷ body (Drop ∷ []) ∷ [] })
     -- no nest; a reference to a function that is neither in a segment nor exported
-    ∷ (Some 0, record blank { types = func_type [] [] ∷ []; funcs = record { ty = 0; locals = []; body = End ∷ End ∷ [] } ∷ [] })
-    ∷ (Some 0, record blank { types = func_type [] [] ∷ []; funcs = record { ty = 0; locals = []; body = [] } ∷ [] })
+    ∷ (Some 0, record empty_module { types = func_type [] [] ∷ []; funcs = record { ty = 0; locals = []; body = End ∷ End ∷ [] } ∷ [] })
+    ∷ (Some 0, record empty_module { types = func_type [] [] ∷ []; funcs = record { ty = 0; locals = []; body = [] } ∷ [] })
     ∷ (Some 1, record whole { funcs = body (constant I32 0 ∷ RefFunc 1 ∷ TableSet 0 ∷ []) ∷ []; exports = []; start = None; elems = [] })
     -- no memory, no table
     ∷ (Some 0, record wide { memories = [] })

@@ -1,5 +1,6 @@
 pub mod Nest
 pub mod Opcodes
+pub mod EmptyModule
 pub mod Index
 pub mod Alike
 pub mod Typing

@@ -41,6 +41,10 @@ impl Types {
     }
 
     /// The index of a type, which is added last where it is not among the appended ones.
+    ///
+    /// # Errors
+    ///
+    /// When memory runs out; no type is added then.
     pub fn number(&mut self, ty: &FuncType) -> Result<u32, NoMemory>
         requires { self.old.count + length self.old.types < 2 ^ 32 - 1 }
         ensures number { IfOk result (HasNumber self.new ty.now) }
@@ -58,6 +62,10 @@ impl Types {
     }
 
     /// The appended types in the order of their indices.
+    ///
+    /// # Errors
+    ///
+    /// When memory runs out.
     pub fn into_list(self) -> Result<FuncTypes, NoMemory>
         ensures list { IfOk result (λ list. list ≡ self.types) }
         ensures distinct { IfOk result AreDistinct }

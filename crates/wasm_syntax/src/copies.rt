@@ -12,6 +12,10 @@ use no_memory::NoMemory;
 
 impl Import {
     /// An equal import.
+    ///
+    /// # Errors
+    ///
+    /// When memory runs out.
     pub fn clone(&self) -> Result<Import, NoMemory>
         ensures { IfOk result (λ copy. copy ≡ self.now) }
     {
@@ -27,6 +31,10 @@ impl Import {
 
 impl Export {
     /// An equal export.
+    ///
+    /// # Errors
+    ///
+    /// When memory runs out.
     pub fn clone(&self) -> Result<Export, NoMemory>
         ensures { IfOk result (λ copy. copy ≡ self.now) }
     {
@@ -40,6 +48,10 @@ impl Export {
 
 impl Func {
     /// An equal function.
+    ///
+    /// # Errors
+    ///
+    /// When memory runs out.
     pub fn clone(&self) -> Result<Func, NoMemory>
         ensures { IfOk result (λ copy. copy ≡ self.now) }
     {
@@ -55,6 +67,10 @@ impl Func {
 
 impl Global {
     /// An equal global.
+    ///
+    /// # Errors
+    ///
+    /// When memory runs out.
     pub fn clone(&self) -> Result<Global, NoMemory>
         ensures { IfOk result (λ copy. copy ≡ self.now) }
     {
@@ -65,6 +81,10 @@ impl Global {
 
 impl ElemSeg {
     /// An equal element segment.
+    ///
+    /// # Errors
+    ///
+    /// When memory runs out.
     pub fn clone(&self) -> Result<ElemSeg, NoMemory>
         ensures { IfOk result (λ copy. copy ≡ self.now) }
     {
@@ -92,6 +112,10 @@ impl ElemSeg {
 
 impl DataSeg {
     /// An equal data segment.
+    ///
+    /// # Errors
+    ///
+    /// When memory runs out.
     pub fn clone(&self) -> Result<DataSeg, NoMemory>
         ensures { IfOk result (λ copy. copy ≡ self.now) }
     {
@@ -107,6 +131,10 @@ impl DataSeg {
 
 impl Custom {
     /// An equal custom section.
+    ///
+    /// # Errors
+    ///
+    /// When memory runs out.
     pub fn clone(&self) -> Result<Custom, NoMemory>
         ensures { IfOk result (λ copy. copy ≡ self.now) }
     {
@@ -143,6 +171,10 @@ struct SegmentParts {
 
 impl Module {
     /// An equal module.
+    ///
+    /// # Errors
+    ///
+    /// When memory runs out.
     pub fn clone(&self) -> Result<Module, NoMemory>
         ensures { IfOk result (λ copy. copy ≡ self.now) }
     {

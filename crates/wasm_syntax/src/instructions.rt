@@ -64,6 +64,10 @@ pub type Body = List<Instr>;
 
 impl Instr {
     /// An equal instruction.
+    ///
+    /// # Errors
+    ///
+    /// When memory runs out.
     pub fn clone(&self) -> Result<Instr, NoMemory>
         ensures { IfOk result (λ copy. copy ≡ self.now) }
     {

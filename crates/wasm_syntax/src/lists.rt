@@ -71,6 +71,10 @@ impl<T> List<T> {
 
 impl<T: Item + Drop> List<T> {
     /// An equal list.
+    ///
+    /// # Errors
+    ///
+    /// When memory runs out.
     pub fn clone(&self) -> Result<List<T>, NoMemory>
         ensures { IfOk result (λ copy. copy ≡ self.now) }
     {

@@ -43,6 +43,10 @@ impl Name {
     }
 
     /// An equal name.
+    ///
+    /// # Errors
+    ///
+    /// When memory runs out.
     pub fn clone(&self) -> Result<Name, NoMemory>
         ensures { IfOk result (λ copy. copy ≡ self.now) }
     {

@@ -32,6 +32,10 @@ pub type FuncTypes = List<FuncType>;
 
 impl FuncType {
     /// An equal type.
+    ///
+    /// # Errors
+    ///
+    /// When memory runs out.
     pub fn clone(&self) -> Result<FuncType, NoMemory>
         ensures { IfOk result (λ copy. copy ≡ self.now) }
     {

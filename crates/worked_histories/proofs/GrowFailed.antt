@@ -10,7 +10,7 @@ use Rattle.wasm_syntax.specs.declared.instructions.Instr.TheVariants.{Const, Mem
 use Rattle.wasm_syntax.specs.Nest.{Nest, Empty, Plain}
 use Rattle.host_script.specs.declared.scripts.Action.TheVariants.{Grow, Call}
 use Rattle.host_script.specs.declared.scripts.ResponseEnd.TheVariants.{Return}
-use Rattle.trace_model.specs.declared.outcomes.Outcome.TheVariants.{Ended}
+use Rattle.run_outcomes.specs.declared.outcomes.Outcome.TheVariants.{Ended}
 use Rattle.history_spec.specs.declared.entries.Entry.{Entry}
 use Rattle.history_spec.specs.declared.entries.Entry.TheVariants.{HostCall, HostReturn, ImportCall, ImportReturn, Step}
 use Rattle.history_spec.specs.declared.entries.FaultKind.TheVariants.{GrowRefused}

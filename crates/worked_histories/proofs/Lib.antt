@@ -1,3 +1,3 @@
-mod GrowFailed
+pub mod GrowFailed
 mod Histories
 mod Safety

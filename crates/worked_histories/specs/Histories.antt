@@ -6,7 +6,8 @@ use Rattle.host_script.specs.declared.scripts.Action.TheVariants.{Write, SetTabl
 use Rattle.host_script.specs.declared.scripts.LinkFault.TheVariants.{Missing, Mismatch}
 use Rattle.history_spec.specs.declared.entries.FaultKind.TheVariants.{NoResponse, GrowRefused}
 use Rattle.worked_histories.specs.Build.{value, i32, script, layout}
-use Rattle.worked_histories.specs.Modules.{empty, two_answers, overwrite, grow_access, copy_load, copy_overlap, fill_past, grow_failed, nested_call, nested_trap, table_entry, table_growth, table_sizes, float_global, imported_offset, c_buffers, replay_two_answers}
+use Rattle.wasm_syntax.specs.EmptyModule.{empty_module}
+use Rattle.worked_histories.specs.Modules.{two_answers, overwrite, grow_access, copy_load, copy_overlap, fill_past, grow_failed, nested_call, nested_trap, table_entry, table_growth, table_sizes, float_global, imported_offset, c_buffers, replay_two_answers}
 use Rattle.worked_histories.specs.Scripts.{idle, five_seven, five_seven_twice, does, does_all, does_nothing, host_traps, calls_back, gives_global, reads_hi}
 use Rattle.worked_histories.specs.Tells.{tell, tell_replay, Lines, Fault, Spent, NoLink}
 
@@ -43,7 +44,7 @@ TwoAnswersSpent =
 -- nothing is done
 abbrev pub Empty : Type 0
 Empty =
-    tell empty idle 100 ≡ Lines 0
+    tell empty_module idle 100 ≡ Lines 0
     (codes "ended" ∷ [])
 
 -- an import that is never called

@@ -7,29 +7,13 @@ use Rattle.wasm_syntax.specs.declared.modules.ImportKind.TheVariants.{Func, Glob
 use Rattle.wasm_syntax.specs.declared.modules.ExportKind.TheVariants.{Func as ExportFunc, Table as ExportTable, Memory as ExportMemory, Global as ExportGlobal}
 use Rattle.wasm_syntax.specs.declared.modules.ElemSeg.TheVariants.{Active}
 use Rattle.wasm_syntax.specs.declared.modules.Module.{Module}
+use Rattle.wasm_syntax.specs.EmptyModule.{empty_module}
 use Rattle.worked_histories.specs.Build.{value, func_type, limits, global_type, memory_arg, import_of, export_of, run, func, global}
-
--- the module that has nothing
-abbrev pub empty : Module
-empty =
-    record {
-      types = [];
-      imports = [];
-      funcs = [];
-      tables = [];
-      memories = [];
-      globals = [];
-      exports = [];
-      start = None;
-      elems = [];
-      datas = [];
-      customs = [];
-    }
 
 -- adds two answers of the host
 abbrev pub two_answers : Module
 two_answers =
-    record empty {
+    record empty_module {
       types = func_type [] (I32 ∷ []) ∷ [];
       imports = import_of (codes "h") (codes "f") (Func 0) ∷ [];
       funcs = func 0 []
@@ -40,7 +24,7 @@ two_answers =
 -- stores into a memory that the host writes
 abbrev pub overwrite : Module
 overwrite =
-    record empty {
+    record empty_module {
       types = func_type [] [] ∷ func_type [] (I32 ∷ []) ∷ [];
       imports = import_of (codes "h") (codes "f") (Func 0) ∷ [];
       funcs = func 1 []
@@ -53,7 +37,7 @@ overwrite =
 -- stores past the first page
 abbrev pub grow_access : Module
 grow_access =
-    record empty {
+    record empty_module {
       types = func_type [] [] ∷ [];
       imports = import_of (codes "h") (codes "f") (Func 0) ∷ [];
       funcs = func 0 []
@@ -94,7 +78,7 @@ fill_past =
 -- grows a memory of ten pages at most by three
 abbrev pub grow_failed : Module
 grow_failed =
-    record empty {
+    record empty_module {
       types = func_type [] [] ∷ func_type [] (I32 ∷ []) ∷ [];
       imports = import_of (codes "h") (codes "f") (Func 0) ∷ [];
       funcs = func 1 []
@@ -106,7 +90,7 @@ grow_failed =
 -- the host may call its second function inside the call of an import
 abbrev pub nested_call : Module
 nested_call =
-    record empty {
+    record empty_module {
       types = func_type [] (I32 ∷ []) ∷ [];
       imports = import_of (codes "h") (codes "f") (Func 0) ∷ [];
       funcs = func 0 []
@@ -130,7 +114,7 @@ nested_trap =
 -- calls a function by a table that the host changes
 abbrev pub table_entry : Module
 table_entry =
-    record empty {
+    record empty_module {
       types = func_type [] [] ∷ func_type [] (I32 ∷ []) ∷ [];
       imports = import_of (codes "h") (codes "f") (Func 0) ∷ [];
       funcs = func 1 []
@@ -157,7 +141,7 @@ table_growth =
 -- grows a table of four entries at most by two that hold a function, then by one, and calls the last
 abbrev pub table_sizes : Module
 table_sizes =
-    record empty {
+    record empty_module {
       types = func_type [] (I32 ∷ []) ∷ [];
       funcs = func 0 []
           (RefFunc 1 ∷ Const (value I32 2) ∷ TableGrow 0 ∷ RefNull ∷ Const (value I32 1) ∷ TableGrow 0
@@ -171,7 +155,7 @@ table_sizes =
 -- reads a global that the host sets
 abbrev pub float_global : Module
 float_global =
-    record empty {
+    record empty_module {
       types = func_type [] [] ∷ func_type [] (F32 ∷ []) ∷ [];
       imports = import_of (codes "h") (codes "f") (Func 0) ∷ [];
       funcs = func 1 []
@@ -183,7 +167,7 @@ float_global =
 -- its data segment stands at an imported global
 abbrev pub imported_offset : Module
 imported_offset =
-    record empty {
+    record empty_module {
       types = func_type [] (I32 ∷ []) ∷ [];
       imports = import_of (codes "h") (codes "b") (Global (global_type I32 false)) ∷ [];
       funcs = func 0 []
@@ -196,7 +180,7 @@ imported_offset =
 -- adds floats in a body that nothing calls
 abbrev pub float_body : Module
 float_body =
-    record empty {
+    record empty_module {
       types = func_type [] [] ∷ [];
       funcs = func 0 []
           (End ∷ []) ∷ func 0 []
@@ -207,7 +191,7 @@ float_body =
 -- reads into buffers on a stack in memory, as code compiled from C does
 abbrev pub c_buffers : Module
 c_buffers =
-    record empty {
+    record empty_module {
       types =
           func_type (I32 ∷ I32 ∷ I32 ∷ []) (I32 ∷ [])
           ∷ func_type (I32 ∷ []) (I32 ∷ []) ∷ func_type [] (I32 ∷ []) ∷ [];
@@ -229,7 +213,7 @@ c_buffers =
 -- the replay module of the first
 abbrev pub replay_two_answers : Module
 replay_two_answers =
-    record empty {
+    record empty_module {
       types = func_type [] (I32 ∷ []) ∷ func_type [] [] ∷ [];
       funcs = func 0 []
           (GlobalGet 0 ∷ GlobalGet 0 ∷ Const (value I32 1) ∷ Numeric I32_ADD ∷ GlobalSet 0 ∷ If (Some I32)

@@ -22,13 +22,33 @@ pub struct Outcome {
     pub line: Vec<u8>,
 }
 
+impl Outcome {
+    /// Whether the call did its job, without a line of error.
+    pub fn is_done(&self) -> bool {
+        self.status == 0 && self.line.is_empty()
+    }
+
+    /// Whether the call ended with this status and this line of error, and printed nothing.
+    pub fn is_refused(&self, status: u8, line: &str) -> bool {
+        self.status == status && self.line.as_slice() == line.as_bytes() && self.printed.is_empty()
+    }
+}
+
 /// The outcome of a call with these words.
+///
+/// # Errors
+///
+/// When memory runs out.
 pub fn outcome_of(alloc: Global, words: &[&str], files: &mut MemFiles) -> Result<Outcome, Fail> {
     let out = MemSink::new(alloc, 1_000_000, Vec::new(alloc));
     outcome_into(alloc, words, files, out)
 }
 
 /// Words as the call takes them.
+///
+/// # Errors
+///
+/// When memory runs out.
 pub fn texts_of(alloc: Global, words: &[&str]) -> Result<Vec<String>, Fail> {
     let mut texts = Vec::new(alloc);
     for word in words {
@@ -38,6 +58,10 @@ pub fn texts_of(alloc: Global, words: &[&str]) -> Result<Vec<String>, Fail> {
 }
 
 /// The outcome of a call with these words, and with a sink for what is printed.
+///
+/// # Errors
+///
+/// When memory runs out.
 pub fn outcome_into(
     alloc: Global,
     words: &[&str],
@@ -56,6 +80,10 @@ pub fn outcome_into(
 }
 
 /// The files of a module, in hexadecimal, and of a script. Some reads fail.
+///
+/// # Errors
+///
+/// When memory runs out, or the module is not in hexadecimal.
 pub fn files_of(
     alloc: Global,
     module: &str,
@@ -68,8 +96,12 @@ pub fn files_of(
     Ok(files)
 }
 
-/// The outcome of a command on a module, in hexadecimal, with a script.
-fn outcome_of_command(
+/// The outcome of `make` or `history` on a module, in hexadecimal, with a script.
+///
+/// # Errors
+///
+/// As for `files_of`.
+pub fn outcome_of_command(
     alloc: Global,
     command: &str,
     module: &str,
@@ -80,22 +112,20 @@ fn outcome_of_command(
     outcome_of(alloc, &[command, "m.wasm", "s.json", turns], &mut files)
 }
 
-/// The outcome of `make`.
-pub fn outcome_of_make(
+/// Whether `make` does its job within `turns`, and has spent them within `fewer`, which is one less.
+///
+/// # Errors
+///
+/// As for `files_of`.
+pub fn takes_turns(
     alloc: Global,
     module: &str,
     script: &str,
+    fewer: &str,
     turns: &str,
-) -> Result<Outcome, Fail> {
-    outcome_of_command(alloc, "make", module, script, turns)
-}
-
-/// The outcome of `history`.
-pub fn outcome_of_history(
-    alloc: Global,
-    module: &str,
-    script: &str,
-    turns: &str,
-) -> Result<Outcome, Fail> {
-    outcome_of_command(alloc, "history", module, script, turns)
+) -> Result<bool, Fail> {
+    let spent = outcome_of_command(alloc, "make", module, script, fewer)?;
+    let line = format!(in alloc; "turns spent: {fewer}\n")?;
+    let answer = outcome_of_command(alloc, "make", module, script, turns)?;
+    Ok(spent.is_refused(12, line.as_str()) && answer.is_done())
 }

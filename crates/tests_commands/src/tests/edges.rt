@@ -1,370 +1,166 @@
 //! Runs at the ends of what instructions and the host's actions take, with their lines as an
 //! interpreter that has nothing of this repository told them.
 
-use crate::tests::calls::outcome_of_history;
+use crate::tests::calls::outcome_of_command;
 use crate::tests::edge_modules::{
     ACCESSES, BRANCHES, CALLS, COPIES, COUNTS, DEEP, DIVISIONS, STARTS, STARTS_WITH_IMPORT,
 };
+use crate::tests::tables::check_tables;
 use std::test::Fail;
 
-/// Modules and scripts with the lines of their runs within 100 turns.
-const ROWS: &[(&str, &str, &str, &str)] = &[
+/// Modules with their runs.
+const RUNS: &[(&str, &str)] = &[
     (
-        "a load that ends at the last byte",
         ACCESSES,
-        r#"{"main":[{"call":"load","args":[{"i32":65532}]}]}"#,
-        "host-call 0 i32:0000fffc\n\
-         step 0 0 -> i32:0000fffc\n\
-         step 0 1 i32:0000fffc -> i32:84030201\n\
-         host-return 0 i32:84030201\n\
-         ended\n",
+        r#"
+- a load that ends at the last byte | 100 | {"main":[{"call":"load","args":[{"i32":65532}]}]}
+  => host-call 0 i32:0000fffc; step 0 0 -> i32:0000fffc; step 0 1 i32:0000fffc -> i32:84030201;
+  host-return 0 i32:84030201; ended
+- a load that ends a byte past it | 100 | {"main":[{"call":"load","args":[{"i32":65533}]}]}
+  => host-call 0 i32:0000fffd; step 0 0 -> i32:0000fffd; trap 0 1 memory i32:0000fffd found 1; trapped
+- an address that does not wrap | 100 | {"main":[{"call":"byte","args":[{"i32":1}]}]}
+  => host-call 1 i32:00000001; step 1 0 -> i32:00000001; trap 1 1 memory i32:00000001 found 1; trapped
+- a store of the low bytes, and one past the end | 100 | {"main":[{"call":"store","args":[{"i32":65530},
+  {"i64":-2}]},{"call":"half","args":[{"i32":65532}]},{"call":"store","args":[{"i32":65531},{"i64":0}]}]}
+  => host-call 2 i32:0000fffa i64:fffffffffffffffe; step 2 0 -> i32:0000fffa; step 2 1 -> i64:fffffffffffffffe;
+  step 2 2 i32:0000fffa i64:fffffffffffffffe ->; host-return 2; host-call 3 i32:0000fffc;
+  step 3 0 -> i32:0000fffc; step 3 1 i32:0000fffc -> i64:fffffffffffffffe; host-return 3 i64:fffffffffffffffe;
+  host-call 2 i32:0000fffb i64:0000000000000000; step 2 0 -> i32:0000fffb; step 2 1 -> i64:0000000000000000;
+  trap 2 2 memory i32:0000fffb i64:0000000000000000 found 1; trapped
+"#,
     ),
     (
-        "a load that ends a byte past it",
-        ACCESSES,
-        r#"{"main":[{"call":"load","args":[{"i32":65533}]}]}"#,
-        "host-call 0 i32:0000fffd\n\
-         step 0 0 -> i32:0000fffd\n\
-         trap 0 1 memory i32:0000fffd found 1\n\
-         trapped\n",
-    ),
-    (
-        "an address that does not wrap",
-        ACCESSES,
-        r#"{"main":[{"call":"byte","args":[{"i32":1}]}]}"#,
-        "host-call 1 i32:00000001\n\
-         step 1 0 -> i32:00000001\n\
-         trap 1 1 memory i32:00000001 found 1\n\
-         trapped\n",
-    ),
-    (
-        "a store of the low bytes, and one past the end",
-        ACCESSES,
-        concat!(
-            r#"{"main":[{"call":"store","args":[{"i32":65530},{"i64":-2}]},{"call":"half","args":[{"i32":65532}]},"#,
-            r#"{"call":"store","args":[{"i32":65531},{"i64":0}]}]}"#
-        ),
-        "host-call 2 i32:0000fffa i64:fffffffffffffffe\n\
-         step 2 0 -> i32:0000fffa\n\
-         step 2 1 -> i64:fffffffffffffffe\n\
-         step 2 2 i32:0000fffa i64:fffffffffffffffe ->\n\
-         host-return 2\n\
-         host-call 3 i32:0000fffc\n\
-         step 3 0 -> i32:0000fffc\n\
-         step 3 1 i32:0000fffc -> i64:fffffffffffffffe\n\
-         host-return 3 i64:fffffffffffffffe\n\
-         host-call 2 i32:0000fffb i64:0000000000000000\n\
-         step 2 0 -> i32:0000fffb\n\
-         step 2 1 -> i64:0000000000000000\n\
-         trap 2 2 memory i32:0000fffb i64:0000000000000000 found 1\n\
-         trapped\n",
-    ),
-    (
-        "a call through the table",
         CALLS,
-        r#"{"main":[{"call":"call","args":[{"i32":1}]}]}"#,
-        "host-call 2 i32:00000001\n\
-         step 2 0 -> i32:00000001\n\
-         step 2 1 i32:00000001 -> found 1\n\
-         enter 1\n\
-         step 1 0 -> i32:00000007\n\
-         exit 1 i32:00000007\n\
-         host-return 2 i32:00000007\n\
-         ended\n",
+        r#"
+- a call through the table | 100 | {"main":[{"call":"call","args":[{"i32":1}]}]}
+  => host-call 2 i32:00000001; step 2 0 -> i32:00000001; step 2 1 i32:00000001 -> found 1; enter 1;
+  step 1 0 -> i32:00000007; exit 1 i32:00000007; host-return 2 i32:00000007; ended
+- an index past the table | 100 | {"main":[{"call":"call","args":[{"i32":3}]}]}
+  => host-call 2 i32:00000003; step 2 0 -> i32:00000003; trap 2 1 table i32:00000003 found 3; trapped
+- an empty entry | 100 | {"main":[{"call":"call","args":[{"i32":2}]}]}
+  => host-call 2 i32:00000002; step 2 0 -> i32:00000002; trap 2 1 empty i32:00000002; trapped
+- a function of another type | 100 | {"main":[{"call":"call","args":[{"i32":0}]}]}
+  => host-call 2 i32:00000000; step 2 0 -> i32:00000000; trap 2 1 signature i32:00000000 found 0; trapped
+- a function that is put into the table and called there | 100 | {"main":[{"set_table":2,"func":"call"},
+  {"call_table":2,"args":[{"i32":1}]}]}
+  => host-call 2 i32:00000001; step 2 0 -> i32:00000001; step 2 1 i32:00000001 -> found 1; enter 1;
+  step 1 0 -> i32:00000007; exit 1 i32:00000007; host-return 2 i32:00000007; ended
+"#,
     ),
     (
-        "an index past the table",
-        CALLS,
-        r#"{"main":[{"call":"call","args":[{"i32":3}]}]}"#,
-        "host-call 2 i32:00000003\n\
-         step 2 0 -> i32:00000003\n\
-         trap 2 1 table i32:00000003 found 3\n\
-         trapped\n",
-    ),
-    (
-        "an empty entry",
-        CALLS,
-        r#"{"main":[{"call":"call","args":[{"i32":2}]}]}"#,
-        "host-call 2 i32:00000002\n\
-         step 2 0 -> i32:00000002\n\
-         trap 2 1 empty i32:00000002\n\
-         trapped\n",
-    ),
-    (
-        "a function of another type",
-        CALLS,
-        r#"{"main":[{"call":"call","args":[{"i32":0}]}]}"#,
-        "host-call 2 i32:00000000\n\
-         step 2 0 -> i32:00000000\n\
-         trap 2 1 signature i32:00000000 found 0\n\
-         trapped\n",
-    ),
-    (
-        "divisions",
         DIVISIONS,
-        concat!(
-            r#"{"main":[{"call":"div_s","args":[{"i32":-7},{"i32":2}]},{"call":"rem_s","args":[{"i64":-7},"#,
-            r#"{"i64":2}]},{"call":"rem_s","args":[{"i64":-9223372036854775808},{"i64":-1}]},"#,
-            r#"{"call":"rem_u","args":[{"i32":-1},{"i32":10}]}]}"#
-        ),
-        "host-call 0 i32:fffffff9 i32:00000002\n\
-         step 0 0 -> i32:fffffff9\n\
-         step 0 1 -> i32:00000002\n\
-         step 0 2 i32:fffffff9 i32:00000002 -> i32:fffffffd\n\
-         host-return 0 i32:fffffffd\n\
-         host-call 1 i64:fffffffffffffff9 i64:0000000000000002\n\
-         step 1 0 -> i64:fffffffffffffff9\n\
-         step 1 1 -> i64:0000000000000002\n\
-         step 1 2 i64:fffffffffffffff9 i64:0000000000000002 -> i64:ffffffffffffffff\n\
-         host-return 1 i64:ffffffffffffffff\n\
-         host-call 1 i64:8000000000000000 i64:ffffffffffffffff\n\
-         step 1 0 -> i64:8000000000000000\n\
-         step 1 1 -> i64:ffffffffffffffff\n\
-         step 1 2 i64:8000000000000000 i64:ffffffffffffffff -> i64:0000000000000000\n\
-         host-return 1 i64:0000000000000000\n\
-         host-call 2 i32:ffffffff i32:0000000a\n\
-         step 2 0 -> i32:ffffffff\n\
-         step 2 1 -> i32:0000000a\n\
-         step 2 2 i32:ffffffff i32:0000000a -> i32:00000005\n\
-         host-return 2 i32:00000005\n\
-         ended\n",
+        r#"
+- divisions | 100 | {"main":[{"call":"div_s","args":[{"i32":-7},{"i32":2}]},{"call":"rem_s","args":[{"i64":-7},
+  {"i64":2}]},{"call":"rem_s","args":[{"i64":-9223372036854775808},{"i64":-1}]},{"call":"rem_u",
+  "args":[{"i32":-1},{"i32":10}]}]}
+  => host-call 0 i32:fffffff9 i32:00000002; step 0 0 -> i32:fffffff9; step 0 1 -> i32:00000002;
+  step 0 2 i32:fffffff9 i32:00000002 -> i32:fffffffd; host-return 0 i32:fffffffd;
+  host-call 1 i64:fffffffffffffff9 i64:0000000000000002; step 1 0 -> i64:fffffffffffffff9;
+  step 1 1 -> i64:0000000000000002; step 1 2 i64:fffffffffffffff9 i64:0000000000000002 -> i64:ffffffffffffffff;
+  host-return 1 i64:ffffffffffffffff; host-call 1 i64:8000000000000000 i64:ffffffffffffffff;
+  step 1 0 -> i64:8000000000000000; step 1 1 -> i64:ffffffffffffffff;
+  step 1 2 i64:8000000000000000 i64:ffffffffffffffff -> i64:0000000000000000;
+  host-return 1 i64:0000000000000000; host-call 2 i32:ffffffff i32:0000000a; step 2 0 -> i32:ffffffff;
+  step 2 1 -> i32:0000000a; step 2 2 i32:ffffffff i32:0000000a -> i32:00000005; host-return 2 i32:00000005;
+  ended
+- a division by zero | 100 | {"main":[{"call":"rem_u","args":[{"i32":1},{"i32":0}]}]}
+  => host-call 2 i32:00000001 i32:00000000; step 2 0 -> i32:00000001; step 2 1 -> i32:00000000;
+  trap 2 2 divide i32:00000001 i32:00000000; trapped
+- a division that overflows | 100 | {"main":[{"call":"div_s","args":[{"i32":-2147483648},{"i32":-1}]}]}
+  => host-call 0 i32:80000000 i32:ffffffff; step 0 0 -> i32:80000000; step 0 1 -> i32:ffffffff;
+  trap 0 2 overflow i32:80000000 i32:ffffffff; trapped
+"#,
     ),
     (
-        "a division by zero",
-        DIVISIONS,
-        r#"{"main":[{"call":"rem_u","args":[{"i32":1},{"i32":0}]}]}"#,
-        "host-call 2 i32:00000001 i32:00000000\n\
-         step 2 0 -> i32:00000001\n\
-         step 2 1 -> i32:00000000\n\
-         trap 2 2 divide i32:00000001 i32:00000000\n\
-         trapped\n",
-    ),
-    (
-        "a division that overflows",
-        DIVISIONS,
-        r#"{"main":[{"call":"div_s","args":[{"i32":-2147483648},{"i32":-1}]}]}"#,
-        "host-call 0 i32:80000000 i32:ffffffff\n\
-         step 0 0 -> i32:80000000\n\
-         step 0 1 -> i32:ffffffff\n\
-         trap 0 2 overflow i32:80000000 i32:ffffffff\n\
-         trapped\n",
-    ),
-    (
-        "a table of branches, and past its end",
         BRANCHES,
-        concat!(
-            r#"{"main":[{"call":"switch","args":[{"i32":0}]},{"call":"switch","args":[{"i32":1}]},"#,
-            r#"{"call":"switch","args":[{"i32":2}]},{"call":"switch","args":[{"i32":-1}]}]}"#
-        ),
-        "host-call 0 i32:00000000\n\
-         step 0 0 ->\n\
-         step 0 1 ->\n\
-         step 0 2 ->\n\
-         step 0 3 -> i32:0000000a\n\
-         step 0 4 -> i32:00000000\n\
-         step 0 5 i32:00000000 ->\n\
-         step 0 6 -> i32:00000001\n\
-         step 0 7 i32:0000000a i32:00000001 -> i32:0000000b\n\
-         step 0 8 -> i32:00000002\n\
-         step 0 9 i32:0000000b i32:00000002 -> i32:0000000d\n\
-         host-return 0 i32:0000000d\n\
-         host-call 0 i32:00000001\n\
-         step 0 0 ->\n\
-         step 0 1 ->\n\
-         step 0 2 ->\n\
-         step 0 3 -> i32:0000000a\n\
-         step 0 4 -> i32:00000001\n\
-         step 0 5 i32:00000001 ->\n\
-         step 0 8 -> i32:00000002\n\
-         step 0 9 i32:0000000a i32:00000002 -> i32:0000000c\n\
-         host-return 0 i32:0000000c\n\
-         host-call 0 i32:00000002\n\
-         step 0 0 ->\n\
-         step 0 1 ->\n\
-         step 0 2 ->\n\
-         step 0 3 -> i32:0000000a\n\
-         step 0 4 -> i32:00000002\n\
-         step 0 5 i32:00000002 ->\n\
-         host-return 0 i32:0000000a\n\
-         host-call 0 i32:ffffffff\n\
-         step 0 0 ->\n\
-         step 0 1 ->\n\
-         step 0 2 ->\n\
-         step 0 3 -> i32:0000000a\n\
-         step 0 4 -> i32:ffffffff\n\
-         step 0 5 i32:ffffffff ->\n\
-         host-return 0 i32:0000000a\n\
-         ended\n",
+        r#"
+- a table of branches, and past its end | 100 | {"main":[{"call":"switch","args":[{"i32":0}]},{"call":"switch",
+  "args":[{"i32":1}]},{"call":"switch","args":[{"i32":2}]},{"call":"switch","args":[{"i32":-1}]}]}
+  => host-call 0 i32:00000000; step 0 0 ->; step 0 1 ->; step 0 2 ->; step 0 3 -> i32:0000000a;
+  step 0 4 -> i32:00000000; step 0 5 i32:00000000 ->; step 0 6 -> i32:00000001;
+  step 0 7 i32:0000000a i32:00000001 -> i32:0000000b; step 0 8 -> i32:00000002;
+  step 0 9 i32:0000000b i32:00000002 -> i32:0000000d; host-return 0 i32:0000000d; host-call 0 i32:00000001;
+  step 0 0 ->; step 0 1 ->; step 0 2 ->; step 0 3 -> i32:0000000a; step 0 4 -> i32:00000001;
+  step 0 5 i32:00000001 ->; step 0 8 -> i32:00000002; step 0 9 i32:0000000a i32:00000002 -> i32:0000000c;
+  host-return 0 i32:0000000c; host-call 0 i32:00000002; step 0 0 ->; step 0 1 ->; step 0 2 ->;
+  step 0 3 -> i32:0000000a; step 0 4 -> i32:00000002; step 0 5 i32:00000002 ->; host-return 0 i32:0000000a;
+  host-call 0 i32:ffffffff; step 0 0 ->; step 0 1 ->; step 0 2 ->; step 0 3 -> i32:0000000a;
+  step 0 4 -> i32:ffffffff; step 0 5 i32:ffffffff ->; host-return 0 i32:0000000a; ended
+- a branch that carries a value over another | 100 | {"main":[{"call":"carry","args":[{"i32":1}]},
+  {"call":"carry","args":[{"i32":0}]}]}
+  => host-call 1 i32:00000001; step 1 0 -> i64:0000000000000001; step 1 1 ->; step 1 2 -> i64:0000000000000002;
+  step 1 3 -> i64:0000000000000003; step 1 4 -> i32:00000001; step 1 5 i32:00000001 ->;
+  step 1 7 i64:0000000000000001 i64:0000000000000003 -> i64:fffffffffffffffe;
+  host-return 1 i64:fffffffffffffffe; host-call 1 i32:00000000; step 1 0 -> i64:0000000000000001; step 1 1 ->;
+  step 1 2 -> i64:0000000000000002; step 1 3 -> i64:0000000000000003; step 1 4 -> i32:00000000;
+  step 1 5 i32:00000000 ->; step 1 6 i64:0000000000000002 i64:0000000000000003 -> i64:0000000000000005;
+  step 1 7 i64:0000000000000001 i64:0000000000000005 -> i64:fffffffffffffffc;
+  host-return 1 i64:fffffffffffffffc; ended
+- a loop | 100 | {"main":[{"call":"count","args":[{"i32":2}]}]}
+  => host-call 2 i32:00000002; step 2 0 ->; step 2 1 -> i32:00000000; step 2 2 -> i32:00000001;
+  step 2 3 i32:00000000 i32:00000001 -> i32:00000001; step 2 4 i32:00000001 -> i32:00000001;
+  step 2 5 -> i32:00000002; step 2 6 i32:00000001 i32:00000002 -> i32:00000001; step 2 7 i32:00000001 ->;
+  step 2 0 ->; step 2 1 -> i32:00000001; step 2 2 -> i32:00000001;
+  step 2 3 i32:00000001 i32:00000001 -> i32:00000002; step 2 4 i32:00000002 -> i32:00000002;
+  step 2 5 -> i32:00000002; step 2 6 i32:00000002 i32:00000002 -> i32:00000000; step 2 7 i32:00000000 ->;
+  step 2 8 -> i32:00000002; host-return 2 i32:00000002; ended
+- the parts of an if, and bits of floats | 100 | {"main":[{"call":"either","args":[{"i32":3}]},{"call":"either",
+  "args":[{"i32":0}]}]}
+  => host-call 3 i32:00000003; step 3 0 -> i32:00000003; step 3 1 i32:00000003 ->; step 3 2 -> f32:3f800000;
+  host-return 3 f32:3f800000; host-call 3 i32:00000000; step 3 0 -> i32:00000000; step 3 1 i32:00000000 ->;
+  step 3 3 -> i32:00000000; step 3 4 i32:00000000 -> i32:00000001; step 3 5 i32:00000001 ->;
+  step 3 6 -> f64:8000000000000000; step 3 7 f64:8000000000000000 -> i64:8000000000000000;
+  step 3 8 i64:8000000000000000 ->; step 3 9 -> f32:7fa00001; step 3 10 ->; host-return 3 f32:7fa00001; ended
+"#,
     ),
     (
-        "a branch that carries a value over another",
-        BRANCHES,
-        r#"{"main":[{"call":"carry","args":[{"i32":1}]},{"call":"carry","args":[{"i32":0}]}]}"#,
-        "host-call 1 i32:00000001\n\
-         step 1 0 -> i64:0000000000000001\n\
-         step 1 1 ->\n\
-         step 1 2 -> i64:0000000000000002\n\
-         step 1 3 -> i64:0000000000000003\n\
-         step 1 4 -> i32:00000001\n\
-         step 1 5 i32:00000001 ->\n\
-         step 1 7 i64:0000000000000001 i64:0000000000000003 -> i64:fffffffffffffffe\n\
-         host-return 1 i64:fffffffffffffffe\n\
-         host-call 1 i32:00000000\n\
-         step 1 0 -> i64:0000000000000001\n\
-         step 1 1 ->\n\
-         step 1 2 -> i64:0000000000000002\n\
-         step 1 3 -> i64:0000000000000003\n\
-         step 1 4 -> i32:00000000\n\
-         step 1 5 i32:00000000 ->\n\
-         step 1 6 i64:0000000000000002 i64:0000000000000003 -> i64:0000000000000005\n\
-         step 1 7 i64:0000000000000001 i64:0000000000000005 -> i64:fffffffffffffffc\n\
-         host-return 1 i64:fffffffffffffffc\n\
-         ended\n",
-    ),
-    (
-        "a loop",
-        BRANCHES,
-        r#"{"main":[{"call":"count","args":[{"i32":2}]}]}"#,
-        "host-call 2 i32:00000002\n\
-         step 2 0 ->\n\
-         step 2 1 -> i32:00000000\n\
-         step 2 2 -> i32:00000001\n\
-         step 2 3 i32:00000000 i32:00000001 -> i32:00000001\n\
-         step 2 4 i32:00000001 -> i32:00000001\n\
-         step 2 5 -> i32:00000002\n\
-         step 2 6 i32:00000001 i32:00000002 -> i32:00000001\n\
-         step 2 7 i32:00000001 ->\n\
-         step 2 0 ->\n\
-         step 2 1 -> i32:00000001\n\
-         step 2 2 -> i32:00000001\n\
-         step 2 3 i32:00000001 i32:00000001 -> i32:00000002\n\
-         step 2 4 i32:00000002 -> i32:00000002\n\
-         step 2 5 -> i32:00000002\n\
-         step 2 6 i32:00000002 i32:00000002 -> i32:00000000\n\
-         step 2 7 i32:00000000 ->\n\
-         step 2 8 -> i32:00000002\n\
-         host-return 2 i32:00000002\n\
-         ended\n",
-    ),
-    (
-        "the parts of an if, and bits of floats",
-        BRANCHES,
-        r#"{"main":[{"call":"either","args":[{"i32":3}]},{"call":"either","args":[{"i32":0}]}]}"#,
-        "host-call 3 i32:00000003\n\
-         step 3 0 -> i32:00000003\n\
-         step 3 1 i32:00000003 ->\n\
-         step 3 2 -> f32:3f800000\n\
-         host-return 3 f32:3f800000\n\
-         host-call 3 i32:00000000\n\
-         step 3 0 -> i32:00000000\n\
-         step 3 1 i32:00000000 ->\n\
-         step 3 3 -> i32:00000000\n\
-         step 3 4 i32:00000000 -> i32:00000001\n\
-         step 3 5 i32:00000001 ->\n\
-         step 3 6 -> f64:8000000000000000\n\
-         step 3 7 f64:8000000000000000 -> i64:8000000000000000\n\
-         step 3 8 i64:8000000000000000 ->\n\
-         step 3 9 -> f32:7fa00001\n\
-         step 3 10 ->\n\
-         host-return 3 f32:7fa00001\n\
-         ended\n",
-    ),
-    (
-        "a start function",
         STARTS,
-        r#"{"main":[{"call":"get"}]}"#,
-        "host-call 0\n\
-         step 0 0 -> i64:0000000000000005\n\
-         step 0 1 -> i64:0000000000000003\n\
-         step 0 2 i64:0000000000000005 i64:0000000000000003 -> i64:0000000000000028\n\
-         step 0 3 i64:0000000000000028 ->\n\
-         host-return 0\n\
-         host-call 1\n\
-         step 1 0 -> i64:0000000000000028\n\
-         host-return 1 i64:0000000000000028\n\
-         ended\n",
+        r#"
+- a start function | 100 | {"main":[{"call":"get"}]}
+  => host-call 0; step 0 0 -> i64:0000000000000005; step 0 1 -> i64:0000000000000003;
+  step 0 2 i64:0000000000000005 i64:0000000000000003 -> i64:0000000000000028; step 0 3 i64:0000000000000028 ->;
+  host-return 0; host-call 1; step 1 0 -> i64:0000000000000028; host-return 1 i64:0000000000000028; ended
+"#,
     ),
     (
-        "a start function that is an import",
         STARTS_WITH_IMPORT,
-        r#"{"imports":{"h":{"f":{"calls":[{"do":[]}]}}},"main":[{"call":"g"}]}"#,
-        "host-call 1\n\
-         step 1 0 ->\n\
-         import-call 0\n\
-         import-return 0\n\
-         host-return 1\n\
-         ended\n",
+        r#"
+- a start function that is an import | 100 | {"imports":{"h":{"f":{"calls":[{"do":[]}]}}},"main":[{"call":"g"}]}
+  => host-call 1; step 1 0 ->; import-call 0; import-return 0; host-return 1; ended
+"#,
     ),
     (
-        "each import's calls are counted apart, and the rest is answered alike",
         COUNTS,
-        concat!(
-            r#"{"imports":{"h":{"f":{"calls":[{"return":{"i32":100}}],"rest":{"return":{"i32":20}}},"#,
-            r#""g":{"calls":[{"return":{"i32":3}},{"return":{"i32":4}}]}}},"main":[{"call":"run"}]}"#
-        ),
-        "host-call 2\n\
-         step 2 0 ->\n\
-         import-call 0\n\
-         import-return 0 i32:00000064\n\
-         step 2 1 ->\n\
-         import-call 1\n\
-         import-return 1 i32:00000003\n\
-         step 2 2 ->\n\
-         import-call 0\n\
-         import-return 0 i32:00000014\n\
-         step 2 3 ->\n\
-         import-call 1\n\
-         import-return 1 i32:00000004\n\
-         step 2 4 i32:00000014 i32:00000004 -> i32:00000010\n\
-         step 2 5 i32:00000003 i32:00000010 -> i32:fffffff3\n\
-         step 2 6 i32:00000064 i32:fffffff3 -> i32:00000071\n\
-         host-return 2 i32:00000071\n\
-         ended\n",
+        r#"
+- each import's calls are counted apart, and the rest is answered alike | 100 | 
+  {"imports":{"h":{"f":{"calls":[{"return":{"i32":100}}],"rest":{"return":{"i32":20}}},
+  "g":{"calls":[{"return":{"i32":3}},{"return":{"i32":4}}]}}},"main":[{"call":"run"}]}
+  => host-call 2; step 2 0 ->; import-call 0; import-return 0 i32:00000064; step 2 1 ->; import-call 1;
+  import-return 1 i32:00000003; step 2 2 ->; import-call 0; import-return 0 i32:00000014; step 2 3 ->;
+  import-call 1; import-return 1 i32:00000004; step 2 4 i32:00000014 i32:00000004 -> i32:00000010;
+  step 2 5 i32:00000003 i32:00000010 -> i32:fffffff3; step 2 6 i32:00000064 i32:fffffff3 -> i32:00000071;
+  host-return 2 i32:00000071; ended
+"#,
     ),
     (
-        "a copy onto itself, a write and a growth",
         COPIES,
-        concat!(
-            r#"{"imports":{"h":{"f":{"calls":[{"do":[{"copy":{"arg":0,"plus":1},"from":{"arg":0},"count":4},"#,
-            r#"{"write":{"arg":1,"plus":9},"bytes":"FF"},{"grow":1}]}]}}},"main":[{"call":"run"}]}"#
-        ),
-        "host-call 1\n\
-         step 1 0 -> i32:00000004\n\
-         step 1 1 -> i32:00000002\n\
-         step 1 2 i32:00000004 i32:00000002 ->\n\
-         import-call 0 i32:00000004 i32:00000002\n\
-         import-return 0\n\
-         step 1 3 -> i32:00000004\n\
-         step 1 4 i32:00000004 -> i64:ff00000403020101\n\
-         step 1 5 -> i32:00000002\n\
-         step 1 6 i32:00000002 -> i64:0000000000000002\n\
-         step 1 7 i64:ff00000403020101 i64:0000000000000002 -> i64:ff00000403020103\n\
-         host-return 1 i64:ff00000403020103\n\
-         ended\n",
-    ),
-    (
-        "a function that is put into the table and called there",
-        CALLS,
-        r#"{"main":[{"set_table":2,"func":"call"},{"call_table":2,"args":[{"i32":1}]}]}"#,
-        "host-call 2 i32:00000001\n\
-         step 2 0 -> i32:00000001\n\
-         step 2 1 i32:00000001 -> found 1\n\
-         enter 1\n\
-         step 1 0 -> i32:00000007\n\
-         exit 1 i32:00000007\n\
-         host-return 2 i32:00000007\n\
-         ended\n",
+        r#"
+- a copy onto itself, a write and a growth | 100 | {"imports":{"h":{"f":{"calls":[{"do":[{"copy":{"arg":0,
+  "plus":1},"from":{"arg":0},"count":4},{"write":{"arg":1,"plus":9},"bytes":"FF"},{"grow":1}]}]}}},
+  "main":[{"call":"run"}]}
+  => host-call 1; step 1 0 -> i32:00000004; step 1 1 -> i32:00000002; step 1 2 i32:00000004 i32:00000002 ->;
+  import-call 0 i32:00000004 i32:00000002; import-return 0; step 1 3 -> i32:00000004;
+  step 1 4 i32:00000004 -> i64:ff00000403020101; step 1 5 -> i32:00000002;
+  step 1 6 i32:00000002 -> i64:0000000000000002;
+  step 1 7 i64:ff00000403020101 i64:0000000000000002 -> i64:ff00000403020103;
+  host-return 1 i64:ff00000403020103; ended
+"#,
     ),
 ];
 
 #[test]
 fn runs_have_their_lines(rt: HostRuntime) -> Result<(), Fail> {
-    let alloc = rt.alloc();
-    for &(name, module, script, lines) in ROWS {
-        let answer = outcome_of_history(alloc, module, script, "100")?;
-        assert_eq!(rt; answer.printed.as_slice(), lines.as_bytes(), "{name}");
-        assert_eq!(rt; answer.status, 0, "{name}");
-    }
+    assert_eq!(rt; check_tables(rt.alloc(), RUNS)?, 20);
     Ok(())
 }
 
@@ -415,10 +211,8 @@ const FAULTS: &[(&str, &str, &str, &str)] = &[
 fn faults_have_their_turn(rt: HostRuntime) -> Result<(), Fail> {
     let alloc = rt.alloc();
     for &(name, module, script, line) in FAULTS {
-        let answer = outcome_of_history(alloc, module, script, "100")?;
-        assert_eq!(rt; answer.line.as_slice(), line.as_bytes(), "{name}");
-        assert_eq!(rt; answer.status, 11, "{name}");
-        assert!(rt; answer.printed.is_empty(), "{name}");
+        let answer = outcome_of_command(alloc, "history", module, script, "100")?;
+        assert!(rt; answer.is_refused(11, line), "{name}");
     }
     Ok(())
 }
@@ -427,12 +221,12 @@ fn faults_have_their_turn(rt: HostRuntime) -> Result<(), Fail> {
 #[test]
 fn a_deep_recursion(rt: HostRuntime) -> Result<(), Fail> {
     let script = r#"{"main":[{"call":"depth","args":[{"i32":100000}]}]}"#;
-    let answer = outcome_of_history(rt.alloc(), DEEP, script, "800004")?;
+    let answer = outcome_of_command(rt.alloc(), "history", DEEP, script, "800004")?;
     assert_eq!(rt; answer.status, 0);
     assert_eq!(rt; answer.printed.len(), 28000133);
     let end = b"host-return 0 i32:000186a0\nended\n".as_slice();
     assert!(rt; answer.printed.as_slice().ends_with(end));
-    let short = outcome_of_history(rt.alloc(), DEEP, script, "800003")?;
+    let short = outcome_of_command(rt.alloc(), "history", DEEP, script, "800003")?;
     assert_eq!(rt; short.status, 12);
     Ok(())
 }

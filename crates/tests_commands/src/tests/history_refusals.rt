@@ -1,6 +1,6 @@
 //! Calls of `history` that print nothing, as worked out by hand.
 
-use crate::tests::calls::{ANSWERS, TWO_ANSWERS, outcome_of_history};
+use crate::tests::calls::{ANSWERS, TWO_ANSWERS, outcome_of_command};
 use crate::tests::history_modules::{
     C_BUFFERS, COPY_LOAD, IMPORTED_OFFSET, NESTED_CALL, OVERWRITE, TABLE_GROWTH, TABLE_OF_TWO,
 };
@@ -223,10 +223,8 @@ const REFUSED: &[(&str, &str, &str, &str, u8, &str)] = &[
 fn refused_runs_have_their_line(rt: HostRuntime) -> Result<(), Fail> {
     let alloc = rt.alloc();
     for &(name, module, script, turns, status, line) in REFUSED {
-        let answer = outcome_of_history(alloc, module, script, turns)?;
-        assert_eq!(rt; answer.status, status, "{name}");
-        assert_eq!(rt; answer.line.as_slice(), line.as_bytes(), "{name}");
-        assert!(rt; answer.printed.is_empty(), "{name}");
+        let answer = outcome_of_command(alloc, "history", module, script, turns)?;
+        assert!(rt; answer.is_refused(status, line), "{name}");
     }
     Ok(())
 }

@@ -1,6 +1,8 @@
 //! Runs of some million turns and calls, and a module of some megabytes.
 
-use crate::tests::calls::{ANSWERS, TWO_ANSWERS, files_of, outcome_of, outcome_of_make};
+use crate::tests::calls::{
+    ANSWERS, TWO_ANSWERS, files_of, outcome_of, outcome_of_command, takes_turns,
+};
 use crate::tests::replays::script_of_answers;
 use std::test::Fail;
 
@@ -14,15 +16,8 @@ const TWO_MILLION_TURNS: &str =
 
 #[test]
 fn a_run_of_two_million_turns(rt: HostRuntime) -> Result<(), Fail> {
-    let alloc = rt.alloc();
     let script = r#"{"main":[{"call":"g"}]}"#;
-    let answer = outcome_of_make(alloc, TWO_MILLION_TURNS, script, "2000000")?;
-    assert_eq!(rt; answer.status, 0);
-    assert!(rt; answer.line.is_empty());
-    let spent = outcome_of_make(alloc, TWO_MILLION_TURNS, script, "1999999")?;
-    assert_eq!(rt; spent.status, 12);
-    assert_eq!(rt; spent.line.as_slice(), "turns spent: 1999999\n".as_bytes());
-    assert!(rt; spent.printed.is_empty());
+    assert!(rt; takes_turns(rt.alloc(), TWO_MILLION_TURNS, script, "1999999", "2000000")?);
     Ok(())
 }
 
@@ -59,15 +54,12 @@ fn a_run_of_three_million_turns(rt: HostRuntime) -> Result<(), Fail> {
     let alloc = rt.alloc();
     let script = script_of_answers(alloc, &[500_000], 0)?;
     // The host's call, three instructions, and six in each round.
-    let answer = outcome_of_make(alloc, ROUNDS, script.as_str(), "3000004")?;
-    assert_eq!(rt; answer.status, 0);
-    assert!(rt; answer.line.is_empty());
+    let answer = outcome_of_command(alloc, "make", ROUNDS, script.as_str(), "3000004")?;
+    assert!(rt; answer.is_done());
     let wanted = hex::decode(alloc, ROUNDS_REPLAYED)?;
     assert_eq!(rt; answer.printed.as_slice(), wanted.as_slice());
-    let spent = outcome_of_make(alloc, ROUNDS, script.as_str(), "3000003")?;
-    assert_eq!(rt; spent.status, 12);
-    assert_eq!(rt; spent.line.as_slice(), "turns spent: 3000003\n".as_bytes());
-    assert!(rt; spent.printed.is_empty());
+    let spent = outcome_of_command(alloc, "make", ROUNDS, script.as_str(), "3000003")?;
+    assert!(rt; spent.is_refused(12, "turns spent: 3000003\n"));
     Ok(())
 }
 
@@ -89,12 +81,10 @@ fn a_run_of_two_million_calls_and_one(rt: HostRuntime) -> Result<(), Fail> {
     let alloc = rt.alloc();
     let script = script_of_answers(alloc, &[], 250_000)?;
     // The host's call, and 24 instructions in each round.
-    let spent = outcome_of_make(alloc, EIGHT_IMPORTS, script.as_str(), "6000000")?;
-    assert_eq!(rt; spent.status, 12);
-    let answer = outcome_of_make(alloc, EIGHT_IMPORTS, script.as_str(), "6000001")?;
-    assert_eq!(rt; answer.status, 19);
-    assert_eq!(rt; answer.line.as_slice(), b"not built\n".as_slice());
-    assert!(rt; answer.printed.is_empty());
+    let spent = outcome_of_command(alloc, "make", EIGHT_IMPORTS, script.as_str(), "6000000")?;
+    assert!(rt; spent.is_refused(12, "turns spent: 6000000\n"));
+    let answer = outcome_of_command(alloc, "make", EIGHT_IMPORTS, script.as_str(), "6000001")?;
+    assert!(rt; answer.is_refused(19, "not built\n"));
     Ok(())
 }
 
@@ -117,8 +107,7 @@ fn a_module_of_three_million_bytes(rt: HostRuntime) -> Result<(), Fail> {
     let mut files = files_of(alloc, TWO_ANSWERS, ANSWERS, Vec::new(alloc))?;
     files.add("large", module.as_slice())?;
     let answer = outcome_of(alloc, &["make", "large", "s.json", "4"], &mut files)?;
-    assert_eq!(rt; answer.status, 0);
-    assert!(rt; answer.line.is_empty());
+    assert!(rt; answer.is_done());
     // As with the small module, 68 bytes more than the original's 3,000,058.
     assert_eq!(rt; answer.printed.len(), 3_000_126);
     Ok(())

@@ -2,7 +2,7 @@
 //! steps of the original's function.
 
 use crate::tests::calls::{
-    ANSWERS, Outcome, TWO_ANSWERS, outcome_of, outcome_of_history, outcome_of_make,
+    ANSWERS, Outcome, TWO_ANSWERS, outcome_of, outcome_of_command, takes_turns,
 };
 use r3_outside::MemFiles;
 use std::alloc::Global;
@@ -57,6 +57,10 @@ const NUMBERS: &str = concat!(
 
 /// A script that answers the import's calls by these numbers and then by those from 0 to below `count`, and
 /// calls `g`.
+///
+/// # Errors
+///
+/// When memory runs out.
 pub fn script_of_answers(alloc: Global, first: &[u32], count: u32) -> Result<String, Fail> {
     let mut script = String::from_str(alloc, r#"{"imports":{"h":{"f":{"calls":["#)?;
     for (index, number) in first.iter().copied().chain(0..count).enumerate() {
@@ -112,8 +116,8 @@ fn is_replay(
     spent: &str,
     own: &str,
 ) -> Result<bool, Fail> {
-    let printed = outcome_of_make(alloc, module, script, turns)?.printed;
-    let history = outcome_of_history(alloc, module, script, turns)?.printed;
+    let printed = outcome_of_command(alloc, "make", module, script, turns)?.printed;
+    let history = outcome_of_command(alloc, "history", module, script, turns)?.printed;
     let short = run_of_replay(alloc, &printed, spent)?;
     let replay = run_of_replay(alloc, &printed, own)?;
     let original = original_lines(alloc, &history)?;
@@ -130,12 +134,12 @@ fn is_replay(
 fn two_answers_as_bytes(rt: HostRuntime) -> Result<(), Fail> {
     let alloc = rt.alloc();
     let wanted = hex::decode(alloc, TWO_ANSWERS_REPLAYED)?;
-    let answer = outcome_of_make(alloc, TWO_ANSWERS, ANSWERS, "4")?;
+    let answer = outcome_of_command(alloc, "make", TWO_ANSWERS, ANSWERS, "4")?;
     assert_eq!(rt; answer.printed.as_slice(), wanted.as_slice());
     assert!(rt; is_valid(alloc, &answer.printed));
     // 198 more answers, which the run does not take.
     let script = script_of_answers(alloc, &[5, 7], 198)?;
-    let more = outcome_of_make(alloc, TWO_ANSWERS, script.as_str(), "4")?;
+    let more = outcome_of_command(alloc, "make", TWO_ANSWERS, script.as_str(), "4")?;
     assert_eq!(rt; more.status, 0);
     assert_eq!(rt; more.printed.as_slice(), wanted.as_slice());
     Ok(())
@@ -146,20 +150,12 @@ fn a_loop_that_calls_its_import_200_times(rt: HostRuntime) -> Result<(), Fail> {
     let alloc = rt.alloc();
     let script = script_of_answers(alloc, &[], 200)?;
     // A call of the host, twelve instructions for each call of the import, and the last `local.get`.
-    let spent = outcome_of_make(alloc, LOOP, script.as_str(), "2401")?;
-    assert_eq!(rt; spent.status, 12);
-    assert_eq!(rt; spent.line.as_slice(), b"turns spent: 2401\n".as_slice());
-    let answer = outcome_of_make(alloc, LOOP, script.as_str(), "2402")?;
-    assert_eq!(rt; answer.status, 0);
+    assert!(rt; takes_turns(alloc, LOOP, script.as_str(), "2401", "2402")?);
     // Call k of the import takes 8 instructions and 4 for each test, of which it makes k; `_start` has 2 more.
     assert!(rt; is_replay(alloc, LOOP, script.as_str(), "2402", "84403", "84404")?);
     let short = script_of_answers(alloc, &[], 199)?;
-    let fault = outcome_of_make(alloc, LOOP, short.as_str(), "2402")?;
-    assert_eq!(rt; fault.status, 11);
-    assert_eq!(rt;
-        fault.line.as_slice(),
-        b"script fault: turn 2392 no response\n".as_slice()
-    );
+    let fault = outcome_of_command(alloc, "make", LOOP, short.as_str(), "2402")?;
+    assert!(rt; fault.is_refused(11, "script fault: turn 2392 no response\n"));
     Ok(())
 }
 
@@ -190,7 +186,7 @@ const TRAP_REPLAYED: &[u8] = b"host-call 2\n\
 fn a_trap_is_an_outcome(rt: HostRuntime) -> Result<(), Fail> {
     let alloc = rt.alloc();
     let script = script_of_answers(alloc, &[], 1)?;
-    let answer = outcome_of_make(alloc, TRAP, script.as_str(), "4")?;
+    let answer = outcome_of_command(alloc, "make", TRAP, script.as_str(), "4")?;
     assert_eq!(rt; answer.status, 0);
     let replay = run_of_replay(alloc, &answer.printed, "17")?;
     assert_eq!(rt; replay.printed.as_slice(), TRAP_REPLAYED);
@@ -201,10 +197,7 @@ fn a_trap_is_an_outcome(rt: HostRuntime) -> Result<(), Fail> {
 #[test]
 fn a_program_compiled_from_c(rt: HostRuntime) -> Result<(), Fail> {
     let alloc = rt.alloc();
-    let spent = outcome_of_make(alloc, COLLATZ, NUMBERS, "638")?;
-    assert_eq!(rt; spent.status, 12);
-    let answer = outcome_of_make(alloc, COLLATZ, NUMBERS, "639")?;
-    assert_eq!(rt; answer.status, 0);
+    assert!(rt; takes_turns(alloc, COLLATZ, NUMBERS, "638", "639")?);
     assert!(rt; is_replay(alloc, COLLATZ, NUMBERS, "639", "712", "713")?);
     Ok(())
 }

@@ -1,8 +1,6 @@
 //! Runs and their budgets.
 
-use crate::tests::calls::{
-    ANSWERS, TWO_ANSWERS, files_of, outcome_of, outcome_of_history, outcome_of_make,
-};
+use crate::tests::calls::{ANSWERS, TWO_ANSWERS, files_of, outcome_of, outcome_of_command};
 use crate::tests::history_modules::{COPY_LOAD, NESTED_CALL, NESTED_TRAP, OVERWRITE, TABLE_GROWTH};
 use r3_outside::MemFiles;
 use std::test::Fail;
@@ -10,15 +8,14 @@ use std::test::Fail;
 #[test]
 fn two_answers_in_four_turns(rt: HostRuntime) -> Result<(), Fail> {
     let alloc = rt.alloc();
-    let answer = outcome_of_make(alloc, TWO_ANSWERS, ANSWERS, "4")?;
-    assert_eq!(rt; answer.status, 0);
-    assert!(rt; answer.line.is_empty());
+    let answer = outcome_of_command(alloc, "make", TWO_ANSWERS, ANSWERS, "4")?;
+    assert!(rt; answer.is_done());
     // The type index in five bytes changes nothing.
     let long =
         // (module (import "h" "f" (func (result i32))) (func (export "g") (result i32) call 0 call 0 i32.add)), with
         //   the type index of the function in five bytes
         "0061736d010000000105016000017f0207010168016600000306018080808000070501016700010a09010700100010006a0b";
-    let other = outcome_of_make(alloc, long, ANSWERS, "4")?;
+    let other = outcome_of_command(alloc, "make", long, ANSWERS, "4")?;
     assert_eq!(rt; other.status, 0);
     assert_eq!(rt; other.printed.as_slice(), answer.printed.as_slice());
     Ok(())
@@ -27,32 +24,28 @@ fn two_answers_in_four_turns(rt: HostRuntime) -> Result<(), Fail> {
 #[test]
 fn the_most_turns_are_taken(rt: HostRuntime) -> Result<(), Fail> {
     let alloc = rt.alloc();
-    let wanted = outcome_of_make(alloc, TWO_ANSWERS, ANSWERS, "4")?.printed;
+    let wanted = outcome_of_command(alloc, "make", TWO_ANSWERS, ANSWERS, "4")?.printed;
     for turns in ["2000001", "1000000000"] {
-        let answer = outcome_of_make(alloc, TWO_ANSWERS, ANSWERS, turns)?;
+        let answer = outcome_of_command(alloc, "make", TWO_ANSWERS, ANSWERS, turns)?;
         assert_eq!(rt; answer.status, 0, "{turns}");
         assert_eq!(rt; answer.printed.as_slice(), wanted.as_slice(), "{turns}");
     }
-    let history = outcome_of_history(alloc, TWO_ANSWERS, ANSWERS, "2000000")?;
-    assert_eq!(rt; history.status, 0);
-    assert!(rt; history.line.is_empty());
+    let history = outcome_of_command(alloc, "history", TWO_ANSWERS, ANSWERS, "2000000")?;
+    assert!(rt; history.is_done());
     Ok(())
 }
 
 #[test]
-fn a_host_that_calls_nothing(rt: HostRuntime) -> Result<(), Fail> {
-    let answer = outcome_of_make(rt.alloc(), TWO_ANSWERS, r#"{"main":[]}"#, "1")?;
-    assert_eq!(rt; answer.status, 0);
-    assert!(rt; answer.line.is_empty());
-    Ok(())
-}
-
-#[test]
-fn a_module_without_anything(rt: HostRuntime) -> Result<(), Fail> {
-    // (module)
-    let answer = outcome_of_make(rt.alloc(), "0061736d01000000", "{}", "1")?;
-    assert_eq!(rt; answer.status, 0);
-    assert!(rt; answer.line.is_empty());
+fn nothing_is_called(rt: HostRuntime) -> Result<(), Fail> {
+    let rows = [
+        (TWO_ANSWERS, r#"{"main":[]}"#),
+        // (module)
+        ("0061736d01000000", "{}"),
+    ];
+    for (module, script) in rows {
+        let answer = outcome_of_command(rt.alloc(), "make", module, script, "1")?;
+        assert!(rt; answer.is_done(), "{script}");
+    }
     Ok(())
 }
 
@@ -73,20 +66,16 @@ fn answers_are_used_up(rt: HostRuntime) -> Result<(), Fail> {
         ),
     ];
     for (script, line) in rows {
-        let answer = outcome_of_make(alloc, TWO_ANSWERS, script, "100")?;
-        assert_eq!(rt; answer.status, 11);
-        assert_eq!(rt; answer.line.as_slice(), line.as_bytes());
-        assert!(rt; answer.printed.is_empty());
+        let answer = outcome_of_command(alloc, "make", TWO_ANSWERS, script, "100")?;
+        assert!(rt; answer.is_refused(11, line), "{line}");
     }
     Ok(())
 }
 
 #[test]
 fn turns_are_spent(rt: HostRuntime) -> Result<(), Fail> {
-    let answer = outcome_of_make(rt.alloc(), TWO_ANSWERS, ANSWERS, "3")?;
-    assert_eq!(rt; answer.status, 12);
-    assert_eq!(rt; answer.line.as_slice(), b"turns spent: 3\n".as_slice());
-    assert!(rt; answer.printed.is_empty());
+    let answer = outcome_of_command(rt.alloc(), "make", TWO_ANSWERS, ANSWERS, "3")?;
+    assert!(rt; answer.is_refused(12, "turns spent: 3\n"));
     Ok(())
 }
 
@@ -94,14 +83,12 @@ fn turns_are_spent(rt: HostRuntime) -> Result<(), Fail> {
 fn words_of_no_form(rt: HostRuntime) -> Result<(), Fail> {
     let alloc = rt.alloc();
     for turns in ["0", "04", "1000000001", "", "+4", "99999999999999999999"] {
-        let answer = outcome_of_make(alloc, TWO_ANSWERS, ANSWERS, turns)?;
-        assert_eq!(rt; answer.status, 2, "{turns}");
-        assert_eq!(rt; answer.line.as_slice(), b"usage\n".as_slice());
+        let answer = outcome_of_command(alloc, "make", TWO_ANSWERS, ANSWERS, turns)?;
+        assert!(rt; answer.is_refused(2, "usage\n"), "{turns}");
     }
     for turns in ["0", "04", "2000001", "1000000000"] {
-        let answer = outcome_of_history(alloc, TWO_ANSWERS, ANSWERS, turns)?;
-        assert_eq!(rt; answer.status, 2, "{turns}");
-        assert_eq!(rt; answer.line.as_slice(), b"usage\n".as_slice());
+        let answer = outcome_of_command(alloc, "history", TWO_ANSWERS, ANSWERS, turns)?;
+        assert!(rt; answer.is_refused(2, "usage\n"), "{turns}");
     }
     let words: [&[&str]; 5] = [
         &[],
@@ -113,8 +100,7 @@ fn words_of_no_form(rt: HostRuntime) -> Result<(), Fail> {
     for words in words {
         let mut files = files_of(alloc, TWO_ANSWERS, ANSWERS, Vec::new(alloc))?;
         let answer = outcome_of(alloc, words, &mut files)?;
-        assert_eq!(rt; answer.status, 2);
-        assert_eq!(rt; answer.line.as_slice(), b"usage\n".as_slice());
+        assert!(rt; answer.is_refused(2, "usage\n"));
     }
     Ok(())
 }
@@ -165,10 +151,8 @@ fn forms_that_are_not_built(rt: HostRuntime) -> Result<(), Fail> {
         ),
     ];
     for (name, module, script) in rows {
-        let answer = outcome_of_make(alloc, module, script, "100")?;
-        assert_eq!(rt; answer.status, 19, "{name}");
-        assert_eq!(rt; answer.line.as_slice(), b"not built\n".as_slice());
-        assert!(rt; answer.printed.is_empty(), "{name}");
+        let answer = outcome_of_command(alloc, "make", module, script, "100")?;
+        assert!(rt; answer.is_refused(19, "not built\n"), "{name}");
     }
     Ok(())
 }
@@ -188,8 +172,7 @@ fn commands_that_are_not_built_read_no_file(rt: HostRuntime) -> Result<(), Fail>
     ];
     for words in calls {
         let answer = outcome_of(alloc, words, &mut files)?;
-        assert_eq!(rt; answer.status, 19);
-        assert_eq!(rt; answer.line.as_slice(), b"not built\n".as_slice());
+        assert!(rt; answer.is_refused(19, "not built\n"));
     }
     Ok(())
 }
@@ -199,7 +182,7 @@ fn a_recursion_without_end_is_spent(rt: HostRuntime) -> Result<(), Fail> {
     let recursion =
         // (module (import "h" "f" (func (result i32))) (func (export "g") (result i32) call 1))
         "0061736d010000000105016000017f02070101680166000003020100070501016700010a0601040010010b";
-    let answer = outcome_of_make(rt.alloc(), recursion, ANSWERS, "10000")?;
+    let answer = outcome_of_command(rt.alloc(), "make", recursion, ANSWERS, "10000")?;
     assert_eq!(rt; answer.status, 12);
     Ok(())
 }

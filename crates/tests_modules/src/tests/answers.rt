@@ -27,6 +27,10 @@ pub enum Answer {
 }
 
 /// The answer to the bytes of a module.
+///
+/// # Errors
+///
+/// When memory runs out, or the bytes are more than a module may have.
 pub fn answer_to(alloc: Global, bytes: &[u8]) -> Result<Answer, Fail> {
     if bytes.len() as u64 > MOST_FILE_BYTES {
         return Err(Fail::from("too many bytes"));
@@ -50,6 +54,10 @@ pub fn answer_to(alloc: Global, bytes: &[u8]) -> Result<Answer, Fail> {
 }
 
 /// Compares the answers to modules: rows have a name, the bytes in hexadecimal, and the answer to them.
+///
+/// # Errors
+///
+/// At the first answer that differs; and as for `answer_to`.
 pub fn check_rows(alloc: Global, rows: &[(&str, &str, Answer)]) -> Result<(), Fail> {
     for &(name, text, want) in rows {
         let bytes = hex::decode(alloc, text)?;

@@ -12,25 +12,11 @@ const ROWS: &[(&str, &str, &str)] = &[
     (
         "it counts the calls and answers 5 and 7",
         // examples/replay_two_answers.wat
-        "0061736d01000000\
-         0108026000017f600000\
-         030403000001\
-         0606017f0141000b\
-         070a01065f73746172740002\
-         0a2303130023002300\
-         41016a2400047f410705\
-         41050b0b0700100010006a0b050010011a0b\
-         000c0972332e6c61796f75740101",
-        "host-call 1\n\
-         step 1 0 ->\n\
-         import-call 0\n\
-         import-return 0 i32:00000005\n\
-         step 1 1 ->\n\
-         import-call 0\n\
-         import-return 0 i32:00000007\n\
-         step 1 2 i32:00000005 i32:00000007 -> i32:0000000c\n\
-         host-return 1 i32:0000000c\n\
-         ended\n",
+        "0061736d010000000108026000017f6000000304030000010606017f0141000b070a01065f73746172740002\
+         0a230313002300230041016a2400047f41070541050b0b0700100010006a0b050010011a0b000c0972332e6c61796f75740101",
+        "host-call 1\nstep 1 0 ->\nimport-call 0\nimport-return 0 i32:00000005\nstep 1 1 ->\nimport-call 0\n\
+         import-return 0 i32:00000007\nstep 1 2 i32:00000005 i32:00000007 -> i32:0000000c\n\
+         host-return 1 i32:0000000c\nended\n",
     ),
     (
         "it answers 5 and 8",
@@ -38,43 +24,20 @@ const ROWS: &[(&str, &str, &str)] = &[
         //   (func (type 0) global.get 0 global.get 0 i32.const 1 i32.add global.set 0 if (result i32)
         //     i32.const 8 else i32.const 5 end) (func (type 0) call 0 call 0 i32.add) (func (type 1) call 1 drop)
         //   (export "_start" (func 2))), with a custom section "r3.layout" of the bytes 01 01 at the end
-        "0061736d01000000\
-         0108026000017f600000\
-         030403000001\
-         0606017f0141000b\
-         070a01065f73746172740002\
-         0a2303130023002300\
-         41016a2400047f410805\
-         41050b0b0700100010006a0b050010011a0b\
-         000c0972332e6c61796f75740101",
-        "host-call 1\n\
-         step 1 0 ->\n\
-         import-call 0\n\
-         import-return 0 i32:00000005\n\
-         step 1 1 ->\n\
-         import-call 0\n\
-         import-return 0 i32:00000008\n\
-         step 1 2 i32:00000005 i32:00000008 -> i32:0000000d\n\
-         host-return 1 i32:0000000d\n\
-         ended\n",
+        "0061736d010000000108026000017f6000000304030000010606017f0141000b070a01065f73746172740002\
+         0a230313002300230041016a2400047f41080541050b0b0700100010006a0b050010011a0b000c0972332e6c61796f75740101",
+        "host-call 1\nstep 1 0 ->\nimport-call 0\nimport-return 0 i32:00000005\nstep 1 1 ->\nimport-call 0\n\
+         import-return 0 i32:00000008\nstep 1 2 i32:00000005 i32:00000008 -> i32:0000000d\n\
+         host-return 1 i32:0000000d\nended\n",
     ),
     (
         "its import is `unreachable`",
         // (module (type (func (result i32))) (type (func)) (global (mut i32) (i32.const 0))
         //   (func (type 0) unreachable) (func (type 0) call 0 call 0 i32.add) (func (type 1) call 1 drop)
         //   (export "_start" (func 2))), with a custom section "r3.layout" of the bytes 01 01 at the end
-        "0061736d01000000\
-         0108026000017f600000\
-         030403000001\
-         0606017f0141000b\
-         070a01065f73746172740002\
-         0a13030300000b0700100010006a0b050010011a0b\
-         000c0972332e6c61796f75740101",
-        "host-call 1\n\
-         step 1 0 ->\n\
-         import-call 0\n\
-         host-trap\n\
-         host-trapped\n",
+        "0061736d010000000108026000017f6000000304030000010606017f0141000b070a01065f73746172740002\
+         0a13030300000b0700100010006a0b050010011a0b000c0972332e6c61796f75740101",
+        "host-call 1\nstep 1 0 ->\nimport-call 0\nhost-trap\nhost-trapped\n",
     ),
     (
         "its original gives 12 without a call",
@@ -82,19 +45,9 @@ const ROWS: &[(&str, &str, &str)] = &[
         //   (func (type 0) global.get 0 global.get 0 i32.const 1 i32.add global.set 0 if (result i32)
         //     i32.const 7 else i32.const 5 end) (func (type 0) i32.const 12) (func (type 1) call 1 drop)
         //   (export "_start" (func 2))), with a custom section "r3.layout" of the bytes 01 01 at the end
-        "0061736d01000000\
-         0108026000017f600000\
-         030403000001\
-         0606017f0141000b\
-         070a01065f73746172740002\
-         0a2003130023002300\
-         41016a2400047f410705\
-         41050b0b0400410c0b050010011a0b\
-         000c0972332e6c61796f75740101",
-        "host-call 1\n\
-         step 1 0 -> i32:0000000c\n\
-         host-return 1 i32:0000000c\n\
-         ended\n",
+        "0061736d010000000108026000017f6000000304030000010606017f0141000b070a01065f73746172740002\
+         0a200313002300230041016a2400047f41070541050b0b0400410c0b050010011a0b000c0972332e6c61796f75740101",
+        "host-call 1\nstep 1 0 -> i32:0000000c\nhost-return 1 i32:0000000c\nended\n",
     ),
     (
         "its `_start` traps in the end",
@@ -103,26 +56,12 @@ const ROWS: &[(&str, &str, &str)] = &[
         //     i32.const 7 else i32.const 5 end) (func (type 0) call 0 call 0 i32.add)
         //   (func (type 1) call 1 drop unreachable)
         //   (export "_start" (func 2))), with a custom section "r3.layout" of the bytes 01 01 at the end
-        "0061736d01000000\
-         0108026000017f600000\
-         030403000001\
-         0606017f0141000b\
-         070a01065f73746172740002\
-         0a2403130023002300\
-         41016a2400047f410705\
-         41050b0b0700100010006a0b060010011a000b\
+        "0061736d010000000108026000017f6000000304030000010606017f0141000b070a01065f73746172740002\
+         0a240313002300230041016a2400047f41070541050b0b0700100010006a0b060010011a000b\
          000c0972332e6c61796f75740101",
-        "host-call 1\n\
-         step 1 0 ->\n\
-         import-call 0\n\
-         import-return 0 i32:00000005\n\
-         step 1 1 ->\n\
-         import-call 0\n\
-         import-return 0 i32:00000007\n\
-         step 1 2 i32:00000005 i32:00000007 -> i32:0000000c\n\
-         host-return 1 i32:0000000c\n\
-         host-trap\n\
-         host-trapped\n",
+        "host-call 1\nstep 1 0 ->\nimport-call 0\nimport-return 0 i32:00000005\nstep 1 1 ->\nimport-call 0\n\
+         import-return 0 i32:00000007\nstep 1 2 i32:00000005 i32:00000007 -> i32:0000000c\n\
+         host-return 1 i32:0000000c\nhost-trap\nhost-trapped\n",
     ),
 ];
 

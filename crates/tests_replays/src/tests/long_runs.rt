@@ -39,6 +39,16 @@ fn script_of_answers(alloc: Global, count: u32) -> Result<String, Fail> {
     Ok(script)
 }
 
+/// The lines that the replay module of a run shows, where they are those of the run's own history.
+fn shown_lines(alloc: Global, module: &str, script: &str, turns: u64) -> Result<Vec<u8>, Fail> {
+    let shown = lines_of_replay(alloc, module, script, turns)?;
+    let history = lines_of_history(alloc, module, script, turns)?;
+    if shown.as_slice() != history.as_slice() {
+        return Err(Fail::from("other lines than those of the history"));
+    }
+    Ok(shown)
+}
+
 /// How many lines a text has.
 fn line_count(text: &[u8]) -> usize {
     text.iter().filter(|byte| **byte == b'\n').count()
@@ -48,9 +58,7 @@ fn line_count(text: &[u8]) -> usize {
 fn a_loop_that_calls_its_import_200_times(rt: HostRuntime) -> Result<(), Fail> {
     let alloc = rt.alloc();
     let script = script_of_answers(alloc, 200)?;
-    let shown = lines_of_replay(alloc, LOOP, script.as_str(), 2_402)?;
-    let history = lines_of_history(alloc, LOOP, script.as_str(), 2_402)?;
-    assert_eq!(rt; shown.as_slice(), history.as_slice());
+    let shown = shown_lines(alloc, LOOP, script.as_str(), 2_402)?;
     // Twelve instructions, a call and a return for each of the 200; the host's call and its return, the
     // last `local.get`, and the outcome.
     assert_eq!(rt; line_count(shown.as_slice()), 2_804);
@@ -61,10 +69,7 @@ fn a_loop_that_calls_its_import_200_times(rt: HostRuntime) -> Result<(), Fail> {
 
 #[test]
 fn a_program_compiled_from_c(rt: HostRuntime) -> Result<(), Fail> {
-    let alloc = rt.alloc();
-    let shown = lines_of_replay(alloc, COLLATZ, NUMBERS, 639)?;
-    let history = lines_of_history(alloc, COLLATZ, NUMBERS, 639)?;
-    assert_eq!(rt; shown.as_slice(), history.as_slice());
+    let shown = shown_lines(rt.alloc(), COLLATZ, NUMBERS, 639)?;
     // The lines of `examples/collatz.history.txt`.
     assert_eq!(rt; line_count(shown.as_slice()), 649);
     Ok(())

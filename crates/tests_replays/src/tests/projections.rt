@@ -179,6 +179,10 @@ fn outcome_shown(layout: Layout, run: &FinishedRun) -> Result<Outcome, Fail> {
 }
 
 /// The lines of the history and of the outcome that a run shows.
+///
+/// # Errors
+///
+/// When memory runs out, or the run is not over.
 pub fn lines_of_projection(
     alloc: Global,
     layout: Layout,

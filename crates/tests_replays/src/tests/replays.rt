@@ -49,6 +49,10 @@ fn entry_of(module: &Module) -> Result<u32, Fail> {
 
 /// The lines that the run of a replay module shows of the original: its history, then its outcome. It is
 /// one without a start function, as those of plain scripts are.
+///
+/// # Errors
+///
+/// When memory runs out, the bytes are no replay module of a plain script, or its run does not end.
 pub fn lines_shown_by(alloc: Global, bytes: &[u8]) -> Result<Vec<u8>, Fail> {
     if bytes.len() as u64 > MOST_FILE_BYTES {
         return Err(Fail::from("too many bytes"));
@@ -76,6 +80,10 @@ fn bytes_of(alloc: Global, module: &str) -> Result<Vec<u8>, Fail>
 }
 
 /// The replay module of the run of a module, in hexadecimal, with a script.
+///
+/// # Errors
+///
+/// When memory runs out, the module is not in hexadecimal or too long, the turns are too many, or `make` refuses.
 pub fn replay_of_run(
     alloc: Global,
     module: &str,
@@ -90,6 +98,10 @@ pub fn replay_of_run(
 }
 
 /// The lines that the run of this replay module shows.
+///
+/// # Errors
+///
+/// As for `replay_of_run` and `lines_shown_by`.
 pub fn lines_of_replay(
     alloc: Global,
     module: &str,
@@ -101,6 +113,10 @@ pub fn lines_of_replay(
 }
 
 /// The lines of the history and of the outcome of the scripted run itself.
+///
+/// # Errors
+///
+/// When memory runs out, the module is not in hexadecimal or too long, or `history` refuses.
 pub fn lines_of_history(
     alloc: Global,
     module: &str,

@@ -60,16 +60,9 @@ const ROWS: &[(&str, &str, &str, u64, &str)] = &[
         TWO_ANSWERS,
         ANSWERS,
         4,
-        "host-call 1\n\
-         step 1 0 ->\n\
-         import-call 0\n\
-         import-return 0 i32:00000005\n\
-         step 1 1 ->\n\
-         import-call 0\n\
-         import-return 0 i32:00000007\n\
-         step 1 2 i32:00000005 i32:00000007 -> i32:0000000c\n\
-         host-return 1 i32:0000000c\n\
-         ended\n",
+        "host-call 1\nstep 1 0 ->\nimport-call 0\nimport-return 0 i32:00000005\nstep 1 1 ->\nimport-call 0\n\
+         import-return 0 i32:00000007\nstep 1 2 i32:00000005 i32:00000007 -> i32:0000000c\n\
+         host-return 1 i32:0000000c\nended\n",
     ),
     (
         "a host that calls nothing",
@@ -83,60 +76,30 @@ const ROWS: &[(&str, &str, &str, u64, &str)] = &[
         TWO_ANSWERS,
         TWO_CALLS,
         8,
-        "host-call 1\n\
-         step 1 0 ->\n\
-         import-call 0\n\
-         import-return 0 i32:00000005\n\
-         step 1 1 ->\n\
-         import-call 0\n\
-         import-return 0 i32:00000007\n\
-         step 1 2 i32:00000005 i32:00000007 -> i32:0000000c\n\
-         host-return 1 i32:0000000c\n\
-         host-call 1\n\
-         step 1 0 ->\n\
-         import-call 0\n\
-         import-return 0 i32:ffffffff\n\
-         step 1 1 ->\n\
-         import-call 0\n\
-         import-return 0 i32:00000002\n\
-         step 1 2 i32:ffffffff i32:00000002 -> i32:00000001\n\
-         host-return 1 i32:00000001\n\
-         ended\n",
+        "host-call 1\nstep 1 0 ->\nimport-call 0\nimport-return 0 i32:00000005\nstep 1 1 ->\nimport-call 0\n\
+         import-return 0 i32:00000007\nstep 1 2 i32:00000005 i32:00000007 -> i32:0000000c\n\
+         host-return 1 i32:0000000c\nhost-call 1\nstep 1 0 ->\nimport-call 0\nimport-return 0 i32:ffffffff\n\
+         step 1 1 ->\nimport-call 0\nimport-return 0 i32:00000002\n\
+         step 1 2 i32:ffffffff i32:00000002 -> i32:00000001\nhost-return 1 i32:00000001\nended\n",
     ),
     (
         "a trap",
         TRAP,
         r#"{"imports":{"h":{"f":{"calls":[{"return":{"i32":0}}]}}},"main":[{"call":"g"}]}"#,
         4,
-        "host-call 1\n\
-         step 1 0 -> i32:00000064\n\
-         step 1 1 ->\n\
-         import-call 0\n\
-         import-return 0 i32:00000000\n\
-         trap 1 2 divide i32:00000064 i32:00000000\n\
-         trapped\n",
+        "host-call 1\nstep 1 0 -> i32:00000064\nstep 1 1 ->\nimport-call 0\nimport-return 0 i32:00000000\n\
+         trap 1 2 divide i32:00000064 i32:00000000\ntrapped\n",
     ),
     (
         "a function that calls another one with an argument, and an import within",
         WITHIN,
         ANSWERS,
         8,
-        "host-call 1\n\
-         step 1 0 -> i32:00000003\n\
-         step 1 1 i32:00000003 ->\n\
-         enter 2\n\
-         step 2 0 -> i32:00000003\n\
-         step 2 1 ->\n\
-         import-call 0\n\
-         import-return 0 i32:00000005\n\
-         step 2 2 i32:00000003 i32:00000005 -> i32:00000008\n\
-         exit 2 i32:00000008\n\
-         step 1 2 ->\n\
-         import-call 0\n\
-         import-return 0 i32:00000007\n\
-         step 1 3 i32:00000008 i32:00000007 -> i32:0000000f\n\
-         host-return 1 i32:0000000f\n\
-         ended\n",
+        "host-call 1\nstep 1 0 -> i32:00000003\nstep 1 1 i32:00000003 ->\nenter 2\nstep 2 0 -> i32:00000003\n\
+         step 2 1 ->\nimport-call 0\nimport-return 0 i32:00000005\n\
+         step 2 2 i32:00000003 i32:00000005 -> i32:00000008\nexit 2 i32:00000008\nstep 1 2 ->\nimport-call 0\n\
+         import-return 0 i32:00000007\nstep 1 3 i32:00000008 i32:00000007 -> i32:0000000f\n\
+         host-return 1 i32:0000000f\nended\n",
     ),
     (
         "a function that the host calls, and then the module",
@@ -146,26 +109,10 @@ const ROWS: &[(&str, &str, &str, u64, &str)] = &[
             r#"{"return":{"i32":6}}]}}},"main":[{"call":"k"},{"call":"g"}]}"#
         ),
         8,
-        "host-call 2\n\
-         step 2 0 ->\n\
-         import-call 0\n\
-         import-return 0 i32:00000009\n\
-         host-return 2 i32:00000009\n\
-         host-call 1\n\
-         step 1 0 ->\n\
-         enter 2\n\
-         step 2 0 ->\n\
-         import-call 0\n\
-         import-return 0 i32:00000004\n\
-         exit 2 i32:00000004\n\
-         step 1 1 ->\n\
-         enter 2\n\
-         step 2 0 ->\n\
-         import-call 0\n\
-         import-return 0 i32:00000006\n\
-         exit 2 i32:00000006\n\
-         step 1 2 i32:00000004 i32:00000006 -> i32:fffffffe\n\
-         host-return 1 i32:fffffffe\n\
+        "host-call 2\nstep 2 0 ->\nimport-call 0\nimport-return 0 i32:00000009\nhost-return 2 i32:00000009\n\
+         host-call 1\nstep 1 0 ->\nenter 2\nstep 2 0 ->\nimport-call 0\nimport-return 0 i32:00000004\n\
+         exit 2 i32:00000004\nstep 1 1 ->\nenter 2\nstep 2 0 ->\nimport-call 0\nimport-return 0 i32:00000006\n\
+         exit 2 i32:00000006\nstep 1 2 i32:00000004 i32:00000006 -> i32:fffffffe\nhost-return 1 i32:fffffffe\n\
          ended\n",
     ),
     (
@@ -177,24 +124,11 @@ const ROWS: &[(&str, &str, &str, u64, &str)] = &[
             r#"{"return":{"i32":20}}]}}},"main":[{"call":"run"}]}"#
         ),
         8,
-        "host-call 2\n\
-         step 2 0 ->\n\
-         import-call 0\n\
-         import-return 0 i32:00000001\n\
-         step 2 1 ->\n\
-         import-call 1\n\
-         import-return 1 i32:0000000a\n\
-         step 2 2 ->\n\
-         import-call 0\n\
-         import-return 0 i32:00000002\n\
-         step 2 3 ->\n\
-         import-call 1\n\
-         import-return 1 i32:00000014\n\
-         step 2 4 i32:00000002 i32:00000014 -> i32:ffffffee\n\
+        "host-call 2\nstep 2 0 ->\nimport-call 0\nimport-return 0 i32:00000001\nstep 2 1 ->\nimport-call 1\n\
+         import-return 1 i32:0000000a\nstep 2 2 ->\nimport-call 0\nimport-return 0 i32:00000002\nstep 2 3 ->\n\
+         import-call 1\nimport-return 1 i32:00000014\nstep 2 4 i32:00000002 i32:00000014 -> i32:ffffffee\n\
          step 2 5 i32:0000000a i32:ffffffee -> i32:0000001c\n\
-         step 2 6 i32:00000001 i32:0000001c -> i32:ffffffe5\n\
-         host-return 2 i32:ffffffe5\n\
-         ended\n",
+         step 2 6 i32:00000001 i32:0000001c -> i32:ffffffe5\nhost-return 2 i32:ffffffe5\nended\n",
     ),
 ];
 

@@ -21,6 +21,10 @@ pub struct FinishedRun {
 }
 
 /// The run from a call of a function without parameters on, that call included.
+///
+/// # Errors
+///
+/// When memory runs out, the function has parameters or is imported, or the run needs too many turns.
 pub fn run(alloc: Global, instance: &mut Instance, func: u32) -> Result<FinishedRun, Fail>
     requires { IsIdle instance.old.«module» instance.old.machine }
 {

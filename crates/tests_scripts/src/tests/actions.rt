@@ -104,12 +104,6 @@ const ROWS: &str = r#"
 - call an entry with a key of another action | {"main":[{"call_table":0,"func":null}]} => script: shape /main/0
 "#;
 
-#[test]
-fn each_action(rt: HostRuntime) -> Result<(), Fail> {
-    assert_eq!(rt; check_table(rt.alloc(), EVERY, ROWS)?, 89);
-    Ok(())
-}
-
 const OUT_OF_REACH: &str = r#"
 - write | {"main":[{"write":0,"bytes":""}]} => script: no access memory
 - copy | {"main":[{"copy":0,"from":0,"count":0}]} => script: no access memory
@@ -134,12 +128,6 @@ const OUT_OF_REACH: &str = r#"
 - a memory that is not imported | {"memory":{"pages":70000},"table":{"size":4294967295}} => taken
 "#;
 
-#[test]
-fn memory_and_table_out_of_reach(rt: HostRuntime) -> Result<(), Fail> {
-    assert_eq!(rt; check_table(rt.alloc(), CLOSED, OUT_OF_REACH)?, 19);
-    Ok(())
-}
-
 const IMPORTS: &str = r#"
 - write | {"main":[{"write":0,"bytes":""}]} => taken
 - copy | {"main":[{"copy":0,"from":0,"count":0}]} => taken
@@ -150,8 +138,17 @@ const IMPORTS: &str = r#"
 - nothing under a module of no functions | {"imports":{"h":{}}} => script: unknown h
 "#;
 
+/// Scripts for modules that have a memory and a table in reach, out of reach, and imported; and how many they are.
+const TABLES: [(&str, &str, u64); 3] = [
+    (EVERY, ROWS, 89),
+    (CLOSED, OUT_OF_REACH, 19),
+    (IMPORTED, IMPORTS, 7),
+];
+
 #[test]
-fn imported_memory_and_table(rt: HostRuntime) -> Result<(), Fail> {
-    assert_eq!(rt; check_table(rt.alloc(), IMPORTED, IMPORTS)?, 7);
+fn each_action_in_reach_and_out_of_it(rt: HostRuntime) -> Result<(), Fail> {
+    for (module, rows, count) in TABLES {
+        assert_eq!(rt; check_table(rt.alloc(), module, rows)?, count);
+    }
     Ok(())
 }

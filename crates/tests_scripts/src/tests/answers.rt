@@ -42,6 +42,10 @@ pub const IMPORTED: &str =
      0302010007060102676f00000a040102000b";
 
 /// The module of bytes in hexadecimal digits.
+///
+/// # Errors
+///
+/// When memory runs out, the text is not hexadecimal, or its bytes are no module that is taken.
 pub fn module(alloc: Global, text: &str) -> Result<Checked, Fail> {
     let bytes = hex::decode(alloc, text)?;
     if bytes.len() as u64 > MOST_FILE_BYTES {
@@ -67,6 +71,10 @@ fn line_of(alloc: Global, fault: &Fault) -> Result<String, Fail> {
 }
 
 /// The line that a script is answered with, or `taken`.
+///
+/// # Errors
+///
+/// When memory runs out.
 pub fn answer_to(alloc: Global, checked: &Checked, script: &[u8]) -> Result<String, Fail> {
     match script_of(alloc, script, checked) {
         Ok(_script) => Ok(String::from_str(alloc, "taken")?),
@@ -90,6 +98,10 @@ fn check_row(
 }
 
 /// Compares the answers to scripts for a module: rows have a name, a script, and its answer.
+///
+/// # Errors
+///
+/// At the first answer that differs; and as for `module`.
 pub fn check_rows(alloc: Global, text: &str, rows: &[(&str, &str, &str)]) -> Result<(), Fail> {
     let checked = module(alloc, text)?;
     for &(name, script, want) in rows {
@@ -100,6 +112,10 @@ pub fn check_rows(alloc: Global, text: &str, rows: &[(&str, &str, &str)]) -> Res
 
 /// The same for the rows of a table, and how many there are. Each begins with `- ` on a line of its
 /// own, and is `NAME | SCRIPT => ANSWER`; white space around a script and an answer is left out.
+///
+/// # Errors
+///
+/// At the first answer that differs, or a row of another form; and as for `module`.
 pub fn check_table(alloc: Global, text: &str, table: &str) -> Result<u64, Fail> {
     let checked = module(alloc, text)?;
     let mut count = 0u64;

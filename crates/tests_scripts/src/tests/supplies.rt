@@ -31,81 +31,63 @@ fn supply_by(
     }
 }
 
+/// Tables that the imported one does not take.
+const OTHER_TABLES: [&str; 5] = [
+    r#""table":{"size":1,"max":4},"#,
+    r#""table":{"size":2},"#,
+    r#""table":{"size":2,"max":5},"#,
+    r#""table":{"size":3,"max":2},"#,
+    r#""table":{"size":4,"max":3},"#,
+];
+
+/// A table that is full.
+const FULL_TABLE: &str = r#""table":{"size":3,"max":3},"#;
+
+/// Memories that the imported one does not take.
+const OTHER_MEMORIES: [&str; 2] = [
+    r#""memory":{"pages":0,"max":3},"#,
+    r#""memory":{"pages":1,"max":4},"#,
+];
+
+/// The first global with a value of another type, and with its own.
+const OF_I64: &str = r#""globals":{"h":{"g":{"i64":7}}}"#;
+
+const OF_I32: &str = r#""globals":{"h":{"g":{"i32":7}}}"#;
+
 /// A table, a memory, globals, and the fault of their supply.
 const ROWS: &[(&str, &str, &str, LinkFault)] = &[
     ("", "", GLOBALS, Missing { import: 0 }),
-    (
-        r#""table":{"size":1,"max":4},"#,
-        "",
-        GLOBALS,
-        Mismatch { import: 0 },
-    ),
-    (
-        r#""table":{"size":2},"#,
-        "",
-        GLOBALS,
-        Mismatch { import: 0 },
-    ),
-    (
-        r#""table":{"size":2,"max":5},"#,
-        "",
-        GLOBALS,
-        Mismatch { import: 0 },
-    ),
-    (
-        r#""table":{"size":3,"max":2},"#,
-        "",
-        GLOBALS,
-        Mismatch { import: 0 },
-    ),
-    (
-        r#""table":{"size":4,"max":3},"#,
-        "",
-        GLOBALS,
-        Mismatch { import: 0 },
-    ),
-    (
-        r#""table":{"size":3,"max":3},"#,
-        "",
-        GLOBALS,
-        Missing { import: 1 },
-    ),
+    (FULL_TABLE, "", GLOBALS, Missing { import: 1 }),
     (TABLE, "", GLOBALS, Missing { import: 1 }),
-    (
-        TABLE,
-        r#""memory":{"pages":0,"max":3},"#,
-        GLOBALS,
-        Mismatch { import: 1 },
-    ),
-    (
-        TABLE,
-        r#""memory":{"pages":1,"max":4},"#,
-        GLOBALS,
-        Mismatch { import: 1 },
-    ),
     (TABLE, MEMORY, r#""main":[]"#, Missing { import: 2 }),
-    (
-        TABLE,
-        MEMORY,
-        r#""globals":{"h":{"g":{"i64":7}}}"#,
-        Mismatch { import: 2 },
-    ),
-    (
-        TABLE,
-        MEMORY,
-        r#""globals":{"h":{"g":{"i32":7}}}"#,
-        Missing { import: 3 },
-    ),
+    (TABLE, MEMORY, OF_I64, Mismatch { import: 2 }),
+    (TABLE, MEMORY, OF_I32, Missing { import: 3 }),
 ];
+
+/// The fault of a supply, where there is one.
+fn fault_of(
+    alloc: Global,
+    table: &str,
+    memory: &str,
+    globals: &str,
+) -> Result<Option<LinkFault>, Fail> {
+    Ok(supply_by(alloc, table, memory, globals)?.err())
+}
 
 #[test]
 fn first_import_that_is_not_matched(rt: HostRuntime) -> Result<(), Fail> {
     let alloc = rt.alloc();
     for &(table, memory, globals, want) in ROWS {
-        match supply_by(alloc, table, memory, globals)? {
-            Ok(_supply) => return Err(Fail::from(table)),
-            Err(fault) => assert_eq!(rt; fault, want, "{table}{memory}{globals}"),
-        }
+        let fault = fault_of(alloc, table, memory, globals)?;
+        assert_eq!(rt; fault, Some(want), "{table}{memory}{globals}");
+    }
+    for table in OTHER_TABLES {
+        let fault = fault_of(alloc, table, "", GLOBALS)?;
+        assert_eq!(rt; fault, Some(Mismatch { import: 0 }), "{table}");
+    }
+    for memory in OTHER_MEMORIES {
+        let fault = fault_of(alloc, TABLE, memory, GLOBALS)?;
+        assert_eq!(rt; fault, Some(Mismatch { import: 1 }), "{memory}");
     }
     Ok(())
 }

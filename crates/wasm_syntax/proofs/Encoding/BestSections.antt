@@ -1,72 +1,20 @@
 -- The shortest encodings of sections, and what the sections of one kind hold.
-use Rattle.std.proofs.Common.{◌≡◌, ℕ, ◌<◌, ◌≤◌, ◌^◌, ◌⊎◌, List, [], ◌∷◌, ◌++◌, length, map, Option, Some, None, refl, ap, inl, inr, arith}
+use Rattle.std.proofs.Common.{◌≡◌, ℕ, ◌<◌, ◌≤◌, ◌^◌, ◌⊎◌, List, [], ◌∷◌, length, map, refl, ap, inl, inr, arith}
 use Rattle.std.specs.Prelude.{IsUtf8}
 use Rattle.std.specs.List.{AllByRecursion}
 use Rattle.std.proofs.lemmas.List.{length-append}
 use Rattle.leb_bytes.specs.Unsigned.{EncodesU32, u32_bytes}
 use Rattle.wasm_syntax.specs.declared.forms.Form.{Form}
-use Rattle.wasm_syntax.specs.declared.signatures.FuncType.{FuncType}
-use Rattle.wasm_syntax.specs.declared.signatures.Limits.{Limits}
-use Rattle.wasm_syntax.specs.declared.modules.Import.{Import}
-use Rattle.wasm_syntax.specs.declared.modules.Export.{Export}
-use Rattle.wasm_syntax.specs.declared.modules.Global.{Global}
-use Rattle.wasm_syntax.specs.declared.modules.ElemSeg.{ElemSeg}
-use Rattle.wasm_syntax.specs.declared.modules.ElemSeg.TheVariants.{Active, Declared}
-use Rattle.wasm_syntax.specs.declared.modules.DataSeg.{DataSeg}
 use Rattle.wasm_syntax.specs.Encoding.Types.{EncodesFuncType, EncodesLimits, EncodesTableType}
-use Rattle.wasm_syntax.specs.Encoding.Sections.{EncodesImport, EncodesGlobal, EncodesExport, EncodesElemSeg, EncodesCode, EncodesDataSeg, Code, Section, CustomSection, TypeSection, ImportSection, FunctionSection, TableSection, MemorySection, GlobalSection, ExportSection, StartSection, ElementSection, CodeSection, DataSection, id_of, EncodesContent, EncodesSection}
+use Rattle.wasm_syntax.specs.Encoding.Sections.{EncodesImport, EncodesGlobal, EncodesExport, EncodesElemSeg, EncodesCode, EncodesDataSeg, Section, CustomSection, TypeSection, ImportSection, FunctionSection, TableSection, MemorySection, GlobalSection, ExportSection, StartSection, ElementSection, CodeSection, DataSection, id_of, EncodesContent, EncodesSection}
 use Rattle.wasm_syntax.specs.Encoding.Modules.{types_in, imports_in, functions_in, tables_in, memories_in, globals_in, exports_in, starts_in, elems_in, codes_in, datas_in}
 use Rattle.wasm_syntax.specs.Encoding.Encodable.{FitsU32, FitsFuncType, FitsLimits, FitsImport, FitsGlobal, FitsExport, FitsElemSeg, FitsDataSeg}
-use Rattle.wasm_syntax.specs.Encoding.Shortest.{sized_bytes, vector_bytes, func_type_bytes, bounds_bytes, limits_bytes, table_type_bytes, global_type_bytes, body_bytes, import_kind_bytes, import_bytes, global_bytes, export_kind_bytes, export_bytes, elem_bytes, data_bytes, code_bytes, content_bytes, section_bytes, unless_empty}
+use Rattle.wasm_syntax.specs.Encoding.Shortest.{sized_bytes, func_type_bytes, limits_bytes, table_type_bytes, import_bytes, global_bytes, export_bytes, elem_bytes, data_bytes, code_bytes, content_bytes, section_bytes, unless_empty}
 use Rattle.wasm_syntax.proofs.Encoding.Numbers.{NumberLaws}
 use Rattle.wasm_syntax.proofs.Encoding.Writing.{IsBest, u32_best, vector_best, u32_some, u32_rise}
 use Rattle.wasm_syntax.proofs.Encoding.BestTypes.{func_type_best, limits_best, table_type_best}
-use Rattle.wasm_syntax.proofs.Encoding.BestItems.{sized_some, FitsCode, code_best, import_best, global_best, export_best, elem_best, data_best, custom_best}
-
--- ---- each item has bytes
-
-func_type_bytes_some : (x : FuncType) → 0 < length (func_type_bytes x)
-unfolding func_type_bytes
-func_type_bytes_some x = omega arith
-
-import_bytes_some : (x : Import) → 0 < length (import_bytes x)
-unfolding import_bytes
-import_bytes_some x = omega (arith, length-append (sized_bytes x.module) (sized_bytes x.name ++ import_kind_bytes x.kind), sized_some x.module)
-
-table_type_bytes_some : (x : Limits) → 0 < length (table_type_bytes x)
-table_type_bytes_some x = omega arith
-
-bounds_some : (least : ℕ) (most : Option ℕ) → 0 < length (bounds_bytes least most)
-bounds_some least None = omega arith
-bounds_some least (Some most) = omega arith
-
-limits_bytes_some : (x : Limits) → 0 < length (limits_bytes x)
-unfolding limits_bytes
-limits_bytes_some x = bounds_some x.min x.max
-
-global_bytes_some : (x : Global) → 0 < length (global_bytes x)
-unfolding global_bytes global_type_bytes
-global_bytes_some x = omega arith
-
-export_bytes_some : (x : Export) → 0 < length (export_bytes x)
-unfolding export_bytes
-export_bytes_some x = omega (arith, length-append (sized_bytes x.name) (export_kind_bytes x.kind), sized_some x.name)
-
-elem_bytes_some : (x : ElemSeg) → 0 < length (elem_bytes x)
-unfolding elem_bytes
-elem_bytes_some (Active table offset funcs) =
-    omega (arith, length-append (u32_bytes table) (body_bytes offset ++ vector_bytes u32_bytes funcs), u32_some table)
-elem_bytes_some (Declared funcs) =
-    omega (arith, length-append (u32_bytes 3) (0x00 ∷ vector_bytes u32_bytes funcs), u32_some 3)
-
-code_bytes_some : (x : Code) → 0 < length (code_bytes x)
-unfolding code_bytes
-code_bytes_some x = sized_some _
-
-data_bytes_some : (x : DataSeg) → 0 < length (data_bytes x)
-unfolding data_bytes
-data_bytes_some x =
-    omega (arith, length-append (u32_bytes x.memory) (body_bytes x.offset ++ sized_bytes x.bytes), u32_some x.memory)
+use Rattle.wasm_syntax.proofs.Encoding.NotEmpty.{func_type_bytes_some, import_bytes_some, table_type_bytes_some, limits_bytes_some, global_bytes_some, export_bytes_some, elem_bytes_some, code_bytes_some, data_bytes_some}
+use Rattle.wasm_syntax.proofs.Encoding.BestItems.{FitsCode, code_best, import_best, global_best, export_best, elem_best, data_best, custom_best}
 
 -- ---- sections
 

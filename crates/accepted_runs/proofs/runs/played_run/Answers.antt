@@ -4,8 +4,6 @@ use Rattle.accepted_runs.proofs.runs.played_run.Goals as goal
 
 pub returns-in-Err-clause-cause : goal.returns-in-Err-clause-cause
 returns-in-Err-clause-cause c =
-    let m = c.args.checked.now in
-    let script = c.args.script.now in
-    let initial = start_in_store m script c.args.store in
-    c.fault_of.ensures m script initial c.requires.start.opened
-    (refuses_same c.module.result.now m script c.args.turns c.in-Err.fault c.module.ensures.same c.in-Err.ensures initial c.requires.start.opened)
+    let initial = start_in_store c.args.checked.now c.args.script.now c.args.store in
+    c.fault_of.ensures c.args.checked.now c.args.script.now initial c.requires.start.opened
+    (refuses_same c.module.result.now c.args.checked.now c.args.script.now c.args.turns c.in-Err.fault c.module.ensures.same c.in-Err.ensures initial c.requires.start.opened)

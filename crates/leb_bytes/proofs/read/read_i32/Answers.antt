@@ -1,8 +1,8 @@
-use Rattle.std.proofs.Common.{◌≡◌, ◌+◌, ◌-◌, length, take, drop, Some, None, ap, sym, ◌∙◌, ℤ, FitsSigned, w32, w64, to_z, of_z}
+use Rattle.std.proofs.Common.{◌≡◌, ◌+◌, ◌-◌, length, take, drop, Some, ap, sym, ◌∙◌, ℤ, FitsSigned, w32, w64, to_z, of_z}
 use Rattle.leb_bytes.specs.declared.read.BadLeb.{BadLeb}
 use Rattle.leb_bytes.specs.Signed.{EncodesS32, first_s32}
 use Rattle.leb_bytes.proofs.Encodings.{cast_32, s32_fits, s32_read, s32_range, same_64}
-use Rattle.leb_bytes.proofs.Placed.{IsReadAt, read_there, none_at, none_there}
+use Rattle.leb_bytes.proofs.Placed.{IsReadAt, read_there, none_there}
 use Rattle.leb_bytes.proofs.read.read_i32.Goals as goal
 
 fits : (c : goal.In-Some) → FitsSigned w32 c.in-Some.number
@@ -27,28 +27,12 @@ there c =
 pub overflow_cast-result : goal.overflow_cast-result
 overflow_cast-result c = rw (same_64 c.in-Some.number (fits c)) (fits c)
 
-pub returns-in-Some-clause-front : goal.returns-in-Some-clause-front
+pub returns-in-Some : goal.returns-in-Some
 unfolding number_of
-returns-in-Some-clause-front c = (there c).front
+returns-in-Some c = let is = there c in record { found = is.found; only = is.only; bad = record {}; front = is.front }
 
-pub returns-in-Some-clause-found : goal.returns-in-Some-clause-found
-unfolding number_of
-returns-in-Some-clause-found c = (there c).found
-
-pub returns-in-Some-clause-only : goal.returns-in-Some-clause-only
-unfolding number_of
-returns-in-Some-clause-only c = (there c).only
-
-none : (c : goal.In-None) → first_s32 (drop c.args.at c.args.bytes.now) ≡ None
+pub returns-in-None : goal.returns-in-None
 unfolding first_s32
-none c = none_there first_s32 c.args.bytes.now c.args.at c.in-None.ensures
-
-pub returns-in-None-clause-front : goal.returns-in-None-clause-front
-returns-in-None-clause-front c = none c
-
-pub returns-in-None-clause-bad : goal.returns-in-None-clause-bad
-returns-in-None-clause-bad c next number = none_at EncodesS32 first_s32 s32_read c.args.bytes.now c.args.at next number (none c)
-
-pub returns-in-None-clause-only : goal.returns-in-None-clause-only
-returns-in-None-clause-only c next number h =
-    absurd (none_at EncodesS32 first_s32 s32_read c.args.bytes.now c.args.at next number (none c) h)
+returns-in-None c =
+    let is = none_there EncodesS32 first_s32 (record {}) s32_read c.args.bytes.now c.args.at c.in-None.ensures in
+    record { found = record {}; only = is.only; bad = is.none; front = is.front }

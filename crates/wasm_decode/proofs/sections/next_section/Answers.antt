@@ -19,7 +19,7 @@ returns-then-id-eq-SECTION_CUSTOM-clause-read c =
 
 pub returns-then-id-eq-SECTION_CUSTOM-clause-shorter : goal.returns-then-id-eq-SECTION_CUSTOM-clause-shorter
 returns-then-id-eq-SECTION_CUSTOM-clause-shorter c =
-    section_shortens c.u32_encoding.ensures.read c.args.form c.args.bytes.now c.in-Ok.read.1.now
+    section_shortens c.u32_encoding.ensures.encoding.read c.args.form c.args.bytes.now c.in-Ok.read.1.now
     (section_of c.in-Ok.read.0) c.in-Ok.ensures
 
 pub returns-then-id-last-clause-read : goal.returns-then-id-last-clause-read
@@ -41,5 +41,5 @@ returns-clause-read c =
 
 pub returns-clause-shorter : goal.returns-clause-shorter
 returns-clause-shorter c =
-    section_shortens c.u32_encoding.ensures.read c.args.form c.args.bytes.now c.in-Ok.read.1.now
+    section_shortens c.u32_encoding.ensures.encoding.read c.args.form c.args.bytes.now c.in-Ok.read.1.now
     (section_of c.in-Ok.read.0) c.in-Ok.ensures

@@ -8,5 +8,4 @@ pub returns-in-Some : goal.returns-in-Some
 unfolding first_f64
 returns-in-Some c =
     let e = c.in-Some.ensures.cases in
-    rw (c.from_le_bytes.ensures, e.0, e.1)
-    (bits_read (from_le_bytes w64) 8 c.args.bytes.now (omega (arith, e.2)) (λ i. omega (arith, c.type_inv.bytes i)))
+    rw (c.from_le_bytes.ensures, e.0, e.1) (bits_read (from_le_bytes w64) 8 c.args.bytes.now (omega (arith, e.2)) (λ i. omega (arith, c.type_inv.bytes i)))

@@ -5,13 +5,10 @@ use Rattle.wasm_interp.proofs.Safety.{bound_func, entered_in}
 use Rattle.wasm_interp.proofs.host.invoke.Goals as goal
 
 pub enter_slots-requires-clause-locals : goal.enter_slots-requires-clause-locals
-enter_slots-requires-clause-locals c =
-    (bound_func c.args.flat.now c.args.func c.in-Some.function.now c.requires.safe.code c.requires.defined c.in-Some.ensures.there).locals
+enter_slots-requires-clause-locals c = (bound_func c.args.flat.now c.args.func c.in-Some.function.now c.requires.safe.code c.requires.defined c.in-Some.ensures.there).locals
 
 pub enter_slots-requires-clause-reach : goal.enter_slots-requires-clause-reach
-enter_slots-requires-clause-reach c =
-    let reach = (bound_func c.args.flat.now c.args.func c.in-Some.function.now c.requires.safe.code c.requires.defined c.in-Some.ensures.there).reach in
-    omega (arith, reach)
+enter_slots-requires-clause-reach c = let reach = (bound_func c.args.flat.now c.args.func c.in-Some.function.now c.requires.safe.code c.requires.defined c.in-Some.ensures.there).reach in omega (arith, reach)
 
 pub returns-clause-safe : goal.returns-clause-safe
 returns-clause-safe c =

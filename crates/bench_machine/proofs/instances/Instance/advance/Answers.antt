@@ -5,8 +5,7 @@ use Rattle.bench_machine.proofs.instances.Instance.advance.Goals as goal
 
 pub advance-requires-clause-fits : goal.advance-requires-clause-fits
 advance-requires-clause-fits c =
-    let r = c.requires.running in
-    c.calls_are_ready.ensures.fits c.args.self.now.module r.run.heights (InModule r.frame ∷ r.below) c.args.self.now.machine r.stands
+    c.calls_are_ready.ensures.fits c.args.self.now.module c.requires.running.run.heights (InModule c.requires.running.frame ∷ c.requires.running.below) c.args.self.now.machine c.requires.running.stands
 
 pub returns-clause-paused : goal.returns-clause-paused
 returns-clause-paused c =

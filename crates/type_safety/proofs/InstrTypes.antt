@@ -1,4 +1,4 @@
--- What typing says of an instruction's effect, taken apart.
+-- What the type of an instruction says, taken apart.
 use Rattle.std.proofs.Common.{◌≡◌, ℕ, List, ◌++◌, Option, Some, None, Bool, true, false, cond, option_map, option_and_then, refl, subst}
 use Rattle.wasm_syntax.specs.declared.values.ValType.{ValType}
 use Rattle.wasm_syntax.specs.declared.values.Val.{Val}
@@ -19,10 +19,10 @@ module _ (ctx : Context) (before after : List ValType) where
   then_leads f None h = absurd h
   then_leads f (Some x) h = (x, refl, h)
 
-  pub cond_leads : (b : Bool) (effect : Option InstrType) → Leads ctx (cond b effect None) before after
-      → (b ≡ true) × Leads ctx effect before after
-  cond_leads true effect h = (refl, h)
-  cond_leads false effect h = absurd h
+  pub cond_leads : (b : Bool) (ty : Option InstrType) → Leads ctx (cond b ty None) before after
+      → (b ≡ true) × Leads ctx ty before after
+  cond_leads true ty h = (refl, h)
+  cond_leads false ty h = absurd h
 
 -- operands are on top, and what comes next goes on with the results in their place
 pub record Ready (s : Scope) (labels : List (List ValType)) (given operands results : List ValType)

@@ -1,4 +1,4 @@
-//! How a recorded run ends.
+//! How a run ends.
 #![tactic(auto)]
 
 pub mod outcomes;

@@ -1,0 +1,34 @@
+-- The types of the functions of a valid module are there.
+use Rattle.std.proofs.Common.{◌<◌, List, [], ◌∷◌, length, map}
+use Rattle.std.specs.Prelude.{All}
+use Rattle.std.specs.List.{cons_option}
+use Rattle.std.proofs.lemmas.List.Elements.{All-nil, All-cons, All-head, All-tail, All-append, All-map, All-weaker}
+use Rattle.wasm_syntax.specs.declared.modules.Func.{Func}
+use Rattle.wasm_syntax.specs.declared.modules.Module.{Module}
+use Rattle.wasm_syntax.specs.declared.modules.Import.{Import}
+use Rattle.wasm_syntax.specs.declared.modules.ImportKind.{ImportKind}
+use Rattle.wasm_syntax.specs.declared.modules.ImportKind.TheVariants as import
+use Rattle.wasm_syntax.specs.Index.{of_kind, func_import, func_indices}
+use Rattle.wasm_syntax.specs.Validity.{IsImport, IsDeclaredFunc, IsValidOutside}
+
+imports_typed : (m : Module) (imports : List Import) → All (λ i. IsImport m i.kind) imports
+    → All (λ t. t < length m.types) (of_kind func_import imports)
+imports_typed m [] all = All-nil (λ t. t < length m.types)
+imports_typed m (i ∷ imports) all =
+    by i.kind (All-head (λ j. IsImport m j.kind) i imports all)
+    (imports_typed m imports (All-tail (λ j. IsImport m j.kind) i imports all))
+  where
+    by : (kind : ImportKind) → IsImport m kind → All (λ t. t < length m.types) (of_kind func_import imports)
+        → All (λ t. t < length m.types) (cons_option (func_import kind) (of_kind func_import imports))
+    by (import.Func t) own later = All-cons (λ u. u < length m.types) t (of_kind func_import imports) own later
+    by (import.Table limits) own later = later
+    by (import.Memory limits) own later = later
+    by (import.Global ty) own later = later
+
+-- of the imported functions and of the module's own
+pub func_types_there : (m : Module) → IsValidOutside m → All (λ t. t < length m.types) (func_indices m)
+func_types_there m valid =
+    All-append (λ t. t < length m.types) (of_kind func_import m.imports) (map (λ (f : Func). f.ty) m.funcs)
+    (imports_typed m m.imports valid.imports)
+    (All-map (λ t. t < length m.types) (λ (f : Func). f.ty) m.funcs
+    (All-weaker (IsDeclaredFunc m) (λ f. f.ty < length m.types) (λ f d. d.type_there) m.funcs valid.funcs))
