@@ -1,0 +1,61 @@
+-- What reading a file answers, by what holds of its readers.
+use Rattle.std.proofs.Common.{◌≡◌, ℕ, ◌⊎◌, List, Result, Ok, Err, refl, ap, sym, ◌∙◌, inl, inr}
+use Rattle.std.specs.Prelude.{IfOk, IfErr}
+use Rattle.std.proofs.lemmas.Option.{none-some}
+use Rattle.trace_format.specs.Answers.{IsFileAnswer}
+use Rattle.trace_format.specs.Faults.{IsFaultOf, IsFaultPlace, IsOtherVersion}
+use Rattle.trace_format.specs.Reading.{other_version}
+use Rattle.trace_format.specs.declared.files.FormatFault.{FormatFault}
+use Rattle.trace_format.specs.declared.files.FormatFault.TheVariants.{Version, Bad, Memory}
+use Rattle.trace_format.proofs.Versions.{is_other, other_is}
+
+-- what holds of the readers of a kind of files
+pub record FileFacts {C : Type 0} (magic bytes : List ℕ) (IsOf IsRead : C → Type 0) (IsFront IsBad : ℕ → Type 0) : Type 0 where
+  pub read_is : (content : C) → IsRead content → IsOf content
+  pub is_read : (content : C) → IsOf content → IsRead content
+  pub one : (content other : C) → IsRead content → IsRead other → content ≡ other
+  pub none : (at : ℕ) (content : C) → IsBad at → IsRead content → ⊥
+  pub place : (at : ℕ) → IsBad at → IsFaultPlace IsFront at
+  pub of_version : (content : C) (found : ℕ) → IsOf content → IsOtherVersion magic bytes found → ⊥
+
+-- the place of a fault, by fronts in other words
+pub same_places : (Front Other : ℕ → Type 0) → ((count : ℕ) → Front count → Other count)
+    → ((count : ℕ) → Other count → Front count) → (at : ℕ) → IsFaultPlace Front at → IsFaultPlace Other at
+same_places Front Other there back at is = elim is [
+  | inl none ↦ inl ((λ count f. none.0 count (back count f)), none.1)
+  | inr found ↦ inr (there at found.0, (λ count f. found.1 count (back count f)))
+]
+
+module _ {C : Type 0} (magic bytes : List ℕ) (IsOf IsRead : C → Type 0) (IsFront IsBad : ℕ → Type 0)
+    (facts : FileFacts magic bytes IsOf IsRead IsFront IsBad) where
+  abbrev IsAnswer : Result C FormatFault → Type 0
+  IsAnswer = IsFileAnswer IsRead IsBad (other_version magic bytes)
+
+  pub answer_found : (answer : Result C FormatFault) → IsAnswer answer → IfOk answer IsOf
+  answer_found (Ok content) is = facts.read_is content is
+  answer_found (Err fault) is = tt
+
+  fault_only : (fault : FormatFault) → IsAnswer (Err fault) → (content : C) → IsOf content → fault ≡ Memory
+  fault_only (Version found) is content spelled =
+      absurd (facts.of_version content found spelled (other_is magic bytes found is))
+  fault_only (Bad at) is content spelled = absurd (facts.none at content is.1 (facts.is_read content spelled))
+  fault_only Memory is content spelled = refl
+
+  pub answer_only : (answer : Result C FormatFault) → IsAnswer answer → (content : C) → IsOf content
+      → (answer ≡ Ok content) ⊎ (answer ≡ Err Memory)
+  answer_only (Ok read) is content spelled = inl (ap Ok (facts.one read content is (facts.is_read content spelled)))
+  answer_only (Err fault) is content spelled = inr (ap Err (fault_only fault is content spelled))
+
+  fault_is : (fault : FormatFault) → IsAnswer (Err fault) → IsFaultOf magic IsOf IsFront bytes fault
+  fault_is (Version found) is = other_is magic bytes found is
+  fault_is (Bad at) is = (
+    (λ found other. none-some found (sym is.0 ∙ is_other magic bytes found other)),
+    (λ content spelled. facts.none at content is.1 (facts.is_read content spelled)),
+    facts.place at is.1,
+  )
+  fault_is Memory is = tt
+
+  pub answer_fault : (answer : Result C FormatFault) → IsAnswer answer
+      → IfErr answer (λ fault. IsFaultOf magic IsOf IsFront bytes fault)
+  answer_fault (Ok content) is = tt
+  answer_fault (Err fault) is = fault_is fault is

@@ -1,0 +1,14 @@
+mod ByteLemmas
+mod PartReaders
+mod ValueReaders
+mod ItemReaders
+mod FileLaws
+mod Shrinking
+mod Versions
+mod FileAnswers
+mod Logs
+mod Tapes
+mod Writable
+mod ItemLoops
+mod EndLemmas
+mod FileSteps

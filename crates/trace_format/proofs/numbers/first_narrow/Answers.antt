@@ -1,0 +1,12 @@
+use Rattle.std.proofs.Common.{arith, w32}
+use Rattle.std.specs.Int.{from_le_bytes}
+use Rattle.wasm_syntax.specs.Encoding.Readers.{first_f32}
+use Rattle.trace_format.proofs.ByteLemmas.{bits_read}
+use Rattle.trace_format.proofs.numbers.first_narrow.Goals as goal
+
+pub returns-in-Some : goal.returns-in-Some
+unfolding first_f32
+returns-in-Some c =
+    let e = c.in-Some.ensures.cases in
+    rw (c.from.ensures, c.from_le_bytes.ensures, e.0, e.1)
+    (bits_read (from_le_bytes w32) 4 c.args.bytes.now (omega (arith, e.2)) (λ i. omega (arith, c.type_inv.bytes i)))

@@ -1,0 +1,103 @@
+// Items one after another.
+
+ghost use Rattle.std.specs.Prelude.{◌≤◌, length, IfOk};
+ghost use Rattle.trace_format.specs.Files.{AreAllRead, Shrinks};
+ghost use Rattle.wasm_syntax.specs.Encoding.Combinators.{first_items};
+ghost use Rattle.trace_format.specs.Reading.{first_counted};
+ghost use Rattle.trace_format.specs.ReadResults.{Finds, Gives};
+
+use crate::numbers::first_number;
+use crate::unread::Unread;
+use no_memory::NoMemory;
+use std::alloc::Global;
+use wasm_syntax::List;
+
+/// A kind of items that stand one after another.
+pub(crate) trait Kind {
+    ghost use Rattle.std.specs.Prelude.{ℕ, List, Option};
+    ghost use Rattle.trace_format.specs.ReadResults.{Gives};
+
+    /// What an item is read into.
+    type Item: Drop;
+
+    // the plain reader of an item, in a version
+    ghost first: { ℕ → List ℕ → Option (Self.Item × List ℕ) };
+
+    /// Reads an item.
+    fn first(alloc: Global, version: u8, bytes: &[u8]) -> Result<(Self::Item, &[u8]), Unread>
+        ensures { Gives (λ read. (read.0, read.1.now)) result (first version bytes.now) };
+}
+
+/// As many items as the number at the front says.
+pub(crate) fn first_counted<K: Kind>(
+    alloc: Global,
+    version: u8,
+    bytes: &[u8],
+) -> Result<(List<K::Item>, &[u8]), Unread>
+    ensures { Gives (λ read. (read.0, read.1.now)) result (first_counted (K.first version) bytes.now) }
+{
+    match first_number(bytes) {
+        Some((count, rest)) => first_items::<K>(alloc, version, count, rest),
+        None => Err(Unread::NotThere),
+    }
+}
+
+/// A given number of items.
+fn first_items<K: Kind>(
+    alloc: Global,
+    version: u8,
+    count: u32,
+    bytes: &[u8],
+) -> Result<(List<K::Item>, &[u8]), Unread>
+    ensures { Gives (λ read. (read.0, read.1.now)) result (first_items (K.first version) count bytes.now) }
+{
+    let mut items = Vec::new(alloc);
+    let mut rest = bytes;
+    for _ in 0..count {
+        match K::first(alloc, version, rest) {
+            Ok((item, after)) => {
+                items.push(item)?;
+                rest = after;
+            }
+            Err(unread) => return Err(unread),
+        }
+    }
+    Ok((List::from_vec(items), rest))
+}
+
+/// The next item, where a whole one is there.
+fn next_item<K: Kind>(
+    alloc: Global,
+    version: u8,
+    bytes: &[u8],
+) -> Result<Option<(K::Item, &[u8])>, NoMemory>
+    ensures { IfOk result (λ next. Finds (λ read. (read.0, read.1.now)) next (K.first version bytes.now)) }
+{
+    match K::first(alloc, version, bytes) {
+        Ok(read) => Ok(Some(read)),
+        Err(Unread::NotThere) => Ok(None),
+        Err(Unread::Memory) => Err(NoMemory),
+    }
+}
+
+/// Items as long as whole ones are there, and what is left.
+///
+/// # Errors
+/// Where an allocation failed.
+pub(crate) fn whole_items<K: Kind>(
+    alloc: Global,
+    version: u8,
+    bytes: &[u8],
+) -> Result<(Vec<K::Item>, &[u8]), NoMemory>
+    requires { Shrinks (K.first version) }
+    ensures read { IfOk result (λ read. AreAllRead (K.first version) bytes.now read.0.items read.1.now) }
+    ensures shorter { IfOk result (λ read. length read.1.now ≤ length bytes.now) }
+{
+    let mut items = Vec::new(alloc);
+    let mut rest = bytes;
+    while let Some((item, after)) = next_item::<K>(alloc, version, rest)? {
+        items.push(item)?;
+        rest = after;
+    }
+    Ok((items, rest))
+}

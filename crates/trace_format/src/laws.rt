@@ -1,0 +1,45 @@
+// What holds of the files, for the crates above.
+
+ghost use Rattle.trace_format.specs.Laws.{EventsAreRead, LogsAreToldApart, LogsAreWritable, NumberLaws, SegmentsAreRead, TapesAreToldApart, TapesAreWritable};
+
+use leb_bytes::u32_encoding;
+
+/// The files of logs: bytes spell one log at most, and what they spell, in either version, can be
+/// written.
+pub fn log_files()
+    ensures apart { LogsAreToldApart }
+    ensures writable { LogsAreWritable }
+{
+    event_readers();
+}
+
+/// The files of tapes: bytes spell one tape at most, and what they spell, in either version, can be
+/// written.
+pub fn tape_files()
+    ensures apart { TapesAreToldApart }
+    ensures writable { TapesAreWritable }
+{
+    segment_readers();
+}
+
+/// The plain readers of a log's parts read just what is spelled.
+pub(crate) fn event_readers()
+    ensures numbers { NumberLaws }
+    ensures events { EventsAreRead }
+{
+    number_laws();
+}
+
+/// The plain readers of a tape's parts read just what is spelled.
+pub(crate) fn segment_readers()
+    ensures { SegmentsAreRead }
+{
+    number_laws();
+}
+
+/// What the files take from the encoding of numbers.
+fn number_laws()
+    ensures { NumberLaws }
+{
+    u32_encoding();
+}

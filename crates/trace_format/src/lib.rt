@@ -1,0 +1,20 @@
+//! The files of logs and tapes: reading and writing them, and the lines that show them.
+#![tactic(auto)]
+
+mod events;
+pub mod files;
+mod headers;
+mod items;
+mod laws;
+mod numbers;
+mod parts;
+mod segments;
+mod texts;
+mod unread;
+
+pub use files::{FormatFault, read_log, read_tape};
+pub use headers::Digest;
+pub use laws::{log_files, tape_files};
+pub use no_memory::NoMemory;
+pub use texts::{show_log, show_tape};
+pub use trace_bytes::{write_log, write_tape};

@@ -1,0 +1,146 @@
+// Readers of numbers, bytes and values. Each takes the bytes that are left, and gives what a front of
+// them spells with the bytes after it.
+
+ghost use Rattle.std.specs.Prelude.{◌≡◌, [], ◌∷◌, length, MatchOption};
+ghost use Rattle.leb_bytes.specs.Unsigned.{u32_bytes};
+ghost use Rattle.wasm_syntax.specs.Encoding.Readers.{first_raw, first_f32, first_f64};
+ghost use Rattle.trace_format.specs.Reading.{first_bytes, first_number, first_option, first_val};
+ghost use Rattle.trace_format.specs.ReadResults.{Finds, Gives};
+
+use crate::unread::Unread;
+use leb_bytes::read_u32;
+use std::alloc::Global;
+use trace_bytes::tags::{OPTION_NONE, OPTION_SOME};
+use wasm_opcodes::marks::{TYPE_F32, TYPE_F64, TYPE_I32, TYPE_I64};
+use wasm_syntax::{Bytes, Val, ValType};
+
+/// The first byte.
+pub(crate) fn first_byte(bytes: &[u8]) -> Option<(u8, &[u8])>
+    ensures { MatchOption result (bytes.now ≡ []) (λ read. bytes.now ≡ read.0 ∷ read.1.now) }
+{
+    match bytes {
+        [byte, rest @ ..] => Some((*byte, rest)),
+        [] => None,
+    }
+}
+
+/// A given number of bytes as they are.
+pub(crate) fn first_raw(count: usize, bytes: &[u8]) -> Option<(&[u8], &[u8])>
+    ensures { Finds (λ read. (read.0.now, read.1.now)) result (first_raw count bytes.now) }
+{
+    bytes.split_at_checked(count)
+}
+
+/// A number in its shortest encoding.
+#[tactic(auto, unfolding(crate::specs::Reading::first_number))]
+pub(crate) fn first_number(bytes: &[u8]) -> Option<(u32, &[u8])>
+    ensures { Finds (λ read. (read.0, read.1.now)) result (first_number bytes.now) }
+{
+    match read_u32(bytes, 0) {
+        Ok((number, next)) if next == shortest_length(number) => Some((number, &bytes[next..])),
+        _ => None,
+    }
+}
+
+/// How many bytes the shortest encoding of a number has.
+#[tactic(auto, unfolding(leb_bytes::specs::Unsigned::u32_bytes, leb_bytes::specs::Unsigned::unsigned_bytes))]
+fn shortest_length(number: u32) -> usize
+    ensures { result ≡ length (u32_bytes number) }
+{
+    if number < 0x80 {
+        1
+    } else if number < 0x4000 {
+        2
+    } else if number < 0x20_0000 {
+        3
+    } else if number < 0x1000_0000 {
+        4
+    } else {
+        5
+    }
+}
+
+/// As many bytes as the number at their front says, which is at least one.
+#[tactic(auto, unfolding(crate::specs::Reading::first_bytes))]
+pub(crate) fn first_bytes(alloc: Global, bytes: &[u8]) -> Result<(Bytes, &[u8]), Unread>
+    ensures { Gives (λ read. (read.0, read.1.now)) result (first_bytes bytes.now) }
+{
+    let Some((count, rest)) = first_number(bytes) else {
+        return Err(Unread::NotThere);
+    };
+    if count == 0 {
+        return Err(Unread::NotThere);
+    }
+    match first_raw(count as usize, rest) {
+        Some((content, rest)) => Ok((Bytes::from_vec(Vec::from_slice(alloc, content)?), rest)),
+        None => Err(Unread::NotThere),
+    }
+}
+
+/// The bits of a 32-bit value, the lowest byte first.
+#[tactic(auto, unfolding(wasm_syntax::specs::Encoding::Readers::first_f32))]
+fn first_narrow(bytes: &[u8]) -> Option<(u64, &[u8])>
+    ensures { Finds (λ read. (read.0, read.1.now)) result (first_f32 bytes.now) }
+{
+    match bytes.split_first_chunk::<4>() {
+        Some((bits, rest)) => Some((u64::from(u32::from_le_bytes(*bits)), rest)),
+        None => None,
+    }
+}
+
+/// The bits of a 64-bit value, the lowest byte first.
+#[tactic(auto, unfolding(wasm_syntax::specs::Encoding::Readers::first_f64))]
+fn first_wide(bytes: &[u8]) -> Option<(u64, &[u8])>
+    ensures { Finds (λ read. (read.0, read.1.now)) result (first_f64 bytes.now) }
+{
+    match bytes.split_first_chunk::<8>() {
+        Some((bits, rest)) => Some((u64::from_le_bytes(*bits), rest)),
+        None => None,
+    }
+}
+
+/// A value.
+#[tactic(auto, unfolding(crate::specs::Reading::first_val))]
+pub(crate) fn first_val(bytes: &[u8]) -> Option<(Val, &[u8])>
+    ensures { Finds (λ read. (read.0, read.1.now)) result (first_val bytes.now) }
+{
+    let (mark, rest) = first_byte(bytes)?;
+    let (ty, (bits, rest)) = match mark {
+        TYPE_I32 => (ValType::I32, first_narrow(rest)?),
+        TYPE_I64 => (ValType::I64, first_wide(rest)?),
+        TYPE_F32 => (ValType::F32, first_narrow(rest)?),
+        TYPE_F64 => (ValType::F64, first_wide(rest)?),
+        _ => return None,
+    };
+    Some((Val { ty, bits }, rest))
+}
+
+/// A number, or none.
+pub(crate) fn first_option_number(bytes: &[u8]) -> Option<(Option<u32>, &[u8])>
+    ensures { Finds (λ read. (read.0, read.1.now)) result (first_option first_number bytes.now) }
+{
+    let (mark, rest) = first_byte(bytes)?;
+    match mark {
+        OPTION_NONE => Some((None, rest)),
+        OPTION_SOME => {
+            let (number, rest) = first_number(rest)?;
+            Some((Some(number), rest))
+        }
+        _ => None,
+    }
+}
+
+/// A value, or none.
+pub(crate) fn first_option_val(bytes: &[u8]) -> Option<(Option<Val>, &[u8])>
+    ensures { Finds (λ read. (read.0, read.1.now)) result (first_option first_val bytes.now) }
+{
+    let (mark, rest) = first_byte(bytes)?;
+    match mark {
+        OPTION_NONE => Some((None, rest)),
+        OPTION_SOME => {
+            let (value, rest) = first_val(rest)?;
+            Some((Some(value), rest))
+        }
+        _ => None,
+    }
+}

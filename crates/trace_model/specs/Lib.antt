@@ -1,0 +1,5 @@
+pub mod Sink
+pub mod Effects
+pub mod Weight
+pub mod Balance
+pub mod Fitting

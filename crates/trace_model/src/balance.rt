@@ -1,0 +1,244 @@
+// Whether the events of a log stand in an order in which a run can have them.
+
+ghost use Rattle.std.specs.Prelude.{◌≡◌, [], ◌∷◌, drop, IfOk, OnOk, MatchOption};
+ghost use Rattle.trace_model.specs.Balance.{IsBalance, Takes, balance_start, balanced_step, calls_import, ends_so, enter_frames, first_unbalanced, is_empty_stack, is_function, leave_frames, post_frames};
+ghost use Rattle.trace_model.specs.declared.events.Event.TheVariants.{Pre};
+
+use crate::events::{Event, Log};
+use no_memory::NoMemory;
+use run_outcomes::Outcome;
+use std::alloc::Global;
+use std::marker::Model;
+use thiserror::Error;
+
+/// Why a log is not balanced, or nothing is known of it.
+#[derive(Clone, Copy, PartialEq, Eq, Debug, Error)]
+pub enum BalanceFault {
+    /// The first event that is out of order; the number of events where only the outcome is.
+    #[error("event {0} is out of order")]
+    Event(u64),
+    /// Out of memory.
+    #[error("out of memory")]
+    Memory,
+}
+
+impl From<NoMemory> for BalanceFault {
+    ghost from_gives = { λ _ fault. fault ≡ Memory };
+
+    ghost use Rattle.std.specs.Prelude.{◌≡◌};
+    ghost use Rattle.trace_model.specs.declared.balance.BalanceFault.TheVariants.{Memory};
+
+    fn from(_refused: NoMemory) -> BalanceFault {
+        BalanceFault::Memory
+    }
+}
+
+/// What is open: a function, or a call with its callee, in which a function was entered or none yet.
+#[derive(Clone, Copy)]
+pub(crate) enum Frame {
+    Function(u32),
+    Call(Option<u32>, bool),
+}
+
+/// The frames that are open. Contracts see the innermost first.
+#[derive(Drop)]
+pub(crate) struct Frames {
+    items: Vec<Frame>,
+}
+
+impl Model for Frames {
+    ghost use Rattle.std.specs.Prelude.{List, reverse};
+    ghost use Rattle.trace_model.specs.declared.balance.Frame.{Frame};
+
+    ghost Value = { List Frame };
+
+    ghost view = { λ frames. reverse frames.items.items };
+}
+
+/// What is known after some events: the frames; whether the host grew the memory; whether the last
+/// event began a call.
+#[derive(Drop)]
+pub(crate) struct Balance {
+    pub(crate) frames: Frames,
+    pub(crate) grew: bool,
+    pub(crate) called: bool,
+}
+
+impl Frames {
+    /// No frames. Takes no memory.
+    fn new(alloc: Global) -> Frames
+        ensures { result ≡ [] }
+    {
+        Frames {
+            items: Vec::new(alloc),
+        }
+    }
+
+    /// The innermost frame.
+    fn top(&self) -> Option<Frame>
+        ensures { MatchOption result (self.now ≡ []) (λ top. self.now ≡ top ∷ drop 1 self.now) }
+    {
+        self.items.last().copied()
+    }
+
+    /// A frame within the others.
+    fn push(&mut self, frame: Frame) -> Result<(), NoMemory>
+        ensures { OnOk result (self.new ≡ frame ∷ self.old) }
+    {
+        self.items.push(frame)?;
+        Ok(())
+    }
+
+    /// Closes the innermost frame.
+    fn pop(&mut self)
+        ensures { self.new ≡ drop 1 self.old }
+    {
+        let _top = self.items.pop();
+    }
+
+    /// Whether the innermost frame is a function.
+    fn is_function(&self) -> bool
+        ensures { result ≡ is_function self.now }
+    {
+        matches!(self.top(), Some(Frame::Function(_)))
+    }
+
+    /// Whether the innermost frame is a call of an import.
+    fn calls_import(&self, imports: u32) -> bool
+        ensures { result ≡ calls_import imports self.now }
+    {
+        match self.top() {
+            Some(Frame::Call(Some(callee), _)) => callee < imports,
+            _ => false,
+        }
+    }
+
+    /// Whether nothing is open.
+    fn is_empty(&self) -> bool
+        ensures { result ≡ is_empty_stack self.now }
+    {
+        self.top().is_none()
+    }
+
+    /// A function begins. Answers whether it may.
+    fn enter(&mut self, imports: u32, func: u32) -> Result<bool, NoMemory>
+        ensures { IfOk result (λ may. Takes may self.new (enter_frames imports func self.old)) }
+    {
+        match self.top() {
+            None => {}
+            Some(Frame::Call(Some(callee), entered)) => {
+                if callee >= imports && (callee != func || entered) {
+                    return Ok(false);
+                }
+                self.pop();
+                self.push(Frame::Call(Some(callee), true))?;
+            }
+            Some(_) => return Ok(false),
+        }
+        self.push(Frame::Function(func))?;
+        Ok(true)
+    }
+
+    /// A function ends. Answers whether it may.
+    fn leave(&mut self, func: u32) -> bool
+        ensures { Takes result self.new (leave_frames func self.old) }
+    {
+        match self.top() {
+            Some(Frame::Function(top)) if top == func => {
+                self.pop();
+                true
+            }
+            _ => false,
+        }
+    }
+
+    /// A call ends. Answers whether it may.
+    fn post(&mut self, imports: u32) -> bool
+        ensures { Takes result self.new (post_frames imports self.old) }
+    {
+        match self.top() {
+            Some(Frame::Call(Some(callee), entered)) if callee < imports || entered => {
+                self.pop();
+                true
+            }
+            _ => false,
+        }
+    }
+}
+
+impl Balance {
+    /// What is known before any event. Takes no memory.
+    fn new(alloc: Global) -> Balance
+        ensures { result ≡ balance_start }
+    {
+        Balance {
+            frames: Frames::new(alloc),
+            grew: false,
+            called: false,
+        }
+    }
+
+    /// Takes an event. Answers whether it is in order.
+    fn step(&mut self, imports: u32, event: &Event) -> Result<bool, NoMemory>
+        ensures { IfOk result (λ may. Takes may self.new (balanced_step imports self.old event.now)) }
+    {
+        let may = match event {
+            Event::Enter { func, .. } => *func >= imports && self.frames.enter(imports, *func)?,
+            Event::Leave { func } => self.frames.leave(*func),
+            Event::Pre { callee } => return self.call(*callee),
+            Event::Post { .. } => self.frames.post(imports),
+            Event::Seen => self.grew && self.frames.is_function(),
+            _ => self.frames.is_function(),
+        };
+        if let Event::Grow { .. } = event {
+            self.grew = true;
+        }
+        self.called = false;
+        Ok(may)
+    }
+
+    /// A call begins. Answers whether it may.
+    fn call(&mut self, callee: Option<u32>) -> Result<bool, NoMemory>
+        ensures { IfOk result (λ may. Takes may self.new
+            (balanced_step 0 self.old (Pre callee))) }
+    {
+        if !self.frames.is_function() {
+            return Ok(false);
+        }
+        self.frames.push(Frame::Call(callee, false))?;
+        self.called = true;
+        Ok(true)
+    }
+
+    /// Whether a run may end so.
+    fn ends_so(&self, imports: u32, outcome: Outcome) -> bool
+        ensures { result ≡ ends_so imports self.now outcome }
+    {
+        match outcome {
+            Outcome::Ended => self.frames.is_empty(),
+            Outcome::Trapped => self.frames.is_function() || self.called,
+            Outcome::HostTrapped => self.frames.calls_import(imports),
+        }
+    }
+}
+
+/// Looks whether a log is balanced.
+///
+/// # Errors
+/// The first event that is out of order; or where an allocation failed.
+pub fn balanced(alloc: Global, log: &Log) -> Result<(), BalanceFault>
+    ensures { IsBalance (first_unbalanced log.now) result }
+{
+    let events = log.events.as_slice();
+    let mut state = Balance::new(alloc);
+    'events: for (number, event) in events.iter().enumerate() {
+        if !state.step(log.imports, event)? {
+            return Err(BalanceFault::Event(number as u64));
+        }
+    }
+    if state.ends_so(log.imports, log.outcome) {
+        Ok(())
+    } else {
+        Err(BalanceFault::Event(events.len() as u64))
+    }
+}

@@ -1,0 +1,267 @@
+// Whether a tape fits a module.
+
+ghost use Rattle.std.specs.Prelude.{◌≡◌, [], length, slice_get, IfOk};
+ghost use Rattle.std.specs.List.{list_all};
+ghost use Rattle.std.specs.Option.{option_to_list};
+ghost use Rattle.wasm_syntax.specs.Alike.{same_types};
+ghost use Rattle.wasm_syntax.specs.Index.{all_memories, all_tables, func_type};
+ghost use Rattle.trace_model.specs.Balance.{Takes};
+ghost use Rattle.trace_model.specs.Fitting.{IsFit, came, effect_fits, first_unfit, fitting_step, gives_values, grows_within, left, names_function, takes_values, types_of, unfit_from};
+
+use crate::ordering::are_ordered;
+use crate::tapes::{Effect, Next, Origin, Segment, Tape};
+use module_index::same_type;
+use module_index::scope::Scope;
+use no_memory::NoMemory;
+use std::alloc::Global;
+use std::marker::Model;
+use thiserror::Error;
+use wasm_syntax::limits::{MOST_ENTRIES, MOST_PAGES, PAGE_SIZE};
+use wasm_syntax::{ImportKind, Limits, Module, Val, ValType};
+
+/// Why a tape does not fit a module, or nothing is known of it.
+#[derive(Clone, Copy, PartialEq, Eq, Debug, Error)]
+pub enum TapeFault {
+    /// The first segment that does not fit.
+    #[error("segment {segment} does not fit")]
+    Unfit { segment: u64 },
+    /// Out of memory.
+    #[error("out of memory")]
+    Memory,
+}
+
+impl From<NoMemory> for TapeFault {
+    ghost from_gives = { λ _ fault. fault ≡ Memory };
+
+    ghost use Rattle.std.specs.Prelude.{◌≡◌};
+    ghost use Rattle.trace_model.specs.declared.fitting.TapeFault.TheVariants.{Memory};
+
+    fn from(_refused: NoMemory) -> TapeFault {
+        TapeFault::Memory
+    }
+}
+
+/// The imports whose calls are open. Contracts see the innermost first.
+#[derive(Drop)]
+pub(crate) struct Opened {
+    imports: Vec<u32>,
+}
+
+impl Model for Opened {
+    ghost use Rattle.std.specs.Prelude.{ℕ, List, reverse};
+
+    ghost Value = { List ℕ };
+
+    ghost view = { λ opened. reverse opened.imports.items };
+}
+
+impl Opened {
+    /// None. Takes no memory.
+    fn new(alloc: Global) -> Opened
+        ensures { result ≡ [] }
+    {
+        Opened {
+            imports: Vec::new(alloc),
+        }
+    }
+
+    /// How control comes to the host. Answers whether it may come so.
+    fn came(&mut self, scope: &Scope<'_>, at: u64, origin: Origin) -> Result<bool, NoMemory>
+        ensures { IfOk result (λ may. Takes may self.new (came scope.now at self.old origin)) }
+    {
+        match origin {
+            Origin::Begin => Ok(at == 0),
+            Origin::Import(import) => {
+                if at == 0 || import as usize >= scope.imported_funcs() {
+                    return Ok(false);
+                }
+                self.imports.push(import)?;
+                Ok(true)
+            }
+            Origin::Back => Ok(at != 0),
+        }
+    }
+
+    /// How control leaves it. Answers whether it may leave so.
+    fn left(&mut self, scope: &Scope<'_>, is_last: bool, next: &Next) -> bool
+        ensures { Takes result self.new (left scope.now is_last self.old next.now) }
+    {
+        match next {
+            Next::Call { func, args } => {
+                *func as usize >= scope.imported_funcs() && takes(scope, *func, args.as_slice())
+            }
+            Next::Return { result } => match self.imports.pop() {
+                Some(import) => gives(scope, import, *result),
+                None => false,
+            },
+            Next::End => is_last && self.imports.is_empty(),
+            Next::Trap => is_last && !self.imports.is_empty(),
+        }
+    }
+}
+
+/// The values are those that the function takes.
+fn takes(scope: &Scope<'_>, func: u32, args: &[Val]) -> bool
+    ensures { result ≡ takes_values (types_of args.now) (func_type scope.now func) }
+{
+    match scope.func_type(func) {
+        Some(ty) => are_of_types(args, ty.params.as_slice()),
+        None => false,
+    }
+}
+
+/// The value, if there is one, is what the function gives.
+fn gives(scope: &Scope<'_>, func: u32, value: Option<Val>) -> bool
+    ensures { result ≡ gives_values (types_of (option_to_list value)) (func_type scope.now func) }
+{
+    match scope.func_type(func) {
+        Some(ty) => are_of_types(value.as_slice(), ty.results.as_slice()),
+        None => false,
+    }
+}
+
+/// The values have these types.
+fn are_of_types(values: &[Val], types: &[ValType]) -> bool
+    ensures { result ≡ same_types (types_of values.now) types.now }
+{
+    if values.len() != types.len() {
+        return false;
+    }
+    'values: for at in 0..values.len() {
+        if !same_type(values[at].ty, types[at]) {
+            return false;
+        }
+    }
+    true
+}
+
+/// The limits of the first memory, imported or defined.
+fn memory_limits(module: &Module) -> Option<Limits>
+    ensures { result ≡ slice_get (all_memories «module».now) 0 }
+{
+    'imports: for import in module.imports.as_slice() {
+        if let ImportKind::Memory(limits) = import.kind {
+            return Some(limits);
+        }
+    }
+    module.memories.as_slice().first().copied()
+}
+
+/// The limits of the first table, imported or defined.
+fn table_limits(module: &Module) -> Option<Limits>
+    ensures { result ≡ slice_get (all_tables «module».now) 0 }
+{
+    'imports: for import in module.imports.as_slice() {
+        if let ImportKind::Table(limits) = import.kind {
+            return Some(limits);
+        }
+    }
+    module.tables.as_slice().first().copied()
+}
+
+/// A size is within the limit and within the maximum, if there is one.
+fn grows_within(limit: u32, size: u32, limits: Option<Limits>) -> bool
+    ensures { result ≡ grows_within limit size limits }
+{
+    match limits {
+        Some(limits) => match limits.max {
+            Some(most) => size <= limit && size <= most,
+            None => size <= limit,
+        },
+        None => false,
+    }
+}
+
+/// An effect fits the module.
+fn effect_fits(scope: &Scope<'_>, effect: &Effect) -> bool
+    ensures { result ≡ effect_fits scope.now effect.now }
+{
+    match effect {
+        Effect::Grow { pages } => grows_within(MOST_PAGES, *pages, memory_limits(scope.module())),
+        Effect::Table { size } => grows_within(MOST_ENTRIES, *size, table_limits(scope.module())),
+        Effect::Bytes { addr, bytes } => {
+            let end = u64::from(*addr).saturating_add(bytes.as_slice().len() as u64);
+            scope.has_memory(0) && end <= u64::from(MOST_PAGES) * u64::from(PAGE_SIZE)
+        }
+        Effect::Entry { index: _, func } => scope.has_table(0) && names_function(scope, *func),
+        Effect::Global { global, value } => match scope.global(*global) {
+            Some(ty) => ty.mutable && same_type(value.ty, ty.ty),
+            None => false,
+        },
+    }
+}
+
+/// A function, if one is named, is there.
+fn names_function(scope: &Scope<'_>, func: Option<u32>) -> bool
+    ensures { result ≡ names_function scope.now func }
+{
+    match func {
+        Some(number) => scope.has_func(number),
+        None => true,
+    }
+}
+
+/// Each effect fits the module.
+fn all_fit(scope: &Scope<'_>, effects: &[Effect]) -> bool
+    ensures { result ≡ list_all (effect_fits scope.now) effects.now }
+{
+    'effects: for effect in effects {
+        if !effect_fits(scope, effect) {
+            return false;
+        }
+    }
+    true
+}
+
+/// A segment fits. Answers whether it does.
+fn step(
+    opened: &mut Opened,
+    scope: &Scope<'_>,
+    at: u64,
+    is_last: bool,
+    segment: &Segment,
+) -> Result<bool, NoMemory>
+    ensures { IfOk result (λ may. Takes may opened.new (fitting_step scope.now at is_last opened.old segment.now)) }
+{
+    let came = opened.came(scope, at, segment.origin)?;
+    let effects = segment.effects.as_slice();
+    Ok(
+        came && are_ordered(effects)
+            && all_fit(scope, effects)
+            && opened.left(scope, is_last, &segment.next),
+    )
+}
+
+/// The segments fit, the first of them being the tape's.
+///
+/// # Errors
+/// The first segment that does not fit; or where an allocation failed.
+fn segments_fit(alloc: Global, scope: &Scope<'_>, segments: &[Segment]) -> Result<(), TapeFault>
+    ensures { IsFit (unfit_from scope.now (length segments.now) 0 [] segments.now) result }
+{
+    let mut opened = Opened::new(alloc);
+    'segments: for (number, segment) in segments.iter().enumerate() {
+        let is_last = number + 1 == segments.len();
+        if !step(&mut opened, scope, number as u64, is_last, segment)? {
+            return Err(TapeFault::Unfit {
+                segment: number as u64,
+            });
+        }
+    }
+    Ok(())
+}
+
+/// Looks whether a tape fits a module.
+///
+/// # Errors
+/// The first segment that does not fit; or where an allocation failed.
+pub fn fits(alloc: Global, tape: &Tape, module: &Module) -> Result<(), TapeFault>
+    ensures { IsFit (first_unfit «module».now tape.now) result }
+{
+    let scope = Scope::of(alloc, module)?;
+    let segments = tape.segments.as_slice();
+    if segments.is_empty() {
+        return Err(TapeFault::Unfit { segment: 0 });
+    }
+    segments_fit(alloc, &scope, segments)
+}

@@ -1,0 +1,18 @@
+//! What a recorded run is: the log of what its module saw, and the tape of what its host did; which logs are balanced,
+//! and which tapes fit a module.
+#![tactic(auto)]
+
+pub mod balance;
+pub mod events;
+pub mod fitting;
+mod ordering;
+pub mod sinks;
+pub mod tapes;
+
+pub use balance::{BalanceFault, balanced};
+pub use events::{Event, Events, Log};
+pub use fitting::{TapeFault, fits};
+pub use no_memory::NoMemory;
+pub use run_outcomes::Outcome;
+pub use sinks::EventSink;
+pub use tapes::{Effect, Effects, Next, Origin, Segment, Segments, Tape};

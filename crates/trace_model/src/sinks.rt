@@ -1,0 +1,36 @@
+// Where events go, one after another.
+
+ghost use Rattle.std.specs.Prelude.{[], ◌∷◌, OnOk, OnErr};
+ghost use Rattle.trace_model.specs.Sink.{TookAlso};
+
+use crate::events::{Event, Events};
+use no_memory::NoMemory;
+
+/// What takes the events of a log in order. What it has taken is a relation, since it need not keep
+/// them.
+pub trait EventSink {
+    ghost use Rattle.std.specs.Prelude.{List};
+    ghost use Rattle.trace_model.specs.declared.events.Event.{Event};
+
+    // the sink has taken these events
+    ghost has_taken: { Self → List Event → Type 0 };
+
+    /// Takes an event.
+    ///
+    /// # Errors
+    /// Where an allocation failed; the event is not taken then.
+    fn event(&mut self, event: Event) -> Result<(), NoMemory>
+        ensures ok { OnOk result (TookAlso has_taken self.old self.new (event ∷ [])) }
+        ensures refused { OnErr result (TookAlso has_taken self.old self.new []) };
+}
+
+/// A list of events has taken just those that it holds.
+impl EventSink for Events {
+    ghost use Rattle.std.specs.Prelude.{◌≡◌};
+
+    ghost has_taken = { λ events taken. events ≡ taken };
+
+    fn event(&mut self, event: Event) -> Result<(), NoMemory> {
+        self.push(event)
+    }
+}
