@@ -1,0 +1,10 @@
+pub mod Operands
+pub mod Alike
+pub mod Memories
+pub mod Tables
+pub mod MemorySteps
+pub mod TableSteps
+pub mod GlobalSteps
+pub mod Steps
+pub mod KindsOfStores
+pub mod OwnAnswers

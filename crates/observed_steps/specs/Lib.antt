@@ -1,0 +1,4 @@
+pub mod StoreAnswers
+pub mod Changes
+pub mod Executions
+pub mod Laws

@@ -1,0 +1,5 @@
+pub mod Kept
+pub mod Alike
+pub mod Tested
+pub mod OneList
+mod OneTape

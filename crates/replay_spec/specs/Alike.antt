@@ -1,0 +1,38 @@
+-- Tests of values, origins and ends of the host's activities for equality.
+use Rattle.std.specs.Prelude.{List, [], ◌∷◌, Option, Some, None, Bool, true, false, ◌&&◌, nat_eq}
+use Rattle.wasm_syntax.specs.declared.values.Val.{Val}
+use Rattle.wasm_syntax.specs.Alike.{same_type}
+use Rattle.trace_model.specs.declared.tapes.Origin.{Origin}
+use Rattle.trace_model.specs.declared.tapes.Origin.TheVariants.{Begin, Import, Back}
+use Rattle.trace_model.specs.declared.tapes.Next.{Next}
+use Rattle.trace_model.specs.declared.tapes.Next.TheVariants.{Call, Return, End, Trap}
+
+-- both are nothing, or both are there and alike
+abbrev pub same_option : {X : Type 0} → (X → X → Bool) → Option X → Option X → Bool
+same_option same None None = true
+same_option same None (Some b) = false
+same_option same (Some a) None = false
+same_option same (Some a) (Some b) = same a b
+
+-- values of one type and the same bits
+abbrev pub same_value : Val → Val → Bool
+same_value a b = same_type a.ty b.ty && nat_eq a.bits b.bits
+
+abbrev pub same_values : List Val → List Val → Bool
+same_values [] [] = true
+same_values [] (b ∷ bs) = false
+same_values (a ∷ rest) [] = false
+same_values (a ∷ rest) (b ∷ bs) = same_value a b && same_values rest bs
+
+abbrev pub same_origin : Origin → Origin → Bool
+same_origin Begin Begin = true
+same_origin (Import a) (Import b) = nat_eq a b
+same_origin Back Back = true
+same_origin a b = false
+
+abbrev pub same_next : Next → Next → Bool
+same_next (Call func args) (Call other given) = nat_eq func other && same_values args given
+same_next (Return result) (Return other) = same_option same_value result other
+same_next End End = true
+same_next Trap Trap = true
+same_next a b = false

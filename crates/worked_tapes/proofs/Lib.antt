@@ -1,0 +1,6 @@
+mod Needs
+mod GrowFailed
+mod Tapes
+mod Bounds
+mod Observed
+mod WrongTapes

@@ -1,0 +1,85 @@
+-- Short names for the parts of tapes and of what is stated of them.
+use Rattle.std.specs.Prelude.{◌≡◌, ℕ, List, [], ◌∷◌, None, Result, Ok, Err}
+use Rattle.wasm_syntax.specs.declared.modules.Module.{Module}
+use Rattle.host_script.specs.declared.scripts.LinkFault.{LinkFault}
+use Rattle.host_script.specs.declared.scripts.Script.{Script}
+use Rattle.run_outcomes.specs.declared.outcomes.Outcome.{Outcome}
+use Rattle.trace_model.specs.declared.tapes.Origin.{Origin}
+use Rattle.trace_model.specs.declared.tapes.Origin.TheVariants.{Begin, Import, Back}
+use Rattle.trace_model.specs.declared.tapes.Next.{Next}
+use Rattle.trace_model.specs.declared.tapes.Next.TheVariants.{Call, Return, End}
+use Rattle.trace_model.specs.declared.tapes.Effect.{Effect}
+use Rattle.trace_model.specs.declared.tapes.Segment.{Segment}
+use Rattle.trace_model.specs.Weight.{tape_weight}
+use Rattle.history_spec.specs.declared.entries.Entry.{Entry}
+use Rattle.history_spec.specs.Store.{Store}
+use Rattle.history_spec.specs.Code.{code_of}
+use Rattle.history_spec.specs.Run.{Run, all_one, run_from, program_of, start_in_store}
+use Rattle.replay_spec.specs.Observations.{Observation, run_observations}
+use Rattle.replay_spec.specs.Needed.{IsNeededTape, opening_store, IsNeededOfRun}
+use Rattle.replay_spec.specs.TapeRun.{TapeProgress, TapeResult, Over, tape_result, tape_run}
+
+-- ---- tapes
+
+abbrev pub segment : Origin → List Effect → Next → Segment
+segment origin effects next = record { origin = origin; effects = effects; next = next }
+
+-- a function of index 1 is called, and its one call of the import changes something and returns nothing; then it traps
+abbrev pub changes_then_traps : List Effect → List Segment
+changes_then_traps effects = segment Begin [] (Call 1 []) ∷ segment (Import 0) effects (Return None) ∷ []
+
+-- or returns
+abbrev pub changes : List Effect → List Segment
+changes effects =
+    segment Begin [] (Call 1 []) ∷ segment (Import 0) effects (Return None) ∷ segment Back [] End ∷ []
+
+-- ---- runs
+
+-- what holds of the store that a run begins with, where there is one
+abbrev pub IfOpened : Result Store LinkFault → (Store → Type 0) → Type 0
+IfOpened (Ok store) holds = holds store
+IfOpened (Err fault) holds = ⊥
+
+-- how many steps are looked at: more than any of the runs takes
+abbrev pub most_steps : ℕ
+most_steps = 100
+
+-- the scripted run
+abbrev pub scripted_run : Module → Script → Store → Run
+scripted_run m script store = run_from (program_of m script) all_one (start_in_store m script store) most_steps
+
+-- the run of a tape
+abbrev pub run_of_tape : Module → Store → List Segment → TapeResult
+run_of_tape m store segments = tape_run (code_of m) store segments most_steps
+
+-- ---- statements
+
+-- the run of the tape has the history of the scripted run, and this outcome
+abbrev pub Replays : Module → Script → List Segment → Outcome → Type 0
+Replays m script segments outcome =
+    IfOpened (opening_store m script) (λ store.
+    run_of_tape m store segments ≡ tape_result (scripted_run m script store).history (Over outcome))
+
+-- the scripted run needs just these segments, of this weight, and their run is that run, with this outcome
+pub record Needs (m : Module) (script : Script) (segments : List Segment) (weight : ℕ) (outcome : Outcome)
+    : Type 0 where
+  pub needed : IsNeededOfRun m script segments
+  pub weighs : tape_weight (record { segments = segments }) ≡ weight
+  pub replays : Replays m script segments outcome
+
+-- the observations of the scripted run
+abbrev pub Observes : Module → Script → List Observation → Type 0
+Observes m script seen =
+    IfOpened (opening_store m script) (λ store.
+    run_observations (program_of m script) (start_in_store m script store) most_steps ≡ seen)
+
+-- the run of the tape has these entries, and is over, disagrees or finds no rule then
+abbrev pub Comes : Module → Script → List Segment → List Entry → TapeProgress → Type 0
+Comes m script segments entries progress =
+    IfOpened (opening_store m script) (λ store. run_of_tape m store segments ≡ tape_result entries progress)
+
+-- the segments are not the needed tape of the scripted run
+abbrev pub IsNotNeededOf : Module → Script → List Segment → Type 0
+IsNotNeededOf m script segments =
+    IfOpened (opening_store m script) (λ store.
+    IsNeededTape (program_of m script) (start_in_store m script store) store segments → ⊥)
