@@ -1,0 +1,7 @@
+mod Indices
+mod Bodies
+mod Modules
+mod LongestRuns
+mod LogTapes
+mod Tables
+mod TestedTapes

@@ -1,0 +1,11 @@
+pub mod Hooks
+pub mod HookedRuns
+pub mod ToldCalls
+pub mod Order
+pub mod Logs
+pub mod LogTapes
+pub mod LogTapeTest
+pub mod Insertions
+pub mod Instrumented
+pub mod HookedForm
+pub mod Laws

@@ -1,0 +1,56 @@
+-- The calls of hooks of examples, computed.
+use Rattle.std.proofs.Common.{refl}
+use Rattle.worked_hooks.specs.Calls.{HookCallExamples, TwoAnswersCalls, EveryKindCalls, TwoAnswersTold, EveryKindTold, TwoAnswersInOrder, EveryKindInOrder, EntersAtEnd, TellsReference, FunctionInTable, HookInTable, NoFunctionInTable, TableSmaller}
+
+two_answers_calls : TwoAnswersCalls
+two_answers_calls = refl
+
+every_kind_calls : EveryKindCalls
+every_kind_calls = refl
+
+two_answers_told : TwoAnswersTold
+two_answers_told = refl
+
+every_kind_told : EveryKindTold
+every_kind_told = refl
+
+two_answers_in_order : TwoAnswersInOrder
+two_answers_in_order = refl
+
+every_kind_in_order : EveryKindInOrder
+every_kind_in_order = refl
+
+enters_at_end : EntersAtEnd
+enters_at_end = refl
+
+tells_reference : TellsReference
+tells_reference = refl
+
+function_in_table : FunctionInTable
+function_in_table = refl
+
+hook_in_table : HookInTable
+hook_in_table = refl
+
+no_function_in_table : NoFunctionInTable
+no_function_in_table = refl
+
+table_smaller : TableSmaller
+table_smaller = refl
+
+pub hook_call_examples : HookCallExamples
+hook_call_examples =
+    record {
+      two_answers_calls = two_answers_calls;
+      every_kind_calls = every_kind_calls;
+      two_answers_told = two_answers_told;
+      every_kind_told = every_kind_told;
+      two_answers_in_order = two_answers_in_order;
+      every_kind_in_order = every_kind_in_order;
+      enters_at_end = enters_at_end;
+      tells_reference = tells_reference;
+      function_in_table = function_in_table;
+      hook_in_table = hook_in_table;
+      no_function_in_table = no_function_in_table;
+      table_smaller = table_smaller;
+    }

@@ -1,0 +1,3 @@
+mod Instrumented
+mod Calls
+mod WorkedRecordings

@@ -1,0 +1,5 @@
+pub mod Examples
+pub mod Instrumented
+pub mod Recordings
+pub mod Calls
+pub mod WorkedRecordings

@@ -1,0 +1,409 @@
+-- Worked recordings: the logs of runs, and their tapes.
+use Rattle.std.specs.Prelude.{◌≡◌, List, [], ◌∷◌, ◌++◌, Some, None, false}
+use Rattle.wasm_syntax.specs.declared.values.ValType.TheVariants.{F32}
+use Rattle.host_script.specs.declared.scripts.Address.TheVariants.{Fixed}
+use Rattle.host_script.specs.declared.scripts.Action.TheVariants.{Write, SetTable, SetGlobal, Grow as GrowBy, GrowTable}
+use Rattle.run_outcomes.specs.declared.outcomes.Outcome.TheVariants.{Ended, Trapped, HostTrapped}
+use Rattle.trace_model.specs.declared.events.Event.{Event}
+use Rattle.trace_model.specs.declared.events.Event.TheVariants.{Enter, Leave, Pre, Post, Grow, Seen, Table, Bytes, Entry, Global}
+use Rattle.trace_model.specs.declared.events.Log.{Log}
+use Rattle.trace_model.specs.declared.tapes.Origin.TheVariants.{Begin, Import, Back}
+use Rattle.trace_model.specs.declared.tapes.Next.TheVariants.{Call, Return, End, Trap}
+use Rattle.trace_model.specs.declared.tapes.Effect.TheVariants as effects
+use Rattle.trace_model.specs.declared.tapes.Tape.{Tape}
+use Rattle.trace_model.specs.Balance.{first_unbalanced}
+use Rattle.history_spec.specs.Run.{all_one}
+use Rattle.hook_spec.specs.LogTapes.{IsLogTape}
+use Rattle.hook_spec.specs.LogTapeTest.{is_log_tape}
+use Rattle.worked_histories.specs.Build.{value, i32, limits}
+use Rattle.worked_histories.specs.Modules.{two_answers, overwrite, grow_access, copy_load, copy_overlap, fill_past, grow_failed, nested_call, nested_trap, table_entry, table_growth, float_global, c_buffers}
+use Rattle.worked_histories.specs.Tells.{tell, Spent}
+use Rattle.worked_histories.specs.Scripts.{five_seven, does, does_all, does_nothing, host_traps, calls_back, reads_hi}
+use Rattle.worked_tapes.specs.TapeBuild.{segment, changes, changes_then_traps}
+use Rattle.worked_hooks.specs.Examples.{hooked_two_answers, damaged}
+use Rattle.worked_hooks.specs.Recordings.{Recorded, OutOfOrder, script_for_hooked, recording_by, log, tape, Example, IsRecorded, IsRecordedAsNeeded}
+
+-- ---- two answers
+
+abbrev pub two_answers_log : Log
+two_answers_log =
+    log (Enter 1 [] ∷ Pre (Some 0) ∷ Post (Some (i32 5)) ∷ Pre (Some 0) ∷ Post (Some (i32 7)) ∷ Leave 1 ∷ []) Ended
+
+abbrev pub two_answers_recorded : Example
+two_answers_recorded =
+    record {
+      m = two_answers;
+      script = five_seven;
+      turns = 4;
+      log = two_answers_log;
+      segments =
+          segment Begin [] (Call 1 []) ∷ segment (Import 0) [] (Return (Some (i32 5)))
+          ∷ segment (Import 0) [] (Return (Some (i32 7))) ∷ segment Back [] End ∷ [];
+    }
+
+-- where each step is a turn
+abbrev pub TwoAnswersAllTurns : Type 0
+TwoAnswersAllTurns = recording_by hooked_two_answers five_seven all_one ≡ Recorded 29 two_answers_log
+
+-- one turn less does not suffice
+abbrev pub TwoAnswersSpent : Type 0
+TwoAnswersSpent = tell hooked_two_answers (script_for_hooked five_seven) 28 ≡ Spent
+
+-- modules whose calls of hooks are out of order have no log
+abbrev pub EntersAtEndLog : Type 0
+EntersAtEndLog = recording_by (damaged 127 2) five_seven all_one ≡ OutOfOrder 7
+
+abbrev pub TellsReferenceLog : Type 0
+TellsReferenceLog = recording_by (damaged 111 3) five_seven all_one ≡ OutOfOrder 2
+
+-- ---- one call of an import, which changes something and returns nothing
+
+-- what is found after it; and then the function is left, or the module traps
+abbrev pub found : List Event → List Event
+found events = Enter 1 [] ∷ Pre (Some 0) ∷ Post None ∷ events
+
+abbrev pub left : List Event → Log
+left events = log (found (events ++ Leave 1 ∷ [])) Ended
+
+abbrev pub trapped : List Event → Log
+trapped events = log (found events) Trapped
+
+-- a write that overlaps what is stored: two of four bytes are found
+abbrev pub overwrite_recorded : Example
+overwrite_recorded =
+    record {
+      m = overwrite;
+      script = does (Write (Fixed 8) (0xAA ∷ 0xBB ∷ 0xCC ∷ 0xDD ∷ []));
+      turns = 8;
+      log = left (Bytes 10 (0xCC ∷ 0xDD ∷ []) ∷ []);
+      segments = changes (effects.Bytes 10 (0xCC ∷ 0xDD ∷ []) ∷ []);
+    }
+
+-- a write that is not read
+abbrev pub unread_write_recorded : Example
+unread_write_recorded =
+    record {
+      m = overwrite;
+      script = does (Write (Fixed 100) (0xFF ∷ []));
+      turns = 8;
+      log = left [];
+      segments = changes [];
+    }
+
+-- a growth that is noticed and not seen
+abbrev pub unseen_growth_recorded : Example
+unseen_growth_recorded =
+    record {
+      m = overwrite;
+      script = does (GrowBy 1);
+      turns = 8;
+      log = left (Grow 2 ∷ []);
+      segments = changes [];
+    }
+
+-- a growth that an access sees, and the access without it
+abbrev pub growth_recorded : Example
+growth_recorded =
+    record {
+      m = grow_access;
+      script = does (GrowBy 1);
+      turns = 6;
+      log = left (Grow 2 ∷ Seen ∷ []);
+      segments = changes (effects.Grow 2 ∷ []);
+    }
+
+abbrev pub no_growth_recorded : Example
+no_growth_recorded =
+    record {
+      m = grow_access;
+      script = does_nothing;
+      turns = 5;
+      log = trapped [];
+      segments = changes_then_traps [];
+    }
+
+-- a growth that a growth of the module's own sees, which fails
+abbrev pub growth_failed_recorded : Example
+growth_failed_recorded =
+    record {
+      m = record grow_failed { memories = limits 1 (Some 2) ∷ [] };
+      script = does (GrowBy 1);
+      turns = 5;
+      log = left (Grow 2 ∷ Seen ∷ []);
+      segments = changes (effects.Grow 2 ∷ []);
+    }
+
+-- a copy reads two bytes that are not known, and its target is loaded
+abbrev pub copy_recorded : Example
+copy_recorded =
+    record {
+      m = copy_load;
+      script = does (Write (Fixed 8) (0x85 ∷ 0x00 ∷ 0x00 ∷ 0x01 ∷ []));
+      turns = 10;
+      log = left (Bytes 8 (0x85 ∷ []) ∷ Bytes 11 (0x01 ∷ []) ∷ []);
+      segments = changes (effects.Bytes 8 (0x85 ∷ []) ∷ effects.Bytes 11 (0x01 ∷ []) ∷ []);
+    }
+
+-- a copy onto some of the bytes that it reads, of which a load reads what was written
+abbrev pub copy_overlap_recorded : Example
+copy_overlap_recorded =
+    record {
+      m = copy_overlap;
+      script = does (Write (Fixed 8) (1 ∷ 2 ∷ 3 ∷ []));
+      turns = 13;
+      log = left (Bytes 8 (1 ∷ 2 ∷ 3 ∷ []) ∷ []);
+      segments = changes (effects.Bytes 8 (1 ∷ 2 ∷ 3 ∷ []) ∷ []);
+    }
+
+-- a fill past the end, and one that sees a growth
+abbrev pub fill_recorded : Example
+fill_recorded =
+    record {
+      m = fill_past;
+      script = does_nothing;
+      turns = 6;
+      log = trapped [];
+      segments = changes_then_traps [];
+    }
+
+abbrev pub fill_grown_recorded : Example
+fill_grown_recorded =
+    record {
+      m = fill_past;
+      script = does (GrowBy 1);
+      turns = 7;
+      log = left (Grow 2 ∷ Seen ∷ []);
+      segments = changes (effects.Grow 2 ∷ []);
+    }
+
+-- an entry of another type: the call of its function begins and is not over
+abbrev pub entry_recorded : Example
+entry_recorded =
+    record {
+      m = table_entry;
+      script = does (SetTable 0 (Some 3));
+      turns = 5;
+      log = trapped (Entry 0 (Some 3) ∷ Pre (Some 3) ∷ []);
+      segments = changes_then_traps (effects.Entry 0 (Some 3) ∷ []);
+    }
+
+-- one that is emptied, and one that holds an import of another type, whose call begins no segment
+abbrev pub emptied_recorded : Example
+emptied_recorded =
+    record {
+      m = table_entry;
+      script = does (SetTable 0 None);
+      turns = 5;
+      log = trapped (Entry 0 None ∷ Pre None ∷ []);
+      segments = changes_then_traps (effects.Entry 0 None ∷ []);
+    }
+
+abbrev pub import_entry_recorded : Example
+import_entry_recorded =
+    record {
+      m = table_entry;
+      script = does (SetTable 0 (Some 0));
+      turns = 5;
+      log = trapped (Entry 0 (Some 0) ∷ Pre (Some 0) ∷ []);
+      segments = changes_then_traps (effects.Entry 0 (Some 0) ∷ []);
+    }
+
+-- a table that grows unseen, by a call within its first entries
+abbrev pub table_unseen_recorded : Example
+table_unseen_recorded =
+    record {
+      m = table_entry;
+      script = does_all (GrowTable 4 ∷ SetTable 0 (Some 3) ∷ []);
+      turns = 6;
+      log = trapped (Entry 0 (Some 3) ∷ Pre (Some 3) ∷ []);
+      segments = changes_then_traps (effects.Entry 0 (Some 3) ∷ []);
+    }
+
+-- the bits of a NaN
+abbrev pub float_recorded : Example
+float_recorded =
+    record {
+      m = float_global;
+      script = does (SetGlobal 0 (value F32 2141192193));
+      turns = 4;
+      log = left (Global 0 (value F32 2141192193) ∷ []);
+      segments = changes (effects.Global 0 (value F32 2141192193) ∷ []);
+    }
+
+-- a table that the host grows, with its new last entry set, or with it past the end; and one that it does not grow
+abbrev pub table_growth_recorded : Example
+table_growth_recorded =
+    record {
+      m = table_growth;
+      script = does_all (GrowTable 4 ∷ SetTable 5 (Some 3) ∷ []);
+      turns = 6;
+      log = trapped (Table 6 ∷ Entry 5 (Some 3) ∷ Pre (Some 3) ∷ []);
+      segments = changes_then_traps (effects.Table 6 ∷ effects.Entry 5 (Some 3) ∷ []);
+    }
+
+abbrev pub table_short_recorded : Example
+table_short_recorded =
+    record {
+      m = table_growth;
+      script = does (GrowTable 2);
+      turns = 5;
+      log = trapped (Table 4 ∷ Pre None ∷ []);
+      segments = changes_then_traps (effects.Table 4 ∷ []);
+    }
+
+abbrev pub table_not_grown_recorded : Example
+table_not_grown_recorded =
+    record {
+      m = table_growth;
+      script = does_nothing;
+      turns = 4;
+      log = trapped (Pre None ∷ []);
+      segments = changes_then_traps [];
+    }
+
+-- ---- others
+
+-- a call within the call of an import; what is written after it is found after the import's return
+abbrev pub nested_recorded : Example
+nested_recorded =
+    record {
+      m = nested_call;
+      script = calls_back;
+      turns = 8;
+      log =
+          log
+          (Enter 1 [] ∷ Pre (Some 0) ∷ Enter 2 [] ∷ Pre (Some 0) ∷ Post (Some (i32 2)) ∷ Leave 2 ∷ Post (Some (i32 1))
+          ∷ Bytes 0 (0x04 ∷ []) ∷ Leave 1 ∷ [])
+          Ended;
+      segments =
+          segment Begin [] (Call 1 []) ∷ segment (Import 0) [] (Call 2 [])
+          ∷ segment (Import 0) [] (Return (Some (i32 2)))
+          ∷ segment Back (effects.Bytes 0 (0x04 ∷ []) ∷ []) (Return (Some (i32 1))) ∷ segment Back [] End ∷ [];
+    }
+
+-- a trap there
+abbrev pub nested_trap_recorded : Example
+nested_trap_recorded =
+    record {
+      m = nested_trap;
+      script = calls_back;
+      turns = 4;
+      log = log (Enter 1 [] ∷ Pre (Some 0) ∷ Enter 2 [] ∷ []) Trapped;
+      segments = segment Begin [] (Call 1 []) ∷ segment (Import 0) [] (Call 2 []) ∷ [];
+    }
+
+-- the host traps
+abbrev pub host_trap_recorded : Example
+host_trap_recorded =
+    record {
+      m = two_answers;
+      script = host_traps;
+      turns = 2;
+      log = log (Enter 1 [] ∷ Pre (Some 0) ∷ []) HostTrapped;
+      segments = segment Begin [] (Call 1 []) ∷ segment (Import 0) [] Trap ∷ [];
+    }
+
+-- buffers on a C stack
+abbrev pub c_buffers_recorded : Example
+c_buffers_recorded =
+    record {
+      m = c_buffers;
+      script = reads_hi;
+      turns = 29;
+      log =
+          log
+          (Enter 1 [] ∷ Pre (Some 0) ∷ Post (Some (i32 0))
+          ∷ Bytes 66544 (0x68 ∷ 0x69 ∷ 0x0A ∷ []) ∷ Bytes 66552 (0x03 ∷ [])
+          ∷ Pre (Some 2) ∷ Enter 2 (i32 0xA696B ∷ []) ∷ Leave 2 ∷ Post (Some (i32 0x14D2D6)) ∷ Leave 1 ∷ [])
+          Ended;
+      segments =
+          segment Begin [] (Call 1 [])
+          ∷ segment (Import 0)
+          (effects.Bytes 66544 (0x68 ∷ 0x69 ∷ 0x0A ∷ []) ∷ effects.Bytes 66552 (0x03 ∷ []) ∷ [])
+          (Return (Some (i32 0)))
+          ∷ segment Back [] End ∷ [];
+    }
+
+-- ---- a log that no run has, whose window finds much, out of order and some of it twice
+
+abbrev pub mixed_log : Log
+mixed_log =
+    left
+    (Bytes 8 (1 ∷ 2 ∷ []) ∷ Global 3 (i32 9) ∷ Bytes 4 (5 ∷ []) ∷ Entry 7 None ∷ Grow 2 ∷ Seen
+    ∷ Bytes 5 (6 ∷ 7 ∷ 8 ∷ []) ∷ Pre (Some 1) ∷ Enter 1 [] ∷ Entry 2 (Some 1) ∷ Leave 1 ∷ Post None
+    ∷ Bytes 9 (3 ∷ 4 ∷ []) ∷ Table 6 ∷ Global 1 (i32 8) ∷ Entry 7 (Some 1) ∷ Grow 3 ∷ Seen ∷ Bytes 20 (0 ∷ [])
+    ∷ Table 7 ∷ [])
+
+abbrev pub mixed_tape : Tape
+mixed_tape =
+    tape
+    (changes
+    (effects.Grow 2 ∷ effects.Table 6 ∷ effects.Bytes 4 (5 ∷ 6 ∷ 7 ∷ 8 ∷ 1 ∷ 2 ∷ 4 ∷ []) ∷ effects.Bytes 20 (0 ∷ [])
+    ∷ effects.Entry 2 (Some 1) ∷ effects.Entry 7 None ∷ effects.Global 1 (i32 8) ∷ effects.Global 3 (i32 9) ∷ []))
+
+abbrev pub MixedBalanced : Type 0
+MixedBalanced = first_unbalanced mixed_log ≡ None
+
+abbrev pub MixedTape : Type 0
+MixedTape = IsLogTape mixed_log mixed_tape
+
+-- ---- tapes that are not those of a log
+
+-- the second byte is another
+abbrev pub overwrite_log : Log
+overwrite_log = overwrite_recorded.log
+
+abbrev pub WrongByte : Type 0
+WrongByte = is_log_tape overwrite_log (tape (changes (effects.Bytes 10 (0xCC ∷ 0xDE ∷ []) ∷ []))) ≡ false
+
+-- a run of bytes is not the longest
+abbrev pub ShortRuns : Type 0
+ShortRuns =
+    is_log_tape overwrite_log
+    (tape (changes (effects.Bytes 10 (0xCC ∷ []) ∷ effects.Bytes 11 (0xDD ∷ []) ∷ []))) ≡ false
+
+-- a change that is not found
+abbrev pub MoreThanFound : Type 0
+MoreThanFound =
+    is_log_tape overwrite_log (tape (changes (effects.Grow 2 ∷ effects.Bytes 10 (0xCC ∷ 0xDD ∷ []) ∷ [])))
+    ≡ false
+
+-- the last segment is missing
+abbrev pub LastMissing : Type 0
+LastMissing = is_log_tape overwrite_log (tape (changes_then_traps (effects.Bytes 10 (0xCC ∷ 0xDD ∷ []) ∷ []))) ≡ false
+
+-- the worked runs have these logs and tapes
+pub record WorkedRecordings : Type 0 where
+  pub two_answers : IsRecordedAsNeeded two_answers_recorded
+  pub two_answers_all_turns : TwoAnswersAllTurns
+  pub two_answers_spent : TwoAnswersSpent
+  pub enters_at_end : EntersAtEndLog
+  pub tells_reference : TellsReferenceLog
+  pub overwrite : IsRecordedAsNeeded overwrite_recorded
+  pub unread_write : IsRecordedAsNeeded unread_write_recorded
+  pub unseen_growth : IsRecorded unseen_growth_recorded
+  pub growth : IsRecordedAsNeeded growth_recorded
+  pub no_growth : IsRecordedAsNeeded no_growth_recorded
+  pub growth_failed : IsRecorded growth_failed_recorded
+  pub copy : IsRecordedAsNeeded copy_recorded
+  pub copy_onto_itself : IsRecordedAsNeeded copy_overlap_recorded
+  pub fill : IsRecorded fill_recorded
+  pub fill_grown : IsRecordedAsNeeded fill_grown_recorded
+  pub entry : IsRecordedAsNeeded entry_recorded
+  pub emptied : IsRecordedAsNeeded emptied_recorded
+  pub import_entry : IsRecordedAsNeeded import_entry_recorded
+  pub table_unseen : IsRecordedAsNeeded table_unseen_recorded
+  pub float : IsRecordedAsNeeded float_recorded
+  pub table_grown : IsRecordedAsNeeded table_growth_recorded
+  pub table_short : IsRecordedAsNeeded table_short_recorded
+  pub table_not_grown : IsRecordedAsNeeded table_not_grown_recorded
+  pub nested : IsRecordedAsNeeded nested_recorded
+  pub nested_trapped : IsRecordedAsNeeded nested_trap_recorded
+  pub host_trapped : IsRecordedAsNeeded host_trap_recorded
+  pub buffers : IsRecordedAsNeeded c_buffers_recorded
+  pub mixed_balanced : MixedBalanced
+  pub mixed : MixedTape
+  pub wrong_byte : WrongByte
+  pub short_runs : ShortRuns
+  pub more_than_found : MoreThanFound
+  pub last_missing : LastMissing
