@@ -1,1 +1,3 @@
 pub mod Merge
+pub mod Fits
+pub mod Size

@@ -1,7 +1,7 @@
 -- The replay module of any module, of a supply and of what is generated: it has no imports, and keeps the index of
 -- every function, type, table, memory and global of the original. No code stands on it yet: what `make` prints today
 -- is the `replay_module` of plain_replay, for modules of integer code and plain scripts alone.
-use Rattle.std.specs.Prelude.{ℕ, List, [], ◌∷◌, ◌++◌, length, map, min, Option, Some, None, option_map, option_to_list, codes}
+use Rattle.std.specs.Prelude.{ℕ, ◌^◌, List, [], ◌∷◌, ◌++◌, length, map, min, None, option_map, option_to_list, codes}
 use Rattle.std.specs.List.{zip}
 use Rattle.leb_bytes.specs.Unsigned.{u32_bytes}
 use Rattle.wasm_syntax.specs.declared.values.Val.{Val}
@@ -27,10 +27,11 @@ use Rattle.replay_gen.specs.declared.fragments.Fragment.{Fragment}
 abbrev pub constant_body : Val → List Instr
 constant_body value = Const value ∷ End ∷ []
 
--- a memory's maximum past 65,536 pages is written as 65,536, which changes no growth
+-- how many pages a memory's limits may state, as `IsMemory` has it (Core 1.0, 3.2.4)
 abbrev pub most_written : ℕ
-most_written = 65536
+most_written = 2 ^ 16
 
+-- a maximum past it is written as it, which changes no growth
 abbrev pub memory_written : Limits → Limits
 memory_written limits = record limits { max = option_map (λ max. min max most_written) limits.max }
 

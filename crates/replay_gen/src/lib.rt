@@ -1,7 +1,10 @@
-//! The generated part of a replay module of any module, as module_merge defines it. No code makes one yet: what
-//! is made today is the `replay_module` of plain_replay, which has no such part.
+//! The generated part of a replay module of any module: functions that do what a plan has the host do. `Functions` and
+//! `Fragments` in specs define it. No code makes one yet: what is made today is the `replay_module` of plain_replay,
+//! which has no such part.
 #![tactic(auto)]
 
 pub mod fragments;
+pub mod groups;
 
 pub use fragments::Fragment;
+pub use groups::GROUP_CALLS;

@@ -1,0 +1,4 @@
+pub mod Along
+pub mod One
+pub mod Dispatches
+pub mod Selections

@@ -1,0 +1,4 @@
+mod Projections
+mod Histories
+mod Joined
+mod Tested

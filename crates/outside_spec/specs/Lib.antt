@@ -1,0 +1,5 @@
+pub mod Inside
+pub mod Items
+pub mod Stretches
+pub mod Steps
+pub mod Laws

@@ -1,0 +1,4 @@
+mod Replays
+mod Parts
+mod WrongReplays
+mod Fitting

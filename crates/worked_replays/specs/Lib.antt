@@ -1,0 +1,7 @@
+pub mod Tapes
+pub mod Cases
+pub mod Tests
+pub mod Replays
+pub mod Fitting
+pub mod Parts
+pub mod WrongReplays
