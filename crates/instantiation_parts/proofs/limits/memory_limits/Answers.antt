@@ -1,0 +1,8 @@
+use Rattle.wasm_syntax.specs.Index.{memory_import}
+use Rattle.instantiation_parts.proofs.Imported.{limits_by_test}
+use Rattle.instantiation_parts.proofs.limits.memory_limits.Goals as goal
+
+pub returns : goal.returns
+returns c =
+    let m = c.args.module.now in
+    cc (limits_by_test memory_import m.imports c.args.supply.now.memory m.memories)

@@ -1,0 +1,55 @@
+// Limits of the memory and of the table: those that are supplied where it is imported, else those that
+// are declared.
+
+ghost use Rattle.std.specs.Prelude.{◌≡◌, cond, is_some, slice_get};
+ghost use Rattle.std.specs.List.{list_any};
+ghost use Rattle.wasm_syntax.specs.Index.{memory_import, table_import};
+ghost use Rattle.history_spec.specs.Instantiation as history;
+
+use host_script::Supply;
+use wasm_syntax::{Import, ImportKind, Limits, Module};
+
+/// Whether a memory is imported.
+fn imports_memory(imports: &[Import]) -> bool
+    ensures { result ≡ list_any (λ import. is_some (memory_import import.kind)) imports.now }
+{
+    imports
+        .iter()
+        .any(|import| matches!(import.kind, ImportKind::Memory(_)))
+}
+
+/// Whether a table is imported.
+fn imports_table(imports: &[Import]) -> bool
+    ensures { result ≡ list_any (λ import. is_some (table_import import.kind)) imports.now }
+{
+    imports
+        .iter()
+        .any(|import| matches!(import.kind, ImportKind::Table(_)))
+}
+
+/// The limits that are supplied, where there is an import for them, or those that are declared first.
+fn chosen_limits(is_imported: bool, supplied: Option<Limits>, declared: &[Limits]) -> Option<Limits>
+    ensures { result ≡ cond is_imported supplied (slice_get declared.now 0) }
+{
+    if is_imported {
+        supplied
+    } else {
+        declared.first().copied()
+    }
+}
+
+/// The limits of the memory; None where there is none.
+pub fn memory_limits(module: &Module, supply: &Supply) -> Option<Limits>
+    ensures { result ≡ history.memory_limits «module».now supply.now }
+{
+    let is_imported = imports_memory(module.imports.as_slice());
+    chosen_limits(is_imported, supply.memory, module.memories.as_slice())
+}
+
+/// The limits of the table; None where there is none.
+pub fn table_limits(module: &Module, supply: &Supply) -> Option<Limits>
+    ensures { result ≡ history.table_limits «module».now supply.now }
+{
+    let is_imported = imports_table(module.imports.as_slice());
+    chosen_limits(is_imported, supply.table, module.tables.as_slice())
+}

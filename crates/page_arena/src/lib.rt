@@ -1,0 +1,125 @@
+//! Pages of 4,096 bytes that stay where they are while more are made.
+#![tactic(auto)]
+
+ghost use Rattle.std.specs.Prelude.{◌≡◌, ◌<◌, [], ◌∷◌, ◌++◌, length, replicate, IfOk, OnOk, OnErr};
+ghost use Rattle.std.specs.Borrow.{sem};
+ghost use Rattle.page_arena.specs.Lending.{LendsPage};
+ghost use Rattle.page_arena.specs.Pages.{page_at};
+
+use no_memory::NoMemory;
+use std::alloc::Global;
+use std::marker::Model;
+
+/// How many bytes a page has.
+pub const PAGE_LENGTH: usize = 4_096;
+
+/// A page of an arena, by its number: pages are counted from 0 in the order in which they are made.
+#[derive(Clone, Copy, PartialEq, Eq, Debug)]
+pub struct PageId {
+    pub number: usize,
+}
+
+/// Pages of 4,096 bytes. A page stays where it is while more are made, and all are given back at the
+/// end of the arena.
+#[derive(Drop)]
+pub struct PageArena {
+    pages: Vec<Box<[u8; 4096]>>,
+}
+
+impl Model for PageArena {
+    ghost use Rattle.std.specs.Prelude.{ℕ, List, map};
+
+    ghost Value = { List (List ℕ) };
+
+    ghost view = { λ arena. map (λ page. page.value) arena.pages.items };
+}
+
+impl PageArena {
+    /// An arena without pages. Takes no memory.
+    pub fn new(alloc: Global) -> PageArena
+        ensures { result ≡ [] }
+    {
+        PageArena {
+            pages: Vec::new(alloc),
+        }
+    }
+
+    /// How many pages there are.
+    pub fn count(&self) -> usize
+        ensures { result ≡ length self.now }
+    {
+        self.pages.len()
+    }
+
+    /// Makes a page of zeros.
+    ///
+    /// # Errors
+    /// Where an allocation failed; all pages are as before then.
+    pub fn new_page(&mut self) -> Result<PageId, NoMemory>
+        ensures number { IfOk result (λ id. id.number ≡ length self.old) }
+        ensures ok { OnOk result (self.new ≡ self.old ++ replicate PAGE_LENGTH 0 ∷ []) }
+        ensures err { OnErr result (self.new ≡ self.old) }
+    {
+        self.push([0; 4096])
+    }
+
+    /// Makes a page that begins with the bytes of another. Writes to either do not show in the other.
+    ///
+    /// # Errors
+    /// Where an allocation failed; all pages are as before then.
+    pub fn copy_page(&mut self, id: PageId) -> Result<PageId, NoMemory>
+        requires { id.number < length self.old }
+        ensures number { IfOk result (λ copy. copy.number ≡ length self.old) }
+        ensures ok { OnOk result (self.new ≡ self.old ++ page_at self.old id.number ∷ []) }
+        ensures err { OnErr result (self.new ≡ self.old) }
+    {
+        let page = &self.pages[id.number];
+        let bytes = **page;
+        self.push(bytes)
+    }
+
+    /// The bytes of a page.
+    #[inline(always)]
+    pub fn page(&self, id: PageId) -> &[u8]
+        requires { id.number < length self.now }
+        ensures value { result.now ≡ page_at self.now id.number }
+        ensures size { length result.now ≡ PAGE_LENGTH }
+    {
+        all_bytes(&self.pages[id.number])
+    }
+
+    /// The bytes of a page, to be changed.
+    #[inline(always)]
+    pub fn page_mut(&mut self, id: PageId) -> &mut [u8]
+        requires { id.number < length self.old }
+        ensures value { result.now ≡ page_at self.old id.number }
+        ensures size { length result.now ≡ PAGE_LENGTH }
+        ensures* writes_back { sem 𝓛 (LendsPage self.entry id.number result) }
+    {
+        // a page's length is known by its type alone
+        let _length = all_bytes(&self.pages[id.number]).len();
+        let page = &mut self.pages[id.number];
+        page.as_mut_slice()
+    }
+
+    fn push(&mut self, bytes: [u8; 4096]) -> Result<PageId, NoMemory>
+        ensures number { IfOk result (λ id. id.number ≡ length self.old) }
+        ensures ok { OnOk result (self.new ≡ self.old ++ bytes ∷ []) }
+        ensures err { OnErr result (self.new ≡ self.old) }
+    {
+        let number = self.pages.len();
+        let alloc = *self.pages.allocator();
+        let page = Box::new(alloc, bytes)?;
+        self.pages.push(page)?;
+        Ok(PageId { number })
+    }
+}
+
+/// All bytes of a page.
+#[inline(always)]
+fn all_bytes(page: &[u8; 4096]) -> &[u8]
+    ensures value { result.now ≡ page.now }
+    ensures size { length result.now ≡ PAGE_LENGTH }
+{
+    page
+}

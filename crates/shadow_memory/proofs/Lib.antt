@@ -1,0 +1,6 @@
+pub mod Written
+pub mod Flat
+pub mod Keeping
+pub mod Counting
+pub mod Datas
+pub mod Takings

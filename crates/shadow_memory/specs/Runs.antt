@@ -1,0 +1,34 @@
+-- Runs of bytes that are all the known ones, or all others.
+use Rattle.std.specs.Prelude.{◌≡◌, ℕ, ◌+◌, ◌<◌, ◌≤◌, ◌==◌, List, length, Option, Some, None, Bool, true, false, not, slice_index}
+use Rattle.shadow_memory.specs.declared.runs.Difference.{Difference}
+
+-- whether the byte at a place of a run, which stands from an address on, is the known one
+abbrev pub is_known : (known : List ℕ) (address : ℕ) (bytes : List ℕ) (k : ℕ) → Bool
+is_known known address bytes k = slice_index known (address + k) == slice_index bytes k
+
+-- the same, among as many known bytes
+abbrev pub is_alike : (known bytes : List ℕ) (k : ℕ) → Bool
+is_alike known bytes k = slice_index known k == slice_index bytes k
+
+-- how many places from the first on, of so many, have this answer to a test
+pub record IsLeadingCount (test : ℕ → Bool) (answer : Bool) (total count : ℕ) : Type 0 where
+  pub within : count ≤ total
+  pub alike : (k : ℕ) → k < count → test k ≡ answer
+  pub ended : count < total → test count ≡ not answer
+
+-- all bytes are the known ones
+abbrev pub AreKnown : (known : List ℕ) (address : ℕ) (bytes : List ℕ) → Type 0
+AreKnown known address bytes = (k : ℕ) → k < length bytes → is_known known address bytes k ≡ true
+
+-- the first run of bytes that are not the known ones, as long as there is
+pub record IsFirstDifference (known : List ℕ) (address : ℕ) (bytes : List ℕ) (found : Difference) : Type 0 where
+  pub some : found.start < found.«end»
+  pub within : found.«end» ≤ length bytes
+  pub before : (k : ℕ) → k < found.start → is_known known address bytes k ≡ true
+  pub differ : (k : ℕ) → found.start ≤ k → k < found.«end» → is_known known address bytes k ≡ false
+  pub ended : found.«end» < length bytes → is_known known address bytes found.«end» ≡ true
+
+-- how many bytes were compared: all, or those up to the end of the first difference
+abbrev pub compared : List ℕ → Option Difference → ℕ
+compared bytes None = length bytes
+compared bytes (Some found) = found.«end»

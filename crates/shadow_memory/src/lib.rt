@@ -1,0 +1,13 @@
+//! What is known of a memory: its bytes and its size.
+#![tactic(auto)]
+
+mod kept;
+mod laws;
+mod opening;
+mod runs;
+mod shadow;
+
+pub use laws::takings_are_a_map;
+pub use no_memory::NoMemory;
+pub use runs::Difference;
+pub use shadow::ShadowMemory;

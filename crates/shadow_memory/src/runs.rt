@@ -1,0 +1,187 @@
+// Runs of bytes: compared with the known ones, and taken, page by page.
+
+ghost use Rattle.std.specs.Prelude.{◌≡◌, ℕ, ◌+◌, ◌*◌, ◌/◌, ◌%◌, ◌<◌, ◌≤◌, [], ◌∷◌, length, take, true, IfOk, IfNone, IfSome, OnOk, OnErr, slice_index};
+ghost use Rattle.page_arena.specs.declared.TheConstants.{PAGE_LENGTH};
+ghost use Rattle.shadow_memory.specs.Kept.{is_touched};
+ghost use Rattle.shadow_memory.specs.Runs.{compared, is_alike, is_known, AreKnown, IsFirstDifference, IsLeadingCount};
+ghost use Rattle.shadow_memory.specs.Shadow.{AreSame, AreWritten};
+
+use crate::kept::KeptBytes;
+use no_memory::NoMemory;
+use page_arena::PAGE_LENGTH;
+
+/// Bytes of a run that are not the known ones, by their places in the run: from `start` on, up to
+/// before `end`.
+#[derive(Clone, Copy, PartialEq, Eq, Debug)]
+pub struct Difference {
+    pub start: usize,
+    pub end: usize,
+}
+
+/// How many of the bytes that are left stand in the same page from an address on.
+#[inline(always)]
+fn count_in_page(addr: usize, left: usize) -> usize
+    ensures page { addr % PAGE_LENGTH + result ≤ PAGE_LENGTH }
+    ensures most { result ≤ left }
+    ensures some { 0 < left → 0 < result }
+{
+    left.min(PAGE_LENGTH - addr % PAGE_LENGTH)
+}
+
+/// How many bytes from the first on are those beside them, or are not.
+#[inline(always)]
+fn leading_count(known: &[u8], bytes: &[u8], alike: bool) -> usize
+    requires { length known.now ≡ length bytes.now }
+    ensures { IsLeadingCount (is_alike known.now bytes.now) alike (length bytes.now) result }
+{
+    if alike && known == bytes {
+        return bytes.len();
+    }
+    'bytes: for k in 0..bytes.len() {
+        if (known[k] == bytes[k]) != alike {
+            return k;
+        }
+    }
+    bytes.len()
+}
+
+/// The byte that is known at an address.
+#[inline(always)]
+pub(crate) fn byte_at(kept: &KeptBytes, addr: usize) -> u8
+    ensures { result ≡ slice_index kept.now.bytes addr }
+{
+    kept.page(addr / PAGE_LENGTH)[addr % PAGE_LENGTH]
+}
+
+/// How many bytes of a run from the first on are the known ones, or are not.
+pub(crate) fn known_count(kept: &KeptBytes, addr: usize, bytes: &[u8], known: bool) -> usize
+    requires { addr + length bytes.now ≤ usize.MAX }
+    ensures { IsLeadingCount (is_known kept.now.bytes addr bytes.now) known (length bytes.now) result }
+{
+    let mut count = 0;
+    'pages: while count < bytes.len() {
+        let at = addr + count;
+        let part = count_in_page(at, bytes.len() - count);
+        let offset = at % PAGE_LENGTH;
+        let there = &kept.page(at / PAGE_LENGTH)[offset..offset + part];
+        let leading = leading_count(there, &bytes[count..count + part], known);
+        count += leading;
+        if leading < part {
+            return count;
+        }
+    }
+    count
+}
+
+/// Takes a byte as the known one at an address.
+///
+/// # Errors
+/// Where an allocation failed; all known bytes are as before then.
+#[inline(always)]
+pub(crate) fn take_byte(kept: &mut KeptBytes, addr: usize, byte: u8) -> Result<(), NoMemory>
+    ensures ok { OnOk result (AreWritten kept.old.bytes addr (byte ∷ []) kept.new.bytes) }
+    ensures err { OnErr result (AreSame kept.old.bytes kept.new.bytes) }
+{
+    let place = addr / PAGE_LENGTH;
+    kept.touch(place)?;
+    kept.put(place, addr % PAGE_LENGTH, &[byte]);
+    Ok(())
+}
+
+/// Takes the bytes of a run, each as the known one at its address.
+///
+/// # Errors
+/// Where an allocation failed; all known bytes are as before then.
+#[inline(always)]
+pub(crate) fn take_run(kept: &mut KeptBytes, addr: usize, bytes: &[u8]) -> Result<(), NoMemory>
+    requires { addr + length bytes.now ≤ usize.MAX }
+    ensures ok { OnOk result (AreWritten kept.old.bytes addr bytes.now kept.new.bytes) }
+    ensures err { OnErr result (AreSame kept.old.bytes kept.new.bytes) }
+{
+    let offset = addr % PAGE_LENGTH;
+    if bytes.len() > PAGE_LENGTH - offset {
+        return take_pages(kept, addr, bytes);
+    }
+    let place = addr / PAGE_LENGTH;
+    kept.touch(place)?;
+    kept.put(place, offset, bytes);
+    Ok(())
+}
+
+/// The same for bytes of several pages. Nothing is written before each has a page.
+fn take_pages(kept: &mut KeptBytes, addr: usize, bytes: &[u8]) -> Result<(), NoMemory>
+    requires { addr + length bytes.now ≤ usize.MAX }
+    ensures ok { OnOk result (AreWritten kept.old.bytes addr bytes.now kept.new.bytes) }
+    ensures err { OnErr result (AreSame kept.old.bytes kept.new.bytes) }
+{
+    let first = addr / PAGE_LENGTH;
+    let last = (addr + bytes.len()) / PAGE_LENGTH;
+    touch_all(kept, first, last + 1)?;
+    put_all(kept, addr, bytes);
+    Ok(())
+}
+
+/// Makes sure that each place of a range has a page.
+///
+/// # Errors
+/// Where an allocation failed; all bytes are as before in any case.
+fn touch_all(kept: &mut KeptBytes, first: usize, end: usize) -> Result<(), NoMemory>
+    requires { first ≤ «end» }
+    ensures ok { OnOk result ((place : ℕ) → first ≤ place → place < «end» → is_touched kept.new place ≡ true) }
+    ensures same { AreSame kept.old.bytes kept.new.bytes }
+{
+    'places: for place in first..end {
+        kept.touch(place)?;
+    }
+    Ok(())
+}
+
+/// Writes bytes into places that were touched.
+fn put_all(kept: &mut KeptBytes, addr: usize, bytes: &[u8])
+    requires fits { addr + length bytes.now ≤ usize.MAX }
+    requires touched { (at : ℕ) → addr ≤ at → at < addr + length bytes.now
+        → is_touched kept.old (at / PAGE_LENGTH) ≡ true }
+    ensures { AreWritten kept.old.bytes addr bytes.now kept.new.bytes }
+{
+    let mut done = 0;
+    'pages: while done < bytes.len() {
+        let at = addr + done;
+        let part = count_in_page(at, bytes.len() - done);
+        kept.put(
+            at / PAGE_LENGTH,
+            at % PAGE_LENGTH,
+            &bytes[done..done + part],
+        );
+        done += part;
+    }
+}
+
+/// Takes the first bytes of a run that are not the known ones, as many as stand in a row.
+///
+/// # Errors
+/// Where an allocation failed; all known bytes are as before then.
+#[inline(always)]
+pub(crate) fn take_difference(
+    kept: &mut KeptBytes,
+    addr: usize,
+    bytes: &[u8],
+) -> Result<Option<Difference>, NoMemory>
+    requires { addr + length bytes.now ≤ usize.MAX }
+    ensures none { IfOk result
+        (λ found. IfNone found (AreKnown kept.old.bytes addr bytes.now)) }
+    ensures some { IfOk result
+        (λ found. IfSome found (IsFirstDifference kept.old.bytes addr bytes.now)) }
+    ensures taken { IfOk result (λ found.
+        AreWritten kept.old.bytes addr (take (compared bytes.now found) bytes.now) kept.new.bytes) }
+    ensures err { OnErr result (AreSame kept.old.bytes kept.new.bytes) }
+{
+    let start = known_count(kept, addr, bytes, true);
+    if start == bytes.len() {
+        return Ok(None);
+    }
+    let rest = &bytes[start..];
+    let count = known_count(kept, addr + start, rest, false);
+    take_run(kept, addr + start, &rest[..count])?;
+    let end = start + count;
+    Ok(Some(Difference { start, end }))
+}

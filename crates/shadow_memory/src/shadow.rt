@@ -1,0 +1,146 @@
+// What is known of a memory.
+
+ghost use Rattle.std.specs.Prelude.{◌≡◌, ◌≢◌, ◌↔◌, ◌+◌, ◌≤◌, [], ◌∷◌, length, take, Ok, IsTrue, IsOk, IfOk, IfNone, IfSome, OnOk, OnErr};
+ghost use Rattle.history_spec.specs.Store.{Store};
+ghost use Rattle.history_spec.specs.Instantiation as history;
+ghost use Rattle.shadow_memory.specs.Opening.{IsOpening};
+ghost use Rattle.shadow_memory.specs.Shadow.{known_byte, HasTaken, IsUnchanged};
+ghost use Rattle.shadow_memory.specs.Runs.{compared, AreKnown, IsFirstDifference};
+
+use crate::kept::KeptBytes;
+use crate::opening::opening;
+use crate::runs::{Difference, byte_at, take_byte, take_difference, take_run};
+use host_script::Supply;
+use no_memory::NoMemory;
+use std::alloc::Global;
+use std::marker::Model;
+use wasm_validate::Checked;
+
+/// What is known of a memory: the byte at each address, and how many pages there are. Beside it, how
+/// many pages were noticed.
+#[derive(Drop)]
+pub struct ShadowMemory {
+    bytes: KeptBytes,
+    known: u32,
+    noticed: u32,
+}
+
+impl Model for ShadowMemory {
+    ghost use Rattle.shadow_memory.specs.Shadow.{Shadow};
+
+    ghost Value = { Shadow };
+
+    ghost view = { λ shadow. record {
+      bytes = shadow.bytes.bytes;
+      known = shadow.known;
+      noticed = shadow.noticed;
+    } };
+}
+
+impl ShadowMemory {
+    /// What is known where the run of a module begins that links with a supply: the memory that it is
+    /// instantiated with (Core 1.0, 4.5.4).
+    ///
+    /// # Errors
+    /// Where an allocation failed.
+    pub fn of_opening(
+        alloc: Global,
+        checked: &Checked,
+        supply: &Supply,
+    ) -> Result<ShadowMemory, NoMemory>
+        requires { IsOk (history.instantiate checked.now supply.now) }
+        ensures { IfOk result (λ shadow. (store : Store)
+            → history.instantiate checked.now supply.now ≡ Ok store → IsOpening store shadow) }
+    {
+        let (bytes, pages) = opening(alloc, checked.module(), supply)?;
+        Ok(ShadowMemory {
+            bytes,
+            known: pages,
+            noticed: pages,
+        })
+    }
+
+    /// Whether a byte is not the one that is known at an address.
+    #[inline]
+    pub fn differs(&self, addr: u64, byte: u8) -> bool
+        ensures { IsTrue result ↔ (known_byte self.now addr ≢ byte) }
+    {
+        byte_at(&self.bytes, addr as usize) != byte
+    }
+
+    /// Takes a byte as the known one at an address.
+    ///
+    /// # Errors
+    /// Where an allocation failed; what is known is as before then.
+    #[inline]
+    pub fn take(&mut self, addr: u64, byte: u8) -> Result<(), NoMemory>
+        ensures ok { OnOk result (HasTaken self.old addr (byte ∷ []) self.new) }
+        ensures err { OnErr result (IsUnchanged self.old self.new) }
+    {
+        take_byte(&mut self.bytes, addr as usize, byte)
+    }
+
+    /// Takes the bytes of a run, each as the known one at its address.
+    ///
+    /// # Errors
+    /// Where an allocation failed; what is known is as before then.
+    #[inline]
+    pub fn take_run(&mut self, addr: u64, bytes: &[u8]) -> Result<(), NoMemory>
+        requires { addr + length bytes.now ≤ u64.MAX }
+        ensures ok { OnOk result (HasTaken self.old addr bytes.now self.new) }
+        ensures err { OnErr result (IsUnchanged self.old self.new) }
+    {
+        take_run(&mut self.bytes, addr as usize, bytes)
+    }
+
+    /// Compares the bytes of a run with those that are known. Takes the first that are not known, as
+    /// many as stand in a row, and answers which these are; None where all are known.
+    ///
+    /// # Errors
+    /// Where an allocation failed; what is known is as before then.
+    #[inline]
+    pub fn take_difference(
+        &mut self,
+        addr: u64,
+        bytes: &[u8],
+    ) -> Result<Option<Difference>, NoMemory>
+        requires { addr + length bytes.now ≤ u64.MAX }
+        ensures none { IfOk result
+            (λ found. IfNone found (AreKnown self.old.bytes addr bytes.now)) }
+        ensures some { IfOk result
+            (λ found. IfSome found (IsFirstDifference self.old.bytes addr bytes.now)) }
+        ensures taken { IfOk result
+            (λ found. HasTaken self.old addr (take (compared bytes.now found) bytes.now) self.new) }
+        ensures err { OnErr result (IsUnchanged self.old self.new) }
+    {
+        take_difference(&mut self.bytes, addr as usize, bytes)
+    }
+
+    /// How many pages are known.
+    pub fn known_pages(&self) -> u32
+        ensures { result ≡ self.now.known }
+    {
+        self.known
+    }
+
+    /// How many pages were noticed.
+    pub fn noticed(&self) -> u32
+        ensures { result ≡ self.now.noticed }
+    {
+        self.noticed
+    }
+
+    /// Sets how many pages are known.
+    pub fn set_known(&mut self, pages: u32)
+        ensures { self.new ≡ record self.old { known = pages } }
+    {
+        self.known = pages;
+    }
+
+    /// Sets how many pages were noticed.
+    pub fn set_noticed(&mut self, pages: u32)
+        ensures { self.new ≡ record self.old { noticed = pages } }
+    {
+        self.noticed = pages;
+    }
+}

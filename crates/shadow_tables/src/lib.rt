@@ -1,0 +1,8 @@
+//! What is known of a table, its entries and their number, and of globals.
+#![tactic(auto)]
+
+mod opening;
+mod tables;
+
+pub use no_memory::NoMemory;
+pub use tables::ShadowTables;
