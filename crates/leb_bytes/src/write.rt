@@ -11,7 +11,10 @@ const MOST_U32: usize = 5;
 /// The most bytes that an s64 needs.
 const MOST_S64: usize = 10;
 
-/// Appends the shortest encoding of a u32. A refusal leaves the list as it was.
+/// Appends the shortest encoding of a u32.
+///
+/// # Errors
+/// `NoMemory` where the list can't grow; it is then as it was.
 #[inline]
 pub fn push_u32(out: &mut Vec<u8>, number: u32) -> Result<(), NoMemory>
     ensures ok { OnOk result (out.new.items ≡ out.old.items ++ u32_bytes number) }
@@ -27,8 +30,10 @@ pub fn push_u32(out: &mut Vec<u8>, number: u32) -> Result<(), NoMemory>
     Ok(())
 }
 
-/// Appends the shortest encoding of an s64, which is that of an s32 where the number is one. A refusal
-/// leaves the list as it was.
+/// Appends the shortest encoding of an s64, which is that of an s32 where the number is one.
+///
+/// # Errors
+/// `NoMemory` where the list can't grow; it is then as it was.
 #[inline]
 pub fn push_i64(out: &mut Vec<u8>, number: i64) -> Result<(), NoMemory>
     ensures ok { OnOk result (out.new.items ≡ out.old.items ++ s64_bytes number) }
