@@ -1,7 +1,6 @@
 //! The store that a module's run under a script begins with (Core 1.0, 4.5.4).
 #![tactic(auto)]
 
-mod constants;
 mod links;
 mod segments;
 

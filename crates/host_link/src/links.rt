@@ -10,10 +10,10 @@ ghost use Rattle.type_safety.specs.Stores.{IsStore};
 ghost use Rattle.type_safety.specs.Supplies.{HasBytes};
 ghost use Rattle.host_link.specs.Link.{HasLimits, first_of, link_result};
 
-use crate::constants::all_globals;
 use crate::segments::{first_unfit, write_segments};
 use host_script::{LinkFault, Script, Supply};
 use host_supply::supply_of;
+use instantiation_parts::all_globals;
 use no_memory::NoMemory;
 use std::alloc::Global;
 use type_safety::typed_store;

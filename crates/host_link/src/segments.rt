@@ -5,7 +5,7 @@ ghost use Rattle.history_spec.specs.Instantiation as history;
 ghost use Rattle.history_spec.specs.Instantiation.{data_fits, elem_fits, first_false};
 ghost use Rattle.host_link.specs.Link.{with_datas_in, with_elems_in};
 
-use crate::constants::offset_of;
+use instantiation_parts::offset_of;
 use wasm_store::{OutOfBounds, OutOfTable, Store};
 use wasm_syntax::{DataSeg, ElemSeg, Module, Val};
 

@@ -9,7 +9,7 @@ use Rattle.wasm_syntax.specs.declared.profile.Which.TheVariants.{Parameters, Tab
 use Rattle.history_spec.specs.declared.entries.FaultKind.{FaultKind}
 use Rattle.history_spec.specs.declared.entries.FaultKind.TheVariants as kind
 use Rattle.r3_faults.specs.declared.faults.Fault.{Fault}
-use Rattle.r3_faults.specs.declared.faults.Fault.TheVariants.{Usage, Read, TooLong, Malformed, InvalidFunction, InvalidModule, Unsupported, Limit, Reserved, NotJson, Shape, UnknownName, WrongType, NoAccess, CallsOwn, Missing, Mismatch, Segment, Script, Spent, Write, Memory, NotBuilt}
+use Rattle.r3_faults.specs.declared.faults.Fault.TheVariants.{Usage, Read, TooLong, Malformed, InvalidFunction, InvalidModule, Unsupported, Limit, Reserved, NotJson, Shape, UnknownName, WrongType, NoAccess, CallsOwn, Missing, Mismatch, Segment, Script, Spent, Write, Memory, BadTrace, TraceVersion, NoLayout, NoImports, NoEntry, NotBuilt}
 
 abbrev pub status_of : Fault → ℕ
 status_of Usage = 2
@@ -34,6 +34,11 @@ status_of (Script turn kind) = 11
 status_of (Spent turns) = 12
 status_of Write = 13
 status_of Memory = 14
+status_of (BadTrace at) = 15
+status_of (TraceVersion found) = 15
+status_of NoLayout = 17
+status_of NoImports = 17
+status_of NoEntry = 17
 status_of NotBuilt = 19
 
 -- a byte that is printed as it is: from the space to `~`, but for `\`
@@ -102,6 +107,11 @@ line_of (Script turn kind) = codes "script fault: turn " ++ (decimal turn ++ (ki
 line_of (Spent turns) = with_number (codes "turns spent: ") turns
 line_of Write = codes "write\n"
 line_of Memory = codes "memory\n"
+line_of (BadTrace at) = with_number (codes "trace: bad at ") at
+line_of (TraceVersion found) = with_number (codes "trace: version ") found
+line_of NoLayout = codes "replay: layout\n"
+line_of NoImports = codes "replay: imports\n"
+line_of NoEntry = codes "replay: entry\n"
 line_of NotBuilt = codes "not built\n"
 
 -- the line was written whole, or a first part of it and the count of faults rose

@@ -101,6 +101,20 @@ pub enum Fault {
     Write,
     /// Out of memory.
     Memory,
+    /// A file spells no log and no tape.
+    BadTrace {
+        at: u64,
+    },
+    /// A file of a log or of a tape is of another version.
+    TraceVersion {
+        found: u64,
+    },
+    /// The module has no layout of a replay module.
+    NoLayout,
+    /// The replay module has an import.
+    NoImports,
+    /// The replay module has another export than its entry.
+    NoEntry,
     /// A form that is not built yet.
     NotBuilt,
 }
@@ -179,6 +193,8 @@ impl Fault {
             Fault::Spent { .. } => 12,
             Fault::Write => 13,
             Fault::Memory => 14,
+            Fault::BadTrace { .. } | Fault::TraceVersion { .. } => 15,
+            Fault::NoLayout | Fault::NoImports | Fault::NoEntry => 17,
             Fault::NotBuilt => 19,
         }
     }

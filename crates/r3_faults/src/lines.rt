@@ -55,6 +55,11 @@ impl Fault {
             Fault::Spent { turns } => put_number(err, b"turns spent: ", *turns),
             Fault::Write => put_all(err, b"write\n"),
             Fault::Memory => put_all(err, b"memory\n"),
+            Fault::BadTrace { at } => put_number(err, b"trace: bad at ", *at),
+            Fault::TraceVersion { found } => put_number(err, b"trace: version ", *found),
+            Fault::NoLayout => put_all(err, b"replay: layout\n"),
+            Fault::NoImports => put_all(err, b"replay: imports\n"),
+            Fault::NoEntry => put_all(err, b"replay: entry\n"),
             Fault::NotBuilt => put_all(err, b"not built\n"),
         }
     }

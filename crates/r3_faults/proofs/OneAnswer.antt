@@ -1,0 +1,28 @@
+-- What an answer with its cause says of other causes and other results, where there is one of them at most.
+use Rattle.std.proofs.Common.{◌≡◌, ◌⊎◌, inl, inr, Result, Ok, Err, IfOk, IfErr, ap}
+use Rattle.r3_faults.specs.declared.faults.Fault.{Fault}
+use Rattle.r3_faults.specs.declared.faults.Fault.TheVariants.{Memory}
+
+module _ {T R : Type 0} (IsResult : R → Type 0) (IsRefusal : Fault → Type 0)
+    (apart : (x : R) (fault : Fault) → IsResult x → IsRefusal fault → ⊥) (answer : Result T Fault) (value : T → R)
+    (printed : IfOk answer (λ x. IsResult (value x)))
+    (cause : IfErr answer (λ fault. (fault ≡ Memory) ⊎ IsRefusal fault)) where
+  pub refused_answer : ((fault other : Fault) → IsRefusal fault → IsRefusal other → fault ≡ other) → (fault : Fault)
+      → IsRefusal fault → (answer ≡ Err fault) ⊎ (answer ≡ Err Memory)
+  refused_answer one fault refusal = go answer printed cause
+    where
+      go : (r : Result T Fault) → IfOk r (λ x. IsResult (value x)) → IfErr r (λ f. (f ≡ Memory) ⊎ IsRefusal f)
+          → (r ≡ Err fault) ⊎ (r ≡ Err Memory)
+      go (Ok x) is why = absurd (apart (value x) fault is refusal)
+      go (Err f) is (inl memory) = inr (ap Err memory)
+      go (Err f) is (inr other) = inl (ap Err (one f fault other refusal))
+
+  pub accepted_answer : ((x y : R) → IsResult x → IsResult y → x ≡ y) → (x : R) → IsResult x
+      → IfOk answer (λ y. value y ≡ x) × IfErr answer (λ fault. fault ≡ Memory)
+  accepted_answer one x result = go answer printed cause
+    where
+      go : (r : Result T Fault) → IfOk r (λ x. IsResult (value x)) → IfErr r (λ f. (f ≡ Memory) ⊎ IsRefusal f)
+          → IfOk r (λ y. value y ≡ x) × IfErr r (λ f. f ≡ Memory)
+      go (Ok y) is why = (one (value y) x is result, tt)
+      go (Err f) is (inl memory) = (tt, memory)
+      go (Err f) is (inr other) = absurd (apart x f result other)
