@@ -25,8 +25,8 @@ impl Model for Checked {
 }
 
 impl Checked {
-    /// The module of which validity was shown.
-    pub(crate) fn new(module: Module) -> Checked
+    /// A module that is known to be valid, by proof and without a test. Takes no memory.
+    pub fn new(module: Module) -> Checked
         requires { IsValid «module» }
         ensures { result ≡ «module» }
     {
