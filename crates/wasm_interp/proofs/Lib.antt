@@ -23,3 +23,5 @@ pub mod FormWalks
 pub mod FormCalls
 pub mod Single
 pub mod FormItems
+pub mod OwnSteps
+pub mod WalkLaws

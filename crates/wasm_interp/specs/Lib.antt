@@ -8,8 +8,9 @@ pub mod Steps
 pub mod OpcodeTypes
 pub mod Advance
 pub mod Loans
-pub mod Calls
 pub mod Walks
+pub mod OwnSteps
+pub mod Calls
 pub mod Ahead
 pub mod Sound
 pub mod FormResults

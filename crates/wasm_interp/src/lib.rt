@@ -21,6 +21,7 @@ mod signatures;
 mod stack;
 mod stretch_ends;
 mod table;
+mod top_walks;
 mod turns;
 mod values;
 mod walks;
