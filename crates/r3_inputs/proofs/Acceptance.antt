@@ -5,7 +5,7 @@ use Rattle.std.specs.List.{AllByRecursion, cons_option}
 use Rattle.std.proofs.lemmas.Bool.{ltb-false, ltb-true}
 use Rattle.std.proofs.lemmas.List.Elements.{All-head, All-tail, All-weaker}
 use Rattle.list_laws.proofs.Lists.{nil_parts}
-use Rattle.wasm_syntax.specs.declared.limits.TheConstants.{MOST_FILE_BYTES, MOST_LOCALS, MOST_LOCALS_HOOKED}
+use Rattle.wasm_syntax.specs.declared.limits.TheConstants.{MOST_LOCALS, MOST_LOCALS_HOOKED}
 use Rattle.wasm_syntax.specs.declared.signatures.FuncType.{FuncType}
 use Rattle.wasm_syntax.specs.declared.profile.Which.TheVariants.{Locals}
 use Rattle.wasm_syntax.specs.declared.modules.Func.{Func}
@@ -15,6 +15,16 @@ use Rattle.wasm_syntax.specs.Profile.{Refusal, Limit, past, count_of_locals, ref
 use Rattle.wasm_profile.specs.Sizes.{HasShortLists, IsShortFunc}
 use Rattle.wasm_flat.specs.Sizes.{IsShort}
 use Rattle.encoding_sizes.specs.Within.{HasListsWithin}
+use Rattle.r3_inputs.specs.declared.module_files.ModuleFile.{ModuleFile}
+use Rattle.r3_inputs.specs.declared.module_files.ModuleFile.TheVariants.{Original, Instrumented, Replay}
+use Rattle.r3_inputs.specs.declared.module_files.TheConstants.{MOST_REPLAY_BYTES}
+use Rattle.r3_inputs.specs.ModuleFiles.{is_instrumented, most_bytes}
+
+-- the greatest files are those of replay modules
+pub fewer_bytes : (file : ModuleFile) (count : ℕ) → count ≤ most_bytes file → count ≤ MOST_REPLAY_BYTES
+fewer_bytes Original count h = omega (arith, h)
+fewer_bytes Instrumented count h = omega (arith, h)
+fewer_bytes Replay count h = h
 
 -- ---- what accepting asks for
 
@@ -33,7 +43,7 @@ funcs_short most (func ∷ funcs) h locals bodies = (
       (All-tail (λ (func : Func). length func.body ≤ most) func funcs bodies),
 )
 
-pub short_lists : (most : ℕ) (m : Module) → most ≤ MOST_FILE_BYTES → HasListsWithin most m → HasShortLists m
+pub short_lists : (most : ℕ) (m : Module) → most ≤ MOST_REPLAY_BYTES → HasListsWithin most m → HasShortLists m
 short_lists most m h within = record {
   imports = omega (arith, h, within.parts);
   funcs = omega (arith, h, within.funcs);
@@ -72,28 +82,33 @@ locals_within_more (f ∷ funcs) h =
     by None None less later h = later h
     by None (Some r) less later h = cc (less refl)
 
-module _ (m : Module) (accepted : IsAccepted false m) where
-  -- none is refused, of the three kinds
-  by_kind : ((refused_instructions m ≡ []) × (quantities_past false m ≡ [])) × (reserved_imports false m ≡ [])
-  by_kind =
-      let both = nil_parts (refused_instructions m ++ quantities_past false m) (reserved_imports false m)
-      accepted.none_refused in
-      (nil_parts (refused_instructions m) (quantities_past false m) both.0, both.1)
+abbrev locals_past : ℕ → Module → List Refusal
+locals_past most m = filter_map (λ f. past most Locals (count_of_locals f)) m.funcs
 
-  abbrev locals : ℕ → List Refusal
-  locals most = filter_map (λ f. past most Locals (count_of_locals f)) m.funcs
+-- quantities that are within their limits in a module as it was made are within those of an instrumented one
+more_quantities : (hooked : Bool) (m : Module) → quantities_past hooked m ≡ [] → quantities_past true m ≡ []
+more_quantities true m few = few
+more_quantities false m few =
+    let parts = nil_parts (parameters_past m ++ tables_past m ++ memories_past m) (locals_past MOST_LOCALS m) few in
+    nil_both (parameters_past m ++ tables_past m ++ memories_past m) (locals_past MOST_LOCALS_HOOKED m) parts.0 (locals_within_more m.funcs parts.1)
+
+module _ (hooked : Bool) (m : Module) (accepted : IsAccepted hooked m) where
+  -- none is refused, of the three kinds
+  by_kind : ((refused_instructions m ≡ []) × (quantities_past hooked m ≡ [])) × (reserved_imports hooked m ≡ [])
+  by_kind =
+      let both = nil_parts (refused_instructions m ++ quantities_past hooked m) (reserved_imports hooked m)
+      accepted.none_refused in
+      (nil_parts (refused_instructions m) (quantities_past hooked m) both.0, both.1)
 
   quantities : quantities_past true m ≡ []
-  quantities =
-      let few = nil_parts (parameters_past m ++ tables_past m ++ memories_past m) (locals MOST_LOCALS) by_kind.0.1 in
-      nil_both (parameters_past m ++ tables_past m ++ memories_past m) (locals MOST_LOCALS_HOOKED) few.0 (locals_within_more m.funcs few.1)
+  quantities = more_quantities hooked m by_kind.0.1
 
   -- no instruction is refused, and the quantities are within their limits
   pub supported_when_accepted : IsSupported m
   supported_when_accepted = record { instructions = by_kind.0.0; quantities = quantities }
 
   -- the lists are short where few bytes encode the module
-  pub short_when_accepted : (most : ℕ) → most ≤ MOST_FILE_BYTES → HasListsWithin most m → IsShort m
+  pub short_when_accepted : (most : ℕ) → most ≤ MOST_REPLAY_BYTES → HasListsWithin most m → IsShort m
   short_when_accepted most few within = record {
     types = omega (arith, few, within.parts);
     funcs = omega (arith, few, within.funcs);

@@ -1,6 +1,5 @@
 -- The module and the script that bytes are, or why they are refused, in order.
-use Rattle.std.specs.Prelude.{◌≡◌, ◌≢◌, ℕ, List, Option, Some, None, Err, Ok, false}
-use Rattle.wasm_syntax.specs.declared.forms.Form.TheVariants.{Core}
+use Rattle.std.specs.Prelude.{◌≡◌, ◌≢◌, ℕ, List, Option, Some, None, Err, Ok}
 use Rattle.wasm_syntax.specs.declared.modules.Module.{Module}
 use Rattle.wasm_syntax.specs.Encoding.Modules.{Encodes, IsFaultPlace}
 use Rattle.wasm_syntax.specs.Validity.{IsValid, IsInvalidAt}
@@ -12,6 +11,9 @@ use Rattle.script_text.specs.declared.faults.ScriptFault.TheVariants as script
 use Rattle.script_text.specs.Texts.{script_of_text}
 use Rattle.r3_faults.specs.declared.faults.Fault.{Fault}
 use Rattle.r3_faults.specs.declared.faults.Fault.TheVariants.{Malformed, InvalidFunction, InvalidModule, Unsupported, Limit, Reserved, NotJson, Shape, UnknownName, WrongType, NoAccess, CallsOwn, Memory}
+use Rattle.r3_inputs.specs.declared.module_files.ModuleFile.{ModuleFile}
+use Rattle.r3_inputs.specs.declared.module_files.ModuleFile.TheVariants.{Original}
+use Rattle.r3_inputs.specs.ModuleFiles.{form_of, is_instrumented}
 
 -- ---- the faults that name a refusal
 
@@ -38,17 +40,17 @@ script_fault script.Memory = Memory
 
 -- ---- modules
 
--- the bytes encode the module in the form Core, and it is accepted
-pub record IsModuleOf (bytes : List ℕ) (m : Module) : Type 0 where
-  pub encoded : Encodes Core bytes m
-  pub accepted : IsAccepted false m
+-- the bytes encode the module in the form of such a file, and it is accepted
+pub record IsModuleIn (file : ModuleFile) (bytes : List ℕ) (m : Module) : Type 0 where
+  pub encoded : Encodes (form_of file) bytes m
+  pub accepted : IsAccepted (is_instrumented file) m
 
--- they encode no module, and this is the place of the fault
-pub record IsMalformed (bytes : List ℕ) (fault : Fault) : Type 0 where
+-- they encode no module in that form, and this is the place of the fault
+pub record IsMalformedIn (file : ModuleFile) (bytes : List ℕ) (fault : Fault) : Type 0 where
   pub at : ℕ
   pub named : fault ≡ Malformed at
-  pub none : (m : Module) → Encodes Core bytes m → ⊥
-  pub place : IsFaultPlace Core bytes at
+  pub none : (m : Module) → Encodes (form_of file) bytes m → ⊥
+  pub place : IsFaultPlace (form_of file) bytes at
 
 -- a module is invalid at the place that is named
 pub record IsInvalidFor (m : Module) (fault : Fault) : Type 0 where
@@ -57,17 +59,25 @@ pub record IsInvalidFor (m : Module) (fault : Fault) : Type 0 where
   pub invalid : IsInvalidAt m place
 
 -- a module is refused for what is named
-pub record IsUnacceptedFor (m : Module) (fault : Fault) : Type 0 where
+pub record IsUnacceptedIn (file : ModuleFile) (m : Module) (fault : Fault) : Type 0 where
   pub refusal : Refusal
   pub named : fault ≡ refusal_fault refusal
-  pub first : first_refusal false m ≡ Some refusal
+  pub first : first_refusal (is_instrumented file) m ≡ Some refusal
 
 -- why bytes are no accepted module: they encode none, or one that is invalid, or a valid one that is refused
-pub data IsRefusedModule (bytes : List ℕ) (fault : Fault) : Type 0 where
-  ByBytes : (malformed : IsMalformed bytes fault) → IsRefusedModule bytes fault
-  ByRules : (m : Module) (encoded : Encodes Core bytes m) (invalid : IsInvalidFor m fault) → IsRefusedModule bytes fault
-  ByProfile : (m : Module) (encoded : Encodes Core bytes m) (valid : IsValid m) (refused : IsUnacceptedFor m fault)
-      → IsRefusedModule bytes fault
+pub data IsRefusedIn (file : ModuleFile) (bytes : List ℕ) (fault : Fault) : Type 0 where
+  ByBytes : (malformed : IsMalformedIn file bytes fault) → IsRefusedIn file bytes fault
+  ByRules : (m : Module) (encoded : Encodes (form_of file) bytes m) (invalid : IsInvalidFor m fault)
+      → IsRefusedIn file bytes fault
+  ByProfile : (m : Module) (encoded : Encodes (form_of file) bytes m) (valid : IsValid m)
+      (refused : IsUnacceptedIn file m fault) → IsRefusedIn file bytes fault
+
+-- the same of a module as it was made
+abbrev pub IsModuleOf : List ℕ → Module → Type 0
+IsModuleOf bytes m = IsModuleIn Original bytes m
+
+abbrev pub IsRefusedModule : List ℕ → Fault → Type 0
+IsRefusedModule bytes fault = IsRefusedIn Original bytes fault
 
 -- ---- scripts
 

@@ -1,1 +1,2 @@
+pub mod ModuleFiles
 pub mod Inputs

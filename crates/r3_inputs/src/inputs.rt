@@ -1,8 +1,7 @@
 // Bytes as modules and scripts.
 
-ghost use Rattle.std.specs.Prelude.{◌≡◌, ◌<◌, ◌≤◌, ◌⊎◌, ◌^◌, false, Ok, Err, length, All, IfOk, IfErr, OnOk};
+ghost use Rattle.std.specs.Prelude.{◌≡◌, ◌<◌, ◌≤◌, ◌⊎◌, ◌^◌, Ok, Err, length, All, IfOk, IfErr, OnOk};
 ghost use Rattle.wasm_syntax.specs.declared.limits.TheConstants.{MOST_FILE_BYTES};
-ghost use Rattle.wasm_syntax.specs.declared.forms.Form.TheVariants.{Core};
 ghost use Rattle.wasm_syntax.specs.Encoding.Modules.{Encodes};
 ghost use Rattle.wasm_syntax.specs.Index.{func_indices};
 ghost use Rattle.wasm_syntax.specs.Profile.{IsAccepted, IsSupported};
@@ -16,8 +15,10 @@ ghost use Rattle.host_script.specs.Fits.{Fits};
 ghost use Rattle.script_text.specs.Texts.{script_of_text};
 ghost use Rattle.r3_faults.specs.declared.faults.Fault.{Fault};
 ghost use Rattle.r3_faults.specs.declared.faults.Fault.TheVariants.{Memory};
-ghost use Rattle.r3_inputs.specs.Inputs.{IsModuleOf, IsMalformed, IsInvalidFor, IsUnacceptedFor, IsRefusedModule, IsRefusedScript};
+ghost use Rattle.r3_inputs.specs.Inputs.{IsModuleIn, IsModuleOf, IsMalformedIn, IsInvalidFor, IsUnacceptedIn, IsRefusedIn, IsRefusedModule, IsRefusedScript};
+ghost use Rattle.r3_inputs.specs.ModuleFiles.{form_of, is_instrumented, most_bytes};
 
+use crate::module_files::ModuleFile;
 use fitting_scripts::scripts_that_are_read_fit;
 use host_script::Script;
 use r3_faults::Fault;
@@ -25,10 +26,10 @@ use script_text::{ScriptFault, read_script};
 use std::alloc::Global;
 use wasm_decode::{DecodeFault, decode};
 use wasm_profile::{ProfileFault, accept};
-use wasm_syntax::{Form, Module, fault_places, module_encoding, validity_is_decided};
+use wasm_syntax::{Module, fault_places, module_encoding, validity_is_decided};
 use wasm_validate::{Checked, InvalidFault, validate};
 
-/// The module that bytes encode in the form Core, where it is valid and accepted. There are at most
+/// The module as it was made that bytes encode, where it is valid and accepted. There are at most
 /// `MOST_FILE_BYTES` of them.
 ///
 /// # Errors
@@ -50,37 +51,59 @@ pub fn module_of(alloc: Global, bytes: &[u8]) -> Result<Checked, Fault>
     ensures accepted { (m : Module) → IsModuleOf bytes.now m
         → (result ≡ Ok m) ⊎ (result ≡ Err Memory) }
 {
-    // Bytes encode one module at most, and are refused for one fault at most.
-    module_encoding();
-    fault_places();
-    validity_is_decided();
-    accepted_module(alloc, bytes)
+    module_in(alloc, ModuleFile::Original, bytes)
 }
 
-/// The same, with what it is or why it is refused.
-fn accepted_module(alloc: Global, bytes: &[u8]) -> Result<Checked, Fault>
-    requires { length bytes.now ≤ MOST_FILE_BYTES }
-    ensures taken { IfOk result (λ checked. IsModuleOf bytes.now checked) }
+/// The module of a file that is to hold such a module, where it is valid and accepted. It has at most
+/// `MOST_FILE_BYTES`, `MOST_INSTRUMENTED_BYTES` or `MOST_REPLAY_BYTES` bytes.
+///
+/// # Errors
+///
+/// As of `module_of`.
+pub fn module_in(alloc: Global, file: ModuleFile, bytes: &[u8]) -> Result<Checked, Fault>
+    requires { length bytes.now ≤ most_bytes file }
+    ensures taken { IfOk result (λ checked. IsModuleIn file bytes.now checked) }
     ensures bytes { IfOk result (λ checked. All (λ segment. All (λ byte. byte < 256) segment.bytes) checked.datas) }
     ensures supported { IfOk result (λ checked. IsSupported checked) }
     ensures short { IfOk result (λ checked. IsShort checked) }
     ensures within { IfOk result (λ checked. HasListsWithin (length bytes.now) checked) }
-    ensures cause { IfErr result (λ fault. (fault ≡ Memory) ⊎ IsRefusedModule bytes.now fault) }
+    ensures cause { IfErr result (λ fault. (fault ≡ Memory) ⊎ IsRefusedIn file bytes.now fault) }
+    ensures refused { (fault : Fault) → IsRefusedIn file bytes.now fault
+        → (result ≡ Err fault) ⊎ (result ≡ Err Memory) }
+    ensures accepted { (m : Module) → IsModuleIn file bytes.now m
+        → (result ≡ Ok m) ⊎ (result ≡ Err Memory) }
 {
-    let module = decoded_module(alloc, bytes)?;
+    // Bytes encode one module at most, and are refused for one fault at most.
+    module_encoding();
+    fault_places();
+    validity_is_decided();
+    accepted_module(alloc, file, bytes)
+}
+
+/// The same, with what it is or why it is refused.
+fn accepted_module(alloc: Global, file: ModuleFile, bytes: &[u8]) -> Result<Checked, Fault>
+    requires { length bytes.now ≤ most_bytes file }
+    ensures taken { IfOk result (λ checked. IsModuleIn file bytes.now checked) }
+    ensures bytes { IfOk result (λ checked. All (λ segment. All (λ byte. byte < 256) segment.bytes) checked.datas) }
+    ensures supported { IfOk result (λ checked. IsSupported checked) }
+    ensures short { IfOk result (λ checked. IsShort checked) }
+    ensures within { IfOk result (λ checked. HasListsWithin (length bytes.now) checked) }
+    ensures cause { IfErr result (λ fault. (fault ≡ Memory) ⊎ IsRefusedIn file bytes.now fault) }
+{
+    let module = decoded_module(alloc, file, bytes)?;
     let checked = valid_module(alloc, module)?;
-    acceptance(&checked)?;
+    acceptance(file, &checked)?;
     Ok(checked)
 }
 
-/// The module that bytes encode in the form Core.
-fn decoded_module(alloc: Global, bytes: &[u8]) -> Result<Module, Fault>
-    ensures found { IfOk result (λ m. Encodes Core bytes.now m) }
+/// The module that bytes encode in the form of such a file.
+fn decoded_module(alloc: Global, file: ModuleFile, bytes: &[u8]) -> Result<Module, Fault>
+    ensures found { IfOk result (λ m. Encodes (form_of file) bytes.now m) }
     ensures bytes { IfOk result (λ m. All (λ segment. All (λ byte. byte < 256) segment.bytes) m.datas) }
     ensures within { IfOk result (λ m. HasListsWithin (length bytes.now) m) }
-    ensures cause { IfErr result (λ fault. (fault ≡ Memory) ⊎ IsMalformed bytes.now fault) }
+    ensures cause { IfErr result (λ fault. (fault ≡ Memory) ⊎ IsMalformedIn file bytes.now fault) }
 {
-    match decode(alloc, bytes, Form::Core) {
+    match decode(alloc, bytes, file.form()) {
         Ok(module) => Ok(module),
         Err(DecodeFault::Malformed { at }) => Err(Fault::Malformed { at }),
         Err(DecodeFault::Memory) => Err(Fault::Memory),
@@ -104,13 +127,13 @@ fn valid_module(alloc: Global, module: Module) -> Result<Checked, Fault>
     }
 }
 
-/// Whether a valid module is accepted, and why it is not.
-fn acceptance(checked: &Checked) -> Result<(), Fault>
+/// Whether a valid module is accepted in such a file, and why it is not.
+fn acceptance(file: ModuleFile, checked: &Checked) -> Result<(), Fault>
     requires { HasShortLists checked.now }
-    ensures taken { OnOk result (IsAccepted false checked.now) }
-    ensures cause { IfErr result (λ fault. IsUnacceptedFor checked.now fault) }
+    ensures taken { OnOk result (IsAccepted (is_instrumented file) checked.now) }
+    ensures cause { IfErr result (λ fault. IsUnacceptedIn file checked.now fault) }
 {
-    match accept(checked, false) {
+    match accept(checked, file.is_instrumented()) {
         Ok(()) => Ok(()),
         Err(
             ProfileFault::Unsupported {

@@ -1,0 +1,39 @@
+// What a file that holds a module is to hold.
+
+ghost use Rattle.std.specs.Prelude.{◌≡◌};
+ghost use Rattle.r3_inputs.specs.ModuleFiles.{form_of, is_instrumented};
+
+use wasm_syntax::Form;
+
+/// The most bytes of an instrumented module.
+pub const MOST_INSTRUMENTED_BYTES: u64 = 134_217_728;
+
+/// The most bytes of a replay module.
+pub const MOST_REPLAY_BYTES: u64 = 536_870_912;
+
+/// What a file of a module is to hold: a module as it was made, an instrumented one, or a replay module.
+#[derive(Clone, Copy, PartialEq, Eq, Debug)]
+pub enum ModuleFile {
+    Original,
+    Instrumented,
+    Replay,
+}
+
+impl ModuleFile {
+    /// The form of the binary format that it is read in.
+    pub(crate) fn form(self) -> Form
+        ensures { result ≡ form_of self }
+    {
+        match self {
+            ModuleFile::Original | ModuleFile::Instrumented => Form::Core,
+            ModuleFile::Replay => Form::Replay,
+        }
+    }
+
+    /// Whether it may have what instrumented modules have: more locals, and imports that are reserved otherwise.
+    pub(crate) fn is_instrumented(self) -> bool
+        ensures { result ≡ is_instrumented self }
+    {
+        matches!(self, ModuleFile::Instrumented)
+    }
+}
