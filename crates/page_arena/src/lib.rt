@@ -7,11 +7,12 @@ ghost use Rattle.page_arena.specs.Lending.{LendsPage};
 ghost use Rattle.page_arena.specs.Pages.{page_at};
 
 use no_memory::NoMemory;
+use raw_page::RawPage;
 use std::alloc::Global;
 use std::marker::Model;
 
 /// How many bytes a page has.
-pub const PAGE_LENGTH: usize = 4_096;
+pub const PAGE_LENGTH: usize = raw_page::PAGE_LENGTH;
 
 /// A page of an arena, by its number: pages are counted from 0 in the order in which they are made.
 #[derive(Clone, Copy, PartialEq, Eq, Debug)]
@@ -23,7 +24,7 @@ pub struct PageId {
 /// end of the arena.
 #[derive(Drop)]
 pub struct PageArena {
-    pages: Vec<Box<[u8; 4096]>>,
+    pages: Vec<RawPage>,
 }
 
 impl Model for PageArena {
@@ -31,7 +32,7 @@ impl Model for PageArena {
 
     ghost Value = { List (List ℕ) };
 
-    ghost view = { λ arena. map (λ page. page.value) arena.pages.items };
+    ghost view = { λ arena. map (λ page. page.bytes) arena.pages.items };
 }
 
 impl PageArena {
@@ -60,7 +61,8 @@ impl PageArena {
         ensures ok { OnOk result (self.new ≡ self.old ++ replicate PAGE_LENGTH 0 ∷ []) }
         ensures err { OnErr result (self.new ≡ self.old) }
     {
-        self.push([0; 4096])
+        let page = RawPage::new(*self.pages.allocator())?;
+        self.push(page)
     }
 
     /// Makes a page that begins with the bytes of another. Writes to either do not show in the other.
@@ -73,9 +75,9 @@ impl PageArena {
         ensures ok { OnOk result (self.new ≡ self.old ++ page_at self.old id.number ∷ []) }
         ensures err { OnErr result (self.new ≡ self.old) }
     {
-        let page = &self.pages[id.number];
-        let bytes = **page;
-        self.push(bytes)
+        let alloc = *self.pages.allocator();
+        let copy = self.pages[id.number].copy(alloc)?;
+        self.push(copy)
     }
 
     /// The bytes of a page.
@@ -85,7 +87,7 @@ impl PageArena {
         ensures value { result.now ≡ page_at self.now id.number }
         ensures size { length result.now ≡ PAGE_LENGTH }
     {
-        all_bytes(&self.pages[id.number])
+        self.pages[id.number].as_slice()
     }
 
     /// The bytes of a page, to be changed.
@@ -97,29 +99,18 @@ impl PageArena {
         ensures* writes_back { sem 𝓛 (LendsPage self.entry id.number result) }
     {
         // a page's length is known by its type alone
-        let _length = all_bytes(&self.pages[id.number]).len();
+        let _length = self.pages[id.number].as_slice().len();
         let page = &mut self.pages[id.number];
-        page.as_mut_slice()
+        page.get_mut().as_mut_slice()
     }
 
-    fn push(&mut self, bytes: [u8; 4096]) -> Result<PageId, NoMemory>
+    fn push(&mut self, page: RawPage) -> Result<PageId, NoMemory>
         ensures number { IfOk result (λ id. id.number ≡ length self.old) }
-        ensures ok { OnOk result (self.new ≡ self.old ++ bytes ∷ []) }
+        ensures ok { OnOk result (self.new ≡ self.old ++ page.bytes ∷ []) }
         ensures err { OnErr result (self.new ≡ self.old) }
     {
         let number = self.pages.len();
-        let alloc = *self.pages.allocator();
-        let page = Box::new(alloc, bytes)?;
         self.pages.push(page)?;
         Ok(PageId { number })
     }
-}
-
-/// All bytes of a page.
-#[inline(always)]
-fn all_bytes(page: &[u8; 4096]) -> &[u8]
-    ensures value { result.now ≡ page.now }
-    ensures size { length result.now ≡ PAGE_LENGTH }
-{
-    page
 }
