@@ -1,0 +1,5 @@
+pub mod Numbers
+pub mod Shown
+pub mod MemorySteps
+pub mod TableSteps
+pub mod Steps
