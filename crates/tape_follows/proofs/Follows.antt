@@ -1,22 +1,20 @@
--- What is left of a scripted run, beside the run of the tape that it needs.
+-- What is left of a scripted run, beside a tape's run.
 use Rattle.std.specs.Prelude.{◌≡◌, ℕ, List, [], ◌∷◌, ◌++◌, map}
 use Rattle.host_script.specs.declared.scripts.ResponseEnd.TheVariants.{Trap as EndsInTrap}
 use Rattle.run_outcomes.specs.declared.outcomes.Outcome.{Outcome}
 use Rattle.trace_model.specs.declared.tapes.Origin.{Origin}
 use Rattle.trace_model.specs.declared.tapes.Segment.{Segment}
-use Rattle.history_spec.specs.declared.entries.Entry.{Entry}
 use Rattle.history_spec.specs.Store.{Store}
-use Rattle.history_spec.specs.Code.{Code}
 use Rattle.history_spec.specs.Configuration.{Activation, InModule, InMain, InImport}
 use Rattle.history_spec.specs.Step.{Program, Finished, StepResult}
 use Rattle.history_spec.specs.Run.{all_one, steps}
 use Rattle.replay_spec.specs.Observations.{Observation, Begins, activity_observations, observations}
 use Rattle.replay_spec.specs.Known.{Known}
 use Rattle.replay_spec.specs.Windows.{window}
-use Rattle.replay_spec.specs.Kept.{AreKeptSegments}
-use Rattle.replay_spec.specs.TapeRun.{pause, TapeResult, tape_result, Over, tape_after, tape_steps}
+use Rattle.replay_spec.specs.TapeRun.{pause, TapeResult}
 use Rattle.tape_follows.proofs.Stores.{maxima}
-use Rattle.tape_follows.proofs.Relation.{IsReadOf, Holds}
+use Rattle.tape_follows.proofs.Relation.{IsReadOf}
+use Rattle.tape_follows.proofs.Claims.{Claim}
 
 -- the activation of the tape's run beside one of the scripted run
 abbrev pub paused : Activation → Activation
@@ -36,21 +34,15 @@ pending stack came seen = Begins came ∷ seen
 abbrev pub observed_from : Program → ℕ → StepResult → List Observation
 observed_from program k s = activity_observations s.entries ++ observations program k s.next
 
--- from a place on the tape's run comes to an outcome, with this history
-pub record Shows (code : Code) (t : TapeResult) (history : List Entry) (outcome : Outcome) : Type 0 where
-  pub count : ℕ
-  pub is : tape_after t.entries (tape_steps code count t.next) ≡ tape_result history (Over outcome)
-
 -- What is read first from a step's result on is the store's; and where the run has an outcome within so many steps
--- after it, the tape's run, with a store that holds what it needs and with the segments that are needed, shows that and
--- its history.
-pub record Follows (program : Program) (k : ℕ) (known : Known) (store : Store) (left : List Observation)
-    (s : StepResult) (tape : Store → List Segment → TapeResult) : Type 0 where
+-- after it, the tape's run comes to what is claimed, from a store and segments with which it may go on.
+pub record Follows (claim : Claim) (program : Program) (k : ℕ) (known : Known) (store : Store)
+    (left : List Observation) (s : StepResult) (tape : Store → List Segment → TapeResult) : Type 0 where
   pub reads : IsReadOf known (window left) store
   pub shows : (other : Store) (segments : List Segment) (outcome : Outcome)
-      → maxima other ≡ maxima store → Holds known (window left) other → AreKeptSegments known left segments
+      → maxima other ≡ maxima store → claim.ready known left other segments
       → (steps program all_one k s.next).at ≡ Finished outcome
-      → Shows program.code (tape other segments) (s.entries ++ (steps program all_one k s.next).history) outcome
+      → claim.comes program.code (tape other segments) (s.entries ++ (steps program all_one k s.next).history) outcome
 
 -- an activation of an import stands above one of the module, and the host's own work above nothing
 abbrev pub IsModule : List Activation → Type 0

@@ -12,8 +12,12 @@ pub mod Same
 pub mod Activities
 pub mod Activity
 pub mod HostStores
+pub mod Claims
+pub mod Closed
 pub mod Follows
 pub mod Parts
+pub mod Replays
 pub mod Simulation
 pub mod ModuleSteps
+pub mod AllSteps
 pub mod Whole

@@ -1,5 +1,5 @@
--- A step of the module in the scripted run and in the tape's run; and all steps.
-use Rattle.std.proofs.Common.{◌≡◌, ℕ, ◌+◌, List, [], ◌∷◌, ◌++◌, Option, Some, None, slice_get, refl, sym, ap, ◌∙◌, subst}
+-- A step of the module in the scripted run and in a tape's run.
+use Rattle.std.proofs.Common.{◌≡◌, ℕ, ◌+◌, List, [], ◌∷◌, ◌++◌, Option, Some, None, slice_get, refl, sym, subst}
 use Rattle.std.specs.List.{slice_index_or}
 use Rattle.wasm_syntax.specs.declared.values.Val.{Val}
 use Rattle.wasm_syntax.specs.declared.signatures.FuncType.{FuncType}
@@ -11,7 +11,6 @@ use Rattle.host_script.specs.declared.scripts.Answer.{Answer}
 use Rattle.host_script.specs.Fits.{FitAnswers}
 use Rattle.run_outcomes.specs.declared.outcomes.Outcome.TheVariants.{Trapped}
 use Rattle.trace_model.specs.declared.tapes.Origin.{Origin}
-use Rattle.trace_model.specs.declared.tapes.Segment.{Segment}
 use Rattle.history_spec.specs.declared.entries.Entry.{Entry}
 use Rattle.history_spec.specs.declared.entries.Entry.TheVariants.{Step, Trap}
 use Rattle.history_spec.specs.declared.entries.TrapKind.{TrapKind}
@@ -19,27 +18,27 @@ use Rattle.history_spec.specs.Store.{Store, with_global}
 use Rattle.history_spec.specs.Code.{Code, Definition, code_of}
 use Rattle.history_spec.specs.Configuration.{Place, place, Frame, Activation, InModule, Config}
 use Rattle.history_spec.specs.Instruction.{Execution, Did, Traps, NoRule, Operands, on, pop, gives, execute, execute_at}
-use Rattle.history_spec.specs.Step.{Program, Finished, step_result, after_entries, after_control, after_instruction}
+use Rattle.history_spec.specs.Step.{Program, Finished, StepResult, step_result, after_entries, after_control, after_instruction}
 use Rattle.history_spec.specs.Run.{all_one, steps}
 use Rattle.replay_spec.specs.Observations.{Observation, nest_observations, plain_observations}
 use Rattle.replay_spec.specs.Known.{Known, known_after_all}
 use Rattle.replay_spec.specs.Windows.{window}
-use Rattle.replay_spec.specs.TapeRun.{program_awaiting, TapeResult, after_step}
+use Rattle.replay_spec.specs.TapeRun.{program_awaiting, after_step}
 use Rattle.observed_steps.specs.Changes.{CanChangeAll, with_changes}
 use Rattle.observed_steps.specs.Executions.{in_store, IsDoneAlike, IsExecutedAlike}
-use Rattle.observed_steps.specs.StoreAnswers.{AnswersAlike, HasWholePages}
+use Rattle.observed_steps.specs.StoreAnswers.{HasWholePages}
 use Rattle.observed_steps.specs.Laws.{observed}
 use Rattle.type_safety.specs.Configurations.{IsConfig, IsSafe, IsTypedCode, scope}
 use Rattle.type_safety.specs.Heights.{Heights}
 use Rattle.type_safety.specs.Results.{HasRule}
-use Rattle.tape_follows.proofs.Stores.{maxima}
-use Rattle.tape_follows.proofs.Relation.{IsKnownOf, IsReadOf, Holds, AreSeen}
-use Rattle.tape_follows.proofs.Follows.{all_paused, observed_from, Shows, Follows, AreNested}
-use Rattle.tape_follows.proofs.StepItems.{same_maxima_all, known_of_all, read_of_all, held_answers_all, holds_after_all, of_same_kind, nothing_read}
-use Rattle.tape_follows.proofs.LastWrites.{only_last_writes}
+use Rattle.tape_follows.proofs.Relation.{IsKnownOf, IsReadOf, AreSeen}
+use Rattle.tape_follows.proofs.Claims.{Claim}
+use Rattle.tape_follows.proofs.Closed.{IsBeforeInstruction, tape_at, IsClosed}
+use Rattle.tape_follows.proofs.Follows.{all_paused, observed_from, Follows, AreNested}
+use Rattle.tape_follows.proofs.StepItems.{known_of_all, read_of_all, nothing_read}
 use Rattle.tape_follows.proofs.Seen.{step_seen}
 use Rattle.tape_follows.proofs.HostStores.{sizes_of, whole_pages_of}
-use Rattle.tape_follows.proofs.Parts.{window_after, needed_after, finished_observations, follows_entry, shows_step}
+use Rattle.tape_follows.proofs.Parts.{window_after, finished_observations, finished_history, finished_outcome, follows_entry}
 use Rattle.tape_follows.proofs.Simulation as sim
 use Rattle.tape_follows.proofs.Simulation.{Laws}
 
@@ -69,154 +68,119 @@ global_never_traps code store frame x rest kind operands found is h =
     go (Some old) h = taken old (pop (old.ty ∷ []) frame.values) h
 
 module _ (laws : Laws) (m : Module) (heights : Heights) (valid : IsValid m) (typed : IsTypedCode m heights)
-    (answers : List (Option Answer)) (fits : FitAnswers m answers) where
-  abbrev program : Program
-  program = record { code = code_of m; answers = answers }
+    (answers : List (Option Answer)) (fits : FitAnswers m answers) (claim : Claim) (closed : IsClosed claim m heights)
+  where
+    abbrev program : Program
+    program = record { code = code_of m; answers = answers }
 
-  abbrev code : Code
-  code = code_of m
+    abbrev code : Code
+    code = code_of m
 
-  abbrev Delivers : ℕ → Type 0
-  Delivers = sim.Delivers laws m heights valid typed answers fits
+    abbrev Delivers : ℕ → Type 0
+    Delivers = sim.Delivers laws m heights valid typed answers fits claim closed
 
-  abbrev at_config : List Activation → List ℕ → Origin → Store → List Segment → TapeResult
-  at_config = sim.at_config laws m heights valid typed answers fits
+    module _ (k : ℕ) (delivers : Delivers k) (frame : Frame) (below : List Activation) (store : Store) (counts : List ℕ)
+        (known : Known) (came : Origin) (nested : AreNested below)
+        (fine : IsConfig m heights (record { store = store; stack = InModule frame ∷ below; counts = counts }))
+        (of : IsKnownOf known store) where
+      abbrev config : Config
+      config = record { store = store; stack = InModule frame ∷ below; counts = counts }
 
-  abbrev Makes : ℕ → Type 0
-  Makes = sim.Makes laws m heights valid typed answers fits
+      abbrev items : List Observation
+      items = observed store frame
 
-  module _ (k : ℕ) (delivers : Delivers k) (frame : Frame) (below : List Activation) (store : Store) (counts : List ℕ)
-      (known : Known) (came : Origin) (nested : AreNested below)
-      (fine : IsConfig m heights (record { store = store; stack = InModule frame ∷ below; counts = counts }))
-      (of : IsKnownOf known store) where
-    abbrev config : Config
-    config = record { store = store; stack = InModule frame ∷ below; counts = counts }
+      whole : HasWholePages store
+      whole = whole_pages_of store (sizes_of m store fine.store)
 
-    abbrev items : List Observation
-    items = observed store frame
+      seen : ((x : ℕ) (rest : Nest) → frame.at.rest ≡ Plain (GlobalSet x) rest
+          → CanChangeAll store (plain_observations store frame.values (GlobalSet x))) → AreSeen known store items
+      seen sets =
+          step_seen known store whole frame.values frame.at.rest sets
+          (laws.answers store frame.values frame.at.rest whole)
 
-    whole : HasWholePages store
-    whole = whole_pages_of store (sizes_of m store fine.store)
+      before : AreSeen known store items → IsBeforeInstruction m heights known store frame
+      before are =
+          let a = fine.stack in
+          record { ty = a.0; body = a.1; typed = a.2; going = fine.at_step; is = fine.store; of = of; seen = are }
 
-    seen : ((x : ℕ) (rest : Nest) → frame.at.rest ≡ Plain (GlobalSet x) rest
-        → CanChangeAll store (plain_observations store frame.values (GlobalSet x))) → AreSeen known store items
-    seen sets =
-        step_seen known store whole frame.values frame.at.rest sets
-        (laws.answers store frame.values frame.at.rest whole)
-
-    -- the other store answers what the step observes
-    module _ (are : AreSeen known store items) (later : List Observation)
-        (real : IsReadOf (known_after_all known items) (window later) (with_changes store items)) where
-      reads_all : IsReadOf known (window (items ++ later)) store
-      reads_all =
+      reads_all : AreSeen known store items → (later : List Observation)
+          → IsReadOf (known_after_all known items) (window later) (with_changes store items)
+          → IsReadOf known (window (items ++ later)) store
+      reads_all are later real =
           subst (λ w. IsReadOf known w store) (sym (window_after known store items later are))
           (read_of_all (window later) known store items are real)
 
-      module _ (other : Store) (same : maxima other ≡ maxima store)
-          (holds : Holds known (window (items ++ later)) other) where
-        held : Holds known (items ++ window later) other
-        held = subst (λ w. Holds known w other) (window_after known store items later are) holds
+      pub executed : (ty : FuncType) (body : Definition) (e : Execution) → execute code store frame ≡ e
+          → HasRule (scope m heights frame.func ty body) e
+          → IsSafe m heights (after_instruction program config frame below e).next
+          → Follows claim program k known store
+          (items ++ observed_from program k (after_instruction program config frame below e))
+          (after_instruction program config frame below e) (tape_at (InModule frame ∷ all_paused below) counts came)
+      executed ty body NoRule e rule safe = absurd rule
+      executed ty body (Traps kind operands found) e rule safe =
+          subst
+          (λ left. Follows claim program k known store (items ++ left)
+          (step_result (Trap frame.func frame.at.number kind operands found ∷ []) (Finished Trapped))
+          (tape_at (InModule frame ∷ all_paused below) counts came))
+          (sym (finished_observations program k Trapped))
+          (record {
+            reads = reads_all are [] (nothing_read _ _);
+            shows = λ other segments outcome same ready h.
+                subst
+                (λ o. claim.comes code (tape_at (InModule frame ∷ all_paused below) counts came other segments) history o)
+                (finished_outcome program k Trapped outcome h)
+                (subst
+                (λ l. claim.comes code (tape_at (InModule frame ∷ all_paused below) counts came other segments)
+                (Trap frame.func frame.at.number kind operands found ∷ l) Trapped)
+                (sym (finished_history program k Trapped))
+                (closed.trap known store frame (all_paused below) counts came kind operands found (before are) e other
+                segments same ready));
+          })
+        where
+          are : AreSeen known store items
+          are = seen (λ x rest is. absurd (global_never_traps code store frame x rest kind operands found is e))
 
-        alike : AnswersAlike store other items
-        alike =
-            record {
-              kind = of_same_kind store other same known (items ++ window later) of
-                  (read_of_all (window later) known store items are real) held;
-              whole = whole;
-              answers = held_answers_all (window later) known store items other are
-                  (only_last_writes store frame.values frame.at.rest) of same real held;
-            }
+          history : List Entry
+          history =
+              Trap frame.func frame.at.number kind operands found
+              ∷ (steps program all_one k (Finished Trapped)).history
+      executed ty body (Did operands results found control) e rule safe =
+          record {
+            reads = reads_all are later next.reads;
+            shows = λ other segments outcome same ready h.
+                closed.step known store frame (all_paused below) counts came operands results found control later history
+                outcome (before are) e next.reads
+                (λ after left kept ready. next.shows after left outcome kept ready h) other segments same ready;
+          }
+        where
+          own : IsDoneAlike code store store items frame operands results found control (execute code store frame)
+          own = subst (λ first. IsExecutedAlike code store store items frame first (execute code store frame)) e
+              (laws.own code store frame whole)
 
-    pub executed : (ty : FuncType) (body : Definition) (e : Execution) → execute code store frame ≡ e
-        → HasRule (scope m heights frame.func ty body) e
-        → IsSafe m heights (after_instruction program config frame below e).next
-        → Follows program k known store
-        (items ++ observed_from program k (after_instruction program config frame below e))
-        (after_instruction program config frame below e) (at_config (InModule frame ∷ below) counts came)
-    executed ty body NoRule e rule safe = absurd rule
-    executed ty body (Traps kind operands found) e rule safe =
-        subst
-        (λ left. Follows program k known store (items ++ left)
-        (step_result (Trap frame.func frame.at.number kind operands found ∷ []) (Finished Trapped))
-        (at_config (InModule frame ∷ below) counts came))
-        (sym (finished_observations program k Trapped))
-        (record {
-          reads = reads_all are [] (nothing_read _ _);
-          shows = λ other segments outcome same holds needed h.
-              let second = subst
-              (λ first. IsExecutedAlike code store other items frame first (execute code other frame)) e
-              (laws.alike code code store other frame (sim.own_shares laws m heights valid typed answers fits)
-              (alike are [] (nothing_read _ _) other same holds)) in
-              let now : Config =
-              record { store = other; stack = InModule frame ∷ all_paused below; counts = counts } in
-              shows_step program (record { config = now; left = segments; came = came }) _ outcome
-              (sim.shows_over laws m heights valid typed answers fits k
-              (Trap frame.func frame.at.number kind operands found ∷ []) Trapped outcome _
-              (ap
-              (λ x. after_step segments came
-              (after_instruction (program_awaiting code) now frame (all_paused below) x)) second) h);
-        })
-      where
-        are : AreSeen known store items
-        are = seen (λ x rest is. absurd (global_never_traps code store frame x rest kind operands found is e))
-    executed ty body (Did operands results found control) e rule safe =
-        record {
-          reads = reads_all are later next.reads;
-          shows = λ other segments outcome same holds needed h.
-              let second = subst
-              (λ first. IsExecutedAlike code store other items frame first (execute code other frame)) e
-              (laws.alike code code store other frame (sim.own_shares laws m heights valid typed answers fits)
-              (alike are later next.reads other same holds)) in
-              let now : Config =
-              record { store = other; stack = InModule frame ∷ all_paused below; counts = counts } in
-              let after = with_changes other items in
-              let r = next.shows after segments outcome
-              (same_maxima_all other items ∙ same ∙ sym (same_maxima_all store items))
-              (holds_after_all (window later) known store items other are of same next.reads
-              second.second_store.possible (held are later next.reads other same holds))
-              (needed_after known store items later segments are needed) h in
-              shows_step program (record { config = now; left = segments; came = came }) history outcome
-              (subst
-              (λ t. Shows code t history outcome)
-              (sym
-              (ap
-              (λ x. after_step segments came
-              (after_instruction (program_awaiting code) now frame (all_paused below) x)) second.same
-              ∙ ap
-              (λ s. after_step segments came
-              (after_entries (Step frame.func frame.at.number operands results found ∷ []) s))
-              (sim.same_control laws m heights valid typed answers fits other after counts frame (all_paused below)
-              control second.second_store.changed)))
-              r);
-        }
-      where
-        own : IsDoneAlike code store store items frame operands results found control (execute code store frame)
-        own = subst (λ first. IsExecutedAlike code store store items frame first (execute code store frame)) e
-            (laws.own code store frame whole)
+          are : AreSeen known store items
+          are = seen (λ x rest is.
+              subst (λ nest. CanChangeAll store (nest_observations store frame.values nest)) is own.first_store.possible)
 
-        are : AreSeen known store items
-        are = seen (λ x rest is.
-            subst (λ nest. CanChangeAll store (nest_observations store frame.values nest)) is own.first_store.possible)
+          s : StepResult
+          s = after_control program config frame below control
 
-        history : List Entry
-        history =
-            let s = after_instruction program config frame below (Did operands results found control) in
-            s.entries ++ (steps program all_one k s.next).history
+          history : List Entry
+          history = s.entries ++ (steps program all_one k s.next).history
 
-        later : List Observation
-        later =
-            observed_from program k (after_instruction program config frame below (Did operands results found control))
+          later : List Observation
+          later =
+              observed_from program k (after_instruction program config frame below (Did operands results found control))
 
-        next : Follows program k (known_after_all known items) (with_changes store items) later
-            (after_instruction program config frame below (Did operands results found control))
-            (λ other segments. after_step segments came
-            (after_entries (Step frame.func frame.at.number operands results found ∷ [])
-            (after_control (program_awaiting code)
-            (record { store = other; stack = InModule frame ∷ all_paused below; counts = counts }) frame
-            (all_paused below) (in_store other control))))
-        next =
-            follows_entry program k (known_after_all known items) (with_changes store items) _ _ _ _
-            (Step frame.func frame.at.number operands results found) (λ other segments. refl)
-            (sim.controlled laws m heights valid typed answers fits k delivers frame below store
-            (with_changes store items) counts (known_after_all known items) came ty body control nested fine.store rule
-            own.first_store.changed (known_of_all known store items are of) safe)
+          next : Follows claim program k (known_after_all known items) (with_changes store items) later
+              (after_instruction program config frame below (Did operands results found control))
+              (λ other segments. after_step segments came
+              (after_entries (Step frame.func frame.at.number operands results found ∷ [])
+              (after_control (program_awaiting code)
+              (record { store = other; stack = InModule frame ∷ all_paused below; counts = counts }) frame
+              (all_paused below) (in_store other control))))
+          next =
+              follows_entry m heights answers claim closed k (known_after_all known items) (with_changes store items) _ _
+              _ _ (Step frame.func frame.at.number operands results found) (λ other segments. refl)
+              (sim.controlled laws m heights valid typed answers fits claim closed k delivers frame below store
+              (with_changes store items) counts (known_after_all known items) came ty body control nested fine.store rule
+              own.first_store.changed (known_of_all known store items are of) safe)

@@ -1,6 +1,8 @@
--- Parts of the proof that the tape's run follows the scripted run.
-use Rattle.std.proofs.Common.{◌≡◌, ℕ, zero, suc, List, [], ◌∷◌, ◌++◌, true, refl, sym, ap, ◌∙◌, subst, arith}
+-- Parts of the proof that a tape's run follows a scripted run.
+use Rattle.std.proofs.Common.{◌≡◌, ℕ, zero, suc, List, [], ◌∷◌, ◌++◌, Option, true, nat_lt, refl, sym, ap, ◌∙◌, subst, arith}
 use Rattle.std.proofs.lemmas.Bool.Decides.{nat_tests}
+use Rattle.wasm_syntax.specs.declared.modules.Module.{Module}
+use Rattle.host_script.specs.declared.scripts.Answer.{Answer}
 use Rattle.run_outcomes.specs.declared.outcomes.Outcome.{Outcome}
 use Rattle.trace_model.specs.declared.tapes.Origin.{Origin}
 use Rattle.trace_model.specs.declared.tapes.Origin.TheVariants.{Begin, Import, Back}
@@ -9,22 +11,28 @@ use Rattle.trace_model.specs.declared.tapes.Segment.{Segment}
 use Rattle.history_spec.specs.declared.entries.Entry.{Entry}
 use Rattle.history_spec.specs.declared.entries.FaultKind.{FaultKind}
 use Rattle.history_spec.specs.Store.{Store}
-use Rattle.history_spec.specs.Configuration.{Activation, Config}
-use Rattle.history_spec.specs.Step.{Program, Running, Finished, Faulted, Stuck, StepResult, step_result, after_entries}
+use Rattle.history_spec.specs.Code.{Code, code_of}
+use Rattle.history_spec.specs.Configuration.{Frame, Activation, InModule, Config}
+use Rattle.history_spec.specs.Instruction.{Control, Goes, Calls, Returns}
+use Rattle.history_spec.specs.Settle.{return_entry, deliver}
+use Rattle.history_spec.specs.Step.{Program, Running, Finished, Faulted, StepResult, step_result, after_entries, after_settling, call_function, after_control}
 use Rattle.history_spec.specs.Run.{all_one, steps}
 use Rattle.replay_spec.specs.Observations.{Observation, Begins, Ends, observations, end_observations}
 use Rattle.replay_spec.specs.Known.{Known, known_after, known_after_all}
 use Rattle.replay_spec.specs.Windows.{window}
 use Rattle.replay_spec.specs.Alike.{same_origin}
 use Rattle.replay_spec.specs.Kept.{AreKeptSegments}
-use Rattle.replay_spec.specs.TapeRun.{TapeConfig, Plays, TapeResult, tape_result, tape_after, after_next, after_effects, after_segment_if, after_segment, tape_step, tape_step_of}
+use Rattle.replay_spec.specs.TapeRun.{program_awaiting, TapeConfig, Over, TapeResult, tape_result, tape_after, after_next, after_segment, tape_step_of}
 use Rattle.observed_steps.specs.Changes.{with_change}
+use Rattle.observed_steps.specs.Executions.{left_store, in_store}
+use Rattle.type_safety.specs.Heights.{Heights}
+use Rattle.type_safety.specs.Stores.{IsStore}
 use Rattle.tape_follows.proofs.Stores.{IsHere, maxima}
-use Rattle.tape_follows.proofs.Relation.{IsKnownOf, Holds, AreSeen}
-use Rattle.tape_follows.proofs.Follows.{Shows, Follows}
+use Rattle.tape_follows.proofs.Relation.{IsKnownOf, AreSeen}
+use Rattle.tape_follows.proofs.Claims.{Claim}
+use Rattle.tape_follows.proofs.Closed.{IsMore, tape_at, IsClosed}
+use Rattle.tape_follows.proofs.Follows.{Follows}
 use Rattle.tape_follows.proofs.StepItems.{nothing_read}
-use Rattle.tape_follows.proofs.Activities.{HasSizes}
-use Rattle.tape_follows.proofs.Activity.{activity}
 
 -- ---- observations of a step
 
@@ -52,7 +60,7 @@ needed_after known store (o ∷ seen) later segments are needed =
 
 -- ---- the parts
 
-own_origin : (origin : Origin) → same_origin origin origin ≡ true
+pub own_origin : (origin : Origin) → same_origin origin origin ≡ true
 own_origin Begin = refl
 own_origin (Import n) = grind (arith, nat_tests)
 own_origin Back = refl
@@ -73,103 +81,107 @@ module _ (program : Program) where
   finished_outcome zero outcome found h = cc
   finished_outcome (suc k) outcome found h = cc
 
-  -- where the run is stuck or faulty there is no outcome
-  pub follows_stuck : (k : ℕ) (known : Known) (store : Store) (tape : Store → List Segment → TapeResult)
-      → Follows program k known store (observations program k Stuck) (step_result [] Stuck) tape
-  follows_stuck zero known store tape =
-      record { reads = nothing_read known store; shows = λ other segments outcome same holds needed h. cc }
-  follows_stuck (suc k) known store tape =
-      record { reads = nothing_read known store; shows = λ other segments outcome same holds needed h. cc }
+  module _ (claim : Claim) where
+    -- where the run is faulty there is no outcome
+    pub follows_fault : (k : ℕ) (known : Known) (store : Store) (kind : FaultKind)
+        (tape : Store → List Segment → TapeResult)
+        → Follows claim program k known store (observations program k (Faulted kind))
+        (step_result [] (Faulted kind)) tape
+    follows_fault zero known store kind tape =
+        record { reads = nothing_read known store; shows = λ other segments outcome same ready h. cc }
+    follows_fault (suc k) known store kind tape =
+        record { reads = nothing_read known store; shows = λ other segments outcome same ready h. cc }
 
-  pub follows_fault : (k : ℕ) (known : Known) (store : Store) (kind : FaultKind)
-      (tape : Store → List Segment → TapeResult)
-      → Follows program k known store (observations program k (Faulted kind)) (step_result [] (Faulted kind)) tape
-  follows_fault zero known store kind tape =
-      record { reads = nothing_read known store; shows = λ other segments outcome same holds needed h. cc }
-  follows_fault (suc k) known store kind tape =
-      record { reads = nothing_read known store; shows = λ other segments outcome same holds needed h. cc }
+    -- where no step is left
+    pub follows_none : (known : Known) (store : Store) (config : Config) (tape : Store → List Segment → TapeResult)
+        → Follows claim program zero known store [] (step_result [] (Running config)) tape
+    follows_none known store config tape =
+        record { reads = nothing_read known store; shows = λ other segments outcome same ready h. cc }
 
-  -- where no step is left
-  pub follows_none : (known : Known) (store : Store) (config : Config) (tape : Store → List Segment → TapeResult)
-      → Follows program zero known store [] (step_result [] (Running config)) tape
-  follows_none known store config tape =
-      record { reads = nothing_read known store; shows = λ other segments outcome same holds needed h. cc }
+    -- the host is on top: what it begins with reads nothing
+    pub host_reads : (k : ℕ) (known : Known) (store : Store) (came : Origin) (left : List Observation) (s : StepResult)
+        (tape : Store → List Segment → TapeResult)
+        → ((other : Store) (segments : List Segment) (outcome : Outcome) → maxima other ≡ maxima store
+        → claim.ready known (Begins came ∷ left) other segments
+        → (steps program all_one k s.next).at ≡ Finished outcome
+        → claim.comes program.code (tape other segments) (s.entries ++ (steps program all_one k s.next).history)
+        outcome)
+        → Follows claim program k known store (Begins came ∷ left) s tape
+    host_reads k known store came left s tape shows = record { reads = nothing_read known store; shows = shows }
 
-  -- the host is on top: what it begins with reads nothing
-  pub host_reads : (k : ℕ) (known : Known) (store : Store) (came : Origin) (left : List Observation) (s : StepResult)
-      (tape : Store → List Segment → TapeResult)
-      → ((other : Store) (segments : List Segment) (outcome : Outcome) → maxima other ≡ maxima store
-      → Holds known [] other → AreKeptSegments known (Begins came ∷ left) segments
-      → (steps program all_one k s.next).at ≡ Finished outcome
-      → Shows program.code (tape other segments) (s.entries ++ (steps program all_one k s.next).history) outcome)
-      → Follows program k known store (Begins came ∷ left) s tape
-  host_reads k known store came left s tape shows =
-      record { reads = nothing_read known store; shows = shows }
+-- control is the same in the store that is left
+pub same_control : (code : Code) (other after : Store) (counts : List ℕ) (frame : Frame) (below : List Activation)
+    (control : Control)
+    → left_store other (in_store after control) ≡ after
+    → after_control (program_awaiting code)
+    (record { store = other; stack = InModule frame ∷ below; counts = counts }) frame below (in_store after control)
+    ≡ after_control (program_awaiting code)
+    (record { store = after; stack = InModule frame ∷ below; counts = counts }) frame below (in_store after control)
+same_control code other after counts frame below (Goes store next) left = refl
+same_control code other after counts frame below (Calls waiting func args) left =
+    ap
+    (λ s. call_function (program_awaiting code) (nat_lt func code.imported) s counts func args
+    (InModule waiting ∷ below)) left
+same_control code other after counts frame below (Returns results) left =
+    ap
+    (λ s. after_entries (return_entry frame.func results below ∷ [])
+    (after_settling s counts (deliver below results))) left
+
+-- ---- parts of a claim
+
+module _ (m : Module) (heights : Heights) (answers : List (Option Answer)) (claim : Claim)
+    (closed : IsClosed claim m heights) where
+  abbrev program : Program
+  program = record { code = code_of m; answers = answers }
 
   -- an entry that begins and ends no activity, or what its activity begins with is left
   pub follows_entry : (k : ℕ) (known : Known) (store : Store) (left : List Observation) (s : StepResult)
       (tape tape' : Store → List Segment → TapeResult) (entry : Entry)
       → ((other : Store) (segments : List Segment)
       → tape' other segments ≡ tape_after (entry ∷ []) (tape other segments))
-      → Follows program k known store left s tape
-      → Follows program k known store left (after_entries (entry ∷ []) s) tape'
+      → Follows claim program k known store left s tape
+      → Follows claim program k known store left (after_entries (entry ∷ []) s) tape'
   follows_entry k known store left s tape tape' entry same f =
       record {
         reads = f.reads;
-        shows = λ other segments outcome kept holds needed h.
-            let r = f.shows other segments outcome kept holds needed h in
-            subst (λ t. Shows program.code t (entry ∷ (s.entries ++ (steps program all_one k s.next).history)) outcome)
-            (sym (same other segments)) (record { count = r.count; is = ap (tape_after (entry ∷ [])) r.is });
+        shows = λ other segments outcome kept ready h.
+            let history = s.entries ++ (steps program all_one k s.next).history in
+            subst (λ t. claim.comes program.code t (entry ∷ history) outcome) (sym (same other segments))
+            (closed.entry (tape other segments) history outcome entry (f.shows other segments outcome kept ready h));
       }
 
-  -- ---- the host's segment
-
-  -- one step of the tape's run
-  pub shows_step : (t : TapeConfig) (history : List Entry) (outcome : Outcome)
-      → Shows program.code (tape_step program.code t) history outcome
-      → Shows program.code (tape_result [] (Plays t)) history outcome
-  shows_step t history outcome r = record { count = suc r.count; is = r.is }
+  -- the run is over
+  pub follows_over : (k : ℕ) (known : Known) (store : Store) (entries : List Entry) (outcome : Outcome)
+      (tape : Store → List Segment → TapeResult)
+      → ((other : Store) (segments : List Segment) → tape other segments ≡ tape_result entries (Over outcome))
+      → Follows claim program k known store [] (step_result entries (Finished outcome)) tape
+  follows_over k known store entries outcome tape is =
+      record {
+        reads = nothing_read known store;
+        shows = λ other segments found same ready h.
+            subst (λ o. claim.comes program.code (tape other segments) left o)
+            (finished_outcome program k outcome found h)
+            (subst (λ l. claim.comes program.code (tape other segments) (entries ++ l) outcome)
+            (sym (finished_history program k outcome))
+            (subst (λ t. claim.comes program.code t (entries ++ []) outcome) (sym (is other segments))
+            (closed.over known other segments entries outcome ready)));
+      }
+    where
+      left : List Entry
+      left = entries ++ (steps program all_one k (Finished outcome)).history
 
   -- the host takes the segment of its activity, as whose end the run goes on
   pub follows_segment : (k : ℕ) (known : Known) (store : Store) (came : Origin) (next : Next)
       (left : List Observation) (s : StepResult) (stack : List Activation) (counts : List ℕ)
       → ((t : TapeConfig) → tape_step_of program.code stack t ≡ after_segment program.code t.config t.left t.came)
-      → HasSizes store → IsKnownOf known store
-      → Follows program k known store left s
+      → IsStore m store → IsKnownOf known store
+      → IsMore left (s.entries ++ (steps program all_one k s.next).history)
+      → Follows claim program k known store left s
       (λ other segments. after_next program.code other counts stack segments came next)
-      → Follows program k known store (Begins came ∷ Ends next ∷ left) s
-      (λ other segments. tape_result [] (Plays (record {
-        config = record { store = other; stack = stack; counts = counts };
-        left = segments;
-        came = came;
-      })))
-  follows_segment k known store came next left s stack counts takes sizes of f =
-      host_reads k known store came (Ends next ∷ left) s _ shows
-    where
-      shows : (other : Store) (segments : List Segment) (outcome : Outcome) → maxima other ≡ maxima store
-          → Holds known [] other → AreKeptSegments known (Begins came ∷ Ends next ∷ left) segments
-          → (steps program all_one k s.next).at ≡ Finished outcome
-          → Shows program.code (tape_result [] (Plays (record {
-            config = record { store = other; stack = stack; counts = counts };
-            left = segments;
-            came = came;
-          })))
-          (s.entries ++ (steps program all_one k s.next).history) outcome
-      shows other [] outcome same holds needed h = absurd needed
-      shows other (segment ∷ segments) outcome same holds needed h =
-          let done =
-          activity known (window left) store sizes of f.reads other holds same segment.effects needed.0.changes in
-          let r = f.shows done.0 segments outcome done.3 done.2 needed.1 h in
-          let config : Config = record { store = other; stack = stack; counts = counts } in
-          shows_step
-          (record { config = config; left = segment ∷ segments; came = came })
-          (s.entries ++ (steps program all_one k s.next).history) outcome
-          (subst
-          (λ t. Shows program.code t (s.entries ++ (steps program all_one k s.next).history) outcome)
-          (sym
-          (takes (record { config = config; left = segment ∷ segments; came = came })
-          ∙ ap (λ b. after_segment_if b program.code config segment segments came)
-          (ap (λ o. same_origin o came) needed.0.begins ∙ own_origin came)
-          ∙ ap (after_effects program.code config segments came segment.next) done.1
-          ∙ ap (after_next program.code done.0 counts stack segments came) needed.0.leaves))
-          r)
+      → Follows claim program k known store (Begins came ∷ Ends next ∷ left) s (tape_at stack counts came)
+  follows_segment k known store came next left s stack counts takes is of more f =
+      host_reads program claim k known store came (Ends next ∷ left) s (tape_at stack counts came)
+      (λ other segments outcome same ready h.
+      closed.segment known store came next left (s.entries ++ (steps program all_one k s.next).history) outcome stack
+      counts takes is of f.reads more (λ other segments same ready. f.shows other segments outcome same ready h) other
+      segments same ready)

@@ -1,87 +1,28 @@
 -- The tape that a run needs replays it.
-use Rattle.std.proofs.Common.{◌∙◌, ◌++◌, ◌≡◌, ℕ, zero, suc, ◌*◌, ◌≤◌, List, [], ◌∷◌, length, Option, Some, None, Bool, true, false, nat_lt, replicate, refl, sym, ap, subst, arith}
-use Rattle.std.specs.Prelude.{◌≢◌, IfSome}
-use Rattle.std.specs.Option.{option_flatten}
-use Rattle.std.proofs.lemmas.List.{get_or_past}
-use Rattle.std.proofs.lemmas.Option.{slice_get_past}
-use Rattle.wasm_syntax.specs.declared.limits.TheConstants.{PAGE_SIZE}
+use Rattle.std.proofs.Common.{◌∙◌, ◌++◌, ◌≡◌, ℕ, zero, suc, List, [], Option, refl, sym, ap, subst}
+use Rattle.std.specs.Prelude.{◌≢◌}
 use Rattle.wasm_syntax.specs.declared.modules.Module.{Module}
-use Rattle.wasm_syntax.specs.Index.{imported_funcs}
 use Rattle.wasm_syntax.specs.Validity.{IsValid}
-use Rattle.host_script.specs.declared.scripts.Action.{Action}
 use Rattle.host_script.specs.declared.scripts.Answer.{Answer}
 use Rattle.host_script.specs.Fits.{FitAnswers}
 use Rattle.run_outcomes.specs.declared.outcomes.Outcome.{Outcome}
-use Rattle.trace_model.specs.declared.tapes.Origin.{Origin}
-use Rattle.trace_model.specs.declared.tapes.Origin.TheVariants.{Begin}
-use Rattle.trace_model.specs.declared.tapes.Next.TheVariants.{Call as CallNext}
-use Rattle.trace_model.specs.declared.tapes.Segment.{Segment}
-use Rattle.history_spec.specs.declared.entries.Entry.TheVariants.{HostCall}
-use Rattle.history_spec.specs.Store.{Store, Memory, Table}
 use Rattle.history_spec.specs.Code.{Code, code_of}
-use Rattle.history_spec.specs.Configuration.{Activation, InModule, InMain, InImport, Config}
-use Rattle.history_spec.specs.Instantiation.{memory_length, table_length}
-use Rattle.history_spec.specs.Instruction.{execute}
-use Rattle.history_spec.specs.Settle.{deliver}
-use Rattle.history_spec.specs.Action.{perform}
-use Rattle.history_spec.specs.Step.{Progress, Running, Finished, Program, StepResult, after_entries, after_settling, enter_function, step, start, start_with_call}
+use Rattle.history_spec.specs.Step.{Progress, Running, Finished, Program, StepResult, step}
 use Rattle.history_spec.specs.Run.{Run, all_one, program_of, start_in_store, weight, run_after, steps}
 use Rattle.replay_spec.specs.Laws.{NeededSegmentsAreKept}
-use Rattle.replay_spec.specs.Observations.{Begins, run_observations}
-use Rattle.replay_spec.specs.Known.{Known, byte_of, entry_of, pages_of, opening_known}
+use Rattle.replay_spec.specs.Observations.{run_observations}
+use Rattle.replay_spec.specs.Known.{opening_known}
 use Rattle.replay_spec.specs.TapeRun.{TapeProgress, TapeResult, tape_result, Plays, Over, Disagrees, NoRule, tape_step, tape_steps, tape_start}
-use Rattle.type_safety.specs.Configurations.{IsConfig, IsSafe, IsTypedCode}
+use Rattle.type_safety.specs.Configurations.{IsTypedCode}
 use Rattle.type_safety.specs.Heights.{Heights}
 use Rattle.type_safety.specs.Laws.{ValidCodeHasHeights, ValidCodeIsTyped, SuppliesMatch, NewStoresAreTyped, StartsAreSafe}
-use Rattle.type_safety.specs.Stores.{IsStore}
 use Rattle.tape_follows.specs.Laws.{IsReplayed, NeededTapesReplayRuns}
-use Rattle.tape_follows.proofs.Relation.{IsKnownOf, Holds}
-use Rattle.tape_follows.proofs.Follows.{Shows, all_paused, observed_from, Follows}
-use Rattle.tape_follows.proofs.Activities.{HasSizes}
+use Rattle.tape_follows.proofs.Closed.{IsClosed}
+use Rattle.tape_follows.proofs.Replays.{Shows, replays, replays_closed}
 use Rattle.tape_follows.proofs.HostStores.{sizes_of}
-use Rattle.tape_follows.proofs.Parts.{follows_none, host_reads, follows_entry, follows_segment}
 use Rattle.tape_follows.proofs.Simulation as sim
 use Rattle.tape_follows.proofs.Simulation.{Laws}
-use Rattle.tape_follows.proofs.ModuleSteps.{executed}
-
--- ---- where the run begins
-
-opening_is_known : (store : Store) → HasSizes store → IsKnownOf (opening_known store) store
-opening_is_known store sizes =
-    record {
-      pages = omega arith;
-      entries = omega arith;
-      past_pages = λ at past. no_byte store.memory at (subst (λ n. n ≤ at) (sym sizes.whole) past);
-      past_entries = no_entry store.table;
-      types = λ at. refl;
-    }
-  where
-    no_byte : (o : Option Memory) (at : ℕ) → memory_length o ≤ at → byte_of o at ≡ 0
-    no_byte None at past = refl
-    no_byte (Some m) at past = get_or_past m.bytes at 0 past
-
-    no_entry : (o : Option Table) (at : ℕ) → table_length o ≤ at → entry_of o at ≡ None
-    no_entry None at past = refl
-    no_entry (Some t) at past = ap option_flatten (slice_get_past t.entries at past)
-
-pub opening_holds : (store : Store) → HasSizes store → Holds (opening_known store) [] store
-opening_holds store sizes =
-    record {
-      pages = size store.memory sizes.whole;
-      entries = count store.table;
-      byte = λ at. refl;
-      entry = λ at. refl;
-      global = λ at. refl;
-    }
-  where
-    size : (o : Option Memory) → memory_length o ≡ pages_of o * PAGE_SIZE
-        → IfSome o (λ m. length m.bytes ≡ pages_of o * PAGE_SIZE)
-    size None h = tt
-    size (Some m) h = h
-
-    count : (o : Option Table) → IfSome o (λ t. length t.entries ≡ table_length o)
-    count None = tt
-    count (Some t) = refl
+use Rattle.tape_follows.proofs.AllSteps as all
 
 -- a tape's run that comes to an outcome never disagrees
 pub never_disagrees : (code : Code) (n : ℕ) (at : TapeProgress) (outcome : Outcome)
@@ -99,114 +40,15 @@ never_disagrees code n NoRule outcome h (suc k) e = cc
 
 module _ (laws : Laws) (m : Module) (heights : Heights) (valid : IsValid m) (typed : IsTypedCode m heights)
     (answers : List (Option Answer)) (fits : FitAnswers m answers) where
-  abbrev program : Program
-  program = record { code = code_of m; answers = answers }
+  -- the same of the claim that the tape's run replays the scripted run
+  abbrev closed : IsClosed replays m heights
+  closed = replays_closed laws.alike m heights
 
-  abbrev code : Code
-  code = code_of m
+  pub makes : (k : ℕ) → sim.Makes laws m heights valid typed answers fits replays closed k
+  makes = all.makes laws m heights valid typed answers fits replays closed
 
-  abbrev Delivers : ℕ → Type 0
-  Delivers = sim.Delivers laws m heights valid typed answers fits
-
-  abbrev at_config : List Activation → List ℕ → Origin → Store → List Segment → TapeResult
-  at_config = sim.at_config laws m heights valid typed answers fits
-
-  abbrev Makes : ℕ → Type 0
-  Makes = sim.Makes laws m heights valid typed answers fits
-
-  safe_step : (config : Config) → IsConfig m heights config → IsSafe m heights (step program config).next
-  safe_step config fine = laws.steps m heights program config valid typed (record { code = refl; answers = fits }) fine
-
-  -- ---- all steps
-
-  made_next : (k : ℕ) → Delivers k → Makes (suc k)
-  made_next k delivers =
-      record {
-        runs = λ frame below store counts known came nested fine of.
-            let config : Config = record { store = store; stack = InModule frame ∷ below; counts = counts } in
-            let a = fine.stack in
-            let f = executed laws m heights valid typed answers fits k delivers frame below store counts known came
-            nested fine of a.0 a.1 (execute code store frame) refl
-            (laws.rules m heights store frame a.0 a.1 valid typed fine.store a.2 fine.at_step)
-            (safe_step config fine) in
-            record { reads = f.reads; shows = f.shows };
-        main = λ action actions below store counts known came nested fine of.
-            let config : Config =
-            record { store = store; stack = InMain (action ∷ actions) ∷ below; counts = counts } in
-            let a = fine.stack in
-            let f = sim.acts laws m heights valid typed answers fits k delivers (InMain actions ∷ below) store counts
-            known came [] action (λ t. refl) (λ left. refl) (λ func given other segments. refl)
-            (λ other segments. refl) nested fine.store of (perform code store [] action) refl
-            (laws.actions m heights store [] [] action typed fine.store tt (a.0 0 action (omega arith)))
-            (safe_step config fine) in
-            record { reads = f.reads; shows = f.shows };
-        import = λ number args action actions end below store counts known came nested fine of.
-            let config : Config =
-            record { store = store; stack = InImport number args (action ∷ actions) end ∷ below; counts = counts }
-            in
-            let a = fine.stack in
-            let f = sim.acts laws m heights valid typed answers fits k delivers
-            (InImport number args actions end ∷ below) store counts known came args action (λ t. refl)
-            (λ left. refl) (λ func given other segments. refl) (λ other segments. refl) nested fine.store of
-            (perform code store args action) refl
-            (laws.actions m heights store a.0.params args action typed fine.store a.2
-            (a.3 0 action (omega arith)))
-            (safe_step config fine) in
-            record { reads = f.reads; shows = f.shows };
-      }
-
-  made_none : Makes zero
-  made_none =
-      record {
-        runs = λ frame below store counts known came nested fine of. follows_none program known store _ _;
-        main = λ action actions below store counts known came nested fine of.
-            host_reads program zero known store came [] _ _ (λ other segments outcome same holds needed h. cc);
-        import = λ number args action actions end below store counts known came nested fine of.
-            host_reads program zero known store came [] _ _ (λ other segments outcome same holds needed h. cc);
-      }
-
-  delivers : (k : ℕ) → Delivers k
-  delivers zero = sim.deliver_from laws m heights valid typed answers fits zero made_none
-  delivers (suc k) = sim.deliver_from laws m heights valid typed answers fits (suc k) (made_next k (delivers k))
-
-  -- ---- the start
-
-  module _ (k : ℕ) (main : List Action) (store : Store) (is : IsStore m store) where
-    abbrev known : Known
-    known = opening_known store
-
-    abbrev counts : List ℕ
-    counts = replicate (imported_funcs m) 0
-
-    of : IsKnownOf known store
-    of = opening_is_known store (sizes_of m store is)
-
-    abbrev Started : StepResult → Type 0
-    Started s =
-        Follows program k known store (Begins Begin ∷ observed_from program k s) s
-        (λ other segments. tape_result [] (tape_start code other segments))
-
-    without_call : IsSafe m heights (after_settling store counts (deliver (InMain main ∷ []) [])).next
-        → Started (after_settling store counts (deliver (InMain main ∷ []) []))
-    without_call safe = delivers k (InMain main ∷ []) [] store counts known Begin refl is of safe
-
-    with_call : (b : Bool) (func : ℕ)
-        → IsSafe m heights (start_with_call program b store counts func (InMain main ∷ [])).next
-        → Started (start_with_call program b store counts func (InMain main ∷ []))
-    with_call true func safe = without_call safe
-    with_call false func safe =
-        follows_segment program k known store Begin (CallNext func [])
-        (observed_from program k (enter_function code store counts func [] (InMain main ∷ [])))
-        (after_entries (HostCall func [] ∷ []) (enter_function code store counts func [] (InMain main ∷ [])))
-        (all_paused (InMain main ∷ [])) counts (λ t. refl) (sizes_of m store is) of
-        (follows_entry program k known store _ _ _ _ (HostCall func []) (λ other segments. refl)
-        (sim.enters laws m heights valid typed answers fits k (delivers k) func [] (InMain main ∷ []) store counts known
-        Begin refl is of safe))
-
-    pub started : (func : Option ℕ) → IsSafe m heights (start program func store counts main).next
-        → Started (start program func store counts main)
-    started None safe = without_call safe
-    started (Some func) safe = with_call (nat_lt func (imported_funcs m)) func safe
+  pub delivers : (k : ℕ) → sim.Delivers laws m heights valid typed answers fits replays closed k
+  delivers = all.delivers laws m heights valid typed answers fits replays closed
 
 -- the laws of the crates below that say that modules that can be run are typed, and their runs safe; and that what is
 -- known may be kept observation by observation
@@ -269,8 +111,8 @@ needed_tape_replays laws safety m script supply store segments count outcome run
         let is = safety.store m supply store runnable (safety.supplied m script supply fits links) opens in
         let safe = safety.starts m h.0 program store script.main runnable.valid typed
         (record { code = refl; answers = fits.imports }) is fits.main in
-        let f = started laws m h.0 runnable.valid typed script.imports fits.imports needed.count script.main store is
-        m.start safe in
+        let f = all.started laws m h.0 runnable.valid typed script.imports fits.imports replays
+        (replays_closed laws.alike m h.0) needed.count script.main store is m.start safe in
         let kept = safety.kept (opening_known store) (run_observations program initial needed.count) segments in
-        f.shows store segments needed.outcome refl (opening_holds store (sizes_of m store is)) (kept.0 needed.needed)
-        needed.ends
+        f.shows store segments needed.outcome refl
+        (all.opening_holds store (sizes_of m store is), kept.0 needed.needed) needed.ends
