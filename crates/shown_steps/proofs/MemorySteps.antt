@@ -1,6 +1,7 @@
 -- What instructions on the memory show of it.
 use Rattle.std.proofs.Common.{◌≡◌, ℕ, ◌+◌, ◌*◌, ◌%◌, List, [], ◌∷◌, length, drop, ◌<◌, Option, Some, None, Bool, true, false, cond, nat_le, All, refl, sym, ap, ◌∙◌, subst}
 use Rattle.std.specs.Prelude.{IfSome, option_and_then, replicate, unwrap_or}
+use Rattle.std.specs.Option.{option_or}
 use Rattle.std.proofs.lemmas.List.{length-replicate}
 use Rattle.std.proofs.lemmas.List.Elements.{All-take, All-drop}
 use Rattle.wasm_syntax.specs.declared.limits.TheConstants.{PAGE_SIZE}
@@ -17,13 +18,19 @@ use Rattle.history_spec.specs.Store.{Store, Memory, pages, grown_memory, number_
 use Rattle.history_spec.specs.Code.{Code}
 use Rattle.history_spec.specs.Configuration.{Place, Frame}
 use Rattle.history_spec.specs.Instruction.{load_result, store_result, grow_result, execute_plain}
+use Rattle.replay_spec.specs.Known.{byte_among}
 use Rattle.replay_spec.specs.Observations.{Observation, Reads, Copies, Writes, Reaches, Resizes, on as observed_on, bits_from_top, plain_observations, load_observations, store_observations, copy_observations, grow_observations}
 use Rattle.observed_steps.specs.StoreAnswers.{BothOrNeither, AllowSamePages, IsReachedAlike, Answers, AnswersAll, HoldsBytes}
 use Rattle.observed_steps.proofs.Operands.{bits_same}
 use Rattle.observed_steps.proofs.Memories.{range, range_length, bytes_of_length, own_range}
-use Rattle.shown_steps.specs.Laws.{shown, HasBytes, AnswersAllUnshown}
+use Rattle.shown_steps.specs.Unshown.{AnswersUnshown}
+use Rattle.shown_steps.specs.Laws.{shown, HasBytes}
 use Rattle.shown_steps.proofs.Numbers.{same_loaded}
 use Rattle.shown_steps.proofs.Shown.{IsShown, observed_shown, parts_shown, takes_shown}
+
+or_first : {X : Type 0} (a b : Option X) (x : X) → a ≡ Some x → option_or a b ≡ Some x
+or_first (Some y) b x h = h
+or_first None b x h = cc
 
 -- the only results of two steps are the same
 same_result : (func number : ℕ) (operands : List Val) (found : Option ℕ) (ty : ValType) (a b : ℕ)
@@ -171,7 +178,7 @@ module _ (code : Code) (store other : Store) (frame : Frame) (next : Place) wher
         record {
           answers = λ some same unshown.
               go (nat_le (source + count) (length memory.bytes)) refl (nat_le (source + count) (length memory'.bytes))
-              refl same unshown.1.1;
+              refl same unshown;
         }
       where
         here : Memory → Bool → Option (List ℕ)
@@ -199,13 +206,13 @@ module _ (code : Code) (store other : Store) (frame : Frame) (next : Place) wher
             → (c : Bool) → inside memory bytes ≡ c → (c' : Bool) → inside memory' bytes' ≡ c'
             → shown frame (store_result other frame next memory' operands rest (there memory' bytes' c'))
             ≡ shown frame (store_result store frame next memory operands rest (there memory bytes c))
-            → AnswersAllUnshown other (target bytes c) → AnswersAll other (ends (target bytes c))
+            → AnswersUnshown other (ends (target bytes c)) → AnswersAll other (ends (target bytes c))
         within e e' bytes bytes' long long' true f true f' h unshown = (
           within_both (source + count) e e',
           (
             within_both (to + count) (ap (λ n. nat_le (to + n) (length memory.bytes)) (sym long) ∙ f)
                 (ap (λ n. nat_le (to + n) (length memory'.bytes)) (sym long') ∙ f'),
-            (unshown.0, (tt, tt)),
+            (λ at x h. unshown.copied at x (or_first (byte_among source bytes at) _ x h), (tt, tt)),
           ),
         )
         within e e' bytes bytes' long long' false f false f' h unshown =
@@ -233,7 +240,8 @@ module _ (code : Code) (store other : Store) (frame : Frame) (next : Place) wher
             (option_and_then (with_bytes_at memory'.bytes to) (here memory' b')))
             ≡ shown frame (store_result store frame next memory operands rest
             (option_and_then (with_bytes_at memory.bytes to) (here memory b)))
-            → AnswersAllUnshown other (observed_on (here memory b) (λ bytes. target bytes (inside memory bytes)))
+            → AnswersUnshown other
+            (ends (observed_on (here memory b) (λ bytes. target bytes (inside memory bytes))))
             → AnswersAll other (ends (observed_on (here memory b) (λ bytes. target bytes (inside memory bytes))))
         go true e true e' h unshown =
             let bytes = range memory.bytes source count in

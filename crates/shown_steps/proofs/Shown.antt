@@ -9,11 +9,12 @@ use Rattle.history_spec.specs.Instruction.{Execution, on, pop, takes}
 use Rattle.replay_spec.specs.Observations.{Observation, on as observed_on}
 use Rattle.observed_steps.specs.StoreAnswers.{BothOrNeither, AnswersAll}
 use Rattle.observed_steps.proofs.Operands.{AreOperands, popped}
-use Rattle.shown_steps.specs.Laws.{shown, AnswersAllUnshown}
+use Rattle.shown_steps.specs.Unshown.{AnswersUnshown}
+use Rattle.shown_steps.specs.Laws.{shown}
 
 -- where a second execution shows the same as a first that has an entry, the other store answers what was observed
 pub record IsShown (other : Store) (frame : Frame) (seen : List Observation) (first second : Execution) : Type 0 where
-  pub answers : shown frame first ≢ [] → shown frame second ≡ shown frame first → AnswersAllUnshown other seen
+  pub answers : shown frame first ≢ [] → shown frame second ≡ shown frame first → AnswersUnshown other seen
       → AnswersAll other seen
 
 module _ (other : Store) (frame : Frame) where

@@ -1,26 +1,33 @@
 -- An instruction shows what it observes.
-use Rattle.std.proofs.Common.{ℕ, ◌+◌, [], ◌∷◌, Option, Some, None, slice_get}
+use Rattle.std.proofs.Common.{◌≡◌, ℕ, ◌+◌, [], ◌∷◌, length, Option, Some, None, slice_get, refl}
+use Rattle.std.specs.Prelude.{IfSome}
 use Rattle.wasm_syntax.specs.declared.values.Val.{Val}
 use Rattle.wasm_syntax.specs.declared.instructions.Instr.{Instr}
 use Rattle.wasm_syntax.specs.declared.instructions.Instr.TheVariants.{CallIndirect, GlobalGet, GlobalSet, Load, Store as StoreTo, MemorySize, MemoryGrow, MemoryCopy, MemoryFill, TableSet, TableGrow, TableSize}
 use Rattle.wasm_syntax.specs.Nest.{Nest, Plain}
-use Rattle.history_spec.specs.Store.{Store}
+use Rattle.history_spec.specs.Store.{Store, Table}
+use Rattle.history_spec.specs.Instantiation.{table_length}
 use Rattle.history_spec.specs.Code.{Code}
 use Rattle.history_spec.specs.Configuration.{Place, place, Frame}
 use Rattle.history_spec.specs.Instruction.{execute_plain, execute_at}
 use Rattle.replay_spec.specs.Observations.{WritesGlobal, ResizesTable, on as observed_on, plain_observations, nest_observations}
 use Rattle.observed_steps.specs.StoreAnswers.{SameKind, AnswersAll}
-use Rattle.shown_steps.specs.Laws.{HasBytes, AnswersAllUnshown, ShownStepsAreAnswered}
+use Rattle.shown_steps.specs.Unshown.{AnswersUnshown}
+use Rattle.shown_steps.specs.Laws.{HasBytes, ShownStepsAreAnswered}
 use Rattle.shown_steps.proofs.Shown.{IsShown}
 use Rattle.shown_steps.proofs.MemorySteps.{load_shown, store_shown, size_shown, grow_shown, copy_shown, fill_shown}
 use Rattle.shown_steps.proofs.TableSteps.{call_indirect_shown, set_shown, get_shown}
 
 -- what is unshown is all that is observed of the table's size
 resized : {X : Type 0} (other : Store) (o : Option X) (found left : X → ℕ) (func : Option ℕ)
-    → AnswersAllUnshown other (observed_on o (λ x. ResizesTable (found x) (left x) func ∷ []))
+    → AnswersUnshown other (observed_on o (λ x. ResizesTable (found x) (left x) func ∷ []))
     → AnswersAll other (observed_on o (λ x. ResizesTable (found x) (left x) func ∷ []))
 resized other None found left func unshown = tt
-resized other (Some x) found left func unshown = unshown
+resized other (Some x) found left func unshown = (go other.table (unshown.resized (found x) refl), tt)
+  where
+    go : (o : Option Table) → table_length o ≡ found x → IfSome o (λ t. length t.entries ≡ found x)
+    go None h = tt
+    go (Some t) h = h
 
 written : (other : Store) (x : ℕ) (o : Option Val)
     → AnswersAll other (observed_on o (λ value. WritesGlobal x value ∷ []))

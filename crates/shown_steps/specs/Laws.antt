@@ -6,9 +6,9 @@ use Rattle.history_spec.specs.Store.{Store}
 use Rattle.history_spec.specs.Code.{Code}
 use Rattle.history_spec.specs.Configuration.{Frame}
 use Rattle.history_spec.specs.Instruction.{Execution, Did, Traps, NoRule, execute}
-use Rattle.replay_spec.specs.Observations.{Observation, Copies, ResizesTable}
-use Rattle.observed_steps.specs.StoreAnswers.{SameKind, HasWholePages, Answers, AnswersAll}
+use Rattle.observed_steps.specs.StoreAnswers.{SameKind, HasWholePages, AnswersAll}
 use Rattle.observed_steps.specs.Laws.{observed}
+use Rattle.shown_steps.specs.Unshown.{AnswersUnshown}
 
 -- the entry of an instruction, where a rule holds for it: its operands, its results and what it found, or its trap
 abbrev pub shown : Frame → Execution → List Entry
@@ -16,17 +16,6 @@ shown frame (Did operands results found control) =
     Step frame.func frame.at.number operands results found ∷ []
 shown frame (Traps kind operands found) = Trap frame.func frame.at.number kind operands found ∷ []
 shown frame NoRule = []
-
--- a store answers an observation that no entry shows: what a copy reads goes to the memory alone, and a growth of the
--- table that fails does not tell the size
-abbrev pub AnswersUnshown : Store → Observation → Type 0
-AnswersUnshown store (Copies address bytes) = Answers store (Copies address bytes)
-AnswersUnshown store (ResizesTable found left func) = Answers store (ResizesTable found left func)
-AnswersUnshown store o = Unit {0}
-
-abbrev pub AnswersAllUnshown : Store → List Observation → Type 0
-AnswersAllUnshown store [] = Unit {0}
-AnswersAllUnshown store (o ∷ seen) = AnswersUnshown store o × AnswersAllUnshown store seen
 
 -- a memory, where there is one, holds bytes in whole pages (Core 1.0, 4.2.8)
 pub record HasBytes (store : Store) : Type 0 where
@@ -40,4 +29,4 @@ ShownStepsAreAnswered =
     (code : Code) (store other : Store) (frame : Frame) → SameKind store other → HasBytes store → HasBytes other
     → shown frame (execute code store frame) ≢ []
     → shown frame (execute code other frame) ≡ shown frame (execute code store frame)
-    → AnswersAllUnshown other (observed store frame) → AnswersAll other (observed store frame)
+    → AnswersUnshown other (observed store frame) → AnswersAll other (observed store frame)

@@ -1,1 +1,2 @@
+pub mod Unshown
 pub mod Laws
