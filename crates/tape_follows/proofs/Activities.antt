@@ -90,7 +90,7 @@ no_table_growth (Global global value ∷ effects) are = ap (λ o. option_or o No
 -- ---- a value that is needed
 
 -- it is found, and is not the known one
-needed_is : {X : Type 0} (same : X → X → Bool) (known : X) (found : Option X) (x : X)
+pub needed_is : {X : Type 0} (same : X → X → Bool) (known : X) (found : Option X) (x : X)
     → needed same known found ≡ Some x → (found ≡ Some x) × (same known x ≡ false)
 needed_is same known None x h = absurd (none-some x h)
 needed_is same known (Some y) x h =
@@ -98,7 +98,7 @@ needed_is same known (Some y) x h =
     let e = same_Some y x p.1 in (p.1, subst (λ z. same known z ≡ false) e p.0)
 
 -- with what is needed in place of what is known, what is found is there, else what is known
-needed_else : {X : Type 0} (same : X → X → Bool) → ((a b : X) → same a b ≡ true → a ≡ b) → (known : X)
+pub needed_else : {X : Type 0} (same : X → X → Bool) → ((a b : X) → same a b ≡ true → a ≡ b) → (known : X)
     (found : Option X) → unwrap_or (needed same known found) known ≡ unwrap_or found known
 needed_else same is known None = refl
 needed_else same is known (Some y) = go (same known y) refl

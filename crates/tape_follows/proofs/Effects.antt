@@ -197,7 +197,7 @@ grow_table_done store table is size more allowed =
         go false = refl
 
 module _ (store : Store) where
-  bytes_done : (memory : Option Memory) → store.memory ≡ memory → (address : ℕ) (bytes : List ℕ)
+  pub bytes_done : (memory : Option Memory) → store.memory ≡ memory → (address : ℕ) (bytes : List ℕ)
       → 0 < length bytes → address + length bytes ≤ memory_length memory
       → IsDone store (Bytes address bytes) (with_change store (Writes address bytes))
   bytes_done None is address bytes some fits = absurd (omega (arith, some, fits))
@@ -223,7 +223,7 @@ module _ (store : Store) where
       test : nat_le (address + length bytes) (length memory.bytes) ≡ true
       test = grind (arith, nat_tests, fits)
 
-  entry_done : (table : Option Table) → store.table ≡ table → (index : ℕ) (func : Option ℕ)
+  pub entry_done : (table : Option Table) → store.table ≡ table → (index : ℕ) (func : Option ℕ)
       → index < table_length table → IsDone store (Entry index func) (with_change store (WritesEntry index func))
   entry_done None is index func below = absurd (omega (arith, below))
   entry_done (Some table) is index func below =
@@ -248,7 +248,7 @@ module _ (store : Store) where
       test : nat_lt index (length table.entries) ≡ true
       test = grind (arith, nat_tests, below)
 
-  global_done : (global : ℕ) (value : Val) → global < length store.globals
+  pub global_done : (global : ℕ) (value : Val) → global < length store.globals
       → IsDone store (Global global value) (with_change store (WritesGlobal global value))
   global_done global value below =
       let c = gives_global store global value below in
@@ -316,7 +316,7 @@ last_among address bytes some =
     ∙ ap (slice_get bytes) same
     ∙ slice_get-get_or bytes (length bytes - 1) 0 (omega (arith, some))
 
-some_bytes : (address : ℕ) (bytes : List ℕ) → has_bytes (Bytes address bytes) ≡ true → 0 < length bytes
+pub some_bytes : (address : ℕ) (bytes : List ℕ) → has_bytes (Bytes address bytes) ≡ true → 0 < length bytes
 some_bytes address [] h = cc
 some_bytes address (b ∷ bytes) h = omega arith
 

@@ -33,13 +33,13 @@ pub one_global : (at : ℕ) (o : Observation) → (read_global at o ≡ None) �
 one_global at (ReadsGlobal global value) = inr refl
 one_global at o = inl refl
 
-read_bytes : (store : Store) (o : Observation) → Answers store o → (at x : ℕ) → read_byte at o ≡ Some x
+pub read_bytes : (store : Store) (o : Observation) → Answers store o → (at x : ℕ) → read_byte at o ≡ Some x
     → byte_of store.memory at ≡ x
 read_bytes store (Reads address bytes) answers at x h = answers at x h
 read_bytes store (Copies address bytes) answers at x h = answers at x h
 read_bytes store o answers at x h = absurd (none-some x h)
 
-read_entries : (store : Store) (o : Observation) → Answers store o → (at : ℕ) (x : Option ℕ)
+pub read_entries : (store : Store) (o : Observation) → Answers store o → (at : ℕ) (x : Option ℕ)
     → read_entry at o ≡ Some x → entry_of store.table at ≡ x
 read_entries store (ReadsEntry index func) answers at x h =
     let p = cond_some (nat_eq index at) (Some func) x h in
@@ -48,7 +48,7 @@ read_entries store (ReadsEntry index func) answers at x h =
     subst (λ n. entry_of store.table n ≡ x) same (answers ∙ same_Some func x p.1)
 read_entries store o answers at x h = absurd (none-some x h)
 
-read_globals : (store : Store) (o : Observation) → Answers store o → (at : ℕ) (x : Option Val)
+pub read_globals : (store : Store) (o : Observation) → Answers store o → (at : ℕ) (x : Option Val)
     → read_global at o ≡ Some x → slice_get store.globals at ≡ x
 read_globals store (ReadsGlobal global value) answers at x h =
     let p = cond_some (nat_eq global at) (Some (Some value)) x h in

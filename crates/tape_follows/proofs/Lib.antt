@@ -21,3 +21,12 @@ pub mod Simulation
 pub mod ModuleSteps
 pub mod AllSteps
 pub mod Whole
+pub mod DroppedPlaces
+pub mod DroppedStores
+pub mod DroppedSteps
+pub mod DroppedEffects
+pub mod DroppedActivity
+pub mod DroppedTypes
+pub mod DroppedEntries
+pub mod DroppedRuns
+pub mod DroppedTapes

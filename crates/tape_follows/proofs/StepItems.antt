@@ -69,7 +69,7 @@ module _ (store other : Store) (same : maxima other ≡ maxima store) where
   here_too (ResizesTable found left func) here = table_there here
   here_too o here = tt
 
-  same_pages : (o p : Option Memory) → option_map (λ m. m.max) p ≡ option_map (λ m. m.max) o
+  pub same_pages : (o p : Option Memory) → option_map (λ m. m.max) p ≡ option_map (λ m. m.max) o
       → BothOrNeither AllowSamePages o p
   same_pages None None e = tt
   same_pages None (Some m) e = cc
@@ -77,7 +77,7 @@ module _ (store other : Store) (same : maxima other ≡ maxima store) where
   same_pages (Some m) (Some n) e =
       λ size. ap (λ max. is_within size max && nat_le size MOST_PAGES) (same_Some n.max m.max e)
 
-  same_entries : (o p : Option Table) → option_map (λ t. t.max) p ≡ option_map (λ t. t.max) o
+  pub same_entries : (o p : Option Table) → option_map (λ t. t.max) p ≡ option_map (λ t. t.max) o
       → BothOrNeither AllowSameEntries o p
   same_entries None None e = tt
   same_entries None (Some t) e = cc
@@ -127,7 +127,7 @@ read_possible store (ResizesTable found left func) r = absurd r
 read_possible store (WritesGlobal global value) r = absurd r
 read_possible store o r = tt
 
-read_changes : (store : Store) (o : Observation) → IsRead o → with_change store o ≡ store
+pub read_changes : (store : Store) (o : Observation) → IsRead o → with_change store o ≡ store
 read_changes store (Writes address bytes) r = absurd r
 read_changes store (Resizes found left) r = absurd r
 read_changes store (WritesEntry index func) r = absurd r

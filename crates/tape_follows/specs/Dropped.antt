@@ -14,23 +14,13 @@ use Rattle.history_spec.specs.Store.{Store}
 use Rattle.history_spec.specs.Code.{code_of}
 use Rattle.history_spec.specs.Instantiation.{instantiate}
 use Rattle.history_spec.specs.Run.{all_one, program_of, start_in_store, run_from}
-use Rattle.replay_spec.specs.Observations.{Observation, Begins, Ends, Copies, ResizesTable, run_observations}
-use Rattle.replay_spec.specs.Known.{byte_among, carried_byte, last_some}
-use Rattle.replay_spec.specs.Windows.{window, first_read}
+use Rattle.replay_spec.specs.Observations.{Observation, Begins, Ends, ResizesTable, run_observations}
+use Rattle.replay_spec.specs.Known.{last_some}
+use Rattle.replay_spec.specs.Windows.{window}
 use Rattle.replay_spec.specs.Needed.{effect_byte, effect_entry, effect_global, effect_pages, effect_entries, has_bytes, IsNeededTape}
 use Rattle.replay_spec.specs.TapeRun.{TapeResult, Disagrees, tape_result, tape_run}
+use Rattle.shown_steps.specs.Unshown.{first_copied}
 use Rattle.type_safety.specs.Supplies.{IsRunnable}
-
--- ---- what no entry may show
-
--- the byte at an address that a copy reads
-abbrev pub copied_byte : (at : ℕ) → Observation → Option ℕ
-copied_byte at (Copies address bytes) = byte_among address bytes at
-copied_byte at o = None
-
--- the byte that a window's first touch of the address reads, where that is a copy
-abbrev pub first_copied : List Observation → (at : ℕ) → Option ℕ
-first_copied window at = first_read (copied_byte at) (carried_byte at) window
 
 -- a size of the table is found by `table.size` or `table.grow`, which replay modules alone have (Core 2.0, 4.4.6)
 abbrev pub resizes_table : Observation → Bool

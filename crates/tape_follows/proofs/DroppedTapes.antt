@@ -1,0 +1,49 @@
+-- Nothing can be taken out of the tape that a run needs.
+use Rattle.std.proofs.Common.{[], refl, inl}
+use Rattle.history_spec.specs.Store.{Store}
+use Rattle.history_spec.specs.Run.{program_of, start_in_store}
+use Rattle.replay_spec.specs.Observations.{run_observations}
+use Rattle.replay_spec.specs.Known.{opening_known}
+use Rattle.shown_steps.specs.Laws.{ShownStepsAreAnswered}
+use Rattle.tape_follows.specs.Dropped.{NothingCanBeDropped}
+use Rattle.tape_follows.proofs.Activities.{HasSizes}
+use Rattle.tape_follows.proofs.HostStores.{sizes_of}
+use Rattle.tape_follows.proofs.Simulation.{Laws}
+use Rattle.tape_follows.proofs.AllSteps.{started}
+use Rattle.tape_follows.proofs.Whole.{Safety}
+use Rattle.tape_follows.proofs.DroppedStores.{HoldsLess}
+use Rattle.tape_follows.proofs.DroppedRuns.{lacks, lacks_closed}
+
+opening_holds_less : (store : Store) → HasSizes store → HoldsLess (opening_known store) [] store
+opening_holds_less store sizes =
+    record {
+      pages = inl sizes.whole;
+      entries = inl refl;
+      byte = λ at. inl refl;
+      entry = λ at. inl refl;
+      global = λ at. inl refl;
+    }
+
+pub nothing_can_be_dropped : Laws → Safety → ShownStepsAreAnswered → NothingCanBeDropped
+nothing_can_be_dropped laws safety answered m script supply store segments left runnable fits links opens needed are
+    apart =
+    let h = safety.heights m runnable.valid in
+    let typed = safety.code m h.0 runnable.valid runnable.supported h.1 in
+    let is = safety.store m supply store runnable (safety.supplied m script supply fits links) opens in
+    let safe = safety.starts m h.0 (program_of m script) store script.main runnable.valid typed
+    (record { code = refl; answers = fits.imports }) is fits.main in
+    let closed = lacks_closed laws.alike answered laws.rules m h.0 runnable.valid typed in
+    let f = started laws m h.0 runnable.valid typed script.imports fits.imports (lacks m) closed needed.count script.main
+    store is m.start safe in
+    let kept = safety.kept (opening_known store)
+    (run_observations (program_of m script) (start_in_store m script store) needed.count) segments in
+    f.shows store left needed.outcome refl
+    (record {
+      whole = segments;
+      needed = kept.0 needed.needed;
+      are_left = are;
+      holds = opening_holds_less store (sizes_of m store is);
+      typed = is;
+      lacks = λ same held. apart same;
+    })
+    needed.ends
