@@ -58,7 +58,7 @@ entries_allowed (Some t) h table e size low =
 
 -- ---- sizes that are needed
 
-size_needed : (known found size : ℕ) → Some size ≡ needed nat_eq known (Some found)
+pub size_needed : (known found size : ℕ) → Some size ≡ needed nat_eq known (Some found)
     → (size ≡ found) × (nat_eq known found ≡ false)
 size_needed known found size h =
     let p = cond_none_some (nat_eq known found) (Some found) size (sym h) in (sym (same_Some found size p.1), p.0)
@@ -79,7 +79,7 @@ table_has None at below = absurd (omega (arith, below))
 table_has (Some t) at below = (t, refl)
 
 -- a size that differs from the known one is one of what is there
-memory_seen : (o : Option Memory) (known found : ℕ) → known ≤ found → found ≤ pages_of o
+pub memory_seen : (o : Option Memory) (known found : ℕ) → known ≤ found → found ≤ pages_of o
     → nat_eq known found ≡ false → IsThere o
 memory_seen None known found more low differs =
     let same : known ≡ found = omega (arith, more, low) in
@@ -87,7 +87,7 @@ memory_seen None known found more low differs =
     cc
 memory_seen (Some m) known found more low differs = (m, refl)
 
-table_seen : (o : Option Table) (known found : ℕ) → known ≤ found → found ≤ table_length o
+pub table_seen : (o : Option Table) (known found : ℕ) → known ≤ found → found ≤ table_length o
     → nat_eq known found ≡ false → IsThere o
 table_seen None known found more low differs =
     let same : known ≡ found = omega (arith, more, low) in
@@ -95,7 +95,7 @@ table_seen None known found more low differs =
     cc
 table_seen (Some t) known found more low differs = (t, refl)
 
-or_nothing : {X : Type 0} (o : Option X) → option_or o None ≡ o
+pub or_nothing : {X : Type 0} (o : Option X) → option_or o None ≡ o
 or_nothing None = refl
 or_nothing (Some x) = refl
 

@@ -41,7 +41,7 @@ use Rattle.tape_follows.proofs.ModuleSteps.{executed}
 
 -- ---- where the run begins
 
-opening_is_known : (store : Store) → HasSizes store → IsKnownOf (opening_known store) store
+pub opening_is_known : (store : Store) → HasSizes store → IsKnownOf (opening_known store) store
 opening_is_known store sizes =
     record {
       pages = omega arith;

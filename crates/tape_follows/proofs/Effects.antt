@@ -282,11 +282,11 @@ pub record AreWithin (store : Store) (effects : List Effect) : Type 0 where
   pub entries : (at : ℕ) (x : Option ℕ) → last_some (effect_entry at) effects ≡ Some x → at < table_length store.table
   pub globals : (at : ℕ) (x : Option Val) → last_some (effect_global at) effects ≡ Some x → at < length store.globals
 
-or_first : {X : Type 0} (a b : Option X) (x : X) → a ≡ Some x → option_or a b ≡ Some x
+pub or_first : {X : Type 0} (a b : Option X) (x : X) → a ≡ Some x → option_or a b ≡ Some x
 or_first (Some y) b x h = h
 or_first None b x h = absurd (none-some x h)
 
-or_second : {X : Type 0} (a b : Option X) (x : X) → b ≡ Some x → (y : X) × (option_or a b ≡ Some y)
+pub or_second : {X : Type 0} (a b : Option X) (x : X) → b ≡ Some x → (y : X) × (option_or a b ≡ Some y)
 or_second (Some y) b x h = (y, refl)
 or_second None b x h = (x, h)
 
@@ -306,7 +306,7 @@ within_rest store next effect effects long entries count within =
           (within.globals at x (or_first (last_some (effect_global at) effects) (effect_global at effect) x h));
     }
 
-last_among : (address : ℕ) (bytes : List ℕ) → 0 < length bytes
+pub last_among : (address : ℕ) (bytes : List ℕ) → 0 < length bytes
     → byte_among address bytes (address + (length bytes - 1)) ≡ Some (slice_index bytes (length bytes - 1))
 last_among address bytes some =
     let place : ℕ = length bytes - 1 in

@@ -8,10 +8,11 @@ use Rattle.history_spec.specs.Store.{Store}
 use Rattle.history_spec.specs.Configuration.{Activation, InModule, InMain, InImport}
 use Rattle.history_spec.specs.Step.{Program, Finished, StepResult}
 use Rattle.history_spec.specs.Run.{all_one, steps}
-use Rattle.replay_spec.specs.Observations.{Observation, Begins, activity_observations, observations}
+use Rattle.replay_spec.specs.Observations.{Observation, Begins}
 use Rattle.replay_spec.specs.Known.{Known}
 use Rattle.replay_spec.specs.Windows.{window}
 use Rattle.replay_spec.specs.TapeRun.{pause, TapeResult}
+pub use Rattle.tape_follows.specs.RealReads.{observed_from, IsModule, AreNested}
 use Rattle.tape_follows.proofs.Stores.{maxima}
 use Rattle.tape_follows.proofs.Relation.{IsReadOf}
 use Rattle.tape_follows.proofs.Claims.{Claim}
@@ -30,10 +31,6 @@ abbrev pub pending : List Activation → Origin → List Observation → List Ob
 pending (InModule frame ∷ below) came seen = seen
 pending stack came seen = Begins came ∷ seen
 
--- the observations of a step's activities, and of so many steps after it
-abbrev pub observed_from : Program → ℕ → StepResult → List Observation
-observed_from program k s = activity_observations s.entries ++ observations program k s.next
-
 -- What is read first from a step's result on is the store's; and where the run has an outcome within so many steps
 -- after it, the tape's run comes to what is claimed, from a store and segments with which it may go on.
 pub record Follows (claim : Claim) (program : Program) (k : ℕ) (known : Known) (store : Store)
@@ -43,14 +40,3 @@ pub record Follows (claim : Claim) (program : Program) (k : ℕ) (known : Known)
       → maxima other ≡ maxima store → claim.ready known left other segments
       → (steps program all_one k s.next).at ≡ Finished outcome
       → claim.comes program.code (tape other segments) (s.entries ++ (steps program all_one k s.next).history) outcome
-
--- an activation of an import stands above one of the module, and the host's own work above nothing
-abbrev pub IsModule : List Activation → Type 0
-IsModule (InModule frame ∷ below) = Unit {0}
-IsModule stack = ⊥
-
-abbrev pub AreNested : List Activation → Type 0
-AreNested [] = Unit {0}
-AreNested (InModule frame ∷ below) = AreNested below
-AreNested (InMain actions ∷ below) = below ≡ []
-AreNested (InImport import args actions end ∷ below) = IsModule below × AreNested below

@@ -64,7 +64,7 @@ module _ (m : Module) where
         entries = table_sizes (all_tables m) store.table is.table;
       }
 
-  type_at : (n : ℕ) (types : List ValType) (values : List Val) (x : ℕ) → AreValues n types values
+  pub type_at : (n : ℕ) (types : List ValType) (values : List Val) (x : ℕ) → AreValues n types values
       → option_map (λ value. value.ty) (slice_get values x) ≡ slice_get types x
   type_at n [] [] x h = refl
   type_at n [] (v ∷ values) x h = absurd h
@@ -94,15 +94,15 @@ pub record IsHostChange (store after : Store) : Type 0 where
   pub entries : table_length store.table ≤ table_length after.table
   pub same : maxima after ≡ maxima store
 
-same_changes : (a b : Store) → Changes a ≡ Changes b → a ≡ b
+pub same_changes : (a b : Store) → Changes a ≡ Changes b → a ≡ b
 same_changes a b h = cc
 
-on_changes : {X : Type 0} (o : Option X) (go : X → ActionResult) (after : Store) → on o go ≡ Changes after
+pub on_changes : {X : Type 0} (o : Option X) (go : X → ActionResult) (after : Store) → on o go ≡ Changes after
     → (x : X) × (o ≡ Some x) × (go x ≡ Changes after)
 on_changes None go after h = cc
 on_changes (Some x) go after h = (x, refl, h)
 
-fault_changes : {X : Type 0} (kind : FaultKind) (o : Option X) (go : X → ActionResult) (after : Store)
+pub fault_changes : {X : Type 0} (kind : FaultKind) (o : Option X) (go : X → ActionResult) (after : Store)
     → or_fault kind o go ≡ Changes after → (x : X) × (o ≡ Some x) × (go x ≡ Changes after)
 fault_changes kind None go after h = cc
 fault_changes kind (Some x) go after h = (x, refl, h)
@@ -158,7 +158,7 @@ grown_table_is true table by func larger h =
       sym (ap (λ (t : Table). t.max) is),
     )
 
-no_call : (code : Code) (args : List Val) (o : Option ℕ) (after : Store) → calls_entry code args o ≡ Changes after → ⊥
+pub no_call : (code : Code) (args : List Val) (o : Option ℕ) (after : Store) → calls_entry code args o ≡ Changes after → ⊥
 no_call code args None after h = cc
 no_call code args (Some func) after h = go (nat_lt func code.imported) h
   where

@@ -12,6 +12,8 @@ pub mod Same
 pub mod Activities
 pub mod Activity
 pub mod HostStores
+pub mod KeptStores
+pub mod KeptSteps
 pub mod Claims
 pub mod Closed
 pub mod Follows
@@ -30,3 +32,12 @@ pub mod DroppedTypes
 pub mod DroppedEntries
 pub mod DroppedRuns
 pub mod DroppedTapes
+pub mod RealReads
+pub mod RunReads
+pub mod FitEffects
+pub mod Placed
+pub mod NeededEffects
+pub mod KeptActions
+pub mod FitSegments
+pub mod FitActivities
+pub mod NeededTape

@@ -1,11 +1,7 @@
 -- A step of the module in the scripted run and in a tape's run.
-use Rattle.std.proofs.Common.{◌≡◌, ℕ, ◌+◌, List, [], ◌∷◌, ◌++◌, Option, Some, None, slice_get, refl, sym, subst}
-use Rattle.std.specs.List.{slice_index_or}
-use Rattle.wasm_syntax.specs.declared.values.Val.{Val}
+use Rattle.std.proofs.Common.{◌≡◌, ℕ, List, [], ◌∷◌, ◌++◌, Option, refl, sym, subst}
 use Rattle.wasm_syntax.specs.declared.signatures.FuncType.{FuncType}
 use Rattle.wasm_syntax.specs.declared.modules.Module.{Module}
-use Rattle.wasm_syntax.specs.declared.instructions.Instr.TheVariants.{GlobalSet}
-use Rattle.wasm_syntax.specs.Nest.{Nest, Plain}
 use Rattle.wasm_syntax.specs.Validity.{IsValid}
 use Rattle.host_script.specs.declared.scripts.Answer.{Answer}
 use Rattle.host_script.specs.Fits.{FitAnswers}
@@ -13,20 +9,18 @@ use Rattle.run_outcomes.specs.declared.outcomes.Outcome.TheVariants.{Trapped}
 use Rattle.trace_model.specs.declared.tapes.Origin.{Origin}
 use Rattle.history_spec.specs.declared.entries.Entry.{Entry}
 use Rattle.history_spec.specs.declared.entries.Entry.TheVariants.{Step, Trap}
-use Rattle.history_spec.specs.declared.entries.TrapKind.{TrapKind}
-use Rattle.history_spec.specs.Store.{Store, with_global}
+use Rattle.history_spec.specs.Store.{Store}
 use Rattle.history_spec.specs.Code.{Code, Definition, code_of}
-use Rattle.history_spec.specs.Configuration.{Place, place, Frame, Activation, InModule, Config}
-use Rattle.history_spec.specs.Instruction.{Execution, Did, Traps, NoRule, Operands, on, pop, gives, execute, execute_at}
+use Rattle.history_spec.specs.Configuration.{Frame, Activation, InModule, Config}
+use Rattle.history_spec.specs.Instruction.{Execution, Did, Traps, NoRule, execute}
 use Rattle.history_spec.specs.Step.{Program, Finished, StepResult, step_result, after_entries, after_control, after_instruction}
 use Rattle.history_spec.specs.Run.{all_one, steps}
-use Rattle.replay_spec.specs.Observations.{Observation, nest_observations, plain_observations}
+use Rattle.replay_spec.specs.Observations.{Observation}
 use Rattle.replay_spec.specs.Known.{Known, known_after_all}
 use Rattle.replay_spec.specs.Windows.{window}
 use Rattle.replay_spec.specs.TapeRun.{program_awaiting, after_step}
-use Rattle.observed_steps.specs.Changes.{CanChangeAll, with_changes}
-use Rattle.observed_steps.specs.Executions.{in_store, IsDoneAlike, IsExecutedAlike}
-use Rattle.observed_steps.specs.StoreAnswers.{HasWholePages}
+use Rattle.observed_steps.specs.Changes.{with_changes}
+use Rattle.observed_steps.specs.Executions.{in_store}
 use Rattle.observed_steps.specs.Laws.{observed}
 use Rattle.type_safety.specs.Configurations.{IsConfig, IsSafe, IsTypedCode, scope}
 use Rattle.type_safety.specs.Heights.{Heights}
@@ -36,36 +30,10 @@ use Rattle.tape_follows.proofs.Claims.{Claim}
 use Rattle.tape_follows.proofs.Closed.{IsBeforeInstruction, tape_at, IsClosed}
 use Rattle.tape_follows.proofs.Follows.{all_paused, observed_from, Follows, AreNested}
 use Rattle.tape_follows.proofs.StepItems.{known_of_all, read_of_all, nothing_read}
-use Rattle.tape_follows.proofs.Seen.{step_seen}
-use Rattle.tape_follows.proofs.HostStores.{sizes_of, whole_pages_of}
+use Rattle.tape_follows.proofs.KeptSteps.{trap_seen, done_seen, left_is}
 use Rattle.tape_follows.proofs.Parts.{window_after, finished_observations, finished_history, finished_outcome, follows_entry}
 use Rattle.tape_follows.proofs.Simulation as sim
 use Rattle.tape_follows.proofs.Simulation.{Laws}
-
--- a value given to a global never traps
-global_never_traps : (code : Code) (store : Store) (frame : Frame) (x : ℕ) (rest : Nest) (kind : TrapKind)
-    (operands : List Val) (found : Option ℕ) → frame.at.rest ≡ Plain (GlobalSet x) rest
-    → execute code store frame ≡ Traps kind operands found → ⊥
-global_never_traps code store frame x rest kind operands found is h =
-    go (slice_get store.globals x)
-    (subst (λ nest. execute_at code store frame nest frame.at.number ≡ Traps kind operands found) is h)
-  where
-    next : Place
-    next = place rest (frame.at.number + 1)
-
-    taken : (old : Val) (o : Option Operands)
-        → on o (λ p. gives
-        (with_global store x (slice_index_or p.operands 0 old)) frame next p.operands p.rest [])
-        ≡ Traps kind operands found → ⊥
-    taken old None h = cc
-    taken old (Some p) h = cc
-
-    go : (o : Option Val)
-        → on o (λ old. on (pop (old.ty ∷ []) frame.values) (λ p. gives
-        (with_global store x (slice_index_or p.operands 0 old)) frame next p.operands p.rest []))
-        ≡ Traps kind operands found → ⊥
-    go None h = cc
-    go (Some old) h = taken old (pop (old.ty ∷ []) frame.values) h
 
 module _ (laws : Laws) (m : Module) (heights : Heights) (valid : IsValid m) (typed : IsTypedCode m heights)
     (answers : List (Option Answer)) (fits : FitAnswers m answers) (claim : Claim) (closed : IsClosed claim m heights)
@@ -88,15 +56,6 @@ module _ (laws : Laws) (m : Module) (heights : Heights) (valid : IsValid m) (typ
 
       abbrev items : List Observation
       items = observed store frame
-
-      whole : HasWholePages store
-      whole = whole_pages_of store (sizes_of m store fine.store)
-
-      seen : ((x : ℕ) (rest : Nest) → frame.at.rest ≡ Plain (GlobalSet x) rest
-          → CanChangeAll store (plain_observations store frame.values (GlobalSet x))) → AreSeen known store items
-      seen sets =
-          step_seen known store whole frame.values frame.at.rest sets
-          (laws.answers store frame.values frame.at.rest whole)
 
       before : AreSeen known store items → IsBeforeInstruction m heights known store frame
       before are =
@@ -138,7 +97,7 @@ module _ (laws : Laws) (m : Module) (heights : Heights) (valid : IsValid m) (typ
           })
         where
           are : AreSeen known store items
-          are = seen (λ x rest is. absurd (global_never_traps code store frame x rest kind operands found is e))
+          are = trap_seen laws.own laws.answers m code store fine.store frame known kind operands found e
 
           history : List Entry
           history =
@@ -153,13 +112,8 @@ module _ (laws : Laws) (m : Module) (heights : Heights) (valid : IsValid m) (typ
                 (λ after left kept ready. next.shows after left outcome kept ready h) other segments same ready;
           }
         where
-          own : IsDoneAlike code store store items frame operands results found control (execute code store frame)
-          own = subst (λ first. IsExecutedAlike code store store items frame first (execute code store frame)) e
-              (laws.own code store frame whole)
-
           are : AreSeen known store items
-          are = seen (λ x rest is.
-              subst (λ nest. CanChangeAll store (nest_observations store frame.values nest)) is own.first_store.possible)
+          are = done_seen laws.own laws.answers m code store fine.store frame known operands results found control e
 
           s : StepResult
           s = after_control program config frame below control
@@ -183,4 +137,4 @@ module _ (laws : Laws) (m : Module) (heights : Heights) (valid : IsValid m) (typ
               _ _ (Step frame.func frame.at.number operands results found) (λ other segments. refl)
               (sim.controlled laws m heights valid typed answers fits claim closed k delivers frame below store
               (with_changes store items) counts (known_after_all known items) came ty body control nested fine.store rule
-              own.first_store.changed (known_of_all known store items are of) safe)
+              (left_is laws.own laws.answers m code store fine.store frame known operands results found control e) (known_of_all known store items are of) safe)

@@ -1,2 +1,4 @@
+pub mod RealReads
 pub mod Laws
 pub mod Dropped
+pub mod NeededTape

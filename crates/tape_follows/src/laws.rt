@@ -1,10 +1,12 @@
 // The laws of tapes, each the contract of a function; the statements stand in `specs/`.
 
-ghost use Rattle.tape_follows.specs.Laws.{NeededTapesReplayRuns};
 ghost use Rattle.tape_follows.specs.Dropped.{NothingCanBeDropped};
+ghost use Rattle.tape_follows.specs.Laws.{NeededTapesReplayRuns};
+ghost use Rattle.tape_follows.specs.NeededTape.{NeededTapesFit, RunsHaveOneNeededTape};
+ghost use Rattle.tape_follows.specs.RealReads.{ReadsAreReal, ReadsAreRealAfterSettling, RunsReadWhatIsThere};
 
 use observed_steps::{observed_steps, own_answers, own_steps};
-use replay_spec::needed_segments_are_kept;
+use replay_spec::{needed_segments_are_kept, needed_tape_is_one};
 use shown_steps::shown_steps;
 use type_safety::{rules_hold, safe_steps, typed_code, typed_store};
 
@@ -13,6 +15,63 @@ pub fn needed_tape_replays()
     ensures { NeededTapesReplayRuns }
 {
     needed_segments_are_kept();
+    observed_steps();
+    own_answers();
+    own_steps();
+    typed_code();
+    typed_store();
+    rules_hold();
+    safe_steps();
+}
+
+/// What a window reads first of the store is what that holds where the window begins, and the sizes that it finds are
+/// the store's: at a configuration within the module, and where results come to the module.
+pub fn reads_are_real()
+    ensures configurations { ReadsAreReal }
+    ensures settling { ReadsAreRealAfterSettling }
+{
+    observed_steps();
+    own_answers();
+    own_steps();
+    rules_hold();
+    safe_steps();
+}
+
+/// So it is wherever a scripted run goes on, with what is kept of the observations so far.
+pub fn runs_read_what_is_there()
+    ensures { RunsReadWhatIsThere }
+{
+    needed_segments_are_kept();
+    observed_steps();
+    own_answers();
+    own_steps();
+    typed_code();
+    typed_store();
+    rules_hold();
+    safe_steps();
+}
+
+/// A needed tape fits the module.
+pub fn needed_tape_fits()
+    ensures { NeededTapesFit }
+{
+    needed_segments_are_kept();
+    observed_steps();
+    own_answers();
+    own_steps();
+    typed_code();
+    typed_store();
+    rules_hold();
+    safe_steps();
+}
+
+/// A run with an outcome has just one needed tape. It fits the module, and its run never disagrees and has just the
+/// run's history and outcome.
+pub fn run_has_one_needed_tape()
+    ensures { RunsHaveOneNeededTape }
+{
+    needed_segments_are_kept();
+    needed_tape_is_one();
     observed_steps();
     own_answers();
     own_steps();

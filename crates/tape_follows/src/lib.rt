@@ -1,7 +1,11 @@
-//! The tape that a run needs replays it, and nothing can be taken out of it: laws about the definitions, whose statements
-//! stand in `specs/`; each function does nothing.
+//! A run with an outcome needs just one tape; this fits the module and replays the run, and nothing can be taken out of
+//! it. What a run reads is there. Each function is a law about the definitions, whose statement stands in `specs/`; it
+//! does nothing.
 #![tactic(auto)]
 
 pub mod laws;
 
-pub use laws::{needed_tape_replays, nothing_can_be_dropped};
+pub use laws::{
+    needed_tape_fits, needed_tape_replays, nothing_can_be_dropped, reads_are_real,
+    run_has_one_needed_tape, runs_read_what_is_there,
+};

@@ -1,0 +1,86 @@
+-- A run with an outcome has just one needed tape; it fits the module, and replays the run.
+use Rattle.std.proofs.Common.{◌≡◌, ℕ, [], Ok, refl}
+use Rattle.wasm_syntax.specs.declared.modules.Module.{Module}
+use Rattle.host_script.specs.declared.scripts.Script.{Script}
+use Rattle.host_script.specs.declared.scripts.Supply.{Supply}
+use Rattle.host_script.specs.Fits.{Fits}
+use Rattle.host_script.specs.Supply.{supply_of}
+use Rattle.run_outcomes.specs.declared.outcomes.Outcome.{Outcome}
+use Rattle.history_spec.specs.Store.{Store}
+use Rattle.history_spec.specs.Instantiation.{instantiate}
+use Rattle.history_spec.specs.Step.{Program, Finished, StepResult}
+use Rattle.history_spec.specs.Run.{all_one, program_of, start_in_store, run_from}
+use Rattle.replay_spec.specs.Laws.{NeededTapeIsOne}
+use Rattle.replay_spec.specs.Known.{opening_known}
+use Rattle.replay_spec.specs.Needed.{IsNeededTape}
+use Rattle.replay_spec.specs.Observations.{run_observations}
+use Rattle.type_safety.specs.Supplies.{IsRunnable}
+use Rattle.tape_follows.specs.RealReads.{observed_from}
+use Rattle.tape_follows.specs.NeededTape.{NeededTapesFit, RunsHaveOneNeededTape}
+use Rattle.tape_follows.proofs.HostStores.{sizes_of}
+use Rattle.tape_follows.proofs.Simulation.{Laws}
+use Rattle.tape_follows.proofs.AllSteps.{opening_is_known}
+use Rattle.tape_follows.proofs.Whole.{Safety, needed_tape_replays}
+use Rattle.tape_follows.proofs.RealReads.{reads_are_real_after_settling}
+use Rattle.tape_follows.proofs.KeptStores.{new_declared, IsKept}
+use Rattle.tape_follows.proofs.FitSegments.{AreFromEnd, first_needed, first_fits}
+use Rattle.tape_follows.proofs.FitActivities.{from_start}
+
+module _ (laws : Laws) (safety : Safety) (m : Module) (script : Script) (supply : Supply) (store : Store)
+    (runnable : IsRunnable m) (fits : Fits m script) (links : supply_of m script ≡ Ok supply)
+    (opens : instantiate m supply ≡ Ok store) where
+  abbrev program : Program
+  program = program_of m script
+
+  abbrev initial : StepResult
+  initial = start_in_store m script store
+
+  -- the activities of the run fit
+  run_fits : (count : ℕ) (outcome : Outcome) → (run_from program all_one initial count).at ≡ Finished outcome
+      → AreFromEnd m (opening_known store) [] (observed_from program count initial)
+  run_fits count outcome ends =
+      let h = safety.heights m runnable.valid in
+      let typed = safety.code m h.0 runnable.valid runnable.supported h.1 in
+      let matches = safety.supplied m script supply fits links in
+      let is = safety.store m supply store runnable matches opens in
+      let safe = safety.starts m h.0 program store script.main runnable.valid typed
+      (record { code = refl; answers = fits.imports }) is fits.main in
+      let kept : IsKept m (opening_known store) store = record {
+        is = is;
+        of = opening_is_known store (sizes_of m store is);
+        declared = new_declared m supply store matches opens;
+        immutable = λ at ty there fixed. refl;
+      } in
+      from_start laws (reads_are_real_after_settling laws) m h.0 runnable.valid typed script.imports fits.imports count
+      script.main store (opening_known store) kept m.start runnable.valid.outside.start safe (outcome, ends)
+
+pub needed_tapes_fit : Laws → Safety → NeededTapesFit
+needed_tapes_fit laws safety m script supply store segments runnable fits links opens needed =
+    first_fits m (opening_known store) (observed_from (program_of m script) needed.count (start_in_store m script store))
+    segments
+    (run_fits laws safety m script supply store runnable fits links opens needed.count needed.outcome needed.ends)
+    ((safety.kept (opening_known store)
+    (run_observations (program_of m script) (start_in_store m script store) needed.count) segments).0 needed.needed)
+
+pub runs_have_one_needed_tape : Laws → Safety → NeededTapeIsOne → RunsHaveOneNeededTape
+runs_have_one_needed_tape laws safety one m script supply store count outcome runnable fits links opens ends =
+    let program = program_of m script in
+    let initial = start_in_store m script store in
+    let found = first_needed m (opening_known store) (observed_from program count initial)
+    (run_fits laws safety m script supply store runnable fits links opens count outcome ends) in
+    let needed : IsNeededTape program initial store found.0 = record {
+      count = count;
+      outcome = outcome;
+      ends = ends;
+      needed = (safety.kept (opening_known store) (run_observations program initial count) found.0).1 found.1;
+    } in (
+      found.0,
+      record {
+        is_needed = needed;
+        is_one = λ others other. one program initial store others found.0 other needed;
+        fits = needed_tapes_fit laws safety m script supply store found.0 runnable fits links opens needed;
+        replays =
+            needed_tape_replays laws safety m script supply store found.0 count outcome runnable fits links opens needed
+            ends;
+      },
+    )
