@@ -48,8 +48,8 @@ same_result func number operands found ty a b h =
     same : first ≡ second
     same = one first second h
       where
-        one : (v w : Val) → Step func number operands (v ∷ []) found ∷ [] ≡ Step func number operands (w ∷ []) found ∷ []
-            → v ≡ w
+        one : (v w : Val)
+            → Step func number operands (v ∷ []) found ∷ [] ≡ Step func number operands (w ∷ []) found ∷ [] → v ≡ w
         one v w h = cc
 
 module _ (code : Code) (store other : Store) (frame : Frame) (next : Place) where
@@ -113,7 +113,8 @@ module _ (code : Code) (store other : Store) (frame : Frame) (next : Place) wher
         here m b = cond b (Some (range m.bytes address width)) None
 
         seen : Bool → List Observation
-        seen b = Reaches (address + width) (pages memory) ∷ observed_on (here memory b) (λ bytes. Reads address bytes ∷ [])
+        seen b =
+            Reaches (address + width) (pages memory) ∷ observed_on (here memory b) (λ bytes. Reads address bytes ∷ [])
 
         go : (b : Bool) → nat_le (address + width) (length memory.bytes) ≡ b
             → (b' : Bool) → nat_le (address + width) (length memory'.bytes) ≡ b'
@@ -154,7 +155,8 @@ module _ (code : Code) (store other : Store) (frame : Frame) (next : Place) wher
         here m b = cond b (Some (with_items_at m.bytes address bytes)) None
 
         seen : Bool → List Observation
-        seen b = Reaches (address + count) (pages memory) ∷ observed_on (here memory b) (λ all. Writes address bytes ∷ [])
+        seen b =
+            Reaches (address + count) (pages memory) ∷ observed_on (here memory b) (λ all. Writes address bytes ∷ [])
 
         go : (b : Bool) → nat_le (address + length bytes) (length memory.bytes) ≡ b
             → (b' : Bool) → nat_le (address + length bytes) (length memory'.bytes) ≡ b'
@@ -247,7 +249,8 @@ module _ (code : Code) (store other : Store) (frame : Frame) (next : Place) wher
             let bytes = range memory.bytes source count in
             let bytes' = range memory'.bytes source count in
             within e e' bytes bytes' (range_length memory.bytes source count e)
-            (range_length memory'.bytes source count e') (inside memory bytes) refl (inside memory' bytes') refl h unshown
+            (range_length memory'.bytes source count e') (inside memory bytes) refl (inside memory' bytes') refl h
+            unshown
         go false e false e' h unshown = let size : pages memory' ≡ pages memory = cc in trapped size
         go true e false e' h unshown =
             let bytes = range memory.bytes source count in first_traps bytes (inside memory bytes) h
@@ -323,7 +326,8 @@ module _ (code : Code) (store other : Store) (frame : Frame) (next : Place) wher
         parts_shown other frame AllowSamePages store.memory other.memory _ _ _ kind (λ memory memory' is is'.
         takes_shown other frame _ (I32 ∷ I32 ∷ I32 ∷ []) _ _ (λ operands rest are.
         rw (bits_same are 0 2 refl, bits_same are 1 1 refl, bits_same are 2 0 refl)
-        (copy_at memory memory' of of' is is' operands rest (bits_from_top frame.values 2) (bits_from_top frame.values 1)
+        (copy_at memory memory' of of' is is' operands rest (bits_from_top frame.values 2)
+        (bits_from_top frame.values 1)
         (bits_from_top frame.values 0))))
 
     pub size_shown : Shows MemorySize

@@ -110,7 +110,8 @@ same_loaded op access is bytes others long longer small smaller h =
     from = 8 * access.width
 
     go : (b : Bool)
-        → extend_if b (bits_of access.ty) from (number_of bytes) ≡ extend_if b (bits_of access.ty) from (number_of others)
+        → extend_if b (bits_of access.ty) from (number_of bytes)
+        ≡ extend_if b (bits_of access.ty) from (number_of others)
         → number_of bytes ≡ number_of others
     go false e = e
     go true e =

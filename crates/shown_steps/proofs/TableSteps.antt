@@ -74,7 +74,8 @@ module _ (code : Code) (store other : Store) (frame : Frame) (next : Place) wher
             (ReachesEntry index (length table.entries)
             ∷ observed_on (here table b) (λ all. WritesEntry index func ∷ []))
         go true e true e' h = (within_both index e e', (tt, tt))
-        go false e false e' h = let size : length table'.entries ≡ length table.entries = cc in (same_size size index, tt)
+        go false e false e' h =
+            let size : length table'.entries ≡ length table.entries = cc in (same_size size index, tt)
         go true e false e' h = cc
         go false e true e' h = cc
 

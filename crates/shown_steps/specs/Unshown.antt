@@ -1,5 +1,5 @@
--- What no entry shows of a store: a copy moves what it reads within the memory, and a growth of the table that fails does
--- not tell the size.
+-- What no entry shows of a store: a copy moves what it reads within the memory, and a growth of the table that fails
+-- does not tell the size.
 use Rattle.std.specs.Prelude.{◌≡◌, ℕ, List, [], ◌∷◌, Option, Some, None}
 use Rattle.history_spec.specs.Store.{Store}
 use Rattle.history_spec.specs.Instantiation.{table_length}

@@ -79,114 +79,115 @@ opening_holds store sizes =
     count (Some t) = refl
 
 module _ (laws : Laws) (m : Module) (heights : Heights) (valid : IsValid m) (typed : IsTypedCode m heights)
-    (answers : List (Option Answer)) (fits : FitAnswers m answers) (claim : Claim) (closed : IsClosed claim m heights)
-  where
-    abbrev program : Program
-    program = record { code = code_of m; answers = answers }
+    (answers : List (Option Answer)) (fits : FitAnswers m answers) (claim : Claim)
+    (closed : IsClosed claim m heights) where
+  abbrev program : Program
+  program = record { code = code_of m; answers = answers }
 
-    abbrev code : Code
-    code = code_of m
+  abbrev code : Code
+  code = code_of m
 
-    abbrev Delivers : ℕ → Type 0
-    Delivers = sim.Delivers laws m heights valid typed answers fits claim closed
+  abbrev Delivers : ℕ → Type 0
+  Delivers = sim.Delivers laws m heights valid typed answers fits claim closed
 
-    abbrev Makes : ℕ → Type 0
-    Makes = sim.Makes laws m heights valid typed answers fits claim closed
+  abbrev Makes : ℕ → Type 0
+  Makes = sim.Makes laws m heights valid typed answers fits claim closed
 
-    safe_step : (config : Config) → IsConfig m heights config → IsSafe m heights (step program config).next
-    safe_step config fine = laws.steps m heights program config valid typed (record { code = refl; answers = fits }) fine
+  safe_step : (config : Config) → IsConfig m heights config → IsSafe m heights (step program config).next
+  safe_step config fine = laws.steps m heights program config valid typed (record { code = refl; answers = fits }) fine
 
-    -- ---- all steps
+  -- ---- all steps
 
-    made_next : (k : ℕ) → Delivers k → Makes (suc k)
-    made_next k delivers =
-        record {
-          runs = λ frame below store counts known came nested fine of.
-              let config : Config = record { store = store; stack = InModule frame ∷ below; counts = counts } in
-              let a = fine.stack in
-              let f = executed laws m heights valid typed answers fits claim closed k delivers frame below store counts known came
-              nested fine of a.0 a.1 (execute code store frame) refl
-              (laws.rules m heights store frame a.0 a.1 valid typed fine.store a.2 fine.at_step)
-              (safe_step config fine) in
-              record { reads = f.reads; shows = f.shows };
-          main = λ action actions below store counts known came nested fine of.
-              let config : Config =
-              record { store = store; stack = InMain (action ∷ actions) ∷ below; counts = counts } in
-              let a = fine.stack in
-              let f = sim.acts laws m heights valid typed answers fits claim closed k delivers (InMain actions ∷ below) store counts
-              known came [] action (λ t. refl) (λ left. refl) (λ func given other segments. refl)
-              (λ other segments. refl) nested fine.store of (perform code store [] action) refl
-              (laws.actions m heights store [] [] action typed fine.store tt (a.0 0 action (omega arith)))
-              (safe_step config fine) in
-              record { reads = f.reads; shows = f.shows };
-          import = λ number args action actions end below store counts known came nested fine of.
-              let config : Config =
-              record { store = store; stack = InImport number args (action ∷ actions) end ∷ below; counts = counts }
-              in
-              let a = fine.stack in
-              let f = sim.acts laws m heights valid typed answers fits claim closed k delivers
-              (InImport number args actions end ∷ below) store counts known came args action (λ t. refl)
-              (λ left. refl) (λ func given other segments. refl) (λ other segments. refl) nested fine.store of
-              (perform code store args action) refl
-              (laws.actions m heights store a.0.params args action typed fine.store a.2
-              (a.3 0 action (omega arith)))
-              (safe_step config fine) in
-              record { reads = f.reads; shows = f.shows };
-        }
+  made_next : (k : ℕ) → Delivers k → Makes (suc k)
+  made_next k delivers =
+      record {
+        runs = λ frame below store counts known came nested fine of.
+            let config : Config = record { store = store; stack = InModule frame ∷ below; counts = counts } in
+            let a = fine.stack in
+            let f = executed laws m heights valid typed answers fits claim closed k delivers frame below store
+            counts known came nested fine of a.0 a.1 (execute code store frame) refl
+            (laws.rules m heights store frame a.0 a.1 valid typed fine.store a.2 fine.at_step)
+            (safe_step config fine) in
+            record { reads = f.reads; shows = f.shows };
+        main = λ action actions below store counts known came nested fine of.
+            let config : Config =
+            record { store = store; stack = InMain (action ∷ actions) ∷ below; counts = counts } in
+            let a = fine.stack in
+            let f = sim.acts laws m heights valid typed answers fits claim closed k delivers (InMain actions ∷ below)
+            store counts known came [] action (λ t. refl) (λ left. refl) (λ func given other segments. refl)
+            (λ other segments. refl) nested fine.store of (perform code store [] action) refl
+            (laws.actions m heights store [] [] action typed fine.store tt (a.0 0 action (omega arith)))
+            (safe_step config fine) in
+            record { reads = f.reads; shows = f.shows };
+        import = λ number args action actions end below store counts known came nested fine of.
+            let config : Config =
+            record { store = store; stack = InImport number args (action ∷ actions) end ∷ below; counts = counts }
+            in
+            let a = fine.stack in
+            let f = sim.acts laws m heights valid typed answers fits claim closed k delivers
+            (InImport number args actions end ∷ below) store counts known came args action (λ t. refl)
+            (λ left. refl) (λ func given other segments. refl) (λ other segments. refl) nested fine.store of
+            (perform code store args action) refl
+            (laws.actions m heights store a.0.params args action typed fine.store a.2
+            (a.3 0 action (omega arith)))
+            (safe_step config fine) in
+            record { reads = f.reads; shows = f.shows };
+      }
 
-    made_none : Makes zero
-    made_none =
-        record {
-          runs = λ frame below store counts known came nested fine of. follows_none program claim known store _ _;
-          main = λ action actions below store counts known came nested fine of.
-              host_reads program claim zero known store came [] _ _ (λ other segments outcome same ready h. cc);
-          import = λ number args action actions end below store counts known came nested fine of.
-              host_reads program claim zero known store came [] _ _ (λ other segments outcome same ready h. cc);
-        }
+  made_none : Makes zero
+  made_none =
+      record {
+        runs = λ frame below store counts known came nested fine of. follows_none program claim known store _ _;
+        main = λ action actions below store counts known came nested fine of.
+            host_reads program claim zero known store came [] _ _ (λ other segments outcome same ready h. cc);
+        import = λ number args action actions end below store counts known came nested fine of.
+            host_reads program claim zero known store came [] _ _ (λ other segments outcome same ready h. cc);
+      }
 
-    pub makes : (k : ℕ) → Makes k
-    makes zero = made_none
-    makes (suc k) =
-        made_next k (sim.deliver_from laws m heights valid typed answers fits claim closed k (makes k))
+  pub makes : (k : ℕ) → Makes k
+  makes zero = made_none
+  makes (suc k) =
+      made_next k (sim.deliver_from laws m heights valid typed answers fits claim closed k (makes k))
 
-    pub delivers : (k : ℕ) → Delivers k
-    delivers k = sim.deliver_from laws m heights valid typed answers fits claim closed k (makes k)
+  pub delivers : (k : ℕ) → Delivers k
+  delivers k = sim.deliver_from laws m heights valid typed answers fits claim closed k (makes k)
 
-    -- ---- the start
+  -- ---- the start
 
-    module _ (k : ℕ) (main : List Action) (store : Store) (is : IsStore m store) where
-      abbrev known : Known
-      known = opening_known store
+  module _ (k : ℕ) (main : List Action) (store : Store) (is : IsStore m store) where
+    abbrev known : Known
+    known = opening_known store
 
-      abbrev counts : List ℕ
-      counts = replicate (imported_funcs m) 0
+    abbrev counts : List ℕ
+    counts = replicate (imported_funcs m) 0
 
-      of : IsKnownOf known store
-      of = opening_is_known store (sizes_of m store is)
+    of : IsKnownOf known store
+    of = opening_is_known store (sizes_of m store is)
 
-      abbrev Started : StepResult → Type 0
-      Started s =
-          Follows claim program k known store (Begins Begin ∷ observed_from program k s) s
-          (λ other segments. tape_result [] (tape_start code other segments))
+    abbrev Started : StepResult → Type 0
+    Started s =
+        Follows claim program k known store (Begins Begin ∷ observed_from program k s) s
+        (λ other segments. tape_result [] (tape_start code other segments))
 
-      without_call : IsSafe m heights (after_settling store counts (deliver (InMain main ∷ []) [])).next
-          → Started (after_settling store counts (deliver (InMain main ∷ []) []))
-      without_call safe = delivers k (InMain main ∷ []) [] store counts known Begin refl is of safe
+    without_call : IsSafe m heights (after_settling store counts (deliver (InMain main ∷ []) [])).next
+        → Started (after_settling store counts (deliver (InMain main ∷ []) []))
+    without_call safe = delivers k (InMain main ∷ []) [] store counts known Begin refl is of safe
 
-      with_call : (b : Bool) (func : ℕ)
-          → IsSafe m heights (start_with_call program b store counts func (InMain main ∷ [])).next
-          → Started (start_with_call program b store counts func (InMain main ∷ []))
-      with_call true func safe = without_call safe
-      with_call false func safe =
-          follows_segment m heights answers claim closed k known store Begin (CallNext func [])
-          (observed_from program k (enter_function code store counts func [] (InMain main ∷ [])))
-          (after_entries (HostCall func [] ∷ []) (enter_function code store counts func [] (InMain main ∷ [])))
-          (all_paused (InMain main ∷ [])) counts (λ t. refl) is of (OneMore (HostCall func []) _ refl)
-          (follows_entry m heights answers claim closed k known store _ _ _ _ (HostCall func []) (λ other segments. refl)
-          (sim.enters laws m heights valid typed answers fits claim closed k (delivers k) func [] (InMain main ∷ []) store counts known
-          Begin refl is of safe))
+    with_call : (b : Bool) (func : ℕ)
+        → IsSafe m heights (start_with_call program b store counts func (InMain main ∷ [])).next
+        → Started (start_with_call program b store counts func (InMain main ∷ []))
+    with_call true func safe = without_call safe
+    with_call false func safe =
+        follows_segment m heights answers claim closed k known store Begin (CallNext func [])
+        (observed_from program k (enter_function code store counts func [] (InMain main ∷ [])))
+        (after_entries (HostCall func [] ∷ []) (enter_function code store counts func [] (InMain main ∷ [])))
+        (all_paused (InMain main ∷ [])) counts (λ t. refl) is of (OneMore (HostCall func []) _ refl)
+        (follows_entry m heights answers claim closed k known store _ _ _ _ (HostCall func []) (λ other segments. refl)
+        (sim.enters laws m heights valid typed answers fits claim closed k (delivers k) func []
+        (InMain main ∷ []) store counts known
+        Begin refl is of safe))
 
-      pub started : (func : Option ℕ) → IsSafe m heights (start program func store counts main).next
-          → Started (start program func store counts main)
-      started None safe = without_call safe
-      started (Some func) safe = with_call (nat_lt func (imported_funcs m)) func safe
+    pub started : (func : Option ℕ) → IsSafe m heights (start program func store counts main).next
+        → Started (start program func store counts main)
+    started None safe = without_call safe
+    started (Some func) safe = with_call (nat_lt func (imported_funcs m)) func safe

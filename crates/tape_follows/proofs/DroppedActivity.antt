@@ -71,7 +71,8 @@ none_left known effects left need are =
     effects_same left effects are.ordered need.ordered are.nonempty need.nonempty
     (record {
       pages = same _ _ (need.pages ∙ unneeded nat_eq own_number known.pages (Some known.pages) refl) are.pages;
-      entries = same _ _ (need.entries ∙ unneeded nat_eq own_number known.entries (Some known.entries) refl) are.entries;
+      entries = same _ _ (need.entries ∙ unneeded nat_eq own_number known.entries (Some known.entries) refl)
+          are.entries;
       byte = λ at. same _ _ (need.byte at) (are.byte at);
       entry = λ at. same _ _ (need.entry at) (are.entry at);
       global = λ at. same _ _ (need.global at) (are.global at);

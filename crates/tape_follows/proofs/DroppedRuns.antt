@@ -109,7 +109,8 @@ left_after : (known : Known) (store : Store) (seen later : List Observation) (se
     → AreSeen known store seen → AreLeftSegments (seen ++ later) segments left → AreLeftSegments later segments left
 left_after known store [] later segments left are h = h
 left_after known store (o ∷ seen) later segments left are h =
-    left_after (known_after known o) (with_change store o) seen later segments left are.1 (one o are.0.here segments left h)
+    left_after (known_after known o) (with_change store o) seen later segments left are.1
+    (one o are.0.here segments left h)
   where
     one : (o : Observation) → IsHere store o → (segments left : List Segment)
         → AreLeftSegments (o ∷ seen ++ later) segments left → AreLeftSegments (seen ++ later) segments left

@@ -73,7 +73,8 @@ module _ (known : Known) (other : Store) where
       → memory_length other.memory ≡ found_pages known.pages (seen ++ []) * PAGE_SIZE
   size_reads [] answers there (inl h) = h
   size_reads [] answers there (inr h) = h
-  size_reads (Reaches end found ∷ seen) answers there h = go (nat_le end (known.pages * PAGE_SIZE)) refl (size_reads seen answers.1 there) h
+  size_reads (Reaches end found ∷ seen) answers there h =
+      go (nat_le end (known.pages * PAGE_SIZE)) refl (size_reads seen answers.1 there) h
     where
       go : (b : Bool) → nat_le end (known.pages * PAGE_SIZE) ≡ b
           → ((memory_length other.memory ≡ found_pages known.pages (seen ++ []) * PAGE_SIZE)
@@ -95,7 +96,8 @@ module _ (known : Known) (other : Store) where
       → table_length other.table ≡ found_entries known.entries (seen ++ [])
   count_reads [] answers there (inl h) = h
   count_reads [] answers there (inr h) = h
-  count_reads (ReachesEntry index found ∷ seen) answers there h = go (nat_lt index known.entries) refl (count_reads seen answers.1 there) h
+  count_reads (ReachesEntry index found ∷ seen) answers there h =
+      go (nat_lt index known.entries) refl (count_reads seen answers.1 there) h
     where
       go : (b : Bool) → nat_lt index known.entries ≡ b
           → ((table_length other.table ≡ found_entries known.entries (seen ++ []))

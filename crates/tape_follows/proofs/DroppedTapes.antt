@@ -33,7 +33,8 @@ nothing_can_be_dropped laws safety answered m script supply store segments left 
     let safe = safety.starts m h.0 (program_of m script) store script.main runnable.valid typed
     (record { code = refl; answers = fits.imports }) is fits.main in
     let closed = lacks_closed laws.alike answered laws.rules m h.0 runnable.valid typed in
-    let f = started laws m h.0 runnable.valid typed script.imports fits.imports (lacks m) closed needed.count script.main
+    let f = started laws m h.0 runnable.valid typed script.imports fits.imports (lacks m) closed needed.count
+    script.main
     store is m.start safe in
     let kept = safety.kept (opening_known store)
     (run_observations (program_of m script) (start_in_store m script store) needed.count) segments in

@@ -41,3 +41,4 @@ pub mod KeptActions
 pub mod FitSegments
 pub mod FitActivities
 pub mod NeededTape
+pub mod OtherRuns

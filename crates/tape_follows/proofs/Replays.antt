@@ -70,7 +70,8 @@ module _ (alike : ObservedStepsAreAlike) (m : Module) (heights : Heights) where
       → Goes replays m heights known store left
       (λ other segments. after_next code other counts stack segments came next) history outcome
       → Goes replays m heights known store (Begins came ∷ Ends next ∷ left) (tape_at stack counts came) history outcome
-  after_its_segment known store came next left history outcome stack counts takes is of reads more goes other [] same ready =
+  after_its_segment known store came next left history outcome stack counts takes is of reads more goes other [] same
+      ready =
       absurd ready.1
   after_its_segment known store came next left history outcome stack counts takes is of reads more goes other
       (segment ∷ segments) same ready =

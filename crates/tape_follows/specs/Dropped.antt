@@ -11,7 +11,7 @@ use Rattle.trace_model.specs.declared.tapes.Segment.{Segment}
 use Rattle.trace_model.specs.Effects.{AreOrdered}
 use Rattle.history_spec.specs.declared.entries.Entry.{Entry}
 use Rattle.history_spec.specs.Store.{Store}
-use Rattle.history_spec.specs.Code.{code_of}
+use Rattle.history_spec.specs.Code.{Code, code_of}
 use Rattle.history_spec.specs.Instantiation.{instantiate}
 use Rattle.history_spec.specs.Run.{all_one, program_of, start_in_store, run_from}
 use Rattle.replay_spec.specs.Observations.{Observation, Begins, Ends, ResizesTable, run_observations}
@@ -73,6 +73,13 @@ pub data IsAnother (run : ℕ → TapeResult) (history : List Entry) : Type 0 wh
   HasAnother : (count : ℕ) (shown : List Entry) (entry other : Entry) (more after : List Entry)
       (is : history ≡ shown ++ entry ∷ more) (has : (run count).entries ≡ shown ++ other ∷ after)
       (apart : other ≢ entry) → IsAnother run history
+
+-- so at no number of steps it has the history
+abbrev pub OtherRunsNeverHaveTheHistory : Type 0
+OtherRunsNeverHaveTheHistory =
+    (code : Code) (store : Store) (segments : List Segment) (history : List Entry)
+    → IsAnother (tape_run code store segments) history → (count : ℕ)
+    → (tape_run code store segments count).entries ≢ history
 
 -- ---- the law
 

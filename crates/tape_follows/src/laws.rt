@@ -1,6 +1,6 @@
 // The laws of tapes, each the contract of a function; the statements stand in `specs/`.
 
-ghost use Rattle.tape_follows.specs.Dropped.{NothingCanBeDropped};
+ghost use Rattle.tape_follows.specs.Dropped.{NothingCanBeDropped, OtherRunsNeverHaveTheHistory};
 ghost use Rattle.tape_follows.specs.Laws.{NeededTapesReplayRuns};
 ghost use Rattle.tape_follows.specs.NeededTape.{NeededTapesFit, RunsHaveOneNeededTape};
 ghost use Rattle.tape_follows.specs.RealReads.{ReadsAreReal, ReadsAreRealAfterSettling, RunsReadWhatIsThere};
@@ -96,3 +96,8 @@ pub fn nothing_can_be_dropped()
     rules_hold();
     safe_steps();
 }
+
+/// A tape's run that is another than a history says has this history at no number of steps.
+pub fn other_runs_differ()
+    ensures { OtherRunsNeverHaveTheHistory }
+{}
