@@ -2,11 +2,7 @@
 use Rattle.std.proofs.Common.{◌≡◌, ℕ, ◌*◌, ◌≤◌, List, [], length, Option, Some, None, Bool, true, false, cond, nat_eq, slice_get, refl, sym, ap, ◌∙◌, subst, arith, inl, inr}
 use Rattle.std.specs.Prelude.{◌⊎◌, IfSome, option_map, unwrap_or}
 use Rattle.std.specs.List.{list_any}
-use Rattle.std.proofs.lemmas.Bool.Decides.{nat_tests}
-use Rattle.list_laws.proofs.Booleans.{and_true}
 use Rattle.wasm_syntax.specs.declared.limits.TheConstants.{PAGE_SIZE}
-use Rattle.wasm_syntax.specs.declared.values.Val.{Val}
-use Rattle.wasm_syntax.specs.Alike.{type_byte, same_type}
 use Rattle.trace_model.specs.declared.tapes.Effect.{Effect}
 use Rattle.history_spec.specs.Store.{Store, Memory, Table}
 use Rattle.history_spec.specs.Instantiation.{memory_length, table_length}
@@ -20,7 +16,7 @@ use Rattle.shown_steps.specs.Unshown.{first_copied}
 use Rattle.tape_follows.specs.Dropped.{resizes_table, IsLeft, AreLeft}
 use Rattle.tape_follows.proofs.Stores.{Maxima, maxima}
 use Rattle.tape_follows.proofs.Relation.{IsKnownOf, IsReadOf, Holds}
-use Rattle.tape_follows.proofs.Same.{same_option_is, same_number, same_value_is}
+use Rattle.tape_follows.proofs.Same.{same_option_is, same_number, same_value_is, own_number, own_option, own_value}
 use Rattle.tape_follows.proofs.Effects.{bytes_left, AreDone}
 use Rattle.tape_follows.proofs.Activities.{HasSizes, needed_else, size_between}
 use Rattle.tape_follows.proofs.DroppedPlaces.{MayLack}
@@ -50,17 +46,6 @@ module _ {X : Type 0} (same : X → X → Bool) (is : (a b : X) → same a b ≡
   left_all (inl e) held = e
   left_all (inr e) held =
       e ∙ sym (need ∙ unneeded same own known first (sym (done ∙ ap (λ o. unwrap_or o known) e) ∙ held))
-
-own_number : (a : ℕ) → nat_eq a a ≡ true
-own_number a = grind (arith, nat_tests)
-
-own_option : {X : Type 0} (same : X → X → Bool) → ((a : X) → same a a ≡ true) → (o : Option X)
-    → same_option same o o ≡ true
-own_option same own None = refl
-own_option same own (Some x) = own x
-
-pub own_value : (v : Val) → same_value v v ≡ true
-own_value v = and_true (same_type v.ty v.ty) (nat_eq v.bits v.bits) (own_number (type_byte v.ty)) (own_number v.bits)
 
 -- ---- an activity
 

@@ -1,8 +1,7 @@
 -- What two instructions show is the same, or their first entries are apart.
-use Rattle.std.proofs.Common.{◌≡◌, ℕ, List, [], ◌∷◌, ◌++◌, Option, Some, None, Bool, true, false, nat_eq, refl, sym, ap, ◌∙◌, subst, arith, inl, inr}
+use Rattle.std.proofs.Common.{◌≡◌, ℕ, List, [], ◌∷◌, ◌++◌, Option, Bool, true, false, nat_eq, refl, sym, ap, ◌∙◌, subst, inl, inr}
 use Rattle.std.specs.Prelude.{◌⊎◌, ◌≢◌}
 use Rattle.std.specs.List.{slice_index_or}
-use Rattle.std.proofs.lemmas.Bool.Decides.{nat_tests}
 use Rattle.list_laws.proofs.Booleans.{and_true}
 use Rattle.wasm_syntax.specs.declared.values.Val.{Val}
 use Rattle.history_spec.specs.declared.entries.Entry.{Entry}
@@ -13,12 +12,11 @@ use Rattle.history_spec.specs.Configuration.{Frame, Activation, Config}
 use Rattle.history_spec.specs.Instruction.{Execution, Did, Traps, NoRule}
 use Rattle.history_spec.specs.Step.{Program, after_control, after_instruction}
 use Rattle.replay_spec.specs.Alike.{same_option, same_values}
-use Rattle.replay_spec.proofs.Alike.{values_same, option_same}
+use Rattle.replay_spec.proofs.Alike.{values_same}
 use Rattle.shown_steps.specs.Laws.{shown}
 use Rattle.type_safety.specs.Frames.{Scope}
 use Rattle.type_safety.specs.Results.{HasRule}
-use Rattle.tape_follows.proofs.Same.{same_number}
-use Rattle.tape_follows.proofs.DroppedActivity.{own_value}
+use Rattle.tape_follows.proofs.Same.{same_number, same_option_is, own_number, own_option, own_value}
 
 -- two are the same or apart
 abbrev IsDecided : {X : Type 0} → X → X → Type 0
@@ -35,9 +33,6 @@ decided same is own a b = go (same a b) refl
         apart : false ≡ true → ⊥
         apart h = cc
 
-own_number : (n : ℕ) → nat_eq n n ≡ true
-own_number n = grind (arith, nat_tests)
-
 own_values : (values : List Val) → same_values values values ≡ true
 own_values [] = refl
 own_values (v ∷ values) = and_true _ (same_values values values) (own_value v) (own_values values)
@@ -46,11 +41,8 @@ values_decided : (a b : List Val) → IsDecided a b
 values_decided = decided same_values values_same own_values
 
 found_decided : (a b : Option ℕ) → IsDecided a b
-found_decided = decided (same_option nat_eq) (option_same nat_eq same_number) own
-  where
-    own : (o : Option ℕ) → same_option nat_eq o o ≡ true
-    own None = refl
-    own (Some n) = own_number n
+found_decided =
+    decided (same_option nat_eq) (same_option_is nat_eq same_number) (own_option nat_eq own_number)
 
 -- ---- kinds of traps, by number
 

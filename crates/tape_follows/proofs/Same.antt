@@ -1,9 +1,9 @@
--- What a test for equality accepts is equal.
+-- What a test for equality accepts is equal, and equals pass.
 use Rattle.std.proofs.Common.{◌≡◌, ℕ, Option, Some, None, Bool, true, nat_eq, refl, ap, arith}
 use Rattle.std.proofs.lemmas.Bool.Decides.{nat_tests}
-use Rattle.list_laws.proofs.Booleans.{and_left, and_right}
+use Rattle.list_laws.proofs.Booleans.{and_left, and_right, and_true}
 use Rattle.wasm_syntax.specs.declared.values.Val.{Val}
-use Rattle.wasm_syntax.specs.Alike.{same_type}
+use Rattle.wasm_syntax.specs.Alike.{type_byte, same_type}
 use Rattle.wasm_syntax.proofs.ValTypes.{type_same}
 use Rattle.replay_spec.specs.Alike.{same_option, same_value}
 
@@ -22,3 +22,16 @@ same_option_is same is None None h = refl
 same_option_is same is None (Some b) h = cc
 same_option_is same is (Some a) None h = cc
 same_option_is same is (Some a) (Some b) h = ap Some (is a b h)
+
+-- ---- equals pass
+
+pub own_number : (a : ℕ) → nat_eq a a ≡ true
+own_number a = grind (arith, nat_tests)
+
+pub own_option : {X : Type 0} (same : X → X → Bool) → ((a : X) → same a a ≡ true) → (o : Option X)
+    → same_option same o o ≡ true
+own_option same own None = refl
+own_option same own (Some x) = own x
+
+pub own_value : (v : Val) → same_value v v ≡ true
+own_value v = and_true (same_type v.ty v.ty) (nat_eq v.bits v.bits) (own_number (type_byte v.ty)) (own_number v.bits)
