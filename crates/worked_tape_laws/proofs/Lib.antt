@@ -1,0 +1,5 @@
+pub mod Left
+pub mod Fit
+pub mod Runs
+pub mod Dropped
+pub mod Replayed
