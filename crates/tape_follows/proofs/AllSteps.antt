@@ -28,6 +28,7 @@ use Rattle.replay_spec.specs.TapeRun.{tape_result, tape_start}
 use Rattle.type_safety.specs.Configurations.{IsConfig, IsSafe, IsTypedCode}
 use Rattle.type_safety.specs.Heights.{Heights}
 use Rattle.type_safety.specs.Stores.{IsStore}
+use Rattle.tape_follows.specs.Below.{LawsOfSteps}
 use Rattle.tape_follows.proofs.Relation.{IsKnownOf, Holds}
 use Rattle.tape_follows.proofs.Claims.{Claim}
 use Rattle.tape_follows.proofs.Closed.{OneMore, IsClosed}
@@ -36,7 +37,6 @@ use Rattle.tape_follows.proofs.Activities.{HasSizes}
 use Rattle.tape_follows.proofs.HostStores.{sizes_of}
 use Rattle.tape_follows.proofs.Parts.{follows_none, host_reads, follows_entry, follows_segment}
 use Rattle.tape_follows.proofs.Simulation as sim
-use Rattle.tape_follows.proofs.Simulation.{Laws}
 use Rattle.tape_follows.proofs.ModuleSteps.{executed}
 
 -- ---- where the run begins
@@ -78,7 +78,7 @@ opening_holds store sizes =
     count None = tt
     count (Some t) = refl
 
-module _ (laws : Laws) (m : Module) (heights : Heights) (valid : IsValid m) (typed : IsTypedCode m heights)
+module _ (laws : LawsOfSteps) (m : Module) (heights : Heights) (valid : IsValid m) (typed : IsTypedCode m heights)
     (answers : List (Option Answer)) (fits : FitAnswers m answers) (claim : Claim)
     (closed : IsClosed claim m heights) where
   abbrev program : Program

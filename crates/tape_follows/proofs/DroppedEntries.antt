@@ -85,71 +85,40 @@ pub data AreShown (first second : List Entry) : Type 0 where
   Apart : (entry other : Entry) (is : first ≡ entry ∷ []) (has : second ≡ other ∷ []) (apart : other ≢ entry)
       → AreShown first second
 
+-- entries of three parts are the same where their parts are
+module _ {A B C : Type 0} (entry : A → B → C → Entry) (a a' : A) (b b' : B) (c c' : C)
+    (parts : entry a' b' c' ≡ entry a b c → (a' ≡ a) × (b' ≡ b) × (c' ≡ c)) where
+  parts_shown : IsDecided a' a → IsDecided b' b → IsDecided c' c
+      → AreShown (entry a b c ∷ []) (entry a' b' c' ∷ [])
+  parts_shown (inl p) (inl q) (inl r) = Same (λ i. entry (p i) (q i) (r i) ∷ [])
+  parts_shown (inr p) q r = Apart _ _ refl refl (λ h. p (parts h).0)
+  parts_shown (inl p) (inr q) r = Apart _ _ refl refl (λ h. q (parts h).1)
+  parts_shown (inl p) (inl q) (inr r) = Apart _ _ refl refl (λ h. r (parts h).2)
+
+step_parts : (func number : ℕ) (operands others results gives : List Val) (found finds : Option ℕ)
+    → Step func number others gives finds ≡ Step func number operands results found
+    → (others ≡ operands) × (gives ≡ results) × (finds ≡ found)
+step_parts func number operands others results gives found finds h = (cc, cc, cc)
+
+trap_parts : (func number : ℕ) (kind traps : TrapKind) (operands others : List Val) (found finds : Option ℕ)
+    → Trap func number traps others finds ≡ Trap func number kind operands found
+    → (traps ≡ kind) × (others ≡ operands) × (finds ≡ found)
+trap_parts func number kind traps operands others found finds h = (cc, cc, cc)
+
 module _ (frame : Frame) where
-  steps_shown : (operands results : List Val) (found : Option ℕ) (others gives : List Val) (finds : Option ℕ)
-      → AreShown (Step frame.func frame.at.number operands results found ∷ [])
-      (Step frame.func frame.at.number others gives finds ∷ [])
-  steps_shown operands results found others gives finds =
-      go (values_decided others operands) (values_decided gives results) (found_decided finds found)
-    where
-      go : IsDecided others operands → IsDecided gives results → IsDecided finds found
-          → AreShown (Step frame.func frame.at.number operands results found ∷ [])
-          (Step frame.func frame.at.number others gives finds ∷ [])
-      go (inl a) (inl b) (inl c) =
-          Same (λ i. Step frame.func frame.at.number (a i) (b i) (c i) ∷ [])
-      go (inr a) b c = Apart _ _ refl refl (λ h. a (operands_of h))
-        where
-          operands_of : Step frame.func frame.at.number others gives finds
-              ≡ Step frame.func frame.at.number operands results found → others ≡ operands
-          operands_of h = cc
-      go (inl a) (inr b) c = Apart _ _ refl refl (λ h. b (results_of h))
-        where
-          results_of : Step frame.func frame.at.number others gives finds
-              ≡ Step frame.func frame.at.number operands results found → gives ≡ results
-          results_of h = cc
-      go (inl a) (inl b) (inr c) = Apart _ _ refl refl (λ h. c (found_of h))
-        where
-          found_of : Step frame.func frame.at.number others gives finds
-              ≡ Step frame.func frame.at.number operands results found → finds ≡ found
-          found_of h = cc
-
-  traps_shown : (kind : TrapKind) (operands : List Val) (found : Option ℕ) (traps : TrapKind) (others : List Val)
-      (finds : Option ℕ)
-      → AreShown (Trap frame.func frame.at.number kind operands found ∷ [])
-      (Trap frame.func frame.at.number traps others finds ∷ [])
-  traps_shown kind operands found traps others finds =
-      go (kind_decided traps kind) (values_decided others operands) (found_decided finds found)
-    where
-      go : IsDecided traps kind → IsDecided others operands → IsDecided finds found
-          → AreShown (Trap frame.func frame.at.number kind operands found ∷ [])
-          (Trap frame.func frame.at.number traps others finds ∷ [])
-      go (inl a) (inl b) (inl c) =
-          Same (λ i. Trap frame.func frame.at.number (a i) (b i) (c i) ∷ [])
-      go (inr a) b c = Apart _ _ refl refl (λ h. a (kind_is h))
-        where
-          kind_is : Trap frame.func frame.at.number traps others finds
-              ≡ Trap frame.func frame.at.number kind operands found → traps ≡ kind
-          kind_is h = cc
-      go (inl a) (inr b) c = Apart _ _ refl refl (λ h. b (operands_of h))
-        where
-          operands_of : Trap frame.func frame.at.number traps others finds
-              ≡ Trap frame.func frame.at.number kind operands found → others ≡ operands
-          operands_of h = cc
-      go (inl a) (inl b) (inr c) = Apart _ _ refl refl (λ h. c (found_of h))
-        where
-          found_of : Trap frame.func frame.at.number traps others finds
-              ≡ Trap frame.func frame.at.number kind operands found → finds ≡ found
-          found_of h = cc
-
   -- two instructions that have rules show the same, or their entries are apart
   pub rules_shown : (s : Scope) (first second : Execution) → HasRule s first → HasRule s second
       → AreShown (shown frame first) (shown frame second)
   rules_shown s NoRule second h k = absurd h
   rules_shown s first NoRule h k = absurd k
   rules_shown s (Did operands results found control) (Did others gives finds goes) h k =
-      steps_shown operands results found others gives finds
+      parts_shown (λ o r f. Step frame.func frame.at.number o r f) operands others results gives found finds
+      (step_parts frame.func frame.at.number operands others results gives found finds)
+      (values_decided others operands) (values_decided gives results) (found_decided finds found)
   rules_shown s (Traps kind operands found) (Traps traps others finds) h k =
-      traps_shown kind operands found traps others finds
+      parts_shown (λ k o f. Trap frame.func frame.at.number k o f) kind traps operands others found finds
+      (trap_parts frame.func frame.at.number kind traps operands others found finds) (kind_decided traps kind)
+      (values_decided others operands) (found_decided finds found)
   rules_shown s (Did operands results found control) (Traps traps others finds) h k =
       Apart _ _ refl refl (λ h. cc)
   rules_shown s (Traps kind operands found) (Did others gives finds goes) h k =

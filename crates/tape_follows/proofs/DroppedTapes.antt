@@ -5,12 +5,11 @@ use Rattle.history_spec.specs.Run.{program_of, start_in_store}
 use Rattle.replay_spec.specs.Observations.{run_observations}
 use Rattle.replay_spec.specs.Known.{opening_known}
 use Rattle.shown_steps.specs.Laws.{ShownStepsAreAnswered}
+use Rattle.tape_follows.specs.Below.{LawsOfSteps, LawsOfRuns}
 use Rattle.tape_follows.specs.Dropped.{NothingCanBeDropped}
 use Rattle.tape_follows.proofs.Activities.{HasSizes}
 use Rattle.tape_follows.proofs.HostStores.{sizes_of}
-use Rattle.tape_follows.proofs.Simulation.{Laws}
 use Rattle.tape_follows.proofs.AllSteps.{started}
-use Rattle.tape_follows.proofs.Whole.{Safety}
 use Rattle.tape_follows.proofs.DroppedStores.{HoldsLess}
 use Rattle.tape_follows.proofs.DroppedRuns.{lacks, lacks_closed}
 
@@ -24,7 +23,7 @@ opening_holds_less store sizes =
       global = λ at. inl refl;
     }
 
-pub nothing_can_be_dropped : Laws → Safety → ShownStepsAreAnswered → NothingCanBeDropped
+pub nothing_can_be_dropped : LawsOfSteps → LawsOfRuns → ShownStepsAreAnswered → NothingCanBeDropped
 nothing_can_be_dropped laws safety answered m script supply store segments left runnable fits links opens needed are
     apart =
     let h = safety.heights m runnable.valid in

@@ -42,10 +42,10 @@ use Rattle.type_safety.specs.Results.{HasRule, IsControl, IsActionResult}
 use Rattle.type_safety.specs.Stores.{func_count, IsStore}
 use Rattle.type_safety.proofs.Responses.{response_fits}
 use Rattle.type_safety.proofs.Values.{types_values}
+use Rattle.tape_follows.specs.Below.{LawsOfSteps}
 use Rattle.tape_follows.specs.RealReads.{IsReadOf, AreNested, observed_from, ReadsAreRealAfterSettling}
 use Rattle.tape_follows.proofs.StepItems.{nothing_read}
 use Rattle.tape_follows.proofs.Parts.{finished_observations}
-use Rattle.tape_follows.proofs.Simulation.{Laws}
 use Rattle.tape_follows.proofs.KeptStores.{IsKept}
 use Rattle.tape_follows.proofs.KeptActions.{host_keeps}
 use Rattle.tape_follows.proofs.KeptSteps.{trap_seen, done_seen, done_keeps}
@@ -94,7 +94,7 @@ leaves_by_return m import result ty opened later is fit is_last last =
     (ap (gives_values (types_of (option_to_list result))) is ∙ ap (λ ts. same_types ts ty.results) fit
     ∙ types_own ty.results)
 
-module _ (laws : Laws) (reads : ReadsAreRealAfterSettling) (m : Module) (heights : Heights) (valid : IsValid m)
+module _ (laws : LawsOfSteps) (reads : ReadsAreRealAfterSettling) (m : Module) (heights : Heights) (valid : IsValid m)
     (typed : IsTypedCode m heights) (answers : List (Option Answer)) (fits : FitAnswers m answers) where
   abbrev pub program : Program
   program = record { code = code_of m; answers = answers }

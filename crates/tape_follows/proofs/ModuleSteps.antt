@@ -25,6 +25,7 @@ use Rattle.observed_steps.specs.Laws.{observed}
 use Rattle.type_safety.specs.Configurations.{IsConfig, IsSafe, IsTypedCode, scope}
 use Rattle.type_safety.specs.Heights.{Heights}
 use Rattle.type_safety.specs.Results.{HasRule}
+use Rattle.tape_follows.specs.Below.{LawsOfSteps}
 use Rattle.tape_follows.proofs.Relation.{IsKnownOf, IsReadOf, AreSeen}
 use Rattle.tape_follows.proofs.Claims.{Claim}
 use Rattle.tape_follows.proofs.Closed.{IsBeforeInstruction, tape_at, IsClosed}
@@ -33,9 +34,8 @@ use Rattle.tape_follows.proofs.StepItems.{known_of_all, read_of_all, nothing_rea
 use Rattle.tape_follows.proofs.KeptSteps.{trap_seen, done_seen, left_is}
 use Rattle.tape_follows.proofs.Parts.{window_after, finished_observations, finished_history, finished_outcome, follows_entry}
 use Rattle.tape_follows.proofs.Simulation as sim
-use Rattle.tape_follows.proofs.Simulation.{Laws}
 
-module _ (laws : Laws) (m : Module) (heights : Heights) (valid : IsValid m) (typed : IsTypedCode m heights)
+module _ (laws : LawsOfSteps) (m : Module) (heights : Heights) (valid : IsValid m) (typed : IsTypedCode m heights)
     (answers : List (Option Answer)) (fits : FitAnswers m answers) (claim : Claim)
     (closed : IsClosed claim m heights) where
   abbrev program : Program

@@ -15,18 +15,18 @@ use Rattle.replay_spec.specs.Known.{opening_known}
 use Rattle.replay_spec.specs.Needed.{IsNeededTape}
 use Rattle.replay_spec.specs.Observations.{run_observations}
 use Rattle.type_safety.specs.Supplies.{IsRunnable}
+use Rattle.tape_follows.specs.Below.{LawsOfSteps, LawsOfRuns}
 use Rattle.tape_follows.specs.RealReads.{observed_from}
 use Rattle.tape_follows.specs.NeededTape.{NeededTapesFit, RunsHaveOneNeededTape}
 use Rattle.tape_follows.proofs.HostStores.{sizes_of}
-use Rattle.tape_follows.proofs.Simulation.{Laws}
 use Rattle.tape_follows.proofs.AllSteps.{opening_is_known}
-use Rattle.tape_follows.proofs.Whole.{Safety, needed_tape_replays}
+use Rattle.tape_follows.proofs.Whole.{needed_tape_replays}
 use Rattle.tape_follows.proofs.RealReads.{reads_are_real_after_settling}
 use Rattle.tape_follows.proofs.KeptStores.{new_declared, IsKept}
 use Rattle.tape_follows.proofs.FitSegments.{AreFromEnd, first_needed, first_fits}
 use Rattle.tape_follows.proofs.FitActivities.{from_start}
 
-module _ (laws : Laws) (safety : Safety) (m : Module) (script : Script) (supply : Supply) (store : Store)
+module _ (laws : LawsOfSteps) (safety : LawsOfRuns) (m : Module) (script : Script) (supply : Supply) (store : Store)
     (runnable : IsRunnable m) (fits : Fits m script) (links : supply_of m script ≡ Ok supply)
     (opens : instantiate m supply ≡ Ok store) where
   abbrev program : Program
@@ -54,7 +54,7 @@ module _ (laws : Laws) (safety : Safety) (m : Module) (script : Script) (supply 
       from_start laws (reads_are_real_after_settling laws) m h.0 runnable.valid typed script.imports fits.imports count
       script.main store (opening_known store) kept m.start runnable.valid.outside.start safe (outcome, ends)
 
-pub needed_tapes_fit : Laws → Safety → NeededTapesFit
+pub needed_tapes_fit : LawsOfSteps → LawsOfRuns → NeededTapesFit
 needed_tapes_fit laws safety m script supply store segments runnable fits links opens needed =
     first_fits m (opening_known store) (observed_from (program_of m script) needed.count (start_in_store m script store))
     segments
@@ -62,7 +62,7 @@ needed_tapes_fit laws safety m script supply store segments runnable fits links 
     ((safety.kept (opening_known store)
     (run_observations (program_of m script) (start_in_store m script store) needed.count) segments).0 needed.needed)
 
-pub runs_have_one_needed_tape : Laws → Safety → NeededTapeIsOne → RunsHaveOneNeededTape
+pub runs_have_one_needed_tape : LawsOfSteps → LawsOfRuns → NeededTapeIsOne → RunsHaveOneNeededTape
 runs_have_one_needed_tape laws safety one m script supply store count outcome runnable fits links opens ends =
     let program = program_of m script in
     let initial = start_in_store m script store in

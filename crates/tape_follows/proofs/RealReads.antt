@@ -17,11 +17,11 @@ use Rattle.replay_spec.specs.Windows.{window}
 use Rattle.type_safety.specs.Configurations.{IsConfig, IsSafe, IsTypedCode}
 use Rattle.type_safety.specs.Heights.{Heights}
 use Rattle.type_safety.specs.Stores.{IsStore}
+use Rattle.tape_follows.specs.Below.{LawsOfSteps}
 use Rattle.tape_follows.specs.RealReads.{IsKnownOf, IsReadOf, IsModule, AreNested, observed_from, ReadsAreReal, ReadsAreRealAfterSettling}
-use Rattle.tape_follows.proofs.Simulation.{Laws}
 use Rattle.tape_follows.proofs.Whole.{makes, delivers}
 
-module _ (laws : Laws) (m : Module) (heights : Heights) (valid : IsValid m) (typed : IsTypedCode m heights)
+module _ (laws : LawsOfSteps) (m : Module) (heights : Heights) (valid : IsValid m) (typed : IsTypedCode m heights)
     (answers : List (Option Answer)) (fits : FitAnswers m answers) (known : Known) (k : ℕ) where
   abbrev program : Program
   program = record { code = code_of m; answers = answers }
@@ -49,7 +49,7 @@ module _ (laws : Laws) (m : Module) (heights : Heights) (valid : IsValid m) (typ
   after_results store counts (InImport import args actions end ∷ below) results nested within is of safe =
       absurd within
 
-pub reads_are_real : Laws → ReadsAreReal
+pub reads_are_real : LawsOfSteps → ReadsAreReal
 reads_are_real laws m heights program known config k valid typed of_module fine nested within of =
     subst
     (λ (code : Code). IsReadOf known
@@ -58,7 +58,7 @@ reads_are_real laws m heights program known config k valid typed of_module fine 
     (at_config laws m heights valid typed program.answers of_module.answers known k config.store config.counts
     config.stack nested within fine of)
 
-pub reads_are_real_after_settling : Laws → ReadsAreRealAfterSettling
+pub reads_are_real_after_settling : LawsOfSteps → ReadsAreRealAfterSettling
 reads_are_real_after_settling laws m heights program known store counts stack results k valid typed of_module is nested
     within of safe =
     subst

@@ -28,12 +28,11 @@ use Rattle.type_safety.specs.Configurations.{IsConfig, IsSafe, IsTypedCode}
 use Rattle.type_safety.specs.Heights.{Heights}
 use Rattle.type_safety.specs.Results.{IsActionResult}
 use Rattle.type_safety.specs.Stores.{IsStore}
+use Rattle.tape_follows.specs.Below.{LawsOfSteps, LawsOfRuns}
 use Rattle.tape_follows.specs.RealReads.{IsKnownOf, AreNested, RunsReadWhatIsThere}
 use Rattle.tape_follows.proofs.HostStores.{sizes_of, host_change, known_of_change}
 use Rattle.tape_follows.proofs.KeptSteps.{done_known}
-use Rattle.tape_follows.proofs.Simulation.{Laws}
 use Rattle.tape_follows.proofs.AllSteps.{opening_is_known}
-use Rattle.tape_follows.proofs.Whole.{Safety}
 use Rattle.tape_follows.proofs.RealReads.{reads_are_real}
 
 -- ---- what is known after activities of the host
@@ -53,7 +52,7 @@ known_after_both : (known : Known) (seen later : List Observation)
 known_after_both known [] later = refl
 known_after_both known (o ∷ seen) later = known_after_both (known_after known o) seen later
 
-module _ (laws : Laws) (m : Module) (heights : Heights) (valid : IsValid m) (typed : IsTypedCode m heights)
+module _ (laws : LawsOfSteps) (m : Module) (heights : Heights) (valid : IsValid m) (typed : IsTypedCode m heights)
     (answers : List (Option Answer)) (fits : FitAnswers m answers) where
   abbrev program : Program
   program = record { code = code_of m; answers = answers }
@@ -228,7 +227,7 @@ module _ (laws : Laws) (m : Module) (heights : Heights) (valid : IsValid m) (typ
       go true = after_results known store (replicate (imported_funcs m) 0) of (InMain main ∷ []) [] refl
       go false = after_entry known store (replicate (imported_funcs m) 0) of func [] (InMain main ∷ []) refl
 
-pub runs_read_what_is_there : Laws → Safety → RunsReadWhatIsThere
+pub runs_read_what_is_there : LawsOfSteps → LawsOfRuns → RunsReadWhatIsThere
 runs_read_what_is_there laws safety m script supply store so_far config runnable fits links opens at =
     let h = safety.heights m runnable.valid in
     let typed = safety.code m h.0 runnable.valid runnable.supported h.1 in

@@ -34,12 +34,11 @@ use Rattle.replay_spec.specs.Observations.{Observation, Begins, Ends, observatio
 use Rattle.replay_spec.specs.Known.{Known}
 use Rattle.replay_spec.specs.TapeRun.{pause, awaiting_answer, program_awaiting, TapeConfig, TapeResult, tape_result, Plays, after_step, after_next, after_segment, tape_step_of}
 use Rattle.observed_steps.specs.Executions.{left_store, in_store}
-use Rattle.observed_steps.specs.Laws.{ObservedStepsAreAlike, StoresAnswerThemselves, StepsChangeAsObserved}
 use Rattle.type_safety.specs.Configurations.{IsConfig, IsSafe, IsTypedCode, scope}
 use Rattle.type_safety.specs.Heights.{Heights}
-use Rattle.type_safety.specs.Laws.{InstructionsHaveRules, FittingActionsHaveResults, StepsAreSafe}
 use Rattle.type_safety.specs.Results.{IsControl, IsActionResult}
 use Rattle.type_safety.specs.Stores.{IsStore}
+use Rattle.tape_follows.specs.Below.{LawsOfSteps}
 use Rattle.tape_follows.proofs.Stores.{maxima}
 use Rattle.tape_follows.proofs.Relation.{IsKnownOf}
 use Rattle.tape_follows.proofs.Claims.{Claim}
@@ -48,16 +47,7 @@ use Rattle.tape_follows.proofs.Follows.{all_paused, pending, observed_from, Foll
 use Rattle.tape_follows.proofs.HostStores.{host_change, known_of_change}
 use Rattle.tape_follows.proofs.Parts.{finished_observations, follows_fault, host_reads, follows_entry, follows_over, follows_segment}
 
--- the laws of the crates below
-pub record Laws : Type 0 where
-  pub alike : ObservedStepsAreAlike
-  pub own : StepsChangeAsObserved
-  pub answers : StoresAnswerThemselves
-  pub rules : InstructionsHaveRules
-  pub actions : FittingActionsHaveResults
-  pub steps : StepsAreSafe
-
-module _ (laws : Laws) (m : Module) (heights : Heights) (valid : IsValid m) (typed : IsTypedCode m heights)
+module _ (laws : LawsOfSteps) (m : Module) (heights : Heights) (valid : IsValid m) (typed : IsTypedCode m heights)
     (answers : List (Option Answer)) (fits : FitAnswers m answers) (claim : Claim)
     (closed : IsClosed claim m heights) where
   abbrev pub program : Program

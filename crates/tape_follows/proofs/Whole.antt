@@ -9,19 +9,17 @@ use Rattle.run_outcomes.specs.declared.outcomes.Outcome.{Outcome}
 use Rattle.history_spec.specs.Code.{Code, code_of}
 use Rattle.history_spec.specs.Step.{Progress, Running, Finished, Program, StepResult, step}
 use Rattle.history_spec.specs.Run.{Run, all_one, program_of, start_in_store, weight, run_after, steps}
-use Rattle.replay_spec.specs.Laws.{NeededSegmentsAreKept}
 use Rattle.replay_spec.specs.Observations.{run_observations}
 use Rattle.replay_spec.specs.Known.{opening_known}
 use Rattle.replay_spec.specs.TapeRun.{TapeProgress, TapeResult, tape_result, Plays, Over, Disagrees, NoRule, tape_step, tape_steps, tape_start}
 use Rattle.type_safety.specs.Configurations.{IsTypedCode}
 use Rattle.type_safety.specs.Heights.{Heights}
-use Rattle.type_safety.specs.Laws.{ValidCodeHasHeights, ValidCodeIsTyped, SuppliesMatch, NewStoresAreTyped, StartsAreSafe}
+use Rattle.tape_follows.specs.Below.{LawsOfSteps, LawsOfRuns}
 use Rattle.tape_follows.specs.Laws.{IsReplayed, NeededTapesReplayRuns}
 use Rattle.tape_follows.proofs.Closed.{IsClosed}
 use Rattle.tape_follows.proofs.Replays.{Shows, replays, replays_closed}
 use Rattle.tape_follows.proofs.HostStores.{sizes_of}
 use Rattle.tape_follows.proofs.Simulation as sim
-use Rattle.tape_follows.proofs.Simulation.{Laws}
 use Rattle.tape_follows.proofs.AllSteps as all
 
 -- a tape's run that comes to an outcome never disagrees
@@ -38,7 +36,7 @@ never_disagrees code (suc n) Disagrees outcome h k e = cc
 never_disagrees code n NoRule outcome h zero e = cc
 never_disagrees code n NoRule outcome h (suc k) e = cc
 
-module _ (laws : Laws) (m : Module) (heights : Heights) (valid : IsValid m) (typed : IsTypedCode m heights)
+module _ (laws : LawsOfSteps) (m : Module) (heights : Heights) (valid : IsValid m) (typed : IsTypedCode m heights)
     (answers : List (Option Answer)) (fits : FitAnswers m answers) where
   -- the same of the claim that the tape's run replays the scripted run
   abbrev closed : IsClosed replays m heights
@@ -49,16 +47,6 @@ module _ (laws : Laws) (m : Module) (heights : Heights) (valid : IsValid m) (typ
 
   pub delivers : (k : ℕ) → sim.Delivers laws m heights valid typed answers fits replays closed k
   delivers = all.delivers laws m heights valid typed answers fits replays closed
-
--- the laws of the crates below that say that modules that can be run are typed, and their runs safe; and that what is
--- known may be kept observation by observation
-pub record Safety : Type 0 where
-  pub kept : NeededSegmentsAreKept
-  pub heights : ValidCodeHasHeights
-  pub code : ValidCodeIsTyped
-  pub supplied : SuppliesMatch
-  pub store : NewStoresAreTyped
-  pub starts : StartsAreSafe
 
 -- after its end a run stays as it is
 same_run : (program : Program) (k j : ℕ) (at : Progress) (a b : Outcome)
@@ -77,7 +65,7 @@ same_run program (suc k) (suc j) at a b h q = refl
 same_outcome : (a b : Outcome) → Finished a ≡ Finished b → a ≡ b
 same_outcome a b h = cc
 
-pub needed_tape_replays : Laws → Safety → NeededTapesReplayRuns
+pub needed_tape_replays : LawsOfSteps → LawsOfRuns → NeededTapesReplayRuns
 needed_tape_replays laws safety m script supply store segments count outcome runnable fits links opens needed ends =
     subst
     (λ o. IsReplayed (code_of m) store segments

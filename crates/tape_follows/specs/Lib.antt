@@ -1,3 +1,4 @@
+pub mod Below
 pub mod RealReads
 pub mod Laws
 pub mod Dropped
