@@ -216,7 +216,8 @@ module _ (laws : LawsOfSteps) (reads : ReadsAreRealAfterSettling) (m : Module) (
             kept = kept;
             real = read_after k known store counts frame below (option_to_list value) kept nested.1 safe;
           },
-          deliver_from (InModule frame ∷ below) (option_to_list value) store counts known nested.1 ends.3 kept safe within,
+          deliver_from (InModule frame ∷ below) (option_to_list value) store counts known nested.1 ends.3 kept safe
+              within,
         )
       where
         value_is : (o : Option Val) → slice_get (option_to_list o) 0 ≡ o
@@ -326,23 +327,25 @@ module _ (laws : LawsOfSteps) (reads : ReadsAreRealAfterSettling) (m : Module) (
       → (r : ActionResult) → perform code store args action ≡ r → IsActionResult m r
       → IsSafe m heights
       (after_action program (record { store = store; stack = stack; counts = counts }) stack r).next
-      → HasOutcomeWithin k (after_action program (record { store = store; stack = stack; counts = counts }) stack r).next
+      → HasOutcomeWithin k
+      (after_action program (record { store = store; stack = stack; counts = counts }) stack r).next
       → AreFromEnd m known (open_imports stack)
       (observed_from program k
       (after_action program (record { store = store; stack = stack; counts = counts }) stack r))
-  from_action k delivers stack store counts known params args action host nested ends kept fit (Changes after) e fine safe
-      within =
+  from_action k delivers stack store counts known params args action host nested ends kept fit (Changes after) e fine
+      safe within =
       host (observed_from program k (after_settling after counts (deliver stack [])))
       (delivers stack [] after counts known nested ends
       (host_keeps m known code store params args action after kept fine fit e) safe within)
-  from_action k delivers stack store counts known params args action host nested ends kept fit (Enters func given) e fine safe
-      within =
+  from_action k delivers stack store counts known params args action host nested ends kept fit (Enters func given) e
+      fine safe within =
       from_host_call k delivers func given stack store counts known fine.0 fine.1 fine.2
       (types_values (func_count m) fine.0.params given fine.3) nested ends kept safe within
   from_action k delivers stack store counts known params args action host nested ends kept fit (Fails kind) e fine safe
       within =
       absurd (no_fault k _ within (λ outcome h. cc) (λ config h. cc))
-  from_action k delivers stack store counts known params args action host nested ends kept fit Unfit e fine safe within =
+  from_action k delivers stack store counts known params args action host nested ends kept fit Unfit e fine safe
+      within =
       absurd fine
 
   -- ---- a step of the module
@@ -367,8 +370,8 @@ module _ (laws : LawsOfSteps) (reads : ReadsAreRealAfterSettling) (m : Module) (
       delivers (InModule next ∷ below) [] next_store counts known nested ends kept safe within
   from_control k delivers frame below store counts known ty body (Calls waiting func args) nested ends fine kept safe
       within =
-      from_call k delivers waiting below func args fine.0 store counts known (nat_lt func code.imported) refl fine.1 nested
-      ends kept safe within
+      from_call k delivers waiting below func args fine.0 store counts known (nat_lt func code.imported) refl fine.1
+      nested ends kept safe within
   from_control k delivers frame below store counts known ty body (Returns results) nested ends fine kept safe within =
       from_return k frame.func results below known store counts
       (delivers below results store counts known nested ends kept safe within)
@@ -393,15 +396,16 @@ module _ (laws : LawsOfSteps) (reads : ReadsAreRealAfterSettling) (m : Module) (
       ++ observed_from program k
       (after_instruction program (record { store = store; stack = InModule frame ∷ below; counts = counts }) frame below
       e))
-  from_instruction k delivers frame below store counts known ty body nested ends kept NoRule e rule safe within = absurd rule
-  from_instruction k delivers frame below store counts known ty body nested ends kept (Traps kind operands found) e rule safe
-      within =
+  from_instruction k delivers frame below store counts known ty body nested ends kept NoRule e rule safe within =
+      absurd rule
+  from_instruction k delivers frame below store counts known ty body nested ends kept (Traps kind operands found) e
+      rule safe within =
       after_seen m known store (open_imports below) (observed store frame) _
       (trap_seen laws.own laws.answers m code store kept.is frame known kind operands found e)
       (subst (AreActivities m (known_after_all known (observed store frame)) (open_imports below))
       (sym (finished_observations program k Trapped)) tt)
-  from_instruction k delivers frame below store counts known ty body nested ends kept (Did operands results found control) e
-      rule safe within =
+  from_instruction k delivers frame below store counts known ty body nested ends kept
+      (Did operands results found control) e rule safe within =
       after_seen m known store (open_imports below) (observed store frame) _
       (done_seen laws.own laws.answers m code store kept.is frame known operands results found control e)
       (from_control k delivers frame below store counts (known_after_all known (observed store frame)) ty body control

@@ -152,7 +152,8 @@ entries_after index func at (Entry x f ∷ effects) low h =
     (and_right (nat_lt index x) (are_ordered_after (Entry x f) effects) h) in
     let differs : nat_eq x at ≡ false = grind (arith, nat_tests, low, less) in
     (λ i. option_or (later i) (cond (differs i) (Some f) None))
-entries_after index func at (Global x v ∷ effects) low h = ap (λ o. option_or o None) (entries_after_globals x v at effects h)
+entries_after index func at (Global x v ∷ effects) low h =
+    ap (λ o. option_or o None) (entries_after_globals x v at effects h)
 entries_after index func at (effect ∷ effects) low h = cc
 
 ordered_rest : (effect : Effect) (effects : List Effect) → are_ordered_after effect effects ≡ true

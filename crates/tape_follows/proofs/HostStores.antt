@@ -158,7 +158,8 @@ grown_table_is true table by func larger h =
       sym (ap (λ (t : Table). t.max) is),
     )
 
-pub no_call : (code : Code) (args : List Val) (o : Option ℕ) (after : Store) → calls_entry code args o ≡ Changes after → ⊥
+pub no_call : (code : Code) (args : List Val) (o : Option ℕ) (after : Store)
+    → calls_entry code args o ≡ Changes after → ⊥
 no_call code args None after h = cc
 no_call code args (Some func) after h = go (nat_lt func code.imported) h
   where

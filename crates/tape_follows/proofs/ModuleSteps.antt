@@ -137,4 +137,5 @@ module _ (laws : LawsOfSteps) (m : Module) (heights : Heights) (valid : IsValid 
             _ _ (Step frame.func frame.at.number operands results found) (λ other segments. refl)
             (sim.controlled laws m heights valid typed answers fits claim closed k delivers frame below store
             (with_changes store items) counts (known_after_all known items) came ty body control nested fine.store rule
-            (left_is laws.own laws.answers m code store fine.store frame known operands results found control e) (known_of_all known store items are of) safe)
+            (left_is laws.own laws.answers m code store fine.store frame known operands results found control e)
+            (known_of_all known store items are of) safe)

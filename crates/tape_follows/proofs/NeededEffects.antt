@@ -67,19 +67,22 @@ module _ (changes : List Effect) (are : AreChanges changes) (order : are_ordered
   growths_ordered (Some pages) None = memory_before pages
   growths_ordered (Some pages) (Some size) = table_before size
 
-  growths_nonempty : (pages size : Option ℕ) → list_all has_bytes (with_growth pages (with_table_growth size changes)) ≡ true
+  growths_nonempty : (pages size : Option ℕ)
+      → list_all has_bytes (with_growth pages (with_table_growth size changes)) ≡ true
   growths_nonempty None None = some
   growths_nonempty None (Some size) = some
   growths_nonempty (Some pages) None = some
   growths_nonempty (Some pages) (Some size) = some
 
-  growths_pages : (pages size : Option ℕ) → last_some effect_pages (with_growth pages (with_table_growth size changes)) ≡ pages
+  growths_pages : (pages size : Option ℕ)
+      → last_some effect_pages (with_growth pages (with_table_growth size changes)) ≡ pages
   growths_pages None None = no_growth changes are
   growths_pages None (Some size) = ap (λ o. option_or o None) (no_growth changes are)
   growths_pages (Some pages) None = ap (λ o. option_or o (Some pages)) (no_growth changes are)
   growths_pages (Some pages) (Some size) = ap (λ o. option_or (option_or o None) (Some pages)) (no_growth changes are)
 
-  growths_entries : (pages size : Option ℕ) → last_some effect_entries (with_growth pages (with_table_growth size changes)) ≡ size
+  growths_entries : (pages size : Option ℕ)
+      → last_some effect_entries (with_growth pages (with_table_growth size changes)) ≡ size
   growths_entries None None = no_table_growth changes are
   growths_entries None (Some size) = ap (λ o. option_or o (Some size)) (no_table_growth changes are)
   growths_entries (Some pages) None = ap (λ o. option_or o None) (no_table_growth changes are)

@@ -56,8 +56,8 @@ module _ (laws : LawsOfSteps) (safety : LawsOfRuns) (m : Module) (script : Scrip
 
 pub needed_tapes_fit : LawsOfSteps → LawsOfRuns → NeededTapesFit
 needed_tapes_fit laws safety m script supply store segments runnable fits links opens needed =
-    first_fits m (opening_known store) (observed_from (program_of m script) needed.count (start_in_store m script store))
-    segments
+    first_fits m (opening_known store)
+    (observed_from (program_of m script) needed.count (start_in_store m script store)) segments
     (run_fits laws safety m script supply store runnable fits links opens needed.count needed.outcome needed.ends)
     ((safety.kept (opening_known store)
     (run_observations (program_of m script) (start_in_store m script store) needed.count) segments).0 needed.needed)

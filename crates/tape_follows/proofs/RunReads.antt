@@ -68,7 +68,8 @@ module _ (laws : LawsOfSteps) (m : Module) (heights : Heights) (valid : IsValid 
   -- ---- what follows without a turn
 
   after_results : (known : Known) (store : Store) (counts : List ℕ) → IsKnownOf known store → (stack : List Activation)
-      (results : List Val) → AreNested stack → IsKnownAt known (after_settling store counts (deliver stack results)).next
+      (results : List Val) → AreNested stack
+      → IsKnownAt known (after_settling store counts (deliver stack results)).next
   after_results known store counts of [] results nested = tt
   after_results known store counts of (InModule frame ∷ below) results nested =
       go (λ given. after_results known store counts of below given nested) (at_end (with_results frame results))
