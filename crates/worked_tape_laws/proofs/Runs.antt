@@ -14,7 +14,7 @@ use Rattle.wasm_syntax.specs.Laws.{ValidityIsDecided}
 use Rattle.wasm_syntax.specs.Typing.{is_constant}
 use Rattle.host_script.specs.declared.scripts.Action.{Action}
 use Rattle.host_script.specs.declared.scripts.Action.TheVariants.{Write, SetTable, SetGlobal, Grow as GrowBy, GrowTable, Call as CallFunc}
-use Rattle.host_script.specs.declared.scripts.Address.TheVariants.{Fixed}
+use Rattle.host_script.specs.declared.scripts.Address.TheVariants.{Fixed, Arg}
 use Rattle.host_script.specs.declared.scripts.Script.{Script}
 use Rattle.host_script.specs.declared.scripts.Supply.{Supply}
 use Rattle.host_script.specs.declared.scripts.ResponseEnd.TheVariants.{Return as Gives}
@@ -32,9 +32,9 @@ use Rattle.replay_spec.specs.Needed.{IsNeededTape, opening_store, opening_store_
 use Rattle.replay_spec.specs.NeededTest.{are_needed_segments}
 use Rattle.replay_spec.specs.Observations.{run_observations}
 use Rattle.type_safety.specs.Supplies.{IsRunnable, HasBytes}
-use Rattle.worked_histories.specs.Modules.{overwrite, grow_access, copy_load, nested_call, table_entry, table_growth, float_global}
-use Rattle.worked_histories.specs.Build.{value, i32, returns}
-use Rattle.worked_histories.specs.Scripts.{does, does_all, calls_back}
+use Rattle.worked_histories.specs.Modules.{two_answers, overwrite, grow_access, copy_load, fill_past, nested_call, table_entry, table_growth, float_global, c_buffers}
+use Rattle.worked_histories.specs.Build.{value, i32, returns, traps}
+use Rattle.worked_histories.specs.Scripts.{five_seven, host_traps, does, does_all, calls_back, reads_hi}
 use Rattle.worked_tapes.specs.TapeBuild.{most_steps, scripted_run}
 use Rattle.worked_tape_laws.specs.Dropped.{writes_four, writes_copied}
 use Rattle.worked_tape_laws.proofs.Fit.{no_constants, one_call_fits, does_fits}
@@ -208,5 +208,62 @@ copy_load_runs =
     (omega arith) refl refl refl
     (small copy_load (Write (Fixed 8) (0x85 ∷ 0x00 ∷ 0x00 ∷ 0x01 ∷ []) ∷ []) (
       (omega arith, tt, four_small 0x85 0x00 0x00 0x01 (omega arith) (omega arith) (omega arith) (omega arith)),
+      tt,
+    )))
+
+pub unread_write_runs : CanRun overwrite (does (Write (Fixed 100) (0xFF ∷ [])))
+unread_write_runs =
+    can_run overwrite (does (Write (Fixed 100) (0xFF ∷ []))) refl refl refl refl refl
+    (does_fits overwrite (gives (I32 ∷ [])) (Write (Fixed 100) (0xFF ∷ []) ∷ []) refl refl (omega arith) refl refl refl
+    (small overwrite (Write (Fixed 100) (0xFF ∷ []) ∷ []) (
+      (omega arith, tt, All-from_recursion (λ byte. byte < 256) (0xFF ∷ []) (omega arith, tt)),
+      tt,
+    )))
+
+pub fill_past_runs : CanRun fill_past (does (GrowBy 1))
+fill_past_runs =
+    can_run fill_past (does (GrowBy 1)) refl refl refl refl refl
+    (does_fits fill_past (gives []) (GrowBy 1 ∷ []) refl refl (omega arith) refl refl refl
+    (small fill_past (GrowBy 1 ∷ []) (omega arith, tt)))
+
+pub two_answers_runs : CanRun two_answers five_seven
+two_answers_runs =
+    can_run two_answers five_seven refl refl refl refl refl
+    (one_call_fits two_answers 0 (gives (I32 ∷ [])) (gives (I32 ∷ []))
+    (returns [] (Some (i32 5)) ∷ returns [] (Some (i32 7)) ∷ []) refl refl (omega arith) refl refl refl
+    (All-from_recursion (FitsResponse two_answers (gives (I32 ∷ [])))
+    (returns [] (Some (i32 5)) ∷ returns [] (Some (i32 7)) ∷ []) (
+      record { actions = small two_answers [] tt; «end» = one_value 5 refl },
+      (record { actions = small two_answers [] tt; «end» = one_value 7 refl }, tt),
+    )))
+
+pub host_trap_runs : CanRun two_answers host_traps
+host_trap_runs =
+    can_run two_answers host_traps refl refl refl refl refl
+    (one_call_fits two_answers 0 (gives (I32 ∷ [])) (gives (I32 ∷ [])) (traps ∷ []) refl refl (omega arith) refl refl
+    refl
+    (All-from_recursion (FitsResponse two_answers (gives (I32 ∷ []))) (traps ∷ [])
+    (record { actions = small two_answers [] tt; «end» = tt }, tt)))
+
+-- what the import of the buffers takes
+abbrev reads_type : FuncType
+reads_type = record { params = I32 ∷ I32 ∷ I32 ∷ []; results = I32 ∷ [] }
+
+abbrev read_actions : List Action
+read_actions = Write (Arg 0 0) (0x68 ∷ 0x69 ∷ 0x0A ∷ 0 ∷ []) ∷ Write (Arg 2 0) (3 ∷ 0 ∷ 0 ∷ 0 ∷ []) ∷ []
+
+pub c_buffers_runs : CanRun c_buffers reads_hi
+c_buffers_runs =
+    can_run c_buffers reads_hi refl refl refl refl refl
+    (one_call_fits c_buffers 0 reads_type (gives (I32 ∷ [])) (returns read_actions (Some (i32 0)) ∷ []) refl refl
+    (omega arith) refl refl refl
+    (All-from_recursion (FitsResponse c_buffers reads_type) (returns read_actions (Some (i32 0)) ∷ []) (
+      record {
+        actions = All-from_recursion (FitsAction c_buffers reads_type.params) read_actions (
+          (omega arith, refl, four_small 0x68 0x69 0x0A 0 (omega arith) (omega arith) (omega arith) (omega arith)),
+          ((omega arith, refl, four_small 3 0 0 0 (omega arith) (omega arith) (omega arith) (omega arith)), tt),
+        );
+        «end» = one_value 0 refl;
+      },
       tt,
     )))
