@@ -344,8 +344,7 @@ module _ (laws : LawsOfSteps) (reads : ReadsAreRealAfterSettling) (m : Module) (
   from_action k delivers stack store counts known params args action host nested ends kept fit (Fails kind) e fine safe
       within =
       absurd (no_fault k _ within (λ outcome h. cc) (λ config h. cc))
-  from_action k delivers stack store counts known params args action host nested ends kept fit Unfit e fine safe
-      within =
+  from_action k delivers stack store counts known params args action host nested ends kept fit Unfit e fine _ _ =
       absurd fine
 
   -- ---- a step of the module
@@ -396,8 +395,7 @@ module _ (laws : LawsOfSteps) (reads : ReadsAreRealAfterSettling) (m : Module) (
       ++ observed_from program k
       (after_instruction program (record { store = store; stack = InModule frame ∷ below; counts = counts }) frame below
       e))
-  from_instruction k delivers frame below store counts known ty body nested ends kept NoRule e rule safe within =
-      absurd rule
+  from_instruction k delivers frame below store counts known ty body nested ends kept NoRule e rule _ _ = absurd rule
   from_instruction k delivers frame below store counts known ty body nested ends kept (Traps kind operands found) e
       rule safe within =
       after_seen m known store (open_imports below) (observed store frame) _
