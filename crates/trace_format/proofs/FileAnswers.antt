@@ -35,7 +35,7 @@ module _ {C : Type 0} (magic bytes : List ℕ) (IsOf IsRead : C → Type 0) (IsF
   answer_found (Ok content) is = facts.read_is content is
   answer_found (Err fault) is = tt
 
-  fault_only : (fault : FormatFault) → IsAnswer (Err fault) → (content : C) → IsOf content → fault ≡ Memory
+  pub fault_only : (fault : FormatFault) → IsAnswer (Err fault) → (content : C) → IsOf content → fault ≡ Memory
   fault_only (Version found) is content spelled =
       absurd (facts.of_version content found spelled (other_is magic bytes found is))
   fault_only (Bad at) is content spelled = absurd (facts.none at content is.1 (facts.is_read content spelled))
@@ -46,7 +46,7 @@ module _ {C : Type 0} (magic bytes : List ℕ) (IsOf IsRead : C → Type 0) (IsF
   answer_only (Ok read) is content spelled = inl (ap Ok (facts.one read content is (facts.is_read content spelled)))
   answer_only (Err fault) is content spelled = inr (ap Err (fault_only fault is content spelled))
 
-  fault_is : (fault : FormatFault) → IsAnswer (Err fault) → IsFaultOf magic IsOf IsFront bytes fault
+  pub fault_is : (fault : FormatFault) → IsAnswer (Err fault) → IsFaultOf magic IsOf IsFront bytes fault
   fault_is (Version found) is = other_is magic bytes found is
   fault_is (Bad at) is = (
     (λ found other. none-some found (sym is.0 ∙ is_other magic bytes found other)),

@@ -10,5 +10,6 @@ mod Logs
 mod Tapes
 mod Writable
 mod ItemLoops
+mod LineLemmas
 mod EndLemmas
 mod FileSteps

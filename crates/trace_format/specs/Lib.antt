@@ -5,3 +5,4 @@ pub mod Laws
 pub mod ReadResults
 pub mod Answers
 pub mod Text
+pub mod Lines

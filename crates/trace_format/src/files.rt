@@ -77,7 +77,7 @@ pub fn read_tape(alloc: Global, bytes: &[u8]) -> Result<(Digest, Tape), FormatFa
 }
 
 /// The bytes of a header: what it begins with, its version and its digest.
-const HEADER_BYTES: usize = 5 + DIGEST_BYTES;
+pub(crate) const HEADER_BYTES: usize = 5 + DIGEST_BYTES;
 
 /// The log of a file, as the plain readers read it.
 #[tactic(auto, unfolding(crate::specs::Reading::first_log_header))]

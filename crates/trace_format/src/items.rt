@@ -2,6 +2,7 @@
 
 ghost use Rattle.std.specs.Prelude.{◌≤◌, length, IfOk};
 ghost use Rattle.trace_format.specs.Files.{AreAllRead, Shrinks};
+ghost use Rattle.trace_format.specs.Lines.{AreAllShown};
 ghost use Rattle.wasm_syntax.specs.Encoding.Combinators.{first_items};
 ghost use Rattle.trace_format.specs.Reading.{first_counted};
 ghost use Rattle.trace_format.specs.ReadResults.{Finds, Gives};
@@ -26,6 +27,18 @@ pub(crate) trait Kind {
     /// Reads an item.
     fn first(alloc: Global, version: u8, bytes: &[u8]) -> Result<(Self::Item, &[u8]), Unread>
         ensures { Gives (λ read. (read.0, read.1.now)) result (first version bytes.now) };
+}
+
+/// A kind of items that lines show.
+pub(crate) trait Shown: Kind {
+    ghost use Rattle.std.specs.Prelude.{◌≡◌, ◌++◌, ℕ, List, OnOk};
+
+    // the lines of an item
+    ghost lines: { Self.Item → List ℕ };
+
+    /// Appends the lines of an item.
+    fn put_lines(out: &mut Vec<u8>, item: &Self::Item) -> Result<(), NoMemory>
+        ensures { OnOk result (out.new.items ≡ out.old.items ++ lines item.now) };
 }
 
 /// As many items as the number at the front says.
@@ -100,4 +113,28 @@ pub(crate) fn whole_items<K: Kind>(
         rest = after;
     }
     Ok((items, rest))
+}
+
+/// Appends the lines of items as long as whole ones are there, and gives what is left. One item at a
+/// time is in memory.
+///
+/// # Errors
+/// Where an allocation failed.
+pub(crate) fn put_whole_items<'a, K: Shown>(
+    alloc: Global,
+    out: &mut Vec<u8>,
+    version: u8,
+    bytes: &'a [u8],
+) -> Result<&'a [u8], NoMemory>
+    requires { Shrinks (K.first version) }
+    ensures shown { IfOk result (λ left.
+        AreAllShown (K.first version) K.lines bytes.now left.now out.old.items out.new.items) }
+    ensures shorter { IfOk result (λ left. length left.now ≤ length bytes.now) }
+{
+    let mut rest = bytes;
+    'items: while let Some((item, after)) = next_item::<K>(alloc, version, rest)? {
+        K::put_lines(out, &item)?;
+        rest = after;
+    }
+    Ok(rest)
 }

@@ -2,6 +2,7 @@
 #![tactic(auto)]
 
 mod events;
+mod file_lines;
 pub mod files;
 mod headers;
 mod items;
@@ -12,6 +13,7 @@ mod segments;
 mod texts;
 mod unread;
 
+pub use file_lines::{lines_of_log, lines_of_tape};
 pub use files::{FormatFault, read_log, read_tape};
 pub use headers::Digest;
 pub use laws::{log_files, tape_files};

@@ -5,6 +5,7 @@ ghost use Rattle.history_spec.specs.Line.{hex_digits, line, number_text, values_
 ghost use Rattle.trace_format.specs.Text.{bytes_text, effect_text, entry_text, event_text, func_text, global_text, hex_text, log_text, next_text, origin_text, result_text, segment_text, tape_text};
 
 use crate::headers::Digest;
+use crate::items::Shown;
 use history_lines::{print_outcome, put, put_number, put_value, put_values};
 use no_memory::NoMemory;
 use std::alloc::Global;
@@ -44,14 +45,29 @@ pub fn show_tape(alloc: Global, digest: &Digest, tape: &Tape) -> Result<Vec<u8>,
     Ok(out)
 }
 
+impl Shown for Event {
+    ghost lines = { λ event. line (event_text event) };
+
+    fn put_lines(out: &mut Vec<u8>, item: &Event) -> Result<(), NoMemory> {
+        put_event_line(out, item)
+    }
+}
+
+impl Shown for Segment {
+    ghost lines = { segment_text };
+
+    fn put_lines(out: &mut Vec<u8>, item: &Segment) -> Result<(), NoMemory> {
+        put_segment(out, item)
+    }
+}
+
 /// Appends the lines of events.
 fn put_events(out: &mut Vec<u8>, events: &[Event]) -> Result<(), NoMemory>
     ensures { OnOk result (out.new.items
         ≡ out.old.items ++ flat_map (λ event. line (event_text event)) events.now) }
 {
     'events: for event in events {
-        put_event(out, event)?;
-        put(out, b"\n")?;
+        put_event_line(out, event)?;
     }
     Ok(())
 }
@@ -79,7 +95,7 @@ fn put_effects(out: &mut Vec<u8>, effects: &[Effect]) -> Result<(), NoMemory>
 }
 
 /// Appends a word and bytes in hexadecimal, with a line feed.
-fn put_hex_line(out: &mut Vec<u8>, word: &[u8], bytes: &[u8]) -> Result<(), NoMemory>
+pub(crate) fn put_hex_line(out: &mut Vec<u8>, word: &[u8], bytes: &[u8]) -> Result<(), NoMemory>
     ensures { OnOk result (out.new.items ≡ out.old.items ++ line (word.now ++ with_space (hex_text bytes.now))) }
 {
     put(out, word)?;
@@ -178,6 +194,14 @@ fn put_global(out: &mut Vec<u8>, global: u32, value: Val) -> Result<(), NoMemory
 {
     put_numbered(out, b"global", global)?;
     put_value(out, value)
+}
+
+/// Appends the line of an event.
+fn put_event_line(out: &mut Vec<u8>, event: &Event) -> Result<(), NoMemory>
+    ensures { OnOk result (out.new.items ≡ out.old.items ++ line (event_text event.now)) }
+{
+    put_event(out, event)?;
+    put(out, b"\n")
 }
 
 /// Appends the text of an event.
