@@ -1,11 +1,11 @@
 //! Files that are refused: their version, or the place of their fault.
 
 use crate::tests::files::{
-    LOG_OF_TWO_ANSWERS, Row, TAPE_OF_TWO_ANSWERS, check_logs, check_tapes, file, lines_of_log,
-    lines_of_tape,
+    LOG_OF_TWO_ANSWERS, Row, TAPE_OF_TWO_ANSWERS, check_logs, check_tapes, file,
 };
 use std::test::Fail;
 use trace_format::FormatFault::{Bad, Version};
+use trace_format::{lines_of_log, lines_of_tape};
 
 /// The header of a log with few imported functions has 38 bytes.
 const LOGS: &[Row] = &[

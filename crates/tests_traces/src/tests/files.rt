@@ -2,7 +2,9 @@
 
 use std::alloc::Global;
 use std::test::Fail;
-use trace_format::{FormatFault, read_log, read_tape, show_log, show_tape};
+use trace_format::{
+    FormatFault, lines_of_log, lines_of_tape, read_log, read_tape, show_log, show_tape,
+};
 
 /// What a log's file begins with, and a tape's.
 pub const LOG: &str = "72336c67";
@@ -38,38 +40,40 @@ pub fn file(alloc: Global, magic: &str, version: &str, body: &str) -> Result<Vec
     Ok(bytes)
 }
 
-/// Compares the answers to logs.
+/// Compares the answers to logs, read and shown, and shown at once.
 pub fn check_logs(alloc: Global, rows: &[Row]) -> Result<(), Fail> {
     for &(name, version, body, want) in rows {
         let bytes = file(alloc, LOG, version, body)?;
-        let answer = lines_of_log(alloc, bytes.as_slice());
-        if !agree(alloc, "log ", answer, want)? {
+        let read = read_log_lines(alloc, bytes.as_slice());
+        let shown = lines_of_log(alloc, bytes.as_slice());
+        if !agree(alloc, "log ", read, want)? || !agree(alloc, "log ", shown, want)? {
             return Err(Fail::new(format_args!("{name}")));
         }
     }
     Ok(())
 }
 
-/// Compares the answers to tapes.
+/// Compares the answers to tapes, read and shown, and shown at once.
 pub fn check_tapes(alloc: Global, rows: &[Row]) -> Result<(), Fail> {
     for &(name, version, body, want) in rows {
         let bytes = file(alloc, TAPE, version, body)?;
-        let answer = lines_of_tape(alloc, bytes.as_slice());
-        if !agree(alloc, "tape ", answer, want)? {
+        let read = read_tape_lines(alloc, bytes.as_slice());
+        let shown = lines_of_tape(alloc, bytes.as_slice());
+        if !agree(alloc, "tape ", read, want)? || !agree(alloc, "tape ", shown, want)? {
             return Err(Fail::new(format_args!("{name}")));
         }
     }
     Ok(())
 }
 
-/// The lines of a log.
-pub fn lines_of_log(alloc: Global, bytes: &[u8]) -> Result<Vec<u8>, FormatFault> {
+/// The lines of a log that is read first.
+fn read_log_lines(alloc: Global, bytes: &[u8]) -> Result<Vec<u8>, FormatFault> {
     let (digest, log) = read_log(alloc, bytes)?;
     Ok(show_log(alloc, &digest, &log)?)
 }
 
-/// The lines of a tape.
-pub fn lines_of_tape(alloc: Global, bytes: &[u8]) -> Result<Vec<u8>, FormatFault> {
+/// The lines of a tape that is read first.
+fn read_tape_lines(alloc: Global, bytes: &[u8]) -> Result<Vec<u8>, FormatFault> {
     let (digest, tape) = read_tape(alloc, bytes)?;
     Ok(show_tape(alloc, &digest, &tape)?)
 }
