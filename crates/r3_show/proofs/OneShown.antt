@@ -1,0 +1,104 @@
+-- Bytes are shown in one way, or refused in one way.
+use Rattle.std.proofs.Common.{◌≡◌, ℕ, inl, inr, List, ◌∷◌, ◌++◌, Bool, true, false, refl, sym, ◌∙◌, ap, subst, append_assoc, arith}
+use Rattle.std.proofs.lemmas.List.{append_cancel_left}
+use Rattle.leb_bytes.specs.Unsigned.{u32_bytes}
+use Rattle.trace_model.specs.declared.events.Log.{Log}
+use Rattle.trace_model.specs.declared.tapes.Tape.{Tape}
+use Rattle.trace_bytes.specs.declared.tags.TheConstants.{LOG_MAGIC, TAPE_MAGIC}
+use Rattle.trace_bytes.specs.Spelling.{header_bytes, log_bytes, tape_bytes}
+use Rattle.trace_bytes.specs.Spelled.{IsVersion}
+use Rattle.trace_format.specs.Faults.{IsFaultOf, IsFaultPlace, IsLogFront, IsLogOf, IsOtherVersion, IsTapeFront, IsTapeOf}
+use Rattle.trace_format.specs.Laws.{LogsAreToldApart, TapesAreToldApart}
+use Rattle.trace_format.specs.Text.{log_text, tape_text}
+use Rattle.trace_format.specs.declared.files.FormatFault.{FormatFault}
+use Rattle.trace_format.specs.declared.files.FormatFault.TheVariants.{Version, Bad, Memory}
+use Rattle.r3_faults.specs.declared.faults.Fault.{Fault}
+use Rattle.r3_show.specs.Shown.{IsCauseAs, IsShownAs, IsUnshownAs, fault_of}
+
+-- ---- versions
+
+same_first : (a b : ℕ) (rest more : List ℕ) → a ∷ rest ≡ b ∷ more → a ≡ b
+same_first a b rest more h = cc
+
+-- the byte after what a file begins with is one
+same_byte : (magic bytes rest more : List ℕ) (a b : ℕ) → bytes ≡ magic ++ a ∷ rest → bytes ≡ magic ++ b ∷ more → a ≡ b
+same_byte magic bytes rest more a b one two =
+    same_first a b rest more (append_cancel_left magic (a ∷ rest) (b ∷ more) (sym one ∙ two))
+
+-- a file of a version is of no other
+of_version : (magic bytes digest later : List ℕ) (version found : ℕ) → IsVersion version
+    → bytes ≡ header_bytes magic version digest ++ later → IsOtherVersion magic bytes found → ⊥
+of_version magic bytes digest later version found is parts other =
+    let moved = parts ∙ append_assoc magic (version ∷ digest) later in
+    other.other (subst IsVersion (same_byte magic bytes (digest ++ later) other.rest version found moved other.begins) is)
+
+log_version : (bytes : List ℕ) (content : List ℕ × Log) (found : ℕ) → IsLogOf bytes content.0 content.1
+    → IsOtherVersion LOG_MAGIC bytes found → ⊥
+unfolding log_bytes
+log_version bytes content found is other =
+    of_version LOG_MAGIC bytes content.0 _ is.0 found is.1.is_version
+    (is.1.spelled ∙ append_assoc (header_bytes LOG_MAGIC is.0 content.0) (u32_bytes content.1.imports) _) other
+
+tape_version : (bytes : List ℕ) (content : List ℕ × Tape) (found : ℕ) → IsTapeOf bytes content.0 content.1
+    → IsOtherVersion TAPE_MAGIC bytes found → ⊥
+unfolding tape_bytes
+tape_version bytes content found is other =
+    of_version TAPE_MAGIC bytes content.0 _ is.0 found is.1.is_version is.1.spelled other
+
+-- ---- causes
+
+module _ {C : Type 0} (magic bytes : List ℕ) (IsOf : C → Type 0) (IsFront : ℕ → Type 0)
+    (version : (content : C) (found : ℕ) → IsOf content → IsOtherVersion magic bytes found → ⊥) where
+  abbrev IsCause : FormatFault → Type 0
+  IsCause = IsFaultOf magic IsOf IsFront bytes
+
+  one_place : (a b : ℕ) → IsFaultPlace IsFront a → IsFaultPlace IsFront b → a ≡ b
+  one_place a b (inl x) (inl y) = x.1 ∙ sym y.1
+  one_place a b (inl x) (inr y) = absurd (x.0 b y.0)
+  one_place a b (inr x) (inl y) = absurd (y.0 a x.0)
+  one_place a b (inr x) (inr y) = omega (arith, y.1 a x.0, x.1 b y.0)
+
+  one_cause : (f g : FormatFault) → (f ≡ Memory → ⊥) → (g ≡ Memory → ⊥) → IsCause f → IsCause g → f ≡ g
+  one_cause (Version a) (Version b) m n p q = ap Version (same_byte magic bytes p.rest q.rest a b p.begins q.begins)
+  one_cause (Version a) (Bad b) m n p q = absurd (q.0 a p)
+  one_cause (Bad a) (Version b) m n p q = absurd (p.0 b q)
+  one_cause (Bad a) (Bad b) m n p q = ap Bad (one_place a b p.2 q.2)
+  one_cause Memory g m n p q = absurd (m refl)
+  one_cause (Version a) Memory m n p q = absurd (n refl)
+  one_cause (Bad a) Memory m n p q = absurd (n refl)
+
+  no_cause : (content : C) (f : FormatFault) → (f ≡ Memory → ⊥) → IsOf content → IsCause f → ⊥
+  no_cause content (Version a) m is cause = version content a is cause
+  no_cause content (Bad a) m is cause = cause.1 content is
+  no_cause content Memory m is cause = m refl
+
+-- ---- what is shown
+
+module _ (logs : LogsAreToldApart) (tapes : TapesAreToldApart) where
+  pub one_text : (is_tape : Bool) (bytes x y : List ℕ) → IsShownAs is_tape bytes x → IsShownAs is_tape bytes y → x ≡ y
+  one_text true bytes x y one two =
+      let same = tapes bytes one.digest two.digest one.tape two.tape one.spelled two.spelled in
+      one.lines ∙ ap (λ digest. tape_text digest one.tape) same.0 ∙ ap (tape_text two.digest) same.1 ∙ sym two.lines
+  one_text false bytes x y one two =
+      let same = logs bytes one.digest two.digest one.log two.log one.spelled two.spelled in
+      one.lines ∙ ap (λ digest. log_text digest one.log) same.0 ∙ ap (log_text two.digest) same.1 ∙ sym two.lines
+
+one_found : (is_tape : Bool) (bytes : List ℕ) (f g : FormatFault) → (f ≡ Memory → ⊥) → (g ≡ Memory → ⊥)
+    → IsCauseAs is_tape bytes f → IsCauseAs is_tape bytes g → f ≡ g
+one_found true bytes = one_cause TAPE_MAGIC bytes (λ (content : List ℕ × Tape). IsTapeOf bytes content.0 content.1) (IsTapeFront bytes) (tape_version bytes)
+one_found false bytes = one_cause LOG_MAGIC bytes (λ (content : List ℕ × Log). IsLogOf bytes content.0 content.1) (IsLogFront bytes) (log_version bytes)
+
+pub one_refusal : (is_tape : Bool) (bytes : List ℕ) (fault other : Fault) → IsUnshownAs is_tape bytes fault
+    → IsUnshownAs is_tape bytes other → fault ≡ other
+one_refusal is_tape bytes fault other one two =
+    one.named ∙ ap fault_of (one_found is_tape bytes one.found two.found one.differs two.differs one.cause two.cause)
+    ∙ sym two.named
+
+pub shown_apart : (is_tape : Bool) (bytes text : List ℕ) (fault : Fault) → IsShownAs is_tape bytes text
+    → IsUnshownAs is_tape bytes fault → ⊥
+shown_apart true bytes text fault shown refused =
+    no_cause TAPE_MAGIC bytes (λ (content : List ℕ × Tape). IsTapeOf bytes content.0 content.1) (IsTapeFront bytes) (tape_version bytes)
+    (shown.digest, shown.tape) refused.found refused.differs shown.spelled refused.cause
+shown_apart false bytes text fault shown refused =
+    no_cause LOG_MAGIC bytes (λ (content : List ℕ × Log). IsLogOf bytes content.0 content.1) (IsLogFront bytes) (log_version bytes)
+    (shown.digest, shown.log) refused.found refused.differs shown.spelled refused.cause

@@ -1,0 +1,7 @@
+//! The lines of the log or of the tape that the bytes of a file spell.
+#![tactic(auto)]
+
+mod shown;
+
+pub use r3_faults::Fault;
+pub use shown::show;

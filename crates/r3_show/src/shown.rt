@@ -1,0 +1,85 @@
+// `show`: the lines of a file.
+
+ghost use Rattle.std.specs.Prelude.{◌≡◌, ◌⊎◌, ℕ, List, true, false, Err, IfOk, IfErr};
+ghost use Rattle.r3_faults.specs.declared.faults.Fault.{Fault};
+ghost use Rattle.r3_faults.specs.declared.faults.Fault.TheVariants.{Memory};
+ghost use Rattle.r3_show.specs.Shown.{IsShowRefusal, IsShown, IsShownAs, IsUnshownAs, begins_as_tape, fault_of};
+
+use r3_faults::Fault;
+use std::alloc::Global;
+use trace_bytes::tags::TAPE_MAGIC;
+use trace_format::{FormatFault, lines_of_log, lines_of_tape, log_files, tape_files};
+
+/// The lines of a file: of the tape that its bytes spell where it begins as a tape does, else of the log.
+/// Beside the file and the lines, one event or segment at a time is in memory.
+///
+/// # Errors
+///
+/// `TraceVersion` and `BadTrace` name why the bytes spell none, each exactly where it stands. `Memory`
+/// comes where memory is out.
+pub fn show(alloc: Global, trace: &[u8]) -> Result<Vec<u8>, Fault>
+    ensures cause { IfErr result (λ fault. (fault ≡ Memory) ⊎ IsShowRefusal trace.now fault) }
+    ensures refused { (fault : Fault) → IsShowRefusal trace.now fault
+        → (result ≡ Err fault) ⊎ (result ≡ Err Memory) }
+    ensures printed { IfOk result (λ bytes. IsShown trace.now bytes.items) }
+    ensures accepted { (text : List ℕ) → IsShown trace.now text
+        → IfOk result (λ bytes. bytes.items ≡ text) × IfErr result (λ fault. fault ≡ Memory) }
+{
+    log_files();
+    tape_files();
+    lines_of(alloc, trace)
+}
+
+/// The same, with what is shown or why nothing is.
+fn lines_of(alloc: Global, trace: &[u8]) -> Result<Vec<u8>, Fault>
+    ensures cause { IfErr result (λ fault. (fault ≡ Memory) ⊎ IsShowRefusal trace.now fault) }
+    ensures printed { IfOk result (λ bytes. IsShown trace.now bytes.items) }
+{
+    if begins_as_tape(trace) {
+        tape_lines(alloc, trace)
+    } else {
+        log_lines(alloc, trace)
+    }
+}
+
+/// Whether a file begins as a tape does.
+fn begins_as_tape(trace: &[u8]) -> bool
+    ensures { result ≡ begins_as_tape trace.now }
+{
+    trace.starts_with(&TAPE_MAGIC)
+}
+
+/// The lines of a tape.
+fn tape_lines(alloc: Global, trace: &[u8]) -> Result<Vec<u8>, Fault>
+    ensures cause { IfErr result (λ fault. (fault ≡ Memory) ⊎ IsUnshownAs true trace.now fault) }
+    ensures printed { IfOk result (λ bytes. IsShownAs true trace.now bytes.items) }
+{
+    match lines_of_tape(alloc, trace) {
+        Ok(lines) => Ok(lines),
+        Err(cause) => Err(fault_of(cause)),
+    }
+}
+
+/// The lines of a log.
+fn log_lines(alloc: Global, trace: &[u8]) -> Result<Vec<u8>, Fault>
+    ensures cause { IfErr result (λ fault. (fault ≡ Memory) ⊎ IsUnshownAs false trace.now fault) }
+    ensures printed { IfOk result (λ bytes. IsShownAs false trace.now bytes.items) }
+{
+    match lines_of_log(alloc, trace) {
+        Ok(lines) => Ok(lines),
+        Err(cause) => Err(fault_of(cause)),
+    }
+}
+
+/// The fault for a cause.
+fn fault_of(cause: FormatFault) -> Fault
+    ensures { result ≡ fault_of cause }
+{
+    match cause {
+        FormatFault::Version { found } => Fault::TraceVersion {
+            found: u64::from(found),
+        },
+        FormatFault::Bad { at } => Fault::BadTrace { at },
+        FormatFault::Memory => Fault::Memory,
+    }
+}
