@@ -81,6 +81,11 @@ module _ (reading : Reading) (files : List (List ℕ × ℕ)) (P : Fault → Typ
   load-cases (faults.Spent turns) c = absurd c
   load-cases faults.Write c = absurd c
   load-cases faults.Memory c = absurd c
+  load-cases (faults.BadTrace at) c = absurd c
+  load-cases (faults.TraceVersion found) c = absurd c
+  load-cases faults.NoLayout c = absurd c
+  load-cases faults.NoImports c = absurd c
+  load-cases faults.NoEntry c = absurd c
   load-cases faults.NotBuilt c = absurd c
 
 -- the cause of one file's fault, among files before it that are not too long

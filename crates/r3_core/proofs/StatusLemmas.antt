@@ -26,6 +26,9 @@ use Rattle.host_script.specs.declared.scripts.LinkFault.{LinkFault}
 use Rattle.host_script.specs.declared.scripts.LinkFault.TheVariants as link
 use Rattle.r3_history.specs.Histories as histories
 use Rattle.r3_history.specs.Histories.{IsHistoryRefusal, IsUntold, OfRun, OfLink}
+use Rattle.trace_format.specs.declared.files.FormatFault.{FormatFault}
+use Rattle.trace_format.specs.declared.files.FormatFault.TheVariants as format
+use Rattle.r3_show.specs.Shown.{IsShowRefusal, fault_of}
 use Rattle.r3_core.specs.declared.words.Command.{Command}
 use Rattle.r3_core.specs.declared.words.Command.TheVariants.{Make, Instrument, Record, Reduce, Build, History, Replay, Show, Load}
 use Rattle.r3_core.specs.Words.{form, is_built, IsAfterFiles, Says, IsListed, IsBuilt, IsUnbuilt, files_of}
@@ -169,6 +172,14 @@ history-status : (module_bytes script_bytes : List ℕ) (turns : ℕ) (fault : F
 history-status m s turns fault (histories.OfInputs refused) = inputs-other m s fault refused
 history-status m s turns fault (OfRun original played inputs untold) = untold-status original played turns fault untold
 
+trace-other : (found : FormatFault) → (found ≡ format.Memory → ⊥) → is_other (status_of (fault_of found)) ≡ true
+trace-other (format.Version found) differs = refl
+trace-other (format.Bad at) differs = refl
+trace-other format.Memory differs = absurd (differs refl)
+
+show-status : (trace : List ℕ) (fault : Fault) → IsShowRefusal trace fault → IsOther (status_of fault)
+show-status trace fault u = named-other fault (fault_of u.found) u.named (trace-other u.found u.differs)
+
 refusal-status : (command : Command) (loaded : List (List ℕ)) (number : Option ℕ) (fault : Fault)
     → IsRefusal command loaded number fault → IsOther (status_of fault)
 refusal-status Make [] number fault c = absurd c
@@ -186,7 +197,10 @@ refusal-status History (m ∷ s ∷ []) None fault c = absurd c
 refusal-status History (m ∷ s ∷ []) (Some turns) fault c = history-status m s turns fault c
 refusal-status History (m ∷ s ∷ t ∷ more) number fault c = absurd c
 refusal-status Replay loaded number fault c = absurd c
-refusal-status Show loaded number fault c = absurd c
+refusal-status Show [] number fault c = absurd c
+refusal-status Show (trace ∷ []) None fault c = show-status trace fault c
+refusal-status Show (trace ∷ []) (Some number) fault c = absurd c
+refusal-status Show (trace ∷ t ∷ more) number fault c = absurd c
 refusal-status Load loaded number fault c = absurd c
 
 -- ---- the cause of a call's fault
@@ -423,4 +437,9 @@ status-not_done fault e = true≢false (sym (is_fault fault) ∙ ap (λ status. 
     is_fault (faults.Spent turns) = refl
     is_fault faults.Write = refl
     is_fault faults.Memory = refl
+    is_fault (faults.BadTrace at) = refl
+    is_fault (faults.TraceVersion found) = refl
+    is_fault faults.NoLayout = refl
+    is_fault faults.NoImports = refl
+    is_fault faults.NoEntry = refl
     is_fault faults.NotBuilt = refl

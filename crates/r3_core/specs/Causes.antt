@@ -1,5 +1,5 @@
 -- Why a call ends with a fault, and what it prints where it ends without one.
-use Rattle.std.specs.Prelude.{◌≡◌, ℕ, ◌+◌, ◌≤◌, nat_lt, List, [], ◌∷◌, length, map, find, zip, Contains, Option, Some, false, Vec}
+use Rattle.std.specs.Prelude.{◌≡◌, ℕ, ◌+◌, ◌≤◌, nat_lt, List, [], ◌∷◌, length, map, find, zip, Contains, Option, Some, None, false, Vec}
 use Rattle.std.specs.Option.{ForSome}
 use Rattle.r3_outside.specs.Count.{Rose, Took}
 use Rattle.r3_outside.specs.Contents.{FileMap, file_bytes}
@@ -8,8 +8,9 @@ use Rattle.r3_faults.specs.declared.faults.Fault.TheVariants.{Usage, Read, TooLo
 use Rattle.r3_make.specs.Refusals.{AreReplayable, IsMakeRefusal}
 use Rattle.r3_make.specs.Printed.{IsPrinted}
 use Rattle.r3_history.specs.Histories.{IsHistory, IsHistoryRefusal}
+use Rattle.r3_show.specs.Shown.{IsShown, IsShowRefusal}
 use Rattle.r3_core.specs.declared.words.Command.{Command}
-use Rattle.r3_core.specs.declared.words.Command.TheVariants.{Make, History}
+use Rattle.r3_core.specs.declared.words.Command.TheVariants.{Make, History, Show}
 use Rattle.r3_core.specs.Words.{form, is_built, IsListed, IsUnbuilt, Says, files_of}
 
 -- ---- the files of a call
@@ -66,6 +67,7 @@ IsRefusal Make (module_bytes ∷ script_bytes ∷ []) (Some turns) fault =
     IsMakeRefusal module_bytes script_bytes turns fault
 IsRefusal History (module_bytes ∷ script_bytes ∷ []) (Some turns) fault =
     IsHistoryRefusal module_bytes script_bytes turns fault
+IsRefusal Show (trace ∷ []) None fault = IsShowRefusal trace fault
 IsRefusal command loaded number fault = ⊥
 
 -- a command does its job for them
@@ -73,6 +75,7 @@ abbrev pub IsDoable : Command → (loaded : List (List ℕ)) → (number : Optio
 IsDoable Make (module_bytes ∷ script_bytes ∷ []) (Some turns) = AreReplayable module_bytes script_bytes turns
 IsDoable History (module_bytes ∷ script_bytes ∷ []) (Some turns) =
     (text : List ℕ) × IsHistory module_bytes script_bytes turns text
+IsDoable Show (trace ∷ []) None = (text : List ℕ) × IsShown trace text
 IsDoable command loaded number = ⊥
 
 -- a command prints these bytes for them
@@ -81,6 +84,7 @@ Prints Make (module_bytes ∷ script_bytes ∷ []) (Some turns) printed =
     IsPrinted module_bytes script_bytes turns printed
 Prints History (module_bytes ∷ script_bytes ∷ []) (Some turns) printed =
     IsHistory module_bytes script_bytes turns printed
+Prints Show (trace ∷ []) None printed = IsShown trace printed
 Prints command loaded number printed = ⊥
 
 -- ---- calls

@@ -64,6 +64,7 @@ IsListed words =
 abbrev pub is_built : Command → Bool
 is_built Make = true
 is_built History = true
+is_built Show = true
 is_built command = false
 
 -- listed words of a command that this program does, and of one that it does not do yet

@@ -1,8 +1,9 @@
-use Rattle.std.proofs.Common.{◌≡◌, ℕ, ◌<◌, ◌≤◌, List, [], ◌∷◌, length, get_or, Option, Some, Vec, sym, subst, arith}
+use Rattle.std.proofs.Common.{◌≡◌, ℕ, ◌<◌, ◌≤◌, List, [], ◌∷◌, length, get_or, Option, Some, None, Vec, sym, subst, arith}
 use Rattle.r3_make.specs.Refusals.{AreReplayable, IsMakeRefusal}
 use Rattle.r3_history.specs.Histories.{IsHistory, IsHistoryRefusal}
+use Rattle.r3_show.specs.Shown.{IsShown, IsShowRefusal}
 use Rattle.r3_core.specs.declared.words.Command.{Command}
-use Rattle.r3_core.specs.declared.words.Command.TheVariants.{Make, History}
+use Rattle.r3_core.specs.declared.words.Command.TheVariants.{Make, History, Show}
 use Rattle.r3_core.specs.Causes.{IsRefusal, IsDoable, all_bytes}
 use Rattle.r3_core.proofs.output_of_command.Goals as goal
 
@@ -54,3 +55,32 @@ returns-in-History-len2-Some-clause-done c = λ doable.
     (two-files c.args.command History (λ a b turns. HasHistory a b turns) (λ command loaded number. IsDoable command loaded number) c.args.loaded.now c.args.number c.module-item-in-Some-this-2-1.result c.script-item-in-Some-this-2-1.result here.turns (λ a b doable. doable) here.is-0 here.is-2 c.module-item-in-Some-this-2-1.is c.script-item-in-Some-this-2-1.is (omega (arith, here.len_at_least)) (omega (arith, here.len_below)) doable)))
     in
     (c.history.ensures.accepted history.0 history.1).1
+
+-- what is said of one file
+one-file : {Z : Type 0} (command here : Command) (P : List ℕ → Type 0) (Q : Command → List (List ℕ) → Option ℕ → Type 0) (loaded : List (Vec ℕ Z)) (number : Option ℕ) (t : Vec ℕ Z) → ((a : List ℕ) → Q here (a ∷ []) None → P a)
+    → command ≡ here → number ≡ None → t ≡ get_or loaded 0 t → 1 ≤ length loaded → length loaded < 2 → Q command (all_bytes loaded) number → P t.items
+one-file command here P Q [] number t at c n first least most sure = absurd (omega (arith, least))
+one-file command here P Q (a ∷ []) number t at c n first least most sure =
+    let made = subst (λ command. Q command (a.items ∷ []) number) c sure in
+    subst (λ (t : Vec ℕ _). P t.items) (sym first) (at a.items (subst (λ number. Q here (a.items ∷ []) number) n made))
+one-file command here P Q (a ∷ x ∷ more) number t at c n first least most sure = absurd (omega (arith, most))
+
+pub returns-in-Show-len1-None-clause-refused : goal.returns-in-Show-len1-None-clause-refused
+returns-in-Show-len1-None-clause-refused c = λ fault sure.
+    let here = c.in-Show-len1-None in
+    c.show.ensures.refused fault
+    (subst (λ bytes. IsShowRefusal bytes fault) (sym c.deref-in-Show-len1-None.ensures.value)
+    (one-file c.args.command Show (λ a. IsShowRefusal a fault) (λ command loaded number. IsRefusal command loaded number fault) c.args.loaded.now c.args.number c.trace-item.result (λ a sure. sure) here.is-0 here.is-2 c.trace-item.is (omega (arith, here.len_at_least)) (omega (arith, here.len_below)) sure))
+
+-- it has lines
+abbrev HasLines : List ℕ → Type 0
+HasLines bytes = (text : List ℕ) × IsShown bytes text
+
+pub returns-in-Show-len1-None-clause-done : goal.returns-in-Show-len1-None-clause-done
+returns-in-Show-len1-None-clause-done c = λ doable.
+    let here = c.in-Show-len1-None in
+    let lines =
+    (subst HasLines (sym c.deref-in-Show-len1-None.ensures.value)
+    (one-file c.args.command Show HasLines (λ command loaded number. IsDoable command loaded number) c.args.loaded.now c.args.number c.trace-item.result (λ a doable. doable) here.is-0 here.is-2 c.trace-item.is (omega (arith, here.len_at_least)) (omega (arith, here.len_below)) doable))
+    in
+    (c.show.ensures.accepted lines.0 lines.1).1
