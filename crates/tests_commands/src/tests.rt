@@ -12,4 +12,5 @@ mod modules;
 mod replays;
 mod runs;
 mod scripts;
+mod shows;
 mod tables;

@@ -161,13 +161,12 @@ fn forms_that_are_not_built(rt: HostRuntime) -> Result<(), Fail> {
 fn commands_that_are_not_built_read_no_file(rt: HostRuntime) -> Result<(), Fail> {
     let alloc = rt.alloc();
     let mut files = MemFiles::new(alloc, Vec::new(alloc));
-    let calls: [&[&str]; 7] = [
+    let calls: [&[&str]; 6] = [
         &["instrument", "m"],
         &["record", "m", "s", "20000000"],
         &["reduce", "l"],
         &["build", "m", "s", "t"],
         &["replay", "b", "1"],
-        &["show", "t"],
         &["load", "60000"],
     ];
     for words in calls {

@@ -1,0 +1,260 @@
+//! Calls of `show`: what it prints of logs and tapes, and why it prints nothing. Bytes, places and lines were worked
+//! out from the format by hand.
+
+use crate::tests::calls::{Outcome, outcome_into, outcome_of};
+use r3_outside::{MemFiles, MemSink};
+use std::alloc::Global;
+use std::test::Fail;
+
+/// What a log's file begins with, and a tape's.
+const LOG: &str = "72336c67";
+
+const TAPE: &str = "72337470";
+
+/// A digest.
+const DIGEST: &str = "000102030405060708090a0b0c0d0e0f101112131415161718191a1b1c1d1e1f";
+
+/// The log and the tape of a run in which a function calls an import twice and gives the sum of its
+/// answers, 5 and 7: what stands after the digest.
+const LOG_OF_TWO_ANSWERS: &str = "01010100030100\
+    04017f0500000003010004017f07000000020110";
+
+const TAPE_OF_TWO_ANSWERS: &str = "0000200100\
+    01000021017f0500000001000021017f070000000200222f";
+
+/// Files that are shown: a name, what the file begins with, its version, what stands after the digest, and the lines
+/// after the first.
+const SHOWN: &[(&str, &str, &str, &str, &str)] = &[
+    (
+        "a log",
+        LOG,
+        "02",
+        LOG_OF_TWO_ANSWERS,
+        "enter 1\npre 0\npost i32:00000005\npre 0\npost i32:00000007\nleave 1\nended\n",
+    ),
+    (
+        "a log of the first version",
+        LOG,
+        "01",
+        LOG_OF_TWO_ANSWERS,
+        "enter 1\npre 0\npost i32:00000005\npre 0\npost i32:00000007\nleave 1\nended\n",
+    ),
+    (
+        "each kind of event",
+        LOG,
+        "02",
+        "010101027f050000007e06000000000000000201030100030004000401\
+         7d0000803f0502060a05070a02ccdd08000103080100\
+         09027c000000000000f03f11",
+        "enter 1 i32:00000005 i64:0000000000000006\nleave 1\npre 0\npre none\npost\n\
+         post f32:3f800000\ngrow 2\nseen\ntable 5\nbytes 10 ccdd\nentry 0 3\nentry 1 none\n\
+         global 2 f64:3ff0000000000000\ntrapped\n",
+    ),
+    (
+        "a tape",
+        TAPE,
+        "02",
+        TAPE_OF_TWO_ANSWERS,
+        "segment begin\ncall 1\nsegment import 0\nreturn i32:00000005\nsegment import 0\n\
+         return i32:00000007\nsegment back\nend\nclose\n",
+    ),
+    (
+        "a tape of the first version",
+        TAPE,
+        "01",
+        TAPE_OF_TWO_ANSWERS,
+        "segment begin\ncall 1\nsegment import 0\nreturn i32:00000005\nsegment import 0\n\
+         return i32:00000007\nsegment back\nend\nclose\n",
+    ),
+    (
+        "each kind of effect",
+        TAPE,
+        "02",
+        "000505020a05070a02ccdd0800010309027f0700000021000201080100232f",
+        "segment begin\ngrow 2\ntable 5\nbytes 10 ccdd\nentry 0 3\nglobal 2 i32:00000007\n\
+         return\nsegment back\nentry 1 none\ntrap\nclose\n",
+    ),
+];
+
+/// Files that are refused, as above, and the line of error. The header of a log with few imported functions has 38
+/// bytes, that of a tape 37.
+const REFUSED: &[(&str, &str, &str, &str, &str)] = &[
+    (
+        "the third version of a log",
+        LOG,
+        "03",
+        LOG_OF_TWO_ANSWERS,
+        "trace: version 3\n",
+    ),
+    (
+        "the third version of a tape",
+        TAPE,
+        "03",
+        TAPE_OF_TWO_ANSWERS,
+        "trace: version 3\n",
+    ),
+    ("version 255", LOG, "ff", "", "trace: version 255\n"),
+    (
+        "neither a log nor a tape",
+        "72336c68",
+        "02",
+        LOG_OF_TWO_ANSWERS,
+        "trace: bad at 0\n",
+    ),
+    ("no number of imports", LOG, "02", "", "trace: bad at 0\n"),
+    (
+        "a table in the first version",
+        LOG,
+        "01",
+        "010a0510",
+        "trace: bad at 38\n",
+    ),
+    (
+        "a long number",
+        LOG,
+        "02",
+        "0102810010",
+        "trace: bad at 38\n",
+    ),
+    ("no outcome", LOG, "02", "010206", "trace: bad at 40\n"),
+    (
+        "a byte after the outcome",
+        LOG,
+        "02",
+        "01061000",
+        "trace: bad at 40\n",
+    ),
+    (
+        "no segments and no end",
+        TAPE,
+        "02",
+        "",
+        "trace: bad at 37\n",
+    ),
+    (
+        "a byte after the end",
+        TAPE,
+        "02",
+        "2f00",
+        "trace: bad at 38\n",
+    ),
+    (
+        "a tape's segment in a log",
+        LOG,
+        "02",
+        "0100002001002f",
+        "trace: bad at 38\n",
+    ),
+];
+
+/// The bytes of a file.
+fn file_of(alloc: Global, magic: &str, version: &str, body: &str) -> Result<Vec<u8>, Fail> {
+    let mut bytes = hex::decode(alloc, magic)?;
+    bytes.extend_from_slice(hex::decode(alloc, version)?.as_slice())?;
+    bytes.extend_from_slice(hex::decode(alloc, DIGEST)?.as_slice())?;
+    bytes.extend_from_slice(hex::decode(alloc, body)?.as_slice())?;
+    Ok(bytes)
+}
+
+/// The outcome of `show` on a file of these bytes.
+fn outcome_of_show(alloc: Global, bytes: &[u8]) -> Result<Outcome, Fail> {
+    let mut files = MemFiles::new(alloc, Vec::new(alloc));
+    files.add("t", bytes)?;
+    outcome_of(alloc, &["show", "t"], &mut files)
+}
+
+#[test]
+fn lines_of_files(rt: HostRuntime) -> Result<(), Fail> {
+    let alloc = rt.alloc();
+    for &(name, magic, version, body, lines) in SHOWN {
+        let kind = if magic == LOG { "log" } else { "tape" };
+        let wanted = format!(in alloc; "{kind} {DIGEST}\n{lines}")?;
+        let bytes = file_of(alloc, magic, version, body)?;
+        let answer = outcome_of_show(alloc, bytes.as_slice())?;
+        assert!(rt; answer.is_done(), "{name}");
+        assert_eq!(rt; answer.printed.as_slice(), wanted.as_bytes(), "{name}");
+    }
+    Ok(())
+}
+
+#[test]
+fn damaged_files(rt: HostRuntime) -> Result<(), Fail> {
+    let alloc = rt.alloc();
+    for &(name, magic, version, body, line) in REFUSED {
+        let bytes = file_of(alloc, magic, version, body)?;
+        let answer = outcome_of_show(alloc, bytes.as_slice())?;
+        assert!(rt; answer.is_refused(15, line), "{name}");
+    }
+    Ok(())
+}
+
+/// Files with their length, and with the places where their header ends, and each of their events or segments.
+const WHOLE_PARTS: [(&str, &str, usize, &[usize]); 2] = [
+    (LOG, LOG_OF_TWO_ANSWERS, 64, &[38, 41, 44, 51, 54, 61, 63]),
+    (TAPE, TAPE_OF_TWO_ANSWERS, 66, &[37, 42, 52, 62, 65]),
+];
+
+/// The greatest of the places that is not past the length; 0 before all of them.
+fn place_within(places: &[usize], length: usize) -> usize {
+    let mut found = 0;
+    for place in places {
+        if *place <= length {
+            found = *place;
+        }
+    }
+    found
+}
+
+#[test]
+fn every_proper_front(rt: HostRuntime) -> Result<(), Fail> {
+    let alloc = rt.alloc();
+    for (magic, body, total, places) in WHOLE_PARTS {
+        let bytes = file_of(alloc, magic, "02", body)?;
+        assert_eq!(rt; bytes.len(), total);
+        for length in 0..bytes.len() {
+            let at = place_within(places, length);
+            let line = format!(in alloc; "trace: bad at {at}\n")?;
+            let answer = outcome_of_show(alloc, &bytes[..length])?;
+            assert!(rt; answer.is_refused(15, line.as_str()), "{length}");
+        }
+    }
+    Ok(())
+}
+
+#[test]
+fn words_and_files_of_show(rt: HostRuntime) -> Result<(), Fail> {
+    let alloc = rt.alloc();
+    let rows: [(&[&str], &[u64], u8, &str); 5] = [
+        (&["show"], &[], 2, "usage\n"),
+        (&["show", "t", "1"], &[], 2, "usage\n"),
+        (&["show", "t", "t"], &[], 2, "usage\n"),
+        (&["show", "t"], &[0], 3, "read: t\n"),
+        (&["show", "u"], &[], 3, "read: u\n"),
+    ];
+    for (words, failing, status, line) in rows {
+        let mut files = MemFiles::new(alloc, Vec::from_slice(alloc, failing)?);
+        files.add(
+            "t",
+            file_of(alloc, LOG, "02", LOG_OF_TWO_ANSWERS)?.as_slice(),
+        )?;
+        let answer = outcome_of(alloc, words, &mut files)?;
+        assert!(rt; answer.is_refused(status, line), "{line}");
+    }
+    Ok(())
+}
+
+#[test]
+fn the_second_write_of_show_fails(rt: HostRuntime) -> Result<(), Fail> {
+    let alloc = rt.alloc();
+    let mut files = MemFiles::new(alloc, Vec::new(alloc));
+    files.add(
+        "t",
+        file_of(alloc, LOG, "02", LOG_OF_TWO_ANSWERS)?.as_slice(),
+    )?;
+    let out = MemSink::new(alloc, 10, vec![in alloc; 1u64]?);
+    let answer = outcome_into(alloc, &["show", "t"], &mut files, out)?;
+    assert_eq!(rt; answer.status, 13);
+    assert_eq!(rt; answer.line.as_slice(), b"write\n".as_slice());
+    assert_eq!(rt; answer.printed.as_slice(), b"log 000102".as_slice());
+    Ok(())
+}
