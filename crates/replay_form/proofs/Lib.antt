@@ -1,0 +1,2 @@
+mod LayoutBytes
+mod Sections
