@@ -1,0 +1,61 @@
+-- What is told of entries, and then of others after them.
+use Rattle.std.proofs.Common.{◌≡◌, ℕ, List, [], ◌∷◌, ◌++◌, length, refl, sym, ◌∙◌, ap, append_assoc, length-append, arith}
+use Rattle.std.proofs.lemmas.List.{append-nil}
+use Rattle.std.proofs.lemmas.Grind.{flat_map-append}
+use Rattle.wasm_syntax.specs.declared.values.Val.{Val}
+use Rattle.history_spec.specs.declared.entries.Entry.{Entry}
+use Rattle.history_spec.specs.Line.{line, entry_text}
+use Rattle.history_spec.specs.Projection.{Layout, shown_entries}
+use Rattle.outside_spec.specs.Inside.{args_after, args_after_all, inside_after, inside_after_all}
+use Rattle.outside_spec.specs.Laws.{ProjectionsRunAlong}
+use Rattle.shown_lines.specs.ShownLines.{ShownLines, Shows, lines}
+
+inside_over : (inside : List ℕ) (first second : List Entry)
+    → inside_after_all inside (first ++ second) ≡ inside_after_all (inside_after_all inside first) second
+inside_over inside [] second = refl
+inside_over inside (entry ∷ first) second = inside_over (inside_after inside entry) first second
+
+pub args_over : (args : List Val) (first second : List Entry)
+    → args_after_all args (first ++ second) ≡ args_after_all (args_after_all args first) second
+args_over args [] second = refl
+args_over args (entry ∷ first) second = args_over (args_after args entry) first second
+
+lines_over : (first second : List Entry) → lines (first ++ second) ≡ lines first ++ lines second
+lines_over first second = flat_map-append (λ entry. line (entry_text entry)) first second
+
+-- no entry, and nothing is told
+pub shows_none : (shown : ShownLines) (args : List Val) → Shows shown shown args []
+shows_none shown args = record {
+  same_layout = refl;
+  lines_are = sym (append-nil shown.text);
+  count_is = omega arith;
+  inside_is = refl;
+}
+
+module _ (along : ProjectionsRunAlong) (old mid new : ShownLines) (args : List Val) (first second : List Entry) (before : Shows old mid args first)
+    (after : Shows mid new (args_after_all args first) second) where
+  abbrev earlier : List Entry
+  earlier = shown_entries old.layout old.inside args first
+
+  abbrev later : List Entry
+  later = shown_entries old.layout (inside_after_all old.inside first) (args_after_all args first) second
+
+  later_is : shown_entries mid.layout mid.inside (args_after_all args first) second ≡ later
+  later_is =
+      ap (λ (layout : Layout). shown_entries layout mid.inside (args_after_all args first) second) before.same_layout
+      ∙ ap (λ inside. shown_entries old.layout inside (args_after_all args first) second) before.inside_is
+
+  whole : shown_entries old.layout old.inside args (first ++ second) ≡ earlier ++ later
+  whole = along old.layout old.inside args first second
+
+  -- both
+  pub shows_more : Shows old new args (first ++ second)
+  shows_more = record {
+    same_layout = after.same_layout ∙ before.same_layout;
+    lines_are =
+        after.lines_are ∙ ap (λ entries. mid.text ++ lines entries) later_is ∙ ap (λ text. text ++ lines later) before.lines_are
+        ∙ append_assoc old.text (lines earlier) (lines later) ∙ ap (λ text. old.text ++ text) (sym (lines_over earlier later))
+        ∙ ap (λ entries. old.text ++ lines entries) (sym whole);
+    count_is = omega (arith, after.count_is, ap length later_is, before.count_is, length-append earlier later, ap length whole);
+    inside_is = after.inside_is ∙ ap (λ inside. inside_after_all inside second) before.inside_is ∙ sym (inside_over old.inside first second);
+  }

@@ -1,0 +1,6 @@
+//! The lines of what the run of a replay module shows of its original, while it is told.
+#![tactic(auto)]
+
+mod shown_text;
+
+pub use shown_text::{ShownText, trap_outcome};

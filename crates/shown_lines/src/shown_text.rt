@@ -1,0 +1,320 @@
+// The text of what a run shows, while it is told.
+
+ghost use Rattle.std.specs.Prelude.{◌≡◌, ◌+◌, ◌++◌, [], ◌∷◌, length, IfOk, OnOk};
+ghost use Rattle.std.specs.Option.{option_to_list};
+ghost use Rattle.history_spec.specs.Projection as projection;
+ghost use Rattle.shown_lines.specs.ShownLines.{lines, Shows, nothing_shown};
+ghost use Rattle.outside_spec.specs.Inside as inside;
+ghost use Rattle.replay_form.specs.Sides.{as_layout, side_of};
+
+use history_lines::print_entry;
+use history_spec::{Entry, Outcome};
+use no_memory::NoMemory;
+use outside_spec::projections_run_along;
+use replay_form::{Layout, Side};
+use std::alloc::Global;
+use std::marker::Model;
+use wasm_syntax::{List, Val, Vals};
+
+/// The lines of what the entries so far show, how many entries these are of, and the functions that control is
+/// in, the innermost last.
+#[derive(Drop)]
+pub struct ShownText {
+    layout: Layout,
+    text: Vec<u8>,
+    entries: u64,
+    inside: Vec<u32>,
+}
+
+impl Model for ShownText {
+    ghost use Rattle.std.specs.Prelude.{◌≤◌, length, reverse};
+    ghost use Rattle.shown_lines.specs.ShownLines.{ShownLines};
+    ghost use Rattle.replay_form.specs.Sides.{as_layout};
+
+    ghost Value = { ShownLines };
+
+    ghost view = { λ shown. record {
+      layout = as_layout shown.layout;
+      text = shown.text.items;
+      entries = shown.entries;
+      inside = reverse shown.inside.items;
+    } };
+
+    ghost invariant = { λ shown. shown.entries ≤ length shown.text.items };
+}
+
+/// Copies of values.
+fn copied(alloc: Global, values: &[Val]) -> Result<Vals, NoMemory>
+    ensures { IfOk result (λ copy. copy ≡ values.now) }
+{
+    let items = Vec::from_slice(alloc, values)?;
+    Ok(List::from_vec(items))
+}
+
+/// What is shown of a call from one side to a function of another.
+fn shown_call(
+    alloc: Global,
+    caller: Side,
+    callee: Side,
+    func: u32,
+    args: &[Val],
+) -> Result<Option<Entry>, NoMemory>
+    ensures { IfOk result (λ shown. option_to_list shown
+        ≡ projection.shown_call (side_of caller) (side_of callee) func args.now) }
+{
+    match (caller, callee) {
+        (Side::Original, Side::Original) => Ok(Some(Entry::Enter { func })),
+        (Side::Original, Side::Import) => Ok(Some(Entry::ImportCall {
+            import: func,
+            args: copied(alloc, args)?,
+        })),
+        (_, Side::Original) => Ok(Some(Entry::HostCall {
+            func,
+            args: copied(alloc, args)?,
+        })),
+        _ => Ok(None),
+    }
+}
+
+/// What is shown of its return.
+fn shown_return(
+    alloc: Global,
+    caller: Side,
+    callee: Side,
+    func: u32,
+    results: &[Val],
+) -> Result<Option<Entry>, NoMemory>
+    ensures { IfOk result (λ shown. option_to_list shown
+        ≡ projection.shown_return (side_of caller) (side_of callee) func results.now) }
+{
+    match (caller, callee) {
+        (Side::Original, Side::Original) => Ok(Some(Entry::Exit {
+            func,
+            results: copied(alloc, results)?,
+        })),
+        (Side::Original, Side::Import) => Ok(Some(Entry::ImportReturn {
+            import: func,
+            results: copied(alloc, results)?,
+        })),
+        (_, Side::Original) => Ok(Some(Entry::HostReturn {
+            func,
+            results: copied(alloc, results)?,
+        })),
+        _ => Ok(None),
+    }
+}
+
+/// The arguments among a call's operands: all but the index of a `call_indirect`, which alone of calls has found
+/// a function.
+fn call_args(operands: &[Val], found: Option<u32>) -> &[Val]
+    ensures { result.now ≡ projection.call_args operands.now found }
+{
+    match found {
+        None => operands,
+        Some(_) => &operands[..operands.len().saturating_sub(1)],
+    }
+}
+
+/// Whose trap it is that a history ends with: `Trapped` where it is an original's, `HostTrapped` where it is outside.
+pub fn trap_outcome(layout: Layout, entries: &[Entry]) -> Outcome
+    ensures { result ≡ projection.trap_outcome (as_layout layout) entries.now }
+{
+    'entries: for entry in entries {
+        if let Entry::Trap { func, .. } = entry {
+            return match layout.side(*func) {
+                Side::Original => Outcome::Trapped,
+                _ => Outcome::HostTrapped,
+            };
+        }
+    }
+    Outcome::Trapped
+}
+
+impl ShownText {
+    /// Nothing yet; control is outside all functions. Takes no memory.
+    pub fn new(alloc: Global, layout: Layout) -> ShownText
+        ensures { result ≡ nothing_shown (as_layout layout) }
+    {
+        ShownText {
+            layout,
+            text: Vec::new(alloc),
+            entries: 0,
+            inside: Vec::new(alloc),
+        }
+    }
+
+    /// The layout of the original.
+    pub fn layout(&self) -> Layout
+        ensures { as_layout result ≡ self.now.layout }
+    {
+        self.layout
+    }
+
+    /// How many entries are told.
+    pub fn entries(&self) -> u64
+        ensures { result ≡ self.now.entries }
+    {
+        self.entries
+    }
+
+    /// The lines.
+    pub fn into_text(self) -> Vec<u8>
+        ensures { result.items ≡ self.text }
+    {
+        let ShownText { text, .. } = self;
+        text
+    }
+
+    /// The side of the innermost function; the caller of the outermost is outside.
+    fn innermost(&self) -> Side
+        ensures { side_of result ≡ projection.caller_side self.now.layout self.now.inside }
+    {
+        match self.inside.last() {
+            Some(func) => self.layout.side(*func),
+            None => Side::Appended,
+        }
+    }
+
+    /// Tells an entry as it is.
+    fn tell(&mut self, entry: &Entry) -> Result<(), NoMemory>
+        ensures text { OnOk result (self.new.text ≡ self.old.text ++ lines (entry.now ∷ [])) }
+        ensures count { OnOk result (self.new.entries ≡ self.old.entries + 1) }
+        ensures layout { self.new.layout ≡ self.old.layout }
+        ensures inside { self.new.inside ≡ self.old.inside }
+    {
+        print_entry(&mut self.text, entry)?;
+        let _length = self.text.len();
+        self.entries += 1;
+        Ok(())
+    }
+
+    /// Tells an entry, where there is one.
+    fn tell_some(&mut self, entry: Option<Entry>) -> Result<(), NoMemory>
+        ensures text { OnOk result (self.new.text ≡ self.old.text ++ lines (option_to_list entry)) }
+        ensures count { OnOk result (self.new.entries ≡ self.old.entries + length (option_to_list entry)) }
+        ensures layout { self.new.layout ≡ self.old.layout }
+        ensures inside { self.new.inside ≡ self.old.inside }
+    {
+        match entry {
+            Some(entry) => self.tell(&entry),
+            None => Ok(()),
+        }
+    }
+
+    /// Control enters a function.
+    fn enter(&mut self, func: u32, args: &[Val]) -> Result<(), NoMemory>
+        ensures layout { self.new.layout ≡ self.old.layout }
+        ensures inside { OnOk result (self.new.inside ≡ func ∷ self.old.inside) }
+        ensures text { OnOk result (self.new.text ≡ self.old.text
+            ++ lines (projection.shown_call (projection.caller_side self.old.layout self.old.inside)
+            (projection.side self.old.layout func) func args.now)) }
+        ensures count { OnOk result (self.new.entries ≡ self.old.entries
+            + length (projection.shown_call (projection.caller_side self.old.layout self.old.inside)
+            (projection.side self.old.layout func) func args.now)) }
+    {
+        let alloc = *self.inside.allocator();
+        let callee = self.layout.side(func);
+        let shown = shown_call(alloc, self.innermost(), callee, func, args)?;
+        self.tell_some(shown)?;
+        self.inside.push(func)?;
+        Ok(())
+    }
+
+    /// Control leaves the innermost function.
+    fn leave(&mut self, func: u32, results: &[Val]) -> Result<(), NoMemory>
+        ensures layout { self.new.layout ≡ self.old.layout }
+        ensures inside { OnOk result (self.new.inside ≡ projection.without_innermost self.old.inside) }
+        ensures text { OnOk result (self.new.text ≡ self.old.text
+            ++ lines (projection.shown_return
+            (projection.caller_side self.old.layout (projection.without_innermost self.old.inside))
+            (projection.side self.old.layout func) func results.now)) }
+        ensures count { OnOk result (self.new.entries ≡ self.old.entries
+            + length (projection.shown_return
+            (projection.caller_side self.old.layout (projection.without_innermost self.old.inside))
+            (projection.side self.old.layout func) func results.now)) }
+    {
+        let alloc = *self.inside.allocator();
+        let _left = self.inside.pop();
+        let callee = self.layout.side(func);
+        let shown = shown_return(alloc, self.innermost(), callee, func, results)?;
+        self.tell_some(shown)
+    }
+
+    /// A step of an original is shown.
+    fn step(&mut self, func: u32, entry: &Entry) -> Result<(), NoMemory>
+        ensures layout { self.new.layout ≡ self.old.layout }
+        ensures inside { self.new.inside ≡ self.old.inside }
+        ensures text { OnOk result (self.new.text ≡ self.old.text
+            ++ lines (projection.shown_step (projection.side self.old.layout func) entry.now)) }
+        ensures count { OnOk result (self.new.entries ≡ self.old.entries
+            + length (projection.shown_step (projection.side self.old.layout func) entry.now)) }
+    {
+        match self.layout.side(func) {
+            Side::Original => self.tell(entry),
+            _ => Ok(()),
+        }
+    }
+
+    /// A trap is an original's, or else the host's.
+    fn trap(&mut self, func: u32, entry: &Entry) -> Result<(), NoMemory>
+        ensures layout { self.new.layout ≡ self.old.layout }
+        ensures inside { self.new.inside ≡ self.old.inside }
+        ensures text { OnOk result (self.new.text ≡ self.old.text
+            ++ lines (projection.shown_trap (projection.side self.old.layout func) entry.now ∷ [])) }
+        ensures count { OnOk result (self.new.entries ≡ self.old.entries + 1) }
+    {
+        match self.layout.side(func) {
+            Side::Original => self.tell(entry),
+            _ => self.tell(&Entry::HostTrap),
+        }
+    }
+
+    /// Tells what an entry shows, after the latest call's arguments.
+    fn show(&mut self, entry: &Entry, args: &[Val]) -> Result<(), NoMemory>
+        ensures { OnOk result (Shows self.old self.new args.now (entry.now ∷ [])) }
+    {
+        match entry {
+            Entry::HostCall { func, args: given } => self.enter(*func, given.as_slice()),
+            Entry::Enter { func } => self.enter(*func, args),
+            Entry::HostReturn { func, results } => self.leave(*func, results.as_slice()),
+            Entry::Exit { func, results } => self.leave(*func, results.as_slice()),
+            Entry::Step { func, .. } => self.step(*func, entry),
+            Entry::Trap { func, .. } => self.trap(*func, entry),
+            _ => Ok(()),
+        }
+    }
+
+    /// Tells what entries in order show. They are the whole of what a run makes from where no arguments are known:
+    /// the first of them that enters a function without telling its arguments stands after the instruction that
+    /// calls it.
+    ///
+    /// # Errors
+    ///
+    /// Where memory is out; some of the lines are told then.
+    pub fn show_all(&mut self, entries: &[Entry]) -> Result<(), NoMemory>
+        ensures { OnOk result (Shows self.old self.new [] entries.now) }
+    {
+        projections_run_along();
+        let mut args: &[Val] = &[];
+        'entries: for entry in entries {
+            self.show(entry, args)?;
+            args = args_after(args, entry);
+        }
+        Ok(())
+    }
+}
+
+/// The latest call's arguments after an entry.
+fn args_after<'a>(args: &'a [Val], entry: &'a Entry) -> &'a [Val]
+    ensures { result.now ≡ inside.args_after args.now entry.now }
+{
+    match entry {
+        Entry::HostCall { args: given, .. } => given.as_slice(),
+        Entry::Step {
+            operands,
+            found,
+            ..
+        } => call_args(operands.as_slice(), *found),
+        _ => args,
+    }
+}
