@@ -1,0 +1,8 @@
+mod Joined
+mod Shown
+mod NoTraps
+mod Arrivals
+mod Extends
+mod CallParts
+mod WholeRuns
+mod Starts

@@ -1,0 +1,2 @@
+pub mod RunsSoFar
+pub mod Results

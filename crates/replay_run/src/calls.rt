@@ -1,0 +1,174 @@
+// Calls that the host makes of functions without parameters, and how they go on.
+
+ghost use Rattle.std.specs.Prelude.{◌≡◌, ◌≤◌, ◌<◌, [], Ok, IfOk, OnOk};
+ghost use Rattle.shown_lines.specs.ShownLines.{Shows};
+ghost use Rattle.replay_run.specs.RunsSoFar.{BeginsCall, GoesFrom, IsCalled, IsOutside, IsOver, IsOwnPause, IsShown, MakesStep, stand_of, WalksOutside};
+
+use crate::results::ReplayFault;
+use history_spec::{Entry, Outcome};
+use no_memory::NoMemory;
+use outside_spec::projections_run_along;
+use replay_form::Side;
+use shown_lines::{ShownText, trap_outcome};
+use std::alloc::Global;
+use wasm_interp::{Machine, Pause, Turn, calls_are_ready};
+use wasm_syntax::List;
+
+/// Where a call by the host stands.
+#[derive(Clone, Copy)]
+pub(crate) enum CallStand {
+    /// At an instruction.
+    Instruction,
+    /// The function has returned.
+    Returned,
+    /// It has trapped: an original, or a function outside, which is shown as the host's trap.
+    Trapped { outcome: Outcome },
+}
+
+/// Where a call stands after a part of the run.
+fn stand_of(shown: &ShownText, turn: &Turn) -> CallStand
+    requires { IsOwnPause turn.now.pause }
+    ensures { result ≡ stand_of shown.now.layout turn.now.pause turn.now.entries }
+{
+    match turn.pause {
+        None => CallStand::Instruction,
+        Some(pause) => match pause {
+            Pause::Returned => CallStand::Returned,
+            Pause::Trapped => CallStand::Trapped {
+                outcome: trap_outcome(shown.layout(), turn.entries.as_slice()),
+            },
+            Pause::Import { .. } | Pause::Spent => unreachable!(),
+        },
+    }
+}
+
+/// Tells what a part of the run shows, and gives where the call stands after it.
+fn show_turn(shown: &mut ShownText, turn: &Turn) -> Result<CallStand, NoMemory>
+    requires { IsOwnPause turn.now.pause }
+    ensures shows { OnOk result (Shows shown.old shown.new [] turn.now.entries) }
+    ensures stands { IfOk result (λ stand. stand ≡ stand_of shown.old.layout turn.now.pause turn.now.entries) }
+{
+    shown.show_all(turn.entries.as_slice())?;
+    Ok(stand_of(shown, turn))
+}
+
+/// The host calls a function that takes nothing.
+pub(crate) fn begin_call(
+    alloc: Global,
+    shown: &mut ShownText,
+    machine: &mut Machine,
+    func: u32,
+) -> Result<CallStand, NoMemory>
+    requires { IsCalled machine.old func }
+    ensures begins { IfOk result (λ stand. BeginsCall shown.old machine.old func stand shown.new machine.new) }
+    ensures layout { OnOk result (shown.new.layout ≡ shown.old.layout) }
+{
+    calls_are_ready();
+    projections_run_along();
+    machine.invoke(func, &[])?;
+    let call = Entry::HostCall {
+        func,
+        args: List::new(alloc),
+    };
+    shown.show_all(&[call])?;
+    let turn = machine.settle()?;
+    let stand = show_turn(shown, &turn)?;
+    Ok(stand)
+}
+
+/// The next instruction.
+fn make_step(shown: &mut ShownText, machine: &mut Machine) -> Result<CallStand, NoMemory>
+    requires { IsShown CallStand.Instruction shown.old machine.old }
+    ensures makes { IfOk result (λ stand. MakesStep shown.old machine.old stand shown.new machine.new) }
+    ensures layout { OnOk result (shown.new.layout ≡ shown.old.layout) }
+{
+    calls_are_ready();
+    let turn = machine.turn()?;
+    let stand = show_turn(shown, &turn)?;
+    Ok(stand)
+}
+
+/// Instructions of the topmost activation in a row, which are outside the original and show nothing.
+fn walk_outside(
+    shown: &mut ShownText,
+    machine: &mut Machine,
+    left: &mut u64,
+) -> Result<CallStand, NoMemory>
+    requires stands { IsShown CallStand.Instruction shown.old machine.old }
+    requires outside { IsOutside shown.old.layout machine.old }
+    ensures walks { IfOk result (λ stand.
+        WalksOutside shown.old machine.old left.old stand shown.new machine.new left.new) }
+    ensures left { OnOk result (left.new ≤ left.old) }
+    ensures layout { OnOk result (shown.new.layout ≡ shown.old.layout) }
+{
+    calls_are_ready();
+    projections_run_along();
+    let turn = machine.walk(left)?;
+    let stand = show_turn(shown, &turn)?;
+    Ok(stand)
+}
+
+/// Where control stands outside the original, the instructions that follow in the same activation.
+fn go_outside(
+    shown: &mut ShownText,
+    machine: &mut Machine,
+    stand: CallStand,
+    left: &mut u64,
+) -> Result<CallStand, NoMemory>
+    requires { IsShown stand shown.old machine.old }
+    ensures goes { IfOk result (λ after.
+        GoesFrom stand shown.old machine.old left.old (Ok after) shown.new machine.new left.new) }
+    ensures left { OnOk result (left.new ≤ left.old) }
+    ensures layout { OnOk result (shown.new.layout ≡ shown.old.layout) }
+{
+    calls_are_ready();
+    projections_run_along();
+    if let CallStand::Instruction = stand {
+        if shown.layout().side(machine.func()) != Side::Original {
+            let after = walk_outside(shown, machine, left)?;
+            return Ok(after);
+        }
+    }
+    Ok(stand)
+}
+
+/// The next instruction, and outside the original those that follow it, where a turn is left for each.
+fn go_on(
+    shown: &mut ShownText,
+    machine: &mut Machine,
+    left: &mut u64,
+) -> Result<CallStand, ReplayFault>
+    requires { IsShown CallStand.Instruction shown.old machine.old }
+    ensures goes { GoesFrom CallStand.Instruction shown.old machine.old left.old result shown.new machine.new left.new }
+    ensures less { OnOk result (left.new < left.old) }
+    ensures layout { OnOk result (shown.new.layout ≡ shown.old.layout) }
+{
+    projections_run_along();
+    if *left == 0 {
+        return Err(ReplayFault::Spent);
+    }
+    let stand = make_step(shown, machine)?;
+    *left -= 1;
+    let after = go_outside(shown, machine, stand, left)?;
+    Ok(after)
+}
+
+/// Goes on with a call until it has returned or trapped.
+pub(crate) fn finish_call(
+    shown: &mut ShownText,
+    machine: &mut Machine,
+    first: CallStand,
+    left: &mut u64,
+) -> Result<CallStand, ReplayFault>
+    requires { IsShown first shown.old machine.old }
+    ensures goes { GoesFrom first shown.old machine.old left.old result shown.new machine.new left.new }
+    ensures over { IfOk result (λ stand. IsOver stand) }
+    ensures left { OnOk result (left.new ≤ left.old) }
+    ensures layout { OnOk result (shown.new.layout ≡ shown.old.layout) }
+{
+    let mut stand = first;
+    'steps: while let CallStand::Instruction = stand {
+        stand = go_on(shown, machine, left)?;
+    }
+    Ok(stand)
+}
