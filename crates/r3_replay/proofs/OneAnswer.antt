@@ -1,0 +1,147 @@
+-- The run of a replay module has one answer.
+use Rattle.std.proofs.Common.{◌≡◌, ◌≢◌, ◌⊎◌, inl, inr, ℕ, List, Option, Some, Result, Ok, Err, IfOk, IfErr, refl, sym, ◌∙◌, ap, subst}
+use Rattle.wasm_syntax.specs.declared.modules.Module.{Module}
+use Rattle.host_script.specs.declared.scripts.LinkFault.{LinkFault}
+use Rattle.host_script.specs.declared.scripts.LinkFault.TheVariants as link
+use Rattle.run_outcomes.specs.declared.outcomes.Outcome.{Outcome}
+use Rattle.history_spec.specs.Budget as budget
+use Rattle.history_spec.specs.Budget.{HasOneResultAtMost, IsResult}
+use Rattle.history_spec.specs.Instantiation.{instantiate}
+use Rattle.history_spec.specs.Line.{history_text}
+use Rattle.history_spec.specs.Projection.{Layout, Projection, projection}
+use Rattle.history_spec.specs.Replay.{alone, entry_function, instructions, program_alone, run_start_alone, start_alone_or_fault}
+use Rattle.history_spec.specs.Run.{Run, run_from}
+use Rattle.history_spec.specs.Step.{Finished, Progress, StepResult}
+use Rattle.history_spec.specs.Store.{Store}
+use Rattle.host_play.specs.declared.results.Told.{Told}
+use Rattle.replay_form.specs.Forms.{HasEntry, HasLayout}
+use Rattle.replay_run.specs.declared.results.ReplayFault.{ReplayFault}
+use Rattle.replay_run.specs.declared.results.ReplayFault.TheVariants as replay
+use Rattle.replay_run.specs.Results.{IsUnlinked, RefusesReplay, TellsReplay}
+use Rattle.r3_faults.specs.declared.faults.Fault.{Fault}
+use Rattle.r3_faults.specs.declared.faults.Fault.TheVariants.{Memory}
+use Rattle.r3_replay.specs.ReplayTexts.{HasNoReplayText, HasReplayText, replay_fault}
+
+-- ---- values that differ, and that are the same
+
+same-some : (o : Option ℕ) (a b : ℕ) → o ≡ Some a → o ≡ Some b → a ≡ b
+same-some o a b e f = cc (sym e ∙ f)
+
+same-run : (a b : Run) → budget.Over a ≡ budget.Over b → a ≡ b
+same-run a b e = cc e
+
+over-spent : (a : Run) → budget.Over a ≡ budget.Spent → ⊥
+over-spent a e = cc e
+
+same-outcome : (at : Progress) (a b : Outcome) → at ≡ Finished a → at ≡ Finished b → a ≡ b
+same-outcome at a b e f = cc (sym e ∙ f)
+
+same-segment : (r : Result Store LinkFault) (a b : ℕ) → r ≡ Err (link.Segment a) → r ≡ Err (link.Segment b) → a ≡ b
+same-segment r a b e f = cc (sym e ∙ f)
+
+same-start : (r : Result StepResult LinkFault) (a b : StepResult) → r ≡ Ok a → r ≡ Ok b → a ≡ b
+same-start r a b e f = cc (sym e ∙ f)
+
+unfit-started : (m : Module) (entry : ℕ) (r : Result Store LinkFault) (found : LinkFault) (initial : StepResult) → r ≡ Err found
+    → start_alone_or_fault m entry r ≡ Ok initial → ⊥
+unfit-started m entry (Ok store) found initial e f = cc e
+unfit-started m entry (Err other) found initial e f = cc f
+
+module _ (m : Module) (turns : ℕ) (layout-one : (a b : Layout) → HasLayout m a → HasLayout m b → a ≡ b)
+    (one : (initial : StepResult) → HasOneResultAtMost (run_from (program_alone m) instructions initial) instructions turns) where
+  entry-one : (a b : ℕ) → HasEntry m a → HasEntry m b → a ≡ b
+  entry-one a b x y = same-some (entry_function m) a b x.exported y.exported
+
+  start-one : (a b : ℕ) (x y : StepResult) → HasEntry m a → HasEntry m b → run_start_alone m a ≡ Ok x → run_start_alone m b ≡ Ok y → x ≡ y
+  start-one a b x y p q e f =
+      same-start (run_start_alone m b) x y (subst (λ (entry : ℕ). run_start_alone m entry ≡ Ok x) (entry-one a b p q) e) f
+
+  -- ---- why there are no lines
+
+  unlinked-started : (segment entry : ℕ) (initial : StepResult) → IsUnlinked m segment → run_start_alone m entry ≡ Ok initial → ⊥
+  unlinked-started segment entry initial u starts = unfit-started m entry (instantiate m alone) (link.Segment segment) initial u.unfit starts
+
+  found-one : (f g : ReplayFault) → f ≢ replay.Memory → g ≢ replay.Memory → RefusesReplay m turns f → RefusesReplay m turns g → f ≡ g
+  found-one replay.Memory g d e x y = absurd (d refl)
+  found-one f replay.Memory d e x y = absurd (e refl)
+  found-one replay.NoLayout replay.NoLayout d e x y = refl
+  found-one replay.NoLayout replay.Imports d e x y = absurd (x y.0.0 y.0.1)
+  found-one replay.NoLayout replay.NoEntry d e x y = absurd (x y.0.0 y.0.1)
+  found-one replay.NoLayout (replay.Link segment) d e x y = absurd (x y.layout y.form.laid)
+  found-one replay.NoLayout replay.Spent d e x y = absurd (x y.layout y.form.laid)
+  found-one replay.Imports replay.NoLayout d e x y = absurd (y x.0.0 x.0.1)
+  found-one replay.Imports replay.Imports d e x y = refl
+  found-one replay.Imports replay.NoEntry d e x y = absurd (x.1 y.1)
+  found-one replay.Imports (replay.Link segment) d e x y = absurd (x.1 y.form.alone)
+  found-one replay.Imports replay.Spent d e x y = absurd (x.1 y.form.alone)
+  found-one replay.NoEntry replay.NoLayout d e x y = absurd (y x.0.0 x.0.1)
+  found-one replay.NoEntry replay.Imports d e x y = absurd (y.1 x.1)
+  found-one replay.NoEntry replay.NoEntry d e x y = refl
+  found-one replay.NoEntry (replay.Link segment) d e x y = absurd (x.2 y.entry y.form.enters)
+  found-one replay.NoEntry replay.Spent d e x y = absurd (x.2 y.entry y.form.enters)
+  found-one (replay.Link segment) replay.NoLayout d e x y = absurd (y x.layout x.form.laid)
+  found-one (replay.Link segment) replay.Imports d e x y = absurd (y.1 x.form.alone)
+  found-one (replay.Link segment) replay.NoEntry d e x y = absurd (y.2 x.entry x.form.enters)
+  found-one (replay.Link segment) (replay.Link other) d e x y =
+      ap replay.Link (same-segment (instantiate m alone) segment other x.unfit y.unfit)
+  found-one (replay.Link segment) replay.Spent d e x y = absurd (unlinked-started segment y.entry y.initial x y.starts)
+  found-one replay.Spent replay.NoLayout d e x y = absurd (y x.layout x.form.laid)
+  found-one replay.Spent replay.Imports d e x y = absurd (y.1 x.form.alone)
+  found-one replay.Spent replay.NoEntry d e x y = absurd (y.2 x.entry x.form.enters)
+  found-one replay.Spent (replay.Link segment) d e x y = absurd (unlinked-started segment x.entry x.initial y x.starts)
+  found-one replay.Spent replay.Spent d e x y = refl
+
+  none-one : (f g : Fault) → HasNoReplayText m turns f → HasNoReplayText m turns g → f ≡ g
+  none-one f g x y = x.named ∙ ap (replay_fault turns) (found-one x.found y.found x.differs y.differs x.refused y.refused) ∙ sym y.named
+
+  -- ---- the lines
+
+  -- of runs from two starts, which are the same
+  result-one : (a b : ℕ) (i j : StepResult) (x y : budget.RunResult) → HasEntry m a → HasEntry m b → run_start_alone m a ≡ Ok i → run_start_alone m b ≡ Ok j
+      → IsResult (run_from (program_alone m) instructions i) instructions turns x → IsResult (run_from (program_alone m) instructions j) instructions turns y → x ≡ y
+  result-one a b i j x y p q e f is is_too =
+      one i x y is
+      (subst (λ initial. IsResult (run_from (program_alone m) instructions initial) instructions turns y) (start-one b a j i q p f e) is_too)
+
+  told-none : (told : Told) (found : ReplayFault) → found ≢ replay.Memory → TellsReplay m turns told → RefusesReplay m turns found → ⊥
+  told-none told replay.Memory d t x = d refl
+  told-none told replay.NoLayout d t x = x t.layout t.form.laid
+  told-none told replay.Imports d t x = x.1 t.form.alone
+  told-none told replay.NoEntry d t x = x.2 t.entry t.form.enters
+  told-none told (replay.Link segment) d t x = unlinked-started segment t.entry t.initial x t.starts
+  told-none told replay.Spent d t x =
+      over-spent t.run
+      (result-one t.entry x.entry t.initial x.initial (budget.Over t.run) budget.Spent t.form.enters x.form.enters t.starts x.starts t.within x.spent)
+
+  told-one : (a b : Told) → TellsReplay m turns a → TellsReplay m turns b → a.text ≡ b.text
+  told-one a b x y =
+      let same : x.run ≡ y.run =
+      same-run x.run y.run
+      (result-one x.entry y.entry x.initial y.initial (budget.Over x.run) (budget.Over y.run) x.form.enters y.form.enters x.starts y.starts x.within y.within)
+      in
+      let own : x.own ≡ y.own = same-outcome x.run.at x.own y.own x.ended (ap (λ (run : Run). run.at) same ∙ y.ended) in
+      let shown : x.shown ≡ y.shown =
+      sym x.projected ∙ ap (λ (layout : Layout). projection layout x.run.history x.own) (layout-one x.layout y.layout x.form.laid y.form.laid)
+      ∙ ap (λ (run : Run). projection y.layout run.history x.own) same
+      ∙ ap (projection y.layout y.run.history) own ∙ y.projected
+      in
+      x.text ∙ ap (λ (shown : Projection). history_text shown.history shown.outcome) shown ∙ sym y.text
+
+  text-one : (a b : List ℕ) → HasReplayText m turns a → HasReplayText m turns b → a ≡ b
+  text-one a b x y = x.lines ∙ told-one x.told y.told x.tells y.tells ∙ sym y.lines
+
+  text-none : (text : List ℕ) (fault : Fault) → HasReplayText m turns text → HasNoReplayText m turns fault → ⊥
+  text-none text fault x y = told-none x.told y.found y.differs x.tells y.refused
+
+  -- what an answer with its cause says of a reason why there are no lines, and of the lines
+  pub refused_answer : {T : Type 0} (r : Result T Fault) (lines : T → List ℕ) (fault : Fault) → IfOk r (λ x. HasReplayText m turns (lines x)) → IfErr r (λ f. (f ≡ Memory) ⊎ HasNoReplayText m turns f)
+      → HasNoReplayText m turns fault → (r ≡ Err fault) ⊎ (r ≡ Err Memory)
+  refused_answer (Ok x) lines fault is cause none = absurd (text-none (lines x) fault is none)
+  refused_answer (Err f) lines fault is (inl memory) none = inr (ap Err memory)
+  refused_answer (Err f) lines fault is (inr other) none = inl (ap Err (none-one f fault other none))
+
+  pub accepted_answer : {T : Type 0} (r : Result T Fault) (lines : T → List ℕ) (text : List ℕ) → IfOk r (λ x. HasReplayText m turns (lines x)) → IfErr r (λ f. (f ≡ Memory) ⊎ HasNoReplayText m turns f)
+      → HasReplayText m turns text → IfOk r (λ x. lines x ≡ text) × IfErr r (λ f. f ≡ Memory)
+  accepted_answer (Ok x) lines text is cause shown = (text-one (lines x) text is shown, tt)
+  accepted_answer (Err f) lines text is (inl memory) shown = (tt, memory)
+  accepted_answer (Err f) lines text is (inr other) shown = absurd (text-none text f shown other)
