@@ -3,6 +3,8 @@
 mod by_hand;
 mod long_runs;
 mod projections;
+mod replay_modules;
+mod replay_texts;
 mod replays;
 mod rows;
 mod runs;

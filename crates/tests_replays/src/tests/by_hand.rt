@@ -4,7 +4,7 @@
 //! Each has the types `[] -> [i32]` and `[] -> []`, a function 0 for the import, the original 1, and
 //! `_start`, which is 2. The layout is one import and one defined function.
 
-use crate::tests::replays::lines_shown_by;
+use crate::tests::replays::{MOST_TURNS_REPLAYED, lines_shown_by, printed_by_replay};
 use std::test::Fail;
 
 /// Modules, and the lines that their runs show.
@@ -72,6 +72,8 @@ fn right_and_wrong_replays_show_what_they_do(rt: HostRuntime) -> Result<(), Fail
         let bytes = hex::decode(alloc, replay)?;
         let shown = lines_shown_by(alloc, bytes.as_slice())?;
         assert_eq!(rt; shown.as_slice(), lines.as_bytes(), "{what}");
+        let printed = printed_by_replay(alloc, bytes.as_slice(), MOST_TURNS_REPLAYED)?;
+        assert_eq!(rt; printed.as_slice(), lines.as_bytes(), "{what}");
     }
     Ok(())
 }

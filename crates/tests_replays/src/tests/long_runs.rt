@@ -1,6 +1,9 @@
 //! Longer runs: what their replay modules show is the history of the scripted run.
 
-use crate::tests::replays::{lines_of_history, lines_of_replay, lines_shown_by, replay_of_run};
+use crate::tests::replays::{
+    MOST_TURNS_REPLAYED, lines_of_history, lines_of_replay, lines_shown_by, printed_by_replay,
+    replay_of_run,
+};
 use std::alloc::Global;
 use std::test::Fail;
 
@@ -45,6 +48,11 @@ fn shown_lines(alloc: Global, module: &str, script: &str, turns: u64) -> Result<
     let history = lines_of_history(alloc, module, script, turns)?;
     if shown.as_slice() != history.as_slice() {
         return Err(Fail::from("other lines than those of the history"));
+    }
+    let replay = replay_of_run(alloc, module, script, turns)?;
+    let printed = printed_by_replay(alloc, replay.as_slice(), MOST_TURNS_REPLAYED)?;
+    if printed.as_slice() != history.as_slice() {
+        return Err(Fail::from("other lines are printed than those of the history"));
     }
     Ok(shown)
 }

@@ -7,12 +7,19 @@ use crate::tests::projections::{Layout, lines_of_projection};
 use crate::tests::runs::run;
 use bench_machine::instance_of;
 use leb_bytes::read_u32;
+use r3_faults::Fault;
 use r3_history::history;
+use r3_inputs::MOST_REPLAY_BYTES;
 use r3_make::make;
+use r3_outside::SureSink;
+use r3_replay::replay_text;
 use std::alloc::Global;
 use std::test::Fail;
 use wasm_syntax::limits::{MOST_FILE_BYTES, MOST_TURNS};
 use wasm_syntax::{ExportKind, Module};
+
+/// The most turns that `replay` takes.
+pub const MOST_TURNS_REPLAYED: u64 = 20_000_000;
 
 /// The layout that a replay module tells: two numbers in a custom section.
 fn layout_of(module: &Module) -> Result<Layout, Fail> {
@@ -125,4 +132,29 @@ pub fn lines_of_history(
 ) -> Result<Vec<u8>, Fail> {
     let bytes = bytes_of(alloc, module)?;
     Ok(history(alloc, bytes.as_slice(), script.as_bytes(), turns)?)
+}
+
+/// What `replay` prints for a module: the lines of its run, or the line of error.
+///
+/// # Errors
+///
+/// When memory runs out, or the bytes are too many.
+pub fn printed_by_replay(alloc: Global, binary: &[u8], turns: u64) -> Result<Vec<u8>, Fail> {
+    if binary.len() as u64 > MOST_REPLAY_BYTES {
+        return Err(Fail::from("too many bytes"));
+    }
+    match replay_text(alloc, binary, turns) {
+        Ok(text) => Ok(text),
+        Err(fault) => line_of_fault(alloc, &fault),
+    }
+}
+
+/// The line of error of a fault.
+fn line_of_fault(alloc: Global, fault: &Fault) -> Result<Vec<u8>, Fail> {
+    let mut err = SureSink::new(alloc);
+    fault.put_line(&mut err)?;
+    match err.bytes() {
+        Some(bytes) => Ok(Vec::from_slice(alloc, bytes)?),
+        None => Err(Fail::from("no memory for the line of error")),
+    }
 }

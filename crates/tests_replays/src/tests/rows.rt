@@ -1,6 +1,8 @@
 //! The lines of scripted runs, worked out by hand, and what the runs of their replay modules show.
 
-use crate::tests::replays::{lines_of_history, lines_of_replay, replay_of_run};
+use crate::tests::replays::{
+    MOST_TURNS_REPLAYED, lines_of_history, lines_of_replay, printed_by_replay, replay_of_run,
+};
 use std::test::Fail;
 
 /// A function that adds what two calls of its import give.
@@ -140,6 +142,17 @@ fn replays_show_what_was_worked_out(rt: HostRuntime) -> Result<(), Fail> {
         assert_eq!(rt; shown.as_slice(), lines.as_bytes(), "{what}");
         let history = lines_of_history(alloc, module, script, *turns)?;
         assert_eq!(rt; history.as_slice(), lines.as_bytes(), "{what}");
+    }
+    Ok(())
+}
+
+#[test]
+fn replay_prints_the_lines_of_the_history(rt: HostRuntime) -> Result<(), Fail> {
+    let alloc = rt.alloc();
+    for (what, module, script, turns, lines) in ROWS {
+        let replay = replay_of_run(alloc, module, script, *turns)?;
+        let printed = printed_by_replay(alloc, replay.as_slice(), MOST_TURNS_REPLAYED)?;
+        assert_eq!(rt; printed.as_slice(), lines.as_bytes(), "{what}");
     }
     Ok(())
 }

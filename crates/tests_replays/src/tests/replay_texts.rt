@@ -1,0 +1,306 @@
+//! What `replay` prints for modules that were written by hand, and why it prints nothing. The lines were worked out by
+//! hand.
+
+use crate::tests::replay_modules::{
+    BY_TABLE, DATA, DATA_AND_NO_EXPORT, ELEMENT, EMPTY, EXPORTED_MEMORY, FLOAT, IMPORT_BY_TABLE,
+    IMPORTED_MEMORY, IMPORTING, INVALID, MEMORY, NESTED, NO_EXPORT, NONE, ONE_AND_ONE,
+    ONE_AND_THREE, ONE_AND_TWO, ONE_DEFINED, OTHER_NAME, PARAMETER, REFERENCES, RESERVED, RESULT,
+    START, TRAP, TWO_ANSWERS, TWO_DEFINED, TWO_EXPORTS,
+};
+use crate::tests::replays::printed_by_replay;
+use std::test::Fail;
+
+/// Modules, what tells their layout, the turns, and what is printed: lines, or the line of error.
+const ROWS: &[(&str, &str, &str, u64, &str)] = &[
+    (
+        "two answers",
+        TWO_ANSWERS,
+        ONE_AND_ONE,
+        19,
+        "host-call 1\nstep 1 0 ->\nimport-call 0\nimport-return 0 i32:00000005\nstep 1 1 ->\n\
+         import-call 0\nimport-return 0 i32:00000007\n\
+         step 1 2 i32:00000005 i32:00000007 -> i32:0000000c\nhost-return 1 i32:0000000c\nended\n",
+    ),
+    (
+        "a turn too few",
+        TWO_ANSWERS,
+        ONE_AND_ONE,
+        18,
+        "turns spent: 18\n",
+    ),
+    ("no turn", TWO_ANSWERS, ONE_AND_ONE, 0, "turns spent: 0\n"),
+    (
+        "`_start` is an original too",
+        TWO_ANSWERS,
+        ONE_AND_TWO,
+        19,
+        "host-call 2\nstep 2 0 ->\nenter 1\nstep 1 0 ->\nimport-call 0\n\
+         import-return 0 i32:00000005\nstep 1 1 ->\nimport-call 0\nimport-return 0 i32:00000007\n\
+         step 1 2 i32:00000005 i32:00000007 -> i32:0000000c\nexit 1 i32:0000000c\n\
+         step 2 1 i32:0000000c ->\nhost-return 2\nended\n",
+    ),
+    ("nothing to do", EMPTY, NONE, 0, "ended\n"),
+    (
+        "an original that does nothing",
+        EMPTY,
+        ONE_DEFINED,
+        0,
+        "host-call 0\nhost-return 0\nended\n",
+    ),
+    (
+        "a start function",
+        START,
+        ONE_DEFINED,
+        3,
+        "host-call 0\nstep 0 0 ->\nhost-return 0\nhost-call 0\nstep 0 0 ->\nhost-return 0\nended\n",
+    ),
+    (
+        "a start function, and a turn too few",
+        START,
+        ONE_DEFINED,
+        2,
+        "turns spent: 2\n",
+    ),
+    (
+        "a start function, and turns for it alone",
+        START,
+        ONE_DEFINED,
+        1,
+        "turns spent: 1\n",
+    ),
+    (
+        "a start function that an original calls too",
+        START,
+        TWO_DEFINED,
+        3,
+        "host-call 0\nstep 0 0 ->\nhost-return 0\nhost-call 1\nstep 1 0 ->\nenter 0\nstep 0 0 ->\n\
+         exit 0\nhost-return 1\nended\n",
+    ),
+    (
+        "references",
+        REFERENCES,
+        ONE_DEFINED,
+        6,
+        "host-call 0\nstep 0 0 -> i32:00000000\nstep 0 1 -> funcref:0000000000000000\n\
+         step 0 2 i32:00000000 funcref:0000000000000000 ->\nstep 0 3 -> i32:00000000\n\
+         step 0 4 -> funcref:0000000000000001\nstep 0 5 i32:00000000 funcref:0000000000000001 ->\n\
+         host-return 0\nended\n",
+    ),
+    (
+        "a call within an import, and a helper",
+        NESTED,
+        ONE_AND_TWO,
+        9,
+        "host-call 1\nstep 1 0 -> i32:00000007\nstep 1 1 i32:00000007 ->\n\
+         import-call 0 i32:00000007\nhost-call 2 i32:00000007\nstep 2 0 -> i32:00000007\n\
+         step 2 1 i32:00000007 ->\nhost-return 2 i32:00000007\nimport-return 0 i32:00000007\n\
+         step 1 2 i32:00000007 ->\nhost-return 1\nended\n",
+    ),
+    (
+        "an original through a table",
+        BY_TABLE,
+        TWO_DEFINED,
+        5,
+        "host-call 0\nstep 0 0 -> i32:00000009\nstep 0 1 -> i32:00000000\n\
+         step 0 2 i32:00000009 i32:00000000 -> found 1\nenter 1\nstep 1 0 ->\nexit 1\nhost-return 0\n\
+         ended\n",
+    ),
+    (
+        "an import through a table",
+        IMPORT_BY_TABLE,
+        ONE_AND_ONE,
+        5,
+        "host-call 1\nstep 1 0 -> i32:00000009\nstep 1 1 -> i32:00000000\n\
+         step 1 2 i32:00000009 i32:00000000 -> found 0\nimport-call 0 i32:00000009\nimport-return 0\n\
+         host-return 1\nended\n",
+    ),
+    (
+        "a trap of an original",
+        TRAP,
+        ONE_DEFINED,
+        1,
+        "host-call 0\ntrap 0 0 unreachable\ntrapped\n",
+    ),
+    ("a trap outside", TRAP, NONE, 1, "host-trap\nhost-trapped\n"),
+    ("no turn for a trap", TRAP, NONE, 0, "turns spent: 0\n"),
+    ("no layout", EMPTY, "", 9, "replay: layout\n"),
+    (
+        "no layout, and imports",
+        IMPORTING,
+        "",
+        9,
+        "replay: layout\n",
+    ),
+    (
+        "two layouts",
+        EMPTY,
+        "000c0972332e6c61796f75740001000c0972332e6c61796f75740001",
+        9,
+        "replay: layout\n",
+    ),
+    (
+        "more functions than there are",
+        EMPTY,
+        ONE_AND_ONE,
+        9,
+        "replay: layout\n",
+    ),
+    (
+        "one function more than there are",
+        TWO_ANSWERS,
+        ONE_AND_THREE,
+        19,
+        "replay: layout\n",
+    ),
+    (
+        "no numbers",
+        EMPTY,
+        "000a0972332e6c61796f7574",
+        9,
+        "replay: layout\n",
+    ),
+    (
+        "one number",
+        EMPTY,
+        "000b0972332e6c61796f757400",
+        9,
+        "replay: layout\n",
+    ),
+    (
+        "a third number",
+        EMPTY,
+        "000d0972332e6c61796f7574000100",
+        9,
+        "replay: layout\n",
+    ),
+    (
+        "a first number that is longer than it has to be",
+        EMPTY,
+        "000d0972332e6c61796f7574800001",
+        9,
+        "replay: layout\n",
+    ),
+    (
+        "a second one",
+        EMPTY,
+        "000d0972332e6c61796f7574008100",
+        9,
+        "replay: layout\n",
+    ),
+    (
+        "a number of six bytes",
+        EMPTY,
+        "00110972332e6c61796f757400818080808000",
+        9,
+        "replay: layout\n",
+    ),
+    (
+        "numbers whose sum passes 32 bits",
+        EMPTY,
+        "00100972332e6c61796f7574ffffffff0f02",
+        9,
+        "replay: layout\n",
+    ),
+    (
+        "a longer name",
+        EMPTY,
+        "000d0a72332e6c61796f7574730001",
+        9,
+        "replay: layout\n",
+    ),
+    (
+        "another section beside it",
+        EMPTY,
+        "00050272330001000c0972332e6c61796f75740001",
+        9,
+        "host-call 0\nhost-return 0\nended\n",
+    ),
+    (
+        "an imported function",
+        IMPORTING,
+        ONE_AND_ONE,
+        9,
+        "replay: imports\n",
+    ),
+    (
+        "an imported memory",
+        IMPORTED_MEMORY,
+        ONE_DEFINED,
+        9,
+        "replay: imports\n",
+    ),
+    (
+        "an import from `r3`",
+        RESERVED,
+        NONE,
+        9,
+        "reserved: import 0\n",
+    ),
+    ("no export", NO_EXPORT, ONE_DEFINED, 9, "replay: entry\n"),
+    (
+        "two exports",
+        TWO_EXPORTS,
+        ONE_DEFINED,
+        9,
+        "replay: entry\n",
+    ),
+    (
+        "another name",
+        OTHER_NAME,
+        ONE_DEFINED,
+        9,
+        "replay: entry\n",
+    ),
+    (
+        "a memory",
+        EXPORTED_MEMORY,
+        ONE_DEFINED,
+        9,
+        "replay: entry\n",
+    ),
+    ("a result", RESULT, ONE_DEFINED, 9, "replay: entry\n"),
+    ("a parameter", PARAMETER, ONE_DEFINED, 9, "replay: entry\n"),
+    ("a data segment", DATA, ONE_DEFINED, 9, "link: segment 1\n"),
+    (
+        "an element segment",
+        ELEMENT,
+        ONE_DEFINED,
+        9,
+        "link: segment 0\n",
+    ),
+    (
+        "a data segment, and no export",
+        DATA_AND_NO_EXPORT,
+        ONE_DEFINED,
+        9,
+        "replay: entry\n",
+    ),
+    ("half a header", "0061736d", "", 9, "malformed: at 0\n"),
+    (
+        "a body that is not valid",
+        INVALID,
+        ONE_DEFINED,
+        9,
+        "invalid: function 0\n",
+    ),
+    (
+        "an instruction that is refused",
+        FLOAT,
+        ONE_DEFINED,
+        9,
+        "unsupported: function 0 instruction 1 float arithmetic\n",
+    ),
+    ("a large memory", MEMORY, NONE, 9, "limit: memory 4097\n"),
+];
+
+#[test]
+fn replay_prints_what_was_worked_out(rt: HostRuntime) -> Result<(), Fail> {
+    let alloc = rt.alloc();
+    for (what, module, layout, turns, printed) in ROWS {
+        let mut binary = hex::decode(alloc, module)?;
+        binary.extend_from_slice(hex::decode(alloc, layout)?.as_slice())?;
+        let text = printed_by_replay(alloc, binary.as_slice(), *turns)?;
+        assert_eq!(rt; text.as_slice(), printed.as_bytes(), "{what}");
+    }
+    Ok(())
+}
