@@ -15,7 +15,7 @@ use Rattle.wasm_syntax.specs.Profile as profile
 use Rattle.wasm_syntax.specs.Profile.{Refusal}
 use Rattle.script_text.specs.declared.faults.ScriptFault.{ScriptFault}
 use Rattle.script_text.specs.declared.faults.ScriptFault.TheVariants as script
-use Rattle.r3_inputs.specs.Inputs.{invalid_fault, refusal_fault, script_fault, IsRefusedModule, ByBytes, ByRules, ByProfile, AreRefused, ByModule, ByScript}
+use Rattle.r3_inputs.specs.Inputs.{invalid_fault, refusal_fault, script_fault, IsRefusedIn, ByBytes, ByRules, ByProfile, AreRefused, ByModule, ByScript}
 use Rattle.accepted_runs.specs.Unlinked as unlinked
 use Rattle.accepted_runs.specs.Runs as runs
 use Rattle.r3_make.specs.Refusals as refusals
@@ -26,6 +26,12 @@ use Rattle.host_script.specs.declared.scripts.LinkFault.{LinkFault}
 use Rattle.host_script.specs.declared.scripts.LinkFault.TheVariants as link
 use Rattle.r3_history.specs.Histories as histories
 use Rattle.r3_history.specs.Histories.{IsHistoryRefusal, IsUntold, OfRun, OfLink}
+use Rattle.replay_run.specs.declared.results.ReplayFault.{ReplayFault}
+use Rattle.replay_run.specs.declared.results.ReplayFault.TheVariants as replay
+use Rattle.r3_inputs.specs.declared.module_files.ModuleFile.{ModuleFile}
+use Rattle.r3_inputs.specs.declared.module_files.ModuleFile.TheVariants.{Original, Replay as ReplayModule}
+use Rattle.r3_replay.specs.ReplayTexts as texts
+use Rattle.r3_replay.specs.ReplayTexts.{IsReplayRefusal, replay_fault}
 use Rattle.trace_format.specs.declared.files.FormatFault.{FormatFault}
 use Rattle.trace_format.specs.declared.files.FormatFault.TheVariants as format
 use Rattle.r3_show.specs.Shown.{IsShowRefusal, fault_of}
@@ -132,14 +138,14 @@ script-other (script.NoAccess name) differs = refl
 script-other (script.CallsOwn name) differs = refl
 script-other script.Memory differs = absurd (differs refl)
 
-module-other : (bytes : List ℕ) (fault : Fault) → IsRefusedModule bytes fault → IsOther (status_of fault)
-module-other bytes fault (ByBytes malformed) = named-other fault (faults.Malformed malformed.at) malformed.named refl
-module-other bytes fault (ByRules m encoded invalid) = named-other fault (invalid_fault invalid.place) invalid.named (invalid-other invalid.place)
-module-other bytes fault (ByProfile m encoded valid refused) = named-other fault (refusal_fault refused.refusal) refused.named (profile-other refused.refusal)
+module-other : (file : ModuleFile) (bytes : List ℕ) (fault : Fault) → IsRefusedIn file bytes fault → IsOther (status_of fault)
+module-other file bytes fault (ByBytes malformed) = named-other fault (faults.Malformed malformed.at) malformed.named refl
+module-other file bytes fault (ByRules m encoded invalid) = named-other fault (invalid_fault invalid.place) invalid.named (invalid-other invalid.place)
+module-other file bytes fault (ByProfile m encoded valid refused) = named-other fault (refusal_fault refused.refusal) refused.named (profile-other refused.refusal)
 
 inputs-other : (module_bytes script_bytes : List ℕ) (fault : Fault) → AreRefused module_bytes script_bytes fault
     → IsOther (status_of fault)
-inputs-other module_bytes script_bytes fault (ByModule refused) = module-other module_bytes fault refused
+inputs-other module_bytes script_bytes fault (ByModule refused) = module-other Original module_bytes fault refused
 inputs-other module_bytes script_bytes fault (ByScript m is refused) = named-other fault (script_fault refused.found) refused.named (script-other refused.found refused.differs)
 
 link-other : (found : LinkFault) → (found ≡ link.Memory → ⊥) → is_other (status_of (unlinked.link_fault found)) ≡ true
@@ -172,6 +178,18 @@ history-status : (module_bytes script_bytes : List ℕ) (turns : ℕ) (fault : F
 history-status m s turns fault (histories.OfInputs refused) = inputs-other m s fault refused
 history-status m s turns fault (OfRun original played inputs untold) = untold-status original played turns fault untold
 
+replay-other : (turns : ℕ) (found : ReplayFault) → (found ≡ replay.Memory → ⊥) → is_other (status_of (replay_fault turns found)) ≡ true
+replay-other turns replay.NoLayout differs = refl
+replay-other turns replay.Imports differs = refl
+replay-other turns replay.NoEntry differs = refl
+replay-other turns (replay.Link segment) differs = refl
+replay-other turns replay.Spent differs = refl
+replay-other turns replay.Memory differs = absurd (differs refl)
+
+replay-status : (binary : List ℕ) (turns : ℕ) (fault : Fault) → IsReplayRefusal binary turns fault → IsOther (status_of fault)
+replay-status binary turns fault (texts.OfModule refused) = module-other ReplayModule binary fault refused
+replay-status binary turns fault (texts.OfRun m is_module u) = named-other fault (replay_fault turns u.found) u.named (replay-other turns u.found u.differs)
+
 trace-other : (found : FormatFault) → (found ≡ format.Memory → ⊥) → is_other (status_of (fault_of found)) ≡ true
 trace-other (format.Version found) differs = refl
 trace-other (format.Bad at) differs = refl
@@ -196,7 +214,10 @@ refusal-status History (m ∷ []) number fault c = absurd c
 refusal-status History (m ∷ s ∷ []) None fault c = absurd c
 refusal-status History (m ∷ s ∷ []) (Some turns) fault c = history-status m s turns fault c
 refusal-status History (m ∷ s ∷ t ∷ more) number fault c = absurd c
-refusal-status Replay loaded number fault c = absurd c
+refusal-status Replay [] number fault c = absurd c
+refusal-status Replay (binary ∷ []) None fault c = absurd c
+refusal-status Replay (binary ∷ []) (Some turns) fault c = replay-status binary turns fault c
+refusal-status Replay (binary ∷ t ∷ more) number fault c = absurd c
 refusal-status Show [] number fault c = absurd c
 refusal-status Show (trace ∷ []) None fault c = show-status trace fault c
 refusal-status Show (trace ∷ []) (Some number) fault c = absurd c

@@ -8,9 +8,10 @@ use Rattle.r3_faults.specs.declared.faults.Fault.TheVariants.{Usage, Read, TooLo
 use Rattle.r3_make.specs.Refusals.{AreReplayable, IsMakeRefusal}
 use Rattle.r3_make.specs.Printed.{IsPrinted}
 use Rattle.r3_history.specs.Histories.{IsHistory, IsHistoryRefusal}
+use Rattle.r3_replay.specs.ReplayTexts.{IsReplayText, IsReplayRefusal}
 use Rattle.r3_show.specs.Shown.{IsShown, IsShowRefusal}
 use Rattle.r3_core.specs.declared.words.Command.{Command}
-use Rattle.r3_core.specs.declared.words.Command.TheVariants.{Make, History, Show}
+use Rattle.r3_core.specs.declared.words.Command.TheVariants.{Make, History, Replay, Show}
 use Rattle.r3_core.specs.Words.{form, is_built, IsListed, IsUnbuilt, Says, files_of}
 
 -- ---- the files of a call
@@ -67,6 +68,7 @@ IsRefusal Make (module_bytes ∷ script_bytes ∷ []) (Some turns) fault =
     IsMakeRefusal module_bytes script_bytes turns fault
 IsRefusal History (module_bytes ∷ script_bytes ∷ []) (Some turns) fault =
     IsHistoryRefusal module_bytes script_bytes turns fault
+IsRefusal Replay (binary ∷ []) (Some turns) fault = IsReplayRefusal binary turns fault
 IsRefusal Show (trace ∷ []) None fault = IsShowRefusal trace fault
 IsRefusal command loaded number fault = ⊥
 
@@ -75,6 +77,7 @@ abbrev pub IsDoable : Command → (loaded : List (List ℕ)) → (number : Optio
 IsDoable Make (module_bytes ∷ script_bytes ∷ []) (Some turns) = AreReplayable module_bytes script_bytes turns
 IsDoable History (module_bytes ∷ script_bytes ∷ []) (Some turns) =
     (text : List ℕ) × IsHistory module_bytes script_bytes turns text
+IsDoable Replay (binary ∷ []) (Some turns) = (text : List ℕ) × IsReplayText binary turns text
 IsDoable Show (trace ∷ []) None = (text : List ℕ) × IsShown trace text
 IsDoable command loaded number = ⊥
 
@@ -84,6 +87,7 @@ Prints Make (module_bytes ∷ script_bytes ∷ []) (Some turns) printed =
     IsPrinted module_bytes script_bytes turns printed
 Prints History (module_bytes ∷ script_bytes ∷ []) (Some turns) printed =
     IsHistory module_bytes script_bytes turns printed
+Prints Replay (binary ∷ []) (Some turns) printed = IsReplayText binary turns printed
 Prints Show (trace ∷ []) None printed = IsShown trace printed
 Prints command loaded number printed = ⊥
 

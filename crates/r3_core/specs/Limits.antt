@@ -1,6 +1,7 @@
 -- The limits of the commands: the most bytes of each kind of file, and the greatest numbers after them.
 use Rattle.std.specs.Prelude.{ℕ}
 use Rattle.wasm_syntax.specs.declared.limits.TheConstants.{MOST_FILE_BYTES, MOST_TURNS, MOST_TURNS_TOLD}
+use Rattle.r3_inputs.specs.declared.module_files.TheConstants.{MOST_INSTRUMENTED_BYTES, MOST_REPLAY_BYTES}
 
 abbrev pub module_bytes : ℕ
 module_bytes = MOST_FILE_BYTES
@@ -10,7 +11,7 @@ script_bytes = MOST_FILE_BYTES
 
 -- of a module with hooks
 abbrev pub hooked_bytes : ℕ
-hooked_bytes = 134217728
+hooked_bytes = MOST_INSTRUMENTED_BYTES
 
 -- of a log, a tape or a trace
 abbrev pub trace_bytes : ℕ
@@ -18,7 +19,7 @@ trace_bytes = 268435456
 
 -- of a module that is replayed, and of any file
 abbrev pub binary_bytes : ℕ
-binary_bytes = 536870912
+binary_bytes = MOST_REPLAY_BYTES
 
 -- of `make`
 abbrev pub most_turns : ℕ

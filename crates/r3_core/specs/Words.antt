@@ -64,6 +64,7 @@ IsListed words =
 abbrev pub is_built : Command → Bool
 is_built Make = true
 is_built History = true
+is_built Replay = true
 is_built Show = true
 is_built command = false
 

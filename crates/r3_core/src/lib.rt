@@ -25,6 +25,7 @@ mod words;
 pub use r3_faults::Fault;
 pub use r3_history::history;
 pub use r3_make::make;
+pub use r3_replay::replay_text;
 pub use r3_show::show;
 pub use sure::r3_in_memory;
 
@@ -197,6 +198,7 @@ fn output_of_command(
     match (command, loaded, number) {
         (Command::Make, [module, script], Some(turns)) => make(alloc, module, script, turns),
         (Command::History, [module, script], Some(turns)) => history(alloc, module, script, turns),
+        (Command::Replay, [binary], Some(turns)) => replay_text(alloc, binary, turns),
         (Command::Show, [trace], None) => show(alloc, trace),
         _ => Err(Fault::NotBuilt),
     }

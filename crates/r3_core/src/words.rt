@@ -75,7 +75,10 @@ impl Command {
     pub(crate) fn is_built(self) -> bool
         ensures { result ≡ is_built self }
     {
-        matches!(self, Command::Make | Command::History | Command::Show)
+        matches!(
+            self,
+            Command::Make | Command::History | Command::Replay | Command::Show
+        )
     }
 }
 

@@ -1,9 +1,10 @@
 use Rattle.std.proofs.Common.{◌≡◌, ℕ, ◌<◌, ◌≤◌, List, [], ◌∷◌, length, get_or, Option, Some, None, Vec, sym, subst, arith}
 use Rattle.r3_make.specs.Refusals.{AreReplayable, IsMakeRefusal}
 use Rattle.r3_history.specs.Histories.{IsHistory, IsHistoryRefusal}
+use Rattle.r3_replay.specs.ReplayTexts.{IsReplayText, IsReplayRefusal}
 use Rattle.r3_show.specs.Shown.{IsShown, IsShowRefusal}
 use Rattle.r3_core.specs.declared.words.Command.{Command}
-use Rattle.r3_core.specs.declared.words.Command.TheVariants.{Make, History, Show}
+use Rattle.r3_core.specs.declared.words.Command.TheVariants.{Make, History, Replay, Show}
 use Rattle.r3_core.specs.Causes.{IsRefusal, IsDoable, all_bytes}
 use Rattle.r3_core.proofs.output_of_command.Goals as goal
 
@@ -56,21 +57,21 @@ returns-in-History-len2-Some-clause-done c = λ doable.
     in
     (c.history.ensures.accepted history.0 history.1).1
 
--- what is said of one file
-one-file : {Z : Type 0} (command here : Command) (P : List ℕ → Type 0) (Q : Command → List (List ℕ) → Option ℕ → Type 0) (loaded : List (Vec ℕ Z)) (number : Option ℕ) (t : Vec ℕ Z) → ((a : List ℕ) → Q here (a ∷ []) None → P a)
-    → command ≡ here → number ≡ None → t ≡ get_or loaded 0 t → 1 ≤ length loaded → length loaded < 2 → Q command (all_bytes loaded) number → P t.items
-one-file command here P Q [] number t at c n first least most sure = absurd (omega (arith, least))
-one-file command here P Q (a ∷ []) number t at c n first least most sure =
+-- what is said of one file, with what is given after it
+one-file : {Z : Type 0} (command here : Command) (given : Option ℕ) (P : List ℕ → Type 0) (Q : Command → List (List ℕ) → Option ℕ → Type 0) (loaded : List (Vec ℕ Z)) (number : Option ℕ) (t : Vec ℕ Z) → ((a : List ℕ) → Q here (a ∷ []) given → P a)
+    → command ≡ here → number ≡ given → t ≡ get_or loaded 0 t → 1 ≤ length loaded → length loaded < 2 → Q command (all_bytes loaded) number → P t.items
+one-file command here given P Q [] number t at c n first least most sure = absurd (omega (arith, least))
+one-file command here given P Q (a ∷ []) number t at c n first least most sure =
     let made = subst (λ command. Q command (a.items ∷ []) number) c sure in
     subst (λ (t : Vec ℕ _). P t.items) (sym first) (at a.items (subst (λ number. Q here (a.items ∷ []) number) n made))
-one-file command here P Q (a ∷ x ∷ more) number t at c n first least most sure = absurd (omega (arith, most))
+one-file command here given P Q (a ∷ x ∷ more) number t at c n first least most sure = absurd (omega (arith, most))
 
 pub returns-in-Show-len1-None-clause-refused : goal.returns-in-Show-len1-None-clause-refused
 returns-in-Show-len1-None-clause-refused c = λ fault sure.
     let here = c.in-Show-len1-None in
     c.show.ensures.refused fault
     (subst (λ bytes. IsShowRefusal bytes fault) (sym c.deref-in-Show-len1-None.ensures.value)
-    (one-file c.args.command Show (λ a. IsShowRefusal a fault) (λ command loaded number. IsRefusal command loaded number fault) c.args.loaded.now c.args.number c.trace-item.result (λ a sure. sure) here.is-0 here.is-2 c.trace-item.is (omega (arith, here.len_at_least)) (omega (arith, here.len_below)) sure))
+    (one-file c.args.command Show None (λ a. IsShowRefusal a fault) (λ command loaded number. IsRefusal command loaded number fault) c.args.loaded.now c.args.number c.trace-item.result (λ a sure. sure) here.is-0 here.is-2 c.trace-item.is (omega (arith, here.len_at_least)) (omega (arith, here.len_below)) sure))
 
 -- it has lines
 abbrev HasLines : List ℕ → Type 0
@@ -81,6 +82,26 @@ returns-in-Show-len1-None-clause-done c = λ doable.
     let here = c.in-Show-len1-None in
     let lines =
     (subst HasLines (sym c.deref-in-Show-len1-None.ensures.value)
-    (one-file c.args.command Show HasLines (λ command loaded number. IsDoable command loaded number) c.args.loaded.now c.args.number c.trace-item.result (λ a doable. doable) here.is-0 here.is-2 c.trace-item.is (omega (arith, here.len_at_least)) (omega (arith, here.len_below)) doable))
+    (one-file c.args.command Show None HasLines (λ command loaded number. IsDoable command loaded number) c.args.loaded.now c.args.number c.trace-item.result (λ a doable. doable) here.is-0 here.is-2 c.trace-item.is (omega (arith, here.len_at_least)) (omega (arith, here.len_below)) doable))
     in
     (c.show.ensures.accepted lines.0 lines.1).1
+
+pub returns-in-Replay-len1-Some-clause-refused : goal.returns-in-Replay-len1-Some-clause-refused
+returns-in-Replay-len1-Some-clause-refused c = λ fault sure.
+    let here = c.in-Replay-len1-Some in
+    c.replay_text.ensures.refused fault
+    (subst (λ bytes. IsReplayRefusal bytes here.turns fault) (sym c.deref-in-Replay-len1-Some.ensures.value)
+    (one-file c.args.command Replay (Some here.turns) (λ a. IsReplayRefusal a here.turns fault) (λ command loaded number. IsRefusal command loaded number fault) c.args.loaded.now c.args.number c.binary-item.result (λ a sure. sure) here.is-0 here.is-2 c.binary-item.is (omega (arith, here.len_at_least)) (omega (arith, here.len_below)) sure))
+
+-- its run shows lines
+abbrev ShowsLines : ℕ → List ℕ → Type 0
+ShowsLines turns bytes = (text : List ℕ) × IsReplayText bytes turns text
+
+pub returns-in-Replay-len1-Some-clause-done : goal.returns-in-Replay-len1-Some-clause-done
+returns-in-Replay-len1-Some-clause-done c = λ doable.
+    let here = c.in-Replay-len1-Some in
+    let lines =
+    (subst (ShowsLines here.turns) (sym c.deref-in-Replay-len1-Some.ensures.value)
+    (one-file c.args.command Replay (Some here.turns) (ShowsLines here.turns) (λ command loaded number. IsDoable command loaded number) c.args.loaded.now c.args.number c.binary-item.result (λ a doable. doable) here.is-0 here.is-2 c.binary-item.is (omega (arith, here.len_at_least)) (omega (arith, here.len_below)) doable))
+    in
+    (c.replay_text.ensures.accepted lines.0 lines.1).1
