@@ -9,6 +9,7 @@ mod history_modules;
 mod history_refusals;
 mod large;
 mod modules;
+mod replay_calls;
 mod replays;
 mod runs;
 mod scripts;

@@ -161,12 +161,11 @@ fn forms_that_are_not_built(rt: HostRuntime) -> Result<(), Fail> {
 fn commands_that_are_not_built_read_no_file(rt: HostRuntime) -> Result<(), Fail> {
     let alloc = rt.alloc();
     let mut files = MemFiles::new(alloc, Vec::new(alloc));
-    let calls: [&[&str]; 6] = [
+    let calls: [&[&str]; 5] = [
         &["instrument", "m"],
         &["record", "m", "s", "20000000"],
         &["reduce", "l"],
         &["build", "m", "s", "t"],
-        &["replay", "b", "1"],
         &["load", "60000"],
     ];
     for words in calls {
