@@ -1,0 +1,17 @@
+pub mod CallObservations
+pub mod CoreFrames
+pub mod StepCalls
+pub mod RunCalls
+pub mod Trails
+pub mod Tellable
+pub mod ModuleFacts
+pub mod NextInstructions
+pub mod Mirrors
+pub mod TrailsOfRuns
+pub mod TrailCalls
+pub mod TrailSteps
+pub mod HostGlobals
+pub mod TrailRuns
+pub mod CallOrder
+pub mod TrailOrder
+pub mod Ordered

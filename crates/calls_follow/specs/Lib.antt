@@ -1,0 +1,2 @@
+pub mod ToldObservations
+pub mod Laws

@@ -1,0 +1,32 @@
+// Laws of the definitions, each the contract of a function; the statements stand in `specs/Laws.antt`.
+
+ghost use Rattle.calls_follow.specs.Laws.{HookCallsAreInOrder, HookCallsObserveRuns};
+
+use hook_spec::{indices_are_renumbered, instrumented_keep_indices};
+use observed_steps::{own_answers, own_steps};
+use type_safety::{rules_hold, safe_steps, typed_code, typed_store};
+
+/// What the hook calls of a run observe is what the run observes, as hooks are told of it.
+pub fn hook_calls_observe_runs()
+    ensures { HookCallsObserveRuns }
+{
+    typed_code();
+    typed_store();
+    rules_hold();
+    safe_steps();
+    instrumented_keep_indices();
+}
+
+/// No hook call of a run is out of order, whether the run ends or is cut short.
+pub fn hook_calls_are_in_order()
+    ensures { HookCallsAreInOrder }
+{
+    typed_code();
+    typed_store();
+    rules_hold();
+    safe_steps();
+    own_answers();
+    own_steps();
+    indices_are_renumbered();
+    instrumented_keep_indices();
+}
