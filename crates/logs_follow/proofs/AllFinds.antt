@@ -1,0 +1,226 @@
+-- The events of what is told of one observation find just what that observation needs.
+use Rattle.std.proofs.Common.{◌≡◌, ℕ, ◌*◌, List, [], ◌∷◌, ◌++◌, Option, Some, None, Bool, true, false, cond, nat_eq, nat_le, nat_lt, refl, sym, ap, ◌∙◌, subst}
+use Rattle.std.specs.Prelude.{option_map}
+use Rattle.std.specs.Option.{option_or}
+use Rattle.wasm_syntax.specs.declared.limits.TheConstants.{PAGE_SIZE}
+use Rattle.wasm_syntax.specs.declared.values.Val.{Val}
+use Rattle.trace_model.specs.declared.events.Event.TheVariants.{Seen, Table, Entry}
+use Rattle.replay_spec.specs.Observations.{Reads, Copies, Writes, Reaches, Resizes, ReadsEntry, ReachesEntry, WritesGlobal}
+use Rattle.replay_spec.specs.Known.{Known, byte_among}
+use Rattle.replay_spec.specs.Alike.{same_option}
+use Rattle.replay_spec.specs.Needed.{needed, effect_entry, effect_global, effect_pages, effect_entries}
+use Rattle.hook_spec.specs.Hooks.{renumber, original}
+use Rattle.hook_spec.specs.Logs.{LogState, differing_runs, unless, same_entry, all_observed_events}
+use Rattle.hook_spec.specs.LogTapes.{first_some}
+use Rattle.logs_follow.proofs.Agrees.{AreFindsOf}
+use Rattle.logs_follow.proofs.FirstBytes.{finds_of, first_differing}
+use Rattle.logs_follow.proofs.ObservedFinds.{IsToldKnown, IsNoticed, none_differing, found_size, found_entries_number, same_told_entry, original_entry, found_place}
+
+nil_after : {A : Type 0} (xs : List A) → xs ++ [] ≡ xs
+nil_after [] = refl
+nil_after (x ∷ xs) = ap (λ l. x ∷ l) (nil_after xs)
+
+module _ (n size : ℕ) (known : Known) (state : LogState) (told : IsToldKnown n known state.known) where
+  -- bytes that are read, by a load or as the source of a copy
+  bytes_found : (address : ℕ) (bytes : List ℕ)
+      → AreFindsOf known (Reads address bytes) (finds_of size (differing_runs state.known.byte address bytes))
+  bytes_found address bytes =
+      record {
+        pages = none_differing size effect_pages (λ a bs. refl) state.known.byte address bytes;
+        entries = none_differing size effect_entries (λ a bs. refl) state.known.byte address bytes;
+        byte = λ at. first_differing size state.known.byte address bytes at
+            ∙ ap (λ k. needed nat_eq k (byte_among address bytes at)) (told.byte at);
+        entry = λ at. none_differing size (effect_entry at) (λ a bs. refl) state.known.byte address bytes;
+        global = λ at. none_differing size (effect_global at) (λ a bs. refl) state.known.byte address bytes;
+      }
+
+  pub reads_found : (address : ℕ) (bytes : List ℕ)
+      → AreFindsOf known (Reads address bytes) (finds_of size (all_observed_events n state (Reads address bytes ∷ [])))
+  reads_found address bytes =
+      subst (λ events. AreFindsOf known (Reads address bytes) (finds_of size events))
+      (sym (nil_after (differing_runs state.known.byte address bytes))) (bytes_found address bytes)
+
+  pub copies_found : (address : ℕ) (bytes : List ℕ)
+      → AreFindsOf known (Copies address bytes)
+      (finds_of size (all_observed_events n state (Copies address bytes ∷ [])))
+  copies_found address bytes =
+      let f = bytes_found address bytes in
+      subst (λ events. AreFindsOf known (Copies address bytes) (finds_of size events))
+      (sym (nil_after (differing_runs state.known.byte address bytes)))
+      (record { pages = f.pages; entries = f.entries; byte = f.byte; entry = f.entry; global = f.global })
+
+  -- an access, and the size
+  pub reaches_found : («end» found : ℕ) → IsNoticed state.noticed size known.pages found
+      → AreFindsOf known (Reaches «end» found)
+      (finds_of size (all_observed_events n state (Reaches «end» found ∷ [])))
+  reaches_found «end» found noticed =
+      subst
+      (λ pages. AreFindsOf known (Reaches «end» found)
+      (finds_of size
+      ((cond (cond (nat_le «end» (pages * PAGE_SIZE)) false true) (unless (nat_eq pages state.noticed) Seen) [] ++ [])
+      ++ [])))
+      (sym told.pages)
+      (go (nat_le «end» (known.pages * PAGE_SIZE)) refl (nat_eq known.pages state.noticed) refl)
+    where
+      go : (b : Bool) → nat_le «end» (known.pages * PAGE_SIZE) ≡ b
+          → (c : Bool) → nat_eq known.pages state.noticed ≡ c
+          → AreFindsOf known (Reaches «end» found)
+          (finds_of size ((cond (cond b false true) (unless c Seen) [] ++ []) ++ []))
+      go true p c q =
+          record {
+            pages = sym (ap (λ b. cond b None (needed nat_eq known.pages (Some found))) p);
+            entries = refl;
+            byte = λ at. refl;
+            entry = λ at. refl;
+            global = λ at. refl;
+          }
+      go false p true q =
+          record {
+            pages = ap (λ c. first_some effect_pages (finds_of size (unless c Seen))) (sym q)
+                ∙ found_size known.pages found state.noticed size noticed
+                ∙ sym (ap (λ b. cond b None (needed nat_eq known.pages (Some found))) p);
+            entries = refl;
+            byte = λ at. refl;
+            entry = λ at. refl;
+            global = λ at. refl;
+          }
+      go false p false q =
+          record {
+            pages = ap (λ c. first_some effect_pages (finds_of size (unless c Seen))) (sym q)
+                ∙ found_size known.pages found state.noticed size noticed
+                ∙ sym (ap (λ b. cond b None (needed nat_eq known.pages (Some found))) p);
+            entries = refl;
+            byte = λ at. refl;
+            entry = λ at. refl;
+            global = λ at. refl;
+          }
+
+  pub resizes_found : (found left : ℕ) → IsNoticed state.noticed size known.pages found
+      → AreFindsOf known (Resizes found left)
+      (finds_of size (all_observed_events n state (Resizes found left ∷ [])))
+  resizes_found found left noticed =
+      subst
+      (λ pages. AreFindsOf known (Resizes found left)
+      (finds_of size ((unless (nat_eq pages state.noticed) Seen ++ []) ++ [])))
+      (sym told.pages)
+      (go (nat_eq known.pages state.noticed) refl)
+    where
+      go : (c : Bool) → nat_eq known.pages state.noticed ≡ c
+          → AreFindsOf known (Resizes found left) (finds_of size ((unless c Seen ++ []) ++ []))
+      go true q =
+          record {
+            pages = ap (λ c. first_some effect_pages (finds_of size (unless c Seen))) (sym q)
+                ∙ found_size known.pages found state.noticed size noticed;
+            entries = refl;
+            byte = λ at. refl;
+            entry = λ at. refl;
+            global = λ at. refl;
+          }
+      go false q =
+          record {
+            pages = ap (λ c. first_some effect_pages (finds_of size (unless c Seen))) (sym q)
+                ∙ found_size known.pages found state.noticed size noticed;
+            entries = refl;
+            byte = λ at. refl;
+            entry = λ at. refl;
+            global = λ at. refl;
+          }
+
+  -- an access of the table
+  pub reaches_entry_found : (index found : ℕ)
+      → AreFindsOf known (ReachesEntry index found)
+      (finds_of size (all_observed_events n state (ReachesEntry index found ∷ [])))
+  reaches_entry_found index found =
+      subst
+      (λ entries. AreFindsOf known (ReachesEntry index found)
+      (finds_of size (cond (nat_lt index entries) [] (unless (nat_eq found entries) (Table found)) ++ [])))
+      (sym told.entries)
+      (go (nat_lt index known.entries) refl (nat_eq found known.entries) refl)
+    where
+      go : (b : Bool) → nat_lt index known.entries ≡ b → (c : Bool) → nat_eq found known.entries ≡ c
+          → AreFindsOf known (ReachesEntry index found)
+          (finds_of size (cond b [] (unless c (Table found)) ++ []))
+      go true p c q =
+          record {
+            pages = refl;
+            entries = sym (ap (λ b. cond b None (needed nat_eq known.entries (Some found))) p);
+            byte = λ at. refl;
+            entry = λ at. refl;
+            global = λ at. refl;
+          }
+      go false p true q =
+          record {
+            pages = refl;
+            entries = ap (λ c. first_some effect_entries (finds_of size (unless c (Table found)))) (sym q)
+                ∙ found_entries_number known.entries found size
+                ∙ sym (ap (λ b. cond b None (needed nat_eq known.entries (Some found))) p);
+            byte = λ at. refl;
+            entry = λ at. refl;
+            global = λ at. refl;
+          }
+      go false p false q =
+          record {
+            pages = refl;
+            entries = ap (λ c. first_some effect_entries (finds_of size (unless c (Table found)))) (sym q)
+                ∙ found_entries_number known.entries found size
+                ∙ sym (ap (λ b. cond b None (needed nat_eq known.entries (Some found))) p);
+            byte = λ at. refl;
+            entry = λ at. refl;
+            global = λ at. refl;
+          }
+
+  -- what is written
+  pub writes_found : (address : ℕ) (bytes : List ℕ)
+      → AreFindsOf known (Writes address bytes)
+      (finds_of size (all_observed_events n state (Writes address bytes ∷ [])))
+  writes_found address bytes =
+      record { pages = refl; entries = refl; byte = λ at. refl; entry = λ at. refl; global = λ at. refl }
+
+  pub writes_global_found : (global : ℕ) (value : Val)
+      → AreFindsOf known (WritesGlobal global value)
+      (finds_of size (all_observed_events n state (WritesGlobal global value ∷ [])))
+  writes_global_found global value =
+      record { pages = refl; entries = refl; byte = λ at. refl; entry = λ at. refl; global = λ at. refl }
+
+  -- an entry
+  pub entry_found : (index : ℕ) (func : Option ℕ) → ((f : ℕ) → original n (renumber n f) ≡ Some f)
+      → AreFindsOf known (ReadsEntry index func)
+      (finds_of size (all_observed_events n state (ReadsEntry index (option_map (renumber n) func) ∷ [])))
+  entry_found index func back =
+      subst
+      (λ e. AreFindsOf known (ReadsEntry index func)
+      (finds_of size
+      (unless (same_entry (state.known.entry index) (option_map (renumber n) func)) (Entry index e) ++ [])))
+      (sym (original_entry n back func))
+      (subst
+      (λ b. AreFindsOf known (ReadsEntry index func) (finds_of size (unless b (Entry index func) ++ [])))
+      (sym
+      (ap (λ e. same_entry e (option_map (renumber n) func)) (told.entry index)
+      ∙ same_told_entry n (known.entry index) func))
+      (go (same_option nat_eq (known.entry index) func) refl))
+    where
+      or_none : {X : Type 0} (o : Option X) → option_or o None ≡ o
+      or_none None = refl
+      or_none (Some x) = refl
+
+      go : (b : Bool) → same_option nat_eq (known.entry index) func ≡ b
+          → AreFindsOf known (ReadsEntry index func) (finds_of size (unless b (Entry index func) ++ []))
+      go true p =
+          record {
+            pages = refl;
+            entries = refl;
+            byte = λ at. refl;
+            entry = λ at. sym (ap (λ b. cond b None (cond (nat_eq index at) (Some func) None)) p)
+                ∙ found_place (same_option nat_eq) known.entry index at func;
+            global = λ at. refl;
+          }
+      go false p =
+          record {
+            pages = refl;
+            entries = refl;
+            byte = λ at. refl;
+            entry = λ at. or_none (cond (nat_eq index at) (Some func) None)
+                ∙ sym (ap (λ b. cond b None (cond (nat_eq index at) (Some func) None)) p)
+                ∙ found_place (same_option nat_eq) known.entry index at func;
+            global = λ at. refl;
+          }

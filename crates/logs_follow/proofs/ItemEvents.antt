@@ -1,0 +1,262 @@
+-- The events of what is told of a step's observations, and what the log knows after them.
+use Rattle.std.proofs.Common.{◌≡◌, ℕ, ◌+◌, List, [], ◌∷◌, ◌++◌, Option, Some, None, Bool, true, false, cond, ◌&&◌, nat_eq, nat_lt, slice_get, refl, sym, ap, ◌∙◌, subst, arith}
+use Rattle.std.specs.Prelude.{◌⊎◌, option_map}
+use Rattle.std.specs.List.{AllByRecursion}
+use Rattle.std.specs.Option.{option_or}
+use Rattle.std.proofs.lemmas.Bool.Decides.{nat_tests}
+use Rattle.std.proofs.lemmas.Option.{same_Some}
+use Rattle.list_laws.proofs.Lists.{joined_all}
+use Rattle.wasm_syntax.specs.declared.values.Val.{Val}
+use Rattle.wasm_syntax.specs.declared.signatures.GlobalType.{GlobalType}
+use Rattle.wasm_syntax.specs.Alike.{same_type}
+use Rattle.wasm_syntax.proofs.ValTypes.{type_own}
+use Rattle.run_outcomes.specs.declared.outcomes.Outcome.{Outcome}
+use Rattle.run_outcomes.specs.declared.outcomes.Outcome.TheVariants.{Ended, Trapped, HostTrapped}
+use Rattle.trace_model.specs.declared.events.Event.{Event}
+use Rattle.trace_model.specs.declared.events.Event.TheVariants.{Enter, Leave, Pre, Post, Grow, Seen, Table, Bytes, Entry, Global}
+use Rattle.trace_model.specs.declared.tapes.Effect.TheVariants as effects
+use Rattle.history_spec.specs.Store.{Store}
+use Rattle.replay_spec.specs.Observations.{Observation, Begins, Ends, Reads, Copies, Writes, Reaches, Resizes, ReadsEntry, WritesEntry, ReachesEntry, ResizesTable, ReadsGlobal, WritesGlobal}
+use Rattle.replay_spec.specs.Known.{Known, pages_of}
+use Rattle.replay_spec.specs.Alike.{same_option, same_value}
+use Rattle.tape_follows.proofs.Items.{pages_there}
+use Rattle.tape_follows.proofs.Relation.{IsKnownOf, IsSeen}
+use Rattle.hook_spec.specs.Hooks.{renumber, original}
+use Rattle.hook_spec.specs.Logs.{LogState, with_first_byte, differing_runs, unless, same_bits, sees_size, seen_events, found_events, log_after, all_observed_events}
+use Rattle.hook_spec.specs.LogTapes.{Finds, LogFrame, is_trapped_call, event_marks, marks_from}
+use Rattle.calls_follow.specs.ToldObservations.{is_mutable, told_observation}
+use Rattle.calls_follow.proofs.Trails.{IsOfCore}
+use Rattle.logs_follow.proofs.Agrees.{AreFindsOf, marks_of}
+use Rattle.logs_follow.proofs.AllFinds.{reads_found, copies_found, reaches_found, resizes_found, reaches_entry_found, writes_found, writes_global_found, entry_found}
+use Rattle.logs_follow.proofs.FirstBytes.{finds_of}
+use Rattle.logs_follow.proofs.ObservedFinds.{IsToldKnown, IsNoticed, found_place}
+
+-- ---- events that find something
+
+-- an event finds something of a window
+abbrev pub IsFind : Event → Type 0
+IsFind Seen = Unit {0}
+IsFind (Table entries) = Unit {0}
+IsFind (Bytes address bytes) = Unit {0}
+IsFind (Entry index func) = Unit {0}
+IsFind (Global global value) = Unit {0}
+IsFind event = ⊥
+
+abbrev pub AreFinds : List Event → Type 0
+AreFinds = AllByRecursion IsFind
+
+first_byte_finds : (address byte : ℕ) (runs : List Event) → AreFinds runs → AreFinds (with_first_byte address byte runs)
+first_byte_finds address byte [] h = (tt, tt)
+first_byte_finds address byte (Bytes at bytes ∷ runs) h = go (nat_eq at (address + 1))
+  where
+    go : (b : Bool)
+        → AreFinds
+        (cond b (Bytes address (byte ∷ bytes) ∷ runs) (Bytes address (byte ∷ []) ∷ Bytes at bytes ∷ runs))
+    go true = (tt, h.1)
+    go false = (tt, h)
+first_byte_finds address byte (event ∷ runs) h = (tt, h)
+
+differing_finds : (known : ℕ → ℕ) (address : ℕ) (bytes : List ℕ) → AreFinds (differing_runs known address bytes)
+differing_finds known address [] = tt
+differing_finds known address (byte ∷ bytes) =
+    go (nat_eq byte (known address)) (differing_finds known (address + 1) bytes)
+  where
+    go : (b : Bool) → AreFinds (differing_runs known (address + 1) bytes)
+        → AreFinds
+        (cond b (differing_runs known (address + 1) bytes)
+        (with_first_byte address byte (differing_runs known (address + 1) bytes)))
+    go true h = h
+    go false h = first_byte_finds address byte (differing_runs known (address + 1) bytes) h
+
+unless_finds : (b : Bool) (event : Event) → IsFind event → AreFinds (unless b event)
+unless_finds true event h = tt
+unless_finds false event h = (h, tt)
+
+cond_finds : (b : Bool) (first second : List Event) → AreFinds first → AreFinds second → AreFinds (cond b first second)
+cond_finds true first second f s = f
+cond_finds false first second f s = s
+
+pub events_find : (n : ℕ) (state : LogState) (seen : List Observation) → AreFinds (all_observed_events n state seen)
+events_find n state [] = tt
+events_find n state (o ∷ seen) =
+    joined_all IsFind _ (all_observed_events n (log_after state o) seen)
+    (joined_all IsFind (cond (sees_size state.known.pages o) (seen_events state) []) (found_events n state.known o)
+    (cond_finds (sees_size state.known.pages o) (seen_events state) [] (unless_finds _ Seen tt) tt) (found o))
+    (events_find n (log_after state o) seen)
+  where
+    found : (o : Observation) → AreFinds (found_events n state.known o)
+    found (Reads address bytes) = differing_finds state.known.byte address bytes
+    found (Copies address bytes) = differing_finds state.known.byte address bytes
+    found (ReachesEntry index entries) =
+        cond_finds (nat_lt index state.known.entries) [] _ tt (unless_finds _ (Table entries) tt)
+    found (ReadsEntry index func) = unless_finds _ (Entry index _) tt
+    found (ReadsGlobal global value) = unless_finds _ (Global global value) tt
+    found o = tt
+
+not_trapped : (outcome : Outcome) (event : Event) (later : List Event) → IsFind event
+    → is_trapped_call outcome event later ≡ false
+not_trapped outcome (Enter func args) later h = absurd h
+not_trapped outcome (Leave func) later h = absurd h
+not_trapped outcome (Pre callee) later h = absurd h
+not_trapped outcome (Post result) later h = absurd h
+not_trapped outcome (Grow pages) later h = absurd h
+not_trapped Ended event later h = refl
+not_trapped Trapped event later h = refl
+not_trapped HostTrapped event later h = refl
+
+-- their marks are what they find
+pub marks_of_finds : (n : ℕ) (outcome : Outcome) (frames : List LogFrame) (size : ℕ) (events later : List Event)
+    → AreFinds events
+    → marks_from n outcome frames size (events ++ later)
+    ≡ marks_of (finds_of size events) ++ marks_from n outcome frames size later
+marks_of_finds n outcome frames size [] later h = refl
+marks_of_finds n outcome frames size (Seen ∷ events) later h =
+    ap (λ b. cond b [] (event_marks n frames frames size Seen) ++ marks_from n outcome frames size (events ++ later))
+    (not_trapped outcome Seen (events ++ later) tt)
+    ∙ ap (λ l. Finds (effects.Grow size) ∷ l) (marks_of_finds n outcome frames size events later h.1)
+marks_of_finds n outcome frames size (Table entries ∷ events) later h =
+    ap
+    (λ b. cond b [] (event_marks n frames frames size (Table entries))
+    ++ marks_from n outcome frames size (events ++ later))
+    (not_trapped outcome (Table entries) (events ++ later) tt)
+    ∙ ap (λ l. Finds (effects.Table entries) ∷ l) (marks_of_finds n outcome frames size events later h.1)
+marks_of_finds n outcome frames size (Bytes address bytes ∷ events) later h =
+    ap
+    (λ b. cond b [] (event_marks n frames frames size (Bytes address bytes))
+    ++ marks_from n outcome frames size (events ++ later))
+    (not_trapped outcome (Bytes address bytes) (events ++ later) tt)
+    ∙ ap (λ l. Finds (effects.Bytes address bytes) ∷ l) (marks_of_finds n outcome frames size events later h.1)
+marks_of_finds n outcome frames size (Entry index func ∷ events) later h =
+    ap
+    (λ b. cond b [] (event_marks n frames frames size (Entry index func))
+    ++ marks_from n outcome frames size (events ++ later))
+    (not_trapped outcome (Entry index func) (events ++ later) tt)
+    ∙ ap (λ l. Finds (effects.Entry index func) ∷ l) (marks_of_finds n outcome frames size events later h.1)
+marks_of_finds n outcome frames size (Global global value ∷ events) later h =
+    ap
+    (λ b. cond b [] (event_marks n frames frames size (Global global value))
+    ++ marks_from n outcome frames size (events ++ later))
+    (not_trapped outcome (Global global value) (events ++ later) tt)
+    ∙ ap (λ l. Finds (effects.Global global value) ∷ l) (marks_of_finds n outcome frames size events later h.1)
+marks_of_finds n outcome frames size (Enter func args ∷ events) later h = absurd h.0
+marks_of_finds n outcome frames size (Leave func ∷ events) later h = absurd h.0
+marks_of_finds n outcome frames size (Pre callee ∷ events) later h = absurd h.0
+marks_of_finds n outcome frames size (Post result ∷ events) later h = absurd h.0
+marks_of_finds n outcome frames size (Grow pages ∷ events) later h = absurd h.0
+
+-- ---- what the log keeps
+
+-- the log knows what the run knows; immutable globals have their known values; and the size that was noticed is the
+-- real one, and was told by the last growth, or is known
+pub record Keeps (n : ℕ) (globals : List GlobalType) (known : Known) (store : Store) (state : LogState)
+    (size : ℕ) : Type 0 where
+  pub told : IsToldKnown n known state.known
+  pub immutable : (at : ℕ) → is_mutable (slice_get globals at) ≡ false → known.global at ≡ slice_get store.globals at
+  pub real : state.noticed ≡ pages_of store.memory
+  pub size_told : (size ≡ state.noticed) ⊎ (known.pages ≡ state.noticed)
+
+own_number : (a : ℕ) → nat_eq a a ≡ true
+own_number a = grind (arith, nat_tests)
+
+-- a value that is read of a global is the known one by its bits just where it is the known one
+same_by_bits : (known : Option Val) (value : Val) → option_map (λ v. v.ty) known ≡ Some value.ty
+    → same_bits known value ≡ same_option same_value known (Some value)
+same_by_bits None value typed = cc
+same_by_bits (Some k) value typed =
+    let t : k.ty ≡ value.ty = same_Some k.ty value.ty typed in
+    sym
+    (ap (λ b. b && nat_eq k.bits value.bits)
+    (ap (λ ty. same_type ty value.ty) t ∙ type_own value.ty))
+
+module _ (n : ℕ) (globals : List GlobalType) (back : (func : ℕ) → original n (renumber n func) ≡ Some func)
+    (size : ℕ) where
+  -- a mutable global
+  global_found : (known : Known) (state : LogState) (x : ℕ) (value : Val) → IsToldKnown n known state.known
+      → option_map (λ v. v.ty) (known.global x) ≡ Some value.ty
+      → AreFindsOf known (ReadsGlobal x value)
+      (finds_of size (all_observed_events n state (ReadsGlobal x value ∷ [])))
+  global_found known state x value told typed =
+      subst
+      (λ b. AreFindsOf known (ReadsGlobal x value) (finds_of size (unless b (Global x value) ++ [])))
+      (sym
+      (ap (λ k. same_bits k value) (told.global x) ∙ same_by_bits (known.global x) value typed))
+      (go (same_option same_value (known.global x) (Some value)) refl)
+    where
+      or_none : {X : Type 0} (o : Option X) → option_or o None ≡ o
+      or_none None = refl
+      or_none (Some x) = refl
+
+      go : (b : Bool) → same_option same_value (known.global x) (Some value) ≡ b
+          → AreFindsOf known (ReadsGlobal x value) (finds_of size (unless b (Global x value) ++ []))
+      go true p =
+          record {
+            pages = refl;
+            entries = refl;
+            byte = λ at. refl;
+            entry = λ at. refl;
+            global = λ at. sym (ap (λ b. cond b None (cond (nat_eq x at) (Some (Some value)) None)) p)
+                ∙ found_place (same_option same_value) known.global x at (Some value);
+          }
+      go false p =
+          record {
+            pages = refl;
+            entries = refl;
+            byte = λ at. refl;
+            entry = λ at. refl;
+            global = λ at. or_none (cond (nat_eq x at) (Some (Some value)) None)
+                ∙ sym (ap (λ b. cond b None (cond (nat_eq x at) (Some (Some value)) None)) p)
+                ∙ found_place (same_option same_value) known.global x at (Some value);
+          }
+
+  -- an immutable one has the known value
+  immutable_found : (known : Known) (x : ℕ) (value : Val) → known.global x ≡ Some value
+      → AreFindsOf known (ReadsGlobal x value) []
+  immutable_found known x value same =
+      record {
+        pages = refl;
+        entries = refl;
+        byte = λ at. refl;
+        entry = λ at. refl;
+        global = λ at.
+            sym
+            (ap (λ b. cond b None (cond (nat_eq x at) (Some (Some value)) None))
+            (ap (λ k. same_option same_value k (Some value)) same
+            ∙ ap (λ b. b && nat_eq value.bits value.bits) (type_own value.ty) ∙ own_number value.bits))
+            ∙ found_place (same_option same_value) known.global x at (Some value);
+      }
+
+  module _ (known : Known) (store : Store) (state : LogState) (kept : Keeps n globals known store state size)
+      (of : IsKnownOf known store) where
+    noticed_at : (found : ℕ) → pages_of store.memory ≡ found → IsNoticed state.noticed size known.pages found
+    noticed_at found is = record { is_real = kept.real ∙ is; is_told = kept.size_told }
+
+    typed_at : (x : ℕ) (value : Val) → slice_get store.globals x ≡ Some value
+        → option_map (λ v. v.ty) (known.global x) ≡ Some value.ty
+    typed_at x value is = of.types x ∙ ap (option_map (λ v. v.ty)) is
+
+    -- what is told of an observation finds what it needs
+    pub told_finds : (o : Observation) → IsSeen known store o → IsOfCore o
+        → AreFindsOf known o (finds_of size (all_observed_events n state (told_observation n globals o)))
+    told_finds (Begins origin) seen core = absurd seen.here
+    told_finds (Ends next) seen core = absurd seen.here
+    told_finds (Reads address bytes) seen core = reads_found n size known state kept.told address bytes
+    told_finds (Copies address bytes) seen core = copies_found n size known state kept.told address bytes
+    told_finds (Writes address bytes) seen core = writes_found n size known state kept.told address bytes
+    told_finds (Reaches «end» found) seen core =
+        reaches_found n size known state kept.told «end» found (noticed_at found seen.found)
+    told_finds (Resizes found left) seen core =
+        resizes_found n size known state kept.told found left
+        (noticed_at found (pages_there store.memory found seen.here seen.answers))
+    told_finds (ReadsEntry index func) seen core = entry_found n size known state kept.told index func back
+    told_finds (WritesEntry index func) seen core = absurd core
+    told_finds (ReachesEntry index found) seen core =
+        reaches_entry_found n size known state kept.told index found
+    told_finds (ResizesTable found left func) seen core = absurd core
+    told_finds (ReadsGlobal x value) seen core = by (is_mutable (slice_get globals x)) refl
+      where
+        by : (b : Bool) → is_mutable (slice_get globals x) ≡ b
+            → AreFindsOf known (ReadsGlobal x value)
+            (finds_of size (all_observed_events n state (cond b (ReadsGlobal x value ∷ []) [])))
+        by true e = global_found known state x value kept.told (typed_at x value seen.answers)
+        by false e = immutable_found known x value (kept.immutable x e ∙ seen.answers)
+    told_finds (WritesGlobal x value) seen core = writes_global_found n size known state kept.told x value

@@ -1,0 +1,13 @@
+pub mod Agrees
+pub mod Settled
+pub mod FirstBytes
+pub mod ObservedFinds
+pub mod AllFinds
+pub mod ItemEvents
+pub mod ItemSteps
+pub mod CallLogs
+pub mod LogMarks
+pub mod TrailLogs
+pub mod TrailLogSteps
+pub mod LoggedTrails
+pub mod Whole

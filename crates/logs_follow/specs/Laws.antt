@@ -1,0 +1,37 @@
+-- The law of logs: the log of what hooks are told of a run gives the tape that the run needs.
+use Rattle.std.specs.Prelude.{◌≡◌, ℕ, Result, Ok}
+use Rattle.wasm_syntax.specs.Index.{imported_funcs}
+use Rattle.run_outcomes.specs.declared.outcomes.Outcome.{Outcome}
+use Rattle.trace_model.specs.declared.events.Log.{Log}
+use Rattle.trace_model.specs.declared.tapes.Tape.{Tape}
+use Rattle.history_spec.specs.Step.{Finished}
+use Rattle.history_spec.specs.Run.{all_one, program_of, start_in_store, run_from}
+use Rattle.replay_spec.specs.Needed.{IsNeededTape}
+use Rattle.hook_spec.specs.Hooks.{renumbered_view}
+use Rattle.hook_spec.specs.Logs.{log_of}
+use Rattle.hook_spec.specs.LogTapes.{IsLogTape}
+use Rattle.calls_follow.specs.Laws.{OriginalRun, hooked_shape, calls_of_run}
+
+-- the log of these calls, from the store on with which the instrumented module begins
+abbrev pub log_of_run : OriginalRun → (count : ℕ) → Outcome → Result Log ℕ
+log_of_run run count outcome =
+    log_of (hooked_shape run) (renumbered_view (imported_funcs run.m) run.store) (calls_of_run run count) outcome
+
+-- ---- the law
+
+-- a run that comes to an outcome has a log; and a tape is that of the log just where it is the one that the run needs
+pub record HasNeededLog (run : OriginalRun) (count : ℕ) (outcome : Outcome) : Type 0 where
+  pub log : Log
+  pub logged : log_of_run run count outcome ≡ Ok log
+  pub to_log : (tape : Tape)
+      → IsNeededTape (program_of run.m run.script) (start_in_store run.m run.script run.store) run.store tape.segments
+      → IsLogTape log tape
+  pub from_log : (tape : Tape) → IsLogTape log tape
+      → IsNeededTape (program_of run.m run.script) (start_in_store run.m run.script run.store) run.store tape.segments
+
+abbrev pub LogsGiveNeededTapes : Type 0
+LogsGiveNeededTapes =
+    (run : OriginalRun) (count : ℕ) (outcome : Outcome)
+    → (run_from (program_of run.m run.script) all_one (start_in_store run.m run.script run.store) count).at
+    ≡ Finished outcome
+    → HasNeededLog run count outcome
