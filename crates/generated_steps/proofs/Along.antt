@@ -14,7 +14,7 @@ use Rattle.generated_steps.specs.Laws.{LeadsRunAlong}
 
 -- ---- runs of so many steps, and of more
 
-steps_over : (program : Program) (meter : Meter) (j k n : ℕ) → n ≡ j + k → (at : Progress)
+pub steps_over : (program : Program) (meter : Meter) (j k n : ℕ) → n ≡ j + k → (at : Progress)
     → (steps program meter n at).at ≡ (steps program meter k (steps program meter j at).at).at
 steps_over program meter zero k n e at =
     let same : n ≡ k = omega (arith, e) in ap (λ m. (steps program meter m at).at) same
@@ -29,7 +29,7 @@ steps_over program meter (suc j) (suc k) (suc n) e (Faulted kind) = refl
 steps_over program meter (suc j) (suc k) (suc n) e Stuck = refl
 
 module _ (layout : Layout) (globals : ℕ) (program : Program) (meter : Meter) where
-  items_over : (j k n : ℕ) → n ≡ j + k → (at : Progress) → steps_items layout globals program n at
+  pub items_over : (j k n : ℕ) → n ≡ j + k → (at : Progress) → steps_items layout globals program n at
       ≡ steps_items layout globals program j at ++ steps_items layout globals program k (steps program meter j at).at
   items_over zero k n e at =
       let same : n ≡ k = omega (arith, e) in ap (λ m. steps_items layout globals program m at) same
@@ -49,7 +49,7 @@ module _ (layout : Layout) (globals : ℕ) (program : Program) (meter : Meter) w
 
 -- ---- items of two parts
 
-entries_over : (first second : List Item) → entries_in (first ++ second) ≡ entries_in first ++ entries_in second
+pub entries_over : (first second : List Item) → entries_in (first ++ second) ≡ entries_in first ++ entries_in second
 entries_over [] second = refl
 entries_over (Makes entry ∷ first) second = ap (λ later. entry ∷ later) (entries_over first second)
 entries_over (Changes change ∷ first) second = entries_over first second
@@ -60,7 +60,7 @@ inside_over : (inside : List ℕ) (first second : List Entry)
 inside_over inside [] second = refl
 inside_over inside (entry ∷ first) second = inside_over (inside_after inside entry) first second
 
-shown_over : (layout : Layout) (inside : List ℕ) (args : List Val) (first second : List Item)
+pub shown_over : (layout : Layout) (inside : List ℕ) (args : List Val) (first second : List Item)
     → shown_items layout inside args (first ++ second)
     ≡ shown_items layout inside args first
     ++ shown_items layout (inside_after_all inside (entries_in first)) (args_after_all args (entries_in first)) second

@@ -43,7 +43,7 @@ settles f below values (label ∷ labels) (InIfElse ty body other rest) number e
 -- ---- what is shown
 
 module _ (layout : Layout) (func : ℕ) where
-  outside_is : IsOutside layout func → (globals : ℕ) (program : Program) (store : Store) (frame : Frame)
+  pub outside_is : IsOutside layout func → (globals : ℕ) (program : Program) (store : Store) (frame : Frame)
       → outside_items (side layout func) globals program store frame
       ≡ Steps (is_block frame.at.rest)
       ∷ map Changes (changes_of globals store frame.at.rest (execute program.code store frame))

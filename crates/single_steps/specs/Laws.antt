@@ -1,0 +1,44 @@
+-- Laws on single steps: what they lead to, and how a run is over.
+use Rattle.std.specs.Prelude.{◌≡◌, ℕ, List, ◌++◌, map}
+use Rattle.run_outcomes.specs.declared.outcomes.Outcome.{Outcome}
+use Rattle.history_spec.specs.declared.entries.Entry.{Entry}
+use Rattle.history_spec.specs.Configuration.{Frame, Activation}
+use Rattle.history_spec.specs.Step.{Progress, Running, Finished}
+use Rattle.history_spec.specs.Projection.{Original, side, shown_outcome}
+use Rattle.outside_spec.specs.Items.{Item, Makes}
+use Rattle.generated_steps.specs.Leads.{Watched, Place, Leads, IsOutside}
+use Rattle.single_steps.specs.Ends.{Shows, Ends}
+use Rattle.single_steps.specs.Single.{IsSingle, outside_step}
+
+-- what leads to where a run is over, is over there
+abbrev pub LeadsEnd : Type 0
+LeadsEnd = (w : Watched) (a b : Place) (first second : List Item) (outcome : Outcome)
+    → Leads w a first b → Ends w b second outcome → Ends w a (first ++ second) outcome
+
+-- and what is shown from there on comes after what is shown before
+abbrev pub LeadsShow : Type 0
+LeadsShow = (w : Watched) (a b : Place) (first second : List Item)
+    → Leads w a first b → Shows w b second → Shows w a (first ++ second)
+
+-- one step leads on: of a function outside the original with its step and its changes, of an original with what its
+-- entries show
+abbrev pub StepsLead : Type 0
+StepsLead = (w : Watched) (start : Place) (frame : Frame) (below : List Activation) (entries shown : List Entry)
+    (end : Place) → IsSingle w start frame below entries shown (Running end.config) end.inside
+    → (IsOutside w.layout frame.func → Leads w start (outside_step w start frame shown) end)
+    × (side w.layout frame.func ≡ Original → Leads w start (map Makes shown) end)
+
+-- or the run is over with it
+abbrev pub StepsEnd : Type 0
+StepsEnd = (w : Watched) (start : Place) (frame : Frame) (below : List Activation) (entries shown : List Entry)
+    (own outcome : Outcome) (inside : List ℕ) → IsSingle w start frame below entries shown (Finished own) inside
+    → shown_outcome w.layout entries own ≡ outcome
+    → (IsOutside w.layout frame.func → Ends w start (outside_step w start frame shown) outcome)
+    × (side w.layout frame.func ≡ Original → Ends w start (map Makes shown) outcome)
+
+-- or something else comes of it
+abbrev pub StepsShow : Type 0
+StepsShow = (w : Watched) (start : Place) (frame : Frame) (below : List Activation) (entries shown : List Entry)
+    (next : Progress) (inside : List ℕ) → IsSingle w start frame below entries shown next inside
+    → (IsOutside w.layout frame.func → Shows w start (outside_step w start frame shown))
+    × (side w.layout frame.func ≡ Original → Shows w start (map Makes shown))
