@@ -1,0 +1,87 @@
+-- Stores of several widths, one after the other, write a run of bytes.
+use Rattle.std.proofs.Common.{◌≡◌, ℕ, zero, suc, ◌+◌, ◌*◌, ◌/◌, ◌%◌, ◌≤◌, List, [], ◌∷◌, ◌++◌, length, take, drop, Some, refl, sym, ap, ◌∙◌, subst, arith, length-take-le}
+use Rattle.std.specs.Prelude.{replicate}
+use Rattle.std.proofs.lemmas.List.{length-drop, take-append-drop}
+use Rattle.history_spec.specs.Store.{Store, Memory, with_memory, number_of}
+use Rattle.replay_gen.specs.Effects.{Width, Eight, Four, Two, One, byte_count, store_widths, store_code, stores_code}
+use Rattle.generated_steps.specs.Leads.{Watched, IsOutside, Standing}
+use Rattle.generated_effects.specs.Bytes.{AreBytes}
+use Rattle.generated_effects.proofs.Bytes.{first_bytes, last_bytes}
+use Rattle.generated_effects.proofs.Does.{Does, does_nothing, does_both}
+use Rattle.generated_effects.proofs.Written.{written_length, written_twice, written_nothing}
+use Rattle.generated_effects.proofs.Stored.{memory_with_bytes, store_items, stores_items, stores_bytes}
+
+-- how many bytes stores of these widths write
+abbrev pub counts_of : List Width → ℕ
+counts_of [] = 0
+counts_of (width ∷ widths) = byte_count width + counts_of widths
+
+counts_of_same : (width : Width) (number : ℕ) → counts_of (replicate number width) ≡ number * byte_count width
+counts_of_same width zero = omega arith
+counts_of_same width (suc number) =
+    ap (λ n. byte_count width + n) (counts_of_same width number) ∙ grind arith
+
+counts_of_both : (first second : List Width) → counts_of (first ++ second) ≡ counts_of first + counts_of second
+counts_of_both [] second = omega arith
+counts_of_both (width ∷ first) second =
+    let r = counts_of_both first second in
+    let all : byte_count width + counts_of (first ++ second)
+    ≡ byte_count width + counts_of first + counts_of second = omega (arith, r) in
+    all
+
+-- the stores of so many bytes write as many
+pub counts_of_all : (count : ℕ) → counts_of (store_widths count) ≡ count
+counts_of_all count =
+    let eights = replicate (count / 8) Eight in
+    let fours = replicate (count / 4 % 2) Four in
+    let twos = replicate (count / 2 % 2) Two in
+    let ones = replicate (count % 2) One in
+    let all = counts_of_both eights (fours ++ (twos ++ ones)) in
+    let later = counts_of_both fours (twos ++ ones) in
+    let last = counts_of_both twos ones in
+    let e : counts_of eights ≡ count / 8 * 8 = counts_of_same Eight (count / 8) in
+    let f : counts_of fours ≡ count / 4 % 2 * 4 = counts_of_same Four (count / 4 % 2) in
+    let t : counts_of twos ≡ count / 2 % 2 * 2 = counts_of_same Two (count / 2 % 2) in
+    let o : counts_of ones ≡ count % 2 * 1 = counts_of_same One (count % 2) in
+    omega (arith, all, later, last, e, f, t, o)
+
+module _ (w : Watched) (s : Standing) (outside : IsOutside w.layout s.frame.func) where
+  pub stores_run : (store : Store) (memory : Memory) (widths : List Width) (address : ℕ) (bytes : List ℕ)
+      → store.memory ≡ Some memory → length bytes ≡ counts_of widths → AreBytes bytes
+      → address + length bytes ≤ length memory.bytes
+      → Does w s store (with_memory store (memory_with_bytes memory address bytes)) [] []
+      (stores_code widths address bytes) (stores_items widths address bytes)
+  stores_run store memory [] address [] is long are within =
+      let same : with_memory store (memory_with_bytes memory address []) ≡ store =
+      ap (λ own. with_memory store (record memory { bytes = own })) (written_nothing memory.bytes address)
+      ∙ ap (λ o. record store { memory = o }) (sym is) in
+      subst (λ after. Does w s store after [] [] [] []) (sym same) (does_nothing w s store [])
+  stores_run store memory [] address (byte ∷ bytes) is long are within = absurd (omega (arith, long))
+  stores_run store memory (width ∷ widths) address bytes is long are within =
+      let count = byte_count width in
+      let first = take count bytes in
+      let more = drop count bytes in
+      let sum : counts_of (width ∷ widths) ≡ byte_count width + counts_of widths = refl in
+      let enough : count ≤ length bytes = omega (arith, long, sum) in
+      let size : length first ≡ count = length-take-le count bytes enough in
+      let left : length more ≡ counts_of widths =
+      (let l = length-drop count bytes in omega (arith, l, long, sum)) in
+      let parts : first ++ more ≡ bytes = take-append-drop count bytes in
+      let fits : address + length first ≤ length memory.bytes = omega (arith, size, enough, within) in
+      let memory' = memory_with_bytes memory address first in
+      let kept : length memory'.bytes ≡ length memory.bytes = written_length memory.bytes first address fits in
+      let later : address + count + length more ≤ length memory'.bytes =
+      (let l = length-drop count bytes in omega (arith, l, kept, within, enough)) in
+      let twice : memory_with_bytes memory' (address + count) more ≡ memory_with_bytes memory address bytes =
+      ap (λ n. memory_with_bytes memory' (address + n) more) (sym size)
+      ∙ ap (λ own. record memory { bytes = own }) (written_twice memory.bytes first more address fits)
+      ∙ ap (memory_with_bytes memory address) parts in
+      subst (λ m. Does w s store (with_memory store m) [] [] (stores_code (width ∷ widths) address bytes)
+      (stores_items (width ∷ widths) address bytes)) twice
+      (does_both w s store (with_memory store memory')
+      (with_memory store (memory_with_bytes memory' (address + count) more)) [] [] []
+      (store_code width address (number_of first)) (stores_code widths (address + count) more)
+      (store_items address first) (stores_items widths (address + count) more)
+      (stores_bytes w s outside store memory width address first is size (first_bytes count bytes are) fits)
+      (stores_run (with_memory store memory') memory' widths (address + count) more refl left
+      (last_bytes count bytes are) later))

@@ -1,0 +1,70 @@
+-- The law of the effects of generated code: the instructions of effects do to a store what the effects do.
+use Rattle.std.specs.Prelude.{◌≡◌, ℕ, ◌*◌, ◌<◌, ◌≤◌, ◌^◌, List, [], ◌∷◌, sum_by, Some, slice_get, IfSome}
+use Rattle.wasm_syntax.specs.declared.values.Val.{Val}
+use Rattle.wasm_syntax.specs.declared.instructions.Instr.{Instr}
+use Rattle.wasm_syntax.specs.Nest.{Nest, Plain}
+use Rattle.trace_model.specs.declared.tapes.Effect.{Effect}
+use Rattle.trace_model.specs.declared.tapes.Effect.TheVariants.{Grow, Table, Bytes, Entry, Global}
+use Rattle.trace_model.specs.Weight.{effect_weight}
+use Rattle.history_spec.specs.Store.{Store}
+use Rattle.history_spec.specs.Configuration.{Label}
+use Rattle.replay_spec.specs.TapeRun.{store_after_effect, store_after_effects}
+use Rattle.replay_gen.specs.Dispatch.{sequence}
+use Rattle.replay_gen.specs.Segments.{effects_code}
+use Rattle.outside_spec.specs.Items.{Item, page_count, entry_count, entries_in}
+use Rattle.outside_spec.specs.Stretches.{AreSameChanges}
+use Rattle.generated_steps.specs.Leads.{Watched, Leads, IsOutside, Standing, standing}
+use Rattle.generated_effects.specs.Bytes.{AreBytes}
+use Rattle.generated_effects.specs.Counts.{changes_in, steps_in}
+
+-- code can do an effect, where the original has so many globals: sizes have 32 bits, bytes are bytes, and a global
+-- of the original takes a value of its type
+abbrev pub IsWritable : (globals : ℕ) → Store → Effect → Type 0
+IsWritable globals store (Grow pages) = pages < 2 ^ 32
+IsWritable globals store (Table size) = size < 2 ^ 32
+IsWritable globals store (Bytes addr bytes) = AreBytes bytes
+IsWritable globals store (Entry index func) = Unit {0}
+IsWritable globals store (Global global value) =
+    (global < globals) × IfSome (slice_get store.globals global) (λ (old : Val). old.ty ≡ value.ty)
+
+-- effects in order, each in the store that those before it leave
+abbrev pub AreWritable : (globals : ℕ) → Store → List Effect → Type 0
+AreWritable globals store [] = Unit {0}
+AreWritable globals store (effect ∷ effects) =
+    IsWritable globals store effect
+    × ((next : Store) → store_after_effect store effect ≡ Some next → AreWritable globals next effects)
+
+-- an effect that gives a size gives a greater one than there is
+abbrev pub GrowsSize : Store → Effect → Type 0
+GrowsSize store (Grow pages) = page_count store.memory < pages
+GrowsSize store (Table size) = entry_count store.table < size
+GrowsSize store effect = Unit {0}
+
+-- effects in order do
+abbrev pub AllGrowSizes : Store → List Effect → Type 0
+AllGrowSizes store [] = Unit {0}
+AllGrowSizes store (effect ∷ effects) =
+    GrowsSize store effect
+    × ((next : Store) → store_after_effect store effect ≡ Some next → AllGrowSizes next effects)
+
+-- The code of effects comes past its end with these in the store. It shows no entry, changes what the effects say,
+-- where these change each size that they give, and makes no more than 8 steps for each unit of their weight.
+pub record MakesEffects (w : Watched) (s : Standing) (store after : Store) (effects : List Effect) (labels : List Label)
+    (rest : Nest) (number : ℕ) : Type 0 where
+  pub items : List Item
+  pub at : ℕ
+  pub leads : Leads w (standing s store [] labels (sequence (effects_code effects) rest) number) items
+      (standing s after [] labels rest at)
+  pub silent : entries_in items ≡ []
+  pub changes : AllGrowSizes store effects → AreSameChanges (changes_in items) effects
+  pub steps : (steps_in items).steps ≤ 8 * sum_by effect_weight effects
+  pub blocks : (steps_in items).blocks ≡ 0
+
+-- effects that code can do, and that can be done to a store, are done to it by their code
+abbrev pub EffectsAreMade : Type 0
+EffectsAreMade =
+    (w : Watched) (s : Standing) (store after : Store) (effects : List Effect) (labels : List Label) (i : Instr)
+    (rest : Nest) (number : ℕ)
+    → IsOutside w.layout s.frame.func → AreWritable w.globals store effects
+    → store_after_effects effects store ≡ Some after
+    → MakesEffects w s store after effects labels (Plain i rest) number
