@@ -1,0 +1,12 @@
+//! The code of the replay module of a plan, and the store that it begins with: laws about the definitions, whose
+//! statements stand in `specs/`.
+#![tactic(auto)]
+
+ghost use Rattle.replay_codes.specs.Laws.{ReplayModulesBegin, ReplayModulesHaveCode};
+
+/// The replay module of a plan has the original's functions at their indices, and the generated ones; and it is
+/// instantiated with the original's store, and counters of its own.
+pub fn replay_modules_have_code()
+    ensures code { ReplayModulesHaveCode }
+    ensures store { ReplayModulesBegin }
+{}
