@@ -1,0 +1,59 @@
+-- A run with an outcome is replayed by the replay module of the tape that it needs.
+use Rattle.std.proofs.Common.{[], refl, ap, subst}
+use Rattle.trace_model.specs.declared.tapes.Tape.{Tape}
+use Rattle.history_spec.specs.Replay.{Replays}
+use Rattle.history_spec.specs.Run.{program_of, start_in_store}
+use Rattle.replay_spec.specs.Known.{opening_known}
+use Rattle.replay_spec.specs.Observations.{run_observations}
+use Rattle.replay_spec.specs.TapeRun.{TapeResult}
+use Rattle.replay_gen.specs.Fragments.{start_index}
+use Rattle.observed_steps.specs.Laws.{StoresAnswerThemselves}
+use Rattle.type_safety.specs.Laws.{ValidCodeHasHeights, ValidCodeIsTyped, SuppliesMatch, NewStoresAreTyped, StartsAreSafe, StepsAreSafe}
+use Rattle.tape_follows.specs.NeededTape.{NeededTapesFit, RunsHaveOneNeededTape}
+use Rattle.binary_follows.specs.Laws.{ReplaysShowOutcomes}
+use Rattle.binary_follows.specs.Playable.{replay_of, layout_of}
+use Rattle.run_replays.specs.Laws.{NeededTapesWriteBytes, NeededTapesArePlayable, RunsAreReplayed}
+use Rattle.run_replays.proofs.ReadBytes.{run_bytes}
+use Rattle.run_replays.proofs.WrittenBytes.{needed_segments_write}
+
+pub needed_tapes_write_bytes : StoresAnswerThemselves → ValidCodeHasHeights → ValidCodeIsTyped → SuppliesMatch
+    → NewStoresAreTyped → StartsAreSafe → StepsAreSafe → NeededTapesWriteBytes
+needed_tapes_write_bytes own heights code supplied typed_store starts safe_steps m script supply store segments runnable
+    fits links opens needed =
+    let h = heights m runnable.valid in
+    let typed = code m h.0 runnable.valid runnable.supported h.1 in
+    let is = typed_store m supply store runnable (supplied m script supply fits links) opens in
+    let safe = starts m h.0 (program_of m script) store script.main runnable.valid typed
+    (record { code = refl; answers = fits.imports }) is fits.main in
+    needed_segments_write (opening_known store) []
+    (run_observations (program_of m script) (start_in_store m script store) needed.count) segments needed.needed
+    (run_bytes own safe_steps m h.0 runnable.valid typed (program_of m script)
+    (record { code = refl; answers = fits.imports }) (start_in_store m script store) needed.count safe)
+
+pub needed_tapes_are_playable : SuppliesMatch → NeededTapesFit → NeededTapesWriteBytes → NeededTapesArePlayable
+needed_tapes_are_playable supplied fit write m script supply store tape runnable fits links opens needed light =
+    record {
+      runnable = runnable;
+      supplied = supplied m script supply fits links;
+      begins = opens;
+      fits = fit m script supply store tape.segments runnable fits links opens needed;
+      bytes = write m script supply store tape.segments runnable fits links opens needed;
+      weight = light;
+    }
+
+pub runs_are_replayed : RunsHaveOneNeededTape → NeededTapesArePlayable → ReplaysShowOutcomes → RunsAreReplayed
+runs_are_replayed one playable show m script supply store count outcome runnable fits links opens ends =
+    let found = one m script supply store count outcome runnable fits links opens ends in
+    let tape : Tape = record { segments = found.0 } in
+    let replays = found.1.replays in (
+      tape,
+      record {
+        is_one = found.1;
+        shows = λ light.
+            subst (λ entries. Replays (replay_of m supply tape) (layout_of m) (start_index m) entries outcome)
+            (ap (λ (t : TapeResult). t.entries) replays.shows)
+            (show m supply store tape replays.count outcome
+            (playable m script supply store tape runnable fits links opens found.1.is_needed light)
+            (ap (λ (t : TapeResult). t.next) replays.shows));
+      },
+    )

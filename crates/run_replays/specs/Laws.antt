@@ -1,0 +1,62 @@
+-- The laws of runs and replay modules: the tape that a run needs has a replay module, which shows the run.
+use Rattle.std.specs.Prelude.{◌≡◌, ℕ, ◌≤◌, List, Ok, All}
+use Rattle.wasm_syntax.specs.declared.modules.Module.{Module}
+use Rattle.host_script.specs.declared.scripts.Script.{Script}
+use Rattle.host_script.specs.declared.scripts.Supply.{Supply}
+use Rattle.host_script.specs.Fits.{Fits}
+use Rattle.host_script.specs.Supply.{supply_of}
+use Rattle.run_outcomes.specs.declared.outcomes.Outcome.{Outcome}
+use Rattle.trace_model.specs.declared.tapes.Segment.{Segment}
+use Rattle.trace_model.specs.declared.tapes.Tape.{Tape}
+use Rattle.trace_model.specs.Weight.{tape_weight}
+use Rattle.history_spec.specs.declared.entries.Entry.{Entry}
+use Rattle.history_spec.specs.Store.{Store}
+use Rattle.history_spec.specs.Instantiation.{instantiate}
+use Rattle.history_spec.specs.Replay.{Replays}
+use Rattle.history_spec.specs.Step.{Finished}
+use Rattle.history_spec.specs.Run.{all_one, program_of, start_in_store, run_from}
+use Rattle.replay_spec.specs.Needed.{IsNeededTape}
+use Rattle.replay_gen.specs.Fragments.{start_index}
+use Rattle.type_safety.specs.Supplies.{IsRunnable}
+use Rattle.tape_follows.specs.NeededTape.{IsOneNeededTape}
+use Rattle.binary_follows.specs.Playable.{AllWriteBytes, IsPlayable, most_weight, replay_of, layout_of}
+
+-- ---- needed tapes
+
+-- of each module that can be run, and each script that fits it and links with it: what the effects of a needed tape
+-- write are bytes
+abbrev pub NeededTapesWriteBytes : Type 0
+NeededTapesWriteBytes =
+    (m : Module) (script : Script) (supply : Supply) (store : Store) (segments : List Segment)
+    → IsRunnable m → Fits m script → supply_of m script ≡ Ok supply → instantiate m supply ≡ Ok store
+    → IsNeededTape (program_of m script) (start_in_store m script store) store segments
+    → All AllWriteBytes segments
+
+-- so a needed tape that is no heavier than it may be is one that a replay module can be made of
+abbrev pub NeededTapesArePlayable : Type 0
+NeededTapesArePlayable =
+    (m : Module) (script : Script) (supply : Supply) (store : Store) (tape : Tape)
+    → IsRunnable m → Fits m script → supply_of m script ≡ Ok supply → instantiate m supply ≡ Ok store
+    → IsNeededTape (program_of m script) (start_in_store m script store) store tape.segments
+    → tape_weight tape ≤ most_weight → IsPlayable m supply store tape
+
+-- ---- runs
+
+-- a run with this history and outcome, its one needed tape, and the replay module of that: where the tape is no heavier
+-- than it may be, the replay module's run shows just that history and that outcome
+pub record IsShownByReplay (m : Module) (script : Script) (supply : Supply) (store : Store) (history : List Entry)
+    (outcome : Outcome) (tape : Tape) : Type 0 where
+  pub is_one : IsOneNeededTape m script store history outcome tape.segments
+  pub shows : tape_weight tape ≤ most_weight
+      → Replays (replay_of m supply tape) (layout_of m) (start_index m) history outcome
+
+-- of each module that can be run, and each script that fits it and links with it, nested to any depth: where the run
+-- has an outcome, the replay module of its one needed tape shows it
+abbrev pub RunsAreReplayed : Type 0
+RunsAreReplayed =
+    (m : Module) (script : Script) (supply : Supply) (store : Store) (count : ℕ) (outcome : Outcome)
+    → IsRunnable m → Fits m script → supply_of m script ≡ Ok supply → instantiate m supply ≡ Ok store
+    → (run_from (program_of m script) all_one (start_in_store m script store) count).at ≡ Finished outcome
+    → (tape : Tape)
+    × IsShownByReplay m script supply store
+    (run_from (program_of m script) all_one (start_in_store m script store) count).history outcome tape

@@ -1,0 +1,37 @@
+// The laws of runs and replay modules, each the contract of a function; the statements stand in `specs/Laws.antt`.
+
+ghost use Rattle.run_replays.specs.Laws.{NeededTapesArePlayable, NeededTapesWriteBytes, RunsAreReplayed};
+
+use binary_follows::replays_show_runs;
+use observed_steps::own_answers;
+use tape_follows::{needed_tape_fits, run_has_one_needed_tape};
+use type_safety::{safe_steps, typed_code, typed_store};
+
+/// What the effects of a needed tape write are bytes: a byte that is needed is one that the run reads.
+pub fn needed_tapes_write_bytes()
+    ensures { NeededTapesWriteBytes }
+{
+    own_answers();
+    typed_code();
+    typed_store();
+    safe_steps();
+}
+
+/// A needed tape that is no heavier than it may be is one that a replay module can be made of.
+pub fn needed_tapes_are_playable()
+    ensures { NeededTapesArePlayable }
+{
+    needed_tape_fits();
+    needed_tapes_write_bytes();
+    typed_store();
+}
+
+/// A run that has an outcome has just one needed tape; and where this is no heavier than it may be, the run of its
+/// replay module shows just the run's history and outcome.
+pub fn runs_are_replayed()
+    ensures { RunsAreReplayed }
+{
+    run_has_one_needed_tape();
+    needed_tapes_are_playable();
+    replays_show_runs();
+}
