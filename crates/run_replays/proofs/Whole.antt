@@ -10,9 +10,10 @@ use Rattle.replay_gen.specs.Fragments.{start_index}
 use Rattle.observed_steps.specs.Laws.{StoresAnswerThemselves}
 use Rattle.type_safety.specs.Laws.{ValidCodeHasHeights, ValidCodeIsTyped, SuppliesMatch, NewStoresAreTyped, StartsAreSafe, StepsAreSafe}
 use Rattle.tape_follows.specs.NeededTape.{NeededTapesFit, RunsHaveOneNeededTape}
+use Rattle.logs_follow.specs.Laws.{LogsGiveNeededTapes}
 use Rattle.binary_follows.specs.Laws.{ReplaysShowOutcomes}
 use Rattle.binary_follows.specs.Playable.{replay_of, layout_of}
-use Rattle.run_replays.specs.Laws.{NeededTapesWriteBytes, NeededTapesArePlayable, RunsAreReplayed}
+use Rattle.run_replays.specs.Laws.{NeededTapesWriteBytes, NeededTapesArePlayable, RunsAreReplayed, RunsAreReplayedFromLogs}
 use Rattle.run_replays.proofs.ReadBytes.{run_bytes}
 use Rattle.run_replays.proofs.WrittenBytes.{needed_segments_write}
 
@@ -57,3 +58,18 @@ runs_are_replayed one playable show m script supply store count outcome runnable
             (ap (λ (t : TapeResult). t.next) replays.shows));
       },
     )
+
+pub runs_are_replayed_from_logs : LogsGiveNeededTapes → RunsAreReplayed → RunsAreReplayedFromLogs
+runs_are_replayed_from_logs give replayed run count outcome ends =
+    let has = give run count outcome ends in
+    let r = replayed run.m run.script run.supply run.store count outcome run.runnable run.fits run.supplied run.opens
+    ends in
+    record {
+      log = has.log;
+      logged = has.logged;
+      tape = r.0;
+      is_tape = has.to_log r.0 r.1.is_one.is_needed;
+      is_one = λ other is.
+          ap (λ segments. record { segments = segments }) (r.1.is_one.is_one other.segments (has.from_log other is));
+      shown = r.1;
+    }

@@ -6,6 +6,7 @@ use Rattle.host_script.specs.declared.scripts.Supply.{Supply}
 use Rattle.host_script.specs.Fits.{Fits}
 use Rattle.host_script.specs.Supply.{supply_of}
 use Rattle.run_outcomes.specs.declared.outcomes.Outcome.{Outcome}
+use Rattle.trace_model.specs.declared.events.Log.{Log}
 use Rattle.trace_model.specs.declared.tapes.Segment.{Segment}
 use Rattle.trace_model.specs.declared.tapes.Tape.{Tape}
 use Rattle.trace_model.specs.Weight.{tape_weight}
@@ -18,7 +19,10 @@ use Rattle.history_spec.specs.Run.{all_one, program_of, start_in_store, run_from
 use Rattle.replay_spec.specs.Needed.{IsNeededTape}
 use Rattle.replay_gen.specs.Fragments.{start_index}
 use Rattle.type_safety.specs.Supplies.{IsRunnable}
+use Rattle.hook_spec.specs.LogTapes.{IsLogTape}
 use Rattle.tape_follows.specs.NeededTape.{IsOneNeededTape}
+use Rattle.calls_follow.specs.Laws.{OriginalRun}
+use Rattle.logs_follow.specs.Laws.{log_of_run}
 use Rattle.binary_follows.specs.Playable.{AllWriteBytes, IsPlayable, most_weight, replay_of, layout_of}
 
 -- ---- needed tapes
@@ -60,3 +64,25 @@ RunsAreReplayed =
     → (tape : Tape)
     × IsShownByReplay m script supply store
     (run_from (program_of m script) all_one (start_in_store m script store) count).history outcome tape
+
+-- ---- logs
+
+-- a run with this history and outcome has a log of what hooks are told of it, and there is just one tape of the log: it
+-- is the one that the run needs, and its replay module shows the run
+pub record IsShownFromLog (run : OriginalRun) (count : ℕ) (history : List Entry) (outcome : Outcome) : Type 0 where
+  pub log : Log
+  pub logged : log_of_run run count outcome ≡ Ok log
+  pub tape : Tape
+  pub is_tape : IsLogTape log tape
+  pub is_one : (other : Tape) → IsLogTape log other → other ≡ tape
+  pub shown : IsShownByReplay run.m run.script run.supply run.store history outcome tape
+
+-- of each run of a module of the form Core that can be run, under a script that fits it and links with it: where it has
+-- an outcome, the replay module of the one tape of its log shows it
+abbrev pub RunsAreReplayedFromLogs : Type 0
+RunsAreReplayedFromLogs =
+    (run : OriginalRun) (count : ℕ) (outcome : Outcome)
+    → (run_from (program_of run.m run.script) all_one (start_in_store run.m run.script run.store) count).at
+    ≡ Finished outcome
+    → IsShownFromLog run count
+    (run_from (program_of run.m run.script) all_one (start_in_store run.m run.script run.store) count).history outcome

@@ -1,8 +1,9 @@
 // The laws of runs and replay modules, each the contract of a function; the statements stand in `specs/Laws.antt`.
 
-ghost use Rattle.run_replays.specs.Laws.{NeededTapesArePlayable, NeededTapesWriteBytes, RunsAreReplayed};
+ghost use Rattle.run_replays.specs.Laws.{NeededTapesArePlayable, NeededTapesWriteBytes, RunsAreReplayed, RunsAreReplayedFromLogs};
 
 use binary_follows::replays_show_runs;
+use logs_follow::logs_give_needed_tapes;
 use observed_steps::own_answers;
 use tape_follows::{needed_tape_fits, run_has_one_needed_tape};
 use type_safety::{safe_steps, typed_code, typed_store};
@@ -34,4 +35,13 @@ pub fn runs_are_replayed()
     run_has_one_needed_tape();
     needed_tapes_are_playable();
     replays_show_runs();
+}
+
+/// So the log of what hooks are told of a run has just one tape, the one that the run needs, whose replay module shows
+/// the run.
+pub fn runs_are_replayed_from_logs()
+    ensures { RunsAreReplayedFromLogs }
+{
+    logs_give_needed_tapes();
+    runs_are_replayed();
 }
