@@ -1,3 +1,5 @@
 mod ReadBytes
 mod WrittenBytes
+mod Growths
+mod GrowingRuns
 mod Whole

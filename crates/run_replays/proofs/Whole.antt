@@ -9,12 +9,16 @@ use Rattle.replay_spec.specs.TapeRun.{TapeResult}
 use Rattle.replay_gen.specs.Fragments.{start_index}
 use Rattle.observed_steps.specs.Laws.{StoresAnswerThemselves}
 use Rattle.type_safety.specs.Laws.{ValidCodeHasHeights, ValidCodeIsTyped, SuppliesMatch, NewStoresAreTyped, StartsAreSafe, StepsAreSafe}
+use Rattle.tape_follows.specs.Below.{LawsOfSteps, LawsOfRuns}
 use Rattle.tape_follows.specs.NeededTape.{NeededTapesFit, RunsHaveOneNeededTape}
 use Rattle.logs_follow.specs.Laws.{LogsGiveNeededTapes}
-use Rattle.binary_follows.specs.Laws.{ReplaysShowOutcomes}
+use Rattle.binary_follows.specs.Laws.{ReplaysShowOutcomes, ReplaysMakeEffects}
 use Rattle.binary_follows.specs.Playable.{replay_of, layout_of}
-use Rattle.run_replays.specs.Laws.{NeededTapesWriteBytes, NeededTapesArePlayable, RunsAreReplayed, RunsAreReplayedFromLogs}
+use Rattle.tape_follows.proofs.HostStores.{sizes_of}
+use Rattle.tape_follows.proofs.AllSteps.{opening_holds, started}
+use Rattle.run_replays.specs.Laws.{NeededTapesWriteBytes, NeededTapesArePlayable, NeededTapesGrowSizes, RunsAreReplayed, RunsAreReplayedFromLogs}
 use Rattle.run_replays.proofs.ReadBytes.{run_bytes}
+use Rattle.run_replays.proofs.GrowingRuns.{grows, grows_closed}
 use Rattle.run_replays.proofs.WrittenBytes.{needed_segments_write}
 
 pub needed_tapes_write_bytes : StoresAnswerThemselves → ValidCodeHasHeights → ValidCodeIsTyped → SuppliesMatch
@@ -42,8 +46,23 @@ needed_tapes_are_playable supplied fit write m script supply store tape runnable
       weight = light;
     }
 
-pub runs_are_replayed : RunsHaveOneNeededTape → NeededTapesArePlayable → ReplaysShowOutcomes → RunsAreReplayed
-runs_are_replayed one playable show m script supply store count outcome runnable fits links opens ends =
+pub needed_tapes_grow_sizes : LawsOfSteps → LawsOfRuns → NeededTapesGrowSizes
+needed_tapes_grow_sizes laws safety m script supply store tape runnable fits links opens needed =
+    let h = safety.heights m runnable.valid in
+    let typed = safety.code m h.0 runnable.valid runnable.supported h.1 in
+    let is = safety.store m supply store runnable (safety.supplied m script supply fits links) opens in
+    let safe = safety.starts m h.0 (program_of m script) store script.main runnable.valid typed
+    (record { code = refl; answers = fits.imports }) is fits.main in
+    let f = started laws m h.0 runnable.valid typed script.imports fits.imports grows (grows_closed laws.alike m h.0)
+    needed.count script.main store is m.start safe in
+    let kept = safety.kept (opening_known store)
+    (run_observations (program_of m script) (start_in_store m script store) needed.count) tape.segments in
+    f.shows store tape.segments needed.outcome refl (opening_holds store (sizes_of m store is), kept.0 needed.needed)
+    needed.ends
+
+pub runs_are_replayed : RunsHaveOneNeededTape → NeededTapesArePlayable → NeededTapesGrowSizes → ReplaysShowOutcomes
+    → ReplaysMakeEffects → RunsAreReplayed
+runs_are_replayed one playable grow show make m script supply store count outcome runnable fits links opens ends =
     let found = one m script supply store count outcome runnable fits links opens ends in
     let tape : Tape = record { segments = found.0 } in
     let replays = found.1.replays in (
@@ -56,6 +75,18 @@ runs_are_replayed one playable show m script supply store count outcome runnable
             (show m supply store tape replays.count outcome
             (playable m script supply store tape runnable fits links opens found.1.is_needed light)
             (ap (λ (t : TapeResult). t.next) replays.shows));
+        makes = λ light initial steps own starts over.
+            make m supply store tape initial steps
+            (playable m script supply store tape runnable fits links opens found.1.is_needed light)
+            (grow m script supply store tape runnable fits links opens found.1.is_needed)
+            (record {
+              taken = replays.count;
+              outcome = outcome;
+              over = ap (λ (t : TapeResult). t.next) replays.shows;
+              own = own;
+              starts = starts;
+              ends = over;
+            });
       },
     )
 

@@ -13,17 +13,19 @@ use Rattle.trace_model.specs.Weight.{tape_weight}
 use Rattle.history_spec.specs.declared.entries.Entry.{Entry}
 use Rattle.history_spec.specs.Store.{Store}
 use Rattle.history_spec.specs.Instantiation.{instantiate}
-use Rattle.history_spec.specs.Replay.{Replays}
-use Rattle.history_spec.specs.Step.{Finished}
+use Rattle.history_spec.specs.Replay.{Replays, run_start_alone}
+use Rattle.history_spec.specs.Step.{Finished, StepResult}
 use Rattle.history_spec.specs.Run.{all_one, program_of, start_in_store, run_from}
 use Rattle.replay_spec.specs.Needed.{IsNeededTape}
 use Rattle.replay_gen.specs.Fragments.{start_index}
+use Rattle.outside_spec.specs.Stretches.{stretches}
 use Rattle.type_safety.specs.Supplies.{IsRunnable}
 use Rattle.hook_spec.specs.LogTapes.{IsLogTape}
 use Rattle.tape_follows.specs.NeededTape.{IsOneNeededTape}
 use Rattle.calls_follow.specs.Laws.{OriginalRun}
 use Rattle.logs_follow.specs.Laws.{log_of_run}
-use Rattle.binary_follows.specs.Playable.{AllWriteBytes, IsPlayable, most_weight, replay_of, layout_of}
+use Rattle.binary_follows.specs.Playable.{AllWriteBytes, IsPlayable, GrowsAlways, most_weight, replay_of, layout_of, replay_run, shown_run}
+use Rattle.binary_follows.specs.Laws.{AreEffectsOfFirst}
 
 -- ---- needed tapes
 
@@ -44,15 +46,33 @@ NeededTapesArePlayable =
     → IsNeededTape (program_of m script) (start_in_store m script store) store tape.segments
     → tape_weight tape ≤ most_weight → IsPlayable m supply store tape
 
+-- nor does any of its effects, in its own run, give a size that is there already
+abbrev pub NeededTapesGrowSizes : Type 0
+NeededTapesGrowSizes =
+    (m : Module) (script : Script) (supply : Supply) (store : Store) (tape : Tape)
+    → IsRunnable m → Fits m script → supply_of m script ≡ Ok supply → instantiate m supply ≡ Ok store
+    → IsNeededTape (program_of m script) (start_in_store m script store) store tape.segments
+    → GrowsAlways m store tape
+
 -- ---- runs
 
+-- The run of the replay module of a tape, once it is over: what functions outside the original change in it is, stretch
+-- by stretch, just the effects of the tape's first segments, in order.
+abbrev pub MakesEffectsOf : Module → Supply → Tape → Type 0
+MakesEffectsOf m supply tape =
+    (initial : StepResult) (count : ℕ) (own : Outcome)
+    → run_start_alone (replay_of m supply tape) (start_index m) ≡ Ok initial
+    → (replay_run (replay_of m supply tape) initial count).at ≡ Finished own
+    → AreEffectsOfFirst tape.segments (stretches (shown_run m (replay_of m supply tape) initial count))
+
 -- a run with this history and outcome, its one needed tape, and the replay module of that: where the tape is no heavier
--- than it may be, the replay module's run shows just that history and that outcome
+-- than it may be, the replay module's run shows just that history and that outcome, and makes just the tape's effects
 pub record IsShownByReplay (m : Module) (script : Script) (supply : Supply) (store : Store) (history : List Entry)
     (outcome : Outcome) (tape : Tape) : Type 0 where
   pub is_one : IsOneNeededTape m script store history outcome tape.segments
   pub shows : tape_weight tape ≤ most_weight
       → Replays (replay_of m supply tape) (layout_of m) (start_index m) history outcome
+  pub makes : tape_weight tape ≤ most_weight → MakesEffectsOf m supply tape
 
 -- of each module that can be run, and each script that fits it and links with it, nested to any depth: where the run
 -- has an outcome, the replay module of its one needed tape shows it

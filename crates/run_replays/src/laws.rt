@@ -1,12 +1,13 @@
 // The laws of runs and replay modules, each the contract of a function; the statements stand in `specs/Laws.antt`.
 
-ghost use Rattle.run_replays.specs.Laws.{NeededTapesArePlayable, NeededTapesWriteBytes, RunsAreReplayed, RunsAreReplayedFromLogs};
+ghost use Rattle.run_replays.specs.Laws.{NeededTapesArePlayable, NeededTapesGrowSizes, NeededTapesWriteBytes, RunsAreReplayed, RunsAreReplayedFromLogs};
 
 use binary_follows::replays_show_runs;
 use logs_follow::logs_give_needed_tapes;
-use observed_steps::own_answers;
+use observed_steps::{observed_steps, own_answers, own_steps};
+use replay_spec::needed_segments_are_kept;
 use tape_follows::{needed_tape_fits, run_has_one_needed_tape};
-use type_safety::{safe_steps, typed_code, typed_store};
+use type_safety::{rules_hold, safe_steps, typed_code, typed_store};
 
 /// What the effects of a needed tape write are bytes: a byte that is needed is one that the run reads.
 pub fn needed_tapes_write_bytes()
@@ -27,13 +28,28 @@ pub fn needed_tapes_are_playable()
     typed_store();
 }
 
+/// In the run of a needed tape each effect that gives a size of memory or table gives a greater one than is there.
+pub fn needed_tapes_grow_sizes()
+    ensures { NeededTapesGrowSizes }
+{
+    needed_segments_are_kept();
+    observed_steps();
+    own_answers();
+    own_steps();
+    rules_hold();
+    safe_steps();
+    typed_code();
+    typed_store();
+}
+
 /// A run that has an outcome has just one needed tape; and where this is no heavier than it may be, the run of its
-/// replay module shows just the run's history and outcome.
+/// replay module shows just the run's history and outcome, and makes just the tape's effects.
 pub fn runs_are_replayed()
     ensures { RunsAreReplayed }
 {
     run_has_one_needed_tape();
     needed_tapes_are_playable();
+    needed_tapes_grow_sizes();
     replays_show_runs();
 }
 

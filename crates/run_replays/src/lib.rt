@@ -5,6 +5,6 @@
 pub mod laws;
 
 pub use laws::{
-    needed_tapes_are_playable, needed_tapes_write_bytes, runs_are_replayed,
-    runs_are_replayed_from_logs,
+    needed_tapes_are_playable, needed_tapes_grow_sizes, needed_tapes_write_bytes,
+    runs_are_replayed, runs_are_replayed_from_logs,
 };
