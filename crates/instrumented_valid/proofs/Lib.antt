@@ -1,0 +1,7 @@
+mod Pieces
+mod Nests
+mod Parts
+mod Valid
+mod Refusals
+mod Accepted
+mod Links

@@ -1,0 +1,34 @@
+-- The laws of instrumented modules: they are valid, and accepted where their originals are.
+use Rattle.std.specs.Prelude.{ℕ, ◌^◌, ◌<◌, ◌≤◌, List, length, true, false}
+use Rattle.std.specs.List.{AllByRecursion}
+use Rattle.wasm_syntax.specs.declared.instructions.Instr.{Instr}
+use Rattle.wasm_syntax.specs.declared.instructions.Instr.TheVariants.{Load, Store}
+use Rattle.wasm_syntax.specs.declared.modules.Module.{Module}
+use Rattle.wasm_syntax.specs.Encoding.Forms.{IsCoreModule}
+use Rattle.wasm_syntax.specs.Index.{func_indices, all_globals}
+use Rattle.wasm_syntax.specs.Profile.{IsAccepted}
+use Rattle.wasm_syntax.specs.Validity.{IsValid}
+use Rattle.hook_spec.specs.Instrumented.{instrumented_module}
+
+-- the offset of a load or a store, which hooks are told, is a word
+abbrev pub HasWordOffset : Instr → Type 0
+HasWordOffset (Load at) = at.offset < 2 ^ 32
+HasWordOffset (Store at) = at.offset < 2 ^ 32
+HasWordOffset i = Unit {0}
+
+-- what hooks are told of a module are words: offsets, indices of functions and of globals
+pub record HasWords (m : Module) : Type 0 where
+  pub offsets : AllByRecursion (λ f. AllByRecursion HasWordOffset f.body) m.funcs
+  pub funcs : length (func_indices m) ≤ 2 ^ 32
+  pub globals : length (all_globals m) ≤ 2 ^ 32
+
+-- the instrumented module of a valid module of the form Core is valid
+abbrev pub InstrumentedAreValid : Type 0
+InstrumentedAreValid =
+    (m : Module) (digest : List ℕ) → IsValid m → IsCoreModule m → HasWords m → IsValid (instrumented_module m digest)
+
+-- that of an accepted one is accepted, with hooks
+abbrev pub InstrumentedAreAccepted : Type 0
+InstrumentedAreAccepted =
+    (m : Module) (digest : List ℕ) → IsAccepted false m → IsCoreModule m → HasWords m
+    → IsAccepted true (instrumented_module m digest)

@@ -1,0 +1,46 @@
+// The laws of instrumented modules, each the contract of a function; the statements stand in `specs/`.
+
+ghost use Rattle.instrumented_valid.specs.Laws.{InstrumentedAreAccepted, InstrumentedAreValid};
+ghost use Rattle.instrumented_valid.specs.Links.{InstrumentedAreInstantiated, InstrumentedAreRunnable, InstrumentedAreSupplied};
+
+use hook_spec::{bodies_are_instrumented, instrumented_keep_indices};
+
+/// The instrumented module of a valid module of the form Core, whose offsets and indices of functions and globals are
+/// words, is valid (Core 1.0, 3.4.10).
+pub fn instrumented_are_valid()
+    ensures { InstrumentedAreValid }
+{
+    bodies_are_instrumented();
+    instrumented_keep_indices();
+}
+
+/// Where such a module is accepted, its instrumented module is accepted as an instrumented one: no instruction of it is
+/// refused, and its quantities are within their limits.
+pub fn instrumented_are_accepted()
+    ensures { InstrumentedAreAccepted }
+{
+    instrumented_are_valid();
+    instrumented_keep_indices();
+}
+
+/// The instrumented module of an accepted one, whose data segments hold bytes, can be run.
+pub fn instrumented_are_runnable()
+    ensures { InstrumentedAreRunnable }
+{
+    instrumented_are_accepted();
+}
+
+/// A script supplies for the instrumented module what it supplies for the original, or fails at the same import.
+pub fn instrumented_are_supplied()
+    ensures { InstrumentedAreSupplied }
+{
+    instrumented_keep_indices();
+}
+
+/// With one supply the instrumented module begins with the original's store but for renumbered functions in its table,
+/// or both fail at the same segment (Core 1.0, 4.5.4).
+pub fn instrumented_are_instantiated()
+    ensures { InstrumentedAreInstantiated }
+{
+    instrumented_keep_indices();
+}

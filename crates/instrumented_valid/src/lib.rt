@@ -1,0 +1,10 @@
+//! Instrumented modules are valid, accepted where their originals are, and link with what these link with: laws about
+//! the definitions, whose statements stand in `specs/`; their functions do nothing.
+#![tactic(auto)]
+
+pub mod laws;
+
+pub use laws::{
+    instrumented_are_accepted, instrumented_are_instantiated, instrumented_are_runnable,
+    instrumented_are_supplied, instrumented_are_valid,
+};
