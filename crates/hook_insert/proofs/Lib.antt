@@ -1,0 +1,12 @@
+pub mod Accesses
+pub mod AddedLocals
+pub mod Rounds
+pub mod Weightless
+pub mod Calls
+pub mod Few
+pub mod Low
+pub mod Counts
+pub mod FlatFunctions
+pub mod SameTypes
+pub mod FormImports
+pub mod Sections

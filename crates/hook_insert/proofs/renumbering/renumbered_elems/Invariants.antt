@@ -1,0 +1,6 @@
+use Rattle.std.proofs.Common.{◌≡◌, map, take}
+use Rattle.hook_spec.specs.Instrumented.{renumbered_elem}
+use Rattle.hook_insert.proofs.renumbering.renumbered_elems.Given as goal
+
+abbrev pub invariant-elems : goal.invariant-elems
+invariant-elems l = l.list.items ≡ map (renumbered_elem l.imports) (take l.elem-index l.elems)

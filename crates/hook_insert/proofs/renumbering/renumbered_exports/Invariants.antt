@@ -1,0 +1,6 @@
+use Rattle.std.proofs.Common.{◌≡◌, map, take}
+use Rattle.hook_spec.specs.Instrumented.{renumbered_export}
+use Rattle.hook_insert.proofs.renumbering.renumbered_exports.Given as goal
+
+abbrev pub invariant-exports : goal.invariant-exports
+invariant-exports l = l.list.items ≡ map (renumbered_export l.imports) (take l.export-index l.exports)

@@ -1,0 +1,17 @@
+-- A function's locals with the added ones, in two parts.
+use Rattle.std.specs.Prelude.{◌+◌, List, [], ◌∷◌, cond}
+use Rattle.wasm_syntax.specs.declared.values.ValType.TheVariants.{I32}
+use Rattle.wasm_syntax.specs.declared.modules.Run.{Run}
+use Rattle.wasm_syntax.specs.Alike.{same_type}
+use Rattle.hook_spec.specs.Instrumented.{locals_of}
+
+-- the last run and two locals of i32: one run, where that is of i32 too
+abbrev pub last_with_numbers : Run → List Run
+last_with_numbers last =
+    cond (same_type last.ty I32) (locals_of (last.count + 2) I32 ∷ []) (last ∷ locals_of 2 I32 ∷ [])
+
+-- all runs and two locals of i32
+abbrev pub with_numbers : List Run → List Run
+with_numbers [] = locals_of 2 I32 ∷ []
+with_numbers (last ∷ []) = last_with_numbers last
+with_numbers (run ∷ next ∷ runs) = run ∷ with_numbers (next ∷ runs)

@@ -1,0 +1,29 @@
+-- The hooked form as it is read.
+use Rattle.std.specs.Prelude.{ℕ, List, [], ◌∷◌, Option, Some, None, Bool, false, cond, nat_eq}
+use Rattle.wasm_syntax.specs.declared.modules.Custom.{Custom}
+use Rattle.hook_spec.specs.HookedForm as model
+use Rattle.hook_insert.specs.declared.forms.HookedForm.{HookedForm}
+
+-- what a form says, as the definition has it
+abbrev pub form_of : HookedForm → model.HookedForm
+form_of form = record { digest = form.digest; imports = form.imports; defined = form.defined }
+
+-- ---- the section
+
+-- the one section of sections
+abbrev pub only : List Custom → Option Custom
+only (custom ∷ []) = Some custom
+only customs = None
+
+-- ---- bytes
+
+-- bytes begin with a byte
+abbrev pub begins_with : (byte : ℕ) → List ℕ → Bool
+begins_with byte [] = false
+begins_with byte (b ∷ bytes) = nat_eq b byte
+
+-- what is left of bytes after others, where they begin with these
+abbrev pub left_after : (front bytes : List ℕ) → Option (List ℕ)
+left_after [] bytes = Some bytes
+left_after (f ∷ front) [] = None
+left_after (f ∷ front) (b ∷ bytes) = cond (nat_eq b f) (left_after front bytes) None

@@ -1,0 +1,34 @@
+-- Instrumented modules in parts.
+use Rattle.std.specs.Prelude.{◌<◌, length, List, All, IfSome}
+use Rattle.wasm_syntax.specs.declared.modules.Export.{Export}
+use Rattle.wasm_syntax.specs.declared.modules.Func.{Func}
+use Rattle.wasm_syntax.specs.declared.modules.Module.{Module}
+use Rattle.wasm_syntax.specs.Index.{func_indices}
+use Rattle.wasm_flat.specs.Sizes.{list_limit}
+use Rattle.hook_insert.specs.declared.modules.Hooking.{Hooking}
+use Rattle.hook_insert.specs.declared.modules.Kept.{Kept}
+use Rattle.hook_insert.specs.Sites.{IsLowElem, IsLowKind}
+
+-- the numbers of a module leave room for the hooks
+pub record HasLowNumbers (m : Module) : Type 0 where
+  pub types : length m.types < list_limit
+  pub funcs : length (func_indices m) < list_limit
+  pub exports : All (λ (e : Export). IsLowKind e.kind) m.exports
+  pub elems : All IsLowElem m.elems
+  pub start : IfSome m.start (λ func. func < list_limit)
+
+-- the module of these functions, of what it gets and of what it keeps
+abbrev pub module_of_parts : List Func → Hooking → Kept → Module
+module_of_parts funcs hooking kept = record {
+  types = hooking.types;
+  imports = hooking.imports;
+  funcs = funcs;
+  tables = kept.tables;
+  memories = kept.memories;
+  globals = kept.globals;
+  exports = hooking.exports;
+  start = kept.start;
+  elems = hooking.elems;
+  datas = kept.datas;
+  customs = hooking.customs;
+}

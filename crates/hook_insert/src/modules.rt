@@ -1,0 +1,210 @@
+// Instrumented modules.
+
+ghost use Rattle.std.specs.Prelude.{◌≡◌, ◌<◌, ◌∷◌, [], ◌++◌, IfOk, IfSome, map, option_map, Some};
+ghost use Rattle.wasm_syntax.specs.Index.{imported_funcs};
+ghost use Rattle.wasm_flat.specs.Sizes.{IsShort, list_limit};
+ghost use Rattle.hook_spec.specs.Hooks.{hooks, renumber};
+ghost use Rattle.hook_spec.specs.Instrumented.{hook_import, hook_types, hooked_section, instrumented_module, instrumented_weights, renumbered_elem, renumbered_export, section_bytes, section_name};
+ghost use Rattle.hook_insert.specs.Modules.{HasLowNumbers, module_of_parts};
+
+use crate::functions::{Functions, instrumented_funcs};
+use crate::hook_imports::{hooked_imports, hooked_types, name};
+use crate::renumbering::{renumbered_elems, renumbered_exports};
+use hook_names::renumber;
+use leb_bytes::push_u32;
+use module_index::scope::Scope;
+use no_memory::NoMemory;
+use std::alloc::Global;
+use wasm_flat::Meter;
+use wasm_syntax::{
+    Custom, Customs, DataSegs, ElemSegs, Exports, FuncTypes, Globals, Imports, LimitsList, List,
+    Module,
+};
+use wasm_validate::Checked;
+
+/// An instrumented module, with the meter under which its run takes the turns of the original's.
+#[derive(Drop)]
+pub struct Hooked {
+    pub module: Module,
+    pub meter: Meter,
+}
+
+/// What an instrumented module has besides its functions that the original does not have.
+#[derive(Drop)]
+pub(crate) struct Hooking {
+    types: FuncTypes,
+    imports: Imports,
+    exports: Exports,
+    elems: ElemSegs,
+    customs: Customs,
+}
+
+/// What an instrumented module keeps of the original.
+#[derive(Drop)]
+pub(crate) struct Kept {
+    tables: LimitsList,
+    memories: LimitsList,
+    globals: Globals,
+    datas: DataSegs,
+    start: Option<u32>,
+}
+
+/// The instrumented module of a module with this digest, and its meter. Takes time in the length of the module alone.
+///
+/// # Errors
+///
+/// Where an allocation fails.
+pub fn instrument(alloc: Global, checked: &Checked, digest: &[u8; 32]) -> Result<Hooked, NoMemory>
+    requires short { IsShort checked.now }
+    ensures module { IfOk result (λ hooked. hooked.«module» ≡ instrumented_module checked.now digest.now) }
+    ensures meter { IfOk result (λ hooked. hooked.meter ≡ Some (instrumented_weights checked.now)) }
+{
+    let module = checked.module();
+    let scope = Scope::of(alloc, module)?;
+    let functions = instrumented_funcs(alloc, &scope)?;
+    let imports = scope.imported_funcs() as u32;
+    with_functions(alloc, module, imports, digest, functions)
+}
+
+/// The instrumented module of a module and of its functions.
+fn with_functions(
+    alloc: Global,
+    module: &Module,
+    imports: u32,
+    digest: &[u8; 32],
+    functions: Functions,
+) -> Result<Hooked, NoMemory>
+    requires imports { imports ≡ imported_funcs «module».now }
+    requires low { HasLowNumbers «module».now }
+    ensures module { IfOk result (λ hooked. hooked.«module»
+        ≡ record (instrumented_module «module».now digest.now) { funcs = functions.funcs.items }) }
+    ensures meter { IfOk result (λ hooked. hooked.meter ≡ Some functions.weights.items) }
+{
+    let hooking = hooking_of(alloc, module, imports, digest)?;
+    let kept = kept_of(module, imports)?;
+    Ok(hooked_of(functions, hooking, kept))
+}
+
+/// The instrumented module of its parts.
+fn hooked_of(functions: Functions, hooking: Hooking, kept: Kept) -> Hooked
+    ensures module { result.«module» ≡ module_of_parts functions.funcs.items hooking kept }
+    ensures meter { result.meter ≡ Some functions.weights.items }
+{
+    let Functions { funcs, weights } = functions;
+    let Hooking {
+        types,
+        imports,
+        exports,
+        elems,
+        customs,
+    } = hooking;
+    let Kept {
+        tables,
+        memories,
+        globals,
+        datas,
+        start,
+    } = kept;
+    Hooked {
+        module: Module {
+            types,
+            imports,
+            funcs: List::from_vec(funcs),
+            tables,
+            memories,
+            globals,
+            exports,
+            start,
+            elems,
+            datas,
+            customs,
+        },
+        meter: Meter::of(List::from_vec(weights)),
+    }
+}
+
+/// What the instrumented module of a module gets.
+fn hooking_of(
+    alloc: Global,
+    module: &Module,
+    imports: u32,
+    digest: &[u8; 32],
+) -> Result<Hooking, NoMemory>
+    requires imports { imports ≡ imported_funcs «module».now }
+    requires low { HasLowNumbers «module».now }
+    ensures types { IfOk result (λ made. made.types ≡ «module».now.types ++ hook_types) }
+    ensures imports { IfOk result (λ made. made.imports
+        ≡ «module».now.imports ++ map (hook_import «module».now) hooks) }
+    ensures exports { IfOk result (λ made. made.exports ≡ map (renumbered_export imports) «module».now.exports) }
+    ensures elems { IfOk result (λ made. made.elems ≡ map (renumbered_elem imports) «module».now.elems) }
+    ensures customs { IfOk result (λ made. made.customs ≡ hooked_section «module».now digest.now ∷ []) }
+{
+    let types = hooked_types(alloc, module)?;
+    let hooked = hooked_imports(alloc, module)?;
+    let exports = renumbered_exports(alloc, imports, module.exports.as_slice())?;
+    let elems = renumbered_elems(alloc, imports, module.elems.as_slice())?;
+    let customs = hooked_sections(alloc, digest, imports, module.funcs.as_slice().len() as u32)?;
+    Ok(Hooking {
+        types,
+        imports: hooked,
+        exports,
+        elems,
+        customs,
+    })
+}
+
+/// What it keeps.
+fn kept_of(module: &Module, imports: u32) -> Result<Kept, NoMemory>
+    requires low { HasLowNumbers «module».now }
+    ensures tables { IfOk result (λ kept. kept.tables ≡ «module».now.tables) }
+    ensures memories { IfOk result (λ kept. kept.memories ≡ «module».now.memories) }
+    ensures globals { IfOk result (λ kept. kept.globals ≡ «module».now.globals) }
+    ensures datas { IfOk result (λ kept. kept.datas ≡ «module».now.datas) }
+    ensures start { IfOk result (λ kept. kept.start ≡ option_map (renumber imports) «module».now.start) }
+{
+    let tables = module.tables.clone()?;
+    let memories = module.memories.clone()?;
+    let globals = module.globals.clone()?;
+    let datas = module.datas.clone()?;
+    Ok(Kept {
+        tables,
+        memories,
+        globals,
+        datas,
+        start: renumbered_start(imports, module.start),
+    })
+}
+
+/// The start function, renumbered.
+fn renumbered_start(imports: u32, start: Option<u32>) -> Option<u32>
+    requires { IfSome start (λ func. func < list_limit) }
+    ensures { result ≡ option_map (renumber imports) start }
+{
+    match start {
+        Some(func) => Some(renumber(imports, func)),
+        None => None,
+    }
+}
+
+/// The section that marks an instrumented module: the digest of the original's bytes, and how many functions that
+/// imports and defines.
+fn hooked_sections(
+    alloc: Global,
+    digest: &[u8; 32],
+    imports: u32,
+    defined: u32,
+) -> Result<Customs, NoMemory>
+    ensures { IfOk result (λ customs. customs
+        ≡ record { name = section_name; bytes = section_bytes digest.now imports defined } ∷ []) }
+{
+    let name = name(alloc, "r3.hooked")?;
+    let mut bytes = Vec::from_slice(alloc, digest)?;
+    push_u32(&mut bytes, imports)?;
+    push_u32(&mut bytes, defined)?;
+    let mut customs = Vec::with_capacity(alloc, 1)?;
+    customs.push_reserved(Custom {
+        name,
+        bytes: List::from_vec(bytes),
+    });
+    Ok(List::from_vec(customs))
+}

@@ -1,0 +1,58 @@
+// What a call of a hook sees.
+
+ghost use Rattle.std.specs.Prelude.{◌≡◌, slice_get};
+ghost use Rattle.wasm_store.specs.Calls.{bytes_in, entry_at, pages_in};
+
+use std::marker::Model;
+use wasm_store::Store;
+
+/// What a call of a hook sees: the memory and the table of a store as it is then. Contracts see the store.
+pub struct View<'a> {
+    store: &'a Store,
+}
+
+impl<'a> Model for View<'a> {
+    ghost use Rattle.history_spec.specs.Store as model;
+
+    ghost Value = { model.Store };
+
+    ghost view = { λ v. v.store.now };
+}
+
+impl<'a> View<'a> {
+    /// The view of a store. Takes no memory.
+    pub fn of(store: &'a Store) -> View<'a>
+        ensures { result ≡ store.now }
+    {
+        View { store }
+    }
+
+    /// The size of the memory in pages of 65,536 bytes, 0 where there is no memory.
+    #[inline]
+    pub fn pages(&self) -> u32
+        ensures { result ≡ pages_in self.now }
+    {
+        self.store.pages()
+    }
+
+    /// The function in an entry of the table, or none where the entry is empty. None exactly where the index is not
+    /// below the table's size, which is 0 where there is no table.
+    #[inline]
+    pub fn entry(&self, index: u32) -> Option<Option<u32>>
+        ensures { result ≡ entry_at self.now index }
+    {
+        match self.store.entry(index) {
+            Ok(entry) => Some(entry),
+            Err(_) => None,
+        }
+    }
+
+    /// A byte of the memory. None exactly where the address is not below the memory's length, which is 0 where there is
+    /// no memory.
+    #[inline]
+    pub fn byte(&self, addr: u64) -> Option<u8>
+        ensures { result ≡ slice_get (bytes_in self.now) addr }
+    {
+        self.store.bytes().get(addr as usize).copied()
+    }
+}
