@@ -1,7 +1,10 @@
 mod Pieces
 mod Nests
 mod Parts
+mod Indices
 mod Valid
 mod Refusals
 mod Accepted
 mod Links
+mod Fitted
+mod Words

@@ -16,6 +16,7 @@ use Rattle.wasm_syntax.specs.declared.instructions.MemArg.{MemArg}
 use Rattle.wasm_syntax.specs.declared.instructions.Instr.{Instr}
 use Rattle.wasm_syntax.specs.declared.instructions.Instr.TheVariants.{Unreachable, Nop, Else, End, Br, BrIf, BrTable, Return, Call, CallIndirect, Drop, Select, LocalGet, LocalSet, LocalTee, GlobalGet, GlobalSet, Load, Store, MemorySize, MemoryGrow, MemoryCopy, MemoryFill, Const, Numeric, RefNull, RefFunc, TableSet, TableGrow, TableSize}
 use Rattle.wasm_syntax.specs.Encoding.Forms.{IsCoreInstr}
+use Rattle.wasm_syntax.specs.Encoding.Encodable.{FitsU32}
 use Rattle.wasm_syntax.specs.Index.{type_at, func_type, all_globals}
 use Rattle.wasm_syntax.specs.Nest.{Nest, Empty, Plain, InBlock, InLoop, InIf, InIfElse, flat}
 use Rattle.wasm_syntax.specs.Opcodes.{Access, is_from, load_table, store_table, load_of, store_of}
@@ -26,7 +27,7 @@ use Rattle.hook_spec.specs.Hooks.{renumber, on}
 use Rattle.hook_spec.specs.Insertions.{Site, imports_at, calls, tells_number, tells_index, tells_range, tells_global, before_load, before_store, after_call, inserted_before, inserted_after}
 use Rattle.hook_spec.specs.Instrumented.{renumbered, before_nest, instrumented_nest}
 use Rattle.instrumented_valid.specs.Laws.{HasWordOffset}
-use Rattle.instrumented_valid.proofs.Pieces.{Sequence, HasHooks, IsWord, typed_after, nothing, tells_number_runs, load_runs, store_runs, global_runs, range_runs, index_runs, alone_runs, after_call_runs}
+use Rattle.instrumented_valid.proofs.Pieces.{Sequence, HasHooks, typed_after, nothing, tells_number_runs, load_runs, store_runs, global_runs, range_runs, index_runs, alone_runs, after_call_runs}
 
 -- what holds in the original's body holds in the instrumented one, with functions renumbered
 pub record Widens (s : Site) (ctx wider : Context) : Type 0 where
@@ -34,11 +35,11 @@ pub record Widens (s : Site) (ctx wider : Context) : Type 0 where
   pub func_of_site : (f : ℕ) → func_at ctx f ≡ func_type s.m f
   pub type_of_site : (t : ℕ) → slice_get ctx.types t ≡ type_at s.m t
   pub global_of_site : (x : ℕ) → slice_get ctx.globals x ≡ slice_get (all_globals s.m) x
-  pub own : IsWord s.func
-  pub func_good : (f : ℕ) (ty : FuncType) → func_type s.m f ≡ Some ty → IsFuncType ty × IsWord f
+  pub own : FitsU32 s.func
+  pub func_good : (f : ℕ) (ty : FuncType) → func_type s.m f ≡ Some ty → IsFuncType ty × FitsU32 f
   pub type_good : (t : ℕ) (ty : FuncType) → type_at s.m t ≡ Some ty → IsFuncType ty
   pub global_good : (x : ℕ) (g : GlobalType) → slice_get (all_globals s.m) x ≡ Some g
-      → IsTrue (is_number g.ty) × IsWord x
+      → IsTrue (is_number g.ty) × FitsU32 x
   pub types : (t : ℕ) (ty : FuncType) → slice_get ctx.types t ≡ Some ty → slice_get wider.types t ≡ Some ty
   pub funcs : (f : ℕ) (ty : FuncType) → func_at ctx f ≡ Some ty
       → func_at wider (renumber (imports_at s) f) ≡ Some ty
@@ -164,7 +165,7 @@ module _ (s : Site) (ctx wider : Context) (w : Widens s ctx wider) where
   -- ---- what stands before an instruction
 
   call_word : (f : ℕ) (before middle : List ValType) (o : Option FuncType) → func_at ctx f ≡ o
-      → Leads ctx (option_map call_of o) before middle → IsWord f
+      → Leads ctx (option_map call_of o) before middle → FitsU32 f
   call_word f before middle None e h = absurd h
   call_word f before middle (Some ty) e h = (w.func_good f ty (sym (w.func_of_site f) ∙ e)).1
 
@@ -177,7 +178,7 @@ module _ (s : Site) (ctx wider : Context) (w : Widens s ctx wider) where
       subst (λ types. Sequence wider (tells_index s hook.Ipre) types types) (sym h.had)
       (index_runs s wider w.has hook.Ipre (reverse ty.params ++ h.below) refl)
 
-  load_told : (at : MemArg) (before middle : List ValType) (a : Access) (aligned : Bool) → IsWord at.offset
+  load_told : (at : MemArg) (before middle : List ValType) (a : Access) (aligned : Bool) → FitsU32 at.offset
       → access_test a ≡ true → Leads ctx (if_true aligned (Moves (I32 ∷ []) (a.ty ∷ []))) before middle
       → Sequence wider (before_load s at a) before before
   load_told at before middle a false word passes h = absurd h
@@ -185,7 +186,7 @@ module _ (s : Site) (ctx wider : Context) (w : Widens s ctx wider) where
       subst (λ types. Sequence wider (before_load s at a) types types) (sym h.had)
       (load_runs s wider w.has at a h.below word (and_right (is_number a.ty) (nat_lt a.width (2 ^ 32)) passes))
 
-  before_loads : (at : MemArg) (before middle : List ValType) (b : Bool) (o : Option Access) → IsWord at.offset
+  before_loads : (at : MemArg) (before middle : List ValType) (b : Bool) (o : Option Access) → FitsU32 at.offset
       → load_of at.op ≡ o → Leads ctx (cond b (option_and_then (load_type at) o) None) before middle
       → Sequence wider (on o (before_load s at)) before before
   before_loads at before middle false o word e h = absurd h
@@ -193,7 +194,7 @@ module _ (s : Site) (ctx wider : Context) (w : Widens s ctx wider) where
   before_loads at before middle true (Some a) word e h =
       load_told at before middle a (is_aligned at a) word (load_passes at.op a e) h
 
-  store_told : (at : MemArg) (before middle : List ValType) (a : Access) (aligned : Bool) → IsWord at.offset
+  store_told : (at : MemArg) (before middle : List ValType) (a : Access) (aligned : Bool) → FitsU32 at.offset
       → access_test a ≡ true → Leads ctx (if_true aligned (Moves (a.ty ∷ I32 ∷ []) [])) before middle
       → Sequence wider (before_store s at a) before before
   store_told at before middle a false word passes h = absurd h
@@ -202,7 +203,7 @@ module _ (s : Site) (ctx wider : Context) (w : Widens s ctx wider) where
       (store_runs s wider w.has at a h.below word (and_right (is_number a.ty) (nat_lt a.width (2 ^ 32)) passes)
       (and_left (is_number a.ty) (nat_lt a.width (2 ^ 32)) passes))
 
-  before_stores : (at : MemArg) (before middle : List ValType) (b : Bool) (o : Option Access) → IsWord at.offset
+  before_stores : (at : MemArg) (before middle : List ValType) (b : Bool) (o : Option Access) → FitsU32 at.offset
       → store_of at.op ≡ o → Leads ctx (cond b (option_and_then (store_type at) o) None) before middle
       → Sequence wider (on o (before_store s at)) before before
   before_stores at before middle false o word e h = absurd h
@@ -210,7 +211,7 @@ module _ (s : Site) (ctx wider : Context) (w : Widens s ctx wider) where
   before_stores at before middle true (Some a) word e h =
       store_told at before middle a (is_aligned at a) word (store_passes at.op a e) h
 
-  set_told : (x : ℕ) (g : GlobalType) (before middle : List ValType) (b : Bool) → IsTrue (is_number g.ty) → IsWord x
+  set_told : (x : ℕ) (g : GlobalType) (before middle : List ValType) (b : Bool) → IsTrue (is_number g.ty) → FitsU32 x
       → Leads ctx (if_true b (Moves (g.ty ∷ []) [])) before middle
       → Sequence wider (tells_global s hook.Gset x g.ty) before before
   set_told x g before middle false num word h = absurd h
@@ -293,7 +294,7 @@ module _ (s : Site) (ctx wider : Context) (w : Widens s ctx wider) where
       subst (λ types. Sequence wider (tells_index s hook.Grow) types types) (sym h.left)
       (index_runs s wider w.has hook.Grow h.below refl)
 
-  get_told : (x : ℕ) (g : GlobalType) (below : List ValType) (b : Bool) → IsTrue (is_number g.ty) → IsWord x
+  get_told : (x : ℕ) (g : GlobalType) (below : List ValType) (b : Bool) → IsTrue (is_number g.ty) → FitsU32 x
       → Sequence wider (cond b (tells_global s hook.Gget x g.ty) []) (g.ty ∷ below) (g.ty ∷ below)
   get_told x g below true num word = global_runs s wider w.has hook.Gget x g.ty below word refl num
   get_told x g below false num word = nothing wider (g.ty ∷ below)

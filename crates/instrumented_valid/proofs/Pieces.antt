@@ -1,5 +1,5 @@
 -- Pieces of code in sequence: their types, whatever stands below on the stack.
-use Rattle.std.proofs.Common.{◌≡◌, ℕ, suc, ◌+◌, ◌^◌, ◌<◌, ◌≤◌, List, [], ◌∷◌, ◌++◌, length, reverse, Some, true, IsTrue, nat_lt, slice_get, option_map, refl, sym, ap, ◌∙◌, subst, arith}
+use Rattle.std.proofs.Common.{◌≡◌, ℕ, suc, ◌+◌, ◌^◌, ◌≤◌, List, [], ◌∷◌, ◌++◌, length, reverse, Some, true, IsTrue, nat_lt, slice_get, option_map, refl, sym, ap, ◌∙◌, subst, arith}
 use Rattle.std.proofs.lemmas.Bool.Decides.{nat_tests}
 use Rattle.wasm_opcodes.specs.declared.TheConstants.{I32_WRAP_I64, I64_EXTEND_I32_U, I32_REINTERPRET_F32, I64_REINTERPRET_F64}
 use Rattle.wasm_syntax.specs.declared.values.ValType.{ValType}
@@ -7,6 +7,7 @@ use Rattle.wasm_syntax.specs.declared.values.ValType.TheVariants.{I32, I64, F32,
 use Rattle.wasm_syntax.specs.declared.instructions.MemArg.{MemArg}
 use Rattle.wasm_syntax.specs.declared.instructions.Instr.{Instr}
 use Rattle.wasm_syntax.specs.declared.instructions.Instr.TheVariants.{LocalGet, LocalSet, LocalTee, Numeric}
+use Rattle.wasm_syntax.specs.Encoding.Encodable.{FitsU32}
 use Rattle.wasm_syntax.specs.Alike.{type_byte}
 use Rattle.wasm_syntax.specs.Nest.{Nest}
 use Rattle.wasm_syntax.specs.Opcodes.{Access}
@@ -57,10 +58,7 @@ pub record HasHooks (s : Site) (ctx : Context) : Type 0 where
   pub value : (ty : ValType) → IsTrue (is_number ty) → slice_get ctx.locals (value_local s ty) ≡ Some ty
   pub hook : (kind : Hook) → func_at ctx (hook_func (imports_at s) kind) ≡ Some (hook_type kind)
 
-abbrev pub IsWord : ℕ → Type 0
-IsWord n = n < 2 ^ 32
-
-pub word_test : (n : ℕ) → IsWord n → nat_lt n (2 ^ 32) ≡ true
+pub word_test : (n : ℕ) → FitsU32 n → nat_lt n (2 ^ 32) ≡ true
 word_test n h = grind (arith, nat_tests)
 
 no_number : IsTrue (is_number FuncRef) → ⊥
@@ -134,14 +132,14 @@ module _ (s : Site) (ctx : Context) (has : HasHooks s ctx) where
       (get local ty (widened ty ++ calls s Arg ∷ []) (I32 ∷ below) below there
       (wide ty (calls s Arg ∷ []) (I32 ∷ below) below num (told Arg [] below below (nothing ctx below))))
 
-  pub tells_number_runs : (kind : Hook) (n : ℕ) (below : List ValType) → IsWord n → hook_params kind ≡ I32 ∷ []
+  pub tells_number_runs : (kind : Hook) (n : ℕ) (below : List ValType) → FitsU32 n → hook_params kind ≡ I32 ∷ []
       → Sequence ctx (tells_number s kind n) below below
   tells_number_runs kind n below word takes =
       constant n (calls s kind ∷ []) below below (word_test n word)
       (subst (λ params. Sequence ctx (calls s kind ∷ []) (reverse params ++ below) below) takes
       (told kind [] below below (nothing ctx below)))
 
-  pub load_runs : (at : MemArg) (access : Access) (below : List ValType) → IsWord at.offset
+  pub load_runs : (at : MemArg) (access : Access) (below : List ValType) → FitsU32 at.offset
       → nat_lt access.width (2 ^ 32) ≡ true → Sequence ctx (before_load s at access) (I32 ∷ below) (I32 ∷ below)
   load_runs at access below offset width =
       let address = address_local s in
@@ -152,7 +150,7 @@ module _ (s : Site) (ctx : Context) (has : HasHooks s ctx) where
       (told Load last below (I32 ∷ below)
       (get address I32 [] below (I32 ∷ below) has.address (nothing ctx (I32 ∷ below))))))
 
-  pub store_runs : (at : MemArg) (access : Access) (below : List ValType) → IsWord at.offset
+  pub store_runs : (at : MemArg) (access : Access) (below : List ValType) → FitsU32 at.offset
       → nat_lt access.width (2 ^ 32) ≡ true → IsTrue (is_number access.ty)
       → Sequence ctx (before_store s at access) (access.ty ∷ I32 ∷ below) (access.ty ∷ I32 ∷ below)
   store_runs at access below offset width num =
@@ -171,7 +169,7 @@ module _ (s : Site) (ctx : Context) (has : HasHooks s ctx) where
       (get address I32 _ below end has.address
       (get value access.ty [] (I32 ∷ below) end there (nothing ctx end)))))))))
 
-  pub global_runs : (kind : Hook) (global : ℕ) (ty : ValType) (below : List ValType) → IsWord global
+  pub global_runs : (kind : Hook) (global : ℕ) (ty : ValType) (below : List ValType) → FitsU32 global
       → hook_params kind ≡ I32 ∷ I64 ∷ [] → IsTrue (is_number ty)
       → Sequence ctx (tells_global s kind global ty) (ty ∷ below) (ty ∷ below)
   global_runs kind global ty below word takes num =
@@ -255,7 +253,7 @@ module _ (s : Site) (ctx : Context) (has : HasHooks s ctx) where
       let e : local + 1 + place ≡ local + suc place = omega arith in
       (found.0, ap (slice_get ctx.locals) e ∙ found.1)))
 
-  pub enter_runs : (params : List ValType) → IsWord s.func
+  pub enter_runs : (params : List ValType) → FitsU32 s.func
       → ((place : ℕ) (ty : ValType) → slice_get params place ≡ Some ty
       → IsTrue (is_number ty) × (slice_get ctx.locals place ≡ Some ty))
       → Sequence ctx (inserted_at_enter s params) [] []

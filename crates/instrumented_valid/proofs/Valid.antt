@@ -1,8 +1,8 @@
 -- Instrumented modules are valid.
-use Rattle.std.proofs.Common.{◌≡◌, ◌≢◌, ℕ, ◌+◌, ◌^◌, ◌<◌, ◌≤◌, List, [], ◌∷◌, ◌++◌, length, map, reverse, Option, Some, None, Bool, true, false, cond, IsTrue, nat_lt, slice_get, option_map, option_and_then, All, refl, sym, ap, ◌∙◌, subst, arith, length-append, append-nil}
+use Rattle.std.proofs.Common.{◌≡◌, ◌≢◌, ℕ, ◌+◌, ◌^◌, ◌<◌, ◌≤◌, List, [], ◌∷◌, ◌++◌, length, map, reverse, Option, Some, None, IsTrue, slice_get, option_map, option_and_then, All, refl, sym, ap, ◌∙◌, subst, arith, length-append, append-nil}
 use Rattle.std.specs.Prelude.{IfSome, AllPairs}
 use Rattle.std.specs.List.{AllByRecursion}
-use Rattle.std.proofs.lemmas.List.{append_assoc, append_cancel_right, length-map, get_or-map}
+use Rattle.std.proofs.lemmas.List.{append_assoc, length-map, get_or-map}
 use Rattle.std.proofs.lemmas.List.Elements.{recursion_from_All, All-from_recursion, All-append, All-map, All-weaker}
 use Rattle.std.proofs.lemmas.Option.{slice_get_within}
 use Rattle.list_laws.proofs.Lists.{get_front, all_at}
@@ -22,12 +22,12 @@ use Rattle.wasm_syntax.specs.declared.modules.Export.{Export}
 use Rattle.wasm_syntax.specs.declared.modules.ExportKind.{ExportKind}
 use Rattle.wasm_syntax.specs.declared.modules.ExportKind.TheVariants as export
 use Rattle.wasm_syntax.specs.declared.modules.Func.{Func}
-use Rattle.wasm_syntax.specs.declared.modules.Global.{Global}
 use Rattle.wasm_syntax.specs.declared.modules.ElemSeg.{ElemSeg}
 use Rattle.wasm_syntax.specs.declared.modules.ElemSeg.TheVariants.{Active, Declared}
 use Rattle.wasm_syntax.specs.declared.modules.DataSeg.{DataSeg}
 use Rattle.wasm_syntax.specs.Encoding.Forms.{AreCoreInstrs, IsCoreModule}
-use Rattle.wasm_syntax.specs.Index.{of_kind, func_import, func_indices, imported_funcs, type_at, func_type, imported_globals, all_globals}
+use Rattle.wasm_syntax.specs.Encoding.Encodable.{FitsU32}
+use Rattle.wasm_syntax.specs.Index.{of_kind, func_import, func_indices, imported_funcs, type_at, func_type, all_globals}
 use Rattle.wasm_syntax.specs.Nest.{Nest, Empty, InBlock, flat, nest_of}
 use Rattle.wasm_syntax.specs.Typing.{Context, is_number, results_of, inside, IsTyped}
 use Rattle.wasm_syntax.specs.Validity.{IsFuncType, IsImport, IsDeclaredFunc, IsGlobal, IsConstant, IsStart, IsElem, IsData, IsThere, IsValidOutside, IsTypedFunc, IsValid, single, immutable_type, constant_type, each_local, body_context}
@@ -39,8 +39,9 @@ use Rattle.hook_spec.specs.Insertions.{Site, value_local, inserted_at_enter, ins
 use Rattle.hook_spec.specs.Instrumented.{before_nest, instrumented_nest, instrumented_body, with_added_locals, site_of, instrumented_func, each_func, hook_types, hook_import, renumbered_kind, renumbered_export, renumbered_elem, instrumented_module}
 use Rattle.hook_spec.specs.Laws.{BodiesAreInstrumented, InstrumentedKeepsIndices, InstrumentedKeepIndices}
 use Rattle.instrumented_valid.specs.Laws.{HasWordOffset, HasWords, InstrumentedAreValid}
-use Rattle.instrumented_valid.proofs.Pieces.{HasHooks, IsWord, typed_after, enter_runs, tells_number_runs}
+use Rattle.instrumented_valid.proofs.Pieces.{HasHooks, typed_after, enter_runs, tells_number_runs}
 use Rattle.instrumented_valid.proofs.Nests.{Widens, IsTold, told_parts, typed_round}
+use Rattle.instrumented_valid.proofs.Indices.{type_kept, globals_kept, renumbered_there}
 use Rattle.instrumented_valid.proofs.Parts.{hook_types_good, added, numbers_added, added_at, block_results, block_type_good, body_labels, told_all, global_numbers}
 
 -- ---- the module
@@ -56,26 +57,14 @@ module _ (bodies_are_instrumented : BodiesAreInstrumented) (instrumented_keep_in
   more_types : length hooked.types ≡ length m.types + 5
   more_types = length-append m.types hook_types
 
-  more_funcs : length (func_indices hooked) ≡ length (func_indices m) + 15
-  more_funcs =
-      let a = length-append (of_kind func_import hooked.imports) (map (λ (f : Func). f.ty) hooked.funcs) in
-      let b = length-append (of_kind func_import m.imports) (map (λ (f : Func). f.ty) m.funcs) in
-      let c = length-map hooked.funcs (λ (f : Func). f.ty) in
-      let d = length-map m.funcs (λ (f : Func). f.ty) in
-      let e = keeps.imports in
-      let f = keeps.defined in omega (arith, a, b, c, d, e, f)
-
-  type_kept : (t : ℕ) (ty : FuncType) → type_at m t ≡ Some ty → type_at hooked t ≡ Some ty
-  type_kept t ty h = get_front m.types hook_types t (slice_get_within m.types t ty h) ∙ h
-
-  func_good : (f : ℕ) (ty : FuncType) → func_type m f ≡ Some ty → IsFuncType ty × IsWord f
+  func_good : (f : ℕ) (ty : FuncType) → func_type m f ≡ Some ty → IsFuncType ty × FitsU32 f
   func_good f ty h =
       let found = and_then_some (slice_get (func_indices m) f) (type_at m) ty h in
       let within = slice_get_within (func_indices m) f found.0 found.1 in
       let few = words.funcs in
       (all_at IsFuncType m.types found.0 ty valid.outside.types found.2, omega (arith, within, few))
 
-  global_good : (x : ℕ) (g : GlobalType) → slice_get (all_globals m) x ≡ Some g → IsTrue (is_number g.ty) × IsWord x
+  global_good : (x : ℕ) (g : GlobalType) → slice_get (all_globals m) x ≡ Some g → IsTrue (is_number g.ty) × FitsU32 x
   global_good x g h =
       let within = slice_get_within (all_globals m) x g h in
       let few = words.globals in (
@@ -85,7 +74,7 @@ module _ (bodies_are_instrumented : BodiesAreInstrumented) (instrumented_keep_in
 
   -- ---- one body
 
-  module _ (index : ℕ) (func : Func) (t : IsTypedFunc m func) (low : IsWord index) where
+  module _ (index : ℕ) (func : Func) (t : IsTypedFunc m func) (low : FitsU32 index) where
     abbrev site : Site
     site = site_of m index t.ty func
 
@@ -157,7 +146,7 @@ module _ (bodies_are_instrumented : BodiesAreInstrumented) (instrumented_keep_in
           func_good = func_good;
           type_good = λ i ty h. all_at IsFuncType m.types i ty valid.outside.types h;
           global_good = global_good;
-          types = type_kept;
+          types = type_kept instrumented_keep_indices m digest;
           funcs = keeps.type_of;
           tables = keeps.tables;
           memories = keeps.memories;
@@ -203,7 +192,7 @@ module _ (bodies_are_instrumented : BodiesAreInstrumented) (instrumented_keep_in
         record {
           ty = t.ty;
           nest = instrumented_body site t.ty t.nest;
-          has_type = type_kept func.ty t.ty t.has_type;
+          has_type = type_kept instrumented_keep_indices m digest func.ty t.ty t.has_type;
           is_body = record {
             nested = bodies_are_instrumented.nested site t.ty t.nest t.is_body.nested;
             written = refl;
@@ -242,7 +231,7 @@ module _ (bodies_are_instrumented : BodiesAreInstrumented) (instrumented_keep_in
       → AllByRecursion (IsTypedFunc hooked) (each_func m (instrumented_func m) index funcs)
   all_typed index [] few typed cores offsets = tt
   all_typed index (func ∷ funcs) few typed cores offsets =
-      let low : IsWord index = omega (arith, few) in
+      let low : FitsU32 index = omega (arith, few) in
       let fewer : index + 1 + length funcs ≤ 2 ^ 32 = omega (arith, few) in (
         subst (IsTypedFunc hooked) (sym (made_is index func typed.0 low))
             (func_typed index func typed.0 low (func_told func typed.0 cores.0 offsets.0)),
@@ -254,7 +243,7 @@ module _ (bodies_are_instrumented : BodiesAreInstrumented) (instrumented_keep_in
       → AllByRecursion (IsDeclaredFunc hooked) (each_func m (instrumented_func m) index funcs)
   all_declared index [] few typed declared = tt
   all_declared index (func ∷ funcs) few typed declared =
-      let low : IsWord index = omega (arith, few) in
+      let low : FitsU32 index = omega (arith, few) in
       let fewer : index + 1 + length funcs ≤ 2 ^ 32 = omega (arith, few) in (
         subst (IsDeclaredFunc hooked) (sym (made_is index func typed.0 low))
             (func_declared index func typed.0 low declared.0),
@@ -313,13 +302,9 @@ module _ (bodies_are_instrumented : BodiesAreInstrumented) (instrumented_keep_in
 
   -- ---- constants
 
-  globals_kept : imported_globals hooked ≡ imported_globals m
-  globals_kept =
-      append_cancel_right (imported_globals hooked) (imported_globals m) (map (λ (g : Global). g.ty) m.globals)
-      keeps.globals
-
   constant_kept : (i : Instr) → constant_type hooked i ≡ constant_type m i
-  constant_kept (GlobalGet x) = ap (λ gs. option_and_then immutable_type (slice_get gs x)) globals_kept
+  constant_kept (GlobalGet x) =
+      ap (λ gs. option_and_then immutable_type (slice_get gs x)) (globals_kept instrumented_keep_indices m digest)
   constant_kept (Const v) = refl
   constant_kept i = refl
 
@@ -333,16 +318,8 @@ module _ (bodies_are_instrumented : BodiesAreInstrumented) (instrumented_keep_in
 
   -- ---- what has an index
 
-  renumbered_there : (x : ℕ) → x < length (func_indices m)
-      → renumber (imported_funcs m) x < length (func_indices hooked)
-  renumbered_there x h = go (nat_lt x (imported_funcs m))
-    where
-      go : (b : Bool) → cond b x (x + 15) < length (func_indices hooked)
-      go true = let more = more_funcs in omega (arith, h, more)
-      go false = let more = more_funcs in omega (arith, h, more)
-
   there : (kind : ExportKind) → IsThere m kind → IsThere hooked (renumbered_kind (imported_funcs m) kind)
-  there (export.Func x) h = renumbered_there x h
+  there (export.Func x) h = renumbered_there instrumented_keep_indices m digest x h
   there (export.Table x) h = subst (λ (ts : List Limits). x < length ts) (sym keeps.tables) h
   there (export.Memory x) h = subst (λ (ms : List Limits). x < length ms) (sym keeps.memories) h
   there (export.Global x) h = subst (λ (gs : List GlobalType). x < length gs) (sym keeps.globals) h
@@ -375,7 +352,8 @@ module _ (bodies_are_instrumented : BodiesAreInstrumented) (instrumented_keep_in
   funcs_there funcs h =
       All-map (λ f. IsThere hooked (export.Func f)) (renumber (imported_funcs m)) funcs
       (All-weaker (λ f. IsThere m (export.Func f))
-      (λ f. IsThere hooked (export.Func (renumber (imported_funcs m) f))) renumbered_there funcs h)
+      (λ f. IsThere hooked (export.Func (renumber (imported_funcs m) f)))
+      (renumbered_there instrumented_keep_indices m digest) funcs h)
 
   elem_good : (e : ElemSeg) → IsElem m e → IsElem hooked (renumbered_elem (imported_funcs m) e)
   elem_good (Active table offset funcs) h =

@@ -8,6 +8,7 @@ use Rattle.wasm_syntax.specs.Profile.{IsAccepted}
 use Rattle.host_script.specs.declared.scripts.LinkFault.{LinkFault}
 use Rattle.host_script.specs.declared.scripts.Script.{Script}
 use Rattle.host_script.specs.declared.scripts.Supply.{Supply}
+use Rattle.host_script.specs.Fits.{Fits}
 use Rattle.host_script.specs.Supply.{supply_of}
 use Rattle.history_spec.specs.Instantiation.{instantiate}
 use Rattle.history_spec.specs.Store.{Store}
@@ -23,9 +24,15 @@ InstrumentedAreRunnable =
     (m : Module) (digest : List ℕ) → IsAccepted false m → HasBytes m → IsCoreModule m → HasWords m
     → IsRunnable (instrumented_module m digest)
 
--- a script for a module as its text is read against the instrumented one, in which hooks do nothing
+-- a script for a module with the functions that it names renumbered, in which hooks do nothing
 abbrev pub script_with_hooks : Module → Script → Script
 script_with_hooks m script = hooked_script (imported_funcs m) (renumbered_script (imported_funcs m) script)
+
+-- it fits the instrumented module where the script fits the original
+abbrev pub InstrumentedAreFitted : Type 0
+InstrumentedAreFitted =
+    (m : Module) (digest : List ℕ) (script : Script) → Fits m script
+    → Fits (instrumented_module m digest) (script_with_hooks m script)
 
 -- it supplies what it supplies for the original, or fails at the same import
 abbrev pub InstrumentedAreSupplied : Type 0

@@ -1,9 +1,18 @@
 // The laws of instrumented modules, each the contract of a function; the statements stand in `specs/`.
 
-ghost use Rattle.instrumented_valid.specs.Laws.{InstrumentedAreAccepted, InstrumentedAreValid};
-ghost use Rattle.instrumented_valid.specs.Links.{InstrumentedAreInstantiated, InstrumentedAreRunnable, InstrumentedAreSupplied};
+ghost use Rattle.instrumented_valid.specs.Laws.{EncodableHaveWords, InstrumentedAreAccepted, InstrumentedAreValid};
+ghost use Rattle.instrumented_valid.specs.Links.{InstrumentedAreFitted, InstrumentedAreInstantiated, InstrumentedAreRunnable, InstrumentedAreSupplied};
 
 use hook_spec::{bodies_are_instrumented, instrumented_keep_indices};
+use wasm_syntax::encoding_forms;
+
+/// A module that is encoded in the form Core, and has at most 2^32 functions and globals, is one whose instrumented
+/// module the other laws speak of.
+pub fn encodable_have_words()
+    ensures { EncodableHaveWords }
+{
+    encoding_forms();
+}
 
 /// The instrumented module of a valid module of the form Core, whose offsets and indices of functions and globals are
 /// words, is valid (Core 1.0, 3.4.10).
@@ -28,6 +37,13 @@ pub fn instrumented_are_runnable()
     ensures { InstrumentedAreRunnable }
 {
     instrumented_are_accepted();
+}
+
+/// A script that fits the original fits the instrumented module, with its functions renumbered and hooks answered.
+pub fn instrumented_are_fitted()
+    ensures { InstrumentedAreFitted }
+{
+    instrumented_keep_indices();
 }
 
 /// A script supplies for the instrumented module what it supplies for the original, or fails at the same import.

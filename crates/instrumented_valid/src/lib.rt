@@ -5,6 +5,7 @@
 pub mod laws;
 
 pub use laws::{
-    instrumented_are_accepted, instrumented_are_instantiated, instrumented_are_runnable,
-    instrumented_are_supplied, instrumented_are_valid,
+    encodable_have_words, instrumented_are_accepted, instrumented_are_fitted,
+    instrumented_are_instantiated, instrumented_are_runnable, instrumented_are_supplied,
+    instrumented_are_valid,
 };
