@@ -1,9 +1,10 @@
 -- A call of an import comes to the arm that answers it.
-use Rattle.std.proofs.Common.{◌≡◌, ℕ, zero, suc, ◌+◌, ◌/◌, ◌%◌, ◌^◌, ◌<◌, ◌≤◌, List, [], ◌∷◌, ◌++◌, length, Some, None, Bool, true, false, nat_lt, slice_get, slice_index, replicate, refl, sym, ap, ◌∙◌, subst, arith, option_map}
+use Rattle.std.proofs.Common.{◌≡◌, ℕ, zero, suc, ◌+◌, ◌*◌, ◌/◌, ◌%◌, ◌^◌, ◌<◌, ◌≤◌, List, [], ◌∷◌, ◌++◌, length, drop, Some, None, Bool, true, false, nat_lt, min, slice_get, slice_index, replicate, refl, sym, ap, ◌∙◌, subst, arith, option_map}
 use Rattle.std.specs.Prelude.{map}
 use Rattle.std.specs.List.{range_with_len, slice_index_or}
 use Rattle.std.proofs.lemmas.Bool.Decides.{nat_tests}
-use Rattle.std.proofs.lemmas.List.{length-map}
+use Rattle.std.proofs.lemmas.List.{length-map, length-take}
+use Rattle.std.proofs.lemmas.List.FromFn.{length-range_with_len}
 use Rattle.std.proofs.lemmas.Option.{slice_get-map, slice_get_within}
 use Rattle.list_laws.proofs.Lists.{get_after_by}
 use Rattle.wasm_opcodes.specs.declared.TheConstants.{I32_DIV_U, I32_REM_U}
@@ -18,6 +19,7 @@ use Rattle.wasm_syntax.specs.Nest.{Nest, Empty, Plain}
 use Rattle.wasm_syntax.specs.Index.{all_globals, imported_funcs}
 use Rattle.host_script.specs.declared.scripts.ResponseEnd.TheVariants.{Trap as EndsInTrap}
 use Rattle.trace_model.specs.declared.tapes.Segment.{Segment}
+use Rattle.trace_model.specs.declared.tapes.Origin.TheVariants.{Import as FromImport}
 use Rattle.history_spec.specs.declared.entries.Entry.{Entry}
 use Rattle.history_spec.specs.declared.entries.Entry.TheVariants.{Enter, Step}
 use Rattle.history_spec.specs.Code.{Code, code_of, definition, i32_value, signature, types_of, zero_of}
@@ -35,12 +37,15 @@ use Rattle.replay_gen.specs.Functions.{group_call, group_count, group_nest, grou
 use Rattle.replay_gen.specs.Fragments.{start_index}
 use Rattle.replay_spec.specs.TapeRun.{pause}
 use Rattle.outside_spec.specs.Items.{Item, Makes, Changes, Steps, change_at, changes_of, entries_in, is_block, target_of}
+use Rattle.outside_spec.specs.Steps.{StepCount}
 use Rattle.generated_steps.specs.Leads.{Watched, Place, Leads, IsOutside, InPlace, Behind, Standing, standing}
 use Rattle.single_steps.specs.Single.{outside_step}
 use Rattle.generated_steps.specs.Laws.{DispatchesReachArms, ReachesArm, SelectorsCount, LeadsRunAlong, selector}
 use Rattle.single_steps.specs.Laws.{StepsLead}
 use Rattle.generated_steps.proofs.One.{did}
-use Rattle.generated_effects.specs.Counts.{changes_in}
+use Rattle.generated_effects.specs.Counts.{changes_in, steps_in}
+use Rattle.binary_follows.proofs.Bounded.{most_before}
+use Rattle.binary_follows.proofs.DispatchSteps.{dispatch_items, dispatch_counted}
 use Rattle.generated_effects.proofs.Items.{entries_of_both, changes_of_both}
 use Rattle.generated_effects.proofs.Effects.{set_there}
 use Rattle.binary_follows.specs.Playable.{layout_of}
@@ -63,7 +68,7 @@ pub record StepLaws : Type 0 where
 -- control comes from a place to an activation of the host that has these segments to play; on the way nothing is shown
 -- or changed
 pub record IsReached (m : Module) (code : Code) (start : Place) (store : Store) (counts : List ℕ)
-    (stack : List Activation) (begun : List (List Segment)) : Type 0 where
+    (stack : List Activation) (begun : List (List Segment)) (most : StepCount) : Type 0 where
   pub items : List Item
   pub own : List Activation
   pub inside : List ℕ
@@ -71,6 +76,8 @@ pub record IsReached (m : Module) (code : Code) (start : Place) (store : Store) 
   pub beside : AreBeside m [] stack begun own inside
   pub silent : entries_in items ≡ []
   pub unchanged : changes_in items ≡ []
+  pub few : (steps_in items).steps ≤ most.steps
+  pub few_blocks : (steps_in items).blocks ≤ most.blocks
 
 -- ---- a call between functions outside the original
 
@@ -369,8 +376,26 @@ module _ (laws : StepLaws) (m : Module) (plan : Plan) (code : Code) (is : IsRepl
         ∙ ap (option_map (segments_code m)) (call_there calls_of number call_within ∙ there)
         ∙ ap (λ l. Some l) some.is))
 
+    dispatch_steps : (steps_in (dispatch_items (length arms) (length group_arms))).steps ≤ 16
+    dispatch_steps = let few = (dispatch_counted (length arms) (length group_arms)).0 in omega (arith, few)
+
+    dispatch_blocks : (steps_in (dispatch_items (length arms) (length group_arms))).blocks
+        ≤ 259 + length calls_of / 256
+    dispatch_blocks =
+        let sum = (dispatch_counted (length arms) (length group_arms)).1 in
+        let groups : length arms ≡ (length calls_of + 255) / 256 =
+        length-map (range_with_len first (group_count (length calls_of))) (group_call local)
+        ∙ length-range_with_len first (group_count (length calls_of)) in
+        let same : length group_arms ≡ length (group_at calls_of number call_within) =
+        length-map (group_at calls_of number call_within) (segments_code m) in
+        let most : length (group_at calls_of number call_within)
+        ≡ min GROUP_CALLS (length (drop (GROUP_CALLS * (number / GROUP_CALLS)) calls_of)) =
+        length-take GROUP_CALLS (drop (GROUP_CALLS * (number / GROUP_CALLS)) calls_of) in
+        omega (arith, sum, groups, same, most)
+
     pub answers_call : IsReached m code call_place store (counted before import)
         (InImport import args (pause ∷ []) EndsInTrap ∷ InModule caller ∷ stack) (playing ∷ around)
+        (most_before plan (FromImport import))
     answers_call =
         let blocks = replicate (suc (length arms)) (Steps true) in
         let more_blocks = replicate (suc (length group_arms)) (Steps true) in
@@ -403,4 +428,6 @@ module _ (laws : StepLaws) (m : Module) (plan : Plan) (code : Code) (is : IsRepl
               (to_group.at + 1 + 1) typed below func_past refl refl refl under;
           silent = steps.silent;
           unchanged = steps.unchanged;
+          few = dispatch_steps;
+          few_blocks = dispatch_blocks;
         }

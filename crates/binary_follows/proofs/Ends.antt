@@ -1,5 +1,6 @@
 -- The activation of the host ends with its segment: an import returns, the host's work ends, or the host traps.
 use Rattle.std.proofs.Common.{◌≡◌, ℕ, ◌<◌, ◌≤◌, List, [], ◌∷◌, ◌++◌, length, reverse, Option, None, false, refl, sym, ap, ◌∙◌, subst, arith, append-nil, inl, option_to_list}
+use Rattle.std.specs.Prelude.{map}
 use Rattle.wasm_syntax.specs.declared.values.Val.{Val}
 use Rattle.wasm_syntax.specs.declared.signatures.FuncType.{FuncType}
 use Rattle.wasm_syntax.specs.declared.instructions.Instr.TheVariants.{Return, Unreachable}
@@ -26,6 +27,7 @@ use Rattle.replay_plan.specs.Plans.{left_of}
 use Rattle.replay_gen.specs.Fragments.{start_index}
 use Rattle.replay_spec.specs.TapeRun.{pause, after_next}
 use Rattle.outside_spec.specs.Items.{Steps, Makes}
+use Rattle.outside_spec.specs.Steps.{steps_left}
 use Rattle.generated_steps.specs.Leads.{Place, Leads, InPlace, Behind, Standing, standing}
 use Rattle.single_steps.specs.Ends.{Ends}
 use Rattle.binary_follows.specs.Playable.{layout_of}
@@ -35,7 +37,8 @@ use Rattle.binary_follows.proofs.Sides.{appended_side, below_start, import_side,
 use Rattle.binary_follows.proofs.Settled.{delivered, returned, settled}
 use Rattle.binary_follows.proofs.Codes.{topmost_pushed}
 use Rattle.binary_follows.proofs.Answered.{step_alone, unchanged_by}
-use Rattle.binary_follows.proofs.Together.{Within, none_first, IsPlayed, IsEnded, Follows}
+use Rattle.binary_follows.proofs.Together.{Ending, none_first, IsPlayed, IsEnded, Follows}
+use Rattle.binary_follows.proofs.Bounded.{bounded_before, bounded_return, made_bounded, none_bounded}
 use Rattle.binary_follows.proofs.Parts.{RunLaws, follows_after, follows_settled}
 
 module _ (laws : RunLaws) (m : Module) (plan : Plan) (code : Code) (store : Store) (counts : List ℕ) where
@@ -109,14 +112,14 @@ module _ (laws : RunLaws) (m : Module) (plan : Plan) (code : Code) (store : Stor
         entries : List Entry
         entries = Step base.func number [] [] None ∷ Exit base.func results ∷ []
 
-    import_returns : Follows m plan code premise (Within segments) behind_place
+    import_returns : Follows m plan code premise (Ending m plan 1 segments) behind_place
         (after_next (code_of m) store counts (InImport import args (pause ∷ []) EndsInTrap ∷ InModule caller ∷ stack)
         segments came (Gives result))
     import_returns = go own inside under
       where
         go : (own : List Activation) (inside : List ℕ)
             → AreBeside m ty.results (InModule caller ∷ stack) (left_of (imported_funcs m) segments).begun own inside
-            → Follows m plan code premise (Within segments)
+            → Follows m plan code premise (Ending m plan 1 segments)
             (record {
               config = record { store = beside; stack = InModule behind_frame ∷ own; counts = [] };
               inside = behind.func ∷ inside;
@@ -135,7 +138,7 @@ module _ (laws : RunLaws) (m : Module) (plan : Plan) (code : Code) (store : Stor
             behind_frame (InModule caller ∷ own) store counts (caller.func ∷ inside) (ImportReturn import results ∷ [])
             (Step behind.func behind_number [] [] None ∷ Exit behind.func results ∷ [])
             (deliver (InModule caller ∷ stack) results) (deliver (InModule caller ∷ own) results)
-            (imports_in stack) segments came premise
+            (imports_in stack) segments came premise 1 ([] ∷ begun)
             (record {
               stands = refl;
               makes =
@@ -156,13 +159,21 @@ module _ (laws : RunLaws) (m : Module) (plan : Plan) (code : Code) (store : Stor
               quiet = λ outside. unchanged_by (watched m code).globals beside Return Empty
                   (execute code beside behind_frame) (λ operands. refl);
               stretch = λ s here. (refl, refl);
+              bounded = λ later keeps rest c.
+                  bounded_before plan ([] ∷ begun) (left_of (imported_funcs m) segments).calls (imported_funcs m) 0 1
+                  (Steps false ∷ []) (map Makes (ImportReturn import results ∷ later) ++ rest) refl (omega arith) refl
+                  (made_bounded plan 0 (imported_funcs m) ([] ∷ begun) (left_of (imported_funcs m) segments).calls
+                  (ImportReturn import results ∷ []) later rest keeps
+                  (bounded_return plan begun (left_of (imported_funcs m) segments).calls (imported_funcs m) import
+                  (steps_left (imported_funcs m) rest) c));
             })
             (settled m begun stack own inside caller ty' results typed caller_arity caller_past beneath
-            (λ given total. returned m begun ty'.results stack own inside beneath caller.func given caller_side total))
+            (λ given total. returned m played.one begun ty'.results
+            (played.one caller.func ty' typed) stack own inside beneath caller.func given caller_side total))
             played
 
     pub returns_result : (labels : List Label) (number : ℕ)
-        → Follows m plan code premise (Within segments)
+        → Follows m plan code premise (Ending m plan 2 segments)
         (standing s beside (reverse results ++ []) labels (Plain Return Empty) number)
         (after_next (code_of m) store counts (InImport import args (pause ∷ []) EndsInTrap ∷ InModule caller ∷ stack)
         segments came (Gives result))
@@ -170,10 +181,14 @@ module _ (laws : RunLaws) (m : Module) (plan : Plan) (code : Code) (store : Stor
         let r =
         after_next (code_of m) store counts (InImport import args (pause ∷ []) EndsInTrap ∷ InModule caller ∷ stack)
         segments came (Gives result) in
-        follows_after laws m plan code premise (Within segments) (Within segments)
+        follows_after laws m plan code premise (Ending m plan 1 segments)
+        (Ending m plan 2 segments)
         (standing s beside (reverse results ++ []) labels (Plain Return Empty) number)
         behind_place (Steps false ∷ []) (group_returns labels number) refl
-        (λ pr rest c. c) r.entries r.next import_returns
+        (λ pr rest c. c)
+        (λ rest c. bounded_before plan ([] ∷ (left_of (imported_funcs m) segments).begun)
+        (left_of (imported_funcs m) segments).calls (imported_funcs m) 1 2 (Steps false ∷ []) rest refl (omega arith)
+        refl c) r.entries r.next import_returns
 
   -- ---- the run is over
 
@@ -183,7 +198,7 @@ module _ (laws : RunLaws) (m : Module) (plan : Plan) (code : Code) (store : Stor
     top = record { frame = base; below = below; counts = []; inside = base.func ∷ inside }
 
     -- the host traps
-    pub traps : IsEnded m code premise (Within segments)
+    pub traps : IsEnded m code premise (Ending m plan 7 segments)
         (standing top beside [] labels (Plain Unreachable Empty) number)
         (HostTrap ∷ []) HostTrapped
     traps =
@@ -201,6 +216,12 @@ module _ (laws : RunLaws) (m : Module) (plan : Plan) (code : Code) (store : Stor
               }) (ap trapped_on own_side)).0 (Behind own_side));
           shown = refl;
           claimed = λ pr. (refl, none_first segments);
+          bounded =
+              bounded_before plan ([] ∷ (left_of (imported_funcs m) segments).begun)
+              (left_of (imported_funcs m) segments).calls (imported_funcs m) 0 7 (Steps false ∷ [])
+              (Makes HostTrap ∷ []) refl (omega arith) refl
+              (none_bounded plan ([] ∷ (left_of (imported_funcs m) segments).begun)
+              (left_of (imported_funcs m) segments).calls (imported_funcs m));
         }
       where
         own_side : side (layout_of m) base.func ≡ Appended
@@ -218,7 +239,7 @@ module _ (laws : RunLaws) (m : Module) (plan : Plan) (code : Code) (store : Stor
   -- the host's work ends
   pub work_ends : (segments : List Segment) (premise : Type 0) (base : Frame) (labels : List Label) (number : ℕ)
       → start_index m ≤ base.func → base.arity ≡ 0
-      → IsEnded m code premise (Within segments)
+      → IsEnded m code premise (Ending m plan 7 segments)
       (standing (record { frame = base; below = InMain [] ∷ []; counts = []; inside = base.func ∷ [] }) beside [] labels
       (Plain Return Empty) number) [] Ended
   work_ends segments premise base labels number past arity =
@@ -240,6 +261,12 @@ module _ (laws : RunLaws) (m : Module) (plan : Plan) (code : Code) (store : Stor
             }) refl).0 (Behind own_side));
         shown = refl;
         claimed = λ pr. (refl, none_first segments);
+        bounded =
+            bounded_before plan ([] ∷ (left_of (imported_funcs m) segments).begun)
+            (left_of (imported_funcs m) segments).calls (imported_funcs m) 0 7 (Steps false ∷ []) [] refl (omega arith)
+            refl
+            (none_bounded plan ([] ∷ (left_of (imported_funcs m) segments).begun)
+            (left_of (imported_funcs m) segments).calls (imported_funcs m));
       }
     where
       own_side : side (layout_of m) base.func ≡ Appended

@@ -1,6 +1,6 @@
 -- A step of the host in the tape's run: its effects are done, and control leaves it.
-use Rattle.std.proofs.Common.{◌≡◌, ℕ, ◌≤◌, List, [], ◌∷◌, ◌++◌, length, reverse, Some, true, false, replicate, sym, ap, ◌∙◌, subst, arith, option_to_list}
-use Rattle.std.specs.Prelude.{map}
+use Rattle.std.proofs.Common.{◌≡◌, ℕ, ◌+◌, ◌*◌, ◌≤◌, Option, None, List, [], ◌∷◌, ◌++◌, length, reverse, Some, true, false, replicate, sym, ap, ◌∙◌, subst, arith, option_to_list}
+use Rattle.std.specs.Prelude.{map, sum_by}
 use Rattle.std.specs.List.{All, list_all}
 use Rattle.std.proofs.lemmas.List.{append-nil, length-map}
 use Rattle.wasm_syntax.specs.declared.values.Val.{Val}
@@ -17,6 +17,7 @@ use Rattle.trace_model.specs.declared.tapes.Next.TheVariants.{Call as Calls, Ret
 use Rattle.trace_model.specs.declared.tapes.Origin.{Origin}
 use Rattle.trace_model.specs.declared.tapes.Segment.{Segment}
 use Rattle.trace_model.specs.Fitting.{effect_fits, left}
+use Rattle.trace_model.specs.Weight.{effect_weight, next_weight}
 use Rattle.history_spec.specs.Code.{Code, code_of, types_of}
 use Rattle.history_spec.specs.Store.{Store}
 use Rattle.history_spec.specs.Configuration.{Label, Frame, Activation, InModule, InMain, InImport}
@@ -30,7 +31,7 @@ use Rattle.outside_spec.specs.Items.{Item, Steps, entries_in}
 use Rattle.outside_spec.specs.Stretches.{AreSameChanges, Stretches, stretches_from}
 use Rattle.generated_steps.specs.Leads.{Leads, IsOutside, Behind, Standing, standing}
 use Rattle.generated_effects.specs.Laws.{AllGrowSizes, EffectsAreMade}
-use Rattle.generated_effects.specs.Counts.{changes_in}
+use Rattle.generated_effects.specs.Counts.{changes_in, steps_in}
 use Rattle.generated_effects.proofs.Does.{sequence_over}
 use Rattle.binary_follows.specs.Playable.{layout_of, WritesBytes}
 use Rattle.binary_follows.specs.Laws.{AreEffectsOfFirst}
@@ -42,7 +43,9 @@ use Rattle.binary_follows.proofs.Sound.{IsSound, effects_writable, grow_beside}
 use Rattle.binary_follows.proofs.EffectStores.{effects_beside}
 use Rattle.binary_follows.proofs.Groups.{next_some}
 use Rattle.binary_follows.proofs.Answered.{same_steps}
-use Rattle.binary_follows.proofs.Together.{AreWithin, AtHost, Within, AreFit, IsHostOn, IsPlayed, Follows}
+use Rattle.binary_follows.proofs.Together.{AreWithin, MakesFirst, Playing, WithinBy, AreFit, IsHostOn, IsPlayed, Follows}
+use Rattle.binary_follows.proofs.Settled.{HasOneResult}
+use Rattle.binary_follows.proofs.Bounded.{bounded_before, segment_steps, steps_counted, with_next}
 use Rattle.binary_follows.proofs.Parts.{silent_stretches, steps_stretches, RunLaws, follows_after, nothing_shown}
 use Rattle.binary_follows.proofs.Fitting.{IsFit, leaves_call, leaves_return}
 use Rattle.binary_follows.proofs.Plays.{ArePushed, calls_original, pushes}
@@ -58,7 +61,7 @@ module _ (laws : RunLaws) (effects_law : EffectsAreMade) (m : Module) (plan : Pl
     (many : length counts ≡ imported_funcs m)
     (calls : AreLeft plan.imports counts (left_of (imported_funcs m) later).calls)
     (fits : list_all (effect_fits m) effects ≡ true) (bytes : All WritesBytes effects)
-    (done : store_after_effects effects store ≡ Some after) where
+    (done : store_after_effects effects store ≡ Some after) (one : HasOneResult m) where
   abbrev begun : List (List Segment)
   begun = (left_of (imported_funcs m) later).begun
 
@@ -78,6 +81,8 @@ module _ (laws : RunLaws) (effects_law : EffectsAreMade) (m : Module) (plan : Pl
           number) items (standing s (with_own (counters counts) after) [] labels (sequence leaving Empty) at)
       pub silent : entries_in items ≡ []
       pub changes : AllGrowSizes store effects → AreSameChanges (changes_in items) effects
+      pub steps : (steps_in items).steps ≤ 8 * sum_by effect_weight effects
+      pub blocks : (steps_in items).blocks ≡ 0
 
     to_next : ComesToNext
     to_next =
@@ -101,6 +106,8 @@ module _ (laws : RunLaws) (effects_law : EffectsAreMade) (m : Module) (plan : Pl
               (ap (λ code. sequence code Empty) (sym some.is)) r.leads);
           silent = r.silent;
           changes = λ grows. r.changes (grow_beside own store after effects done grows);
+          steps = r.steps;
+          blocks = r.blocks;
         }
 
     -- the segment
@@ -109,7 +116,7 @@ module _ (laws : RunLaws) (effects_law : EffectsAreMade) (m : Module) (plan : Pl
 
     -- what is claimed there is so of the segment's beginning
     claimed_before : (items : List Item) → entries_in items ≡ [] → AreSameChanges (changes_in items) effects
-        → (rest : List Item) → Within later rest → AtHost (segment ∷ later) (items ++ rest)
+        → (rest : List Item) → AreWithin later (stretches_from rest) → MakesFirst (segment ∷ later) (items ++ rest)
     claimed_before items silent same rest c =
         let first = c.1 in
         let s = stretches_from rest in
@@ -126,52 +133,70 @@ module _ (laws : RunLaws) (effects_law : EffectsAreMade) (m : Module) (plan : Pl
 
     -- what follows there follows from the segment's beginning on
     after_effects_follows : (r : TapeResult)
-        → ((at : ℕ) → Follows m plan code (AllGrowSizes store effects) (Within later)
+        → ((at : ℕ) → Follows m plan code (AllGrowSizes store effects)
+        (WithinBy m plan (7 * next_weight next) (with_next next begun) later)
         (standing s (with_own (counters counts) after) [] labels (sequence leaving Empty) at) r)
-        → Follows m plan code (AllGrowSizes store effects) (AtHost (segment ∷ later))
+        → Follows m plan code (AllGrowSizes store effects) (Playing m plan segment later)
         (standing s (with_own (counters counts) store) [] labels
         (sequence (effects_code effects ++ leaving) Empty) number) r
     after_effects_follows r f =
         let t = to_next in
-        follows_after laws m plan code (AllGrowSizes store effects) (Within later)
-        (AtHost (segment ∷ later)) _ _ t.items
-        t.leads t.silent (λ grows rest c. claimed_before t.items t.silent (t.changes grows) rest c) r.entries r.next
+        follows_after laws m plan code (AllGrowSizes store effects)
+        (WithinBy m plan (7 * next_weight next) (with_next next begun) later) (Playing m plan segment later) _ _ t.items
+        t.leads t.silent (λ grows rest c. claimed_before t.items t.silent (t.changes grows) rest c)
+        (λ rest c.
+        let few = t.steps in
+        bounded_before plan (with_next next begun) (left_of (imported_funcs m) later).calls (imported_funcs m)
+        (7 * next_weight next) (segment_steps segment) t.items rest t.silent (omega (arith, few)) t.blocks c)
+        r.entries r.next
         (f t.at)
 
   -- values are pushed first
-  pushed_follows : (s : Standing) → IsOutside (layout_of m) s.frame.func → (labels : List Label) (number : ℕ)
+  pushed_follows : (more : ℕ) (mine : List (List Segment)) (s : Standing)
+      → IsOutside (layout_of m) s.frame.func → (labels : List Label) (number : ℕ)
       (values : List Val) (i : Instr) (rest : Nest) (nest : Nest) (r : TapeResult)
+      → length values + 2 ≤ more
       → nest ≡ sequence (map Const values) (Plain i rest)
-      → ((at : ℕ) → Follows m plan code (AllGrowSizes store effects) (Within later)
+      → ((at : ℕ) → Follows m plan code (AllGrowSizes store effects) (WithinBy m plan 2 mine later)
       (standing s (with_own (counters counts) after) (reverse values ++ []) labels (Plain i rest) at) r)
-      → Follows m plan code (AllGrowSizes store effects) (Within later)
+      → Follows m plan code (AllGrowSizes store effects) (WithinBy m plan more mine later)
       (standing s (with_own (counters counts) after) [] labels nest number) r
-  pushed_follows s outside labels number values i rest nest r e f =
+  pushed_follows more mine s outside labels number values i rest nest r few e f =
       subst
-      (λ nest. Follows m plan code (AllGrowSizes store effects) (Within later)
+      (λ nest. Follows m plan code (AllGrowSizes store effects) (WithinBy m plan more mine later)
       (standing s (with_own (counters counts) after) [] labels nest number) r)
       (sym e)
       (go (pushes laws m plan code is after counts s outside values labels i rest number))
     where
       go : ArePushed laws m plan code is after counts s outside values labels i rest number
-          → Follows m plan code (AllGrowSizes store effects) (Within later)
+          → Follows m plan code (AllGrowSizes store effects) (WithinBy m plan more mine later)
           (standing s (with_own (counters counts) after) [] labels
           (sequence (map Const values) (Plain i rest)) number) r
       go p =
           let steps = same_steps (length values) false in
           let items = replicate (length values) (Steps false) in
-          follows_after laws m plan code (AllGrowSizes store effects) (Within later) (Within later) _ _ items p.leads
+          follows_after laws m plan code (AllGrowSizes store effects) (WithinBy m plan 2 mine later)
+          (WithinBy m plan more mine later) _ _ items p.leads
           steps.silent
-          (λ grows more c. subst (AreWithin later) (sym (steps_stretches items more steps.silent steps.unchanged)) c)
+          (λ grows rest c. subst (AreWithin later) (sym (steps_stretches items rest steps.silent steps.unchanged)) c)
+          (λ rest c.
+          let counted = steps_counted (length values) in
+          let count = counted.0 in
+          bounded_before plan mine (left_of (imported_funcs m) later).calls (imported_funcs m) 2 more items rest
+          steps.silent (omega (arith, count, few)) counted.1 c)
           r.entries r.next (f p.at)
 
   sound_after : IsSound m after
   sound_after = (effects_writable m (counters counts) store after effects fits bytes sound done).1
 
   played : (opened : List ℕ) → AreFit m opened later → IsPlayed m plan after counts opened later
-  played opened fit = record { sound = sound_after; many = many; fits = fit; calls = calls }
+  played opened fit = record { one = one; sound = sound_after; many = many; fits = fit; calls = calls }
 
   -- ---- by how control leaves
+
+  result_weighs : (result : Option Val) → length (option_to_list result) + 2 ≤ 7 * next_weight (Gives result)
+  result_weighs None = omega arith
+  result_weighs (Some value) = omega arith
 
   -- a call, from either kind of activation
   calls_follow : (base : Frame) (below : List Activation) (inside : List ℕ) (labels : List Label) (number : ℕ)
@@ -182,7 +207,7 @@ module _ (laws : RunLaws) (effects_law : EffectsAreMade) (m : Module) (plan : Pl
       (InModule (waiting_frame m ty.results (innermost begun) base labels number) ∷ below) (base.func ∷ inside))
       → AreFit m (imports_in stack) later
       → Follows m plan code (AllGrowSizes store effects)
-      (AtHost (record { origin = origin; effects = effects; next = Calls func args } ∷ later))
+      (Playing m plan (record { origin = origin; effects = effects; next = Calls func args }) later)
       (standing (record { frame = base; below = below; counts = []; inside = base.func ∷ inside })
       (with_own (counters counts) store) [] labels
       (sequence (effects_code effects ++ next_code m (Calls func args) (segments_code m (innermost begun))) Empty)
@@ -199,7 +224,8 @@ module _ (laws : RunLaws) (effects_law : EffectsAreMade) (m : Module) (plan : Pl
       let r = after_next (code_of m) after counts stack later came (Calls func args) in
       let rest = sequence (replicate (length ty.results) Drop ++ segments_code m (innermost begun)) Empty in
       after_effects_follows s outside labels number (Calls func args) (innermost begun) r
-      (λ at. pushed_follows s outside labels at args (Call func) rest _ r
+      (λ at. pushed_follows (7 * next_weight (Calls func args)) begun s outside labels at args (Call func) rest _ r
+      (omega arith)
       (sequence_over (map Const args)
       (Call func ∷ (drops (func_type m func) ++ segments_code m (innermost begun))) Empty
       ∙ ap (λ o. sequence (map Const args)
@@ -214,7 +240,8 @@ module _ (laws : RunLaws) (effects_law : EffectsAreMade) (m : Module) (plan : Pl
       → AreBeside m [] stack (with_segment (record { origin = origin; effects = effects; next = next }) next begun) own
       inside
       → Follows m plan code (AllGrowSizes store effects)
-      (AtHost (record { origin = origin; effects = effects; next = next } ∷ later)) (own_place store counts own inside)
+      (Playing m plan (record { origin = origin; effects = effects; next = next }) later)
+      (own_place store counts own inside)
       (after_next (code_of m) after counts stack later came next)
   host_follows next _ _ _ at before fit opened host
       (Runs stack own inside frame ty typed arity past under) = absurd host
@@ -259,7 +286,8 @@ module _ (laws : RunLaws) (effects_law : EffectsAreMade) (m : Module) (plan : Pl
       (InImport import given (pause ∷ []) EndsInTrap ∷ InModule caller ∷ stack) later
       came (Gives result) in
       after_effects_follows s outside labels number (Gives result) [] r
-      (λ place. pushed_follows s outside labels place (option_to_list result) Return Empty _ r
+      (λ place. pushed_follows (7 * next_weight (Gives result)) ([] ∷ begun) s outside labels place
+      (option_to_list result) Return Empty _ r (result_weighs result)
       (sequence_over (map Const (option_to_list result)) (Return ∷ []) Empty)
       (λ place'. returns_result laws m plan code after counts import given ty caller base behind behind_labels
       behind_number stack own inside later came

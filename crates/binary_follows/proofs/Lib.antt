@@ -1,6 +1,9 @@
 mod Relation
 mod Shared
 mod EffectStores
+mod CallsLeft
+mod Bounded
+mod DispatchSteps
 mod Sides
 mod Settled
 mod Sound

@@ -37,6 +37,7 @@ use Rattle.binary_follows.proofs.Sides.{below_start, import_side, never_outside,
 use Rattle.binary_follows.proofs.Sound.{IsSound, changes_sound}
 use Rattle.binary_follows.proofs.Settled.{returned, settled}
 use Rattle.binary_follows.proofs.Together.{Within, none_first, AtCall, IsPlayed, IsEnded, Follows, at_call}
+use Rattle.binary_follows.proofs.Bounded.{made_bounded, none_bounded}
 use Rattle.binary_follows.proofs.Parts.{MakesStep, RunLaws, follows_settled, nothing_shown, shown_made}
 
 -- the laws of instructions
@@ -91,7 +92,7 @@ module _ (laws : RunLaws) (instructions : InstructionLaws) (m : Module) (plan : 
       → execute code (with_own (counters counts) store) frame
       ≡ Did operands results found (Goes (with_own (counters counts) after) next)
       → IsSameActivation frame next → IsSound m after
-      → Follows m plan code (Unit {0}) (Within segments) here
+      → Follows m plan code (Unit {0}) (Within m plan segments) here
       (after_step segments came
       (after_instruction (program_awaiting (code_of m)) tape_configuration frame stack
       (Did operands results found (Goes after next))))
@@ -99,7 +100,7 @@ module _ (laws : RunLaws) (instructions : InstructionLaws) (m : Module) (plan : 
       follows_settled laws m plan code here frame own after counts (next.func ∷ inside)
       (step_entry operands results found ∷ []) (step_entry operands results found ∷ [])
       (deliver (InModule next ∷ stack) []) (deliver (InModule next ∷ own) []) (imports_in stack) segments came
-      (Unit {0})
+      (Unit {0}) 0 begun
       (record {
         stands = refl;
         makes = ap (after_instruction (watched m code).program here.config frame own) e;
@@ -108,17 +109,21 @@ module _ (laws : RunLaws) (instructions : InstructionLaws) (m : Module) (plan : 
         known = inr own_side;
         quiet = λ outside. absurd (never_outside m frame.func own_side outside);
         stretch = λ s here. (here, refl);
+        bounded = λ later keeps rest c.
+            made_bounded plan 0 (imported_funcs m) begun (left_of (imported_funcs m) segments).calls
+            (step_entry operands results found ∷ []) later rest keeps c;
       })
       (settled m begun stack own inside next ty [] (same_typed next same) (same.arity ∙ arity)
       (same_past next same) under
-      (λ given count. returned m begun ty.results stack own inside under next.func given
+      (λ given count. returned m played.one begun ty.results (played.one frame.func ty typed) stack own inside
+      under next.func given
       (ap (side (layout_of m)) same.func ∙ own_side) count))
-      (record { sound = sound; many = played.many; fits = played.fits; calls = played.calls })
+      (record { one = played.one; sound = sound; many = played.many; fits = played.fits; calls = played.calls })
 
   leaves : (operands results : List Val) (found : Option ℕ) (given : List Val)
       → execute code (with_own (counters counts) store) frame ≡ Did operands results found (Returns given)
       → length given ≡ frame.arity
-      → Follows m plan code (Unit {0}) (Within segments) here
+      → Follows m plan code (Unit {0}) (Within m plan segments) here
       (after_step segments came
       (after_instruction (program_awaiting (code_of m)) tape_configuration frame stack
       (Did operands results found (Returns given))))
@@ -126,7 +131,8 @@ module _ (laws : RunLaws) (instructions : InstructionLaws) (m : Module) (plan : 
       follows_settled laws m plan code here frame own store counts (frame.func ∷ inside)
       (step_entry operands results found ∷ []) (step_entry operands results found ∷ [])
       (after_entry (return_entry frame.func given stack) (deliver stack given))
-      (after_entry (return_entry frame.func given own) (deliver own given)) (imports_in stack) segments came (Unit {0})
+      (after_entry (return_entry frame.func given own) (deliver own given)) (imports_in stack) segments came
+      (Unit {0}) 0 begun
       (record {
         stands = refl;
         makes = ap (after_instruction (watched m code).program here.config frame own) e;
@@ -135,8 +141,12 @@ module _ (laws : RunLaws) (instructions : InstructionLaws) (m : Module) (plan : 
         known = inr own_side;
         quiet = λ outside. absurd (never_outside m frame.func own_side outside);
         stretch = λ s here. (here, refl);
+        bounded = λ later keeps rest c.
+            made_bounded plan 0 (imported_funcs m) begun (left_of (imported_funcs m) segments).calls
+            (step_entry operands results found ∷ []) later rest keeps c;
       })
-      (returned m begun ty.results stack own inside under frame.func given own_side (count ∙ arity)) played
+      (returned m played.one begun ty.results (played.one frame.func ty typed) stack own inside under
+      frame.func given own_side (count ∙ arity)) played
 
   -- ---- a call of a function of the original
 
@@ -155,7 +165,7 @@ module _ (laws : RunLaws) (instructions : InstructionLaws) (m : Module) (plan : 
         ≡ after_settling (with_own (counters counts) store) [] own_result
         → MakesStep laws m plan code here frame own store counts
         (func ∷ waiting.func ∷ inside) call_entries call_entries
-        own_result
+        own_result segments 0 begun
     enters stays d own_result defined entered =
         record {
           stands = refl;
@@ -185,10 +195,13 @@ module _ (laws : RunLaws) (instructions : InstructionLaws) (m : Module) (plan : 
           known = inr own_side;
           quiet = λ outside. absurd (never_outside m frame.func own_side outside);
           stretch = λ s here. (here, refl);
+          bounded = λ later keeps rest c.
+              made_bounded plan 0 (imported_funcs m) begun (left_of (imported_funcs m) segments).calls
+              (call_entries) later rest keeps c;
         }
 
     calls_own : imported_funcs m ≤ func
-        → Follows m plan code (Unit {0}) (Within segments) here
+        → Follows m plan code (Unit {0}) (Within m plan segments) here
         (after_step segments came
         (after_entries (step_entry operands results found ∷ [])
         (call_function (program_awaiting (code_of m)) false store counts func args (InModule waiting ∷ stack))))
@@ -206,32 +219,39 @@ module _ (laws : RunLaws) (instructions : InstructionLaws) (m : Module) (plan : 
         callee_side = original_side m func stays (below_start m func callee call.arguments.has_type)
 
         go : (d : Option Definition) → definition (code_of m) func ≡ d
-            → Follows m plan code (Unit {0}) (Within segments) here
+            → Follows m plan code (Unit {0}) (Within m plan segments) here
             (after_step segments came
             (after_entries (step_entry operands results found ∷ [])
             (call_function (program_awaiting (code_of m)) false store counts func args (InModule waiting ∷ stack))))
         go None q =
-            subst (λ r. Follows m plan code (Unit {0}) (Within segments) here
+            subst (λ r. Follows m plan code (Unit {0}) (Within m plan segments) here
             (after_step segments came (after_entries call_entries r)))
             (sym (whole None q))
             (follows_settled laws m plan code here frame own store counts (func ∷ waiting.func ∷ inside) call_entries
             call_entries (settle_result [] NoneHolds) (settle_result [] NoneHolds) (imports_in stack) segments came
-            (Unit {0}) (enters stays None (settle_result [] NoneHolds) q refl)
-            (record { shows = λ any. refl; ends = tt; still = λ other h. absurd (cc h); turn = tt }) played)
+            (Unit {0}) 0 begun (enters stays None (settle_result [] NoneHolds) q refl)
+            (record {
+              shows = λ any. refl;
+              ends = tt;
+              still = λ other h. absurd (cc h);
+              turn = tt;
+              keeps = λ left. refl;
+            }) played)
         go (Some d) q =
             let entered = frame_of func callee d args in
             let waits_here = waits waiting same in
-            subst (λ r. Follows m plan code (Unit {0}) (Within segments) here
+            subst (λ r. Follows m plan code (Unit {0}) (Within m plan segments) here
             (after_step segments came (after_entries call_entries r)))
             (sym (whole (Some d) q))
             (follows_settled laws m plan code here frame own store counts (func ∷ waiting.func ∷ inside) call_entries
             call_entries (deliver (InModule entered ∷ InModule waiting ∷ stack) [])
             (deliver (InModule entered ∷ InModule waiting ∷ own) []) (imports_in stack) segments came
-            (Unit {0}) (enters stays (Some d) (deliver (InModule entered ∷ InModule waiting ∷ own) []) q refl)
+            (Unit {0}) 0 begun (enters stays (Some d) (deliver (InModule entered ∷ InModule waiting ∷ own) []) q refl)
             (settled m begun (InModule waiting ∷ stack) (InModule waiting ∷ own)
             (waiting.func ∷ inside) entered callee []
             call.arguments.has_type refl stays waits_here
-            (λ given count. returned m begun callee.results (InModule waiting ∷ stack) (InModule waiting ∷ own)
+            (λ given count. returned m played.one begun callee.results
+            (played.one func callee call.arguments.has_type) (InModule waiting ∷ stack) (InModule waiting ∷ own)
             (waiting.func ∷ inside) waits_here func given callee_side count))
             played)
 
@@ -245,13 +265,13 @@ module _ (laws : RunLaws) (instructions : InstructionLaws) (m : Module) (plan : 
         (repeated_there (imported_funcs m) func (Some awaiting_answer) below)
 
     calls_import : func < imported_funcs m
-        → Follows m plan code (Unit {0}) (Within segments) here
+        → Follows m plan code (Unit {0}) (Within m plan segments) here
         (after_step segments came
         (after_entries (step_entry operands results found ∷ [])
         (call_function (program_awaiting (code_of m)) true store counts func args (InModule waiting ∷ stack))))
     calls_import below =
         subst
-        (λ o. Follows m plan code (Unit {0}) (Within segments) here
+        (λ o. Follows m plan code (Unit {0}) (Within m plan segments) here
         (after_step segments came
         (after_entries (step_entry operands results found ∷ [])
         (answer_call o store counts func args (InModule waiting ∷ stack)))))
@@ -291,6 +311,7 @@ module _ (laws : RunLaws) (instructions : InstructionLaws) (m : Module) (plan : 
               (waiting.func ∷ inside)
               played call.arguments.has_type below call.arguments.types (waits waiting same);
           claimed = λ pr rest c. (refl, c);
+          bounded = λ rest c. c;
         })
       where
         shown : List Entry
@@ -303,28 +324,28 @@ module _ (laws : RunLaws) (instructions : InstructionLaws) (m : Module) (plan : 
         end : Place
         end = at_call m plan store counts func callee args (InModule waiting ∷ own) (waiting.func ∷ inside)
 
-    calls_follow : Follows m plan code (Unit {0}) (Within segments) here
+    calls_follow : Follows m plan code (Unit {0}) (Within m plan segments) here
         (after_step segments came
         (after_instruction (program_awaiting (code_of m)) tape_configuration frame stack
         (Did operands results found (Calls waiting func args))))
     calls_follow = go (nat_lt func (imported_funcs m)) refl
       where
         go : (b : Bool) → nat_lt func (imported_funcs m) ≡ b
-            → Follows m plan code (Unit {0}) (Within segments) here
+            → Follows m plan code (Unit {0}) (Within m plan segments) here
             (after_step segments came
             (after_entries (step_entry operands results found ∷ [])
             (call_function (program_awaiting (code_of m)) (nat_lt func (imported_funcs m)) store counts func args
             (InModule waiting ∷ stack))))
         go true b =
             subst
-            (λ b. Follows m plan code (Unit {0}) (Within segments) here
+            (λ b. Follows m plan code (Unit {0}) (Within m plan segments) here
             (after_step segments came
             (after_entries (step_entry operands results found ∷ [])
             (call_function (program_awaiting (code_of m)) b store counts func args (InModule waiting ∷ stack)))))
             (sym b) (calls_import (grind (arith, nat_tests, b)))
         go false b =
             subst
-            (λ b. Follows m plan code (Unit {0}) (Within segments) here
+            (λ b. Follows m plan code (Unit {0}) (Within m plan segments) here
             (after_step segments came
             (after_entries (step_entry operands results found ∷ [])
             (call_function (program_awaiting (code_of m)) b store counts func args (InModule waiting ∷ stack)))))
@@ -334,7 +355,7 @@ module _ (laws : RunLaws) (instructions : InstructionLaws) (m : Module) (plan : 
 
   traps : (kind : TrapKind) (operands : List Val) (found : Option ℕ)
       → execute code (with_own (counters counts) store) frame ≡ Traps kind operands found
-      → IsEnded m code (Unit {0}) (Within segments) here
+      → IsEnded m code (Unit {0}) (Within m plan segments) here
       (Trap frame.func frame.at.number kind operands found ∷ []) Trapped
   traps kind operands found e =
       let entry = Trap frame.func frame.at.number kind operands found in
@@ -350,11 +371,12 @@ module _ (laws : RunLaws) (instructions : InstructionLaws) (m : Module) (plan : 
             }) (ap trapped_on own_side)).1 own_side;
         shown = refl;
         claimed = λ pr. (refl, none_first segments);
+        bounded = none_bounded plan begun (left_of (imported_funcs m) segments).calls (imported_funcs m);
       }
 
   -- ---- all
 
-  pub module_follows : Follows m plan code (Unit {0}) (Within segments) here
+  pub module_follows : Follows m plan code (Unit {0}) (Within m plan segments) here
       (after_step segments came (step (program_awaiting (code_of m)) tape_configuration))
   module_follows =
       go (execute (code_of m) store frame)
@@ -363,7 +385,7 @@ module _ (laws : RunLaws) (instructions : InstructionLaws) (m : Module) (plan : 
     where
       go : (e : Execution)
           → IsBeside (counters counts) (code_of m) store frame e (execute code (with_own (counters counts) store) frame)
-          → Follows m plan code (Unit {0}) (Within segments) here
+          → Follows m plan code (Unit {0}) (Within m plan segments) here
           (after_step segments came
           (after_instruction (program_awaiting (code_of m)) tape_configuration frame stack e))
       go NoRule h = nothing_shown laws m plan code here

@@ -22,7 +22,7 @@ use Rattle.replay_plan.specs.declared.plans.Plan.{Plan}
 use Rattle.replay_plan.specs.Plans.{left_of}
 use Rattle.replay_spec.specs.TapeRun.{TapeConfig, TapeProgress, tape_progress, Plays, Over, Disagrees, NoRule, after_step, origin_after}
 use Rattle.outside_spec.specs.Inside.{inside_after, inside_after_all, args_after_all}
-use Rattle.outside_spec.specs.Items.{Item, Makes, Changes, changes_of, Steps, entries_in}
+use Rattle.outside_spec.specs.Items.{Item, Makes, Changes, changes_of, is_block, Steps, entries_in}
 use Rattle.outside_spec.specs.Stretches.{Stretches, at_entry, stretches_from}
 use Rattle.outside_spec.specs.Laws.{ProjectionsRunAlong}
 use Rattle.generated_steps.specs.Leads.{Place, Leads, IsOutside}
@@ -37,7 +37,8 @@ use Rattle.binary_follows.specs.Laws.{AreEffectsOfFirst}
 use Rattle.replay_codes.specs.Stores.{counters, with_own}
 use Rattle.binary_follows.proofs.Relation.{own_place, watched}
 use Rattle.binary_follows.proofs.Settled.{ArePlaced, AreReturned, AreSettled, Settles, IsTurn, at_entries}
-use Rattle.binary_follows.proofs.Together.{AreFit, IsHostOn, AreTogether, InOriginal, AtReturn, IsPlayed, IsMoved, HasShown, Follows, FollowsTo, tape_config, AreClaimed, AreWithin, AtHost, Within}
+use Rattle.binary_follows.proofs.Together.{AreFit, IsHostOn, AreTogether, InOriginal, AtReturn, IsPlayed, IsMoved, HasShown, Follows, FollowsTo, tape_config, Claim, claim_at, AreBounded, AreWithin, AtHost, MakesFirst, Within, WithinBy}
+use Rattle.binary_follows.proofs.Bounded.{AreWithinCalls}
 
 -- the laws of steps and of what is shown
 pub record RunLaws : Type 0 where
@@ -107,12 +108,13 @@ at_both (entry ∷ first) second s = ap (at_entry entry) (at_both first second s
 module _ (laws : RunLaws) (m : Module) (plan : Plan) (code : Code) where
   -- ---- after steps that show nothing
 
-  pub follows_after : (premise : Type 0) (claim before : List Item → Type 0) (a b : Place) (items : List Item)
+  pub follows_after : (premise : Type 0) (claim before : Claim) (a b : Place) (items : List Item)
       → Leads (watched m code) a items b → entries_in items ≡ []
-      → (premise → (rest : List Item) → claim rest → before (items ++ rest))
+      → (premise → (rest : List Item) → claim.effects rest → before.effects (items ++ rest))
+      → ((rest : List Item) → claim.bound rest → before.bound (items ++ rest))
       → (entries : List Entry) (t : TapeProgress) → FollowsTo m plan code premise claim b entries t
       → FollowsTo m plan code premise before a entries t
-  follows_after premise claim before a b items ab silent claimed entries (Plays t) f =
+  follows_after premise claim before a b items ab silent claimed bounded entries (Plays t) f =
       record {
         next = f.next;
         items = items ++ f.items;
@@ -120,22 +122,26 @@ module _ (laws : RunLaws) (m : Module) (plan : Plan) (code : Code) where
         shown = entries_of_both items f.items ∙ ap (λ l. l ++ entries_in f.items) silent ∙ f.shown;
         together = f.together;
         claimed = λ pr rest c.
-            subst before (sym (append_assoc items f.items rest)) (claimed pr (f.items ++ rest) (f.claimed pr rest c));
+            subst before.effects (sym (append_assoc items f.items rest))
+            (claimed pr (f.items ++ rest) (f.claimed pr rest c));
+        bounded = λ rest c.
+            subst before.bound (sym (append_assoc items f.items rest)) (bounded (f.items ++ rest) (f.bounded rest c));
       }
-  follows_after premise claim before a b items ab silent claimed entries (Over outcome) f =
+  follows_after premise claim before a b items ab silent claimed bounded entries (Over outcome) f =
       record {
         items = items ++ f.items;
         ends = laws.end_after (watched m code) a b items f.items outcome ab f.ends;
         shown = entries_of_both items f.items ∙ ap (λ l. l ++ entries_in f.items) silent ∙ f.shown;
         claimed = λ pr. claimed pr f.items (f.claimed pr);
+        bounded = bounded f.items f.bounded;
       }
-  follows_after premise claim before a b items ab silent claimed entries Disagrees f =
+  follows_after premise claim before a b items ab silent claimed bounded entries Disagrees f =
       record {
         items = items ++ f.items;
         shows = laws.show_after (watched m code) a b items f.items ab f.shows;
         shown = entries_of_both items f.items ∙ ap (λ l. l ++ entries_in f.items) silent ∙ f.shown;
       }
-  follows_after premise claim before a b items ab silent claimed entries NoRule f =
+  follows_after premise claim before a b items ab silent claimed bounded entries NoRule f =
       record {
         items = items ++ f.items;
         shows = laws.show_after (watched m code) a b items f.items ab f.shows;
@@ -152,9 +158,15 @@ module _ (laws : RunLaws) (m : Module) (plan : Plan) (code : Code) where
   abbrev pub IsKnown : ℕ → Type 0
   IsKnown func = IsOutside (layout_of m) func ⊎ (side (layout_of m) func ≡ Original)
 
+  -- a function outside makes a step of its own
+  abbrev pub own_steps : (frame : Frame) → IsKnown frame.func → List Item
+  own_steps frame (inl outside) = Steps (is_block frame.at.rest) ∷ []
+  own_steps frame (inr original) = []
+
   -- one step of the replay module's run: its entries and where control is after them, before it settles
   pub record MakesStep (p : Place) (frame : Frame) (below : List Activation) (store : Store) (counts : List ℕ)
-      (inside : List ℕ) (first own_first : List Entry) (own : SettleResult) : Type 0 where
+      (inside : List ℕ) (first own_first : List Entry) (own : SettleResult) (segments : List Segment) (extra : ℕ)
+      (begun : List (List Segment)) : Type 0 where
     pub stands : p.config.stack ≡ InModule frame ∷ below
     pub makes : step (watched m code).program p.config
         ≡ after_entries own_first (after_settling (with_own (counters counts) store) [] own)
@@ -167,11 +179,14 @@ module _ (laws : RunLaws) (m : Module) (plan : Plan) (code : Code) where
         ≡ []
     pub stretch : (s : Stretches) → s.here ≡ []
         → ((at_entries first s).here ≡ []) × ((at_entries first s).later ≡ s.later)
+    pub bounded : (later : List Entry) → AreWithinCalls later → (rest : List Item)
+        → (Within m plan segments).bound rest
+        → AreBounded m plan extra begun segments (own_steps frame known ++ (map Makes (first ++ later) ++ rest))
 
   module _ (p : Place) (frame : Frame) (below : List Activation) (store : Store) (counts : List ℕ)
       (inside : List ℕ) (first own_first : List Entry) (tape own : SettleResult) (opened : List ℕ)
-      (segments : List Segment) (came : Origin) (premise : Type 0)
-      (made : MakesStep p frame below store counts inside first own_first own)
+      (segments : List Segment) (came : Origin) (premise : Type 0) (extra : ℕ) (begun : List (List Segment))
+      (made : MakesStep p frame below store counts inside first own_first own segments extra begun)
       (settles : Settles m (left_of (imported_funcs m) segments).begun opened inside tape own)
       (played : IsPlayed m plan store counts opened segments) where
     abbrev entries : List Entry
@@ -205,10 +220,16 @@ module _ (laws : RunLaws) (m : Module) (plan : Plan) (code : Code) where
     -- what is claimed from where control settles on is so from here on
     abbrev Closes : TapeConfig → Type 0
     Closes t =
-        (rest : List Item) → AreClaimed t.config.stack t.left rest
+        (rest : List Item) → (claim_at m plan t.config.stack t.left t.came).effects rest
         → AreWithin segments (at_entries entries (stretches_from rest))
 
-    closes_within : ((s : Stretches) → at_entries tape.entries s ≡ s) → (rest : List Item) → Within segments rest
+    abbrev ClosesBound : TapeConfig → Type 0
+    ClosesBound t =
+        (rest : List Item) → (claim_at m plan t.config.stack t.left t.came).bound rest
+        → (Within m plan segments).bound rest
+
+    closes_within : ((s : Stretches) → at_entries tape.entries s ≡ s) → (rest : List Item)
+        → (Within m plan segments).effects rest
         → AreWithin segments (at_entries entries (stretches_from rest))
     closes_within turn rest c =
         let s = stretches_from rest in
@@ -217,7 +238,7 @@ module _ (laws : RunLaws) (m : Module) (plan : Plan) (code : Code) where
         (kept.0, subst (AreEffectsOfFirst segments) (sym kept.1) c.1)
 
     closes_host : ((s : Stretches) → at_entries tape.entries s ≡ record { here = []; later = s.here ∷ s.later })
-        → (rest : List Item) → AtHost segments rest → AreWithin segments (at_entries entries (stretches_from rest))
+        → (rest : List Item) → MakesFirst segments rest → AreWithin segments (at_entries entries (stretches_from rest))
     closes_host turn rest c =
         let s = stretches_from rest in
         let begun : Stretches = record { here = []; later = s.here ∷ s.later } in
@@ -229,8 +250,8 @@ module _ (laws : RunLaws) (m : Module) (plan : Plan) (code : Code) where
     moved : (own_stack : List Activation) → own.next ≡ Continues own_stack
         → (t : TapeConfig)
         → AreTogether m plan code t (own_place store counts own_stack (inside_after_all inside own.entries))
-        → Closes t → IsMoved m plan code premise (Within segments) p entries t
-    moved own_stack is t together closes =
+        → Closes t → ClosesBound t → IsMoved m plan code premise (WithinBy m plan extra begun segments) p entries t
+    moved own_stack is t together closes closes_bound =
         let end : Place = own_place store counts own_stack (inside_after_all inside own.entries) in
         let single : IsSingle (watched m code) p frame below (own_first ++ own.entries) entries
         (Running end.config) end.inside =
@@ -244,16 +265,19 @@ module _ (laws : RunLaws) (m : Module) (plan : Plan) (code : Code) where
           control = control_all;
         } in
         let lead = laws.leads (watched m code) p frame below (own_first ++ own.entries) entries end single in
-        go end lead made.known together
+        go end lead made.known made.bounded together
       where
         go : (end : Place)
             → (IsOutside (layout_of m) frame.func
             → Leads (watched m code) p (outside_step (watched m code) p frame entries) end)
             × (side (layout_of m) frame.func ≡ Original → Leads (watched m code) p (map Makes entries) end)
-            → IsKnown frame.func
+            → (known : IsKnown frame.func)
+            → ((later : List Entry) → AreWithinCalls later → (rest : List Item) → (Within m plan segments).bound rest
+            → AreBounded m plan extra begun segments
+            (own_steps frame known ++ (map Makes (first ++ later) ++ rest)))
             → ((together : AreTogether m plan code t end)
-            → IsMoved m plan code premise (Within segments) p entries t)
-        go end lead (inl outside) =
+            → IsMoved m plan code premise (WithinBy m plan extra begun segments) p entries t)
+        go end lead (inl outside) bounded =
             λ together. record {
               next = end;
               items = outside_step (watched m code) p frame entries;
@@ -261,8 +285,13 @@ module _ (laws : RunLaws) (m : Module) (plan : Plan) (code : Code) where
               shown = shown_made own_changes entries;
               together = together;
               claimed = λ pr rest c. subst (AreWithin segments) (sym (outside_stretches outside rest)) (closes rest c);
+              bounded = λ rest c.
+                  subst
+                  (λ changes. AreBounded m plan extra begun segments
+                  (Steps (is_block frame.at.rest) ∷ ((map Changes changes ++ map Makes entries) ++ rest)))
+                  (sym (made.quiet outside)) (bounded tape.entries settles.keeps rest (closes_bound rest c));
             }
-        go end lead (inr original) =
+        go end lead (inr original) bounded =
             λ together. record {
               next = end;
               items = map Makes entries;
@@ -270,6 +299,7 @@ module _ (laws : RunLaws) (m : Module) (plan : Plan) (code : Code) where
               shown = shown_made [] entries;
               together = together;
               claimed = λ pr rest c. subst (AreWithin segments) (sym (made_stretches entries rest)) (closes rest c);
+              bounded = λ rest c. bounded tape.entries settles.keeps rest (closes_bound rest c);
             }
 
     -- no rule holds
@@ -303,7 +333,7 @@ module _ (laws : RunLaws) (m : Module) (plan : Plan) (code : Code) where
             record { items = map Makes entries; shows = shows.1 original; shown = shown_made [] entries }
 
     -- what the tape's run does then
-    pub follows_settled : Follows m plan code premise (Within segments) p
+    pub follows_settled : Follows m plan code premise (WithinBy m plan extra begun segments) p
         (after_step segments came (after_entries first (after_settling store counts tape)))
     follows_settled = go tape.next own.next refl refl settles.ends
       where
@@ -313,9 +343,11 @@ module _ (laws : RunLaws) (m : Module) (plan : Plan) (code : Code) where
             (inside_after_all inside own.entries)
             → ((came : Origin) → origin_after tape.entries came ≡ Back)
             → Closes (tape_config store stack counts segments (origin_after entries came))
-            → IsMoved m plan code premise (Within segments) p entries
+            → ((rest : List Item) → (claim_at m plan stack segments (origin_after entries came)).bound rest
+            → (AtHost m plan (origin_after entries came) segments).bound rest)
+            → IsMoved m plan code premise (WithinBy m plan extra begun segments) p entries
             (tape_config store stack counts segments (origin_after entries came))
-        at_return stack own_stack e f host returned back closes =
+        at_return stack own_stack e f host returned back closes same =
             let here : origin_after entries came ≡ Back = origin_of_both came first tape.entries
             ∙ back (origin_after first came) in
             moved own_stack f (tape_config store stack counts segments (origin_after entries came))
@@ -324,16 +356,18 @@ module _ (laws : RunLaws) (m : Module) (plan : Plan) (code : Code) where
             (own_place store counts own_stack (inside_after_all inside own.entries))) (sym here)
             (AtReturn store stack counts segments own_stack (inside_after_all inside own.entries)
             (record {
+              one = played.one;
               sound = played.sound;
               many = played.many;
               fits = subst (λ o. AreFit m o segments) (sym (settles.still stack e)) played.fits;
               calls = played.calls;
             }) host returned)) closes
+            (λ rest c. subst (λ (o : Origin). (AtHost m plan o segments).bound rest) here (same rest c))
 
         placed : (stack own_stack : List Activation) → tape.next ≡ Continues stack → own.next ≡ Continues own_stack
             → ArePlaced m (left_of (imported_funcs m) segments).begun tape.entries stack own_stack
             (inside_after_all inside own.entries)
-            → IsMoved m plan code premise (Within segments) p entries
+            → IsMoved m plan code premise (WithinBy m plan extra begun segments) p entries
             (tape_config store stack counts segments (origin_after entries came))
         placed [] own_stack e f at = absurd at
         placed (InModule top ∷ stack) own_stack e f at =
@@ -341,17 +375,18 @@ module _ (laws : RunLaws) (m : Module) (plan : Plan) (code : Code) where
             (InOriginal store top stack counts segments (origin_after entries came) own_stack
             (inside_after_all inside own.entries)
             (record {
+              one = played.one;
               sound = played.sound;
               many = played.many;
               fits = subst (λ o. AreFit m o segments) (sym (settles.still (InModule top ∷ stack) e)) played.fits;
               calls = played.calls;
-            }) at) (closes_within (subst (λ n. IsTurn n tape.entries) e settles.turn))
+            }) at) (closes_within (subst (λ n. IsTurn n tape.entries) e settles.turn)) (λ rest c. c)
         placed (InMain actions ∷ stack) own_stack e f at =
             at_return (InMain actions ∷ stack) own_stack e f tt at.0 at.1
-            (closes_host (subst (λ n. IsTurn n tape.entries) e settles.turn))
+            (closes_host (subst (λ n. IsTurn n tape.entries) e settles.turn)) (λ rest c. c)
         placed (InImport import args actions end ∷ stack) own_stack e f at =
             at_return (InImport import args actions end ∷ stack) own_stack e f tt at.0 at.1
-            (closes_host (subst (λ n. IsTurn n tape.entries) e settles.turn))
+            (closes_host (subst (λ n. IsTurn n tape.entries) e settles.turn)) (λ rest c. c)
 
         transported : {n own_n : SettleEnd} → tape.next ≡ n → own.next ≡ own_n
             → AreSettled m (left_of (imported_funcs m) segments).begun tape.entries tape.next own.next
@@ -367,14 +402,14 @@ module _ (laws : RunLaws) (m : Module) (plan : Plan) (code : Code) where
         go : (n own_n : SettleEnd) → tape.next ≡ n → own.next ≡ own_n
             → AreSettled m (left_of (imported_funcs m) segments).begun tape.entries tape.next own.next
             (inside_after_all inside own.entries)
-            → Follows m plan code premise (Within segments) p
+            → Follows m plan code premise (WithinBy m plan extra begun segments) p
             (after_step segments came (after_entries first (after_settling store counts tape)))
         go (Continues stack) (Continues own_stack) e f at =
-            subst (λ n. FollowsTo m plan code premise (Within segments) p entries
+            subst (λ n. FollowsTo m plan code premise (WithinBy m plan extra begun segments) p entries
             (tape_progress segments (origin_after entries came) (progress_of store counts n))) (sym e)
             (placed stack own_stack e f (transported e f at))
         go NoneHolds NoneHolds e f at =
-            subst (λ n. FollowsTo m plan code premise (Within segments) p entries
+            subst (λ n. FollowsTo m plan code premise (WithinBy m plan extra begun segments) p entries
             (tape_progress segments (origin_after entries came) (progress_of store counts n))) (sym e)
             (stuck f)
         go (Continues stack) (Finishes outcome) e f at = absurd (transported e f at)

@@ -27,7 +27,7 @@ use Rattle.replay_gen.specs.Dispatch.{sequence}
 use Rattle.replay_gen.specs.Segments.{segments_code}
 use Rattle.replay_gen.specs.Fragments.{start_index}
 use Rattle.replay_spec.specs.TapeRun.{after_next, after_step}
-use Rattle.outside_spec.specs.Items.{Steps}
+use Rattle.outside_spec.specs.Items.{Makes, Steps}
 use Rattle.generated_steps.specs.Leads.{Place, Leads, IsOutside, Behind, Standing, standing}
 use Rattle.binary_follows.specs.Playable.{layout_of}
 use Rattle.replay_codes.specs.Stores.{counters, with_own}
@@ -37,7 +37,8 @@ use Rattle.binary_follows.proofs.Sides.{appended_side, below_start, original_sid
 use Rattle.binary_follows.proofs.Settled.{returned, settled}
 use Rattle.binary_follows.proofs.Answered.{unchanged_by}
 use Rattle.binary_follows.proofs.Codes.{does_consts, pops_pushed}
-use Rattle.binary_follows.proofs.Together.{Within, IsPlayed, Follows}
+use Rattle.binary_follows.proofs.Together.{WithinBy, IsPlayed, Follows}
+use Rattle.binary_follows.proofs.Bounded.{bounded_before, made_bounded}
 use Rattle.binary_follows.proofs.Parts.{MakesStep, RunLaws, follows_settled}
 
 module _ (laws : RunLaws) (m : Module) (plan : Plan) (code : Code) (is : IsReplayCode m plan code)
@@ -105,6 +106,7 @@ module _ (laws : RunLaws) (m : Module) (plan : Plan) (code : Code) (is : IsRepla
         → MakesStep laws m plan code (call_place labels number)
         (at_point base (point (reverse args ++ []) labels (Plain (Call func) after_call) number)) below store counts
         (func ∷ base.func ∷ inside) (HostCall func args ∷ []) (first_entries number) own
+        segments 2 begun
     enters labels number d own defined entered =
         record {
           stands = refl;
@@ -138,6 +140,11 @@ module _ (laws : RunLaws) (m : Module) (plan : Plan) (code : Code) (is : IsRepla
           quiet = λ outside. unchanged_by (watched m code).globals beside (Call func) after_call
               (execute code beside frame) (λ operands. refl);
           stretch = λ s here. (refl, refl);
+          bounded = λ later keeps rest c.
+              bounded_before plan begun (left_of (imported_funcs m) segments).calls (imported_funcs m) 0 2
+              (Steps false ∷ []) (map Makes (HostCall func args ∷ later) ++ rest) refl (omega arith) refl
+              (made_bounded plan 0 (imported_funcs m) begun (left_of (imported_funcs m) segments).calls
+              (HostCall func args ∷ []) later rest keeps c);
         }
       where
         frame : Frame
@@ -151,28 +158,35 @@ module _ (laws : RunLaws) (m : Module) (plan : Plan) (code : Code) (is : IsRepla
             let e = is.imported in grind (arith, nat_tests, e)
 
     pub calls_original : (labels : List Label) (number : ℕ)
-        → Follows m plan code premise (Within segments) (call_place labels number)
+        → Follows m plan code premise (WithinBy m plan 2 begun segments) (call_place labels number)
         (after_next (code_of m) store counts stack segments came (Calls func args))
     calls_original labels number = go (definition (code_of m) func) refl
       where
         go : (d : Option Definition) → definition (code_of m) func ≡ d
-            → Follows m plan code premise (Within segments) (call_place labels number)
+            → Follows m plan code premise (WithinBy m plan 2 begun segments) (call_place labels number)
             (after_next (code_of m) store counts stack segments came (Calls func args))
         go None e =
             subst
-            (λ r. Follows m plan code premise (Within segments) (call_place labels number)
+            (λ r. Follows m plan code premise (WithinBy m plan 2 begun segments) (call_place labels number)
             (after_step segments came (after_entries (HostCall func args ∷ []) r)))
             (sym (ap (λ o. enter_defined o (definition (code_of m) func) store counts func args stack) typed
             ∙ ap (λ o. enter_defined (Some ty) o store counts func args stack) e))
             (follows_settled laws m plan code (call_place labels number) _ below store counts
             (func ∷ base.func ∷ inside)
             (HostCall func args ∷ []) (first_entries number) (settle_result [] NoneHolds) (settle_result [] NoneHolds)
-            (imports_in stack) segments came premise (enters labels number None (settle_result [] NoneHolds) e refl)
-            (record { shows = λ any. refl; ends = tt; still = λ other q. absurd (cc q); turn = tt }) played)
+            (imports_in stack) segments came premise 2 begun
+            (enters labels number None (settle_result [] NoneHolds) e refl)
+            (record {
+              shows = λ any. refl;
+              ends = tt;
+              still = λ other q. absurd (cc q);
+              turn = tt;
+              keeps = λ left. refl;
+            }) played)
         go (Some d) e =
             let entered = frame_of func ty d args in
             subst
-            (λ r. Follows m plan code premise (Within segments) (call_place labels number)
+            (λ r. Follows m plan code premise (WithinBy m plan 2 begun segments) (call_place labels number)
             (after_step segments came (after_entries (HostCall func args ∷ []) r)))
             (sym (ap (λ o. enter_defined o (definition (code_of m) func) store counts func args stack) typed
             ∙ ap (λ o. enter_defined (Some ty) o store counts func args stack) e))
@@ -180,11 +194,12 @@ module _ (laws : RunLaws) (m : Module) (plan : Plan) (code : Code) (is : IsRepla
             (func ∷ base.func ∷ inside)
             (HostCall func args ∷ []) (first_entries number) (deliver (InModule entered ∷ stack) [])
             (deliver (InModule entered ∷ InModule (waiting labels number) ∷ below) []) (imports_in stack) segments came
-            premise (enters labels number (Some d)
+            premise 2 begun (enters labels number (Some d)
             (deliver (InModule entered ∷ InModule (waiting labels number) ∷ below) []) e refl)
             (settled m begun stack (InModule (waiting labels number) ∷ below)
             (base.func ∷ inside) entered ty [] typed refl
             past_imports (again labels (number + 1))
-            (λ results count. returned m begun ty.results stack (InModule (waiting labels number) ∷ below)
+            (λ results count. returned m played.one begun ty.results (played.one func ty typed) stack
+            (InModule (waiting labels number) ∷ below)
             (base.func ∷ inside) (again labels (number + 1)) func results func_side count))
             played)

@@ -1,5 +1,5 @@
 -- From wherever the host is topmost, control comes to the segments that its activation plays next.
-use Rattle.std.proofs.Common.{◌≡◌, ℕ, zero, suc, ◌+◌, ◌<◌, ◌^◌, List, [], ◌∷◌, ◌++◌, length, drop, reverse, Some, true, false, slice_get, slice_set, slice_index, replicate, refl, sym, ap, ◌∙◌, subst, arith, append-nil}
+use Rattle.std.proofs.Common.{◌≡◌, ℕ, zero, suc, ◌+◌, ◌<◌, ◌≤◌, ◌^◌, List, [], ◌∷◌, ◌++◌, length, drop, reverse, Some, true, false, slice_get, slice_set, slice_index, replicate, refl, sym, ap, ◌∙◌, subst, arith, append-nil}
 use Rattle.std.specs.Prelude.{Bool, map, nat_eq}
 use Rattle.std.specs.List.{slice_index_or}
 use Rattle.std.proofs.lemmas.Bool.Decides.{nat_tests}
@@ -17,7 +17,6 @@ use Rattle.host_script.specs.declared.scripts.Action.TheVariants.{Call}
 use Rattle.host_script.specs.declared.scripts.ResponseEnd.TheVariants.{Trap as EndsInTrap}
 use Rattle.trace_model.specs.declared.tapes.Next.{Next}
 use Rattle.trace_model.specs.declared.tapes.Next.TheVariants.{Call as Calls, Return as Returns, End as Ends, Trap as Traps}
-use Rattle.trace_model.specs.declared.tapes.Origin.{Origin}
 use Rattle.trace_model.specs.declared.tapes.Origin.TheVariants.{Begin, Back, Import}
 use Rattle.trace_model.specs.declared.tapes.Segment.{Segment}
 use Rattle.history_spec.specs.declared.entries.Entry.TheVariants.{HostCall}
@@ -28,7 +27,7 @@ use Rattle.history_spec.specs.Settle.{deliver}
 use Rattle.history_spec.specs.Step.{Running, StepResult, step_result, after_entries, after_settling, enter_defined, frame_of, step}
 use Rattle.history_spec.specs.Projection.{Appended, side, shown_call}
 use Rattle.replay_plan.specs.declared.plans.Plan.{Plan}
-use Rattle.replay_plan.specs.Plans.{innermost, around_innermost, with_segment, with_origin, left_of}
+use Rattle.replay_plan.specs.Plans.{innermost, around_innermost, with_segment}
 use Rattle.replay_gen.specs.Dispatch.{sequence}
 use Rattle.replay_gen.specs.Segments.{segments_code}
 use Rattle.replay_gen.specs.Functions.{start_type}
@@ -48,6 +47,8 @@ use Rattle.binary_follows.proofs.Sound.{IsSound}
 use Rattle.binary_follows.proofs.Settled.{AreReturned, delivered, segments_going}
 use Rattle.binary_follows.proofs.Codes.{does_drops}
 use Rattle.binary_follows.proofs.Counted.{counted}
+use Rattle.binary_follows.proofs.Bounded.{most_before, steps_counted}
+use Rattle.binary_follows.proofs.CallsLeft.{set_is, set_other}
 use Rattle.binary_follows.proofs.Groups.{segments_some}
 use Rattle.binary_follows.proofs.Answered.{IsReached, StepLaws, answers_call, same_steps}
 use Rattle.binary_follows.proofs.Together.{IsHostOn, at_call}
@@ -61,45 +62,7 @@ begun_parts segment (Returns result) begun = refl
 begun_parts segment Ends begun = refl
 begun_parts segment Traps begun = refl
 
--- ---- how many lists of calls are left
-
-pub set_length : {X : Type 0} (xs : List X) (i : ℕ) (x : X) → length (slice_set xs i x) ≡ length xs
-set_length [] i x = refl
-set_length (y ∷ xs) zero x = refl
-set_length (y ∷ xs) (suc i) x = ap suc (set_length xs i x)
-
-many_with : (origin : Origin) (begun : List (List Segment)) (calls : List (List (List Segment)))
-    → length (with_origin origin begun calls).calls ≡ length calls
-many_with Begin begun calls = refl
-many_with Back begun calls = refl
-many_with (Import import) begun calls =
-    set_length calls import (innermost begun ∷ slice_index_or calls import [])
-
-pub replicate_length : {X : Type 0} (count : ℕ) (x : X) → length (replicate count x) ≡ count
-replicate_length zero x = refl
-replicate_length (suc count) x = ap suc (replicate_length count x)
-
-pub many_left : (imports : ℕ) (segments : List Segment) → length (left_of imports segments).calls ≡ imports
-many_left imports [] = replicate_length imports []
-many_left imports (segment ∷ later) =
-    many_with segment.origin (with_segment segment segment.next (left_of imports later).begun)
-    (left_of imports later).calls
-    ∙ many_left imports later
-
 -- ---- the calls that are left, where one begins
-
-set_is : {X : Type 0} (xs : List X) (i : ℕ) (x d : X) → i < length xs → slice_index_or (slice_set xs i x) i d ≡ x
-set_is [] i x d below = absurd (omega (arith, below))
-set_is (y ∷ xs) zero x d below = refl
-set_is (y ∷ xs) (suc i) x d below = set_is xs i x d (omega (arith, below))
-
-set_other : {X : Type 0} (xs : List X) (i j : ℕ) (x d : X) → (i ≡ j → ⊥)
-    → slice_index_or (slice_set xs i x) j d ≡ slice_index_or xs j d
-set_other [] i j x d differ = refl
-set_other (y ∷ xs) zero zero x d differ = absurd (differ refl)
-set_other (y ∷ xs) zero (suc j) x d differ = refl
-set_other (y ∷ xs) (suc i) zero x d differ = refl
-set_other (y ∷ xs) (suc i) (suc j) x d differ = set_other xs i j x d (λ e. differ (ap suc e))
 
 count_is : (xs : List ℕ) (i x : ℕ) → i < length xs → slice_index (slice_set xs i x) i ≡ x
 count_is [] i x below = absurd (omega (arith, below))
@@ -161,16 +124,19 @@ module _ (laws : StepLaws) (m : Module) (plan : Plan) (code : Code) (is : IsRepl
   pub reached_back : (store : Store) (counts : List ℕ) (stack own : List Activation) (inside : List ℕ)
       (begun : List (List Segment)) → IsHostOn stack → AreReturned m begun stack own inside
       → IsReached m code (own_place store counts own inside) store counts stack begun
+      (most_before plan Back)
   reached_back store counts stack own inside begun on r =
-      subst (λ own. IsReached m code (own_place store counts own inside) store counts stack begun) (sym r.is)
-      (go r.awaited r.waiting stack inside r.as_many r.beside on)
+      subst (λ own. IsReached m code (own_place store counts own inside) store counts stack begun
+      (most_before plan Back)) (sym r.is)
+      (go r.awaited r.waiting stack inside r.as_many r.few r.beside on)
     where
       go : (awaited : List ValType) (waiting stack : List Activation) (inside : List ℕ)
-          → length r.results ≡ length awaited → AreBeside m awaited stack begun waiting inside → IsHostOn stack
+          → length r.results ≡ length awaited → length awaited ≤ 1 → AreBeside m awaited stack begun waiting inside
+          → IsHostOn stack
           → IsReached m code
           (own_place store counts (with_values (reverse r.results) waiting) inside) store counts stack
-          begun
-      go awaited _ _ _ many (Works base labels number func arity) host =
+          begun (most_before plan Back)
+      go awaited _ _ _ many one (Works base labels number func arity) host =
           let s : Standing = record {
             frame = base;
             below = InMain [] ∷ [];
@@ -184,6 +150,9 @@ module _ (laws : StepLaws) (m : Module) (plan : Plan) (code : Code) (is : IsRepl
           (length-reverse r.results ∙ many) labels (sequence (segments_code m (innermost begun)) Empty) number
           (nest_begins m (innermost begun)) in
           let steps = same_steps (length awaited) false in
+          let counted = steps_counted (length awaited) in
+          let count = counted.0 in
+          let none = counted.1 in
           record {
             items = replicate (length awaited) (Steps false);
             own = InModule (waiting_frame m [] (innermost begun) base labels done.at) ∷ InMain [] ∷ [];
@@ -199,8 +168,10 @@ module _ (laws : StepLaws) (m : Module) (plan : Plan) (code : Code) (is : IsRepl
             beside = Works base labels done.at func arity;
             silent = steps.silent;
             unchanged = steps.unchanged;
+            few = omega (arith, count, one);
+            few_blocks = omega (arith, none);
           }
-      go awaited _ _ _ many
+      go awaited _ _ _ many one
           (Answers stack own inside import args ty caller base behind labels behind_labels number behind_number typed
           below past arity func behind_arity under) host =
           let others : List Activation = InModule (returning_frame behind behind_labels behind_number) ∷ own in
@@ -217,6 +188,9 @@ module _ (laws : StepLaws) (m : Module) (plan : Plan) (code : Code) (is : IsRepl
           (length-reverse r.results ∙ many) labels (sequence (segments_code m (innermost begun)) Empty) number
           (nest_begins m (innermost begun)) in
           let steps = same_steps (length awaited) false in
+          let counted = steps_counted (length awaited) in
+          let count = counted.0 in
+          let none = counted.1 in
           record {
             items = replicate (length awaited) (Steps false);
             own = InModule (waiting_frame m [] (innermost begun) base labels done.at) ∷ others;
@@ -234,13 +208,15 @@ module _ (laws : StepLaws) (m : Module) (plan : Plan) (code : Code) (is : IsRepl
                 typed below past arity func behind_arity under;
             silent = steps.silent;
             unchanged = steps.unchanged;
+            few = omega (arith, count, one);
+            few_blocks = omega (arith, none);
           }
-      go awaited _ _ _ many (Runs stack own inside frame ty typed arity past under) host = absurd host
+      go awaited _ _ _ many one (Runs stack own inside frame ty typed arity past under) host = absurd host
 
   -- the exported function begins
   pub reached_begin : (store : Store) (counts : List ℕ) (begun : List (List Segment)) → innermost begun ≡ plan.begin
       → IsReached m code (own_place store counts (InMain (Call (start_index m) [] ∷ []) ∷ []) []) store counts
-      (InMain (pause ∷ []) ∷ []) begun
+      (InMain (pause ∷ []) ∷ []) begun (most_before plan Begin)
   reached_begin store counts begun first =
       record {
         items = [];
@@ -256,6 +232,8 @@ module _ (laws : StepLaws) (m : Module) (plan : Plan) (code : Code) (is : IsRepl
         beside = Works top [] 0 refl refl;
         silent = refl;
         unchanged = refl;
+        few = omega arith;
+        few_blocks = omega arith;
       }
     where
       top : Frame
@@ -316,7 +294,7 @@ module _ (laws : StepLaws) (m : Module) (plan : Plan) (code : Code) (is : IsRepl
       → AreBeside m ty.results (InModule caller ∷ stack) (around_innermost begun) own inside
       → IsReached m code (at_call m plan store before import ty args own inside) store (counted before import)
       (InImport import args (pause ∷ []) EndsInTrap ∷ InModule caller ∷ stack)
-      (innermost begun ∷ around_innermost begun)
+      (innermost begun ∷ around_innermost begun) (most_before plan (Import import))
       × AreLeft plan.imports (counted before import) calls
   reached_call store import args ty caller stack before own inside begun calls typed below given many as_many sound left
       short under =

@@ -28,11 +28,17 @@ use Rattle.replay_gen.specs.Segments.{effects_code, next_code, segments_code}
 use Rattle.replay_gen.specs.Fragments.{start_index}
 use Rattle.outside_spec.specs.Stretches.{Stretches, at_entry}
 use Rattle.outside_spec.specs.Inside.{inside_after, inside_after_all}
+use Rattle.outside_spec.specs.Steps.{with_entry}
 use Rattle.generated_effects.proofs.Does.{sequence_over}
 use Rattle.observed_steps.proofs.Operands.{topmost_length}
 use Rattle.binary_follows.specs.Playable.{layout_of}
 use Rattle.binary_follows.proofs.Relation.{AreBeside, Works, Runs, Answers, waiting_frame, imports_in, returning_frame, with_values}
+use Rattle.binary_follows.proofs.Bounded.{AreWithinCalls}
 use Rattle.binary_follows.proofs.Sides.{original_side, appended_side, below_start}
+
+-- each function of a valid module has one result at most
+abbrev pub HasOneResult : Module → Type 0
+HasOneResult m = (func : ℕ) (ty : FuncType) → signature (code_of m) func ≡ Some ty → length ty.results ≤ 1
 
 -- ---- where both come to
 
@@ -43,6 +49,7 @@ pub record AreReturned (m : Module) (begun : List (List Segment)) (stack own : L
   pub results : List Val
   pub waiting : List Activation
   pub as_many : length results ≡ length awaited
+  pub few : length awaited ≤ 1
   pub beside : AreBeside m awaited stack begun waiting inside
   pub is : own ≡ with_values (reverse results) waiting
 
@@ -87,6 +94,7 @@ pub record Settles (m : Module) (begun : List (List Segment)) (opened : List ℕ
   pub ends : AreSettled m begun tape.entries tape.next own.next (inside_after_all inside own.entries)
   pub still : (stack : List Activation) → tape.next ≡ Continues stack → imports_in stack ≡ opened
   pub turn : IsTurn tape.next tape.entries
+  pub keeps : AreWithinCalls tape.entries
 
 -- ---- entries
 
@@ -133,12 +141,13 @@ turn_after entry entries NoRule same t = t
 -- one more entry in front of both
 pub settles_after : (m : Module) (begun : List (List Segment)) (opened inside next : List ℕ) (entry own_entry : Entry)
     (tape own : SettleResult) → IsBefore entry → ((s : Stretches) → at_entry entry s ≡ s)
+    → AreWithinCalls (entry ∷ [])
     → ((args : List Val) (later : List Entry)
     → shown_entries (layout_of m) inside args (own_entry ∷ later)
     ≡ entry ∷ shown_entries (layout_of m) next args later)
     → inside_after inside own_entry ≡ next → Settles m begun opened next tape own
     → Settles m begun opened inside (after_entry entry tape) (after_entry own_entry own)
-settles_after m begun opened inside next entry own_entry tape own before same shows e s =
+settles_after m begun opened inside next entry own_entry tape own before same keeps shows e s =
     record {
       shows = λ args. shows args own.entries ∙ ap (λ l. entry ∷ l) (s.shows args);
       ends = subst
@@ -147,6 +156,7 @@ settles_after m begun opened inside next entry own_entry tape own before same sh
           (inside_after_all next own.entries) before s.ends);
       still = s.still;
       turn = turn_after entry tape.entries tape.next same s.turn;
+      keeps = λ left. ap (with_entry entry) (s.keeps left) ∙ keeps left;
     }
 
 -- ---- a generated activation goes on with results
@@ -255,7 +265,7 @@ module _ (m : Module) where
   -- the host gets results
   back_to_host : (begun : List (List Segment)) (awaited : List ValType) (stack waiting own : List Activation)
       (inside : List ℕ) (func : ℕ) (results : List Val) → side (layout_of m) func ≡ Original
-      → caller_side (layout_of m) inside ≡ Appended → length results ≡ length awaited
+      → caller_side (layout_of m) inside ≡ Appended → length results ≡ length awaited → length awaited ≤ 1
       → AreBeside m awaited stack begun waiting inside → own ≡ with_values (reverse results) waiting
       → (AreReturned m begun stack own inside
       → ArePlaced m begun (HostReturn func results ∷ []) stack own inside)
@@ -263,7 +273,7 @@ module _ (m : Module) where
       → Settles m begun (imports_in stack) (func ∷ inside)
       (settle_result (HostReturn func results ∷ []) (Continues stack))
       (settle_result (Exit func results ∷ []) (Continues own))
-  back_to_host begun awaited stack waiting own inside func results original outside as_many beside is placed turn =
+  back_to_host begun awaited stack waiting own inside func results original outside as_many few beside is placed turn =
       record {
         shows = λ args. ap (λ l. l ++ []) (return_to_import inside func results original outside);
         ends = placed
@@ -272,11 +282,13 @@ module _ (m : Module) where
               results = results;
               waiting = waiting;
               as_many = as_many;
+              few = few;
               beside = beside;
               is = is;
             });
         still = λ other e. ap imports_of (sym e);
         turn = turn;
+        keeps = λ left. refl;
       }
 
   -- an activation of the original goes on, or returns
@@ -305,6 +317,7 @@ module _ (m : Module) where
             ends = Runs stack own inside next ty typed arity past beside;
             still = λ other e. ap imports_of (sym e);
             turn = λ s. refl;
+            keeps = λ left. refl;
           }
       go (Gives given) e = returns given (gave next.at.rest given e ∙ arity)
         where
@@ -322,16 +335,24 @@ module _ (m : Module) where
           gave (InLoop ty body rest) given h = cc
           gave (InIf ty body rest) given h = cc
           gave (InIfElse ty body other rest) given h = cc
-      go TooFew e = record { shows = λ args. refl; ends = tt; still = λ other e. absurd (cc e); turn = tt }
+      go TooFew e =
+          record {
+            shows = λ args. refl;
+            ends = tt;
+            still = λ other e. absurd (cc e);
+            turn = tt;
+            keeps = λ left. refl;
+          }
 
   -- a function of the original returns
-  pub returned : (begun : List (List Segment)) (awaited : List ValType) (stack own : List Activation) (inside : List ℕ)
+  pub returned : (one : HasOneResult m) (begun : List (List Segment)) (awaited : List ValType)
+      (few : length awaited ≤ 1) (stack own : List Activation) (inside : List ℕ)
       → AreBeside m awaited stack begun own inside
       → (func : ℕ) (results : List Val) → side (layout_of m) func ≡ Original → length results ≡ length awaited
       → Settles m begun (imports_in stack) (func ∷ inside)
       (after_entry (return_entry func results stack) (deliver stack results))
       (after_entry (return_entry func results own) (deliver own results))
-  returned begun awaited stack own inside (Works base labels number is arity) func results original as_many =
+  returned one begun awaited few stack own inside (Works base labels number is arity) func results original as_many =
       subst
       (λ s. Settles m begun [] (func ∷ base.func ∷ [])
       (settle_result (HostReturn func results ∷ []) (Continues (InMain (pause ∷ []) ∷ [])))
@@ -339,9 +360,9 @@ module _ (m : Module) where
       (sym (delivered base labels _ number results (InMain [] ∷ []) (waiting_going (length awaited) (innermost begun))))
       (back_to_host begun awaited (InMain (pause ∷ []) ∷ [])
       (InModule (waiting_frame m awaited (innermost begun) base labels number) ∷ InMain [] ∷ []) _ (base.func ∷ []) func
-      results original (ap (side (layout_of m)) is ∙ appended_side m (start_index m) (omega arith)) as_many
+      results original (ap (side (layout_of m)) is ∙ appended_side m (start_index m) (omega arith)) as_many few
       (Works base labels number is arity) refl (λ r. (r, λ came. refl)) (λ s. refl))
-  returned begun awaited _ _ _
+  returned one begun awaited few _ _ _
       (Answers stack own inside import args ty caller base behind labels behind_labels number behind_number typed below
       past arity is behind_arity under) func results original as_many =
       let host : List Activation = InImport import args (pause ∷ []) EndsInTrap ∷ InModule caller ∷ stack in
@@ -354,16 +375,18 @@ module _ (m : Module) where
       (sym (delivered base labels _ number results others (waiting_going (length awaited) (innermost begun))))
       (back_to_host begun awaited host
       (InModule (waiting_frame m awaited (innermost begun) base labels number) ∷ others) _ within func results original
-      (appended_side m base.func (omega (arith, past))) as_many
+      (appended_side m base.func (omega (arith, past))) as_many few
       (Answers stack own inside import args ty caller base behind labels behind_labels number behind_number typed below
       past arity is behind_arity under) refl (λ r. (r, λ came. refl)) (λ s. refl))
-  returned begun awaited _ _ _ (Runs stack own inside frame ty typed arity past under) func results original as_many =
+  returned one begun awaited few _ _ _ (Runs stack own inside frame ty typed arity past under) func results original
+      as_many =
       let within = frame.func ∷ inside in
       let own_side = original_side m frame.func past (below_start m frame.func ty typed) in
       settles_after m begun (imports_in stack) (func ∷ within) within (Exit func results) (Exit func results)
       (deliver (InModule frame ∷ stack) results) (deliver (InModule frame ∷ own) results)
-      (λ later h came. h came) (λ s. refl)
+      (λ later h came. h came) (λ s. refl) (λ left. refl)
       (λ args later. ap (λ l. l ++ shown_entries (layout_of m) within args later)
       (return_within within func results original own_side)) refl
       (settled begun stack own inside frame ty results typed arity past under
-      (λ given count. returned begun ty.results stack own inside under frame.func given own_side count))
+      (λ given count. returned one begun ty.results (one frame.func ty typed) stack own inside under frame.func given
+      own_side count))

@@ -18,7 +18,7 @@ use Rattle.replay_plan.specs.Plans.{Left, innermost, with_origin, with_segment, 
 use Rattle.replay_spec.specs.Alike.{same_origin}
 use Rattle.replay_spec.proofs.Alike.{origin_same}
 use Rattle.replay_spec.specs.TapeRun.{pause, store_after_effects, TapeConfig, TapeProgress, Plays, Over, Disagrees, NoRule, TapeResult, tape_result, tape_after, after_effects, after_segment, after_segment_if, tape_step, tape_step_of, tape_steps}
-use Rattle.outside_spec.specs.Items.{Item, entries_in}
+use Rattle.outside_spec.specs.Items.{entries_in}
 use Rattle.outside_spec.specs.Stretches.{Stretches}
 use Rattle.generated_steps.specs.Leads.{Place}
 use Rattle.generated_effects.specs.Laws.{AllGrowSizes, EffectsAreMade}
@@ -33,9 +33,12 @@ use Rattle.binary_follows.proofs.Sound.{IsSound}
 use Rattle.binary_follows.proofs.Settled.{AreReturned}
 use Rattle.binary_follows.proofs.Counted.{counted}
 use Rattle.binary_follows.proofs.Answered.{IsReached, StepLaws}
-use Rattle.binary_follows.proofs.Together.{AreClaimed, AtHost, tape_config, AreFit, AreTogether, InOriginal, AtBegin, AtReturn, AtCall, IsHostOn, HasShown, at_call, IsEnded, Follows, FollowsTo}
+use Rattle.binary_follows.proofs.Together.{Claim, claim_at, Playing, AtHost, tape_config, AreFit, AreTogether, InOriginal, AtBegin, AtReturn, AtCall, IsHostOn, HasShown, at_call, IsEnded, Follows, FollowsTo}
 use Rattle.binary_follows.proofs.Parts.{steps_stretches, RunLaws, follows_after, nothing_shown}
-use Rattle.binary_follows.proofs.Reached.{begun_parts, many_left, reached_back, reached_begin, reached_call, set_length}
+use Rattle.binary_follows.proofs.Reached.{begun_parts, reached_back, reached_begin, reached_call}
+use Rattle.binary_follows.proofs.Settled.{HasOneResult}
+use Rattle.binary_follows.proofs.Bounded.{arrives, most_before}
+use Rattle.binary_follows.proofs.CallsLeft.{many_left, set_length}
 use Rattle.binary_follows.proofs.Fitting.{came_back, came_begin, came_call, first_fits}
 use Rattle.binary_follows.proofs.HostSteps.{host_follows}
 use Rattle.binary_follows.proofs.ModuleSteps.{InstructionLaws, module_follows}
@@ -53,7 +56,7 @@ AsHost store [] = Unit {0}
 AsHost store (segment ∷ later) = AllGrowSizes store segment.effects
 
 module _ (laws : FollowLaws) (m : Module) (plan : Plan) (code : Code) (is : IsReplayCode m plan code)
-    (short : (import : ℕ) → length (slice_index_or plan.imports import []) < 2 ^ 32) where
+    (short : (import : ℕ) → length (slice_index_or plan.imports import []) < 2 ^ 32) (one : HasOneResult m) where
   -- ---- the host's steps
 
   module _ (store : Store) (stack : List Activation) (counts : List ℕ) (origin : Origin) (p : Place)
@@ -65,44 +68,47 @@ module _ (laws : FollowLaws) (m : Module) (plan : Plan) (code : Code) (is : IsRe
     abbrev Reaches : Segment → List Segment → Type 0
     Reaches segment later =
         IsReached m code p store counts stack
-        (with_segment segment segment.next (left_of (imported_funcs m) later).begun)
+        (with_segment segment segment.next (left_of (imported_funcs m) later).begun) (most_before plan origin)
         × AreLeft plan.imports counts (left_of (imported_funcs m) later).calls
+        × ((import : ℕ) → origin ≡ Import import → import < imported_funcs m)
 
     segment_follows : (segment : Segment) (later : List Segment) → AreFit m before (segment ∷ later)
         → segment.origin ≡ origin → Reaches segment later
-        → Follows m plan code (AllGrowSizes store segment.effects) (AtHost (segment ∷ later)) p
+        → Follows m plan code (AllGrowSizes store segment.effects) (AtHost m plan origin (segment ∷ later)) p
         (after_effects (code_of m) config later origin segment.next (store_after_effects segment.effects store))
     segment_follows segment later fits same reached =
         go (store_after_effects segment.effects store) refl
       where
         go : (o : Option Store) → store_after_effects segment.effects store ≡ o
-            → Follows m plan code (AllGrowSizes store segment.effects) (AtHost (segment ∷ later)) p
+            → Follows m plan code (AllGrowSizes store segment.effects) (AtHost m plan origin (segment ∷ later)) p
             (after_effects (code_of m) config later origin segment.next o)
         go None e = nothing_shown laws.run m plan code p
         go (Some after) e =
             let f = first_fits m before segment later fits in
             let r = reached.0 in
             let t = after_effects (code_of m) config later origin segment.next (Some after) in
-            follows_after laws.run m plan code (AllGrowSizes store segment.effects) (AtHost (segment ∷ later))
-            (AtHost (segment ∷ later)) p _ r.items r.leads r.silent
+            follows_after laws.run m plan code (AllGrowSizes store segment.effects) (Playing m plan segment later)
+            (AtHost m plan origin (segment ∷ later)) p _ r.items r.leads r.silent
             (λ grows rest c. subst
             (λ (s : Stretches). AreEffectsOfFirst (segment ∷ later) (s.here ∷ s.later))
-            (sym (steps_stretches r.items rest r.silent r.unchanged)) c) t.entries t.next
+            (sym (steps_stretches r.items rest r.silent r.unchanged)) c)
+            (λ rest c. arrives plan (imported_funcs m) segment later r.items rest r.silent c origin same reached.2 r.few
+            r.few_blocks) t.entries t.next
             (host_follows laws.run laws.effects m plan code is store counts segment.origin segment.effects later
             origin after
-            sound many reached.1 f.effects f.bytes e segment.next stack r.own r.inside fits.at before f
+            sound many reached.1 f.effects f.bytes e one segment.next stack r.own r.inside fits.at before f
             (opens fits.at f.opened (ap (came m fits.at before) (sym same) ∙ f.comes)) host r.beside)
 
     host_step : (segments : List Segment) → AreFit m before segments
         → ((segment : Segment) (later : List Segment) → segments ≡ segment ∷ later → segment.origin ≡ origin
         → Reaches segment later)
-        → Follows m plan code (AsHost store segments) (AtHost segments) p
+        → Follows m plan code (AsHost store segments) (AtHost m plan origin segments) p
         (after_segment (code_of m) config segments origin)
     host_step [] fits reaches = nothing_shown laws.run m plan code p
     host_step (segment ∷ later) fits reaches = go (same_origin segment.origin origin) refl
       where
         go : (b : Bool) → same_origin segment.origin origin ≡ b
-            → Follows m plan code (AllGrowSizes store segment.effects) (AtHost (segment ∷ later)) p
+            → Follows m plan code (AllGrowSizes store segment.effects) (AtHost m plan origin (segment ∷ later)) p
             (after_segment_if b (code_of m) config segment later origin)
         go false e = nothing_shown laws.run m plan code p
         go true e =
@@ -130,26 +136,28 @@ module _ (laws : FollowLaws) (m : Module) (plan : Plan) (code : Code) (is : IsRe
     left_is origin o = ap (left_of (imported_funcs m)) e ∙ ap (λ origin. with_origin origin taken rest.calls) o
 
   -- where the host is topmost, what is asked and claimed is that of its next segment
-  as_host : (store : Store) (stack : List Activation) (segments : List Segment) (p : Place) (r : TapeResult)
-      → IsHostOn stack → Follows m plan code (AsHost store segments) (AtHost segments) p r
-      → Follows m plan code (GrowsNext store stack segments) (AreClaimed stack segments) p r
-  as_host store [] segments p r host f = absurd host
-  as_host store (InModule frame ∷ below) segments p r host f = absurd host
-  as_host store (InMain actions ∷ below) [] p r host f = f
-  as_host store (InMain actions ∷ below) (segment ∷ later) p r host f = f
-  as_host store (InImport import args actions end ∷ below) [] p r host f = f
-  as_host store (InImport import args actions end ∷ below) (segment ∷ later) p r host f = f
+  as_host : (store : Store) (stack : List Activation) (segments : List Segment) (came : Origin) (p : Place)
+      (r : TapeResult)
+      → IsHostOn stack → Follows m plan code (AsHost store segments) (AtHost m plan came segments) p r
+      → Follows m plan code (GrowsNext store stack segments) (claim_at m plan stack segments came) p r
+  as_host store [] segments came p r host f = absurd host
+  as_host store (InModule frame ∷ below) segments came p r host f = absurd host
+  as_host store (InMain actions ∷ below) [] came p r host f = f
+  as_host store (InMain actions ∷ below) (segment ∷ later) came p r host f = f
+  as_host store (InImport import args actions end ∷ below) [] came p r host f = f
+  as_host store (InImport import args actions end ∷ below) (segment ∷ later) came p r host f = f
 
   step_follows : (t : TapeConfig) (p : Place) → AreTogether m plan code t p
-      → Follows m plan code (GrowsNext t.config.store t.config.stack t.left) (AreClaimed t.config.stack t.left) p
-      (tape_step (code_of m) t)
+      → Follows m plan code (GrowsNext t.config.store t.config.stack t.left)
+      (claim_at m plan t.config.stack t.left t.came)
+      p (tape_step (code_of m) t)
   step_follows _ _ (InOriginal store _ _ counts segments origin _ _ played
       (Runs stack own inside frame ty typed arity past under)) =
       module_follows laws.run laws.instructions m plan code is store frame stack counts segments origin played own
       inside ty
       typed arity past under
   step_follows _ _ (AtBegin store counts segments played first) =
-      as_host store (InMain (pause ∷ []) ∷ []) segments
+      as_host store (InMain (pause ∷ []) ∷ []) segments Begin
       (own_place store counts (InMain (Call (start_index m) [] ∷ []) ∷ []) [])
       (after_segment (code_of m) (record { store = store; stack = InMain (pause ∷ []) ∷ []; counts = counts }) segments
       Begin) tt
@@ -160,13 +168,14 @@ module _ (laws : FollowLaws) (m : Module) (plan : Plan) (code : Code) (is : IsRe
         reached_begin laws.steps m plan code is store counts (taken segments segment later e)
             (ap (λ (l : Left). innermost l.begun) (sym l) ∙ first),
         subst (λ (l : Left). AreLeft plan.imports counts l.calls) l played.calls,
+        λ import e. absurd (cc e),
       )))
   step_follows _ _ (AtReturn store stack counts segments own inside played host back) =
       subst
-      (Follows m plan code (GrowsNext store stack segments) (AreClaimed stack segments)
+      (Follows m plan code (GrowsNext store stack segments) (claim_at m plan stack segments Back)
       (own_place store counts own inside))
       (sym (host_takes stack (tape_config store stack counts segments Back) host))
-      (as_host store stack segments (own_place store counts own inside)
+      (as_host store stack segments Back (own_place store counts own inside)
       (after_segment (code_of m) (record { store = store; stack = stack; counts = counts }) segments Back) host
       (host_step store stack counts Back _ (imports_in stack) host played.sound played.many
       (λ at opened h. sym (came_back m at (imports_in stack) opened h)) segments played.fits
@@ -176,10 +185,11 @@ module _ (laws : FollowLaws) (m : Module) (plan : Plan) (code : Code) (is : IsRe
             (subst (λ (l : Left).
             AreReturned m l.begun stack own inside) l back),
         subst (λ (l : Left). AreLeft plan.imports counts l.calls) l played.calls,
+        λ import e. absurd (cc e),
       ))))
   step_follows _ _
       (AtCall store import args ty caller stack before segments own inside played typed below given under) =
-      as_host store (InImport import args (pause ∷ []) EndsInTrap ∷ InModule caller ∷ stack) segments
+      as_host store (InImport import args (pause ∷ []) EndsInTrap ∷ InModule caller ∷ stack) segments (Import import)
       (at_call m plan store before import ty args own inside)
       (after_segment (code_of m)
       (record {
@@ -205,15 +215,17 @@ module _ (laws : FollowLaws) (m : Module) (plan : Plan) (code : Code) (is : IsRe
         subst
             (λ begun. IsReached m code (at_call m plan store before import ty args own inside) store
             (counted before import)
-            (InImport import args (pause ∷ []) EndsInTrap ∷ InModule caller ∷ stack) begun)
+            (InImport import args (pause ∷ []) EndsInTrap ∷ InModule caller ∷ stack) begun
+            (most_before plan (Import import)))
             (sym (begun_parts segment segment.next (left_of (imported_funcs m) later).begun)) reached.0,
         reached.1,
+        λ other e. let same : import ≡ other = cc e in subst (λ i. i < imported_funcs m) same below,
       )))
 
   -- ---- so many steps
 
   -- what a result of the tape's run shows is shown, and where it is over, so is the replay module's run
-  pub record PlaysOut (premise : Type 0) (claim : List Item → Type 0) (p : Place) (t : TapeResult) : Type 0 where
+  pub record PlaysOut (premise : Type 0) (claim : Claim) (p : Place) (t : TapeResult) : Type 0 where
     pub shown : HasShown m code p t.entries
     pub over : (outcome : Outcome) → t.next ≡ Over outcome → IsEnded m code premise claim p t.entries outcome
 
@@ -238,11 +250,11 @@ module _ (laws : FollowLaws) (m : Module) (plan : Plan) (code : Code) (is : IsRe
   last_shown : (p : Place) (entries : List Entry) → HasShown m code p entries → HasShown m code p (entries ++ [])
   last_shown p entries h = subst (HasShown m code p) (sym (append-nil entries)) h
 
-  module _ (premise first : Type 0) (claim : List Item → Type 0) (p : Place) (k : ℕ) (entries : List Entry)
+  module _ (premise first : Type 0) (claim : Claim) (p : Place) (k : ℕ) (entries : List Entry)
       (begins : premise → first) where
     continues : (next : TapeProgress) → ((t : TapeConfig) → next ≡ Plays t → premise → GrowsFrom t)
         → ((t : TapeConfig) (q : Place) → AreTogether m plan code t q
-        → PlaysOut (GrowsFrom t) (AreClaimed t.config.stack t.left) q (tape_steps (code_of m) k (Plays t)))
+        → PlaysOut (GrowsFrom t) (claim_at m plan t.config.stack t.left t.came) q (tape_steps (code_of m) k (Plays t)))
         → FollowsTo m plan code first claim p entries next
         → PlaysOut premise claim p (tape_after entries (tape_steps (code_of m) k next))
     continues (Plays t) onward more f =
@@ -266,6 +278,7 @@ module _ (laws : FollowLaws) (m : Module) (plan : Plan) (code : Code) (is : IsRe
                     entries_of_both f.items o.items
                     ∙ ap (λ l. l ++ entries_in o.items) f.shown ∙ ap (λ l. entries ++ l) o.shown;
                 claimed = λ pr. f.claimed (begins pr) o.items (o.claimed (onward t refl pr));
+                bounded = f.bounded o.items o.bounded;
               };
         }
     continues (Over outcome) onward more f =
@@ -287,6 +300,7 @@ module _ (laws : FollowLaws) (m : Module) (plan : Plan) (code : Code) (is : IsRe
                 ends = f.ends;
                 shown = f.shown;
                 claimed = λ pr. f.claimed (begins pr);
+                bounded = f.bounded;
               }));
         })
     continues Disagrees onward more f =
@@ -297,11 +311,13 @@ module _ (laws : FollowLaws) (m : Module) (plan : Plan) (code : Code) (is : IsRe
         (record { shown = last_shown p entries f; over = λ found e. absurd (cc e) })
 
   pub run_follows : (k : ℕ) (t : TapeConfig) (p : Place) → AreTogether m plan code t p
-      → PlaysOut (GrowsFrom t) (AreClaimed t.config.stack t.left) p (tape_steps (code_of m) k (Plays t))
+      → PlaysOut (GrowsFrom t) (claim_at m plan t.config.stack t.left t.came) p (tape_steps (code_of m) k (Plays t))
   run_follows zero t p together =
       record { shown = nothing_shown laws.run m plan code p; over = λ outcome e. absurd (cc e) }
   run_follows (suc k) t p together =
-      continues (GrowsFrom t) (GrowsNext t.config.store t.config.stack t.left) (AreClaimed t.config.stack t.left) p k
+      continues (GrowsFrom t) (GrowsNext t.config.store t.config.stack t.left)
+      (claim_at m plan t.config.stack t.left t.came)
+      p k
       (tape_step (code_of m) t).entries (λ grows. grows 0 t refl) (tape_step (code_of m) t).next
       (λ next e grows j last h.
       grows (suc j) last (ap (λ n. (tape_steps (code_of m) j n).next) e ∙ h))

@@ -23,6 +23,7 @@ use Rattle.replay_gen.specs.Fragments.{start_index}
 use Rattle.replay_spec.specs.TapeRun.{pause, TapeConfig, TapeProgress, Plays, Over, Disagrees, NoRule, TapeResult}
 use Rattle.outside_spec.specs.Items.{Item, entries_in}
 use Rattle.outside_spec.specs.Stretches.{Stretches, stretches_from}
+use Rattle.outside_spec.specs.Steps.{steps_left}
 use Rattle.generated_steps.specs.Leads.{Place, Leads}
 use Rattle.single_steps.specs.Ends.{Ends, Shows}
 use Rattle.binary_follows.specs.Playable.{AllWriteBytes}
@@ -30,7 +31,8 @@ use Rattle.binary_follows.specs.Laws.{AreEffectsOfFirst}
 use Rattle.replay_codes.specs.Codes.{import_definition}
 use Rattle.binary_follows.proofs.Relation.{AreBeside, AreLeft, imports_in, own_place, watched}
 use Rattle.binary_follows.proofs.Sound.{IsSound}
-use Rattle.binary_follows.proofs.Settled.{AreReturned}
+use Rattle.binary_follows.proofs.Settled.{AreReturned, HasOneResult}
+use Rattle.binary_follows.proofs.Bounded.{IsBounded, arrival, segment_steps, with_next}
 use Rattle.binary_follows.proofs.Counted.{counted}
 
 -- a configuration of the tape's run
@@ -48,6 +50,7 @@ pub record AreFit (m : Module) (opened : List ℕ) (segments : List Segment) : T
 -- what holds of the tape's run wherever it stands, and of the numbers of calls
 pub record IsPlayed (m : Module) (plan : Plan) (store : Store) (counts : List ℕ) (opened : List ℕ)
     (segments : List Segment) : Type 0 where
+  pub one : HasOneResult m
   pub sound : IsSound m store
   pub many : length counts ≡ imported_funcs m
   pub fits : AreFit m opened segments
@@ -103,17 +106,60 @@ pub data AreTogether (m : Module) (plan : Plan) (code : Code) : TapeConfig → P
 abbrev pub AreWithin : List Segment → Stretches → Type 0
 AreWithin segments s = (s.here ≡ []) × AreEffectsOfFirst segments s.later
 
-abbrev pub Within : List Segment → List Item → Type 0
-Within segments items = AreWithin segments (stretches_from items)
+-- what is claimed of the items from a place on: of the changes, and of the steps
+pub record Claim : Type 1 where
+  pub effects : List Item → Type 0
+  pub bound : List Item → Type 0
+
+-- the steps that are left, of activations that have these segments left, and of the calls that a tape still has
+abbrev pub AreBounded : Module → Plan → (extra : ℕ) → (begun : List (List Segment)) → List Segment → List Item → Type 0
+AreBounded m plan extra begun segments items =
+    IsBounded plan extra begun (left_of (imported_funcs m) segments).calls (steps_left (imported_funcs m) items)
+
+-- after the effects of a segment, where the innermost activation still makes some steps
+abbrev pub WithinBy : Module → Plan → (extra : ℕ) → (begun : List (List Segment)) → List Segment → Claim
+WithinBy m plan extra begun segments =
+    record {
+      effects = λ items. AreWithin segments (stretches_from items);
+      bound = AreBounded m plan extra begun segments;
+    }
+
+-- with control in the module
+abbrev pub Within : Module → Plan → List Segment → Claim
+Within m plan segments = WithinBy m plan 0 (left_of (imported_funcs m) segments).begun segments
+
+-- the same, where the innermost activation ends after those steps
+abbrev pub Ending : Module → Plan → (extra : ℕ) → List Segment → Claim
+Ending m plan extra segments =
+    WithinBy m plan extra ([] ∷ (left_of (imported_funcs m) segments).begun) segments
 
 -- with control in the host the present stretch makes those of the first
-abbrev pub AtHost : List Segment → List Item → Type 0
-AtHost segments items = AreEffectsOfFirst segments ((stretches_from items).here ∷ (stretches_from items).later)
+abbrev pub MakesFirst : List Segment → List Item → Type 0
+MakesFirst segments items = AreEffectsOfFirst segments ((stretches_from items).here ∷ (stretches_from items).later)
 
--- what is claimed of the items from a place on
-abbrev pub AreClaimed : List Activation → List Segment → List Item → Type 0
-AreClaimed (InModule frame ∷ below) segments items = Within segments items
-AreClaimed stack segments items = AtHost segments items
+-- at the code of a segment
+abbrev pub Playing : Module → Plan → Segment → (later : List Segment) → Claim
+Playing m plan segment later =
+    record {
+      effects = MakesFirst (segment ∷ later);
+      bound =
+          AreBounded m plan (segment_steps segment)
+          (with_next segment.next (left_of (imported_funcs m) later).begun) later;
+    }
+
+-- where control has come to the host from an origin
+abbrev pub AtHost : Module → Plan → Origin → List Segment → Claim
+AtHost m plan came segments =
+    record {
+      effects = MakesFirst segments;
+      bound = λ items.
+          AreBounded m plan 0 (left_of (imported_funcs m) segments).begun segments (arrival came ++ items);
+    }
+
+-- at a configuration of the tape's run
+abbrev pub claim_at : Module → Plan → List Activation → List Segment → (came : Origin) → Claim
+claim_at m plan (InModule frame ∷ below) segments came = Within m plan segments
+claim_at m plan stack segments came = AtHost m plan came segments
 
 -- no stretch is left
 pub none_first : (segments : List Segment) → AreEffectsOfFirst segments []
@@ -123,22 +169,26 @@ none_first segments = record { taken = []; left = segments; parts = refl; effect
 
 -- the run comes to a place beside one of the tape's run, with just these entries shown; and what is claimed from there
 -- on is so from here on, under a premise
-pub record IsMoved (m : Module) (plan : Plan) (code : Code) (premise : Type 0) (claim : List Item → Type 0) (p : Place)
+pub record IsMoved (m : Module) (plan : Plan) (code : Code) (premise : Type 0) (claim : Claim) (p : Place)
     (entries : List Entry) (t : TapeConfig) : Type 0 where
   pub next : Place
   pub items : List Item
   pub leads : Leads (watched m code) p items next
   pub shown : entries_in items ≡ entries
   pub together : AreTogether m plan code t next
-  pub claimed : premise → (rest : List Item) → AreClaimed t.config.stack t.left rest → claim (items ++ rest)
+  pub claimed : premise → (rest : List Item) → (claim_at m plan t.config.stack t.left t.came).effects rest
+      → claim.effects (items ++ rest)
+  pub bounded : (rest : List Item) → (claim_at m plan t.config.stack t.left t.came).bound rest
+      → claim.bound (items ++ rest)
 
 -- or it is over, with this outcome
-pub record IsEnded (m : Module) (code : Code) (premise : Type 0) (claim : List Item → Type 0) (p : Place)
+pub record IsEnded (m : Module) (code : Code) (premise : Type 0) (claim : Claim) (p : Place)
     (entries : List Entry) (outcome : Outcome) : Type 0 where
   pub items : List Item
   pub ends : Ends (watched m code) p items outcome
   pub shown : entries_in items ≡ entries
-  pub claimed : premise → claim items
+  pub claimed : premise → claim.effects items
+  pub bounded : claim.bound items
 
 -- or has shown these entries
 pub record HasShown (m : Module) (code : Code) (p : Place) (entries : List Entry) : Type 0 where
@@ -147,13 +197,13 @@ pub record HasShown (m : Module) (code : Code) (p : Place) (entries : List Entry
   pub shown : entries_in items ≡ entries
 
 -- by what comes of a step of the tape's run
-abbrev pub FollowsTo : (m : Module) (plan : Plan) (code : Code) (premise : Type 0) (claim : List Item → Type 0) → Place
+abbrev pub FollowsTo : (m : Module) (plan : Plan) (code : Code) (premise : Type 0) (claim : Claim) → Place
     → List Entry → TapeProgress → Type 0
 FollowsTo m plan code premise claim p entries (Plays t) = IsMoved m plan code premise claim p entries t
 FollowsTo m plan code premise claim p entries (Over outcome) = IsEnded m code premise claim p entries outcome
 FollowsTo m plan code premise claim p entries Disagrees = HasShown m code p entries
 FollowsTo m plan code premise claim p entries NoRule = HasShown m code p entries
 
-abbrev pub Follows : (m : Module) (plan : Plan) (code : Code) (premise : Type 0) (claim : List Item → Type 0) → Place
+abbrev pub Follows : (m : Module) (plan : Plan) (code : Code) (premise : Type 0) (claim : Claim) → Place
     → TapeResult → Type 0
 Follows m plan code premise claim p t = FollowsTo m plan code premise claim p t.entries t.next

@@ -1,5 +1,5 @@
 -- The replay module of a tape follows the run of the tape, from its start on.
-use Rattle.std.proofs.Common.{◌≡◌, ℕ, zero, suc, ◌+◌, ◌*◌, ◌<◌, ◌≤◌, ◌^◌, List, [], ◌∷◌, ◌++◌, length, drop, Option, Some, None, Bool, true, false, nat_eq, slice_index, slice_set, replicate, Ok, refl, sym, ap, ◌∙◌, subst, arith, inl, inr}
+use Rattle.std.proofs.Common.{◌≡◌, ℕ, zero, suc, ◌+◌, ◌*◌, ◌<◌, ◌≤◌, ◌^◌, List, [], ◌∷◌, ◌++◌, length, drop, Option, Some, None, Bool, true, false, nat_eq, slice_get, slice_index, slice_set, replicate, Ok, refl, sym, ap, ◌∙◌, subst, arith, inl, inr}
 use Rattle.std.specs.Prelude.{◌⊎◌, cond, sum_by, IfSome}
 use Rattle.std.specs.List.{slice_index_or}
 use Rattle.std.proofs.lemmas.List.{append-nil}
@@ -9,12 +9,11 @@ use Rattle.wasm_syntax.specs.declared.values.Val.{Val}
 use Rattle.wasm_syntax.specs.declared.values.ValType.{ValType}
 use Rattle.wasm_syntax.specs.declared.signatures.Limits.{Limits}
 use Rattle.wasm_syntax.specs.declared.modules.Module.{Module}
-use Rattle.wasm_syntax.specs.Index.{all_memories, imported_funcs}
+use Rattle.wasm_syntax.specs.Index.{all_memories, func_indices, imported_funcs}
+use Rattle.wasm_syntax.specs.Validity.{IsFuncType, IsValid}
 use Rattle.host_script.specs.declared.scripts.Action.TheVariants.{Call}
 use Rattle.host_script.specs.declared.scripts.Supply.{Supply}
 use Rattle.run_outcomes.specs.declared.outcomes.Outcome.{Outcome}
-use Rattle.trace_model.specs.declared.tapes.Next.{Next}
-use Rattle.trace_model.specs.declared.tapes.Next.TheVariants.{Call as Calls, Return as Returns, End as Ends, Trap as Traps}
 use Rattle.trace_model.specs.declared.tapes.Origin.{Origin}
 use Rattle.trace_model.specs.declared.tapes.Origin.TheVariants.{Begin, Import, Back}
 use Rattle.trace_model.specs.declared.tapes.Segment.{Segment}
@@ -36,16 +35,21 @@ use Rattle.replay_spec.specs.TapeRun.{Over, pause, tape_run}
 use Rattle.outside_spec.specs.Items.{steps_items, entries_in, shown_items}
 use Rattle.outside_spec.specs.Stretches.{stretches}
 use Rattle.outside_spec.specs.Laws.{ItemsHoldHistories, ItemsShowProjections}
+use Rattle.outside_spec.specs.Steps.{AreWithinBound, call_steps}
 use Rattle.generated_steps.specs.Leads.{Place, items_from}
 use Rattle.type_safety.specs.Laws.{NewStoresAreTyped}
 use Rattle.type_safety.specs.Stores.{IsStore, MayBeMemory, func_count, global_types}
 use Rattle.type_safety.specs.Values.{AreValues}
 use Rattle.binary_follows.specs.Playable.{GrowsAlways, shown_run, IsPlayable, layout_of, replay_of, replay_run}
-use Rattle.binary_follows.specs.Laws.{AreBothOver, AreEffectsOfFirst, ReplaysMakeEffects, ReplaysBegin, ReplaysShowHistories, ReplaysShowOutcomes, ShowsHistory}
+use Rattle.binary_follows.specs.Laws.{AreBothOver, AreEffectsOfFirst, ReplaysAreWithinBound, ReplaysMakeEffects, ReplaysBegin, ReplaysShowHistories, ReplaysShowOutcomes, ShowsHistory}
 use Rattle.binary_follows.proofs.Relation.{AreLeft, own_place, watched}
 use Rattle.binary_follows.proofs.Sound.{IsSound}
 use Rattle.binary_follows.proofs.Together.{AtHost, AreFit, AreTogether, AtBegin, tape_config}
-use Rattle.binary_follows.proofs.Reached.{many_left, replicate_length}
+use Rattle.binary_follows.proofs.CallsLeft.{many_left, none_replicated, replicate_length}
+use Rattle.binary_follows.proofs.Bounded.{next_weighs}
+use Rattle.binary_follows.proofs.Settled.{HasOneResult}
+use Rattle.list_laws.proofs.Lists.{all_at}
+use Rattle.list_laws.proofs.Options.{and_then_some}
 use Rattle.replay_codes.specs.Laws.{ReplayModulesBegin, ReplayModulesHaveCode}
 use Rattle.generated_steps.proofs.Along.{items_over}
 use Rattle.binary_follows.proofs.Simulation.{FollowLaws, PlaysOut, run_follows}
@@ -68,11 +72,6 @@ set_either (y ∷ xs) (suc j) (suc i) x d = go (set_either xs j i x d)
     go (inl same) = inl same
     go (inr there) = inr (ap suc there.0, there.1)
 
-none_replicated : (count i : ℕ) → slice_index_or (replicate {A = List (List Segment)} count []) i [] ≡ []
-none_replicated zero i = refl
-none_replicated (suc count) zero = refl
-none_replicated (suc count) (suc i) = none_replicated count i
-
 zero_replicated : (count i : ℕ) → slice_index (replicate count 0) i ≡ 0
 zero_replicated zero i = refl
 zero_replicated (suc count) zero = refl
@@ -81,7 +80,7 @@ zero_replicated (suc count) (suc i) = zero_replicated count i
 few_calls : (imports : ℕ) (segments : List Segment) (import : ℕ)
     → length (slice_index_or (left_of imports segments).calls import []) ≤ length segments
 few_calls imports [] import =
-    let none = ap length (none_replicated imports import) in omega (arith, none)
+    let none = ap length (none_replicated {X = List Segment} imports import) in omega (arith, none)
 few_calls imports (segment ∷ later) import =
     go segment.origin (few_calls imports later)
   where
@@ -113,13 +112,6 @@ few_calls imports (segment ∷ later) import =
             let e = ap length there.1 in
             let long : length own ≡ suc (length (slice_index_or calls called [])) = refl in
             omega (arith, e, long, g)
-
-next_weighs : (next : Next) → 1 ≤ next_weight next
-next_weighs (Calls func args) = omega arith
-next_weighs (Returns None) = omega arith
-next_weighs (Returns (Some value)) = omega arith
-next_weighs Ends = omega arith
-next_weighs Traps = omega arith
 
 segments_weigh : (segments : List Segment) → length segments ≤ sum_by segment_weight segments
 segments_weigh [] = omega arith
@@ -154,6 +146,11 @@ store_sound m store s =
     go [] (Some memory) h = absurd h
     go (limits ∷ more) None h = absurd h
     go (limits ∷ more) (Some memory) h = h.whole
+
+one_result : (m : Module) → IsValid m → HasOneResult m
+one_result m valid func ty typed =
+    let index = and_then_some (slice_get (func_indices m) func) (λ t. slice_get m.types t) ty typed in
+    (all_at IsFuncType m.types index.0 ty valid.outside.types index.2).one_result
 
 -- the laws of stores and of code that a run begins with
 pub record StartLaws : Type 0 where
@@ -208,6 +205,7 @@ module _ (laws : FollowLaws) (start : StartLaws) (m : Module) (supply : Supply) 
   together =
       AtBegin store zeros tape.segments
       (record {
+        one = one_result m can.runnable.valid;
         sound = store_sound m store (start.typed m supply store can.runnable can.supplied can.begins);
         many = replicate_length imports 0;
         fits = fits_whole;
@@ -222,11 +220,13 @@ module _ (laws : FollowLaws) (start : StartLaws) (m : Module) (supply : Supply) 
       omega (arith, few, weigh, most)
 
   plays : (k : ℕ) → PlaysOut laws m plan (code_of replay)
-      (start.code m supply plan can.runnable.valid (many_left imports tape.segments)) short (GrowsAlways m store tape)
-      (AtHost tape.segments) first_place (tape_run (code_of m) store tape.segments k)
+      (start.code m supply plan can.runnable.valid (many_left imports tape.segments)) short
+      (one_result m can.runnable.valid) (GrowsAlways m store tape) (AtHost m plan Begin tape.segments) first_place
+      (tape_run (code_of m) store tape.segments k)
   plays k =
       run_follows laws m plan (code_of replay)
-      (start.code m supply plan can.runnable.valid (many_left imports tape.segments)) short k
+      (start.code m supply plan can.runnable.valid (many_left imports tape.segments)) short
+      (one_result m can.runnable.valid) k
       (tape_config store (InMain (pause ∷ []) ∷ []) zeros tape.segments Begin) first_place together
 
   module _ (hold : ItemsHoldHistories) (show : ItemsShowProjections) where
@@ -297,6 +297,15 @@ module _ (laws : FollowLaws) (start : StartLaws) (m : Module) (supply : Supply) 
         subst (λ items. AreEffectsOfFirst tape.segments (stretches items))
         (sym (ap (shown_items (layout_of m) [] []) same ∙ r.ends.shown [])) (r.claimed grows)
 
+    steps_within : (count : ℕ) → AreBothOver m supply store tape first_result count
+        → AreWithinBound plan.imports (call_steps imports (shown_run m replay first_result count))
+    steps_within count both =
+        let r = (plays both.taken).over both.outcome both.over in
+        let same =
+        same_items count r.ends.count both.own r.ends.own both.ends (r.ends.ends instructions) in
+        subst (λ items. AreWithinBound plan.imports (call_steps imports items))
+        (sym (ap (shown_items (layout_of m) [] []) same ∙ r.ends.shown [])) r.bounded.within
+
     outcome_shown : (k : ℕ) (outcome : Outcome) → (tape_run (code_of m) store tape.segments k).next ≡ Over outcome
         → Replays replay (layout_of m) (start_index m)
         (tape_run (code_of m) store tape.segments k).entries outcome
@@ -357,3 +366,14 @@ replays_make laws start hold show m supply store tape initial count can grows bo
     (λ s. AreBothOver m supply store tape s count
     → AreEffectsOfFirst tape.segments (stretches (shown_run m (replay_of m supply tape) s count))) same
     (effects_made laws start m supply store tape can hold show grows count) both
+
+pub replays_within : FollowLaws → StartLaws → ItemsHoldHistories → ItemsShowProjections → ReplaysAreWithinBound
+replays_within laws start hold show m supply store tape initial count can both =
+    let same : first_result laws start m supply store tape can ≡ initial =
+    (let e : Ok (first_result laws start m supply store tape can) ≡ Ok initial =
+    sym (starts laws start m supply store tape can) ∙ both.starts in cc) in
+    subst
+    (λ s. AreBothOver m supply store tape s count
+    → AreWithinBound (plan_of (imported_funcs m) tape).imports
+    (call_steps (imported_funcs m) (shown_run m (replay_of m supply tape) s count))) same
+    (steps_within laws start m supply store tape can hold show count) both

@@ -1,6 +1,7 @@
 -- The law of replay modules: the replay module of a tape follows the run of the tape.
 use Rattle.std.specs.Prelude.{◌≡◌, ℕ, List, [], ◌++◌, Ok}
 use Rattle.wasm_syntax.specs.declared.modules.Module.{Module}
+use Rattle.wasm_syntax.specs.Index.{imported_funcs}
 use Rattle.host_script.specs.declared.scripts.Supply.{Supply}
 use Rattle.run_outcomes.specs.declared.outcomes.Outcome.{Outcome}
 use Rattle.trace_model.specs.declared.tapes.Effect.{Effect}
@@ -13,8 +14,10 @@ use Rattle.history_spec.specs.Step.{StepResult, Finished}
 use Rattle.history_spec.specs.Projection.{shown_entries}
 use Rattle.history_spec.specs.Replay.{Replays, run_start_alone}
 use Rattle.replay_spec.specs.TapeRun.{Over, tape_run}
+use Rattle.replay_plan.specs.Plans.{plan_of}
 use Rattle.replay_gen.specs.Fragments.{start_index}
 use Rattle.outside_spec.specs.Stretches.{AreEffectsOf, stretches}
+use Rattle.outside_spec.specs.Steps.{AreWithinBound, call_steps}
 use Rattle.binary_follows.specs.Playable.{IsPlayable, GrowsAlways, replay_of, layout_of, replay_run, shown_run}
 
 -- ---- histories and outcomes
@@ -70,3 +73,12 @@ ReplaysMakeEffects =
     (m : Module) (supply : Supply) (store : Store) (tape : Tape) (initial : StepResult) (count : ℕ)
     → IsPlayable m supply store tape → GrowsAlways m store tape → AreBothOver m supply store tape initial count
     → AreEffectsOfFirst tape.segments (stretches (shown_run m (replay_of m supply tape) initial count))
+
+-- the functions in the place of an import and of its groups make in each call no more steps than the bound allows, by
+-- the plan of the tape: so many, and so many of `block`; the steps of calls within it are those calls' own
+abbrev pub ReplaysAreWithinBound : Type 0
+ReplaysAreWithinBound =
+    (m : Module) (supply : Supply) (store : Store) (tape : Tape) (initial : StepResult) (count : ℕ)
+    → IsPlayable m supply store tape → AreBothOver m supply store tape initial count
+    → AreWithinBound (plan_of (imported_funcs m) tape).imports
+    (call_steps (imported_funcs m) (shown_run m (replay_of m supply tape) initial count))

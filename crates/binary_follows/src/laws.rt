@@ -1,6 +1,6 @@
 // The laws of replay modules.
 
-ghost use Rattle.binary_follows.specs.Laws.{ReplaysBegin, ReplaysMakeEffects, ReplaysShowHistories, ReplaysShowOutcomes};
+ghost use Rattle.binary_follows.specs.Laws.{ReplaysAreWithinBound, ReplaysBegin, ReplaysMakeEffects, ReplaysShowHistories, ReplaysShowOutcomes};
 
 use generated_effects::effects_are_made;
 use generated_steps::{dispatches_reach_arms, leads_run_along};
@@ -25,6 +25,25 @@ pub fn replays_show_runs()
     ensures histories { ReplaysShowHistories }
     ensures outcomes { ReplaysShowOutcomes }
     ensures effects { ReplaysMakeEffects }
+{
+    dispatches_reach_arms();
+    effects_are_made();
+    items_show_projections();
+    leads_go_on();
+    leads_run_along();
+    observed_steps();
+    own_answers();
+    projections_run_along();
+    replay_modules_have_code();
+    steps_lead_on();
+    typed_store();
+}
+
+/// Where both runs are over, the functions in the place of an import and of its groups have made in each call of that
+/// import, steps of calls within it apart, at most 32 steps and 8 for each unit of weight of the call's segments; and
+/// at most 259 steps of `block`, and one for each 256 calls of that import in the tape.
+pub fn replays_are_within_bound()
+    ensures { ReplaysAreWithinBound }
 {
     dispatches_reach_arms();
     effects_are_made();

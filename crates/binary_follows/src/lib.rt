@@ -4,4 +4,4 @@
 
 pub mod laws;
 
-pub use laws::{replays_begin, replays_show_runs};
+pub use laws::{replays_are_within_bound, replays_begin, replays_show_runs};
