@@ -155,7 +155,7 @@ pub record Keeps (n : ℕ) (globals : List GlobalType) (known : Known) (store : 
   pub real : state.noticed ≡ pages_of store.memory
   pub size_told : (size ≡ state.noticed) ⊎ (known.pages ≡ state.noticed)
 
-own_number : (a : ℕ) → nat_eq a a ≡ true
+pub own_number : (a : ℕ) → nat_eq a a ≡ true
 own_number a = grind (arith, nat_tests)
 
 -- a value that is read of a global is the known one by its bits just where it is the known one

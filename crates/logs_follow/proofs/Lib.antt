@@ -11,3 +11,8 @@ pub mod TrailLogs
 pub mod TrailLogSteps
 pub mod LoggedTrails
 pub mod Whole
+pub mod BalancedEvents
+pub mod HostTraps
+pub mod BalancedCalls
+pub mod BalancedTrails
+pub mod BalancedRuns

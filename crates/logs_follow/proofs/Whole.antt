@@ -30,7 +30,7 @@ use Rattle.logs_follow.proofs.TrailLogs.{Tells}
 use Rattle.logs_follow.proofs.LoggedTrails.{tells}
 
 -- after its end a run observes nothing more
-same_observations : (program : Program) (k j : ℕ) (at : Progress) (a b : Outcome)
+pub same_observations : (program : Program) (k j : ℕ) (at : Progress) (a b : Outcome)
     → (steps program all_one k at).at ≡ Finished a → (steps program all_one j at).at ≡ Finished b
     → observations program k at ≡ observations program j at
 same_observations program zero zero at a b h q = refl

@@ -1,9 +1,10 @@
--- The law of logs: the log of what hooks are told of a run gives the tape that the run needs.
+-- The laws of logs: the log of what hooks are told of a run gives the tape that the run needs, and is balanced.
 use Rattle.std.specs.Prelude.{◌≡◌, ℕ, Result, Ok}
 use Rattle.wasm_syntax.specs.Index.{imported_funcs}
 use Rattle.run_outcomes.specs.declared.outcomes.Outcome.{Outcome}
 use Rattle.trace_model.specs.declared.events.Log.{Log}
 use Rattle.trace_model.specs.declared.tapes.Tape.{Tape}
+use Rattle.trace_model.specs.Balance.{IsBalanced}
 use Rattle.history_spec.specs.Step.{Finished}
 use Rattle.history_spec.specs.Run.{all_one, program_of, start_in_store, run_from}
 use Rattle.replay_spec.specs.Needed.{IsNeededTape}
@@ -17,7 +18,7 @@ abbrev pub log_of_run : OriginalRun → (count : ℕ) → Outcome → Result Log
 log_of_run run count outcome =
     log_of (hooked_shape run) (renumbered_view (imported_funcs run.m) run.store) (calls_of_run run count) outcome
 
--- ---- the law
+-- ---- the laws
 
 -- a run that comes to an outcome has a log; and a tape is that of the log just where it is the one that the run needs
 pub record HasNeededLog (run : OriginalRun) (count : ℕ) (outcome : Outcome) : Type 0 where
@@ -35,3 +36,11 @@ LogsGiveNeededTapes =
     → (run_from (program_of run.m run.script) all_one (start_in_store run.m run.script run.store) count).at
     ≡ Finished outcome
     → HasNeededLog run count outcome
+
+-- the log of a run that comes to an outcome is balanced
+abbrev pub LogsAreBalanced : Type 0
+LogsAreBalanced =
+    (run : OriginalRun) (count : ℕ) (outcome : Outcome)
+    → (run_from (program_of run.m run.script) all_one (start_in_store run.m run.script run.store) count).at
+    ≡ Finished outcome
+    → (log : Log) → log_of_run run count outcome ≡ Ok log → IsBalanced log

@@ -1,0 +1,321 @@
+-- What a trail tells of functions and calls that begin and end is logged by events that are balanced.
+use Rattle.std.proofs.Common.{◌≡◌, ℕ, suc, ◌+◌, ◌≤◌, List, [], ◌∷◌, ◌++◌, length, Option, Some, None, Bool, true, false, cond, nat_eq, nat_le, nat_lt, slice_get, refl, sym, ap, ◌∙◌, subst, arith}
+use Rattle.std.specs.Prelude.{◌||◌, ◌&&◌, not, Ok}
+use Rattle.std.proofs.lemmas.Bool.Decides.{nat_tests}
+use Rattle.wasm_syntax.specs.declared.values.Val.{Val}
+use Rattle.wasm_syntax.specs.declared.signatures.FuncType.{FuncType}
+use Rattle.wasm_syntax.specs.declared.modules.Module.{Module}
+use Rattle.wasm_syntax.specs.Index.{imported_funcs, all_globals}
+use Rattle.wasm_syntax.specs.Validity.{IsFuncType}
+use Rattle.run_outcomes.specs.declared.outcomes.Outcome.{Outcome}
+use Rattle.trace_model.specs.declared.events.Event.{Event}
+use Rattle.trace_model.specs.declared.events.Event.TheVariants as events
+use Rattle.trace_model.specs.Balance.{enter_frames, calls_import}
+use Rattle.history_spec.specs.declared.entries.Entry.TheVariants.{HostCall, HostReturn, ImportCall, ImportReturn, Enter, Exit}
+use Rattle.history_spec.specs.Code.{code_of, signature}
+use Rattle.history_spec.specs.Store.{Store}
+use Rattle.replay_spec.specs.Known.{Known}
+use Rattle.replay_spec.specs.Observations.{Observation}
+use Rattle.type_safety.specs.Stores.{func_count}
+use Rattle.hook_spec.specs.declared.hooks.Hook.TheVariants.{Leave}
+use Rattle.hook_spec.specs.Hooks.{HookCall, renumber, original}
+use Rattle.hook_spec.specs.Logs.{LogState, grown_events, events_from}
+use Rattle.hook_spec.specs.Order.{HookedShape, OrderState}
+use Rattle.hook_spec.specs.ToldCalls.{Moment, told_calls, told_enter, told_values, told_over, told_number}
+use Rattle.calls_follow.proofs.CallObservations.{seen_by}
+use Rattle.calls_follow.proofs.CallOrder as orders
+use Rattle.calls_follow.proofs.ModuleFacts.{func_there}
+use Rattle.calls_follow.proofs.Tellable.{IsShapeOf}
+use Rattle.calls_follow.proofs.TrailOrder.{same_waiting}
+use Rattle.calls_follow.proofs.Trails.{Level, AtFunction, AtImport, AtCall, call_level, waiting_calls, at_host, with_top_entered, IsWithin, IsHostCall, IsEntered, IsHostReturn, IsExit, IsImportCall, IsImportReturn, IsTrail}
+use Rattle.logs_follow.proofs.BalancedEvents.{CanSee, Frames, AreLevels, host_enters, module_enters, AreBalanced, LeadsTo, both_lead, enter_leads, leave_leads, post_leads, grown_leads}
+use Rattle.logs_follow.proofs.CallLogs as logs
+use Rattle.logs_follow.proofs.CallLogs.{noticing}
+use Rattle.logs_follow.proofs.ItemEvents.{own_number}
+use Rattle.logs_follow.proofs.HostTraps.{TrapsInside}
+use Rattle.logs_follow.proofs.TrailLogs as trail_logs
+
+-- ---- what is open
+
+-- the calls of imports that the host answers
+abbrev pub open_imports : (n : ℕ) → List Level → ℕ
+open_imports n [] = 0
+open_imports n (AtFunction func ∷ levels) = open_imports n levels
+open_imports n (AtImport direct callee args ∷ levels) = open_imports n levels
+open_imports n (AtCall direct callee entered args ∷ levels) =
+    cond (nat_lt callee n) (suc (open_imports n levels)) (open_imports n levels)
+
+-- the host traps only in one of them, in what is left
+abbrev pub IsInside : (n : ℕ) → List Level → List Observation → Type 0
+IsInside n levels left = TrapsInside (at_host n levels) (open_imports n levels) left
+
+module _ (n : ℕ) where
+  not_host : (levels : List Level) → IsWithin levels → at_host n levels ≡ false
+  not_host [] w = absurd w
+  not_host (AtFunction func ∷ levels) w = refl
+  not_host (AtImport direct callee args ∷ levels) w = absurd w
+  not_host (AtCall direct callee entered args ∷ levels) w = absurd w
+
+  same_imports : (levels : List Level) → at_host n levels ≡ true
+      → open_imports n (with_top_entered levels) ≡ open_imports n levels
+  same_imports [] h = refl
+  same_imports (AtFunction func ∷ levels) h = cc
+  same_imports (AtImport direct callee args ∷ levels) h = cc
+  same_imports (AtCall direct callee entered args ∷ levels) h = refl
+
+  -- control is at the host, and an import is open: frames show it
+  pub in_import : (levels : List Level) (frames : Frames) → at_host n levels ≡ true
+      → nat_eq (open_imports n levels) 0 ≡ false → AreLevels n levels frames → calls_import n frames ≡ true
+  in_import [] frames h q are = cc
+  in_import (AtFunction func ∷ levels) frames h q are = cc
+  in_import (AtImport direct callee args ∷ levels) frames h q are = cc
+  in_import (AtCall direct callee entered args ∷ levels) [] h q are = absurd are
+  in_import (AtCall direct callee entered args ∷ levels) (frame ∷ below) h q are = are.0.imports below ∙ h
+
+  pub call_inside : (imported direct : Bool) (callee : ℕ) (args : List Val) (levels : List Level)
+      (left : List Observation) → nat_lt callee n ≡ imported → TrapsInside false (open_imports n levels) left
+      → IsInside n (call_level imported direct callee args ∷ levels) left
+  call_inside true direct callee args levels left e h = h
+  call_inside false direct callee args levels left e h =
+      subst (λ b. TrapsInside b (cond b (suc (open_imports n levels)) (open_imports n levels)) left) (sym e) h
+
+-- ---- a trail
+
+module _ (m : Module) (shape : HookedShape) (is : IsShapeOf m shape)
+    (counts : func_count m ≡ imported_funcs m + length m.funcs)
+    (numbers : (func : ℕ) (ty : FuncType) → signature (code_of m) func ≡ Some ty → IsFuncType ty)
+    (back : (n func : ℕ) → original n (renumber n func) ≡ Some func) (outcome : Outcome) where
+  abbrev n : ℕ
+  n = imported_funcs m
+
+  abbrev ren : List HookCall → List HookCall
+  ren = orders.ren m shape is counts numbers back
+
+  abbrev state : List Level → List Val → ℕ → OrderState
+  state = orders.state m shape is counts numbers back
+
+  abbrev Logged : OrderState → LogState → List HookCall → List Event → OrderState → LogState → Type 0
+  Logged = logs.Logged m shape is counts numbers back
+
+  abbrev seen : List HookCall → List Observation
+  seen calls = seen_by shape n (all_globals m) calls
+
+  -- what calls tell is logged, and is balanced
+  pub record Balances (levels : List Level) (entries : ℕ) (st : LogState) (calls : List HookCall) : Type 0 where
+    pub found : List Event
+    pub are : (at : ℕ) → events_from shape (state levels [] entries) st at calls ≡ Ok found
+    pub balanced : (grew : Bool) → CanSee grew st → AreBalanced n outcome levels grew found
+
+  abbrev calls_at : List Level → List Moment → List HookCall
+  calls_at levels later = told_calls (all_globals m) (waiting_calls levels) later
+
+  -- what moments tell
+  abbrev pub Tells : List Level → ℕ → LogState → List Moment → Type 0
+  Tells levels entries st moments = Balances levels entries st (ren (calls_at levels moments))
+
+  abbrev pub Rest : List Moment → Type 0
+  Rest later =
+      (levels : List Level) (known : Known) (store : Store) (left : List Observation) (st : LogState)
+      → IsTrail m shape (Some outcome) later levels known store left → IsInside n levels left
+      → Tells levels known.entries st later
+
+  -- calls whose events lead on, with what follows
+  pub then_balances : (levels after : List Level) (entries next : ℕ) (st now : LogState) (calls rest : List HookCall)
+      (first : List Event) → Logged (state levels [] entries) st calls first (state after [] next) now
+      → LeadsTo n outcome levels st first after now
+      → Balances after next now (ren rest) → Balances levels entries st (ren (calls ++ rest))
+  then_balances levels after entries next st now calls rest first logged leads r =
+      record {
+        found = first ++ r.found;
+        are = trail_logs.logged_then m shape is counts numbers back outcome (state levels [] entries) st calls first
+            (state after [] next) now rest r.found logged r.are;
+        balanced = λ grew sees. leads grew sees r.found r.balanced;
+      }
+
+  -- ---- functions begin and end
+
+  -- an Enter, and a growth that is noticed
+  enter_grown : (func : ℕ) (args : List Val) (before below : List Level) (st : LogState) (view : Store) → n ≤ func
+      → ((frames : Frames) → AreLevels n before frames
+      → (next : Frames) × (enter_frames n func frames ≡ Some next) × AreLevels n (AtFunction func ∷ below) next)
+      → LeadsTo n outcome before st (events.Enter func args ∷ grown_events st.noticed view) (AtFunction func ∷ below)
+      (noticing view st)
+  enter_grown func args before below st view own leads =
+      let le : nat_le n func ≡ true = grind (arith, nat_tests, own) in
+      both_lead n outcome before (AtFunction func ∷ below) (AtFunction func ∷ below) st st (noticing view st)
+      (events.Enter func args ∷ []) (grown_events st.noticed view)
+      (enter_leads n outcome func args before (AtFunction func ∷ below) st le leads)
+      (grown_leads n outcome (AtFunction func ∷ below) st view tt)
+
+  -- and a Post
+  post_grown : (result : Option Val) (direct : Bool) (callee : ℕ) (entered : Bool) (args : List Val)
+      (levels : List Level) (st : LogState) (view : Store) → (nat_lt callee n || entered) ≡ true → IsWithin levels
+      → LeadsTo n outcome (AtCall direct callee entered args ∷ levels) st
+      (events.Post result ∷ grown_events st.noticed view) levels (noticing view st)
+  post_grown result direct callee entered args levels st view e w =
+      both_lead n outcome (AtCall direct callee entered args ∷ levels) levels levels st st (noticing view st)
+      (events.Post result ∷ []) (grown_events st.noticed view)
+      (post_leads n outcome result direct callee entered args levels st e) (grown_leads n outcome levels st view w)
+
+  pub host_call : (later : List Moment) (moment : Moment) (levels : List Level) (known : Known) (store : Store)
+      (left : List Observation) (st : LogState) (func : ℕ) (args : List Val)
+      → IsHostCall m shape levels known store left moment func args (IsTrail m shape (Some outcome) later)
+      → IsInside n levels left → Rest later
+      → Tells levels known.entries st (record moment { entry = HostCall func args } ∷ later)
+  host_call later moment levels known store left st func args h inside rest =
+      then_balances levels next known.entries known.entries st (noticing moment.after st)
+      (told_enter func args moment.after) (calls_at levels later)
+      (events.Enter func args ∷ grown_events st.noticed moment.after)
+      (logs.enter_logged m shape is counts numbers back func args levels known.entries moment.after st h.defined
+      (func_there m func h.typed.ty h.typed.has_type) h.typed
+      (orders.host_may m shape is counts numbers back func levels h.host))
+      (enter_grown func args levels (with_top_entered levels) st moment.after h.defined
+      (λ frames are. host_enters n func levels frames h.host are))
+      (subst
+      (λ w. Balances next known.entries (noticing moment.after st) (ren (told_calls (all_globals m) w later)))
+      (same_waiting levels)
+      (rest next known moment.after h.later (noticing moment.after st) h.follows
+      (subst (λ d. TrapsInside false d h.later) (sym (same_imports n levels h.host)) left_inside)))
+    where
+      next : List Level
+      next = AtFunction func ∷ with_top_entered levels
+
+      left_inside : TrapsInside false (open_imports n levels) h.later
+      left_inside =
+          subst (λ l. TrapsInside true (open_imports n levels) l) h.observed
+          (subst (λ b. TrapsInside b (open_imports n levels) left) h.host inside)
+
+  pub entered : (later : List Moment) (moment : Moment) (levels : List Level) (known : Known) (store : Store)
+      (left : List Observation) (st : LogState) (func : ℕ)
+      → IsEntered m shape levels known store left moment func (IsTrail m shape (Some outcome) later)
+      → IsInside n levels left → Rest later
+      → Tells levels known.entries st (record moment { entry = Enter func } ∷ later)
+  entered later moment levels known store left st func h inside rest =
+      subst (λ l. Tells l known.entries st (record moment { entry = Enter func } ∷ later)) (sym h.stands)
+      (then_balances top inner known.entries known.entries st (noticing moment.after st)
+      (told_enter func h.args moment.after) (calls_at top later)
+      (events.Enter func h.args ∷ grown_events st.noticed moment.after)
+      (logs.enter_logged m shape is counts numbers back func h.args top known.entries moment.after st h.defined
+      (func_there m func h.typed.ty h.typed.has_type) h.typed may)
+      (enter_grown func h.args top (AtCall h.direct func true h.args ∷ h.below) st moment.after h.defined
+      (module_enters n func h.direct h.args h.below))
+      (rest inner known moment.after left (noticing moment.after st) h.follows
+      (subst (λ b. TrapsInside b (open_imports n top) left) defined
+      (subst (λ l. IsInside n l left) h.stands inside))))
+    where
+      top : List Level
+      top = AtCall h.direct func false h.args ∷ h.below
+
+      inner : List Level
+      inner = AtFunction func ∷ AtCall h.direct func true h.args ∷ h.below
+
+      defined : nat_lt func n ≡ false
+      defined = let d = h.defined in grind (arith, nat_tests, d)
+
+      may : (nat_lt func shape.imports || (nat_eq func func && not false)) ≡ true
+      may =
+          ap (λ b. nat_lt func shape.imports || (b && true)) (own_number func)
+          ∙ orders.or_right m shape is counts numbers back (nat_lt func shape.imports)
+
+  pub host_return : (later : List Moment) (moment : Moment) (levels : List Level) (known : Known) (store : Store)
+      (left : List Observation) (st : LogState) (func : ℕ) (results : List Val)
+      → IsHostReturn m shape levels known store left moment func (IsTrail m shape (Some outcome) later)
+      → IsInside n levels left → Rest later
+      → Tells levels known.entries st (record moment { entry = HostReturn func results } ∷ later)
+  host_return later moment levels known store left st func results h inside rest =
+      subst (λ l. Tells l known.entries st (record moment { entry = HostReturn func results } ∷ later)) (sym h.stands)
+      (then_balances (AtFunction func ∷ h.below) h.below known.entries known.entries st st
+      (told_number Leave func moment.after) (calls_at h.below later) (events.Leave func ∷ [])
+      (logs.leave_logged m shape is counts numbers back func h.below known.entries moment.after st)
+      (leave_leads n outcome func h.below st)
+      (rest h.below known moment.after h.later st h.follows
+      (subst (λ b. TrapsInside b (open_imports n h.below) h.later) (sym h.host)
+      (subst (λ l. IsInside n (AtFunction func ∷ h.below) l) h.observed
+      (subst (λ l. IsInside n l left) h.stands inside)))))
+
+  pub exited : (later : List Moment) (moment : Moment) (levels : List Level) (known : Known) (store : Store)
+      (left : List Observation) (st : LogState) (func : ℕ) (results : List Val)
+      → IsExit m shape levels known store left moment func results (IsTrail m shape (Some outcome) later)
+      → IsInside n levels left → Rest later
+      → Tells levels known.entries st (record moment { entry = Exit func results } ∷ later)
+  exited later moment levels known store left st func results h inside rest =
+      subst (λ l. Tells l known.entries st (record moment { entry = Exit func results } ∷ later)) (sym h.stands)
+      (then_balances (AtFunction func ∷ called) h.below known.entries known.entries st (noticing moment.after st)
+      (told_number Leave func moment.after ++ over) (calls_at h.below later)
+      (events.Leave func ∷ (events.Post (slice_get results 0) ∷ grown_events st.noticed moment.after))
+      (logs.both_logged m shape is counts numbers back (told_number Leave func moment.after) over
+      (events.Leave func ∷ []) (events.Post (slice_get results 0) ∷ grown_events st.noticed moment.after)
+      (state (AtFunction func ∷ called) [] known.entries) (state called [] known.entries)
+      (state h.below [] known.entries) st st (noticing moment.after st)
+      (logs.leave_logged m shape is counts numbers back func called known.entries moment.after st)
+      (logs.over_logged m shape is counts numbers back h.direct func true h.args results h.below known.entries
+      moment.after st (orders.or_right m shape is counts numbers back (nat_lt func n)) h.typed))
+      (both_lead n outcome (AtFunction func ∷ called) called h.below st st (noticing moment.after st)
+      (events.Leave func ∷ []) (events.Post (slice_get results 0) ∷ grown_events st.noticed moment.after)
+      (leave_leads n outcome func called st)
+      (post_grown (slice_get results 0) h.direct func true h.args h.below st moment.after
+      (orders.or_right m shape is counts numbers back (nat_lt func n)) h.within))
+      (rest h.below known moment.after left (noticing moment.after st) h.follows
+      (subst (λ b. TrapsInside b (open_imports n h.below) left) (sym (not_host n h.below h.within)) left_inside)))
+    where
+      called : List Level
+      called = AtCall h.direct func true h.args ∷ h.below
+
+      over : List HookCall
+      over = told_values moment.after results ++ told_over (cond h.direct (Some func) None) moment.after
+
+      defined : nat_lt func n ≡ false
+      defined = let d = h.defined in grind (arith, nat_tests, d)
+
+      left_inside : TrapsInside false (open_imports n h.below) left
+      left_inside =
+          subst (λ b. TrapsInside false (cond b (suc (open_imports n h.below)) (open_imports n h.below)) left) defined
+          (subst (λ l. IsInside n l left) h.stands inside)
+
+  -- ---- imports
+
+  pub import_called : (later : List Moment) (moment : Moment) (levels : List Level) (known : Known) (store : Store)
+      (left : List Observation) (st : LogState) (import : ℕ) (args : List Val)
+      → IsImportCall m shape levels known store left moment import (IsTrail m shape (Some outcome) later)
+      → IsInside n levels left → Rest later
+      → Tells levels known.entries st (record moment { entry = ImportCall import args } ∷ later)
+  import_called later moment levels known store left st import args h inside rest =
+      subst (λ l. Tells l known.entries st (record moment { entry = ImportCall import args } ∷ later)) (sym h.stands)
+      (record { found = r.found; are = r.are; balanced = r.balanced })
+    where
+      left_inside : TrapsInside true (suc (open_imports n h.below)) h.later
+      left_inside =
+          subst (λ l. IsInside n (AtImport h.direct import h.args ∷ h.below) l) h.observed
+          (subst (λ l. IsInside n l left) h.stands inside)
+
+      r : Tells (AtCall h.direct import false h.args ∷ h.below) known.entries st later
+      r = rest (AtCall h.direct import false h.args ∷ h.below) known moment.after h.later st h.follows
+          (subst (λ b. TrapsInside b (cond b (suc (open_imports n h.below)) (open_imports n h.below)) h.later)
+          (sym h.imported) left_inside)
+
+  pub import_return : (later : List Moment) (moment : Moment) (levels : List Level) (known : Known) (store : Store)
+      (left : List Observation) (st : LogState) (import : ℕ) (results : List Val)
+      → IsImportReturn m shape levels known store left moment import results (IsTrail m shape (Some outcome) later)
+      → IsInside n levels left → Rest later
+      → Tells levels known.entries st (record moment { entry = ImportReturn import results } ∷ later)
+  import_return later moment levels known store left st import results h inside rest =
+      subst (λ l. Tells l known.entries st (record moment { entry = ImportReturn import results } ∷ later))
+      (sym h.stands)
+      (then_balances top h.below known.entries known.entries st (noticing moment.after st)
+      (told_values moment.after results ++ told_over (cond h.direct (Some import) None) moment.after)
+      (calls_at h.below later) (events.Post (slice_get results 0) ∷ grown_events st.noticed moment.after)
+      (logs.over_logged m shape is counts numbers back h.direct import h.entered h.args results h.below known.entries
+      moment.after st (ap (λ b. b || h.entered) h.imported) h.typed)
+      (post_grown (slice_get results 0) h.direct import h.entered h.args h.below st moment.after
+      (ap (λ b. b || h.entered) h.imported) h.within)
+      (rest h.below known moment.after h.later (noticing moment.after st) h.follows
+      (subst (λ b. TrapsInside b (open_imports n h.below) h.later) (sym (not_host n h.below h.within)) left_inside)))
+    where
+      top : List Level
+      top = AtCall h.direct import h.entered h.args ∷ h.below
+
+      left_inside : TrapsInside false (open_imports n h.below) h.later
+      left_inside =
+          subst (λ l. TrapsInside true (suc (open_imports n h.below)) l) h.observed
+          (subst (λ b. TrapsInside b (cond b (suc (open_imports n h.below)) (open_imports n h.below)) left) h.imported
+          (subst (λ l. IsInside n l left) h.stands inside))
