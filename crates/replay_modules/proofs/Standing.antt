@@ -1,0 +1,103 @@
+-- The replay module keeps the original's functions, and stands alone.
+use Rattle.std.proofs.Common.{◌≡◌, ℕ, ◌+◌, ◌^◌, ◌<◌, ◌≤◌, List, [], ◌∷◌, ◌++◌, length, Some, slice_get, refl, sym, ap, ◌∙◌, subst, arith, length-append}
+use Rattle.std.specs.Prelude.{map}
+use Rattle.std.proofs.lemmas.List.{length-map}
+use Rattle.std.proofs.lemmas.Option.{slice_get_within}
+use Rattle.list_laws.proofs.Lists.{get_after_by, get_front}
+use Rattle.wasm_syntax.specs.declared.modules.Module.{Module}
+use Rattle.wasm_syntax.specs.declared.modules.Func.{Func}
+use Rattle.wasm_syntax.specs.Index.{all_globals, func_import, func_indices, func_type, imported_funcs, of_kind}
+use Rattle.wasm_syntax.specs.Validity.{IsValid}
+use Rattle.host_script.specs.declared.scripts.Supply.{Supply}
+use Rattle.trace_model.specs.declared.tapes.Segment.{Segment}
+use Rattle.history_spec.specs.Code.{code_of}
+use Rattle.plain_replay.specs.Replay.{KeepsOriginals, StandsAlone}
+use Rattle.plain_replay.specs.ReplayModule.{entry_of, layout_of}
+use Rattle.replay_form.specs.Forms.{IsReplayable}
+use Rattle.replay_plan.specs.declared.plans.Plan.{Plan}
+use Rattle.replay_gen.specs.Functions.{group_count, import_funcs, start_type}
+use Rattle.replay_gen.specs.Fragments.{fragment_of, helper_funcs, import_bodies, import_types, start_index}
+use Rattle.module_merge.specs.Merge.{layout_section, replay_module}
+use Rattle.replay_codes.specs.Codes.{IsReplayCode}
+use Rattle.replay_codes.specs.Laws.{ReplayModulesHaveCode}
+use Rattle.replay_codes.proofs.Functions.{functions}
+
+-- there are as many functions in the places of imports as there are imports with calls
+import_funcs_length : (m : Module) (counter first : ℕ) (types : List ℕ) (calls : List (List (List Segment)))
+    → length calls ≡ length types → length (import_funcs m counter first types calls) ≡ length types
+import_funcs_length m counter first [] [] e = refl
+import_funcs_length m counter first [] (y ∷ calls) e = absurd (omega (arith, e))
+import_funcs_length m counter first (x ∷ types) [] e = absurd (omega (arith, e))
+import_funcs_length m counter first (x ∷ types) (y ∷ calls) e =
+    let later =
+    import_funcs_length m (counter + 1) (first + group_count (length y)) types calls (omega (arith, e)) in
+    omega (arith, later)
+
+module _ (law : ReplayModulesHaveCode) (m : Module) (supply : Supply) (plan : Plan) (valid : IsValid m)
+    (many : length plan.imports ≡ imported_funcs m) where
+  abbrev replay : Module
+  replay = replay_module m supply (fragment_of m plan)
+
+  abbrev bodies : List Func
+  bodies = import_bodies m plan
+
+  abbrev helpers : List Func
+  helpers = helper_funcs m plan
+
+  code : IsReplayCode m plan (code_of replay)
+  code = law m supply plan valid many
+
+  bodies_length : length bodies ≡ imported_funcs m
+  bodies_length =
+      import_funcs_length m (length (all_globals m)) (start_index m + 1) (import_types m) plan.imports many
+
+  pub originals_kept : KeepsOriginals m replay
+  originals_kept =
+      record {
+        types = code.shares.types;
+        signatures = code.shares.signatures;
+        funcs = λ place func found.
+            let long = bodies_length in
+            get_after_by bodies (m.funcs ++ helpers) (imported_funcs m + place) place (omega (arith, long))
+            ∙ get_front m.funcs helpers place (slice_get_within m.funcs place func found) ∙ found;
+      }
+
+  entry_typed : func_type replay (start_index m) ≡ Some start_type
+  entry_typed = code.start.has_type
+
+  pub stands_alone : StandsAlone m replay
+  stands_alone =
+      record {
+        imports = refl;
+        start = refl;
+        entry = ap (λ n. Some n) (functions m);
+        entry_type = subst (λ n. func_type replay n ≡ Some start_type) (functions m) entry_typed;
+      }
+
+  all_there : imported_funcs m + length m.funcs ≤ length (func_indices replay)
+  all_there =
+      let index = length-map (bodies ++ (m.funcs ++ helpers)) (λ (f : Func). f.ty) in
+      let parts = length-append bodies (m.funcs ++ helpers) in
+      let rest = length-append m.funcs helpers in
+      let long = bodies_length in
+      omega (arith, index, parts, rest, long)
+
+  pub replayable : start_index m < 2 ^ 32 → IsReplayable replay (layout_of m) (start_index m)
+  replayable few =
+      let all = functions m in
+      record {
+        laid =
+            record {
+              section = layout_section m;
+              only = refl;
+              bytes =
+                  record {
+                    small_imports = omega (arith, all, few);
+                    small_defined = omega (arith, all, few);
+                    written = refl;
+                  };
+              within = all_there;
+            };
+        alone = refl;
+        enters = record { exported = refl; typed = entry_typed };
+      }
