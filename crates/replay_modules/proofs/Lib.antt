@@ -1,1 +1,6 @@
 mod Standing
+mod Outside
+mod ValidOutside
+mod Declarations
+mod Originals
+mod TypedOriginals

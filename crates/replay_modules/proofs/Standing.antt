@@ -1,18 +1,17 @@
 -- The replay module keeps the original's functions, and stands alone.
-use Rattle.std.proofs.Common.{◌≡◌, ℕ, ◌+◌, ◌^◌, ◌<◌, ◌≤◌, List, [], ◌∷◌, ◌++◌, length, Some, slice_get, refl, sym, ap, ◌∙◌, subst, arith, length-append}
-use Rattle.std.specs.Prelude.{map}
+use Rattle.std.proofs.Common.{◌≡◌, ℕ, ◌+◌, ◌^◌, ◌<◌, List, [], ◌∷◌, ◌++◌, length, Some, refl, ap, ◌∙◌, subst, arith, length-append}
 use Rattle.std.proofs.lemmas.List.{length-map}
 use Rattle.std.proofs.lemmas.Option.{slice_get_within}
 use Rattle.list_laws.proofs.Lists.{get_after_by, get_front}
 use Rattle.wasm_syntax.specs.declared.modules.Module.{Module}
 use Rattle.wasm_syntax.specs.declared.modules.Func.{Func}
-use Rattle.wasm_syntax.specs.Index.{all_globals, func_import, func_indices, func_type, imported_funcs, of_kind}
+use Rattle.wasm_syntax.specs.Index.{all_globals, func_indices, func_type, imported_funcs}
 use Rattle.wasm_syntax.specs.Validity.{IsValid}
 use Rattle.host_script.specs.declared.scripts.Supply.{Supply}
 use Rattle.trace_model.specs.declared.tapes.Segment.{Segment}
 use Rattle.history_spec.specs.Code.{code_of}
 use Rattle.plain_replay.specs.Replay.{KeepsOriginals, StandsAlone}
-use Rattle.plain_replay.specs.ReplayModule.{entry_of, layout_of}
+use Rattle.plain_replay.specs.ReplayModule.{layout_of}
 use Rattle.replay_form.specs.Forms.{IsReplayable}
 use Rattle.replay_plan.specs.declared.plans.Plan.{Plan}
 use Rattle.replay_gen.specs.Functions.{group_count, import_funcs, start_type}
@@ -74,17 +73,20 @@ module _ (law : ReplayModulesHaveCode) (m : Module) (supply : Supply) (plan : Pl
         entry_type = subst (λ n. func_type replay n ≡ Some start_type) (functions m) entry_typed;
       }
 
-  all_there : imported_funcs m + length m.funcs ≤ length (func_indices replay)
-  all_there =
+  -- there are more functions than in the original
+  pub functions_more : start_index m < length (func_indices replay)
+  functions_more =
       let index = length-map (bodies ++ (m.funcs ++ helpers)) (λ (f : Func). f.ty) in
       let parts = length-append bodies (m.funcs ++ helpers) in
       let rest = length-append m.funcs helpers in
       let long = bodies_length in
-      omega (arith, index, parts, rest, long)
+      let all = functions m in
+      omega (arith, index, parts, rest, long, all)
 
   pub replayable : start_index m < 2 ^ 32 → IsReplayable replay (layout_of m) (start_index m)
   replayable few =
       let all = functions m in
+      let more = functions_more in
       record {
         laid =
             record {
@@ -96,7 +98,7 @@ module _ (law : ReplayModulesHaveCode) (m : Module) (supply : Supply) (plan : Pl
                     small_defined = omega (arith, all, few);
                     written = refl;
                   };
-              within = all_there;
+              within = omega (arith, all, more);
             };
         alone = refl;
         enters = record { exported = refl; typed = entry_typed };

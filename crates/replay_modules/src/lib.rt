@@ -1,7 +1,7 @@
 //! What the replay module of a plan is as a module: laws about the definitions, whose statements stand in `specs/`.
 #![tactic(auto)]
 
-ghost use Rattle.replay_modules.specs.Laws.{ReplayModulesAreReplayable, ReplayModulesKeepOriginals, ReplayModulesStandAlone};
+ghost use Rattle.replay_modules.specs.Laws.{OriginalsAreTyped, ReplayModulesAreReplayable, ReplayModulesAreValidOutside, ReplayModulesKeepOriginals, ReplayModulesStandAlone};
 
 use replay_codes::replay_modules_have_code;
 
@@ -11,6 +11,22 @@ pub fn replay_modules_stand()
     ensures originals { ReplayModulesKeepOriginals }
     ensures alone { ReplayModulesStandAlone }
     ensures replayable { ReplayModulesAreReplayable }
+{
+    replay_modules_have_code();
+}
+
+/// It is valid but for the bodies of its functions: its types, limits, globals, segments and exports, and what its
+/// functions declare.
+pub fn replay_modules_are_valid_outside()
+    ensures outside { ReplayModulesAreValidOutside }
+{
+    replay_modules_have_code();
+}
+
+/// The original's functions have typings in it: their calls, their globals and the functions that they refer to are
+/// there.
+pub fn originals_are_typed()
+    ensures typed { OriginalsAreTyped }
 {
     replay_modules_have_code();
 }
