@@ -2,4 +2,5 @@ mod ReadBytes
 mod WrittenBytes
 mod Growths
 mod GrowingRuns
+mod Counts
 mod Whole

@@ -18,14 +18,13 @@ use Rattle.history_spec.specs.Step.{Finished, StepResult}
 use Rattle.history_spec.specs.Run.{all_one, program_of, start_in_store, run_from}
 use Rattle.replay_spec.specs.Needed.{IsNeededTape}
 use Rattle.replay_gen.specs.Fragments.{start_index}
-use Rattle.outside_spec.specs.Stretches.{stretches}
+use Rattle.outside_spec.specs.Stretches.{AreEffectsOf, stretches}
 use Rattle.type_safety.specs.Supplies.{IsRunnable}
 use Rattle.hook_spec.specs.LogTapes.{IsLogTape}
 use Rattle.tape_follows.specs.NeededTape.{IsOneNeededTape}
 use Rattle.calls_follow.specs.Laws.{OriginalRun}
 use Rattle.logs_follow.specs.Laws.{log_of_run}
 use Rattle.binary_follows.specs.Playable.{AllWriteBytes, IsPlayable, GrowsAlways, most_weight, replay_of, layout_of, replay_run, shown_run}
-use Rattle.binary_follows.specs.Laws.{AreEffectsOfFirst}
 
 -- ---- needed tapes
 
@@ -57,13 +56,13 @@ NeededTapesGrowSizes =
 -- ---- runs
 
 -- The run of the replay module of a tape, once it is over: what functions outside the original change in it is, stretch
--- by stretch, just the effects of the tape's first segments, in order.
+-- by stretch, just the effects of the tape's segments, in order.
 abbrev pub MakesEffectsOf : Module → Supply → Tape → Type 0
 MakesEffectsOf m supply tape =
     (initial : StepResult) (count : ℕ) (own : Outcome)
     → run_start_alone (replay_of m supply tape) (start_index m) ≡ Ok initial
     → (replay_run (replay_of m supply tape) initial count).at ≡ Finished own
-    → AreEffectsOfFirst tape.segments (stretches (shown_run m (replay_of m supply tape) initial count))
+    → AreEffectsOf tape.segments (stretches (shown_run m (replay_of m supply tape) initial count))
 
 -- a run with this history and outcome, its one needed tape, and the replay module of that: where the tape is no heavier
 -- than it may be, the replay module's run shows just that history and that outcome, and makes just the tape's effects

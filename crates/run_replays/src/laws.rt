@@ -5,6 +5,7 @@ ghost use Rattle.run_replays.specs.Laws.{NeededTapesArePlayable, NeededTapesGrow
 use binary_follows::replays_show_runs;
 use logs_follow::logs_give_needed_tapes;
 use observed_steps::{observed_steps, own_answers, own_steps};
+use outside_spec::items_show_projections;
 use replay_spec::needed_segments_are_kept;
 use tape_follows::{needed_tape_fits, run_has_one_needed_tape};
 use type_safety::{rules_hold, safe_steps, typed_code, typed_store};
@@ -47,6 +48,7 @@ pub fn needed_tapes_grow_sizes()
 pub fn runs_are_replayed()
     ensures { RunsAreReplayed }
 {
+    items_show_projections();
     run_has_one_needed_tape();
     needed_tapes_are_playable();
     needed_tapes_grow_sizes();
