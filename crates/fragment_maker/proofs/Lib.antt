@@ -1,0 +1,4 @@
+mod Widths
+mod Blocks
+mod Groups
+mod Marks

@@ -1,0 +1,17 @@
+//! The generated part of a replay module, made of a plan.
+#![tactic(auto)]
+
+mod bodies;
+mod dispatch;
+mod effects;
+mod fragments;
+mod funcs;
+mod imports;
+mod parts;
+mod references;
+mod segments;
+mod stores;
+
+pub use fragments::generate;
+pub use no_memory::NoMemory;
+pub use replay_gen::Fragment;
