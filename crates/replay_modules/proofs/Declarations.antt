@@ -56,7 +56,7 @@ any_filter func test (x ∷ xs) passes h =
     go false e true c later h' = ap (λ b. b || list_any (nat_eq func) (filter test xs)) e ∙ later h'
     go false e false c later h' = later h'
 
-in_range : (func from count : ℕ) → from ≤ func → func < from + count
+pub in_range : (func from count : ℕ) → from ≤ func → func < from + count
     → list_any (nat_eq func) (range_with_len from count) ≡ true
 in_range func from zero least below = absurd (omega (arith, least, below))
 in_range func from (suc count) least below =
@@ -128,3 +128,14 @@ declared_among func below funcs elems exported small h =
         → list_any (nat_eq func) (flat_map elem_funcs (declaration declared)) ≡ true
     of_declaration [] h = cc
     of_declaration (x ∷ declared) h = any_front (nat_eq func) (x ∷ declared) [] h
+
+-- what is in a range is below its end
+pub range_end : (func from count : ℕ) → list_any (nat_eq func) (range_with_len from count) ≡ true → func < from + count
+range_end func from zero h = cc
+range_end func from (suc count) h = go (nat_eq func from) refl h (range_end func (from + 1) count)
+  where
+    go : (b : Bool) → nat_eq func from ≡ b → (b || list_any (nat_eq func) (range_with_len (from + 1) count)) ≡ true
+        → (list_any (nat_eq func) (range_with_len (from + 1) count) ≡ true → func < from + 1 + count)
+        → func < from + suc count
+    go true e h later = let same : func ≡ from = grind (arith, nat_tests, e) in omega (arith, same)
+    go false e h later = let below = later h in omega (arith, below)

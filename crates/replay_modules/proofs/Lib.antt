@@ -4,3 +4,10 @@ mod ValidOutside
 mod Declarations
 mod Originals
 mod TypedOriginals
+mod Serving
+mod TypedEffects
+mod TypedSegments
+mod TypedDispatch
+mod Generated
+mod TypedGenerated
+mod FittingPlans

@@ -1,12 +1,12 @@
 -- The original's functions have the typings in the replay module that they have in the original.
 use Rattle.std.proofs.Common.{◌≡◌, ℕ, List, [], ◌∷◌, ◌++◌, Option, Some, None, Bool, true, false, cond, refl, sym, ap, subst}
-use Rattle.std.specs.Prelude.{option_and_then, option_map, slice_get}
+use Rattle.std.specs.Prelude.{IsTrue, option_and_then, option_map, slice_get}
 use Rattle.std.specs.List.{AllByRecursion}
 use Rattle.wasm_syntax.specs.declared.values.ValType.{ValType}
 use Rattle.wasm_syntax.specs.declared.values.ValType.TheVariants.{I32, FuncRef}
 use Rattle.wasm_syntax.specs.declared.instructions.Instr.{Instr}
-use Rattle.wasm_syntax.specs.declared.instructions.Instr.TheVariants.{CallIndirect, Else, End, Load, MemoryCopy, MemoryFill, MemoryGrow, MemorySize, RefFunc, Store, TableGrow, TableSet, TableSize}
-use Rattle.wasm_syntax.specs.Nest.{Nest, Empty, Plain, InBlock, InLoop, InIf, InIfElse, flat}
+use Rattle.wasm_syntax.specs.declared.instructions.Instr.TheVariants.{Block, If, Loop, CallIndirect, Else, End, Load, MemoryCopy, MemoryFill, MemoryGrow, MemorySize, RefFunc, Store, TableGrow, TableSet, TableSize}
+use Rattle.wasm_syntax.specs.Nest.{IsNest, is_plain, Nest, Empty, Plain, InBlock, InLoop, InIf, InIfElse, flat}
 use Rattle.wasm_syntax.specs.Opcodes.{load_of, store_of}
 use Rattle.wasm_syntax.specs.Typing.{Context, Drops, InstrType, IsTyped, Leads, Leaves, Moves, Selects, Switches, has_memory, has_table, if_true, indirect_of, inside, instr_type, is_declared, load_type, results_of, store_type}
 use Rattle.plain_replay.specs.Forms.{is_unreferring}
@@ -140,3 +140,37 @@ typed_known (InIfElse ty body other rest) ctx wider before after w known h =
           (inside_known (results_of ty) ctx wider w) later.0 h.4,
       typed_known rest ctx wider (results_of ty ++ h.0) after w later.1.1 h.5,
     )
+
+-- ---- nests
+
+plain_typed : (ctx : Context) (i : Instr) (before after : List ValType) → Leads ctx (instr_type ctx i) before after
+    → IsTrue (is_plain i)
+plain_typed ctx (Block ty) before after leads = absurd leads
+plain_typed ctx (Loop ty) before after leads = absurd leads
+plain_typed ctx (If ty) before after leads = absurd leads
+plain_typed ctx Else before after leads = absurd leads
+plain_typed ctx End before after leads = absurd leads
+plain_typed ctx i before after leads = refl
+
+-- what has a typing has plain instructions where they stand alone
+pub typed_nest : (ctx : Context) (nest : Nest) (before after : List ValType) → IsTyped ctx nest before after
+    → IsNest nest
+typed_nest ctx Empty before after h = tt
+typed_nest ctx (Plain i rest) before after h = (plain_typed ctx i before h.0 h.1, typed_nest ctx rest h.0 after h.2)
+typed_nest ctx (InBlock ty body rest) before after h = (
+  typed_nest (inside (results_of ty) ctx) body [] (results_of ty) h.1,
+  typed_nest ctx rest (results_of ty ++ before) after h.2,
+)
+typed_nest ctx (InLoop ty body rest) before after h = (
+  typed_nest (inside [] ctx) body [] (results_of ty) h.1,
+  typed_nest ctx rest (results_of ty ++ before) after h.2,
+)
+typed_nest ctx (InIf ty body rest) before after h = (
+  typed_nest (inside (results_of ty) ctx) body [] (results_of ty) h.3,
+  typed_nest ctx rest (results_of ty ++ h.0) after h.5,
+)
+typed_nest ctx (InIfElse ty body other rest) before after h = (
+  typed_nest (inside (results_of ty) ctx) body [] (results_of ty) h.3,
+  typed_nest (inside (results_of ty) ctx) other [] (results_of ty) h.4,
+  typed_nest ctx rest (results_of ty ++ h.0) after h.5,
+)

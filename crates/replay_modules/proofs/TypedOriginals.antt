@@ -1,7 +1,7 @@
 -- The original's functions have typings in the replay module of a plan.
-use Rattle.std.proofs.Common.{◌≡◌, ℕ, zero, suc, ◌<◌, ◌≤◌, List, [], ◌∷◌, ◌++◌, length, Option, Some, None, refl, sym, ap, ◌∙◌, subst, arith}
-use Rattle.std.specs.Prelude.{is_some, replicate, filter_map, map, nat_lt, option_to_list, reverse, slice_get, All}
-use Rattle.std.specs.List.{AllByRecursion, zip}
+use Rattle.std.proofs.Common.{◌≡◌, ℕ, zero, suc, ◌<◌, ◌≤◌, List, [], ◌∷◌, ◌++◌, length, Option, Some, None, true, refl, sym, ap, ◌∙◌, subst, arith}
+use Rattle.std.specs.Prelude.{◌&&◌, nat_eq, is_some, replicate, filter_map, map, nat_lt, option_to_list, reverse, slice_get, All}
+use Rattle.std.specs.List.{list_any, AllByRecursion, zip}
 use Rattle.std.proofs.lemmas.Bool.Decides.{nat_tests}
 use Rattle.std.proofs.lemmas.List.Elements.{recursion_from_All, All-from_recursion}
 use Rattle.std.proofs.lemmas.List.{append_assoc, map-append}
@@ -21,7 +21,7 @@ use Rattle.wasm_syntax.specs.declared.modules.Func.{Func}
 use Rattle.wasm_syntax.specs.declared.modules.Module.{Module}
 use Rattle.wasm_syntax.specs.Nest.{flat}
 use Rattle.wasm_syntax.specs.Index.{all_globals, all_memories, all_tables, func_indices, imported_funcs, imported_globals, memory_import, of_kind, table_import}
-use Rattle.wasm_syntax.specs.Validity.{IsTypedFunc, IsValid, body_context, exported_func}
+use Rattle.wasm_syntax.specs.Validity.{IsTypedFunc, IsValid, body_context, declared_funcs, exported_func}
 use Rattle.host_script.specs.declared.scripts.Supply.{Supply}
 use Rattle.history_spec.specs.Instantiation.{limits_of}
 use Rattle.type_safety.specs.Supplies.{IsSupply, Match}
@@ -132,19 +132,23 @@ module _ (law : ReplayModulesHaveCode) (m : Module) (supply : Supply) (plan : Pl
         memory = there_alike (all_memories m) (all_memories replay) 0 memories_many;
       }
 
+  -- a function of the original's that bodies refer to is declared
+  pub declared_there : (func : ℕ) → func < start_index m → list_any (nat_eq func) (referred_funcs replay.funcs) ≡ true
+      → (nat_lt func (length (func_indices replay)) && list_any (nat_eq func) (declared_funcs replay)) ≡ true
+  declared_there func small referred =
+      let more = functions_more law m supply plan valid many in
+      let within : func < length (func_indices replay) = omega (arith, small, more) in
+      and_true (nat_lt func (length (func_indices replay))) _ (grind (arith, nat_tests, within))
+      (declared_among func (start_index m) replay.funcs (map (constant_elem supply.globals) m.elems)
+      (filter_map (λ (e : Export). exported_func e.kind) replay.exports) small referred)
+
   known : (ty : FuncType) (f : Func) (code : List Instr) → AllByRecursion (IsReferred (referred_funcs replay.funcs)) code
       → AllByRecursion (IsKnown (body_context m ty f) (body_context replay ty f)) code
   known ty f [] r = tt
   known ty f (i ∷ code) r = (
     (λ func e is.
-        let p = and_parts (nat_lt func (start_index m)) _ is in
-        let first = p.0 in
-        let more = functions_more law m supply plan valid many in
-        let small : func < start_index m = grind (arith, nat_tests, first) in
-        let within : func < length (func_indices replay) = omega (arith, small, more) in
-        and_true (nat_lt func (length (func_indices replay))) _ (grind (arith, nat_tests, within))
-        (declared_among func (start_index m) replay.funcs (map (constant_elem supply.globals) m.elems)
-        (filter_map (λ (e : Export). exported_func e.kind) replay.exports) small (r.0 func e))),
+        let first = (and_parts (nat_lt func (start_index m)) _ is).0 in
+        declared_there func (grind (arith, nat_tests, first)) (r.0 func e)),
     known ty f code r.1,
   )
 

@@ -125,7 +125,7 @@ module _ (m other : Module) (types : other.types ≡ m.types ++ appended_types) 
 
 -- ---- segments
 
-range_below : (n : ℕ) → All (λ f. f < n) (range_with_len 0 n)
+pub range_below : (n : ℕ) → All (λ f. f < n) (range_with_len 0 n)
 range_below n k d below =
     let long = length-range_with_len 0 n in
     let within : k < n = omega (arith, below, long) in

@@ -9,9 +9,14 @@ use Rattle.type_safety.specs.Supplies.{IsSupply}
 use Rattle.plain_replay.specs.Replay.{KeepsOriginals, StandsAlone}
 use Rattle.plain_replay.specs.ReplayModule.{layout_of}
 use Rattle.replay_form.specs.Forms.{IsReplayable}
+use Rattle.trace_model.specs.declared.tapes.Tape.{Tape}
+use Rattle.trace_model.specs.Fitting.{IsFitting}
 use Rattle.replay_plan.specs.declared.plans.Plan.{Plan}
+use Rattle.replay_plan.specs.Plans.{plan_of}
 use Rattle.replay_gen.specs.Fragments.{fragment_of, start_index}
 use Rattle.module_merge.specs.Merge.{replay_module}
+use Rattle.replay_modules.specs.Plans.{PlanFits}
+use Rattle.replay_modules.specs.Written.{IsConstantTape}
 
 -- the replay module of a plan for a valid module, with calls for each import, keeps the types and functions of the
 -- original at their indices
@@ -52,3 +57,23 @@ OriginalsAreTyped =
     (m : Module) (supply : Supply) (plan : Plan) → IsValid m → IsSupply m supply
     → length plan.imports ≡ imported_funcs m
     → All (IsTypedFunc (replay_module m supply (fragment_of m plan))) m.funcs
+
+-- where the plan fits the module, it is valid
+abbrev pub ReplayModulesAreValid : Type 0
+ReplayModulesAreValid =
+    (m : Module) (supply : Supply) (plan : Plan) → IsValid m → IsSupply m supply → StatesMaximum supply.table
+    → length plan.imports ≡ imported_funcs m → PlanFits m plan
+    → IsValid (replay_module m supply (fragment_of m plan))
+
+-- the plan of a tape that fits a module, and whose values are constants, fits the module
+abbrev pub PlansFit : Type 0
+PlansFit =
+    (m : Module) (tape : Tape) → IsValid m → IsFitting m tape → IsConstantTape tape
+    → PlanFits m (plan_of (imported_funcs m) tape)
+
+-- so the replay module of such a tape is valid
+abbrev pub ReplayModulesOfTapesAreValid : Type 0
+ReplayModulesOfTapesAreValid =
+    (m : Module) (supply : Supply) (tape : Tape) → IsValid m → IsSupply m supply → StatesMaximum supply.table
+    → IsFitting m tape → IsConstantTape tape
+    → IsValid (replay_module m supply (fragment_of m (plan_of (imported_funcs m) tape)))

@@ -1,7 +1,8 @@
-//! What the replay module of a plan is as a module: laws about the definitions, whose statements stand in `specs/`.
+//! What the replay module of a plan is as a module: that it keeps the original's functions, stands alone, tells its
+//! layout and is valid. These are laws about the definitions, whose statements stand in `specs/`.
 #![tactic(auto)]
 
-ghost use Rattle.replay_modules.specs.Laws.{OriginalsAreTyped, ReplayModulesAreReplayable, ReplayModulesAreValidOutside, ReplayModulesKeepOriginals, ReplayModulesStandAlone};
+ghost use Rattle.replay_modules.specs.Laws.{OriginalsAreTyped, PlansFit, ReplayModulesAreValid, ReplayModulesOfTapesAreValid, ReplayModulesAreReplayable, ReplayModulesAreValidOutside, ReplayModulesKeepOriginals, ReplayModulesStandAlone};
 
 use replay_codes::replay_modules_have_code;
 
@@ -15,18 +16,35 @@ pub fn replay_modules_stand()
     replay_modules_have_code();
 }
 
-/// It is valid but for the bodies of its functions: its types, limits, globals, segments and exports, and what its
-/// functions declare.
+/// The replay module is valid but for the bodies of its functions: its types, limits, globals, segments and exports,
+/// and what its functions declare.
 pub fn replay_modules_are_valid_outside()
     ensures outside { ReplayModulesAreValidOutside }
 {
     replay_modules_have_code();
 }
 
-/// The original's functions have typings in it: their calls, their globals and the functions that they refer to are
-/// there.
+/// The original's functions have typings in the replay module: their calls, their globals and the functions that they
+/// refer to are there.
 pub fn originals_are_typed()
     ensures typed { OriginalsAreTyped }
 {
     replay_modules_have_code();
+}
+
+/// The replay module is valid, where its plan fits the module: effects and calls have what they name, and each
+/// activation of the host returns what it has to.
+pub fn replay_modules_are_valid()
+    ensures valid { ReplayModulesAreValid }
+{
+    replay_modules_have_code();
+}
+
+/// The plan of a tape that fits the module, and whose values are constants, fits it; so the replay module of such a
+/// tape is valid.
+pub fn replay_modules_of_tapes_are_valid()
+    ensures plans { PlansFit }
+    ensures valid { ReplayModulesOfTapesAreValid }
+{
+    replay_modules_are_valid();
 }
