@@ -1,5 +1,4 @@
-//! The plan of a replay: what a tape has its host do, by the activations in which the host does it. No code makes one
-//! yet.
+//! The plan of a replay: what a tape has its host do, by the activations in which the host does it.
 #![tactic(auto)]
 
 pub mod plans;
