@@ -99,9 +99,9 @@ fn figures(hooked: &Hooked) -> [usize; 4] {
     let mut instructions = 0;
     let mut turns = 0;
     'funcs: for (place, func) in hooked.module.funcs.as_slice().iter().enumerate() {
-        instructions += func.body.as_slice().len();
+        instructions = func.body.as_slice().len().wrapping_add(instructions);
         'weights: for weight in hooked.meter.at(place as u32).unwrap_or(&[]) {
-            turns += *weight as usize;
+            turns = (*weight as usize).wrapping_add(turns);
         }
     }
     let types = hooked.module.types.as_slice().len();
