@@ -98,11 +98,13 @@ fn hooked(alloc: Global, text: &str) -> Result<Hooked, Fail> {
 fn figures(hooked: &Hooked) -> [usize; 4] {
     let mut instructions = 0;
     let mut turns = 0;
-    'funcs: for (place, func) in hooked.module.funcs.as_slice().iter().enumerate() {
+    let mut place: u32 = 0;
+    'funcs: for func in hooked.module.funcs.as_slice() {
         instructions = func.body.as_slice().len().wrapping_add(instructions);
-        'weights: for weight in hooked.meter.at(place as u32).unwrap_or(&[]) {
+        'weights: for weight in hooked.meter.at(place).unwrap_or(&[]) {
             turns = (*weight as usize).wrapping_add(turns);
         }
+        place = place.wrapping_add(1);
     }
     let types = hooked.module.types.as_slice().len();
     let imports = hooked.module.imports.as_slice().len();
