@@ -1,12 +1,13 @@
 -- A replay module in its store, whose run can begin.
 use Rattle.std.proofs.Common.{◌≡◌, ℕ, ◌+◌, ◌-◌, List, [], ◌++◌, length, refl, sym, ap, ◌∙◌, subst, arith}
-use Rattle.std.specs.Prelude.{IfSome, IsTrue, Ok, Option, Some, None, false}
+use Rattle.std.specs.Prelude.{IsTrue, Ok, false}
 use Rattle.std.proofs.lemmas.List.Elements.{All-cons, All-nil}
+use Rattle.std.proofs.lemmas.Option.{IfSome_then}
 use Rattle.wasm_syntax.specs.declared.modules.Module.{Module}
 use Rattle.wasm_syntax.specs.Index.{func_import, imported_funcs, of_kind}
 use Rattle.wasm_syntax.specs.Profile.{IsSupported}
 use Rattle.wasm_syntax.specs.Typing.{is_constant}
-use Rattle.wasm_syntax.specs.Validity.{IsStart, IsValid}
+use Rattle.wasm_syntax.specs.Validity.{IsValid}
 use Rattle.host_script.specs.declared.scripts.Action.TheVariants.{Call}
 use Rattle.host_script.specs.Fits.{FitActions, FitAnswers, FitsAction, IsCallable}
 use Rattle.run_outcomes.specs.declared.outcomes.Outcome.{Outcome}
@@ -30,7 +31,7 @@ use Rattle.replay_run.specs.declared.results.ReplayFault.TheVariants as fault
 use Rattle.host_play.specs.declared.results.Told.{Told}
 use Rattle.shown_lines.specs.ShownLines.{ShownLines, lines}
 use Rattle.replay_run.specs.Results.{RefusesForm, RefusesReplay, TellsReplay}
-use Rattle.replay_run.specs.RunsSoFar.{EndsBy, IsReady, StopsBy, TakesNothing, main_of}
+use Rattle.replay_run.specs.RunsSoFar.{EndsBy, IsReady, StopsBy, main_of}
 
 none_imported : (m : Module) → m.imports ≡ [] → imported_funcs m ≡ 0
 none_imported m none = ap (λ imports. length (of_kind func_import imports)) none
@@ -39,10 +40,6 @@ none_answered : (m : Module) → m.imports ≡ [] → FitAnswers m []
 none_answered m none =
     let own : FitAnswers (record m { imports = [] }) [] = tt in
     subst (λ imports. FitAnswers (record m { imports = imports }) []) (sym none) own
-
-where_some : (P Q : ℕ → Type 0) (o : Option ℕ) → ((x : ℕ) → P x → Q x) → IfSome o P → IfSome o Q
-where_some P Q None weaker is = tt
-where_some P Q (Some x) weaker is = weaker x is
 
 ready_of : HostsBegin → (m : Module) (heights : Heights) (layout : Layout) (entry : ℕ) (store : Store) → IsValid m → IsTypedCode m heights → IsReplayable m layout entry → IsStore m store
     → IsReady m heights m.start entry (state (flat_of m) store [] [] false)
@@ -53,7 +50,7 @@ ready_of hosts m heights layout entry store valid code form is_store =
     record {
       is_run = record { valid = valid; code = code; fits = record { code = refl; answers = none_answered m form.alone }; counted = sym none };
       starts = refl;
-      start_function = where_some (IsStart m) (TakesNothing m) m.start (λ func s. record { defined = omega (arith, none); ty = s.ty; has_type = s.has_type; none = s.params }) valid.outside.start;
+      start_function = IfSome_then m.start valid.outside.start (λ func s. record { defined = omega (arith, none); ty = s.ty; has_type = s.has_type; none = s.params });
       entry_function = record { defined = omega (arith, none); ty = record { params = []; results = [] }; has_type = form.enters.typed; none = refl };
       stands = hosts m heights store (main_of entry) is_store main;
     }

@@ -1,6 +1,6 @@
 // Whether the events of a log stand in an order in which a run can have them.
 
-ghost use Rattle.std.specs.Prelude.{◌≡◌, [], ◌∷◌, drop, IfOk, OnOk, MatchOption};
+ghost use Rattle.std.specs.Prelude.{◌≡◌, [], ◌∷◌, drop, IfOk, OnOk, OnErr, MatchOption};
 ghost use Rattle.trace_model.specs.Balance.{IsBalance, Takes, balance_start, balanced_step, calls_import, ends_so, enter_frames, first_unbalanced, is_empty_stack, is_function, leave_frames, post_frames};
 ghost use Rattle.trace_model.specs.declared.events.Event.TheVariants.{Pre};
 
@@ -33,16 +33,18 @@ impl From<NoMemory> for BalanceFault {
     }
 }
 
-/// What is open: a function, or a call with its callee, in which a function was entered or none yet.
+/// What is open.
 #[derive(Clone, Copy)]
-pub(crate) enum Frame {
+pub enum Frame {
+    /// A function.
     Function(u32),
+    /// A call with its callee, and whether a function was entered in it.
     Call(Option<u32>, bool),
 }
 
 /// The frames that are open. Contracts see the innermost first.
 #[derive(Drop)]
-pub(crate) struct Frames {
+pub struct Frames {
     items: Vec<Frame>,
 }
 
@@ -58,10 +60,10 @@ impl Model for Frames {
 /// What is known after some events: the frames; whether the host grew the memory; whether the last
 /// event began a call.
 #[derive(Drop)]
-pub(crate) struct Balance {
-    pub(crate) frames: Frames,
-    pub(crate) grew: bool,
-    pub(crate) called: bool,
+pub struct Balance {
+    pub frames: Frames,
+    pub grew: bool,
+    pub called: bool,
 }
 
 impl Frames {
@@ -75,7 +77,7 @@ impl Frames {
     }
 
     /// The innermost frame.
-    fn top(&self) -> Option<Frame>
+    pub fn top(&self) -> Option<Frame>
         ensures { MatchOption result (self.now ≡ []) (λ top. self.now ≡ top ∷ drop 1 self.now) }
     {
         self.items.last().copied()
@@ -83,7 +85,8 @@ impl Frames {
 
     /// A frame within the others.
     fn push(&mut self, frame: Frame) -> Result<(), NoMemory>
-        ensures { OnOk result (self.new ≡ frame ∷ self.old) }
+        ensures ok { OnOk result (self.new ≡ frame ∷ self.old) }
+        ensures refused { OnErr result (self.new ≡ self.old) }
     {
         self.items.push(frame)?;
         Ok(())
@@ -97,14 +100,14 @@ impl Frames {
     }
 
     /// Whether the innermost frame is a function.
-    fn is_function(&self) -> bool
+    pub fn is_function(&self) -> bool
         ensures { result ≡ is_function self.now }
     {
         matches!(self.top(), Some(Frame::Function(_)))
     }
 
     /// Whether the innermost frame is a call of an import.
-    fn calls_import(&self, imports: u32) -> bool
+    pub fn calls_import(&self, imports: u32) -> bool
         ensures { result ≡ calls_import imports self.now }
     {
         match self.top() {
@@ -114,7 +117,7 @@ impl Frames {
     }
 
     /// Whether nothing is open.
-    fn is_empty(&self) -> bool
+    pub fn is_empty(&self) -> bool
         ensures { result ≡ is_empty_stack self.now }
     {
         self.top().is_none()
@@ -122,20 +125,22 @@ impl Frames {
 
     /// A function begins. Answers whether it may.
     fn enter(&mut self, imports: u32, func: u32) -> Result<bool, NoMemory>
-        ensures { IfOk result (λ may. Takes may self.new (enter_frames imports func self.old)) }
+        ensures ok { IfOk result (λ may. Takes may self.new (enter_frames imports func self.old)) }
+        ensures refused { OnErr result (self.new ≡ self.old) }
     {
+        self.items.reserve(1)?;
         match self.top() {
             None => {}
             Some(Frame::Call(Some(callee), entered)) => {
                 if callee >= imports && (callee != func || entered) {
                     return Ok(false);
                 }
-                self.pop();
-                self.push(Frame::Call(Some(callee), true))?;
+                let _call = self.items.pop();
+                self.items.push_reserved(Frame::Call(Some(callee), true));
             }
             Some(_) => return Ok(false),
         }
-        self.push(Frame::Function(func))?;
+        self.items.push_reserved(Frame::Function(func));
         Ok(true)
     }
 
@@ -168,7 +173,7 @@ impl Frames {
 
 impl Balance {
     /// What is known before any event. Takes no memory.
-    fn new(alloc: Global) -> Balance
+    pub fn new(alloc: Global) -> Balance
         ensures { result ≡ balance_start }
     {
         Balance {
@@ -179,8 +184,12 @@ impl Balance {
     }
 
     /// Takes an event. Answers whether it is in order.
-    fn step(&mut self, imports: u32, event: &Event) -> Result<bool, NoMemory>
-        ensures { IfOk result (λ may. Takes may self.new (balanced_step imports self.old event.now)) }
+    ///
+    /// # Errors
+    /// Where an allocation failed; the event is not taken then.
+    pub fn step(&mut self, imports: u32, event: &Event) -> Result<bool, NoMemory>
+        ensures ok { IfOk result (λ may. Takes may self.new (balanced_step imports self.old event.now)) }
+        ensures refused { OnErr result (self.new ≡ self.old) }
     {
         let may = match event {
             Event::Enter { func, .. } => *func >= imports && self.frames.enter(imports, *func)?,
@@ -199,8 +208,8 @@ impl Balance {
 
     /// A call begins. Answers whether it may.
     fn call(&mut self, callee: Option<u32>) -> Result<bool, NoMemory>
-        ensures { IfOk result (λ may. Takes may self.new
-            (balanced_step 0 self.old (Pre callee))) }
+        ensures ok { IfOk result (λ may. Takes may self.new (balanced_step 0 self.old (Pre callee))) }
+        ensures refused { OnErr result (self.new ≡ self.old) }
     {
         if !self.frames.is_function() {
             return Ok(false);
@@ -211,7 +220,7 @@ impl Balance {
     }
 
     /// Whether a run may end so.
-    fn ends_so(&self, imports: u32, outcome: Outcome) -> bool
+    pub fn ends_so(&self, imports: u32, outcome: Outcome) -> bool
         ensures { result ≡ ends_so imports self.now outcome }
     {
         match outcome {

@@ -9,7 +9,7 @@ mod ordering;
 pub mod sinks;
 pub mod tapes;
 
-pub use balance::{BalanceFault, balanced};
+pub use balance::{Balance, BalanceFault, balanced};
 pub use events::{Event, Events, Log};
 pub use fitting::{TapeFault, fits};
 pub use no_memory::NoMemory;

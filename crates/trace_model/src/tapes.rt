@@ -74,7 +74,7 @@ impl Tape {
 
 impl Segment {
     /// What the segment weighs; 2^64 - 1 where it is more.
-    fn weight(&self) -> u64
+    pub fn weight(&self) -> u64
         ensures { result ≡ min (segment_weight self.now) (2 ^ 64 - 1) }
     {
         let mut weight = self.next.weight();
