@@ -1,0 +1,151 @@
+-- The effects that are made of what is found first are those of the window.
+use Rattle.std.proofs.Common.{◌≡◌, ℕ, List, [], ◌++◌, map, Option, Some, None, true, option_map, Result, Ok, Err, IfOk, refl, sym, ap, ◌∙◌, subst}
+use Rattle.std.specs.List.{list_all}
+use Rattle.std.specs.Option.{option_or}
+use Rattle.std.specs.Ordering.{nat_cmp}
+use Rattle.std.specs.BTreeMap.{get}
+use Rattle.std.proofs.lemmas.List.{append_assoc}
+use Rattle.no_memory.specs.declared.NoMemory.{NoMemory}
+use Rattle.trace_model.specs.declared.tapes.Effect.{Effect}
+use Rattle.trace_model.specs.declared.tapes.Effect.TheVariants.{Grow, Table}
+use Rattle.trace_model.specs.Effects.{AreOrdered}
+use Rattle.replay_spec.specs.Known.{last_some}
+use Rattle.replay_spec.specs.Needed.{effect_byte, effect_entry, effect_global, effect_pages, effect_entries, has_bytes}
+use Rattle.hook_spec.specs.LogTapes.{AreFirstFinds}
+use Rattle.trace_reduce.specs.declared.finds.Firsts.{Firsts}
+use Rattle.trace_reduce.specs.Firsts.{AreFirsts, global_of}
+use Rattle.trace_reduce.specs.Runs.{runs_from, entry_effect, global_effect, size_effects, firsts_effects, AreSorted}
+use Rattle.trace_reduce.proofs.Firsts.{or_none}
+use Rattle.trace_reduce.proofs.Bytes.{at_key, ascends, looked_up}
+use Rattle.trace_reduce.proofs.Ordered.{all_ordered, all_have}
+use Rattle.trace_reduce.proofs.Parts.{last_append, entries_none, globals_none, sizes_none, runs_none, keyed, all_runs}
+
+module _ (firsts : Firsts) where
+  abbrev pages_part : List Effect
+  pages_part = size_effects Grow firsts.pages
+
+  abbrev size_part : List Effect
+  size_part = size_effects Table firsts.size
+
+  abbrev bytes_part : List Effect
+  bytes_part = runs_from 0 [] firsts.bytes.entries
+
+  abbrev entries_part : List Effect
+  entries_part = map entry_effect firsts.entries.entries
+
+  abbrev globals_part : List Effect
+  globals_part = map global_effect firsts.globals.entries
+
+  regrouped : firsts_effects firsts
+      ≡ pages_part ++ (size_part ++ (bytes_part ++ (entries_part ++ globals_part)))
+  regrouped =
+      append_assoc ((pages_part ++ size_part) ++ bytes_part) entries_part globals_part
+      ∙ append_assoc (pages_part ++ size_part) bytes_part (entries_part ++ globals_part)
+      ∙ append_assoc pages_part size_part (bytes_part ++ (entries_part ++ globals_part))
+
+  -- a part, from those of the kinds
+  part_of : {X : Type 0} (part : Effect → Option X) (p s b e g : Option X)
+      → last_some part pages_part ≡ p → last_some part size_part ≡ s → last_some part bytes_part ≡ b
+      → last_some part entries_part ≡ e → last_some part globals_part ≡ g
+      → last_some part (firsts_effects firsts) ≡ option_or g (option_or e (option_or b (option_or s p)))
+  part_of part p s b e g hp hs hb he hg =
+      last_append part (((pages_part ++ size_part) ++ bytes_part) ++ entries_part) globals_part
+      ∙ ap (option_or (last_some part globals_part))
+      (last_append part ((pages_part ++ size_part) ++ bytes_part) entries_part
+      ∙ ap (option_or (last_some part entries_part))
+      (last_append part (pages_part ++ size_part) bytes_part
+      ∙ ap (option_or (last_some part bytes_part)) (last_append part pages_part size_part)))
+      ∙ (λ i. option_or (hg i) (option_or (he i) (option_or (hb i) (option_or (hs i) (hp i)))))
+
+  same_map : {X : Type 0} (o : Option X) → option_map (λ x. x) o ≡ o
+  same_map None = refl
+  same_map (Some x) = refl
+
+  pages_given : (o : Option ℕ) → last_some effect_pages (size_effects Grow o) ≡ o
+  pages_given None = refl
+  pages_given (Some pages) = refl
+
+  size_given : (o : Option ℕ) → last_some effect_entries (size_effects Table o) ≡ o
+  size_given None = refl
+  size_given (Some size) = refl
+
+  module _ (finds : List Effect) (h : AreFirsts finds [] firsts) (s : AreSorted firsts) where
+    pages_same : last_some effect_pages (firsts_effects firsts) ≡ firsts.pages
+    pages_same =
+        part_of effect_pages firsts.pages None None None None (pages_given firsts.pages)
+        (sizes_none effect_pages Table (λ size. refl) firsts.size)
+        (runs_none effect_pages (λ at run. refl) 0 [] firsts.bytes.entries)
+        (entries_none effect_pages (λ k func. refl) firsts.entries.entries)
+        (globals_none effect_pages (λ k value. refl) firsts.globals.entries)
+
+    size_same : last_some effect_entries (firsts_effects firsts) ≡ firsts.size
+    size_same =
+        part_of effect_entries None firsts.size None None None
+        (sizes_none effect_entries Grow (λ pages. refl) firsts.pages)
+        (size_given firsts.size)
+        (runs_none effect_entries (λ at run. refl) 0 [] firsts.bytes.entries)
+        (entries_none effect_entries (λ k func. refl) firsts.entries.entries)
+        (globals_none effect_entries (λ k value. refl) firsts.globals.entries)
+        ∙ or_none firsts.size
+
+    byte_same : (at : ℕ) → last_some (effect_byte at) (firsts_effects firsts) ≡ get nat_cmp firsts.bytes at
+    byte_same at =
+        part_of (effect_byte at) None None (at_key firsts.bytes.entries at) None None
+        (sizes_none (effect_byte at) Grow (λ pages. refl) firsts.pages)
+        (sizes_none (effect_byte at) Table (λ size. refl) firsts.size)
+        (all_runs at firsts.bytes.entries (ascends firsts.bytes.entries s.bytes))
+        (entries_none (effect_byte at) (λ k func. refl) firsts.entries.entries)
+        (globals_none (effect_byte at) (λ k value. refl) firsts.globals.entries)
+        ∙ or_none (at_key firsts.bytes.entries at)
+        ∙ sym (looked_up firsts.bytes.entries at)
+
+    entry_same : (at : ℕ) → last_some (effect_entry at) (firsts_effects firsts) ≡ get nat_cmp firsts.entries at
+    entry_same at =
+        part_of (effect_entry at) None None None (at_key firsts.entries.entries at) None
+        (sizes_none (effect_entry at) Grow (λ pages. refl) firsts.pages)
+        (sizes_none (effect_entry at) Table (λ size. refl) firsts.size)
+        (runs_none (effect_entry at) (λ place run. refl) 0 [] firsts.bytes.entries)
+        (keyed entry_effect (effect_entry at) (λ func. func) at (λ k func. refl) 0 firsts.entries.entries
+        (ascends firsts.entries.entries s.entries)
+        ∙ same_map (at_key firsts.entries.entries at))
+        (globals_none (effect_entry at) (λ k value. refl) firsts.globals.entries)
+        ∙ or_none (at_key firsts.entries.entries at)
+        ∙ sym (looked_up firsts.entries.entries at)
+
+    global_same : (at : ℕ) → last_some (effect_global at) (firsts_effects firsts) ≡ global_of firsts at
+    global_same at =
+        part_of (effect_global at) None None None None (option_map Some (at_key firsts.globals.entries at))
+        (sizes_none (effect_global at) Grow (λ pages. refl) firsts.pages)
+        (sizes_none (effect_global at) Table (λ size. refl) firsts.size)
+        (runs_none (effect_global at) (λ place run. refl) 0 [] firsts.bytes.entries)
+        (entries_none (effect_global at) (λ k func. refl) firsts.entries.entries)
+        (keyed global_effect (effect_global at) Some at (λ k value. refl) 0 firsts.globals.entries
+        (ascends firsts.globals.entries s.globals))
+        ∙ or_none (option_map Some (at_key firsts.globals.entries at))
+        ∙ ap (option_map Some) (sym (looked_up firsts.globals.entries at))
+
+    pub are_first_finds : AreFirstFinds finds (firsts_effects firsts)
+    are_first_finds =
+        record {
+          ordered =
+              subst AreOrdered (sym regrouped)
+              (all_ordered firsts.bytes.entries firsts.entries.entries firsts.globals.entries
+              (ascends firsts.bytes.entries s.bytes) (ascends firsts.entries.entries s.entries)
+              (ascends firsts.globals.entries s.globals) firsts.pages firsts.size);
+          nonempty =
+              subst (λ effects. list_all has_bytes effects ≡ true) (sym regrouped)
+              (all_have firsts.pages firsts.size firsts.bytes.entries firsts.entries.entries firsts.globals.entries);
+          pages = pages_same ∙ sym (or_none firsts.pages) ∙ h.pages;
+          entries = size_same ∙ sym (or_none firsts.size) ∙ h.size;
+          byte = λ at. byte_same at ∙ sym (or_none (get nat_cmp firsts.bytes at)) ∙ h.byte at;
+          entry = λ at. entry_same at ∙ sym (or_none (get nat_cmp firsts.entries at)) ∙ h.entry at;
+          global = λ at. global_same at ∙ sym (or_none (global_of firsts at)) ∙ h.global at;
+        }
+
+-- what is answered
+pub effects_answered : (firsts : Firsts) (finds : List Effect) → AreFirsts finds [] firsts
+    → (answer : Result (List Effect) NoMemory) → IfOk answer (λ effects. effects ≡ firsts_effects firsts)
+    → IfOk answer (λ effects. AreSorted firsts) → IfOk answer (AreFirstFinds finds)
+effects_answered firsts finds h (Ok effects) same sorted =
+    subst (AreFirstFinds finds) (sym same) (are_first_finds firsts finds h sorted)
+effects_answered firsts finds h (Err refused) same sorted = tt

@@ -1,0 +1,9 @@
+mod Firsts
+mod Bytes
+mod Ordered
+mod Parts
+mod Fitting
+mod Segments
+mod EventSteps
+mod Marks
+mod Taken

@@ -1,0 +1,142 @@
+-- What a reducer has taken, call by call, and what it answers.
+use Rattle.std.proofs.Common.{◌≡◌, ℕ, ◌+◌, List, [], ◌∷◌, ◌++◌, Option, Some, None, Result, Ok, Err, Bool, true, false, not, OnOk, refl, sym, ap, ◌∙◌, subst}
+use Rattle.std.proofs.lemmas.List.{append_assoc, append-nil}
+use Rattle.no_memory.specs.declared.NoMemory.{NoMemory}
+use Rattle.run_outcomes.specs.declared.outcomes.Outcome.{Outcome}
+use Rattle.run_outcomes.specs.declared.outcomes.Outcome.TheVariants.{Ended, Trapped, HostTrapped}
+use Rattle.trace_model.specs.declared.balance.Balance.{Balance}
+use Rattle.trace_model.specs.declared.events.Event.{Event}
+use Rattle.trace_model.specs.declared.events.Log.{Log}
+use Rattle.trace_model.specs.declared.tapes.Origin.TheVariants.{Begin}
+use Rattle.trace_model.specs.declared.tapes.Segment.{Segment}
+use Rattle.trace_model.specs.declared.tapes.Tape.{Tape}
+use Rattle.trace_model.specs.Balance.{Takes, balance_start, balanced_step, ends_so, first_unbalanced, unbalanced_from}
+use Rattle.trace_model.specs.Sink.{TookAlso}
+use Rattle.hook_spec.specs.LogTapes.{Mark, Begins, outcome_marks, log_marks, size_after, AreLogSegments}
+use Rattle.trace_reduce.specs.declared.builder.TapeBuilder.{TapeBuilder}
+use Rattle.trace_reduce.specs.declared.reducer.Progress.TheVariants.{InOrder, Unbalanced}
+use Rattle.trace_reduce.specs.declared.reducer.ReduceFault.{ReduceFault}
+use Rattle.trace_reduce.specs.declared.reducer.Reducer.{Reducer}
+use Rattle.trace_reduce.specs.Builder.{IsAtHost, IsInWindow, end_marks}
+use Rattle.trace_reduce.specs.Reducer.{HasReached, HasTaken, IsInOrder, IsPart, IsReduction, TakesEvent, Tells, last_marks}
+use Rattle.trace_reduce.proofs.Marks.{all_segments, ends_right, ends_wrong, next_in_order}
+
+-- ---- no event
+
+start_marks : (outcome : Outcome)
+    → Begins Begin ∷ outcome_marks outcome
+    ≡ last_marks outcome false true [] (Begins Begin ∷ []) ++ outcome_marks outcome
+start_marks Ended = refl
+start_marks Trapped = refl
+start_marks HostTrapped = refl
+
+pub none_taken : (n : ℕ) (balance : Balance) (builder : TapeBuilder) → balance ≡ balance_start
+    → IsAtHost builder [] (Begins Begin ∷ []) → IsInOrder n balance builder 0 0 []
+none_taken n balance builder same h =
+    subst (λ b. IsInOrder n b builder 0 0 []) (sym same)
+    (record {
+      counted = refl;
+      balanced = λ outcome later. refl;
+      stand = refl;
+      before = [];
+      marks = Begins Begin ∷ [];
+      built = h;
+      goes_on = λ outcome event later. refl;
+      ends = start_marks;
+    })
+
+-- ---- one more
+
+pub takes_some : {A : Type 0} (may : Bool) (now : A) (after : Option A) → Takes may now after → not may ≡ false
+    → after ≡ Some now
+takes_some true now after h holds = h
+takes_some false now after h holds = cc
+
+pub event_taken : (old : Reducer) (balance : Balance) (new : Reducer) (event : Event)
+    (answer : Result (Unit {0}) NoMemory)
+    → balanced_step old.imports old.balance event ≡ Some balance
+    → new.imports ≡ old.imports
+    → OnOk answer
+    (Tells
+    (record {
+      imports = old.imports;
+      balance = balance;
+      builder = old.builder;
+      size = old.size;
+      count = old.count + 1;
+      progress = old.progress;
+    })
+    event new)
+    → OnOk answer (old.progress ≡ InOrder → TakesEvent old event new)
+event_taken old balance new event (Ok it) step imports t =
+    λ is taken h.
+    subst (λ progress. HasReached progress new (taken ++ event ∷ [])) (sym (t.progress ∙ is))
+    (subst (λ n. IsInOrder n new.balance new.builder new.size new.count (taken ++ event ∷ [])) (sym imports)
+    (subst (λ b. IsInOrder old.imports b new.builder new.size new.count (taken ++ event ∷ [])) (sym t.balance)
+    (subst (λ s. IsInOrder old.imports balance new.builder s new.count (taken ++ event ∷ [])) (sym t.size)
+    (subst (λ k. IsInOrder old.imports balance new.builder (size_after old.size event) k (taken ++ event ∷ []))
+    (sym t.count)
+    (next_in_order old.imports old.size old.count old.balance old.builder taken event h balance new.builder step
+    t.marks)))))
+event_taken old balance new event (Err refused) step imports t = tt
+
+-- ---- answers
+
+reached : (reducer : Reducer) (taken : List Event) → reducer.progress ≡ InOrder → HasTaken reducer taken
+    → IsInOrder reducer.imports reducer.balance reducer.builder reducer.size reducer.count taken
+reached reducer taken is h = subst (λ progress. HasReached progress reducer taken) is h
+
+pub unbalanced_answer : (reducer : Reducer) (number : ℕ) (taken : List Event) (outcome : Outcome)
+    → reducer.progress ≡ Unbalanced number → HasTaken reducer taken
+    → first_unbalanced (record { imports = reducer.imports; events = taken; outcome = outcome }) ≡ Some number
+unbalanced_answer reducer number taken outcome is h =
+    ap (unbalanced_from reducer.imports 0 balance_start outcome) (sym (append-nil taken))
+    ∙ subst (λ progress. HasReached progress reducer taken) is h outcome []
+
+pub wrong_answer : (reducer : Reducer) (taken : List Event) (outcome : Outcome) → reducer.progress ≡ InOrder
+    → ends_so reducer.imports reducer.balance outcome ≡ false → HasTaken reducer taken
+    → first_unbalanced (record { imports = reducer.imports; events = taken; outcome = outcome }) ≡ Some reducer.count
+wrong_answer reducer taken outcome is wrong h =
+    ends_wrong reducer.imports reducer.size reducer.count reducer.balance reducer.builder taken outcome
+    (reached reducer taken is h) wrong
+
+pub tape_answer : (reducer : Reducer) (taken : List Event) (outcome : Outcome) (segments : List Segment)
+    → reducer.progress ≡ InOrder → ends_so reducer.imports reducer.balance outcome ≡ true
+    → ((ms : List Mark) → outcome ≡ Trapped → IsInWindow reducer.builder ms → AreLogSegments ms segments)
+    → ((b ms : List Mark) → IsAtHost reducer.builder b ms → AreLogSegments (end_marks outcome b ms) segments)
+    → HasTaken reducer taken
+    → (first_unbalanced (record { imports = reducer.imports; events = taken; outcome = outcome }) ≡ None)
+    × AreLogSegments (log_marks (record { imports = reducer.imports; events = taken; outcome = outcome })) segments
+tape_answer reducer taken outcome segments is right window host h =
+    let r = reached reducer taken is h in (
+      ends_right reducer.imports reducer.size reducer.count reducer.balance reducer.builder taken outcome r right,
+      subst (λ ms. AreLogSegments ms segments) (sym (r.ends outcome))
+          (all_segments reducer.builder r.before r.marks segments reducer.imports reducer.balance outcome right r.built
+          window host),
+    )
+
+-- ---- the events of a log in order
+
+pub part_more : (old new : Reducer) (event copy : Event) (answer : Result (Unit {0}) NoMemory) → copy ≡ event
+    → OnOk answer (TookAlso HasTaken old new (copy ∷ [])) → new.imports ≡ old.imports
+    → OnOk answer ((n : ℕ) (all later : List Event) → IsPart n all (event ∷ later) old → IsPart n all later new)
+part_more old new event copy (Ok it) same took imports =
+    λ n all later h.
+    record {
+      taken = h.taken ++ event ∷ [];
+      whole = append_assoc h.taken (event ∷ []) later ∙ h.whole;
+      has = subst (λ e. HasTaken new (h.taken ++ e ∷ [])) same (took h.taken h.has);
+      imports = imports ∙ h.imports;
+    }
+part_more old new event copy (Err refused) same took imports = tt
+
+pub log_reduced : (log : Log) (reducer : Reducer) (answer : Result Tape ReduceFault)
+    → IsPart log.imports log.events [] reducer
+    → ((taken : List Event) → HasTaken reducer taken
+    → IsReduction (record { imports = reducer.imports; events = taken; outcome = log.outcome }) answer)
+    → IsReduction log answer
+log_reduced log reducer answer h gives =
+    subst (λ events. IsReduction (record { imports = log.imports; events = events; outcome = log.outcome }) answer)
+    (sym (append-nil h.taken) ∙ h.whole)
+    (subst (λ n. IsReduction (record { imports = n; events = h.taken; outcome = log.outcome }) answer) h.imports
+    (gives h.taken h.has))

@@ -1,0 +1,58 @@
+-- A tape in the making, by the marks that were taken.
+use Rattle.std.specs.Prelude.{◌≡◌, List, [], ◌∷◌, ◌++◌, map, Option, Some, None}
+use Rattle.run_outcomes.specs.declared.outcomes.Outcome.{Outcome}
+use Rattle.run_outcomes.specs.declared.outcomes.Outcome.TheVariants.{Trapped}
+use Rattle.trace_model.specs.declared.tapes.Next.{Next}
+use Rattle.hook_spec.specs.LogTapes.{Mark, Begins, Ends, Finds, outcome_marks, AreLogSegments}
+use Rattle.trace_reduce.specs.declared.builder.Turn.{Turn}
+use Rattle.trace_reduce.specs.declared.builder.Turn.TheVariants as turns
+use Rattle.trace_reduce.specs.declared.builder.TapeBuilder.{TapeBuilder}
+
+-- the windows are over: the segments are those of the marks
+pub record IsClosed (builder : TapeBuilder) (marks : List Mark) : Type 0 where
+  pub waits : builder.next ≡ None
+  pub finds : builder.finds.items ≡ []
+  pub closed : AreLogSegments marks builder.segments.items
+
+-- an activity has begun behind these marks, and control is at the host
+pub record IsAtHost (builder : TapeBuilder) (before marks : List Mark) : Type 0 where
+  pub over : IsClosed builder before
+  pub began : marks ≡ before ++ Begins builder.origin ∷ []
+
+-- control has left the host; what the window found is still to come to a segment
+pub record IsInWindow (builder : TapeBuilder) (marks : List Mark) : Type 0 where
+  pub before : List Mark
+  pub next : Next
+  pub left : builder.next ≡ Some next
+  pub found : marks ≡ before ++ Begins builder.origin ∷ Ends next ∷ map Finds builder.finds.items
+  pub closed : AreLogSegments before builder.segments.items
+
+-- a mark, and the marks of an event, in the making of a tape
+abbrev pub mark_of : Turn → Mark
+mark_of (turns.Begins origin) = Begins origin
+mark_of (turns.Ends next) = Ends next
+mark_of (turns.Finds effect) = Finds effect
+
+abbrev pub turn_marks : Option Turn → List Mark
+turn_marks None = []
+turn_marks (Some turn) = mark_of turn ∷ []
+
+-- one more mark is taken, where it may come
+abbrev pub TakesMark : TapeBuilder → Mark → TapeBuilder → Type 0
+TakesMark old (Begins origin) new =
+    (marks : List Mark) → IsInWindow old marks → IsAtHost new marks (marks ++ Begins origin ∷ [])
+TakesMark old (Ends next) new =
+    (before marks : List Mark) → IsAtHost old before marks → IsInWindow new (marks ++ Ends next ∷ [])
+TakesMark old (Finds effect) new =
+    (marks : List Mark) → IsInWindow old marks → IsInWindow new (marks ++ Finds effect ∷ [])
+
+-- the marks of an event are taken, of which there is one at most
+abbrev pub TakesMarks : TapeBuilder → List Mark → TapeBuilder → Type 0
+TakesMarks old [] new = new ≡ old
+TakesMarks old (mark ∷ []) new = TakesMark old mark new
+TakesMarks old (mark ∷ other ∷ marks) new = ⊥
+
+-- the marks of a run that ends at the host; where it trapped by the call, the import's activity is none
+abbrev pub end_marks : Outcome → (before marks : List Mark) → List Mark
+end_marks Trapped before marks = before
+end_marks outcome before marks = marks ++ outcome_marks outcome

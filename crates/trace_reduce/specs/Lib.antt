@@ -1,0 +1,4 @@
+pub mod Firsts
+pub mod Runs
+pub mod Builder
+pub mod Reducer

@@ -1,0 +1,107 @@
+-- What a reducer has taken: the events of a log so far, of which it holds the tape.
+use Rattle.std.specs.Prelude.{◌≡◌, ℕ, List, [], ◌∷◌, ◌++◌, length, map, Some, None, Bool, true, false, cond, is_none, Result, Ok, Err}
+use Rattle.run_outcomes.specs.declared.outcomes.Outcome.{Outcome}
+use Rattle.run_outcomes.specs.declared.outcomes.Outcome.TheVariants.{Trapped}
+use Rattle.trace_model.specs.declared.balance.Frame.{Frame}
+use Rattle.trace_model.specs.declared.balance.Frame.TheVariants.{Function, Call}
+use Rattle.trace_model.specs.declared.balance.Balance.{Balance}
+use Rattle.trace_model.specs.declared.events.Event.{Event}
+use Rattle.trace_model.specs.declared.events.Log.{Log}
+use Rattle.trace_model.specs.declared.tapes.Tape.{Tape}
+use Rattle.trace_model.specs.Balance.{balance_start, is_function, unbalanced_from, first_unbalanced}
+use Rattle.hook_spec.specs.LogTapes.{Mark, LogFrame, InFunction, InCall, is_at_host, event_marks, size_after, marks_from, outcome_marks, log_marks, IsLogTape}
+use Rattle.trace_reduce.specs.Builder.{IsAtHost, IsInWindow, TakesMarks}
+use Rattle.trace_reduce.specs.declared.builder.TapeBuilder.{TapeBuilder}
+use Rattle.trace_reduce.specs.declared.reducer.Progress.{Progress}
+use Rattle.trace_reduce.specs.declared.reducer.Progress.TheVariants.{InOrder, Unbalanced, Lost}
+use Rattle.trace_reduce.specs.declared.reducer.ReduceFault.{ReduceFault}
+use Rattle.trace_reduce.specs.declared.reducer.ReduceFault.TheVariants as faults
+use Rattle.trace_reduce.specs.declared.reducer.Reducer.{Reducer}
+
+-- what is open, as the tape of a log has it
+abbrev pub log_frame : Frame → LogFrame
+log_frame (Function func) = InFunction
+log_frame (Call callee entered) = InCall callee
+
+abbrev pub log_frames : List Frame → List LogFrame
+log_frames frames = map log_frame frames
+
+-- each call that is open is one of a function's
+abbrev pub calls_stand : List Frame → Bool
+calls_stand [] = true
+calls_stand (Function func ∷ below) = calls_stand below
+calls_stand (Call callee entered ∷ below) = cond (is_function below) (calls_stand below) false
+
+-- the tape so far, by the marks before its last activity and all
+abbrev pub IsBuilt : (at_host : Bool) → TapeBuilder → (before marks : List Mark) → Type 0
+IsBuilt true builder before marks = IsAtHost builder before marks
+IsBuilt false builder before marks = IsInWindow builder marks
+
+-- the marks where the run ends: where the last event is a call and the run trapped, those before it
+abbrev pub last_marks : Outcome → (called at_host : Bool) → (before marks : List Mark) → List Mark
+last_marks Trapped true true before marks = before
+last_marks outcome called at_host before marks = marks
+
+-- all events so far are in order, and this is held of them
+pub record IsInOrder (n : ℕ) (balance : Balance) (builder : TapeBuilder) (size count : ℕ) (taken : List Event)
+    : Type 0 where
+  pub counted : count ≡ length taken
+  pub balanced : (outcome : Outcome) (later : List Event) → unbalanced_from n 0 balance_start outcome (taken ++ later)
+      ≡ unbalanced_from n (length taken) balance outcome later
+  pub stand : calls_stand balance.frames ≡ true
+  pub before : List Mark
+  pub marks : List Mark
+  pub built : IsBuilt (is_at_host n (log_frames balance.frames)) builder before marks
+  pub goes_on : (outcome : Outcome) (event : Event) (later : List Event)
+      → log_marks (record { imports = n; events = taken ++ event ∷ later; outcome = outcome })
+      ≡ marks ++ marks_from n outcome (log_frames balance.frames) size (event ∷ later)
+  pub ends : (outcome : Outcome)
+      → log_marks (record { imports = n; events = taken; outcome = outcome })
+      ≡ last_marks outcome balance.called (is_at_host n (log_frames balance.frames)) before marks
+      ++ outcome_marks outcome
+
+abbrev pub HasReached : Progress → Reducer → List Event → Type 0
+HasReached InOrder reducer taken =
+    IsInOrder reducer.imports reducer.balance reducer.builder reducer.size reducer.count taken
+HasReached (Unbalanced number) reducer taken =
+    (outcome : Outcome) (later : List Event)
+    → unbalanced_from reducer.imports 0 balance_start outcome (taken ++ later) ≡ Some number
+HasReached Lost reducer taken = Unit {0}
+
+-- a reducer has taken these events
+abbrev pub HasTaken : Reducer → List Event → Type 0
+HasTaken reducer taken = HasReached reducer.progress reducer taken
+
+-- how many functions the module of the log imports
+abbrev pub imports_of : Reducer → ℕ
+imports_of reducer = reducer.imports
+
+-- one more event is taken, after events in order
+abbrev pub TakesEvent : Reducer → Event → Reducer → Type 0
+TakesEvent old event new =
+    (taken : List Event)
+    → IsInOrder old.imports old.balance old.builder old.size old.count taken
+    → HasTaken new (taken ++ event ∷ [])
+
+-- the tape is told of an event, of which the balance knows already
+pub record Tells (old : Reducer) (event : Event) (new : Reducer) : Type 0 where
+  pub balance : new.balance ≡ old.balance
+  pub size : new.size ≡ size_after old.size event
+  pub count : new.count ≡ old.count
+  pub progress : new.progress ≡ old.progress
+  pub marks : (frames : List LogFrame) → is_at_host old.imports frames ≡ is_none old.builder.next
+      → TakesMarks old.builder
+      (event_marks old.imports frames (log_frames old.balance.frames) old.size event) new.builder
+
+-- what a reducer answers: the tape of the log, or why there is none; out of memory has no cause in the log
+abbrev pub IsReduction : Log → Result Tape ReduceFault → Type 0
+IsReduction log (Ok tape) = (first_unbalanced log ≡ None) × IsLogTape log tape
+IsReduction log (Err (faults.Unbalanced event)) = first_unbalanced log ≡ Some event
+IsReduction log (Err faults.Memory) = Unit {0}
+
+-- a reducer has taken those of a log's events that come before the rest
+pub record IsPart (n : ℕ) (all later : List Event) (reducer : Reducer) : Type 0 where
+  pub taken : List Event
+  pub whole : taken ++ later ≡ all
+  pub has : HasTaken reducer taken
+  pub imports : imports_of reducer ≡ n

@@ -1,0 +1,72 @@
+// The tape of a log that is there whole.
+
+ghost use Rattle.std.specs.Prelude.{◌≡◌, ℕ, List, [], ◌∷◌, IfOk, OnOk};
+ghost use Rattle.trace_model.specs.declared.events.Event.{Event};
+ghost use Rattle.trace_reduce.specs.Reducer.{IsPart, IsReduction};
+
+use crate::reducer::{ReduceFault, Reducer};
+use no_memory::NoMemory;
+use std::alloc::Global;
+use trace_model::{Event, Log, Tape};
+
+/// An equal event.
+fn copy_of(event: &Event) -> Result<Event, NoMemory>
+    ensures { IfOk result (λ copy. copy ≡ event.now) }
+{
+    Ok(match event {
+        Event::Enter { func, args } => Event::Enter {
+            func: *func,
+            args: args.clone()?,
+        },
+        Event::Leave { func } => Event::Leave { func: *func },
+        Event::Pre { callee } => Event::Pre { callee: *callee },
+        Event::Post { result } => Event::Post { result: *result },
+        Event::Grow { pages } => Event::Grow { pages: *pages },
+        Event::Seen => Event::Seen,
+        Event::Table { size } => Event::Table { size: *size },
+        Event::Bytes { addr, bytes } => Event::Bytes {
+            addr: *addr,
+            bytes: bytes.clone()?,
+        },
+        Event::Entry { index, func } => Event::Entry {
+            index: *index,
+            func: *func,
+        },
+        Event::Global { global, value } => Event::Global {
+            global: *global,
+            value: *value,
+        },
+    })
+}
+
+/// Takes the next event of a log.
+fn push_copy(reducer: &mut Reducer, event: &Event) -> Result<(), NoMemory>
+    ensures { OnOk result ((n : ℕ) (all later : List Event) → IsPart n all (event.now ∷ later) reducer.old
+        → IsPart n all later reducer.new) }
+{
+    let copy = copy_of(event)?;
+    reducer.push(copy)
+}
+
+/// Takes the rest of a log's events.
+fn push_all(reducer: &mut Reducer, events: &[Event]) -> Result<(), NoMemory>
+    ensures { OnOk result ((n : ℕ) (all : List Event) → IsPart n all events.now reducer.old
+        → IsPart n all [] reducer.new) }
+{
+    'events: for event in events {
+        push_copy(reducer, event)?;
+    }
+    Ok(())
+}
+
+/// The tape of a log: what its host did, as far as the module observed it.
+///
+/// # Errors
+/// The first event that is out of order, or the outcome; or where an allocation failed.
+pub fn reduce(alloc: Global, log: &Log) -> Result<Tape, ReduceFault>
+    ensures { IsReduction log.now result }
+{
+    let mut reducer = Reducer::new(alloc, log.imports);
+    push_all(&mut reducer, log.events.as_slice())?;
+    reducer.finish(log.outcome)
+}

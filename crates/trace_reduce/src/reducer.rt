@@ -1,0 +1,210 @@
+// The reducer: events come one after another, and the tape of their log is what is left of them.
+
+ghost use Rattle.std.specs.Prelude.{◌≡◌, ◌+◌, ◌∷◌, List, [], Some, None, is_none, OnOk, OnErr};
+ghost use Rattle.hook_spec.specs.LogTapes.{LogFrame, event_marks, import_marks, is_at_host};
+ghost use Rattle.trace_model.specs.Balance.{balanced_step};
+ghost use Rattle.trace_model.specs.Sink.{TookAlso};
+ghost use Rattle.trace_reduce.specs.Builder.{TakesMarks, turn_marks};
+ghost use Rattle.trace_reduce.specs.Reducer.{HasTaken, IsReduction, TakesEvent, Tells, imports_of, log_frames};
+ghost use Rattle.trace_reduce.specs.declared.reducer.Progress.TheVariants.{InOrder};
+
+use crate::builder::{TapeBuilder, Turn};
+use no_memory::NoMemory;
+use run_outcomes::Outcome;
+use std::alloc::Global;
+use thiserror::Error;
+use trace_model::balance::Frames;
+use trace_model::{Balance, Effect, Event, EventSink, Next, Origin, Tape};
+
+/// Why there is no tape, or nothing is known of it.
+#[derive(Clone, Copy, PartialEq, Eq, Debug, Error)]
+pub enum ReduceFault {
+    /// The first event that is out of order; the number of events where only the outcome is.
+    #[error("unbalanced: event {event}")]
+    Unbalanced { event: u64 },
+    /// Out of memory.
+    #[error("out of memory")]
+    Memory,
+}
+
+impl From<NoMemory> for ReduceFault {
+    ghost from_gives = { λ _ fault. fault ≡ Memory };
+
+    ghost use Rattle.std.specs.Prelude.{◌≡◌};
+    ghost use Rattle.trace_reduce.specs.declared.reducer.ReduceFault.TheVariants.{Memory};
+
+    fn from(_refused: NoMemory) -> ReduceFault {
+        ReduceFault::Memory
+    }
+}
+
+/// Whether all events so far are in order, or which is the first that is not; or memory was out.
+#[derive(Clone, Copy)]
+pub(crate) enum Progress {
+    InOrder,
+    Unbalanced(u64),
+    Lost,
+}
+
+/// Takes the events of a log in order and keeps the tape that they come to, and no event.
+#[derive(Drop)]
+pub struct Reducer {
+    pub(crate) imports: u32,
+    pub(crate) balance: Balance,
+    pub(crate) builder: TapeBuilder,
+    pub(crate) size: u32,
+    pub(crate) count: u64,
+    pub(crate) progress: Progress,
+}
+
+/// Control is at the host.
+fn is_at_host(frames: &Frames, imports: u32) -> bool
+    ensures { result ≡ is_at_host imports (log_frames frames.now) }
+{
+    frames.is_empty() || frames.calls_import(imports)
+}
+
+/// What the call of an import tells; that of another function tells nothing.
+fn import_turn(callee: Option<u32>, imports: u32) -> Option<Turn>
+    ensures { turn_marks result ≡ import_marks imports callee }
+{
+    match callee {
+        Some(callee) if callee < imports => Some(Turn::Begins(Origin::Import(callee))),
+        _ => None,
+    }
+}
+
+/// What an event tells of the host, by whether control was there before it and is there after it, and
+/// by the size that the last growth told.
+fn turn_of(event: Event, imports: u32, was_at_host: bool, at_host: bool, size: u32) -> Option<Turn>
+    ensures { (before after : List LogFrame) → is_at_host imports before ≡ was_at_host
+        → is_at_host imports after ≡ at_host → turn_marks result ≡ event_marks imports before after size event }
+{
+    match event {
+        Event::Enter { func, args } if was_at_host => Some(Turn::Ends(Next::Call { func, args })),
+        Event::Leave { .. } if at_host => Some(Turn::Begins(Origin::Back)),
+        Event::Pre { callee } => import_turn(callee, imports),
+        Event::Post { result } if was_at_host => Some(Turn::Ends(Next::Return { result })),
+        Event::Seen => Some(Turn::Finds(Effect::Grow { pages: size })),
+        Event::Table { size } => Some(Turn::Finds(Effect::Table { size })),
+        Event::Bytes { addr, bytes } => Some(Turn::Finds(Effect::Bytes { addr, bytes })),
+        Event::Entry { index, func } => Some(Turn::Finds(Effect::Entry { index, func })),
+        Event::Global { global, value } => Some(Turn::Finds(Effect::Global { global, value })),
+        _ => None,
+    }
+}
+
+impl Reducer {
+    /// Has taken no event, of the log of a module with so many imported functions. Takes no memory.
+    pub fn new(alloc: Global, imports: u32) -> Reducer
+        ensures taken { HasTaken result [] }
+        ensures imports { imports_of result ≡ imports }
+    {
+        Reducer {
+            imports,
+            balance: Balance::new(alloc),
+            builder: TapeBuilder::new(alloc),
+            size: 0,
+            count: 0,
+            progress: Progress::InOrder,
+        }
+    }
+
+    /// How many imported functions the module has.
+    pub fn imports(&self) -> u32
+        ensures { result ≡ imports_of self.now }
+    {
+        self.imports
+    }
+
+    /// Takes an event.
+    ///
+    /// # Errors
+    /// Where an allocation failed; the tape is lost then, and so answers each later call.
+    pub fn push(&mut self, event: Event) -> Result<(), NoMemory>
+        ensures ok { OnOk result (TookAlso HasTaken self.old self.new (event ∷ [])) }
+        ensures refused { OnErr result (TookAlso HasTaken self.old self.new []) }
+        ensures imports { imports_of self.new ≡ imports_of self.old }
+    {
+        match self.progress {
+            Progress::InOrder => {}
+            Progress::Unbalanced(_) => return Ok(()),
+            Progress::Lost => return Err(NoMemory),
+        }
+        let taken = self.step(event);
+        if taken.is_err() {
+            self.progress = Progress::Lost;
+        }
+        taken
+    }
+
+    /// Takes an event after others that are in order.
+    fn step(&mut self, event: Event) -> Result<(), NoMemory>
+        ensures takes { OnOk result (self.old.progress ≡ InOrder → TakesEvent self.old event self.new) }
+        ensures imports { self.new.imports ≡ self.old.imports }
+    {
+        // No run is as long.
+        if self.count == u64::MAX {
+            return Err(NoMemory);
+        }
+        if !self.balance.step(self.imports, &event)? {
+            self.progress = Progress::Unbalanced(self.count);
+            return Ok(());
+        }
+        self.count += 1;
+        self.tell(event)
+    }
+
+    /// Tells the tape of an event, of which what is open knows already.
+    fn tell(&mut self, event: Event) -> Result<(), NoMemory>
+        ensures tells { OnOk result (Tells self.old event self.new) }
+        ensures imports { self.new.imports ≡ self.old.imports }
+    {
+        let size = self.size;
+        if let Event::Grow { pages } = &event {
+            self.size = *pages;
+        }
+        let at_host = is_at_host(&self.balance.frames, self.imports);
+        let turn = turn_of(
+            event,
+            self.imports,
+            self.builder.is_at_host(),
+            at_host,
+            size,
+        );
+        if let Some(turn) = turn {
+            self.builder.take(turn)?;
+        }
+        Ok(())
+    }
+
+    /// The tape of the log of the events, whose run ended so.
+    ///
+    /// # Errors
+    /// The first event that is out of order, or the outcome; or where an allocation failed.
+    pub fn finish(self, outcome: Outcome) -> Result<Tape, ReduceFault>
+        ensures { (taken : List Event) → HasTaken self taken
+            → IsReduction (record { imports = imports_of self; events = taken; outcome = outcome }) result }
+    {
+        match self.progress {
+            Progress::InOrder => {}
+            Progress::Unbalanced(event) => return Err(ReduceFault::Unbalanced { event }),
+            Progress::Lost => return Err(ReduceFault::Memory),
+        }
+        if !self.balance.ends_so(self.imports, outcome) {
+            return Err(ReduceFault::Unbalanced { event: self.count });
+        }
+        let Reducer { builder, .. } = self;
+        Ok(builder.finish(outcome)?)
+    }
+}
+
+impl EventSink for Reducer {
+    ghost use Rattle.trace_reduce.specs.Reducer.{HasTaken};
+
+    ghost has_taken = { HasTaken };
+
+    fn event(&mut self, event: Event) -> Result<(), NoMemory> {
+        self.push(event)
+    }
+}

@@ -1,0 +1,133 @@
+// Effects in order, of what is found first.
+
+ghost use Rattle.std.specs.Prelude.{◌≡◌, ◌∷◌, List, ℕ, [], ◌++◌, map, IfOk, OnOk};
+ghost use Rattle.std.specs.Ordering.{nat_cmp};
+ghost use Rattle.std.specs.BTreeMap.{IsOrdered};
+ghost use Rattle.trace_reduce.specs.Runs.{runs_from, entry_effect, global_effect, firsts_effects, AreSorted};
+
+use crate::finds::Firsts;
+use no_memory::NoMemory;
+use std::alloc::Global;
+use std::collections::BTreeMap;
+use std::mem;
+use trace_model::{Effect, Effects};
+use wasm_syntax::{Bytes, Val};
+
+/// Effects, and behind them the run of bytes that still grows.
+#[derive(Drop)]
+pub(crate) struct Runs {
+    pub(crate) effects: Vec<Effect>,
+    pub(crate) start: u64,
+    pub(crate) run: Vec<u8>,
+}
+
+impl Runs {
+    /// Takes the run, if there is one, to the effects.
+    fn close(&mut self, alloc: Global) -> Result<(), NoMemory>
+        ensures { OnOk result ((self.new.effects.items
+            ≡ self.old.effects.items ++ runs_from self.old.start self.old.run.items [])
+            × (self.new.run.items ≡ [])) }
+    {
+        if self.run.is_empty() {
+            return Ok(());
+        }
+        // A run begins where a find does, so its address always fits.
+        let Ok(addr) = u32::try_from(self.start) else {
+            return Err(NoMemory);
+        };
+        let bytes = mem::replace(&mut self.run, Vec::new(alloc));
+        self.effects.push(Effect::Bytes {
+            addr,
+            bytes: Bytes::from_vec(bytes),
+        })?;
+        Ok(())
+    }
+
+    /// Takes the byte at an address to the run, or begins another.
+    fn put(&mut self, alloc: Global, at: u64, byte: u8) -> Result<(), NoMemory>
+        ensures { OnOk result ((later : List (ℕ × ℕ))
+            → self.old.effects.items ++ runs_from self.old.start self.old.run.items ((at, byte) ∷ later)
+            ≡ self.new.effects.items ++ runs_from self.new.start self.new.run.items later) }
+    {
+        if self.start.checked_add(self.run.len() as u64) != Some(at) {
+            self.close(alloc)?;
+            self.start = at;
+        }
+        self.run.push(byte)?;
+        Ok(())
+    }
+}
+
+/// Appends bytes in longest runs.
+fn put_bytes(
+    alloc: Global,
+    effects: Vec<Effect>,
+    bytes: &BTreeMap<u64, u8>,
+) -> Result<Vec<Effect>, NoMemory>
+    ensures runs { IfOk result (λ all. all.items ≡ effects.items ++ runs_from 0 [] bytes.now.entries) }
+    ensures ordered { IsOrdered nat_cmp bytes.now }
+{
+    let mut runs = Runs {
+        effects,
+        start: 0,
+        run: Vec::new(alloc),
+    };
+    'bytes: for (at, byte) in bytes {
+        runs.put(alloc, *at, *byte)?;
+    }
+    runs.close(alloc)?;
+    let Runs { effects, .. } = runs;
+    Ok(effects)
+}
+
+/// Appends entries.
+fn put_entries(
+    effects: &mut Vec<Effect>,
+    entries: &BTreeMap<u32, Option<u32>>,
+) -> Result<(), NoMemory>
+    ensures all { OnOk result (effects.new.items ≡ effects.old.items ++ map entry_effect entries.now.entries) }
+    ensures ordered { IsOrdered nat_cmp entries.now }
+{
+    'entries: for (index, func) in entries {
+        effects.push(Effect::Entry {
+            index: *index,
+            func: *func,
+        })?;
+    }
+    Ok(())
+}
+
+/// Appends globals.
+fn put_globals(effects: &mut Vec<Effect>, globals: &BTreeMap<u32, Val>) -> Result<(), NoMemory>
+    ensures all { OnOk result (effects.new.items ≡ effects.old.items ++ map global_effect globals.now.entries) }
+    ensures ordered { IsOrdered nat_cmp globals.now }
+{
+    'globals: for (global, value) in globals {
+        effects.push(Effect::Global {
+            global: *global,
+            value: *value,
+        })?;
+    }
+    Ok(())
+}
+
+/// What is found first, as effects in order.
+///
+/// # Errors
+/// Where an allocation failed.
+pub(crate) fn effects_of(alloc: Global, firsts: &Firsts) -> Result<Effects, NoMemory>
+    ensures effects { IfOk result (λ effects. effects ≡ firsts_effects firsts.now) }
+    ensures sorted { IfOk result (λ effects. AreSorted firsts.now) }
+{
+    let mut effects = Vec::new(alloc);
+    if let Some(pages) = firsts.pages {
+        effects.push(Effect::Grow { pages })?;
+    }
+    if let Some(size) = firsts.size {
+        effects.push(Effect::Table { size })?;
+    }
+    let mut effects = put_bytes(alloc, effects, &firsts.bytes)?;
+    put_entries(&mut effects, &firsts.entries)?;
+    put_globals(&mut effects, &firsts.globals)?;
+    Ok(Effects::from_vec(effects))
+}
