@@ -9,7 +9,8 @@ use Rattle.wasm_syntax.specs.declared.profile.Which.TheVariants.{Parameters, Tab
 use Rattle.history_spec.specs.declared.entries.FaultKind.{FaultKind}
 use Rattle.history_spec.specs.declared.entries.FaultKind.TheVariants as kind
 use Rattle.r3_faults.specs.declared.faults.Fault.{Fault}
-use Rattle.r3_faults.specs.declared.faults.Fault.TheVariants.{Usage, Read, TooLong, Malformed, InvalidFunction, InvalidModule, Unsupported, Limit, Reserved, NotJson, Shape, UnknownName, WrongType, NoAccess, CallsOwn, Missing, Mismatch, Segment, Script, Spent, Write, Memory, BadTrace, TraceVersion, NoLayout, NoImports, NoEntry, NotBuilt}
+use Rattle.r3_faults.specs.declared.faults.Fault.TheVariants.{Usage, Read, TooLong, Malformed, InvalidFunction, InvalidModule, Unsupported, Limit, Reserved, NotJson, Shape, UnknownName, WrongType, NoAccess, CallsOwn, Missing, Mismatch, Segment, Script, Spent, Write, Memory, BadTrace, TraceVersion, OtherModule, NotHooked, HookOrder, Unbalanced, Unfit, NoLayout, NoImports, NoEntry, TapeLimit, NotBuilt, HookedLimit}
+use Rattle.hex.specs.Hex.{encode_lower}
 
 abbrev pub status_of : Fault → ℕ
 status_of Usage = 2
@@ -36,10 +37,17 @@ status_of Write = 13
 status_of Memory = 14
 status_of (BadTrace at) = 15
 status_of (TraceVersion found) = 15
+status_of (OtherModule tape given) = 16
+status_of NotHooked = 17
+status_of (HookOrder number) = 17
+status_of (Unbalanced event) = 17
+status_of (Unfit segment) = 17
 status_of NoLayout = 17
 status_of NoImports = 17
 status_of NoEntry = 17
+status_of (TapeLimit weight) = 18
 status_of NotBuilt = 19
+status_of HookedLimit = 23
 
 -- a byte that is printed as it is: from the space to `~`, but for `\`
 abbrev pub is_plain : ℕ → Bool
@@ -109,10 +117,18 @@ line_of Write = codes "write\n"
 line_of Memory = codes "memory\n"
 line_of (BadTrace at) = with_number (codes "trace: bad at ") at
 line_of (TraceVersion found) = with_number (codes "trace: version ") found
+line_of (OtherModule tape given) =
+    codes "other module: " ++ (encode_lower tape ++ (codes " " ++ (encode_lower given ++ codes "\n")))
+line_of NotHooked = codes "not hooked\n"
+line_of (HookOrder number) = with_number (codes "hook order: call ") number
+line_of (Unbalanced event) = with_number (codes "unbalanced: event ") event
+line_of (Unfit segment) = with_number (codes "tape: segment ") segment
 line_of NoLayout = codes "replay: layout\n"
 line_of NoImports = codes "replay: imports\n"
 line_of NoEntry = codes "replay: entry\n"
+line_of (TapeLimit weight) = with_number (codes "tape limit: ") weight
 line_of NotBuilt = codes "not built\n"
+line_of HookedLimit = codes "hooked limit: 134217728\n"
 
 -- the line was written whole, or a first part of it and the count of faults rose
 abbrev pub IsTold : (before now : Option (List ℕ)) (faults_before faults_now : ℕ) → List ℕ → Type 0

@@ -109,14 +109,39 @@ pub enum Fault {
     TraceVersion {
         found: u64,
     },
+    /// The tape is of another module: the digest of the tape's, and that of the module that is given.
+    OtherModule {
+        tape: [u8; 32],
+        given: [u8; 32],
+    },
+    /// The module has not the form of an instrumented one.
+    NotHooked,
+    /// A hook is called out of order.
+    HookOrder {
+        number: u64,
+    },
+    /// An event of the log, or its outcome, is out of order.
+    Unbalanced {
+        event: u64,
+    },
+    /// A segment of the tape does not fit the module.
+    Unfit {
+        segment: u64,
+    },
     /// The module has no layout of a replay module.
     NoLayout,
     /// The replay module has an import.
     NoImports,
     /// The replay module has another export than its entry.
     NoEntry,
+    /// The tape weighs more than it may.
+    TapeLimit {
+        weight: u64,
+    },
     /// A form that is not built yet.
     NotBuilt,
+    /// The instrumented module is longer than a file of one may be.
+    HookedLimit,
 }
 
 // What a failed test shows. The program prints a fault by its line; derived texts of each variant
@@ -194,8 +219,17 @@ impl Fault {
             Fault::Write => 13,
             Fault::Memory => 14,
             Fault::BadTrace { .. } | Fault::TraceVersion { .. } => 15,
-            Fault::NoLayout | Fault::NoImports | Fault::NoEntry => 17,
+            Fault::OtherModule { .. } => 16,
+            Fault::NotHooked
+            | Fault::HookOrder { .. }
+            | Fault::Unbalanced { .. }
+            | Fault::Unfit { .. }
+            | Fault::NoLayout
+            | Fault::NoImports
+            | Fault::NoEntry => 17,
+            Fault::TapeLimit { .. } => 18,
             Fault::NotBuilt => 19,
+            Fault::HookedLimit => 23,
         }
     }
 }

@@ -1,11 +1,13 @@
 // The lines of error.
 
 ghost use Rattle.std.specs.Prelude.{◌≡◌, ◌<◌, ◌≤◌, ◌/◌, ◌%◌, false, [], ◌∷◌, ◌++◌, length, take, flat_map, slice_index, OnOk, OnErr, IfOk, codes, decimal};
+ghost use Rattle.hex.specs.Hex.{encode_lower};
 ghost use Rattle.r3_outside.specs.Count.{Rose};
 ghost use Rattle.r3_outside.specs.Growth.{Grew, GrewByPrefix};
 ghost use Rattle.r3_faults.specs.Lines.{line_of, escaped, is_plain, hex_digit, feature_text, kind_text, limit_text};
 
 use crate::faults::Fault;
+use hex::encode_to_slice;
 use history_spec::FaultKind;
 use itoa::Buffer;
 use r3_outside::{PutFault, Sink, put_all, put_parts};
@@ -57,10 +59,17 @@ impl Fault {
             Fault::Memory => put_all(err, b"memory\n"),
             Fault::BadTrace { at } => put_number(err, b"trace: bad at ", *at),
             Fault::TraceVersion { found } => put_number(err, b"trace: version ", *found),
+            Fault::OtherModule { tape, given } => put_digests(err, tape, given),
+            Fault::NotHooked => put_all(err, b"not hooked\n"),
+            Fault::HookOrder { number } => put_number(err, b"hook order: call ", *number),
+            Fault::Unbalanced { event } => put_number(err, b"unbalanced: event ", *event),
+            Fault::Unfit { segment } => put_number(err, b"tape: segment ", *segment),
             Fault::NoLayout => put_all(err, b"replay: layout\n"),
             Fault::NoImports => put_all(err, b"replay: imports\n"),
             Fault::NoEntry => put_all(err, b"replay: entry\n"),
+            Fault::TapeLimit { weight } => put_number(err, b"tape limit: ", *weight),
             Fault::NotBuilt => put_all(err, b"not built\n"),
+            Fault::HookedLimit => put_all(err, b"hooked limit: 134217728\n"),
         }
     }
 }
@@ -76,6 +85,38 @@ fn put_number<E: Sink>(err: &mut E, text: &[u8], number: u64) -> Result<(), PutF
 {
     let mut buffer = Buffer::new();
     put_parts(err, &[text, buffer.format(number).as_bytes(), b"\n"])
+}
+
+/// The line of a tape of another module, with both digests in hexadecimal.
+fn put_digests<E: Sink>(err: &mut E, tape: &[u8; 32], given: &[u8; 32]) -> Result<(), PutFault>
+    ensures faults_never_fall { E.faults err.old ≤ E.faults err.new }
+    ensures failed { OnErr result (Rose (E.faults err.old) (E.faults err.new)) }
+    ensures wrote { OnOk result (Grew (E.written err.old) (E.written err.new)
+        (line_of (Fault.OtherModule tape.now given.now))) }
+    ensures wrote_prefix { OnErr result (GrewByPrefix (E.written err.old) (E.written err.new)
+        (line_of (Fault.OtherModule tape.now given.now))) }
+{
+    put_parts(
+        err,
+        &[
+            b"other module: ",
+            &hexadecimal(tape),
+            b" ",
+            &hexadecimal(given),
+            b"\n",
+        ],
+    )
+}
+
+/// The lower-case hexadecimal digits of a digest.
+fn hexadecimal(digest: &[u8; 32]) -> [u8; 64]
+    ensures { result ≡ encode_lower digest.now }
+{
+    let mut digits = [0; 64];
+    let Ok(()) = encode_to_slice(digest, &mut digits) else {
+        unreachable!();
+    };
+    digits
 }
 
 /// Writes the line of an instruction that is not supported.
