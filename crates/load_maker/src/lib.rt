@@ -1,0 +1,8 @@
+//! Large inputs: a module and its script, for a number of calls of an import.
+#![tactic(auto)]
+
+pub mod load_module;
+mod scripts;
+
+pub use no_memory::NoMemory;
+pub use scripts::{MOST_CALLS, make_load};
