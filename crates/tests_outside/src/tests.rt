@@ -42,6 +42,7 @@ fn two_files_are_read_by_turns(rt: HostRuntime) -> Result<(), Fail> {
     let name = "/proc/self/exe";
     let program = fs::read(&rt, name)?;
     let mut files = DiskFiles::new(&rt);
+    assert!(rt; program.len() > 9);
     assert!(rt; reads(&mut files, name, 1, &program[1..5]));
     assert!(rt; reads(&mut files, "/dev/zero", 9, &[0; 4]));
     assert!(rt; reads(&mut files, name, 5, &program[5..9]));
