@@ -1,7 +1,8 @@
 // What a call of a hook sees.
 
-ghost use Rattle.std.specs.Prelude.{◌≡◌, slice_get};
-ghost use Rattle.wasm_store.specs.Calls.{bytes_in, entry_at, pages_in};
+ghost use Rattle.std.specs.Prelude.{◌≡◌, ◌*◌, ◌≤◌, is_some, length, slice_get};
+ghost use Rattle.wasm_syntax.specs.declared.limits.TheConstants.{MOST_PAGES, PAGE_SIZE};
+ghost use Rattle.wasm_store.specs.Calls.{bytes_in, entries_in, entry_at, pages_in};
 
 use std::marker::Model;
 use wasm_store::Store;
@@ -33,6 +34,32 @@ impl<'a> View<'a> {
         ensures { result ≡ pages_in self.now }
     {
         self.store.pages()
+    }
+
+    /// Whether there is a memory.
+    #[inline]
+    pub fn has_memory(&self) -> bool
+        ensures { result ≡ is_some self.now.memory }
+    {
+        self.store.has_memory()
+    }
+
+    /// The bytes of the memory, none where there is no memory.
+    #[inline]
+    pub fn bytes(&self) -> &[u8]
+        ensures bytes { result.now ≡ bytes_in self.now }
+        ensures most { length result.now ≤ MOST_PAGES * PAGE_SIZE }
+    {
+        let _pages = self.store.pages();
+        self.store.bytes()
+    }
+
+    /// How many entries the table has, 0 where there is no table.
+    #[inline]
+    pub fn table_size(&self) -> u32
+        ensures { result ≡ length (entries_in self.now) }
+    {
+        self.store.table_size()
     }
 
     /// The function in an entry of the table, or none where the entry is empty. None exactly where the index is not
