@@ -1,0 +1,9 @@
+use Rattle.std.proofs.Common.{◌≡◌, drop}
+use Rattle.wasm_syntax.specs.Alike.{same_types}
+use Rattle.history_spec.specs.Code.{types_of}
+use Rattle.hook_order.proofs.types.are_of_types.Given as goal
+
+-- what is left of both lists is as alike as they are
+abbrev pub invariant-types : goal.invariant-types
+invariant-types l = same_types (drop l.at l.types) (types_of (drop l.at l.values))
+    ≡ same_types l.types (types_of l.values)

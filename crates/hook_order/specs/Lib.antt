@@ -1,0 +1,4 @@
+pub mod Args
+pub mod Shapes
+pub mod Frames
+pub mod Orders
