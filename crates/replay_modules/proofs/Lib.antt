@@ -5,7 +5,7 @@ mod Declarations
 mod Originals
 mod TypedOriginals
 mod Serving
-mod TypedEffects
+pub mod TypedEffects
 mod TypedSegments
 mod TypedDispatch
 mod Generated

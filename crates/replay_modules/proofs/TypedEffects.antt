@@ -34,7 +34,7 @@ use Rattle.replay_modules.proofs.Serving.{Serves, constant_typed, dropped, moved
 
 -- ---- what fits
 
-memory_there : (limit size : ℕ) (memories : List Limits) → grows_within limit size (slice_get memories 0) ≡ true
+pub memory_there : (limit size : ℕ) (memories : List Limits) → grows_within limit size (slice_get memories 0) ≡ true
     → (0 < length memories) × (size ≤ limit)
 memory_there limit size [] h = absurd (cc h)
 memory_there limit size (own ∷ more) h = (omega arith, within own.max h)
@@ -44,7 +44,7 @@ memory_there limit size (own ∷ more) h = (omega arith, within own.max h)
     within (Some max) h =
         let p = (and_parts (nat_le size limit) (nat_le size max) h).0 in grind (arith, nat_tests, p)
 
-taken_type : (ty : ValType) (o : Option GlobalType) → takes_value ty o ≡ true
+pub taken_type : (ty : ValType) (o : Option GlobalType) → takes_value ty o ≡ true
     → (g : GlobalType) × (o ≡ Some g) × (g.mutable ≡ true) × (g.ty ≡ ty)
 taken_type ty None h = absurd (cc h)
 taken_type ty (Some g) h =
@@ -55,7 +55,7 @@ taken_type ty (Some g) h =
 
 -- ---- widths
 
-abbrev total : List Width → ℕ
+abbrev pub total : List Width → ℕ
 total [] = 0
 total (width ∷ widths) = byte_count width + total widths
 
@@ -71,7 +71,7 @@ total_both (width ∷ first) second =
     omega (arith, r) in
     all
 
-total_all : (count : ℕ) → total (store_widths count) ≡ count
+pub total_all : (count : ℕ) → total (store_widths count) ≡ count
 total_all count =
     let eights = replicate (count / 8) Eight in
     let fours = replicate (count / 4 % 2) Four in
@@ -86,7 +86,7 @@ total_all count =
     let one : total ones ≡ count % 2 * 1 = total_same One (count % 2) in
     omega (arith, all, later, last, eight, four, two, one)
 
-number_small : (width : ℕ) (bytes : List ℕ) → AllByRecursion (λ byte. byte < 256) bytes
+pub number_small : (width : ℕ) (bytes : List ℕ) → AllByRecursion (λ byte. byte < 256) bytes
     → number_of (take width bytes) < 256 ^ width
 number_small zero bytes are = omega arith
 number_small (suc width) [] are = let later = number_small width [] tt in omega (arith, pow-suc 256 width, later)
@@ -95,20 +95,20 @@ number_small (suc width) (byte ∷ bytes) are =
     let later = number_small width bytes are.1 in
     omega (arith, pow-suc 256 width, first, later)
 
-width_typed : (width : Width) (number : ℕ) → number < 256 ^ byte_count width
+pub width_typed : (width : Width) (number : ℕ) → number < 256 ^ byte_count width
     → is_constant (record { ty = store_type width; bits = number }) ≡ true
 width_typed Eight number small = grind (arith, nat_tests, small)
 width_typed Four number small = grind (arith, nat_tests, small)
 width_typed Two number small = grind (arith, nat_tests, small)
 width_typed One number small = grind (arith, nat_tests, small)
 
-rest_small : (count : ℕ) (bytes : List ℕ) → AllByRecursion (λ byte. byte < 256) bytes
+pub rest_small : (count : ℕ) (bytes : List ℕ) → AllByRecursion (λ byte. byte < 256) bytes
     → AllByRecursion (λ byte. byte < 256) (drop count bytes)
 rest_small zero bytes are = are
 rest_small (suc count) [] are = are
 rest_small (suc count) (byte ∷ bytes) are = rest_small count bytes are.1
 
-some_bytes : (width : Width) → 0 < byte_count width
+pub some_bytes : (width : Width) → 0 < byte_count width
 some_bytes Eight = omega arith
 some_bytes Four = omega arith
 some_bytes Two = omega arith
