@@ -1,0 +1,179 @@
+-- What generated instructions cost: their bytes, and for a reference to a function the bytes of its declaration.
+use Rattle.std.proofs.Common.{◌≡◌, ℕ, zero, suc, ◌+◌, ◌*◌, ◌≤◌, List, [], ◌∷◌, ◌++◌, length, map, None, true, false, Bool, refl, arith}
+use Rattle.std.specs.Prelude.{ℤ, replicate}
+use Rattle.std.proofs.lemmas.List.{length-append}
+use Rattle.std.specs.Int.{w32, w64, cast_signed}
+use Rattle.leb_bytes.specs.Unsigned.{u32_bytes}
+use Rattle.leb_bytes.specs.Signed.{signed_bytes, s64_bytes, i32_bytes, i64_bytes, fits_seven_bits, high_bits}
+use Rattle.wasm_syntax.specs.declared.values.Val.{Val}
+use Rattle.wasm_syntax.specs.declared.values.ValType.{ValType}
+use Rattle.wasm_syntax.specs.declared.values.ValType.TheVariants.{I32, I64, F32, F64, FuncRef}
+use Rattle.wasm_syntax.specs.declared.instructions.MemArg.{MemArg}
+use Rattle.wasm_syntax.specs.declared.instructions.Instr.{Instr}
+use Rattle.wasm_syntax.specs.declared.instructions.Instr.TheVariants.{Unreachable, Block, End, BrTable, Return, Call, Drop, LocalGet, LocalTee, GlobalGet, GlobalSet, Store, MemorySize, MemoryGrow, Const, Numeric, RefNull, RefFunc, TableSet, TableGrow, TableSize}
+use Rattle.wasm_opcodes.specs.declared.TheConstants.{TABLE_GROW, TABLE_SIZE}
+use Rattle.wasm_syntax.specs.Encoding.Shortest.{const_bytes, instr_bytes, vector_bytes}
+use Rattle.encoding_sizes.proofs.Items.{u32_most, items, items_cons, items_nil, vector_length}
+
+-- ---- constants
+
+signed_most : (more : ℕ) (z : ℤ) → length (signed_bytes more z) ≤ more + 1
+unfolding signed_bytes
+signed_most zero z = omega arith
+signed_most (suc more) z = go (fits_seven_bits z) refl (signed_most more (high_bits z))
+  where
+    go : (b : Bool) → fits_seven_bits z ≡ b → length (signed_bytes more (high_bits z)) ≤ more + 1
+        → length (signed_bytes (suc more) z) ≤ suc more + 1
+    go true e rest = rw (e) (omega arith)
+    go false e rest = rw (e) (omega (arith, rest))
+
+i32_most : (bits : ℕ) → length (i32_bytes bits) ≤ 10
+unfolding i32_bytes s64_bytes
+i32_most bits = signed_most 9 (cast_signed w32 bits)
+
+i64_most : (bits : ℕ) → length (i64_bytes bits) ≤ 10
+unfolding i64_bytes s64_bytes
+i64_most bits = signed_most 9 (cast_signed w64 bits)
+
+pub const_most : (ty : ValType) (bits : ℕ) → length (const_bytes ty bits) ≤ 11
+unfolding const_bytes
+const_most I32 bits = omega (arith, i32_most bits)
+const_most I64 bits = omega (arith, i64_most bits)
+const_most F32 bits = omega arith
+const_most F64 bits = omega arith
+const_most FuncRef bits = omega arith
+
+-- ---- instructions
+
+-- a function that is referred to is declared once, by an index of 5 bytes at most
+abbrev pub marks : Instr → ℕ
+marks (RefFunc func) = 5
+marks i = 0
+
+unfoldable pub cost : Instr → ℕ
+cost i = length (instr_bytes i) + marks i
+
+pub cost_is : (i : Instr) → cost i ≡ length (instr_bytes i) + marks i
+unfolding cost
+cost_is i = refl
+
+pub const_cost : (value : Val) → cost (Const value) ≤ 11
+unfolding cost instr_bytes
+const_cost value = let most = const_most value.ty value.bits in omega (arith, most)
+
+pub block_cost : cost (Block None) ≡ 2
+unfolding cost instr_bytes
+block_cost = refl
+
+pub unreachable_cost : cost Unreachable ≡ 1
+unfolding cost instr_bytes
+unreachable_cost = refl
+
+pub end_cost : cost End ≡ 1
+unfolding cost instr_bytes
+end_cost = refl
+
+pub return_cost : cost Return ≡ 1
+unfolding cost instr_bytes
+return_cost = refl
+
+pub drop_cost : cost Drop ≡ 1
+unfolding cost instr_bytes
+drop_cost = refl
+
+pub numeric_cost : (op : ℕ) → cost (Numeric op) ≡ 1
+unfolding cost instr_bytes
+numeric_cost op = refl
+
+pub memory_size_cost : cost MemorySize ≡ 2
+unfolding cost instr_bytes
+memory_size_cost = refl
+
+pub memory_grow_cost : cost MemoryGrow ≡ 2
+unfolding cost instr_bytes
+memory_grow_cost = refl
+
+pub ref_null_cost : cost RefNull ≡ 2
+unfolding cost instr_bytes
+ref_null_cost = refl
+
+pub ref_func_cost : (func : ℕ) → cost (RefFunc func) ≤ 11
+unfolding cost instr_bytes
+ref_func_cost func = omega (arith, u32_most func)
+
+pub call_cost : (func : ℕ) → cost (Call func) ≤ 6
+unfolding cost instr_bytes
+call_cost func = omega (arith, u32_most func)
+
+pub local_get_cost : (local : ℕ) → cost (LocalGet local) ≤ 6
+unfolding cost instr_bytes
+local_get_cost local = omega (arith, u32_most local)
+
+pub local_tee_cost : (local : ℕ) → cost (LocalTee local) ≤ 6
+unfolding cost instr_bytes
+local_tee_cost local = omega (arith, u32_most local)
+
+pub global_get_cost : (global : ℕ) → cost (GlobalGet global) ≤ 6
+unfolding cost instr_bytes
+global_get_cost global = omega (arith, u32_most global)
+
+pub global_set_cost : (global : ℕ) → cost (GlobalSet global) ≤ 6
+unfolding cost instr_bytes
+global_set_cost global = omega (arith, u32_most global)
+
+pub table_set_cost : (table : ℕ) → cost (TableSet table) ≤ 6
+unfolding cost instr_bytes
+table_set_cost table = omega (arith, u32_most table)
+
+pub table_size_cost : (table : ℕ) → cost (TableSize table) ≤ 11
+unfolding cost instr_bytes
+table_size_cost table =
+    omega (arith, length-append (u32_bytes TABLE_SIZE) (u32_bytes table), u32_most TABLE_SIZE, u32_most table)
+
+pub table_grow_cost : (table : ℕ) → cost (TableGrow table) ≤ 11
+unfolding cost instr_bytes
+table_grow_cost table =
+    omega (arith, length-append (u32_bytes TABLE_GROW) (u32_bytes table), u32_most TABLE_GROW, u32_most table)
+
+pub store_cost : (access : MemArg) → cost (Store access) ≤ 11
+unfolding cost instr_bytes
+store_cost access = omega (
+  arith,
+  length-append (u32_bytes access.align) (u32_bytes access.offset),
+  u32_most access.align,
+  u32_most access.offset,
+)
+
+labels_most : (labels : List ℕ) → items u32_bytes labels ≤ 5 * length labels
+labels_most [] = omega (arith, items_nil u32_bytes)
+labels_most (label ∷ labels) =
+    omega (arith, items_cons u32_bytes label labels, u32_most label, labels_most labels)
+
+pub br_table_cost : (labels : List ℕ) (default : ℕ) → cost (BrTable labels default) ≤ 11 + 5 * length labels
+unfolding cost instr_bytes
+br_table_cost labels default = omega (
+  arith,
+  length-append (vector_bytes u32_bytes labels) (u32_bytes default),
+  vector_length u32_bytes labels,
+  u32_most (length labels),
+  labels_most labels,
+  u32_most default,
+)
+
+-- ---- sequences of instructions
+
+abbrev pub total_cost : List Instr → ℕ
+total_cost [] = 0
+total_cost (i ∷ is) = cost i + total_cost is
+
+pub cost_append : (first later : List Instr) → total_cost (first ++ later) ≡ total_cost first + total_cost later
+cost_append [] later = omega arith
+cost_append (i ∷ first) later = let e = cost_append first later in omega (arith, e)
+
+pub constants_cost : (values : List Val) → total_cost (map Const values) ≤ 11 * length values
+constants_cost [] = omega arith
+constants_cost (value ∷ values) = let later = constants_cost values in omega (arith, later, const_cost value)
+
+pub drops_cost : (count : ℕ) → total_cost (replicate count Drop) ≡ count
+drops_cost zero = refl
+drops_cost (suc count) = let later = drops_cost count in omega (arith, later, drop_cost)

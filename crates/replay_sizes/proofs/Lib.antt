@@ -1,0 +1,11 @@
+mod Plans
+mod Instructions
+mod Segments
+mod Bodies
+mod References
+mod Modules
+mod Sizes
+mod FittingCode
+mod FittingFuncs
+mod Encodable
+mod Indices

@@ -1,0 +1,214 @@
+-- The shortest encoding of a replay module is within the bound.
+use Rattle.std.proofs.Common.{◌≡◌, ℕ, ◌+◌, ◌*◌, ◌≤◌, List, [], ◌∷◌, ◌++◌, length, map, None, codes, refl, ap, arith}
+use Rattle.std.specs.Prelude.{option_map, option_to_list, replicate}
+use Rattle.std.specs.List.{zip}
+use Rattle.leb_bytes.specs.Unsigned.{u32_bytes}
+use Rattle.wasm_syntax.specs.declared.modules.ExportKind.TheVariants.{Func as FuncExport}
+use Rattle.wasm_syntax.specs.declared.modules.Func.{Func}
+use Rattle.wasm_syntax.specs.declared.modules.Module.{Module}
+use Rattle.wasm_syntax.specs.Index.{all_globals, imported_funcs, imported_globals}
+use Rattle.wasm_syntax.specs.Validity.{IsValid}
+use Rattle.wasm_syntax.specs.Encoding.Forms.{IsCoreModule}
+use Rattle.wasm_syntax.specs.Encoding.Modules.{code_of}
+use Rattle.wasm_syntax.specs.Encoding.Sections.{CodeSection, CustomSection, DataSection, ElementSection, ExportSection, FunctionSection, GlobalSection, ImportSection, MemorySection, StartSection, TableSection, TypeSection}
+use Rattle.wasm_syntax.specs.Encoding.Shortest.{code_bytes, data_bytes, elem_bytes, encoding_of, export_bytes, func_type_bytes, global_bytes, import_bytes, limits_bytes, section_bytes, table_type_bytes, unless_empty}
+use Rattle.encoding_sizes.proofs.Items.{items, items_append, items_cons, items_nil, list_least, list_most, section_most}
+use Rattle.encoding_sizes.proofs.Sections.{codes_are, encoding_parts, exports_are, functions_are, globals_are, imports_are, part, part_is, types_are}
+use Rattle.trace_model.specs.declared.tapes.Tape.{Tape}
+use Rattle.trace_model.specs.Weight.{tape_weight}
+use Rattle.host_script.specs.declared.scripts.Supply.{Supply}
+use Rattle.history_spec.specs.Instantiation.{memory_limits, table_limits}
+use Rattle.replay_plan.specs.Plans.{plan_of}
+use Rattle.replay_gen.specs.Functions.{appended_types}
+use Rattle.replay_gen.specs.Fragments.{counter, fragment_of, helper_funcs, import_bodies, import_types, referred_funcs, referred_once, start_index}
+use Rattle.module_merge.specs.Merge.{constant_data, constant_elem, constant_global, declaration, layout_section, memory_written, replay_module, supplied_global}
+use Rattle.module_merge.specs.Size.{most_bytes}
+use Rattle.replay_sizes.proofs.Plans.{plan_cost}
+use Rattle.replay_sizes.proofs.Segments.{segment_cost}
+use Rattle.replay_sizes.proofs.Bodies.{funcs_append, funcs_cost, funcs_most, start_most}
+use Rattle.replay_sizes.proofs.References.{no_marks, once_most, total_marks, total_marks_are}
+use Rattle.replay_sizes.proofs.Modules.{all_most, appended_length, counters_most, datas_are, datas_most, declaration_most, elems_are, elems_most, export_most, funcs_parts, globals_are_all, globals_most, imported_most, layout_most, memories_are, memories_most, supplied_most, tables_are, tables_most}
+
+-- ---- sections
+
+pub no_part : part [] ≡ 0
+no_part = omega (arith, part_is [], items_nil section_bytes)
+
+-- a module without imports and start function has few bytes more than what stands in its sections
+encoding_upper : (r : Module) → r.imports ≡ [] → r.start ≡ None
+    → length (encoding_of r)
+    ≤ 107 + items func_type_bytes r.types + items u32_bytes (map (λ func. func.ty) r.funcs)
+    + items table_type_bytes r.tables + items limits_bytes r.memories + items global_bytes r.globals
+    + items export_bytes r.exports + items elem_bytes r.elems + items code_bytes (map code_of r.funcs)
+    + items data_bytes r.datas + part (map CustomSection r.customs)
+encoding_upper r alone still =
+    let imports = ap (λ l. part (unless_empty ImportSection l)) alone in
+    let start = ap (λ o. part (map StartSection (option_to_list o))) still in
+    omega (
+      arith,
+      encoding_parts r,
+      imports,
+      start,
+      no_part,
+      part_is (unless_empty TypeSection r.types),
+      list_most TypeSection func_type_bytes types_are r.types,
+      part_is (unless_empty FunctionSection (map (λ func. func.ty) r.funcs)),
+      list_most FunctionSection u32_bytes functions_are (map (λ func. func.ty) r.funcs),
+      part_is (unless_empty TableSection r.tables),
+      list_most TableSection table_type_bytes tables_are r.tables,
+      part_is (unless_empty MemorySection r.memories),
+      list_most MemorySection limits_bytes memories_are r.memories,
+      part_is (unless_empty GlobalSection r.globals),
+      list_most GlobalSection global_bytes globals_are r.globals,
+      part_is (unless_empty ExportSection r.exports),
+      list_most ExportSection export_bytes exports_are r.exports,
+      part_is (unless_empty ElementSection r.elems),
+      list_most ElementSection elem_bytes elems_are r.elems,
+      part_is (unless_empty CodeSection (map code_of r.funcs)),
+      list_most CodeSection code_bytes codes_are (map code_of r.funcs),
+      part_is (unless_empty DataSection r.datas),
+      list_most DataSection data_bytes datas_are r.datas,
+    )
+
+-- an encoding is no shorter than what stands in its sections
+pub encoding_lower : (m : Module)
+    → 8 + items func_type_bytes m.types + items import_bytes m.imports
+    + items u32_bytes (map (λ func. func.ty) m.funcs) + items global_bytes m.globals + items elem_bytes m.elems
+    + items code_bytes (map code_of m.funcs) + items data_bytes m.datas
+    ≤ length (encoding_of m)
+encoding_lower m = omega (
+  arith,
+  encoding_parts m,
+  part_is (unless_empty TypeSection m.types),
+  list_least TypeSection func_type_bytes types_are m.types,
+  part_is (unless_empty ImportSection m.imports),
+  list_least ImportSection import_bytes imports_are m.imports,
+  part_is (unless_empty FunctionSection (map (λ func. func.ty) m.funcs)),
+  list_least FunctionSection u32_bytes functions_are (map (λ func. func.ty) m.funcs),
+  part_is (unless_empty GlobalSection m.globals),
+  list_least GlobalSection global_bytes globals_are m.globals,
+  part_is (unless_empty ElementSection m.elems),
+  list_least ElementSection elem_bytes elems_are m.elems,
+  part_is (unless_empty CodeSection (map code_of m.funcs)),
+  list_least CodeSection code_bytes codes_are (map code_of m.funcs),
+  part_is (unless_empty DataSection m.datas),
+  list_least DataSection data_bytes datas_are m.datas,
+)
+
+layout_part : (m : Module) → part (map CustomSection (layout_section m ∷ [])) ≤ 30
+layout_part m = omega (
+  arith,
+  part_is (CustomSection (layout_section m) ∷ []),
+  items_cons section_bytes (CustomSection (layout_section m)) [],
+  items_nil section_bytes,
+  section_most (CustomSection (layout_section m)),
+  layout_most m,
+)
+
+-- ---- functions and globals
+
+-- generated functions around those of the original, and the declaration of what they refer to
+funcs_whole : (bodies own helpers : List Func) (declared : List ℕ) → total_marks own ≡ 0
+    → length declared ≤ length (referred_funcs (bodies ++ (own ++ helpers)))
+    → items u32_bytes (map (λ func. func.ty) (bodies ++ (own ++ helpers)))
+    + items code_bytes (map code_of (bodies ++ (own ++ helpers))) + 5 * length declared
+    ≤ funcs_cost bodies + funcs_cost helpers + items u32_bytes (map (λ func. func.ty) own)
+    + items code_bytes (map code_of own)
+funcs_whole bodies own helpers declared none few = omega (
+  arith,
+  funcs_parts (bodies ++ (own ++ helpers)),
+  total_marks_are (bodies ++ (own ++ helpers)),
+  funcs_append bodies (own ++ helpers),
+  funcs_append own helpers,
+  funcs_parts own,
+)
+
+-- what is generated of a tape
+generated_most : (m : Module) (tape : Tape) → IsValid m
+    → funcs_cost (import_bodies m (plan_of (imported_funcs m) tape))
+    + funcs_cost (helper_funcs m (plan_of (imported_funcs m) tape))
+    ≤ 13 + 77 * imported_funcs m + 96 * tape_weight tape
+generated_most m tape valid =
+    let plan = plan_of (imported_funcs m) tape in
+    omega (
+      arith,
+      funcs_most m valid.outside.types (length (all_globals m)) (start_index m + 1) (import_types m) plan.imports,
+      start_most m valid.outside.types plan.begin,
+      plan_cost 80 segment_cost (imported_funcs m) tape,
+      all_most tape.segments,
+    )
+
+globals_whole : (m : Module) (supply : Supply)
+    → items global_bytes (map supplied_global (zip (imported_globals m) supply.globals)
+    ++ (map (constant_global supply.globals) m.globals ++ replicate (imported_funcs m) counter))
+    ≤ items global_bytes m.globals + 14 * length (all_globals m) + 14 * imported_funcs m
+globals_whole m supply =
+    let imported = map supplied_global (zip (imported_globals m) supply.globals) in
+    let defined = map (constant_global supply.globals) m.globals in
+    omega (
+      arith,
+      items_append global_bytes imported (defined ++ replicate (imported_funcs m) counter),
+      items_append global_bytes defined (replicate (imported_funcs m) counter),
+      supplied_most (imported_globals m) supply.globals,
+      globals_most supply.globals m.globals,
+      counters_most (imported_funcs m),
+      globals_are_all m,
+    )
+
+-- ---- the whole
+
+pub replay_most : (m : Module) (supply : Supply) (tape : Tape) → IsValid m → IsCoreModule m
+    → length (encoding_of (replay_module m supply (fragment_of m (plan_of (imported_funcs m) tape))))
+    ≤ most_bytes m (tape_weight tape)
+replay_most m supply tape valid core =
+    let plan = plan_of (imported_funcs m) tape in
+    let bodies = import_bodies m plan in
+    let helpers = helper_funcs m plan in
+    let funcs = bodies ++ (m.funcs ++ helpers) in
+    let declared = referred_once (start_index m) funcs in
+    let globals =
+    map supplied_global (zip (imported_globals m) supply.globals)
+    ++ (map (constant_global supply.globals) m.globals ++ replicate (imported_funcs m) counter) in
+    let tables = option_to_list (table_limits m supply) in
+    let memories = option_to_list (option_map memory_written (memory_limits m supply)) in
+    let elems = map (constant_elem supply.globals) m.elems in
+    let upper
+    : length (encoding_of (replay_module m supply (fragment_of m plan)))
+    ≤ 107 + items func_type_bytes (m.types ++ appended_types) + items u32_bytes (map (λ func. func.ty) funcs)
+    + items table_type_bytes tables + items limits_bytes memories + items global_bytes globals
+    + items export_bytes (record { name = codes "_start"; kind = FuncExport (start_index m) } ∷ [])
+    + items elem_bytes (elems ++ declaration declared) + items code_bytes (map code_of funcs)
+    + items data_bytes (map (constant_data supply.globals) m.datas)
+    + part (map CustomSection (layout_section m ∷ [])) =
+    encoding_upper (replay_module m supply (fragment_of m plan)) refl refl in
+    let lower
+    : 8 + items func_type_bytes m.types + items import_bytes m.imports
+    + items u32_bytes (map (λ func. func.ty) m.funcs) + items global_bytes m.globals + items elem_bytes m.elems
+    + items code_bytes (map code_of m.funcs) + items data_bytes m.datas
+    ≤ length (encoding_of (record m { customs = [] })) =
+    encoding_lower (record m { customs = [] }) in
+    let types = items_append func_type_bytes m.types appended_types in
+    let functions =
+    funcs_whole bodies m.funcs helpers declared (no_marks m.funcs core.funcs) (once_most (start_index m) funcs) in
+    let generated = generated_most m tape valid in
+    let kinds = imported_most m.imports in
+    let segments = items_append elem_bytes elems (declaration declared) in
+    omega (
+      arith,
+      upper,
+      lower,
+      types,
+      appended_length,
+      functions,
+      generated,
+      kinds,
+      tables_most (table_limits m supply),
+      memories_most (option_map memory_written (memory_limits m supply)),
+      globals_whole m supply,
+      export_most (start_index m),
+      segments,
+      elems_most supply.globals m.elems,
+      declaration_most declared,
+      datas_most supply.globals m.datas,
+      layout_part m,
+    )
