@@ -41,7 +41,7 @@ equal_pass : (func x : ℕ) (test : ℕ → Bool) → nat_eq func x ≡ true →
 equal_pass func x test e h =
     let same : func ≡ x = grind (arith, nat_tests, e) in subst (λ n. test n ≡ true) same h
 
-any_filter : (func : ℕ) (test : ℕ → Bool) (xs : List ℕ) → test func ≡ true → list_any (nat_eq func) xs ≡ true
+pub any_filter : (func : ℕ) (test : ℕ → Bool) (xs : List ℕ) → test func ≡ true → list_any (nat_eq func) xs ≡ true
     → list_any (nat_eq func) (filter test xs) ≡ true
 any_filter func test [] passes h = h
 any_filter func test (x ∷ xs) passes h =

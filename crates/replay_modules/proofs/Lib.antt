@@ -1,7 +1,7 @@
 mod Standing
-mod Outside
+pub mod Outside
 mod ValidOutside
-mod Declarations
+pub mod Declarations
 mod Originals
 mod TypedOriginals
 mod Serving
@@ -10,4 +10,4 @@ mod TypedSegments
 mod TypedDispatch
 mod Generated
 mod TypedGenerated
-mod FittingPlans
+pub mod FittingPlans

@@ -143,7 +143,7 @@ types_imported m (i ∷ is) h = go i.kind h.0 (types_imported m is h.1)
 
 -- ---- constants
 
-number_constant : (ty : ValType) (bits funcs : ℕ) → IsTrue (is_number ty) → bits < count_of funcs ty
+pub number_constant : (ty : ValType) (bits funcs : ℕ) → IsTrue (is_number ty) → bits < count_of funcs ty
     → is_constant (record { ty = ty; bits = bits }) ≡ true
 number_constant I32 bits funcs number small = grind (arith, nat_tests, small)
 number_constant I64 bits funcs number small = grind (arith, nat_tests, small)
