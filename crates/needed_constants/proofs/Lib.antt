@@ -1,0 +1,3 @@
+mod ConstantRuns
+mod ConstantEffects
+mod ConstantSteps
