@@ -1,10 +1,9 @@
 -- Generated code has an encoding, where the plan fits the module and its indices have 32 bits.
-use Rattle.std.proofs.Common.{◌≡◌, ℕ, zero, suc, ◌+◌, ◌*◌, ◌^◌, ◌<◌, ◌≤◌, List, [], ◌∷◌, ◌++◌, length, map, Option, Some, None, true, refl, sym, subst, arith, slice_get}
-use Rattle.std.specs.Prelude.{drop, nat_le, nat_lt, replicate, reverse, take, IsTrue}
+use Rattle.std.proofs.Common.{◌≡◌, ℕ, zero, suc, ◌+◌, ◌*◌, ◌^◌, ◌<◌, ◌≤◌, List, [], ◌∷◌, ◌++◌, length, map, Option, Some, None, true, refl, arith, slice_get}
+use Rattle.std.specs.Prelude.{drop, nat_le, nat_lt, replicate, take, IsTrue}
 use Rattle.std.specs.Option.{option_to_list}
 use Rattle.std.specs.List.{AllByRecursion, list_all, range_with_len}
 use Rattle.std.proofs.lemmas.Bool.Decides.{nat_tests}
-use Rattle.std.proofs.lemmas.List.{reverse-append}
 use Rattle.std.proofs.lemmas.List.Elements.{All-drop, All-from_recursion, All-take, recursion_from_All}
 use Rattle.std.proofs.lemmas.Option.{slice_get_within}
 use Rattle.list_laws.proofs.Booleans.{and_parts}
@@ -18,10 +17,10 @@ use Rattle.wasm_syntax.specs.declared.values.ValType.{ValType}
 use Rattle.wasm_syntax.specs.declared.values.ValType.TheVariants.{I32, I64, F32, F64, FuncRef}
 use Rattle.wasm_syntax.specs.declared.signatures.FuncType.{FuncType}
 use Rattle.wasm_syntax.specs.declared.instructions.Instr.{Instr}
-use Rattle.wasm_syntax.specs.declared.instructions.Instr.TheVariants.{Unreachable, BrTable, Call, Const, Drop, End, Return}
+use Rattle.wasm_syntax.specs.declared.instructions.Instr.TheVariants.{Call, Const, Drop, Return}
 use Rattle.wasm_syntax.specs.declared.modules.Module.{Module}
 use Rattle.wasm_syntax.specs.Index.{all_globals, all_memories, all_tables, func_indices, func_type}
-use Rattle.wasm_syntax.specs.Nest.{Nest, Empty, flat}
+use Rattle.wasm_syntax.specs.Nest.{Nest, flat}
 use Rattle.wasm_syntax.specs.Opcodes.{is_from}
 use Rattle.wasm_syntax.specs.Typing.{is_constant}
 use Rattle.wasm_syntax.specs.Encoding.Encodable.{FitsConst, FitsInstr, FitsU32}
@@ -33,11 +32,12 @@ use Rattle.trace_model.specs.declared.tapes.Segment.{Segment}
 use Rattle.trace_model.specs.Fitting.{effect_fits, names_function, takes_values, types_of}
 use Rattle.history_spec.specs.Store.{number_of}
 use Rattle.replay_gen.specs.declared.groups.TheConstants.{GROUP_CALLS}
-use Rattle.replay_gen.specs.Dispatch.{body_of, dispatch, nested, sequence}
+use Rattle.replay_gen.specs.Dispatch.{body_of, dispatch, sequence}
 use Rattle.replay_gen.specs.Effects.{Width, Eight, Four, Two, One, byte_count, effect_code, reference_code, store_opcode, store_type, store_widths, stores_code}
 use Rattle.replay_gen.specs.Segments.{drops, effects_code, next_code, segments_code}
 use Rattle.replay_modules.specs.Plans.{AreFit, NextFits}
 use Rattle.replay_modules.specs.Written.{AreConstants, IsConstantEffect, IsConstantNext}
+use Rattle.replay_sizes.proofs.Arms.{body_all, dispatch_all, sequence_all}
 use Rattle.replay_modules.proofs.TypedEffects.{memory_there, number_small, rest_small, some_bytes, taken_type, total, total_all, width_typed}
 
 -- instructions that a replay module's encoding can have
@@ -62,43 +62,22 @@ constants_fit (value ∷ values) are = (value_fits value are.0, constants_fit va
 
 -- ---- arms
 
-pub sequence_fits : (is : List Instr) (rest : Nest) → AreFitting is → AreFitting (flat rest)
-    → AreFitting (flat (sequence is rest))
-sequence_fits [] rest own later = later
-sequence_fits (i ∷ is) rest own later = (own.0, sequence_fits is rest own.1 later)
-
-nested_fits : (inner : Nest) (arms : List (List Instr)) → AreFitting (flat inner) → AllByRecursion AreFitting arms
-    → AreFitting (flat (nested inner arms))
-nested_fits inner [] own all = own
-nested_fits inner (arm ∷ arms) own all = (
-  tt,
-  joined_all (FitsInstr Replay) (flat (nested inner arms)) (End ∷ flat (sequence arm Empty))
-      (nested_fits inner arms own all.1) (tt, sequence_fits arm Empty all.0 tt),
-)
-
-reversed_all : {A : Type 0} (P : A → Type 0) (xs : List A) → AllByRecursion P xs → AllByRecursion P (reverse xs)
-reversed_all P [] all = tt
-reversed_all P (x ∷ xs) all =
-    subst (AllByRecursion P) (sym (reverse-append (x ∷ []) xs))
-    (joined_all P (reverse xs) (x ∷ []) (reversed_all P xs all.1) (all.0, tt))
-
 range_fits : (from count : ℕ) → from + count ≤ 2 ^ 32 → AllByRecursion FitsU32 (range_with_len from count)
 range_fits from zero few = tt
 range_fits from (suc count) few = (omega (arith, few), range_fits (from + 1) count (omega (arith, few)))
 
+pub sequence_fits : (is : List Instr) (rest : Nest) → AreFitting is → AreFitting (flat rest)
+    → AreFitting (flat (sequence is rest))
+sequence_fits is rest own later = sequence_all (FitsInstr Replay) tt tt tt is rest own later
+
 pub dispatch_fits : (selector : List Instr) (arms : List (List Instr)) → AreFitting selector → length arms < 2 ^ 32
     → AllByRecursion AreFitting arms → AreFitting (flat (dispatch selector arms))
 dispatch_fits selector arms own few all =
-    let labels = range_with_len 0 (length arms) in
-    nested_fits (sequence (selector ++ BrTable labels (length arms) ∷ []) Empty)
-    ((Unreachable ∷ []) ∷ reverse arms)
-    (sequence_fits (selector ++ BrTable labels (length arms) ∷ []) Empty
-    (joined_all (FitsInstr Replay) selector (BrTable labels (length arms) ∷ []) own
-    ((range_fits 0 (length arms) (omega (arith, few)), few), tt)) tt)
-    ((tt, tt), reversed_all AreFitting arms all)
+    dispatch_all (FitsInstr Replay) tt tt tt selector arms own
+    (range_fits 0 (length arms) (omega (arith, few)), few) all
 
 pub body_fits : (nest : Nest) → AreFitting (flat nest) → AreFitting (body_of nest)
-body_fits nest own = joined_all (FitsInstr Replay) (flat nest) (End ∷ []) own (tt, tt)
+body_fits nest own = body_all (FitsInstr Replay) tt tt tt nest own
 
 -- ---- effects
 

@@ -5,7 +5,8 @@ mod Bodies
 mod References
 mod Modules
 mod Sizes
-mod FittingCode
+pub mod Arms
+pub mod FittingCode
 mod FittingFuncs
 mod Encodable
 mod Indices
