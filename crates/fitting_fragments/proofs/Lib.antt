@@ -1,0 +1,3 @@
+mod References
+mod Declared
+mod Fragments
