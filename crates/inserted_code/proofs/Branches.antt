@@ -1,0 +1,216 @@
+-- Branches and blocks of an instrumented body: they lead where the original's lead, and out of the body to its end.
+use Rattle.std.proofs.Common.{◌≡◌, ℕ, zero, suc, ◌+◌, List, [], ◌∷◌, ◌++◌, length, Option, Some, None, slice_get, refl, sym, ap, subst}
+use Rattle.wasm_syntax.specs.declared.values.ValType.{ValType}
+use Rattle.wasm_syntax.specs.declared.values.ValType.TheVariants.{I32}
+use Rattle.wasm_syntax.specs.declared.values.Val.{Val}
+use Rattle.wasm_syntax.specs.declared.signatures.FuncType.{FuncType}
+use Rattle.wasm_syntax.specs.Nest.{Nest, Empty, InBlock, InLoop, InIf, size}
+use Rattle.history_spec.specs.Store.{Store}
+use Rattle.history_spec.specs.Code.{Code}
+use Rattle.history_spec.specs.Configuration.{place, Label, Frame, topmost, push_all}
+use Rattle.history_spec.specs.Instruction.{Goes, Calls, Returns, Execution, Did, Traps, NoRule, Operands, on, pop, bits_at, block_arity, choice, enters, to_label, to_caller, branch_to, execute_at}
+use Rattle.history_spec.specs.Run.{Meter}
+use Rattle.hook_spec.specs.Hooks.{renumber, renumbered_view}
+use Rattle.hook_spec.specs.Insertions.{Site, imports_at, inserted_at_end}
+use Rattle.hook_spec.specs.Instrumented.{before_nest, instrumented_nest, weights_of_nest}
+use Rattle.inserted_code.proofs.Weights.{AreWeights, first_weights, later_weights}
+use Rattle.inserted_code.proofs.Relation.{hooked_place, hooked_labels, body_label, IsWeighed, AreWeighed}
+
+module _ (meter : Meter) (s : Site) (ty : FuncType) (last : ℕ) (other : Frame) where
+  abbrev n : ℕ
+  n = imports_at s
+
+  -- the instrumented activation, where the original goes on within its labels
+  abbrev pub going : Frame → List (ℕ × ℕ) → ℕ → Frame
+  going next numbers number =
+      record other {
+        values = next.values;
+        labels = hooked_labels s ty next.labels numbers last;
+        at = hooked_place s next.at number;
+      }
+
+  -- where the original leaves its body with results: before the end of the inserted block, after which it tells so
+  abbrev pub ending : List Val → Frame
+  ending results =
+      record other {
+        values = push_all results [];
+        labels = [];
+        at = place (before_nest (inserted_at_end s) Empty) last;
+      }
+
+  -- the second execution goes on beside the first, at places that have their weights
+  pub record GoesBeside (operands results : List Val) (found : Option ℕ) (store : Store) (next : Frame)
+      (second : Execution) : Type 0 where
+    pub numbers : List (ℕ × ℕ)
+    pub number : ℕ
+    pub labels : AreWeighed meter s next.labels numbers
+    pub at : IsWeighed meter s next.at.rest number
+    pub is : second ≡ Did operands results found (Goes (renumbered_view n store) (going next numbers number))
+
+  -- where the first has a rule and moves control within the function, or out of it
+  abbrev pub IsMoved : Execution → Execution → Type 0
+  IsMoved NoRule second = Unit {0}
+  IsMoved (Traps kind operands found) second = second ≡ Traps kind operands found
+  IsMoved (Did operands results found (Goes store next)) second =
+      GoesBeside operands results found store next second
+  IsMoved (Did operands results found (Calls frame func args)) second = ⊥
+  IsMoved (Did operands results found (Returns given)) second =
+      (store : Store) × (second ≡ Did operands results found (Goes store (ending given)))
+
+  module _ (store : Store) (frame : Frame) (arity : frame.arity ≡ block_arity (slice_get ty.results 0)) where
+    -- ---- branches
+
+    to_end : (operands : List Val) (o : Option (List Val))
+        → IsMoved (to_caller operands o)
+        (to_label (renumbered_view n store) other operands o [] (body_label s ty last))
+    to_end operands None = tt
+    to_end operands (Some results) = (renumbered_view n store, refl)
+
+    pub branches : (operands values : List Val) (labels : List Label) (numbers : List (ℕ × ℕ)) (l : ℕ)
+        → AreWeighed meter s labels numbers
+        → IsMoved (branch_to store frame operands values labels l)
+        (branch_to (renumbered_view n store) other operands values (hooked_labels s ty labels numbers last) l)
+    branches operands values [] [] zero weighed =
+        subst
+        (λ count. IsMoved (to_caller operands (topmost count values))
+        (to_label (renumbered_view n store) other operands (topmost (block_arity (slice_get ty.results 0)) values) []
+        (body_label s ty last)))
+        (sym arity)
+        (to_end operands (topmost (block_arity (slice_get ty.results 0)) values))
+    branches operands values [] [] (suc l) weighed = tt
+    branches operands values [] (first ∷ numbers) l weighed = absurd weighed
+    branches operands values (label ∷ labels) [] l weighed = absurd weighed
+    branches operands values (label ∷ labels) (first ∷ numbers) zero weighed =
+        go (topmost label.arity values)
+      where
+        go : (o : Option (List Val))
+            → IsMoved (to_label store frame operands o labels label)
+            (to_label (renumbered_view n store) other operands o (hooked_labels s ty labels numbers last)
+            (record label {
+              target = hooked_place s label.target first.0;
+              after_block = hooked_place s label.after_block first.1;
+            }))
+        go None = tt
+        go (Some carried) =
+            record { numbers = numbers; number = first.0; labels = weighed.2; at = weighed.0; is = refl }
+    branches operands values (label ∷ labels) (first ∷ numbers) (suc l) weighed =
+        branches operands values labels numbers l weighed.2
+
+    -- ---- blocks
+
+    module _ (code second : Code) (numbers : List (ℕ × ℕ)) (labels : AreWeighed meter s frame.labels numbers)
+        (alike : other.values ≡ frame.values)
+        (weighed : (nest : Nest) → length (weights_of_nest s nest) ≡ size (instrumented_nest s nest)) where
+      -- the part after a sequence
+      pub after_nest : (body : Nest) (number : ℕ) (more : List ℕ)
+          → AreWeights meter (renumber n s.func) number (weights_of_nest s body ++ more)
+          → AreWeights meter (renumber n s.func) (number + size (instrumented_nest s body)) more
+      after_nest body number more h =
+          subst (λ k. AreWeights meter (renumber n s.func) (number + k) more) (weighed body)
+          (later_weights meter (renumber n s.func) number (weights_of_nest s body) more h)
+
+      -- a block or a loop
+      pub enters_block : (block : Option ValType) (body rest : Nest) (at number : ℕ)
+          → IsWeighed meter s (InBlock block body rest) number
+          → IsMoved (execute_at code store frame (InBlock block body rest) at)
+          (execute_at second (renumbered_view n store)
+          (record other { labels = hooked_labels s ty frame.labels numbers last })
+          (instrumented_nest s (InBlock block body rest)) number)
+      enters_block block body rest at number h =
+          let k = number + 1 + size (instrumented_nest s body) in
+          let after = after_nest body (number + 1) (weights_of_nest s rest) h.1 in
+          record {
+            numbers = (k, k) ∷ numbers;
+            number = number + 1;
+            labels = (after, after, labels);
+            at = first_weights meter (renumber n s.func) (number + 1) (weights_of_nest s body) (weights_of_nest s rest)
+                h.1;
+            is = ap
+                (λ values. enters (renumbered_view n store)
+                (record other { labels = hooked_labels s ty frame.labels numbers last }) [] values (block_arity block)
+                (place (instrumented_nest s body) (number + 1)) (place (instrumented_nest s rest) k)
+                (place (instrumented_nest s rest) k))
+                alike;
+          }
+
+      pub enters_loop : (block : Option ValType) (body rest : Nest) (at number : ℕ)
+          → IsWeighed meter s (InLoop block body rest) number
+          → IsMoved (execute_at code store frame (InLoop block body rest) at)
+          (execute_at second (renumbered_view n store)
+          (record other { labels = hooked_labels s ty frame.labels numbers last })
+          (instrumented_nest s (InLoop block body rest)) number)
+      enters_loop block body rest at number h =
+          let k = number + 1 + size (instrumented_nest s body) in
+          let after = after_nest body (number + 1) (weights_of_nest s rest) h.1 in
+          record {
+            numbers = (number, k) ∷ numbers;
+            number = number + 1;
+            labels = (h, after, labels);
+            at = first_weights meter (renumber n s.func) (number + 1) (weights_of_nest s body) (weights_of_nest s rest)
+                h.1;
+            is = ap
+                (λ values. enters (renumbered_view n store)
+                (record other { labels = hooked_labels s ty frame.labels numbers last }) [] values 0
+                (place (instrumented_nest s body) (number + 1))
+                (place (instrumented_nest s (InLoop block body rest)) number) (place (instrumented_nest s rest) k))
+                alike;
+          }
+
+      -- an `if`, by its test
+      if_chosen : (block : Option ValType) (body rest : Nest) (at number : ℕ)
+          → IsWeighed meter s (InIf block body rest) number → (operands values : List Val) (bits : ℕ)
+          → IsMoved
+          (enters store frame operands values (block_arity block)
+          (choice bits (place body (at + 1)) (place Empty (at + 1 + size body))) (place rest (at + 1 + size body))
+          (place rest (at + 1 + size body)))
+          (enters (renumbered_view n store) (record other { labels = hooked_labels s ty frame.labels numbers last })
+          operands values (block_arity block)
+          (choice bits (place (instrumented_nest s body) (number + 1))
+          (place Empty (number + 1 + size (instrumented_nest s body))))
+          (place (instrumented_nest s rest) (number + 1 + size (instrumented_nest s body)))
+          (place (instrumented_nest s rest) (number + 1 + size (instrumented_nest s body))))
+      if_chosen block body rest at number h operands values zero =
+          let k = number + 1 + size (instrumented_nest s body) in
+          let after = after_nest body (number + 1) (weights_of_nest s rest) h.1 in
+          record { numbers = (k, k) ∷ numbers; number = k; labels = (after, after, labels); at = tt; is = refl }
+      if_chosen block body rest at number h operands values (suc bits) =
+          let k = number + 1 + size (instrumented_nest s body) in
+          let after = after_nest body (number + 1) (weights_of_nest s rest) h.1 in
+          record {
+            numbers = (k, k) ∷ numbers;
+            number = number + 1;
+            labels = (after, after, labels);
+            at = first_weights meter (renumber n s.func) (number + 1) (weights_of_nest s body) (weights_of_nest s rest)
+                h.1;
+            is = refl;
+          }
+
+      pub enters_if : (block : Option ValType) (body rest : Nest) (at number : ℕ)
+          → IsWeighed meter s (InIf block body rest) number
+          → IsMoved (execute_at code store frame (InIf block body rest) at)
+          (execute_at second (renumbered_view n store)
+          (record other { labels = hooked_labels s ty frame.labels numbers last })
+          (instrumented_nest s (InIf block body rest)) number)
+      enters_if block body rest at number h =
+          subst
+          (λ values. IsMoved (on (pop (I32 ∷ []) frame.values) first) (on (pop (I32 ∷ []) values) chosen))
+          (sym alike) (go (pop (I32 ∷ []) frame.values))
+        where
+          first : Operands → Execution
+          first p =
+              enters store frame p.operands p.rest (block_arity block)
+              (choice (bits_at p.operands 0) (place body (at + 1)) (place Empty (at + 1 + size body)))
+              (place rest (at + 1 + size body)) (place rest (at + 1 + size body))
+
+          chosen : Operands → Execution
+          chosen p =
+              enters (renumbered_view n store) (record other { labels = hooked_labels s ty frame.labels numbers last })
+              p.operands p.rest (block_arity block)
+              (choice (bits_at p.operands 0) (place (instrumented_nest s body) (number + 1))
+              (place Empty (number + 1 + size (instrumented_nest s body))))
+              (place (instrumented_nest s rest) (number + 1 + size (instrumented_nest s body)))
+              (place (instrumented_nest s rest) (number + 1 + size (instrumented_nest s body)))
+
+          go : (o : Option Operands) → IsMoved (on o first) (on o chosen)
+          go None = tt
+          go (Some p) = if_chosen block body rest at number h p.operands p.rest (bits_at p.operands 0)

@@ -1,0 +1,33 @@
+// The law of instrumented runs, the contract of a function; the statement stands in `specs/Laws.antt`.
+
+ghost use Rattle.instrumented_follows.specs.Laws.{InstrumentedRunsFollow};
+
+use calls_follow::hook_calls_are_in_order;
+use history_spec::{runs_have_one_result_at_most, runs_have_some_result};
+use hook_spec::{
+    bodies_are_instrumented, hooks_are_answered, indices_are_renumbered, instrumented_keep_indices,
+};
+use instrumented_valid::{instrumented_are_instantiated, instrumented_are_supplied};
+use type_safety::{rules_hold, safe_steps, typed_code, typed_store};
+
+/// The run of an instrumented module, which links with what the original links with, follows the original's: within
+/// each budget it comes to the same outcome or the same fault in the same number of turns, or the turns of both are
+/// spent; it makes the calls of hooks that are read off the original's run; and none of these is out of order, whether
+/// the run ends or is cut short.
+pub fn instrumented_runs_follow()
+    ensures { InstrumentedRunsFollow }
+{
+    typed_code();
+    typed_store();
+    rules_hold();
+    safe_steps();
+    indices_are_renumbered();
+    hooks_are_answered();
+    bodies_are_instrumented();
+    instrumented_keep_indices();
+    hook_calls_are_in_order();
+    instrumented_are_supplied();
+    instrumented_are_instantiated();
+    runs_have_one_result_at_most();
+    runs_have_some_result();
+}

@@ -1,0 +1,58 @@
+-- What is known where the next instruction of the original and of the instrumented run is executed, and what follows
+-- it.
+use Rattle.std.specs.Prelude.{ℕ, List, [], ◌∷◌, Option}
+use Rattle.wasm_syntax.specs.declared.instructions.Instr.{Instr}
+use Rattle.wasm_syntax.specs.declared.modules.Module.{Module}
+use Rattle.wasm_syntax.specs.Index.{imported_funcs}
+use Rattle.wasm_syntax.specs.Validity.{IsValid}
+use Rattle.history_spec.specs.Store.{Store}
+use Rattle.history_spec.specs.Code.{Definition}
+use Rattle.history_spec.specs.Configuration.{Frame, Activation, InModule, Config}
+use Rattle.history_spec.specs.Instruction.{Execution}
+use Rattle.history_spec.specs.Run.{Meter}
+use Rattle.history_spec.specs.Step.{Program, Progress, after_instruction}
+use Rattle.type_safety.specs.Configurations.{scope, Accept}
+use Rattle.type_safety.specs.Frames.{IsFrame}
+use Rattle.type_safety.specs.Heights.{Heights}
+use Rattle.hook_spec.specs.ToldCalls.{WaitingCall, store_executed}
+use Rattle.instrumented_steps.proofs.Delivers as delivers
+use Rattle.instrumented_steps.proofs.Delivers.{AreResults}
+use Rattle.inserted_code.proofs.Pieces.{HasHooks}
+use Rattle.inserted_code.proofs.Relation.{Beside, type_of, IsBeside, AreWaiting, AreCounted}
+use Rattle.instrumented_steps.proofs.Settled as settled
+use Rattle.inserted_code.proofs.PieceFacts.{HasPieces, HasGlobals}
+
+-- what is known of the activation and of those below
+pub record IsReady (m : Module) (heights : Heights) (meter : Meter) (store : Store) (counts : List ℕ) (frame : Frame)
+    (below : List Activation) (waiting : List WaitingCall) (b : Beside) (bs : List Beside) (second : List ℕ)
+    (body : Definition) : Type 0 where
+  pub framed : IsFrame (scope m heights frame.func (type_of m frame.func) body) [] frame
+  pub accepts : Accept m heights below (type_of m frame.func).results
+  pub good : AreResults (type_of m frame.func).results
+  pub beside : IsBeside m meter frame [] b
+  pub waits : AreWaiting m meter (type_of m frame.func).results below waiting bs
+  pub counted : AreCounted (imported_funcs m) counts second
+  pub globals : HasGlobals m store
+
+module _ (m : Module) (heights : Heights) (valid : IsValid m) (program other : Program) (meter : Meter)
+    (has : HasHooks (imported_funcs m) other meter) (pieces : HasPieces m other meter has) where
+  -- what follows an execution of the original's next instruction
+  abbrev pub FollowsExecution : Option Instr → Store → List ℕ → Frame → List Activation → List WaitingCall
+      → Execution → Progress → ℕ → Type 0
+  FollowsExecution instr store counts frame below waiting e from turns =
+      let config : Config = record { store = store; stack = InModule frame ∷ below; counts = counts } in
+      settled.Follows m heights other meter has
+      (settled.told_of m heights other meter has instr store (store_executed store e) waiting
+      (after_instruction program config frame below e).entries)
+      (settled.waiting_of m heights other meter has instr store (store_executed store e) waiting
+      (after_instruction program config frame below e).entries)
+      (after_instruction program config frame below e).next from turns
+
+  -- results come to the activations below
+  pub results_below : (instr : Option Instr) (earlier store left : Store) (counts : List ℕ) (frame : Frame)
+      (below : List Activation) (waiting : List WaitingCall) (b : Beside) (bs : List Beside) (second : List ℕ)
+      (body : Definition) → IsReady m heights meter store counts frame below waiting b bs second body
+      → settled.Below m heights other meter has instr earlier left counts below waiting bs frame
+  results_below instr earlier store left counts frame below waiting b bs second body ready given others are counted =
+      delivers.deliver_from m heights valid other meter has pieces instr earlier left counts below
+      (type_of m frame.func).results given waiting bs others ready.good ready.accepts are ready.waits counted
