@@ -1,5 +1,5 @@
--- The script of a load: the host answers each call of the import by its number, after it has written a byte at the address
--- that it was given, and after each sixteenth call has called back.
+-- The script of a load: the host answers each call of the import by its number, after it has written a byte at the
+-- address that it was given, and in each sixteenth call has called back.
 use Rattle.std.specs.Prelude.{ℕ, zero, suc, ◌+◌, ◌*◌, ◌%◌, ◌==◌, List, [], ◌∷◌, ◌++◌, codes, decimal, if◌then◌else◌}
 use Rattle.hex.specs.Hex.{encode_lower}
 

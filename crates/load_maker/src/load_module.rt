@@ -1,8 +1,8 @@
 // The module of a load.
 
-/// Imports a function `h` `f`, and exports its memory `m`, and two functions. `run` calls the import with 0, 1 and so on,
-/// before the number that it is given, each time at least once, and gives the sum of what is answered and of the bytes
-/// at these addresses after each call. `tick` counts its calls in a global.
+/// Imports a function `h` `f`, and exports its memory `m`, and two functions. `run` calls the import with 0, 1 and so
+/// on, before the number that it is given, at least once, and gives the sum of what is answered and of the
+/// bytes at these addresses after each call. `tick` counts its calls in a global.
 pub const LOAD_MODULE: [u8; 116] = [
     // the preamble
     0x00, 0x61, 0x73, 0x6d, 0x01, 0x00, 0x00, 0x00,

@@ -83,7 +83,8 @@ fn put_response(text: &mut Vec<u8>, call: u32) -> Result<(), NoMemory>
 /// Appends the write of a byte.
 fn put_write(text: &mut Vec<u8>, call: u32) -> Result<(), NoMemory>
     ensures { OnOk result (text.new.items ≡ text.old.items
-        ++ (codes "{\"do\":[{\"write\":{\"arg\":0},\"bytes\":\"" ++ (encode_lower (load_byte call ∷ []) ++ codes "\"}"))) }
+        ++ (codes "{\"do\":[{\"write\":{\"arg\":0},\"bytes\":\""
+        ++ (encode_lower (load_byte call ∷ []) ++ codes "\"}"))) }
 {
     let before = b"{\"do\":[{\"write\":{\"arg\":0},\"bytes\":\"";
     put_between(text, before, &byte_digits(call), b"\"}")
