@@ -3,9 +3,10 @@
 use run_outcomes::Outcome;
 use std::alloc::Global;
 use std::test::Fail;
-use trace_format::{read_log, show_tape};
-use trace_model::{Event, EventSink};
-use trace_reduce::{ReduceFault, Reducer, reduce};
+use trace_format::{Digest, read_log, show_tape};
+use trace_model::{Event, EventSink, Tape};
+use trace_reduce::{NoMemory, ReduceFault, Reducer, ReducerFault, reduce};
+use wasm_syntax::{Bytes, Val, ValType, Vals};
 
 /// A log's file as far as its digest, in hexadecimal.
 const HEADER: &str = "72336c6702000102030405060708090a0b0c0d0e0f101112131415161718191a1b1c1d1e1f";
@@ -115,6 +116,18 @@ const ROWS: &[(&str, &str, Result<&str, ReduceFault>)] = &[
     ),
 ];
 
+/// The tape of a call within an import, as lines.
+const NESTED: &str = "segment begin\ncall 1\nsegment import 0\ncall 2\nsegment import 0\nreturn i32:00000002\n\
+    segment back\nbytes 0 04\nreturn i32:00000001\nsegment back\nend\nclose\n";
+
+/// A tape is the one that these lines show.
+fn is_shown(alloc: Global, digest: &Digest, tape: &Tape, text: &str) -> Result<bool, Fail> {
+    let mut lines = Vec::new(alloc);
+    lines.extend_from_slice(FIRST_LINE.as_bytes())?;
+    lines.extend_from_slice(text.as_bytes())?;
+    Ok(show_tape(alloc, digest, tape)?.as_slice() == lines.as_slice())
+}
+
 /// What a row asks for is answered.
 fn check_row(alloc: Global, body: &str, want: Result<&str, ReduceFault>) -> Result<bool, Fail> {
     let mut bytes = hex::decode(alloc, HEADER)?;
@@ -123,12 +136,7 @@ fn check_row(alloc: Global, body: &str, want: Result<&str, ReduceFault>) -> Resu
         return Ok(false);
     };
     match (reduce(alloc, &log), want) {
-        (Ok(tape), Ok(text)) => {
-            let mut lines = Vec::new(alloc);
-            lines.extend_from_slice(FIRST_LINE.as_bytes())?;
-            lines.extend_from_slice(text.as_bytes())?;
-            Ok(show_tape(alloc, &digest, &tape)?.as_slice() == lines.as_slice())
-        }
+        (Ok(tape), Ok(text)) => is_shown(alloc, &digest, &tape, text),
         (Err(fault), Err(cause)) => Ok(fault == cause),
         _ => Ok(false),
     }
@@ -145,16 +153,90 @@ fn logs_are_reduced(rt: HostRuntime) -> Result<(), Fail> {
     Ok(())
 }
 
+/// A 32-bit integer.
+fn number(bits: u64) -> Val {
+    Val {
+        ty: ValType::I32,
+        bits,
+    }
+}
+
+/// Takes the events of a run in which the host calls a function within an import.
+fn take_nested_call(alloc: Global, reducer: &mut Reducer) -> Result<(), NoMemory> {
+    let mut bytes = Vec::new(alloc);
+    bytes.push(4)?;
+    reducer.event(Event::Enter {
+        func: 1,
+        args: Vals::new(alloc),
+    })?;
+    reducer.event(Event::Pre { callee: Some(0) })?;
+    reducer.event(Event::Enter {
+        func: 2,
+        args: Vals::new(alloc),
+    })?;
+    reducer.event(Event::Pre { callee: Some(0) })?;
+    reducer.event(Event::Post {
+        result: Some(number(2)),
+    })?;
+    reducer.event(Event::Leave { func: 2 })?;
+    reducer.event(Event::Post {
+        result: Some(number(1)),
+    })?;
+    reducer.event(Event::Bytes {
+        addr: 0,
+        bytes: Bytes::from_vec(bytes),
+    })?;
+    reducer.event(Event::Leave { func: 1 })
+}
+
+/// What is answered of these events where the tape may weigh so much at most.
+fn nested_call(alloc: Global, most: u64) -> Result<Tape, ReducerFault> {
+    let mut reducer = Reducer::new(alloc, 1, most);
+    take_nested_call(alloc, &mut reducer)?;
+    reducer.finish(Outcome::Ended)
+}
+
 #[test]
-fn events_come_one_after_another(rt: HostRuntime) -> Result<(), Fail> {
+fn a_tape_may_weigh_the_most(rt: HostRuntime) -> Result<(), Fail> {
     let alloc = rt.alloc();
-    let mut reducer = Reducer::new(alloc, 1);
+    let Ok(tape) = nested_call(alloc, 8) else {
+        return Err(Fail::new(format_args!("no tape")));
+    };
+    assert!(rt; tape.weight() == 8);
+    let bytes = hex::decode(alloc, HEADER)?;
+    let Some((_, digest)) = bytes.as_slice().split_last_chunk::<32>() else {
+        return Err(Fail::new(format_args!("no digest")));
+    };
+    assert!(rt; is_shown(alloc, &Digest::of(*digest), &tape, NESTED)?);
+    Ok(())
+}
+
+#[test]
+fn a_heavier_tape_is_refused(rt: HostRuntime) -> Result<(), Fail> {
+    let alloc = rt.alloc();
+    for most in [7, 3, 0] {
+        let Err(fault) = nested_call(alloc, most) else {
+            return Err(Fail::new(format_args!("a tape")));
+        };
+        assert!(rt; fault == ReducerFault::TooHeavy { weight: 8 });
+    }
+    Ok(())
+}
+
+#[test]
+fn another_function_ends(rt: HostRuntime) -> Result<(), Fail> {
+    let alloc = rt.alloc();
+    let mut reducer = Reducer::new(alloc, 1, 8);
     assert!(rt; reducer.imports() == 1);
+    reducer.event(Event::Enter {
+        func: 1,
+        args: Vals::new(alloc),
+    })?;
     reducer.event(Event::Leave { func: 2 })?;
     reducer.event(Event::Seen)?;
     let Err(fault) = reducer.finish(Outcome::Ended) else {
         return Err(Fail::new(format_args!("a tape")));
     };
-    assert!(rt; fault == ReduceFault::Unbalanced { event: 0 });
+    assert!(rt; fault == ReducerFault::Unbalanced { event: 1 });
     Ok(())
 }

@@ -16,7 +16,9 @@ use Rattle.trace_reduce.specs.declared.finds.Firsts.{Firsts}
 use Rattle.trace_reduce.specs.Firsts.{AreFirsts, global_of}
 use Rattle.trace_reduce.specs.Runs.{runs_from, entry_effect, global_effect, size_effects, firsts_effects, AreSorted}
 use Rattle.trace_reduce.proofs.Firsts.{or_none}
-use Rattle.trace_reduce.proofs.Bytes.{at_key, ascends, looked_up}
+use Rattle.trace_reduce.specs.ByteGroups.{byte_at, bytes_of}
+use Rattle.trace_reduce.proofs.Bytes.{Ascend, at_key, ascends, looked_up}
+use Rattle.trace_reduce.proofs.Groups.{bytes_ascend, byte_looked_up}
 use Rattle.trace_reduce.proofs.Ordered.{all_ordered, all_have}
 use Rattle.trace_reduce.proofs.Parts.{last_append, entries_none, globals_none, sizes_none, runs_none, keyed, all_runs}
 
@@ -27,8 +29,11 @@ module _ (firsts : Firsts) where
   abbrev size_part : List Effect
   size_part = size_effects Table firsts.size
 
+  abbrev all_bytes : List (ℕ × ℕ)
+  all_bytes = bytes_of firsts.bytes.entries
+
   abbrev bytes_part : List Effect
-  bytes_part = runs_from 0 [] firsts.bytes.entries
+  bytes_part = runs_from 0 [] all_bytes
 
   abbrev entries_part : List Effect
   entries_part = map entry_effect firsts.entries.entries
@@ -69,12 +74,15 @@ module _ (firsts : Firsts) where
   size_given None = refl
   size_given (Some size) = refl
 
-  module _ (finds : List Effect) (h : AreFirsts finds [] firsts) (s : AreSorted firsts) where
+  module _ (finds : List Effect) (h : AreFirsts finds firsts) (s : AreSorted firsts) where
+    ascending : Ascend 0 all_bytes
+    ascending = bytes_ascend 0 firsts.bytes.entries (ascends firsts.bytes.entries s.bytes)
+
     pages_same : last_some effect_pages (firsts_effects firsts) ≡ firsts.pages
     pages_same =
         part_of effect_pages firsts.pages None None None None (pages_given firsts.pages)
         (sizes_none effect_pages Table (λ size. refl) firsts.size)
-        (runs_none effect_pages (λ at run. refl) 0 [] firsts.bytes.entries)
+        (runs_none effect_pages (λ at run. refl) 0 [] all_bytes)
         (entries_none effect_pages (λ k func. refl) firsts.entries.entries)
         (globals_none effect_pages (λ k value. refl) firsts.globals.entries)
 
@@ -83,28 +91,28 @@ module _ (firsts : Firsts) where
         part_of effect_entries None firsts.size None None None
         (sizes_none effect_entries Grow (λ pages. refl) firsts.pages)
         (size_given firsts.size)
-        (runs_none effect_entries (λ at run. refl) 0 [] firsts.bytes.entries)
+        (runs_none effect_entries (λ at run. refl) 0 [] all_bytes)
         (entries_none effect_entries (λ k func. refl) firsts.entries.entries)
         (globals_none effect_entries (λ k value. refl) firsts.globals.entries)
         ∙ or_none firsts.size
 
-    byte_same : (at : ℕ) → last_some (effect_byte at) (firsts_effects firsts) ≡ get nat_cmp firsts.bytes at
+    byte_same : (at : ℕ) → last_some (effect_byte at) (firsts_effects firsts) ≡ byte_at firsts.bytes at
     byte_same at =
-        part_of (effect_byte at) None None (at_key firsts.bytes.entries at) None None
+        part_of (effect_byte at) None None (at_key all_bytes at) None None
         (sizes_none (effect_byte at) Grow (λ pages. refl) firsts.pages)
         (sizes_none (effect_byte at) Table (λ size. refl) firsts.size)
-        (all_runs at firsts.bytes.entries (ascends firsts.bytes.entries s.bytes))
+        (all_runs at all_bytes ascending)
         (entries_none (effect_byte at) (λ k func. refl) firsts.entries.entries)
         (globals_none (effect_byte at) (λ k value. refl) firsts.globals.entries)
-        ∙ or_none (at_key firsts.bytes.entries at)
-        ∙ sym (looked_up firsts.bytes.entries at)
+        ∙ or_none (at_key all_bytes at)
+        ∙ byte_looked_up firsts.bytes at (ascends firsts.bytes.entries s.bytes)
 
     entry_same : (at : ℕ) → last_some (effect_entry at) (firsts_effects firsts) ≡ get nat_cmp firsts.entries at
     entry_same at =
         part_of (effect_entry at) None None None (at_key firsts.entries.entries at) None
         (sizes_none (effect_entry at) Grow (λ pages. refl) firsts.pages)
         (sizes_none (effect_entry at) Table (λ size. refl) firsts.size)
-        (runs_none (effect_entry at) (λ place run. refl) 0 [] firsts.bytes.entries)
+        (runs_none (effect_entry at) (λ place run. refl) 0 [] all_bytes)
         (keyed entry_effect (effect_entry at) (λ func. func) at (λ k func. refl) 0 firsts.entries.entries
         (ascends firsts.entries.entries s.entries)
         ∙ same_map (at_key firsts.entries.entries at))
@@ -117,7 +125,7 @@ module _ (firsts : Firsts) where
         part_of (effect_global at) None None None None (option_map Some (at_key firsts.globals.entries at))
         (sizes_none (effect_global at) Grow (λ pages. refl) firsts.pages)
         (sizes_none (effect_global at) Table (λ size. refl) firsts.size)
-        (runs_none (effect_global at) (λ place run. refl) 0 [] firsts.bytes.entries)
+        (runs_none (effect_global at) (λ place run. refl) 0 [] all_bytes)
         (entries_none (effect_global at) (λ k func. refl) firsts.entries.entries)
         (keyed global_effect (effect_global at) Some at (λ k value. refl) 0 firsts.globals.entries
         (ascends firsts.globals.entries s.globals))
@@ -129,23 +137,23 @@ module _ (firsts : Firsts) where
         record {
           ordered =
               subst AreOrdered (sym regrouped)
-              (all_ordered firsts.bytes.entries firsts.entries.entries firsts.globals.entries
-              (ascends firsts.bytes.entries s.bytes) (ascends firsts.entries.entries s.entries)
+              (all_ordered all_bytes firsts.entries.entries firsts.globals.entries ascending (ascends firsts.entries.entries s.entries)
               (ascends firsts.globals.entries s.globals) firsts.pages firsts.size);
           nonempty =
               subst (λ effects. list_all has_bytes effects ≡ true) (sym regrouped)
-              (all_have firsts.pages firsts.size firsts.bytes.entries firsts.entries.entries firsts.globals.entries);
-          pages = pages_same ∙ sym (or_none firsts.pages) ∙ h.pages;
-          entries = size_same ∙ sym (or_none firsts.size) ∙ h.size;
-          byte = λ at. byte_same at ∙ sym (or_none (get nat_cmp firsts.bytes at)) ∙ h.byte at;
-          entry = λ at. entry_same at ∙ sym (or_none (get nat_cmp firsts.entries at)) ∙ h.entry at;
-          global = λ at. global_same at ∙ sym (or_none (global_of firsts at)) ∙ h.global at;
+              (all_have firsts.pages firsts.size all_bytes firsts.entries.entries firsts.globals.entries);
+          pages = pages_same ∙ h.pages;
+          entries = size_same ∙ h.size;
+          byte = λ at. byte_same at ∙ h.byte at;
+          entry = λ at. entry_same at ∙ h.entry at;
+          global = λ at. global_same at ∙ h.global at;
         }
 
 -- what is answered
-pub effects_answered : (firsts : Firsts) (finds : List Effect) → AreFirsts finds [] firsts
-    → (answer : Result (List Effect) NoMemory) → IfOk answer (λ effects. effects ≡ firsts_effects firsts)
-    → IfOk answer (λ effects. AreSorted firsts) → IfOk answer (AreFirstFinds finds)
-effects_answered firsts finds h (Ok effects) same sorted =
-    subst (AreFirstFinds finds) (sym same) (are_first_finds firsts finds h sorted)
-effects_answered firsts finds h (Err refused) same sorted = tt
+pub effects_answered : (firsts : Firsts) (answer : Result (List Effect) NoMemory)
+    → IfOk answer (λ effects. effects ≡ firsts_effects firsts)
+    → IfOk answer (λ effects. AreSorted firsts)
+    → IfOk answer (λ effects. (finds : List Effect) → AreFirsts finds firsts → AreFirstFinds finds effects)
+effects_answered firsts (Ok effects) same sorted =
+    λ finds h. subst (AreFirstFinds finds) (sym same) (are_first_finds firsts finds h sorted)
+effects_answered firsts (Err refused) same sorted = tt

@@ -1,5 +1,7 @@
 mod Firsts
 mod Bytes
+mod Groups
+mod Answers
 mod Ordered
 mod Parts
 mod Fitting

@@ -11,9 +11,8 @@ use Rattle.trace_model.specs.declared.events.Event.{Event}
 use Rattle.trace_model.specs.declared.events.Event.TheVariants.{Enter, Leave, Pre, Post, Grow, Seen, Table, Bytes, Entry, Global}
 use Rattle.trace_model.specs.declared.tapes.Origin.TheVariants.{Import}
 use Rattle.trace_model.specs.declared.tapes.Next.TheVariants.{End, Trap}
-use Rattle.trace_model.specs.declared.tapes.Segment.{Segment}
 use Rattle.trace_model.specs.Balance.{balance_start, balanced_step, calls_import, ends_so, is_empty_stack, is_function, unbalanced_from, first_unbalanced}
-use Rattle.hook_spec.specs.LogTapes.{Mark, Begins, Ends, Finds, LogFrame, InCall, frames_after, is_at_host, event_marks, import_marks, mark_if, size_after, is_trapped_call, marks_from, outcome_marks, log_marks, AreLogSegments}
+use Rattle.hook_spec.specs.LogTapes.{Mark, Begins, Ends, Finds, LogFrame, InCall, frames_after, is_at_host, event_marks, import_marks, mark_if, size_after, is_trapped_call, marks_from, outcome_marks, log_marks}
 use Rattle.trace_reduce.specs.declared.builder.TapeBuilder.{TapeBuilder}
 use Rattle.trace_reduce.specs.Builder.{IsAtHost, IsInWindow, TakesMarks, end_marks}
 use Rattle.trace_reduce.specs.Reducer.{log_frames, IsBuilt, IsInOrder, last_marks}
@@ -241,49 +240,48 @@ called_at_host n [] called h host = h
 called_at_host n (Function func ∷ frames) called h host = cc
 called_at_host n (Call callee entered ∷ frames) called h host = h
 
--- the segments are those of all marks
-module _ (builder : TapeBuilder) (before marks : List Mark) (segments : List Segment) where
-  ended_segments : (called at_host : Bool) → at_host ≡ true → IsBuilt at_host builder before marks
-      → ((b ms : List Mark) → IsAtHost builder b ms → AreLogSegments (ms ++ Ends End ∷ []) segments)
-      → AreLogSegments (last_marks Ended called at_host before marks ++ outcome_marks Ended) segments
-  ended_segments called at_host is built host =
+-- what holds of all marks
+module _ (builder : TapeBuilder) (before marks : List Mark) (Holds : List Mark → Type 0) where
+  ended_marks : (called at_host : Bool) → at_host ≡ true → IsBuilt at_host builder before marks
+      → ((b ms : List Mark) → IsAtHost builder b ms → Holds (ms ++ Ends End ∷ []))
+      → Holds (last_marks Ended called at_host before marks ++ outcome_marks Ended)
+  ended_marks called at_host is built host =
       host before marks (subst (λ b. IsBuilt b builder before marks) is built)
 
-  host_trapped_segments : (called at_host : Bool) → at_host ≡ true → IsBuilt at_host builder before marks
-      → ((b ms : List Mark) → IsAtHost builder b ms → AreLogSegments (ms ++ Ends Trap ∷ []) segments)
-      → AreLogSegments (last_marks HostTrapped called at_host before marks ++ outcome_marks HostTrapped) segments
-  host_trapped_segments called at_host is built host =
+  host_trapped_marks : (called at_host : Bool) → at_host ≡ true → IsBuilt at_host builder before marks
+      → ((b ms : List Mark) → IsAtHost builder b ms → Holds (ms ++ Ends Trap ∷ []))
+      → Holds (last_marks HostTrapped called at_host before marks ++ outcome_marks HostTrapped)
+  host_trapped_marks called at_host is built host =
       host before marks (subst (λ b. IsBuilt b builder before marks) is built)
 
-  trapped_segments : (called at_host : Bool) → (at_host ≡ true → called ≡ true) → IsBuilt at_host builder before marks
-      → ((ms : List Mark) → IsInWindow builder ms → AreLogSegments ms segments)
-      → ((b ms : List Mark) → IsAtHost builder b ms → AreLogSegments b segments)
-      → AreLogSegments (last_marks Trapped called at_host before marks ++ []) segments
-  trapped_segments true true called built window host =
-      subst (λ ms. AreLogSegments ms segments) (sym (append-nil before)) (host before marks built)
-  trapped_segments false true called built window host = absurd (none (called refl))
+  trapped_marks : (called at_host : Bool) → (at_host ≡ true → called ≡ true) → IsBuilt at_host builder before marks
+      → ((ms : List Mark) → IsInWindow builder ms → Holds ms)
+      → ((b ms : List Mark) → IsAtHost builder b ms → Holds b)
+      → Holds (last_marks Trapped called at_host before marks ++ [])
+  trapped_marks true true called built window host =
+      subst Holds (sym (append-nil before)) (host before marks built)
+  trapped_marks false true called built window host = absurd (none (called refl))
     where
       none : false ≡ true → ⊥
       none h = cc
-  trapped_segments true false called built window host =
-      subst (λ ms. AreLogSegments ms segments) (sym (append-nil marks)) (window marks built)
-  trapped_segments false false called built window host =
-      subst (λ ms. AreLogSegments ms segments) (sym (append-nil marks)) (window marks built)
+  trapped_marks true false called built window host =
+      subst Holds (sym (append-nil marks)) (window marks built)
+  trapped_marks false false called built window host =
+      subst Holds (sym (append-nil marks)) (window marks built)
 
-  pub all_segments : (n : ℕ) (balance : Balance) (outcome : Outcome) → ends_so n balance outcome ≡ true
+  pub all_marks : (n : ℕ) (balance : Balance) (outcome : Outcome) → ends_so n balance outcome ≡ true
       → IsBuilt (is_at_host n (log_frames balance.frames)) builder before marks
-      → ((ms : List Mark) → outcome ≡ Trapped → IsInWindow builder ms → AreLogSegments ms segments)
-      → ((b ms : List Mark) → IsAtHost builder b ms → AreLogSegments (end_marks outcome b ms) segments)
-      → AreLogSegments
+      → ((ms : List Mark) → outcome ≡ Trapped → IsInWindow builder ms → Holds ms)
+      → ((b ms : List Mark) → IsAtHost builder b ms → Holds (end_marks outcome b ms))
+      → Holds
       (last_marks outcome balance.called (is_at_host n (log_frames balance.frames)) before marks
       ++ outcome_marks outcome)
-      segments
-  all_segments n balance Ended right built window host =
-      ended_segments balance.called (is_at_host n (log_frames balance.frames))
+  all_marks n balance Ended right built window host =
+      ended_marks balance.called (is_at_host n (log_frames balance.frames))
       (empty_at_host n balance.frames right) built host
-  all_segments n balance HostTrapped right built window host =
-      host_trapped_segments balance.called (is_at_host n (log_frames balance.frames))
+  all_marks n balance HostTrapped right built window host =
+      host_trapped_marks balance.called (is_at_host n (log_frames balance.frames))
       (import_at_host n balance.frames right) built host
-  all_segments n balance Trapped right built window host =
-      trapped_segments balance.called (is_at_host n (log_frames balance.frames))
+  all_marks n balance Trapped right built window host =
+      trapped_marks balance.called (is_at_host n (log_frames balance.frames))
       (called_at_host n balance.frames balance.called right) built (λ ms h. window ms refl h) host

@@ -1,15 +1,23 @@
 -- Segments of windows, one window after another.
-use Rattle.std.proofs.Common.{◌≡◌, List, [], ◌∷◌, ◌++◌, map, Option, Some, None, refl, sym, ap, ◌∙◌, subst}
+use Rattle.std.proofs.Common.{◌≡◌, ℕ, Result, List, [], ◌∷◌, ◌++◌, map, Option, Some, None, refl, sym, ap, ◌∙◌, subst}
 use Rattle.std.proofs.lemmas.List.{append_assoc}
 use Rattle.trace_model.specs.declared.tapes.Origin.{Origin}
 use Rattle.trace_model.specs.declared.tapes.Next.{Next}
 use Rattle.trace_model.specs.declared.tapes.Effect.{Effect}
 use Rattle.trace_model.specs.declared.tapes.Segment.{Segment}
+use Rattle.trace_model.specs.declared.tapes.Tape.{Tape}
 use Rattle.hook_spec.specs.LogTapes.{Mark, Begins, Ends, Finds, window_finds, AreFirstFinds, IsLogSegment, AreLogSegments}
 use Rattle.trace_reduce.specs.declared.builder.TapeBuilder.{TapeBuilder}
 use Rattle.trace_reduce.specs.declared.builder.Turn.{Turn}
 use Rattle.trace_reduce.specs.declared.builder.Turn.TheVariants as turns
-use Rattle.trace_reduce.specs.Builder.{IsClosed, IsAtHost, IsInWindow, TakesMark, mark_of}
+use Rattle.trace_reduce.specs.declared.faults.ReducerFault.{ReducerFault}
+use Rattle.trace_reduce.specs.declared.limited_tape.LimitedTape.{LimitedTape}
+use Rattle.trace_reduce.specs.Answers.{IsWeighed}
+use Rattle.trace_reduce.specs.Builder.{AreBuilt, IsClosed, IsAtHost, IsInWindow, TakesMark, mark_of}
+use Rattle.trace_reduce.specs.Firsts.{AreFirsts, IsNextFind}
+use Rattle.trace_reduce.specs.LimitedTape.{IsSoFar}
+use Rattle.trace_reduce.proofs.Answers.{weighed_as}
+use Rattle.trace_reduce.proofs.Firsts.{next_first}
 
 -- what a window finds is told before the next activity begins
 finds_before : (front : List Mark) (origin : Origin) (rest : List Mark)
@@ -45,93 +53,113 @@ appended (Finds effect ∷ front) segments origin rest more h later = appended f
 
 -- ---- the builder
 
-closed_segments : (builder : TapeBuilder) (next : Next) (effects : List Effect) (marks : List Mark)
-    → builder.next ≡ Some next → AreFirstFinds builder.finds.items effects → (h : IsInWindow builder marks)
-    → h.next ≡ next
-    → AreLogSegments marks
-    (builder.segments.items ++ record { origin = builder.origin; effects = effects; next = next } ∷ [])
-closed_segments builder next effects marks left finds h same =
-    let segment : Segment = record { origin = builder.origin; effects = effects; next = next } in
-    let one : AreLogSegments (Begins builder.origin ∷ Ends h.next ∷ map Finds builder.finds.items) (segment ∷ []) = (
-      record {
-        begins = refl;
-        leaves = sym same;
-        changes = subst (λ fs. AreFirstFinds fs effects) (sym (finds_alone builder.finds.items)) finds;
-      },
-      no_segments builder.finds.items,
-    )
-    in
-    subst (λ ms. AreLogSegments ms (builder.segments.items ++ segment ∷ [])) (sym h.found)
-    (appended h.before builder.segments.items builder.origin
-    (Ends h.next ∷ map Finds builder.finds.items) (segment ∷ []) h.closed one)
-
 some_same : {X : Type 0} (o : Option X) (x y : X) → o ≡ Some x → o ≡ Some y → x ≡ y
 some_same None x y h k = cc
 some_same (Some z) x y h k = cc
 
 pub window_closed : (old new : TapeBuilder) (next : Next) (effects : List Effect) → old.next ≡ Some next
-    → AreFirstFinds old.finds.items effects → new.next ≡ None → new.finds.items ≡ []
-    → new.segments.items
-    ≡ old.segments.items ++ record { origin = old.origin; effects = effects; next = next } ∷ []
+    → ((finds : List Effect) → AreFirsts finds old.firsts → AreFirstFinds finds effects)
+    → new.next ≡ None → AreFirsts [] new.firsts
+    → ((segments : List Segment) → IsSoFar old.tape segments
+    → IsSoFar new.tape (segments ++ record { origin = old.origin; effects = effects; next = next } ∷ []))
     → (marks : List Mark) → IsInWindow old marks → IsClosed new marks
-window_closed old new next effects left finds waits none segments marks h =
+window_closed old new next effects left firsts waits none more marks h =
     record {
       waits = waits;
-      finds = none;
-      closed =
-          subst (AreLogSegments marks) (sym segments)
-          (closed_segments old next effects marks left finds h (some_same old.next h.next next h.left left));
+      none = none;
+      closed = record {
+        segments = h.closed.segments ++ segment ∷ [];
+        of_marks =
+            subst (λ ms. AreLogSegments ms (h.closed.segments ++ segment ∷ [])) (sym h.found)
+            (appended h.before h.closed.segments old.origin (Ends h.next ∷ map Finds h.finds) (segment ∷ [])
+            h.closed.of_marks one);
+        so_far = more h.closed.segments h.closed.so_far;
+      };
     }
+  where
+    segment : Segment
+    segment = record { origin = old.origin; effects = effects; next = next }
+
+    one : AreLogSegments (Begins old.origin ∷ Ends h.next ∷ map Finds h.finds) (segment ∷ [])
+    one = (
+      record {
+        begins = refl;
+        leaves = some_same old.next next h.next left h.left;
+        changes = subst (λ fs. AreFirstFinds fs effects) (sym (finds_alone h.finds)) (firsts h.finds h.firsts);
+      },
+      no_segments h.finds,
+    )
 
 -- control leaves the host
 pub host_left : (old new : TapeBuilder) (next : Next) → new.next ≡ Some next → new.origin ≡ old.origin
-    → new.finds.items ≡ old.finds.items → new.segments.items ≡ old.segments.items
+    → new.firsts ≡ old.firsts → new.tape ≡ old.tape
     → (before marks : List Mark) → IsAtHost old before marks → IsInWindow new (marks ++ Ends next ∷ [])
-host_left old new next left origin finds segments before marks h =
+host_left old new next left origin firsts tape before marks h =
     record {
       before = before;
       next = next;
       left = left;
+      finds = [];
       found =
           ap (λ ms. ms ++ Ends next ∷ []) h.began
           ∙ append_assoc before (Begins old.origin ∷ []) (Ends next ∷ [])
-          ∙ (λ i. before ++ Begins (sym origin i) ∷ Ends next ∷ map Finds (sym (finds ∙ h.over.finds) i));
-      closed = subst (AreLogSegments before) (sym segments) h.over.closed;
+          ∙ (λ i. before ++ Begins (sym origin i) ∷ Ends next ∷ []);
+      firsts = subst (AreFirsts []) (sym firsts) h.over.none;
+      closed = subst (λ t. AreBuilt t before) (sym tape) h.over.closed;
     }
 
 -- the window finds one more
 pub window_finds_more : (old new : TapeBuilder) (effect : Effect) → new.next ≡ old.next → new.origin ≡ old.origin
-    → new.finds.items ≡ old.finds.items ++ effect ∷ [] → new.segments.items ≡ old.segments.items
+    → IsNextFind old.firsts effect new.firsts → new.tape ≡ old.tape
     → (marks : List Mark) → IsInWindow old marks → IsInWindow new (marks ++ Finds effect ∷ [])
-window_finds_more old new effect next origin finds segments marks h =
+window_finds_more old new effect next origin find tape marks h =
     record {
       before = h.before;
       next = h.next;
       left = next ∙ h.left;
+      finds = h.finds ++ effect ∷ [];
       found =
           ap (λ ms. ms ++ Finds effect ∷ []) h.found
-          ∙ append_assoc h.before (Begins old.origin ∷ Ends h.next ∷ map Finds old.finds.items) (Finds effect ∷ [])
-          ∙ (λ i. h.before ++ Begins (sym origin i) ∷ Ends h.next ∷ sym (mapped old.finds.items) i)
-          ∙ (λ i. h.before ++ Begins new.origin ∷ Ends h.next ∷ map Finds (sym finds i));
-      closed = subst (AreLogSegments h.before) (sym segments) h.closed;
+          ∙ append_assoc h.before (Begins old.origin ∷ Ends h.next ∷ map Finds h.finds) (Finds effect ∷ [])
+          ∙ (λ i. h.before ++ Begins (sym origin i) ∷ Ends h.next ∷ sym (mapped h.finds) i);
+      firsts = next_first h.finds old.firsts effect new.firsts h.firsts find;
+      closed = subst (λ t. AreBuilt t h.before) (sym tape) h.closed;
     }
   where
     mapped : (fs : List Effect) → map Finds (fs ++ effect ∷ []) ≡ map Finds fs ++ Finds effect ∷ []
     mapped [] = refl
     mapped (f ∷ fs) = ap (λ ms. Finds f ∷ ms) (mapped fs)
 
+pub finds_taken : (old new : TapeBuilder) (turn : Turn) (effect : Effect) → turn ≡ turns.Finds effect
+    → IsNextFind old.firsts effect new.firsts → new.next ≡ old.next → new.origin ≡ old.origin → new.tape ≡ old.tape
+    → TakesMark old (mark_of turn) new
+finds_taken old new turn effect is find next origin tape =
+    subst (λ t. TakesMark old (mark_of t) new) (sym is) (window_finds_more old new effect next origin find tape)
+
 -- an activity begins
 pub host_begun : (old closed new : TapeBuilder) (turn : Turn) (origin : Origin) → turn ≡ turns.Begins origin
     → ((marks : List Mark) → IsInWindow old marks → IsClosed closed marks) → new.next ≡ closed.next
-    → new.origin ≡ origin → new.finds.items ≡ closed.finds.items → new.segments.items ≡ closed.segments.items
+    → new.origin ≡ origin → new.firsts ≡ closed.firsts → new.tape ≡ closed.tape
     → TakesMark old (mark_of turn) new
-host_begun old closed new turn origin is closes next same finds segments =
+host_begun old closed new turn origin is closes next same firsts tape =
     subst (λ t. TakesMark old (mark_of t) new) (sym is)
     (λ marks h. record {
       over = record {
         waits = next ∙ (closes marks h).waits;
-        finds = finds ∙ (closes marks h).finds;
-        closed = subst (AreLogSegments marks) (sym segments) (closes marks h).closed;
+        none = subst (AreFirsts []) (sym firsts) (closes marks h).none;
+        closed = subst (λ t. AreBuilt t marks) (sym tape) (closes marks h).closed;
       };
       began = (λ i. marks ++ Begins (sym same i) ∷ []);
     })
+
+-- ---- the tape
+
+-- segments of marks are a tape of them
+pub built_answer : (tape : LimitedTape) (most : ℕ) (marks : List Mark) (answer : Result Tape ReducerFault)
+    → AreBuilt tape marks
+    → ((segments : List Segment) → IsSoFar tape segments
+    → IsWeighed (λ (t : Tape). t.segments ≡ segments) most answer)
+    → IsWeighed (λ (t : Tape). AreLogSegments marks t.segments) most answer
+built_answer tape most marks answer h gives =
+    weighed_as (λ (t : Tape). t.segments ≡ h.segments) (λ (t : Tape). AreLogSegments marks t.segments) most
+    (λ t same. subst (AreLogSegments marks) (sym same) h.of_marks) answer (gives h.segments h.so_far)

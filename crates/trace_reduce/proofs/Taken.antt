@@ -1,5 +1,5 @@
 -- What a reducer has taken, call by call, and what it answers.
-use Rattle.std.proofs.Common.{◌≡◌, ℕ, ◌+◌, List, [], ◌∷◌, ◌++◌, Option, Some, None, Result, Ok, Err, Bool, true, false, not, OnOk, refl, sym, ap, ◌∙◌, subst}
+use Rattle.std.proofs.Common.{◌≡◌, ℕ, ◌+◌, List, [], ◌∷◌, ◌++◌, Option, Some, Result, Ok, Err, Bool, true, false, not, OnOk, refl, sym, ap, ◌∙◌, subst}
 use Rattle.std.proofs.lemmas.List.{append_assoc, append-nil}
 use Rattle.no_memory.specs.declared.NoMemory.{NoMemory}
 use Rattle.run_outcomes.specs.declared.outcomes.Outcome.{Outcome}
@@ -8,18 +8,19 @@ use Rattle.trace_model.specs.declared.balance.Balance.{Balance}
 use Rattle.trace_model.specs.declared.events.Event.{Event}
 use Rattle.trace_model.specs.declared.events.Log.{Log}
 use Rattle.trace_model.specs.declared.tapes.Origin.TheVariants.{Begin}
-use Rattle.trace_model.specs.declared.tapes.Segment.{Segment}
 use Rattle.trace_model.specs.declared.tapes.Tape.{Tape}
 use Rattle.trace_model.specs.Balance.{Takes, balance_start, balanced_step, ends_so, first_unbalanced, unbalanced_from}
 use Rattle.trace_model.specs.Sink.{TookAlso}
-use Rattle.hook_spec.specs.LogTapes.{Mark, Begins, outcome_marks, log_marks, size_after, AreLogSegments}
+use Rattle.hook_spec.specs.LogTapes.{Mark, Begins, outcome_marks, size_after, AreLogSegments}
 use Rattle.trace_reduce.specs.declared.builder.TapeBuilder.{TapeBuilder}
 use Rattle.trace_reduce.specs.declared.reducer.Progress.TheVariants.{InOrder, Unbalanced}
-use Rattle.trace_reduce.specs.declared.reducer.ReduceFault.{ReduceFault}
+use Rattle.trace_reduce.specs.declared.faults.ReducerFault.{ReducerFault}
 use Rattle.trace_reduce.specs.declared.reducer.Reducer.{Reducer}
 use Rattle.trace_reduce.specs.Builder.{IsAtHost, IsInWindow, end_marks}
-use Rattle.trace_reduce.specs.Reducer.{HasReached, HasTaken, IsInOrder, IsPart, IsReduction, TakesEvent, Tells, last_marks}
-use Rattle.trace_reduce.proofs.Marks.{all_segments, ends_right, ends_wrong, next_in_order}
+use Rattle.trace_reduce.specs.Reducer.{HasReached, HasTaken, IsInOrder, IsPart, TakesEvent, Tells, last_marks, most_of}
+use Rattle.trace_reduce.specs.Answers.{IsAnswer, IsWeighed}
+use Rattle.trace_reduce.proofs.Answers.{answer_in_order}
+use Rattle.trace_reduce.proofs.Marks.{all_marks, ends_right, ends_wrong, next_in_order}
 
 -- ---- no event
 
@@ -100,43 +101,51 @@ wrong_answer reducer taken outcome is wrong h =
     ends_wrong reducer.imports reducer.size reducer.count reducer.balance reducer.builder taken outcome
     (reached reducer taken is h) wrong
 
-pub tape_answer : (reducer : Reducer) (taken : List Event) (outcome : Outcome) (segments : List Segment)
+pub tape_answer : (reducer : Reducer) (taken : List Event) (outcome : Outcome) (most : ℕ)
+    (answer : Result Tape ReducerFault)
     → reducer.progress ≡ InOrder → ends_so reducer.imports reducer.balance outcome ≡ true
-    → ((ms : List Mark) → outcome ≡ Trapped → IsInWindow reducer.builder ms → AreLogSegments ms segments)
-    → ((b ms : List Mark) → IsAtHost reducer.builder b ms → AreLogSegments (end_marks outcome b ms) segments)
+    → ((ms : List Mark) → outcome ≡ Trapped → IsInWindow reducer.builder ms
+    → IsWeighed (λ (tape : Tape). AreLogSegments ms tape.segments) most answer)
+    → ((b ms : List Mark) → IsAtHost reducer.builder b ms
+    → IsWeighed (λ (tape : Tape). AreLogSegments (end_marks outcome b ms) tape.segments) most answer)
     → HasTaken reducer taken
-    → (first_unbalanced (record { imports = reducer.imports; events = taken; outcome = outcome }) ≡ None)
-    × AreLogSegments (log_marks (record { imports = reducer.imports; events = taken; outcome = outcome })) segments
-tape_answer reducer taken outcome segments is right window host h =
-    let r = reached reducer taken is h in (
-      ends_right reducer.imports reducer.size reducer.count reducer.balance reducer.builder taken outcome r right,
-      subst (λ ms. AreLogSegments ms segments) (sym (r.ends outcome))
-          (all_segments reducer.builder r.before r.marks segments reducer.imports reducer.balance outcome right r.built
-          window host),
-    )
+    → IsAnswer most (record { imports = reducer.imports; events = taken; outcome = outcome }) answer
+tape_answer reducer taken outcome most answer is right window host h =
+    let log : Log = record { imports = reducer.imports; events = taken; outcome = outcome } in
+    let r = reached reducer taken is h in
+    answer_in_order most log answer
+    (ends_right reducer.imports reducer.size reducer.count reducer.balance reducer.builder taken outcome r right)
+    (subst (λ ms. IsWeighed (λ (tape : Tape). AreLogSegments ms tape.segments) most answer) (sym (r.ends outcome))
+    (all_marks reducer.builder r.before r.marks
+    (λ ms. IsWeighed (λ (tape : Tape). AreLogSegments ms tape.segments) most answer) reducer.imports reducer.balance
+    outcome right r.built window host))
 
 -- ---- the events of a log in order
 
 pub part_more : (old new : Reducer) (event copy : Event) (answer : Result (Unit {0}) NoMemory) → copy ≡ event
     → OnOk answer (TookAlso HasTaken old new (copy ∷ [])) → new.imports ≡ old.imports
-    → OnOk answer ((n : ℕ) (all later : List Event) → IsPart n all (event ∷ later) old → IsPart n all later new)
-part_more old new event copy (Ok it) same took imports =
-    λ n all later h.
+    → most_of new ≡ most_of old
+    → OnOk answer ((n most : ℕ) (all later : List Event) → IsPart n most all (event ∷ later) old
+    → IsPart n most all later new)
+part_more old new event copy (Ok it) same took imports limit =
+    λ n most all later h.
     record {
       taken = h.taken ++ event ∷ [];
       whole = append_assoc h.taken (event ∷ []) later ∙ h.whole;
       has = subst (λ e. HasTaken new (h.taken ++ e ∷ [])) same (took h.taken h.has);
       imports = imports ∙ h.imports;
+      limit = limit ∙ h.limit;
     }
-part_more old new event copy (Err refused) same took imports = tt
+part_more old new event copy (Err refused) same took imports limit = tt
 
-pub log_reduced : (log : Log) (reducer : Reducer) (answer : Result Tape ReduceFault)
-    → IsPart log.imports log.events [] reducer
+pub log_answered : (log : Log) (most : ℕ) (reducer : Reducer) (answer : Result Tape ReducerFault)
+    → IsPart log.imports most log.events [] reducer
     → ((taken : List Event) → HasTaken reducer taken
-    → IsReduction (record { imports = reducer.imports; events = taken; outcome = log.outcome }) answer)
-    → IsReduction log answer
-log_reduced log reducer answer h gives =
-    subst (λ events. IsReduction (record { imports = log.imports; events = events; outcome = log.outcome }) answer)
+    → IsAnswer (most_of reducer) (record { imports = reducer.imports; events = taken; outcome = log.outcome }) answer)
+    → IsAnswer most log answer
+log_answered log most reducer answer h gives =
+    subst (λ events. IsAnswer most (record { imports = log.imports; events = events; outcome = log.outcome }) answer)
     (sym (append-nil h.taken) ∙ h.whole)
-    (subst (λ n. IsReduction (record { imports = n; events = h.taken; outcome = log.outcome }) answer) h.imports
-    (gives h.taken h.has))
+    (subst (λ n. IsAnswer most (record { imports = n; events = h.taken; outcome = log.outcome }) answer) h.imports
+    (subst (λ m. IsAnswer m (record { imports = reducer.imports; events = h.taken; outcome = log.outcome }) answer)
+    h.limit (gives h.taken h.has)))

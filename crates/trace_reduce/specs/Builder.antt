@@ -2,19 +2,30 @@
 use Rattle.std.specs.Prelude.{◌≡◌, List, [], ◌∷◌, ◌++◌, map, Option, Some, None}
 use Rattle.run_outcomes.specs.declared.outcomes.Outcome.{Outcome}
 use Rattle.run_outcomes.specs.declared.outcomes.Outcome.TheVariants.{Trapped}
+use Rattle.trace_model.specs.declared.tapes.Effect.{Effect}
 use Rattle.trace_model.specs.declared.tapes.Next.{Next}
+use Rattle.trace_model.specs.declared.tapes.Segment.{Segment}
 use Rattle.hook_spec.specs.LogTapes.{Mark, Begins, Ends, Finds, outcome_marks, AreLogSegments}
 use Rattle.trace_reduce.specs.declared.builder.Turn.{Turn}
 use Rattle.trace_reduce.specs.declared.builder.Turn.TheVariants as turns
 use Rattle.trace_reduce.specs.declared.builder.TapeBuilder.{TapeBuilder}
+use Rattle.trace_reduce.specs.declared.limited_tape.LimitedTape.{LimitedTape}
+use Rattle.trace_reduce.specs.Firsts.{AreFirsts}
+use Rattle.trace_reduce.specs.LimitedTape.{IsSoFar}
 
--- the windows are over: the segments are those of the marks
+-- the segments so far are those of the marks
+pub record AreBuilt (tape : LimitedTape) (marks : List Mark) : Type 0 where
+  pub segments : List Segment
+  pub of_marks : AreLogSegments marks segments
+  pub so_far : IsSoFar tape segments
+
+-- the windows are over
 pub record IsClosed (builder : TapeBuilder) (marks : List Mark) : Type 0 where
   pub waits : builder.next ≡ None
-  pub finds : builder.finds.items ≡ []
-  pub closed : AreLogSegments marks builder.segments.items
+  pub none : AreFirsts [] builder.firsts
+  pub closed : AreBuilt builder.tape marks
 
--- an activity has begun behind these marks, and control is at the host
+-- an activity has begun after these marks, and control is at the host
 pub record IsAtHost (builder : TapeBuilder) (before marks : List Mark) : Type 0 where
   pub over : IsClosed builder before
   pub began : marks ≡ before ++ Begins builder.origin ∷ []
@@ -24,8 +35,10 @@ pub record IsInWindow (builder : TapeBuilder) (marks : List Mark) : Type 0 where
   pub before : List Mark
   pub next : Next
   pub left : builder.next ≡ Some next
-  pub found : marks ≡ before ++ Begins builder.origin ∷ Ends next ∷ map Finds builder.finds.items
-  pub closed : AreLogSegments before builder.segments.items
+  pub finds : List Effect
+  pub found : marks ≡ before ++ Begins builder.origin ∷ Ends next ∷ map Finds finds
+  pub firsts : AreFirsts finds builder.firsts
+  pub closed : AreBuilt builder.tape before
 
 -- a mark, and the marks of an event, in the making of a tape
 abbrev pub mark_of : Turn → Mark

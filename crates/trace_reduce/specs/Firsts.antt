@@ -7,28 +7,26 @@ use Rattle.wasm_syntax.specs.declared.values.Val.{Val}
 use Rattle.trace_model.specs.declared.tapes.Effect.{Effect}
 use Rattle.replay_spec.specs.Needed.{effect_byte, effect_entry, effect_global, effect_pages, effect_entries}
 use Rattle.hook_spec.specs.LogTapes.{first_some}
+use Rattle.trace_reduce.specs.ByteGroups.{byte_at}
 use Rattle.trace_reduce.specs.declared.finds.Firsts.{Firsts}
 
 -- the global of an index that was found first
 abbrev pub global_of : Firsts → (at : ℕ) → Option (Option Val)
 global_of firsts at = option_map Some (get nat_cmp firsts.globals at)
 
--- with what is still to come, these are what all finds find first
-pub record AreFirsts (finds later : List Effect) (firsts : Firsts) : Type 0 where
-  pub pages : option_or firsts.pages (first_some effect_pages later) ≡ first_some effect_pages finds
-  pub size : option_or firsts.size (first_some effect_entries later) ≡ first_some effect_entries finds
-  pub byte : (at : ℕ) → option_or (get nat_cmp firsts.bytes at) (first_some (effect_byte at) later)
-      ≡ first_some (effect_byte at) finds
-  pub entry : (at : ℕ) → option_or (get nat_cmp firsts.entries at) (first_some (effect_entry at) later)
-      ≡ first_some (effect_entry at) finds
-  pub global : (at : ℕ) → option_or (global_of firsts at) (first_some (effect_global at) later)
-      ≡ first_some (effect_global at) finds
+-- these are what the finds of a window find first
+pub record AreFirsts (finds : List Effect) (firsts : Firsts) : Type 0 where
+  pub pages : firsts.pages ≡ first_some effect_pages finds
+  pub size : firsts.size ≡ first_some effect_entries finds
+  pub byte : (at : ℕ) → byte_at firsts.bytes at ≡ first_some (effect_byte at) finds
+  pub entry : (at : ℕ) → get nat_cmp firsts.entries at ≡ first_some (effect_entry at) finds
+  pub global : (at : ℕ) → global_of firsts at ≡ first_some (effect_global at) finds
 
 -- what is found is taken where nothing was
 pub record IsNextFind (before : Firsts) (find : Effect) (after : Firsts) : Type 0 where
   pub pages : after.pages ≡ option_or before.pages (effect_pages find)
   pub size : after.size ≡ option_or before.size (effect_entries find)
-  pub byte : (at : ℕ) → get nat_cmp after.bytes at ≡ option_or (get nat_cmp before.bytes at) (effect_byte at find)
+  pub byte : (at : ℕ) → byte_at after.bytes at ≡ option_or (byte_at before.bytes at) (effect_byte at find)
   pub entry : (at : ℕ) → get nat_cmp after.entries at
       ≡ option_or (get nat_cmp before.entries at) (effect_entry at find)
   pub global : (at : ℕ) → global_of after at ≡ option_or (global_of before at) (effect_global at find)

@@ -1,21 +1,17 @@
 -- What a reducer has taken: the events of a log so far, of which it holds the tape.
-use Rattle.std.specs.Prelude.{◌≡◌, ℕ, List, [], ◌∷◌, ◌++◌, length, map, Some, None, Bool, true, false, cond, is_none, Result, Ok, Err}
+use Rattle.std.specs.Prelude.{◌≡◌, ℕ, List, [], ◌∷◌, ◌++◌, length, map, Some, Bool, true, false, cond, is_none}
 use Rattle.run_outcomes.specs.declared.outcomes.Outcome.{Outcome}
 use Rattle.run_outcomes.specs.declared.outcomes.Outcome.TheVariants.{Trapped}
 use Rattle.trace_model.specs.declared.balance.Frame.{Frame}
 use Rattle.trace_model.specs.declared.balance.Frame.TheVariants.{Function, Call}
 use Rattle.trace_model.specs.declared.balance.Balance.{Balance}
 use Rattle.trace_model.specs.declared.events.Event.{Event}
-use Rattle.trace_model.specs.declared.events.Log.{Log}
-use Rattle.trace_model.specs.declared.tapes.Tape.{Tape}
-use Rattle.trace_model.specs.Balance.{balance_start, is_function, unbalanced_from, first_unbalanced}
-use Rattle.hook_spec.specs.LogTapes.{Mark, LogFrame, InFunction, InCall, is_at_host, event_marks, size_after, marks_from, outcome_marks, log_marks, IsLogTape}
+use Rattle.trace_model.specs.Balance.{balance_start, is_function, unbalanced_from}
+use Rattle.hook_spec.specs.LogTapes.{Mark, LogFrame, InFunction, InCall, is_at_host, event_marks, size_after, marks_from, outcome_marks, log_marks}
 use Rattle.trace_reduce.specs.Builder.{IsAtHost, IsInWindow, TakesMarks}
 use Rattle.trace_reduce.specs.declared.builder.TapeBuilder.{TapeBuilder}
 use Rattle.trace_reduce.specs.declared.reducer.Progress.{Progress}
 use Rattle.trace_reduce.specs.declared.reducer.Progress.TheVariants.{InOrder, Unbalanced, Lost}
-use Rattle.trace_reduce.specs.declared.reducer.ReduceFault.{ReduceFault}
-use Rattle.trace_reduce.specs.declared.reducer.ReduceFault.TheVariants as faults
 use Rattle.trace_reduce.specs.declared.reducer.Reducer.{Reducer}
 
 -- what is open, as the tape of a log has it
@@ -72,9 +68,12 @@ HasReached Lost reducer taken = Unit {0}
 abbrev pub HasTaken : Reducer → List Event → Type 0
 HasTaken reducer taken = HasReached reducer.progress reducer taken
 
--- how many functions the module of the log imports
+-- how many functions the module of the log imports, and what the tape may weigh at most
 abbrev pub imports_of : Reducer → ℕ
 imports_of reducer = reducer.imports
+
+abbrev pub most_of : Reducer → ℕ
+most_of reducer = reducer.builder.tape.most
 
 -- one more event is taken, after events in order
 abbrev pub TakesEvent : Reducer → Event → Reducer → Type 0
@@ -93,15 +92,10 @@ pub record Tells (old : Reducer) (event : Event) (new : Reducer) : Type 0 where
       → TakesMarks old.builder
       (event_marks old.imports frames (log_frames old.balance.frames) old.size event) new.builder
 
--- what a reducer answers: the tape of the log, or why there is none; out of memory has no cause in the log
-abbrev pub IsReduction : Log → Result Tape ReduceFault → Type 0
-IsReduction log (Ok tape) = (first_unbalanced log ≡ None) × IsLogTape log tape
-IsReduction log (Err (faults.Unbalanced event)) = first_unbalanced log ≡ Some event
-IsReduction log (Err faults.Memory) = Unit {0}
-
 -- a reducer has taken those of a log's events that come before the rest
-pub record IsPart (n : ℕ) (all later : List Event) (reducer : Reducer) : Type 0 where
+pub record IsPart (n most : ℕ) (all later : List Event) (reducer : Reducer) : Type 0 where
   pub taken : List Event
   pub whole : taken ++ later ≡ all
   pub has : HasTaken reducer taken
   pub imports : imports_of reducer ≡ n
+  pub limit : most_of reducer ≡ most

@@ -5,6 +5,7 @@ use Rattle.std.specs.BTreeMap.{IsOrdered}
 use Rattle.wasm_syntax.specs.declared.values.Val.{Val}
 use Rattle.trace_model.specs.declared.tapes.Effect.{Effect}
 use Rattle.trace_model.specs.declared.tapes.Effect.TheVariants.{Grow, Table, Bytes, Entry, Global}
+use Rattle.trace_reduce.specs.ByteGroups.{bytes_of}
 use Rattle.trace_reduce.specs.declared.finds.Firsts.{Firsts}
 
 -- a run as an effect, if it has bytes
@@ -34,7 +35,8 @@ size_effects effect (Some size) = effect size ∷ []
 -- all of it
 abbrev pub firsts_effects : Firsts → List Effect
 firsts_effects firsts =
-    (((size_effects Grow firsts.pages ++ size_effects Table firsts.size) ++ runs_from 0 [] firsts.bytes.entries)
+    (((size_effects Grow firsts.pages ++ size_effects Table firsts.size)
+    ++ runs_from 0 [] (bytes_of firsts.bytes.entries))
     ++ map entry_effect firsts.entries.entries)
     ++ map global_effect firsts.globals.entries
 

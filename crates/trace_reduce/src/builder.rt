@@ -1,17 +1,22 @@
 // A tape in the making: activities of the host begin and end, and the windows after them find what the
 // host changed.
 
-ghost use Rattle.std.specs.Prelude.{◌≡◌, ◌∷◌, ◌++◌, List, [], None, is_none, IfOk, OnOk};
+ghost use Rattle.std.specs.Prelude.{◌≡◌, ◌∷◌, ◌++◌, List, [], None, is_none, OnOk};
 ghost use Rattle.hook_spec.specs.LogTapes.{Mark, Begins, Ends, AreLogSegments};
 ghost use Rattle.run_outcomes.specs.declared.outcomes.Outcome.TheVariants.{Trapped};
 ghost use Rattle.trace_model.specs.declared.tapes.Origin.TheVariants.{Begin};
+ghost use Rattle.trace_model.specs.declared.tapes.Tape.{Tape};
+ghost use Rattle.trace_reduce.specs.Answers.{IsWeighed};
 ghost use Rattle.trace_reduce.specs.Builder.{IsAtHost, IsInWindow, IsClosed, TakesMark, end_marks, mark_of};
 
-use crate::finds::window_effects;
+use crate::faults::ReducerFault;
+use crate::finds::Firsts;
+use crate::limited_tape::LimitedTape;
 use no_memory::NoMemory;
 use run_outcomes::Outcome;
 use std::alloc::Global;
-use trace_model::{Effect, Next, Origin, Segment, Segments, Tape};
+use std::mem;
+use trace_model::{Effect, Next, Origin, Segment, Tape};
 
 /// What an event tells of the host: an activity begins or ends, or the window after it finds a change.
 #[derive(Drop)]
@@ -22,25 +27,26 @@ pub(crate) enum Turn {
 }
 
 /// The segments of the windows that are over; the origin of the last activity, how it left the host if
-/// it has, and what the window after it found.
+/// it has, and what the window after it found first.
 #[derive(Drop)]
 pub(crate) struct TapeBuilder {
-    pub(crate) segments: Vec<Segment>,
+    pub(crate) tape: LimitedTape,
     pub(crate) origin: Origin,
     pub(crate) next: Option<Next>,
-    pub(crate) finds: Vec<Effect>,
+    pub(crate) firsts: Firsts,
 }
 
 impl TapeBuilder {
-    /// The host's first activity begins. Takes no memory.
-    pub(crate) fn new(alloc: Global) -> TapeBuilder
-        ensures { IsAtHost result [] (Begins Begin ∷ []) }
+    /// The host's first activity begins, of a tape that may weigh so much at most. Takes no memory.
+    pub(crate) fn new(alloc: Global, most: u64) -> TapeBuilder
+        ensures begun { IsAtHost result [] (Begins Begin ∷ []) }
+        ensures most { result.tape.most ≡ most }
     {
         TapeBuilder {
-            segments: Vec::new(alloc),
+            tape: LimitedTape::new(alloc, most),
             origin: Origin::Begin,
             next: None,
-            finds: Vec::new(alloc),
+            firsts: Firsts::new(alloc),
         }
     }
 
@@ -54,18 +60,20 @@ impl TapeBuilder {
     /// Takes the segment of the window that is over, if there is one, to the others.
     fn close_window(&mut self) -> Result<(), NoMemory>
         ensures closes { OnOk result ((marks : List Mark) → IsInWindow self.old marks → IsClosed self.new marks) }
-        ensures stays { OnOk result (self.old.next ≡ None → self.new.segments.items ≡ self.old.segments.items) }
+        ensures stays { OnOk result (self.old.next ≡ None → self.new.tape ≡ self.old.tape) }
+        ensures most { self.new.tape.most ≡ self.old.tape.most }
     {
         let Some(next) = self.next.take() else {
             return Ok(());
         };
-        let effects = window_effects(*self.finds.allocator(), &self.finds)?;
-        self.segments.push(Segment {
+        let alloc = *self.tape.segments.allocator();
+        let effects = self.firsts.effects(alloc)?;
+        self.firsts = Firsts::new(alloc);
+        self.tape.push(Segment {
             origin: self.origin,
             effects,
             next,
         })?;
-        self.finds.clear();
         Ok(())
     }
 
@@ -74,7 +82,8 @@ impl TapeBuilder {
     /// # Errors
     /// Where an allocation failed; the tape is lost then.
     pub(crate) fn take(&mut self, turn: Turn) -> Result<(), NoMemory>
-        ensures { OnOk result (TakesMark self.old (mark_of turn) self.new) }
+        ensures mark { OnOk result (TakesMark self.old (mark_of turn) self.new) }
+        ensures most { self.new.tape.most ≡ self.old.tape.most }
     {
         match turn {
             Turn::Begins(origin) => {
@@ -82,29 +91,28 @@ impl TapeBuilder {
                 self.origin = origin;
             }
             Turn::Ends(next) => self.next = Some(next),
-            Turn::Finds(effect) => self.finds.push(effect)?,
+            Turn::Finds(effect) => self.firsts.take(&effect)?,
         }
         Ok(())
     }
 
     /// The tape. An activity that did not leave the host is none of it.
-    fn into_tape(mut self) -> Result<Tape, NoMemory>
-        ensures window { IfOk result (λ tape. (marks : List Mark) → IsInWindow self marks
-            → AreLogSegments marks tape.segments) }
-        ensures host { IfOk result (λ tape. (before marks : List Mark) → IsAtHost self before marks
-            → AreLogSegments before tape.segments) }
+    fn into_tape(mut self) -> Result<Tape, ReducerFault>
+        ensures window { (marks : List Mark) → IsInWindow self marks
+            → IsWeighed (λ (tape : Tape). AreLogSegments marks tape.segments) self.tape.most result }
+        ensures host { (before marks : List Mark) → IsAtHost self before marks
+            → IsWeighed (λ (tape : Tape). AreLogSegments before tape.segments) self.tape.most result }
     {
         self.close_window()?;
-        let TapeBuilder { segments, .. } = self;
-        Ok(Tape {
-            segments: Segments::from_vec(segments),
-        })
+        let TapeBuilder { tape, .. } = self;
+        tape.into_tape()
     }
 
     /// The tape, where the last activity leaves the host so.
-    fn end(mut self, next: Next) -> Result<Tape, NoMemory>
-        ensures { IfOk result (λ tape. (before marks : List Mark) → IsAtHost self before marks
-            → AreLogSegments (marks ++ Ends next ∷ []) tape.segments) }
+    fn end(mut self, next: Next) -> Result<Tape, ReducerFault>
+        ensures { (before marks : List Mark) → IsAtHost self before marks
+            → IsWeighed (λ (tape : Tape). AreLogSegments (marks ++ Ends next ∷ []) tape.segments) self.tape.most
+            result }
     {
         self.take(Turn::Ends(next))?;
         self.into_tape()
@@ -113,12 +121,13 @@ impl TapeBuilder {
     /// The tape of a run that ended so.
     ///
     /// # Errors
-    /// Where an allocation failed.
-    pub(crate) fn finish(self, outcome: Outcome) -> Result<Tape, NoMemory>
-        ensures window { IfOk result (λ tape. (marks : List Mark) → outcome ≡ Trapped → IsInWindow self marks
-            → AreLogSegments marks tape.segments) }
-        ensures host { IfOk result (λ tape. (before marks : List Mark) → IsAtHost self before marks
-            → AreLogSegments (end_marks outcome before marks) tape.segments) }
+    /// What it weighs, where that is more than the most; or where an allocation failed.
+    pub(crate) fn finish(self, outcome: Outcome) -> Result<Tape, ReducerFault>
+        ensures window { (marks : List Mark) → outcome ≡ Trapped → IsInWindow self marks
+            → IsWeighed (λ (tape : Tape). AreLogSegments marks tape.segments) self.tape.most result }
+        ensures host { (before marks : List Mark) → IsAtHost self before marks
+            → IsWeighed (λ (tape : Tape). AreLogSegments (end_marks outcome before marks) tape.segments)
+            self.tape.most result }
     {
         match outcome {
             Outcome::Ended => self.end(Next::End),

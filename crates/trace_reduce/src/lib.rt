@@ -2,11 +2,16 @@
 #![tactic(auto)]
 
 mod builder;
+mod byte_groups;
+pub mod faults;
 mod finds;
+pub mod laws;
+mod limited_tape;
 pub mod logs;
 pub mod reducer;
 mod runs;
 
+pub use faults::{ReduceFault, ReducerFault};
 pub use logs::reduce;
 pub use no_memory::NoMemory;
-pub use reducer::{ReduceFault, Reducer};
+pub use reducer::Reducer;

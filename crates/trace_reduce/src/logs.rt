@@ -2,9 +2,12 @@
 
 ghost use Rattle.std.specs.Prelude.{◌≡◌, ℕ, List, [], ◌∷◌, IfOk, OnOk};
 ghost use Rattle.trace_model.specs.declared.events.Event.{Event};
-ghost use Rattle.trace_reduce.specs.Reducer.{IsPart, IsReduction};
+ghost use Rattle.trace_model.specs.declared.events.Log.{Log};
+ghost use Rattle.trace_reduce.specs.Answers.{IsAnswer, IsReduction};
+ghost use Rattle.trace_reduce.specs.Reducer.{IsPart};
 
-use crate::reducer::{ReduceFault, Reducer};
+use crate::faults::{ReduceFault, ReducerFault};
+use crate::reducer::Reducer;
 use no_memory::NoMemory;
 use std::alloc::Global;
 use trace_model::{Event, Log, Tape};
@@ -41,8 +44,8 @@ fn copy_of(event: &Event) -> Result<Event, NoMemory>
 
 /// Takes the next event of a log.
 fn push_copy(reducer: &mut Reducer, event: &Event) -> Result<(), NoMemory>
-    ensures { OnOk result ((n : ℕ) (all later : List Event) → IsPart n all (event.now ∷ later) reducer.old
-        → IsPart n all later reducer.new) }
+    ensures { OnOk result ((n most : ℕ) (all later : List Event) → IsPart n most all (event.now ∷ later) reducer.old
+        → IsPart n most all later reducer.new) }
 {
     let copy = copy_of(event)?;
     reducer.push(copy)
@@ -50,13 +53,24 @@ fn push_copy(reducer: &mut Reducer, event: &Event) -> Result<(), NoMemory>
 
 /// Takes the rest of a log's events.
 fn push_all(reducer: &mut Reducer, events: &[Event]) -> Result<(), NoMemory>
-    ensures { OnOk result ((n : ℕ) (all : List Event) → IsPart n all events.now reducer.old
-        → IsPart n all [] reducer.new) }
+    ensures { OnOk result ((n most : ℕ) (all : List Event) → IsPart n most all events.now reducer.old
+        → IsPart n most all [] reducer.new) }
 {
     'events: for event in events {
         push_copy(reducer, event)?;
     }
     Ok(())
+}
+
+/// What is answered where the tape may weigh anything that a memory holds.
+fn of_any_weight(answer: Result<Tape, ReducerFault>) -> Result<Tape, ReduceFault>
+    ensures { (most : ℕ) (log : Log) → IsAnswer most log answer → IsReduction log result }
+{
+    match answer {
+        Ok(tape) => Ok(tape),
+        Err(ReducerFault::Unbalanced { event }) => Err(ReduceFault::Unbalanced { event }),
+        Err(_) => Err(ReduceFault::Memory),
+    }
 }
 
 /// The tape of a log: what its host did, as far as the module observed it.
@@ -66,7 +80,7 @@ fn push_all(reducer: &mut Reducer, events: &[Event]) -> Result<(), NoMemory>
 pub fn reduce(alloc: Global, log: &Log) -> Result<Tape, ReduceFault>
     ensures { IsReduction log.now result }
 {
-    let mut reducer = Reducer::new(alloc, log.imports);
+    let mut reducer = Reducer::new(alloc, log.imports, u64::MAX);
     push_all(&mut reducer, log.events.as_slice())?;
-    reducer.finish(log.outcome)
+    of_any_weight(reducer.finish(log.outcome))
 }

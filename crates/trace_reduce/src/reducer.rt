@@ -4,39 +4,18 @@ ghost use Rattle.std.specs.Prelude.{◌≡◌, ◌+◌, ◌∷◌, List, [], Som
 ghost use Rattle.hook_spec.specs.LogTapes.{LogFrame, event_marks, import_marks, is_at_host};
 ghost use Rattle.trace_model.specs.Balance.{balanced_step};
 ghost use Rattle.trace_model.specs.Sink.{TookAlso};
+ghost use Rattle.trace_reduce.specs.Answers.{IsAnswer};
 ghost use Rattle.trace_reduce.specs.Builder.{TakesMarks, turn_marks};
-ghost use Rattle.trace_reduce.specs.Reducer.{HasTaken, IsReduction, TakesEvent, Tells, imports_of, log_frames};
+ghost use Rattle.trace_reduce.specs.Reducer.{HasTaken, TakesEvent, Tells, imports_of, log_frames, most_of};
 ghost use Rattle.trace_reduce.specs.declared.reducer.Progress.TheVariants.{InOrder};
 
 use crate::builder::{TapeBuilder, Turn};
+use crate::faults::ReducerFault;
 use no_memory::NoMemory;
 use run_outcomes::Outcome;
 use std::alloc::Global;
-use thiserror::Error;
 use trace_model::balance::Frames;
 use trace_model::{Balance, Effect, Event, EventSink, Next, Origin, Tape};
-
-/// Why there is no tape, or nothing is known of it.
-#[derive(Clone, Copy, PartialEq, Eq, Debug, Error)]
-pub enum ReduceFault {
-    /// The first event that is out of order; the number of events where only the outcome is.
-    #[error("unbalanced: event {event}")]
-    Unbalanced { event: u64 },
-    /// Out of memory.
-    #[error("out of memory")]
-    Memory,
-}
-
-impl From<NoMemory> for ReduceFault {
-    ghost from_gives = { λ _ fault. fault ≡ Memory };
-
-    ghost use Rattle.std.specs.Prelude.{◌≡◌};
-    ghost use Rattle.trace_reduce.specs.declared.reducer.ReduceFault.TheVariants.{Memory};
-
-    fn from(_refused: NoMemory) -> ReduceFault {
-        ReduceFault::Memory
-    }
-}
 
 /// Whether all events so far are in order, or which is the first that is not; or memory was out.
 #[derive(Clone, Copy)]
@@ -95,15 +74,17 @@ fn turn_of(event: Event, imports: u32, was_at_host: bool, at_host: bool, size: u
 }
 
 impl Reducer {
-    /// Has taken no event, of the log of a module with so many imported functions. Takes no memory.
-    pub fn new(alloc: Global, imports: u32) -> Reducer
+    /// Has taken no event, of the log of a module with so many imported functions, whose tape may weigh
+    /// so much at most. Takes no memory.
+    pub fn new(alloc: Global, imports: u32, most: u64) -> Reducer
         ensures taken { HasTaken result [] }
         ensures imports { imports_of result ≡ imports }
+        ensures most { most_of result ≡ most }
     {
         Reducer {
             imports,
             balance: Balance::new(alloc),
-            builder: TapeBuilder::new(alloc),
+            builder: TapeBuilder::new(alloc, most),
             size: 0,
             count: 0,
             progress: Progress::InOrder,
@@ -125,6 +106,7 @@ impl Reducer {
         ensures ok { OnOk result (TookAlso HasTaken self.old self.new (event ∷ [])) }
         ensures refused { OnErr result (TookAlso HasTaken self.old self.new []) }
         ensures imports { imports_of self.new ≡ imports_of self.old }
+        ensures most { most_of self.new ≡ most_of self.old }
     {
         match self.progress {
             Progress::InOrder => {}
@@ -142,6 +124,7 @@ impl Reducer {
     fn step(&mut self, event: Event) -> Result<(), NoMemory>
         ensures takes { OnOk result (self.old.progress ≡ InOrder → TakesEvent self.old event self.new) }
         ensures imports { self.new.imports ≡ self.old.imports }
+        ensures most { most_of self.new ≡ most_of self.old }
     {
         // No run is as long.
         if self.count == u64::MAX {
@@ -159,6 +142,7 @@ impl Reducer {
     fn tell(&mut self, event: Event) -> Result<(), NoMemory>
         ensures tells { OnOk result (Tells self.old event self.new) }
         ensures imports { self.new.imports ≡ self.old.imports }
+        ensures most { most_of self.new ≡ most_of self.old }
     {
         let size = self.size;
         if let Event::Grow { pages } = &event {
@@ -181,21 +165,23 @@ impl Reducer {
     /// The tape of the log of the events, whose run ended so.
     ///
     /// # Errors
-    /// The first event that is out of order, or the outcome; or where an allocation failed.
-    pub fn finish(self, outcome: Outcome) -> Result<Tape, ReduceFault>
+    /// The first event that is out of order, or the outcome; what the tape weighs, where that is more than
+    /// the most; or where an allocation failed.
+    pub fn finish(self, outcome: Outcome) -> Result<Tape, ReducerFault>
         ensures { (taken : List Event) → HasTaken self taken
-            → IsReduction (record { imports = imports_of self; events = taken; outcome = outcome }) result }
+            → IsAnswer (most_of self) (record { imports = imports_of self; events = taken; outcome = outcome })
+            result }
     {
         match self.progress {
             Progress::InOrder => {}
-            Progress::Unbalanced(event) => return Err(ReduceFault::Unbalanced { event }),
-            Progress::Lost => return Err(ReduceFault::Memory),
+            Progress::Unbalanced(event) => return Err(ReducerFault::Unbalanced { event }),
+            Progress::Lost => return Err(ReducerFault::Memory),
         }
         if !self.balance.ends_so(self.imports, outcome) {
-            return Err(ReduceFault::Unbalanced { event: self.count });
+            return Err(ReducerFault::Unbalanced { event: self.count });
         }
         let Reducer { builder, .. } = self;
-        Ok(builder.finish(outcome)?)
+        builder.finish(outcome)
     }
 }
 

@@ -1,10 +1,13 @@
 // Effects in order, of what is found first.
 
-ghost use Rattle.std.specs.Prelude.{◌≡◌, ◌∷◌, List, ℕ, [], ◌++◌, map, IfOk, OnOk};
+ghost use Rattle.std.specs.Prelude.{◌≡◌, ◌+◌, ◌*◌, ◌^◌, ◌<◌, ◌∷◌, List, Option, ℕ, [], ◌++◌, length, map, take, IfOk, OnOk};
 ghost use Rattle.std.specs.Ordering.{nat_cmp};
 ghost use Rattle.std.specs.BTreeMap.{IsOrdered};
+ghost use Rattle.trace_reduce.specs.ByteGroups.{bytes_of, slot_bytes};
+ghost use Rattle.trace_reduce.specs.declared.byte_groups.TheConstants.{GROUP};
 ghost use Rattle.trace_reduce.specs.Runs.{runs_from, entry_effect, global_effect, firsts_effects, AreSorted};
 
+use crate::byte_groups::{GROUP, Groups, Slots};
 use crate::finds::Firsts;
 use no_memory::NoMemory;
 use std::alloc::Global;
@@ -13,7 +16,7 @@ use std::mem;
 use trace_model::{Effect, Effects};
 use wasm_syntax::{Bytes, Val};
 
-/// Effects, and behind them the run of bytes that still grows.
+/// Effects, and after them the run of bytes that still grows.
 #[derive(Drop)]
 pub(crate) struct Runs {
     pub(crate) effects: Vec<Effect>,
@@ -56,24 +59,64 @@ impl Runs {
         self.run.push(byte)?;
         Ok(())
     }
+
+    /// Takes what a slot for an address holds.
+    fn put_slot(&mut self, alloc: Global, at: u64, slot: Option<u8>) -> Result<(), NoMemory>
+        ensures { OnOk result ((slots : List (Option ℕ)) (later : List (ℕ × ℕ))
+            → self.old.effects.items
+            ++ runs_from self.old.start self.old.run.items (slot_bytes at (slot ∷ slots) ++ later)
+            ≡ self.new.effects.items
+            ++ runs_from self.new.start self.new.run.items (slot_bytes (at + 1) slots ++ later)) }
+    {
+        match slot {
+            Some(byte) => self.put(alloc, at, byte),
+            None => Ok(()),
+        }
+    }
+}
+
+/// Takes the bytes of slots that stand from an address on.
+fn put_slots(
+    runs: &mut Runs,
+    alloc: Global,
+    start: u64,
+    slots: &[Option<u8>],
+) -> Result<(), NoMemory>
+    requires within { start + length slots.now < 2 ^ 64 }
+    ensures { OnOk result ((later : List (ℕ × ℕ))
+        → runs.old.effects.items ++ runs_from runs.old.start runs.old.run.items (slot_bytes start slots.now ++ later)
+        ≡ runs.new.effects.items ++ runs_from runs.new.start runs.new.run.items later) }
+{
+    let mut at = start;
+    'slots: for slot in slots {
+        runs.put_slot(alloc, at, *slot)?;
+        at += 1;
+    }
+    Ok(())
+}
+
+/// Takes the bytes of a group.
+fn put_group(runs: &mut Runs, alloc: Global, number: u32, slots: &Slots) -> Result<(), NoMemory>
+    ensures { OnOk result ((later : List (ℕ × ℕ))
+        → runs.old.effects.items ++ runs_from runs.old.start runs.old.run.items
+        (slot_bytes (number * GROUP) (take GROUP slots.now) ++ later)
+        ≡ runs.new.effects.items ++ runs_from runs.new.start runs.new.run.items later) }
+{
+    put_slots(runs, alloc, number as u64 * GROUP, &slots[..])
 }
 
 /// Appends bytes in longest runs.
-fn put_bytes(
-    alloc: Global,
-    effects: Vec<Effect>,
-    bytes: &BTreeMap<u64, u8>,
-) -> Result<Vec<Effect>, NoMemory>
-    ensures runs { IfOk result (λ all. all.items ≡ effects.items ++ runs_from 0 [] bytes.now.entries) }
-    ensures ordered { IsOrdered nat_cmp bytes.now }
+fn put_bytes(alloc: Global, effects: Vec<Effect>, groups: &Groups) -> Result<Vec<Effect>, NoMemory>
+    ensures runs { IfOk result (λ all. all.items ≡ effects.items ++ runs_from 0 [] (bytes_of groups.now.entries)) }
+    ensures ordered { IsOrdered nat_cmp groups.now }
 {
     let mut runs = Runs {
         effects,
         start: 0,
         run: Vec::new(alloc),
     };
-    'bytes: for (at, byte) in bytes {
-        runs.put(alloc, *at, *byte)?;
+    'groups: for (number, slots) in groups {
+        put_group(&mut runs, alloc, *number, slots)?;
     }
     runs.close(alloc)?;
     let Runs { effects, .. } = runs;

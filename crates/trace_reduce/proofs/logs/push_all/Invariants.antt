@@ -5,5 +5,5 @@ use Rattle.trace_reduce.proofs.logs.push_all.Given as goal
 
 abbrev pub invariant-events : goal.invariant-events
 invariant-events l =
-    (n : ℕ) (all : List Event) → IsPart n all l.events l.initial.reducer
-    → IsPart n all (drop l.event-index l.events) l.reducer
+    (n most : ℕ) (all : List Event) → IsPart n most all l.events l.initial.reducer
+    → IsPart n most all (drop l.event-index l.events) l.reducer

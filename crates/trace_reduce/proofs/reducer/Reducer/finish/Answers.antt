@@ -1,5 +1,6 @@
 use Rattle.std.proofs.Common.{rules, ◌≡◌, true, false}
 use Rattle.trace_model.specs.Balance.{ends_so}
+use Rattle.trace_reduce.specs.Reducer.{most_of}
 use Rattle.trace_reduce.proofs.Taken.{unbalanced_answer, wrong_answer, tape_answer}
 use Rattle.trace_reduce.proofs.reducer.Reducer.finish.Goals as goal
 
@@ -15,5 +16,5 @@ returns-then-not-ends_so c =
 pub returns : goal.returns
 returns c =
     let right : ends_so c.args.self.imports c.args.self.balance c.args.outcome ≡ true = search rules in
-    λ taken h. tape_answer c.args.self taken c.args.outcome c.in_ok-finish.field-0.segments c.in-InOrder.is right
-    c.in_ok-finish.ensures.window c.in_ok-finish.ensures.host h
+    λ taken h. tape_answer c.args.self taken c.args.outcome (most_of c.args.self) c.finish.result c.in-InOrder.is right
+    c.finish.ensures.window c.finish.ensures.host h

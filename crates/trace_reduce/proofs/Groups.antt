@@ -1,0 +1,310 @@
+-- Bytes in groups: what one more group takes, and the bytes of all by their addresses.
+use Rattle.std.proofs.Common.{BTreeMap, ◌≡◌, ℕ, suc, zero, ◌+◌, ◌-◌, ◌*◌, ◌/◌, ◌%◌, ◌≤◌, ◌<◌, List, [], ◌∷◌, ◌++◌, length, drop, min, take, Option, Some, None, Bool, true, false, cond, nat_eq, nat_le, nat_lt, slice_get, unwrap_or, refl, sym, ap, ◌∙◌, subst, arith}
+use Rattle.std.specs.Option.{option_flatten, option_or}
+use Rattle.std.specs.Ordering.{nat_cmp}
+use Rattle.std.specs.BTreeMap.{get}
+use Rattle.std.proofs.lemmas.Bool.Decides.{nat_tests}
+use Rattle.std.proofs.lemmas.Option.{slice_get_past}
+use Rattle.std.proofs.lemmas.List.{length-append, length-take, take-append-drop}
+use Rattle.list_laws.proofs.Lists.{get_front, get_after_by}
+use Rattle.replay_spec.specs.Known.{byte_among}
+use Rattle.trace_reduce.specs.declared.byte_groups.TheConstants.{GROUP}
+use Rattle.trace_reduce.specs.ByteGroups.{TakesFront, slot_at, slots_of, byte_at, slot_bytes, bytes_of}
+use Rattle.trace_reduce.proofs.Firsts.{or_assoc, or_none}
+use Rattle.trace_reduce.proofs.Bytes.{at_key, Ascend, looked_up, none_below}
+
+-- ---- bytes among others
+
+among_within : (start : ℕ) (run : List ℕ) (at : ℕ) → nat_le start at ≡ true
+    → byte_among start run at ≡ slice_get run (at - start)
+among_within start run at h = ap (λ b. cond b (slice_get run (at - start)) None) h
+
+among_before : (start : ℕ) (run : List ℕ) (at : ℕ) → nat_le start at ≡ false → byte_among start run at ≡ None
+among_before start run at h = ap (λ b. cond b (slice_get run (at - start)) None) h
+
+pub among_append : (start : ℕ) (front later : List ℕ) (at : ℕ)
+    → byte_among start (front ++ later) at
+    ≡ option_or (byte_among start front at) (byte_among (start + length front) later at)
+among_append start front later at = go (nat_le start at) refl (nat_le (start + length front) at) refl
+  where
+    go : (b : Bool) → nat_le start at ≡ b → (c : Bool) → nat_le (start + length front) at ≡ c
+        → byte_among start (front ++ later) at
+        ≡ option_or (byte_among start front at) (byte_among (start + length front) later at)
+    go true from true past =
+        let place : at - start ≡ length front + (at - (start + length front)) = grind (arith, nat_tests, from, past) in
+        let none : slice_get front (at - start) ≡ None = slice_get_past front (at - start) (omega (arith, place)) in
+        among_within start (front ++ later) at from
+        ∙ get_after_by front later (at - start) (at - (start + length front)) place
+        ∙ sym (ap (λ o. option_or o (byte_among (start + length front) later at)) (among_within start front at from ∙ none)
+        ∙ among_within (start + length front) later at past)
+    go true from false before =
+        let less : at - start < length front = grind (arith, nat_tests, from, before) in
+        among_within start (front ++ later) at from
+        ∙ get_front front later (at - start) less
+        ∙ sym (ap (option_or (byte_among start front at)) (among_before (start + length front) later at before)
+        ∙ or_none (byte_among start front at)
+        ∙ among_within start front at from)
+    go false before true past = absurd (grind (arith, nat_tests, before, past))
+    go false before false past =
+        among_before start (front ++ later) at before
+        ∙ sym (ap (λ o. option_or o (byte_among (start + length front) later at)) (among_before start front at before)
+        ∙ among_before (start + length front) later at past)
+
+among_past : (start : ℕ) (run : List ℕ) (at : ℕ) → start + length run ≤ at → byte_among start run at ≡ None
+among_past start run at past =
+    let from : nat_le start at ≡ true = grind (arith, nat_tests, past) in
+    among_within start run at from ∙ slice_get_past run (at - start) (omega (arith, past))
+
+among_under : (start : ℕ) (run : List ℕ) (at : ℕ) → at < start → byte_among start run at ≡ None
+among_under start run at less =
+    among_before start run at (grind (arith, nat_tests, less))
+
+-- the same from another place
+among_moved : (by start : ℕ) (run : List ℕ) (at : ℕ)
+    → byte_among (by + start) run (by + at) ≡ byte_among start run at
+among_moved by start run at =
+    let test : nat_le (by + start) (by + at) ≡ nat_le start at = grind (arith, nat_tests) in
+    let place : (by + at) - (by + start) ≡ at - start = omega arith in
+    (λ i. cond (test i) (slice_get run (place i)) None)
+
+-- ---- one group
+
+-- the bytes of one group are taken
+pub group_taken : (old new : BTreeMap ℕ (List (Option ℕ))) (at : ℕ) (front : List ℕ)
+    → at % GROUP + length front ≤ GROUP
+    → ((place : ℕ) → slot_at (slots_of new (at / GROUP)) place
+    ≡ option_or (slot_at (slots_of old (at / GROUP)) place) (byte_among (at % GROUP) front place))
+    → ((q : ℕ) → nat_eq (at / GROUP) q ≡ false → get nat_cmp new q ≡ get nat_cmp old q)
+    → (q : ℕ) → byte_at new q ≡ option_or (byte_at old q) (byte_among at front q)
+group_taken old new at front within here others q = go (nat_eq (at / GROUP) (q / GROUP)) refl
+  where
+    go : (b : Bool) → nat_eq (at / GROUP) (q / GROUP) ≡ b
+        → byte_at new q ≡ option_or (byte_at old q) (byte_among at front q)
+    go true same =
+        let group : at / GROUP ≡ q / GROUP = grind (arith, nat_tests, same) in
+        let from : at ≡ GROUP * (at / GROUP) + at % GROUP = omega arith in
+        let place : q ≡ GROUP * (at / GROUP) + q % GROUP = omega (arith, group) in
+        subst
+        (λ n. slot_at (slots_of new n) (q % GROUP)
+        ≡ option_or (slot_at (slots_of old n) (q % GROUP)) (byte_among (at % GROUP) front (q % GROUP)))
+        group (here (q % GROUP))
+        ∙ ap (option_or (byte_at old q))
+        (sym ((λ i. byte_among (from i) front (place i))
+        ∙ among_moved (GROUP * (at / GROUP)) (at % GROUP) front (q % GROUP)))
+    go false apart =
+        ap (λ kept. slot_at (unwrap_or kept []) (q % GROUP)) (others (q / GROUP) apart)
+        ∙ sym (ap (option_or (byte_at old q)) (outside (nat_lt q at) refl) ∙ or_none (byte_at old q))
+      where
+        outside : (b : Bool) → nat_lt q at ≡ b → byte_among at front q ≡ None
+        outside true less = among_under at front q (grind (arith, nat_tests, less))
+        outside false past =
+            let after : at ≤ q = grind (arith, nat_tests, past) in
+            let other : at / GROUP ≡ q / GROUP → ⊥ = grind (arith, nat_tests, apart) in
+            among_past at front q (beyond after other)
+          where
+            beyond : at ≤ q → (at / GROUP ≡ q / GROUP → ⊥) → at + length front ≤ q
+            beyond after other = omega (arith, after, other, within)
+
+-- ---- the bytes of all groups
+
+one_on : (start n : ℕ) → start + suc n ≡ start + 1 + n
+one_on start n = omega arith
+
+next : (n : ℕ) → n + 1 ≡ suc n
+next n = omega arith
+
+lower : {X : Type 0} (low high : ℕ) (entries : List (ℕ × X)) → low ≤ high → Ascend high entries → Ascend low entries
+lower low high [] le h = tt
+lower low high (entry ∷ entries) le h = (omega (arith, le, h.0), h.1)
+
+slots_ascend : (start : ℕ) (slots : List (Option ℕ)) (rest : List (ℕ × ℕ)) → Ascend (start + length slots) rest
+    → Ascend start (slot_bytes start slots ++ rest)
+slots_ascend start [] rest h = lower start (start + length {A = Option ℕ} []) rest (omega arith) h
+slots_ascend start (None ∷ slots) rest h =
+    lower start (start + 1) (slot_bytes (start + 1) slots ++ rest) (omega arith)
+    (slots_ascend (start + 1) slots rest (subst (λ n. Ascend n rest) (one_on start (length slots)) h))
+slots_ascend start (Some byte ∷ slots) rest h = (
+  omega arith,
+  subst (λ n. Ascend n (slot_bytes (start + 1) slots ++ rest)) (next start)
+      (slots_ascend (start + 1) slots rest (subst (λ n. Ascend n rest) (one_on start (length slots)) h)),
+)
+
+few : (slots : List (Option ℕ)) → length (take GROUP slots) ≤ GROUP
+few slots = grind (arith, length-take GROUP slots)
+
+pub bytes_ascend : (low : ℕ) (groups : List (ℕ × List (Option ℕ))) → Ascend low groups
+    → Ascend (low * GROUP) (bytes_of groups)
+bytes_ascend low [] h = tt
+bytes_ascend low (group ∷ groups) h =
+    lower (low * GROUP) (group.0 * GROUP) (bytes_of (group ∷ groups)) (omega (arith, h.0))
+    (slots_ascend (group.0 * GROUP) (take GROUP group.1) (bytes_of groups)
+    (lower (group.0 * GROUP + length (take GROUP group.1)) (suc group.0 * GROUP) (bytes_of groups)
+    (omega (arith, few group.1)) (bytes_ascend (suc group.0) groups h.1)))
+
+-- the byte that slots have at a place of theirs
+slot_there : (start : ℕ) (slots : List (Option ℕ)) (rest : List (ℕ × ℕ)) (place : ℕ)
+    → Ascend (start + length slots) rest
+    → at_key (slot_bytes start slots ++ rest) (start + place)
+    ≡ option_or (slot_at slots place) (at_key rest (start + place))
+slot_there start [] rest place h = refl
+slot_there start (None ∷ slots) rest zero h =
+    let further : Ascend (start + 1 + length slots) rest = subst (λ n. Ascend n rest) (one_on start (length slots)) h in
+    none_below (start + 1) (slot_bytes (start + 1) slots ++ rest) (start + 0)
+    (slots_ascend (start + 1) slots rest further) (omega arith)
+    ∙ sym (none_below (start + suc (length slots)) rest (start + 0) h (omega arith))
+slot_there start (Some byte ∷ slots) rest zero h =
+    let same : nat_eq start (start + 0) ≡ true = grind (arith, nat_tests) in
+    ap (λ b. cond b (Some byte) (at_key (slot_bytes (start + 1) slots ++ rest) (start + 0))) same
+slot_there start (None ∷ slots) rest (suc place) h =
+    let further : Ascend (start + 1 + length slots) rest = subst (λ n. Ascend n rest) (one_on start (length slots)) h in
+    let at : start + suc place ≡ start + 1 + place = one_on start place in
+    ap (at_key (slot_bytes (start + 1) slots ++ rest)) at
+    ∙ slot_there (start + 1) slots rest place further
+    ∙ ap (λ q. option_or (slot_at slots place) (at_key rest q)) (sym at)
+slot_there start (Some byte ∷ slots) rest (suc place) h =
+    let further : Ascend (start + 1 + length slots) rest = subst (λ n. Ascend n rest) (one_on start (length slots)) h in
+    let at : start + suc place ≡ start + 1 + place = one_on start place in
+    let apart : nat_eq start (start + suc place) ≡ false = grind (arith, nat_tests) in
+    ap (λ b. cond b (Some byte) (at_key (slot_bytes (start + 1) slots ++ rest) (start + suc place))) apart
+    ∙ ap (at_key (slot_bytes (start + 1) slots ++ rest)) at
+    ∙ slot_there (start + 1) slots rest place further
+    ∙ ap (λ q. option_or (slot_at slots place) (at_key rest q)) (sym at)
+
+taken_slot : (slots : List (Option ℕ)) (place : ℕ) → place < GROUP → slot_at (take GROUP slots) place ≡ slot_at slots place
+taken_slot slots place less = ap option_flatten (taken GROUP slots place less)
+  where
+    taken : (n : ℕ) (xs : List (Option ℕ)) (i : ℕ) → i < n → slice_get (take n xs) i ≡ slice_get xs i
+    taken zero xs i less = absurd (omega (arith, less))
+    taken (suc n) [] i less = refl
+    taken (suc n) (x ∷ xs) zero less = refl
+    taken (suc n) (x ∷ xs) (suc i) less = taken n xs i (omega (arith, less))
+
+no_slot : (slots : List (Option ℕ)) (place : ℕ) → GROUP ≤ place → slot_at (take GROUP slots) place ≡ None
+no_slot slots place past =
+    ap option_flatten (slice_get_past (take GROUP slots) place (omega (arith, few slots, past)))
+
+bytes_key : (low : ℕ) (groups : List (ℕ × List (Option ℕ))) (at : ℕ) → Ascend low groups
+    → at_key (bytes_of groups) at ≡ slot_at (unwrap_or (at_key groups (at / GROUP)) []) (at % GROUP)
+bytes_key low [] at h = refl
+bytes_key low (group ∷ groups) at h =
+    go (bytes_key (suc group.0) groups at h.1) (nat_lt at (group.0 * GROUP)) refl (nat_eq group.0 (at / GROUP)) refl
+  where
+    start : ℕ
+    start = group.0 * GROUP
+
+    slots : List (Option ℕ)
+    slots = take GROUP group.1
+
+    after : Ascend (start + length slots) (bytes_of groups)
+    after =
+        lower (start + length slots) (suc group.0 * GROUP) (bytes_of groups) (omega (arith, few group.1))
+        (bytes_ascend (suc group.0) groups h.1)
+
+    there : start ≤ at → at_key (bytes_of (group ∷ groups)) at
+        ≡ option_or (slot_at slots (at - start)) (at_key (bytes_of groups) at)
+    there from =
+        let e : start + (at - start) ≡ at = omega (arith, from) in
+        subst
+        (λ q. at_key (bytes_of (group ∷ groups)) q ≡ option_or (slot_at slots (at - start)) (at_key (bytes_of groups) q))
+        e (slot_there start slots (bytes_of groups) (at - start) after)
+
+    go : at_key (bytes_of groups) at ≡ slot_at (unwrap_or (at_key groups (at / GROUP)) []) (at % GROUP)
+        → (b : Bool) → nat_lt at (group.0 * GROUP) ≡ b → (c : Bool) → nat_eq group.0 (at / GROUP) ≡ c
+        → at_key (bytes_of (group ∷ groups)) at
+        ≡ slot_at (unwrap_or (cond (nat_eq group.0 (at / GROUP)) (Some group.1) (at_key groups (at / GROUP))) [])
+        (at % GROUP)
+    go later true less true same = absurd (grind (arith, nat_tests, less, same))
+    go later true less false apart =
+        let under : at < start = grind (arith, nat_tests, less) in
+        none_below start (bytes_of (group ∷ groups)) at (slots_ascend start slots (bytes_of groups) after) under
+        ∙ sym (none_below (start + length slots) (bytes_of groups) at after (omega (arith, under)))
+        ∙ later
+        ∙ sym (ap (λ b. slot_at (unwrap_or (cond b (Some group.1) (at_key groups (at / GROUP))) []) (at % GROUP)) apart)
+    go later false from true same =
+        let number : group.0 ≡ at / GROUP = grind (arith, nat_tests, same) in
+        let low : start ≤ at = grind (arith, nat_tests, from) in
+        let place : at - start ≡ at % GROUP = omega (arith, number) in
+        let small : at % GROUP < GROUP = omega arith in
+        let none : at_key groups (at / GROUP) ≡ None =
+        none_below (suc group.0) groups (at / GROUP) h.1 (omega (arith, number)) in
+        there low
+        ∙ ap (option_or (slot_at slots (at - start))) (later ∙ ap (λ o. slot_at (unwrap_or o []) (at % GROUP)) none)
+        ∙ or_none (slot_at slots (at - start))
+        ∙ ap (slot_at slots) place
+        ∙ taken_slot group.1 (at % GROUP) small
+        ∙ sym (ap (λ b. slot_at (unwrap_or (cond b (Some group.1) (at_key groups (at / GROUP))) []) (at % GROUP)) same)
+    go later false from false apart =
+        let low : start ≤ at = grind (arith, nat_tests, from) in
+        let other : group.0 ≡ at / GROUP → ⊥ = grind (arith, nat_tests, apart) in
+        let past : GROUP ≤ at - start = omega (arith, low, other) in
+        there low
+        ∙ ap (λ o. option_or o (at_key (bytes_of groups) at)) (no_slot group.1 (at - start) past)
+        ∙ later
+        ∙ sym (ap (λ b. slot_at (unwrap_or (cond b (Some group.1) (at_key groups (at / GROUP))) []) (at % GROUP)) apart)
+
+pub byte_looked_up : (groups : BTreeMap ℕ (List (Option ℕ))) (at : ℕ) → Ascend 0 groups.entries
+    → at_key (bytes_of groups.entries) at ≡ byte_at groups at
+byte_looked_up groups at h =
+    bytes_key 0 groups.entries at h
+    ∙ ap (λ o. slot_at (unwrap_or o []) (at % GROUP)) (sym (looked_up groups.entries (at / GROUP)))
+
+-- ---- all of some bytes
+
+-- the front of what is still to come is taken
+pub front_taken : (old new : BTreeMap ℕ (List (Option ℕ))) (at on : ℕ) (left later : List ℕ) → TakesFront old at left new later
+    → on ≡ at + (length left - length later)
+    → (q : ℕ) → option_or (byte_at new q) (byte_among on later q) ≡ option_or (byte_at old q) (byte_among at left q)
+front_taken old new at on left later t moved q =
+    let many : length left ≡ length t.front + length later = ap length t.parts ∙ length-append t.front later in
+    let place : on ≡ at + length t.front = moved ∙ omega (arith, many) in
+    (λ i. option_or (t.byte q i) (byte_among (place i) later q))
+    ∙ or_assoc (byte_at old q) (byte_among at t.front q) (byte_among (at + length t.front) later q)
+    ∙ ap (option_or (byte_at old q)) (sym (among_append at t.front later q))
+    ∙ ap (λ bytes. option_or (byte_at old q) (byte_among at bytes q)) (sym t.parts)
+
+-- nothing is still to come
+pub none_left : (o : Option ℕ) (at q : ℕ) (left : List ℕ) → left ≡ [] → option_or o (byte_among at left q) ≡ o
+none_left o at q left is =
+    ap (λ bytes. option_or o (byte_among at bytes q)) is
+    ∙ ap (option_or o) (same_either (nat_le at q) None)
+    ∙ or_none o
+  where
+    same_either : {X : Type 0} (b : Bool) (x : X) → cond b x x ≡ x
+    same_either true x = refl
+    same_either false x = refl
+
+pub front_is : (old new : BTreeMap ℕ (List (Option ℕ))) (at number from count : ℕ) (bytes front later : List ℕ)
+    → number ≡ at / GROUP → from ≡ at % GROUP → count ≡ min (length bytes) (GROUP - from) → front ≡ take count bytes
+    → later ≡ drop count bytes → length front ≡ count
+    → ((place : ℕ) → slot_at (slots_of new number) place
+    ≡ option_or (slot_at (slots_of old number) place) (byte_among from front place))
+    → ((q : ℕ) → nat_eq number q ≡ false → get nat_cmp new q ≡ get nat_cmp old q)
+    → TakesFront old at bytes new later
+front_is old new at number from count bytes front later group place many first rest long here others =
+    record {
+      front = front;
+      parts = whole;
+      fewer = λ some. fewer_left some (ap length whole ∙ length-append front later);
+      byte =
+          group_taken old new at front
+          (subst (λ n. n + length front ≤ GROUP) place fits)
+          (λ q. subst
+          (λ n. slot_at (slots_of new n) q ≡ option_or (slot_at (slots_of old n) q) (byte_among (at % GROUP) front q))
+          group
+          (subst
+          (λ n. slot_at (slots_of new number) q ≡ option_or (slot_at (slots_of old number) q) (byte_among n front q))
+          place (here q)))
+          (λ q apart. others q (subst (λ n. nat_eq n q ≡ false) (sym group) apart));
+    }
+  where
+    whole : bytes ≡ front ++ later
+    whole = sym ((λ i. first i ++ rest i) ∙ take-append-drop count bytes)
+
+    small : from < GROUP
+    small = omega (arith, place)
+
+    fits : from + length front ≤ GROUP
+    fits = grind (arith, small, many, long)
+
+    fewer_left : 0 < length bytes → length bytes ≡ length front + length later → length later < length bytes
+    fewer_left some parts = grind (arith, some, parts, small, many, long)
