@@ -1,1 +1,1 @@
-mod OneShown
+pub mod OneShown

@@ -4,4 +4,4 @@
 mod shown;
 
 pub use r3_faults::Fault;
-pub use shown::show;
+pub use shown::{fault_of, show};

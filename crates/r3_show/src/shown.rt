@@ -71,8 +71,8 @@ fn log_lines(alloc: Global, trace: &[u8]) -> Result<Vec<u8>, Fault>
     }
 }
 
-/// The fault for a cause.
-fn fault_of(cause: FormatFault) -> Fault
+/// The fault that names why a file is refused.
+pub fn fault_of(cause: FormatFault) -> Fault
     ensures { result ≡ fault_of cause }
 {
     match cause {
