@@ -1,0 +1,45 @@
+-- What the log of a file is reduced to, and why it is not.
+use Rattle.std.specs.Prelude.{◌≡◌, ◌⊎◌, ℕ, List, Some, false}
+use Rattle.trace_model.specs.Balance.{IsBalanced, first_unbalanced}
+use Rattle.trace_model.specs.declared.events.Log.{Log}
+use Rattle.trace_model.specs.declared.tapes.Tape.{Tape}
+use Rattle.trace_bytes.specs.declared.tags.TheConstants.{VERSION_2}
+use Rattle.trace_bytes.specs.Spelled.{SpellsTape}
+use Rattle.trace_format.specs.Faults.{IsLogOf}
+use Rattle.hook_spec.specs.LogTapes.{IsLogTape}
+use Rattle.r3_faults.specs.declared.faults.Fault.{Fault}
+use Rattle.r3_faults.specs.declared.faults.Fault.TheVariants.{Unbalanced}
+use Rattle.r3_show.specs.Shown.{IsUnshownAs}
+
+-- a file, in the second version, of the tape of a balanced log, with a digest
+pub record IsTapeFile (digest : List ℕ) (log : Log) (file : List ℕ) : Type 0 where
+  pub balanced : IsBalanced log
+  pub tape : Tape
+  pub of_log : IsLogTape log tape
+  pub spelled : SpellsTape VERSION_2 file digest tape
+
+-- so it is of the log that the bytes spell, with its digest
+pub record IsReduced (bytes file : List ℕ) : Type 0 where
+  pub digest : List ℕ
+  pub log : Log
+  pub read : IsLogOf bytes digest log
+  pub made : IsTapeFile digest log file
+
+-- ---- refusals
+
+-- the first event that is out of order is named, or the number of events where only the outcome is
+pub record IsUnbalanced (log : Log) (fault : Fault) : Type 0 where
+  pub event : ℕ
+  pub first : first_unbalanced log ≡ Some event
+  pub named : fault ≡ Unbalanced event
+
+-- so it is in the log that the bytes spell
+pub record IsUnbalancedFile (bytes : List ℕ) (fault : Fault) : Type 0 where
+  pub digest : List ℕ
+  pub log : Log
+  pub read : IsLogOf bytes digest log
+  pub unbalanced : IsUnbalanced log fault
+
+-- the bytes spell no log, or one that is not balanced
+abbrev pub IsReduceRefusal : List ℕ → Fault → Type 0
+IsReduceRefusal bytes fault = IsUnshownAs false bytes fault ⊎ IsUnbalancedFile bytes fault

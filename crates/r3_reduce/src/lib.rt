@@ -1,0 +1,8 @@
+//! The file of the tape that the log of a file is reduced to.
+#![tactic(auto)]
+
+mod reduced;
+mod writable;
+
+pub use r3_faults::Fault;
+pub use reduced::reduce_log;

@@ -1,0 +1,72 @@
+// `reduce`: the file of the tape of a log's file.
+
+ghost use Rattle.std.specs.Prelude.{◌≡◌, ◌⊎◌, ℕ, List, Err, IfOk, IfErr};
+ghost use Rattle.trace_bytes.specs.declared.tags.TheConstants.{VERSION_2};
+ghost use Rattle.trace_bytes.specs.Spelled.{SpellsTape};
+ghost use Rattle.r3_faults.specs.declared.faults.Fault.{Fault};
+ghost use Rattle.r3_faults.specs.declared.faults.Fault.TheVariants.{Memory};
+ghost use Rattle.r3_reduce.specs.Reduced.{IsReduced, IsReduceRefusal, IsTapeFile, IsUnbalanced};
+
+use crate::writable::is_writable;
+use hook_spec::log_tape_is_one;
+use r3_faults::Fault;
+use r3_show::fault_of;
+use std::alloc::Global;
+use trace_format::{Digest, log_files, read_log, write_tape};
+use trace_model::{Log, Tape};
+use trace_reduce::{ReduceFault, reduce};
+
+/// The file of the tape that the log of a file is reduced to, with the log's digest.
+///
+/// # Errors
+///
+/// `TraceVersion` and `BadTrace` name why the bytes spell no log, `Unbalanced` the first of its events
+/// that is out of order, or their number where only the outcome is; each exactly where it stands.
+/// `Memory` comes where memory is out.
+pub fn reduce_log(alloc: Global, log: &[u8]) -> Result<Vec<u8>, Fault>
+    ensures cause { IfErr result (λ fault. (fault ≡ Memory) ⊎ IsReduceRefusal log.now fault) }
+    ensures refused { (fault : Fault) → IsReduceRefusal log.now fault
+        → (result ≡ Err fault) ⊎ (result ≡ Err Memory) }
+    ensures printed { IfOk result (λ bytes. IsReduced log.now bytes.items) }
+    ensures accepted { (file : List ℕ) → IsReduced log.now file
+        → IfOk result (λ bytes. bytes.items ≡ file) × IfErr result (λ fault. fault ≡ Memory) }
+{
+    log_files();
+    log_tape_is_one();
+    reduced_file(alloc, log)
+}
+
+/// The same, with what is printed or why nothing is.
+fn reduced_file(alloc: Global, bytes: &[u8]) -> Result<Vec<u8>, Fault>
+    ensures cause { IfErr result (λ fault. (fault ≡ Memory) ⊎ IsReduceRefusal bytes.now fault) }
+    ensures printed { IfOk result (λ file. IsReduced bytes.now file.items) }
+{
+    match read_log(alloc, bytes) {
+        Ok((digest, log)) => tape_file(alloc, &digest, &log),
+        Err(cause) => Err(fault_of(cause)),
+    }
+}
+
+/// The file of the tape of a log.
+fn tape_file(alloc: Global, digest: &Digest, log: &Log) -> Result<Vec<u8>, Fault>
+    ensures cause { IfErr result (λ fault. (fault ≡ Memory) ⊎ IsUnbalanced log.now fault) }
+    ensures printed { IfOk result (λ file. IsTapeFile digest.now log.now file.items) }
+{
+    match reduce(alloc, log) {
+        Ok(tape) => file_of_tape(alloc, digest, &tape),
+        Err(ReduceFault::Unbalanced { event }) => Err(Fault::Unbalanced { event }),
+        Err(ReduceFault::Memory) => Err(Fault::Memory),
+    }
+}
+
+/// The file of a tape.
+fn file_of_tape(alloc: Global, digest: &Digest, tape: &Tape) -> Result<Vec<u8>, Fault>
+    ensures cause { IfErr result (λ fault. fault ≡ Memory) }
+    ensures printed { IfOk result (λ file. SpellsTape VERSION_2 file.items digest.now tape.now) }
+{
+    // The tape of a log that was read is, unless it has 2^32 bytes in a row: no file is as long.
+    if !is_writable(tape) {
+        return Err(Fault::Memory);
+    }
+    Ok(write_tape(alloc, digest.as_bytes(), tape)?)
+}
