@@ -117,7 +117,8 @@ const ROWS: &[(&str, &str, Result<&str, ReduceFault>)] = &[
 ];
 
 /// The tape of a call within an import, as lines.
-const NESTED: &str = "segment begin\ncall 1\nsegment import 0\ncall 2\nsegment import 0\nreturn i32:00000002\n\
+const NESTED: &str =
+    "segment begin\ncall 1\nsegment import 0\ncall 2\nsegment import 0\nreturn i32:00000002\n\
     segment back\nbytes 0 04\nreturn i32:00000001\nsegment back\nend\nclose\n";
 
 /// A tape is the one that these lines show.
