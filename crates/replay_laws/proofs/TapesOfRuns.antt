@@ -1,0 +1,62 @@
+-- The tape of a run's log is the one that the run needs.
+use Rattle.std.proofs.Common.{◌≡◌, ℕ, Option, Some, None, Result, Ok, Err, IfOk, sym, subst}
+use Rattle.run_outcomes.specs.declared.outcomes.Outcome.{Outcome}
+use Rattle.trace_model.specs.Balance.{first_unbalanced}
+use Rattle.trace_model.specs.declared.events.Log.{Log}
+use Rattle.trace_model.specs.declared.tapes.Tape.{Tape}
+use Rattle.hook_spec.specs.LogTapes.{IsLogTape}
+use Rattle.trace_reduce.specs.Answers.{IsAnswer, IsReduction}
+use Rattle.trace_reduce.specs.declared.faults.ReduceFault.{ReduceFault}
+use Rattle.trace_reduce.specs.declared.faults.ReduceFault.TheVariants as faults
+use Rattle.trace_reduce.specs.declared.faults.ReducerFault.{ReducerFault}
+use Rattle.trace_reduce.specs.declared.faults.ReducerFault.TheVariants.{Unbalanced}
+use Rattle.history_spec.specs.Run.{all_one, program_of, start_in_store, run_from}
+use Rattle.tape_follows.specs.NeededTape.{IsOneNeededTape, RunsHaveOneNeededTape}
+use Rattle.calls_follow.specs.Laws.{OriginalRun}
+use Rattle.logs_follow.specs.Laws.{LogsAreBalanced, LogsGiveNeededTapes}
+use Rattle.replay_laws.specs.Tapes.{HasLog, IsTapeOfRuns}
+
+same_log : (o : Result Log ℕ) (a b : Log) → o ≡ Ok a → o ≡ Ok b → a ≡ b
+same_log (Ok log) a b h k = cc
+same_log (Err number) a b h k = cc
+
+none_some : {X : Type 0} (o : Option X) (x : X) → o ≡ None → o ≡ Some x → ⊥
+none_some None x h k = cc
+none_some (Some y) x h k = cc
+
+needed_tape : LogsGiveNeededTapes → RunsHaveOneNeededTape → (log : Log) (tape : Tape) → IsLogTape log tape
+    → IsTapeOfRuns log tape
+needed_tape needed one log tape is run count outcome h =
+    let found = needed run count outcome h.ends in
+    let same : found.log ≡ log = same_log _ found.log log found.logged h.logged in
+    let of_run = found.from_log tape (subst (λ l. IsLogTape l tape) (sym same) is) in
+    let lone = one run.m run.script run.supply run.store count outcome run.runnable run.fits run.supplied run.opens h.ends in
+    subst
+    (IsOneNeededTape run.m run.script run.store
+    (run_from (program_of run.m run.script) all_one (start_in_store run.m run.script run.store) count).history outcome)
+    (sym (lone.1.is_one tape.segments of_run)) lone.1
+
+pub reduced_tape : LogsGiveNeededTapes → RunsHaveOneNeededTape → (log : Log) (answer : Result Tape ReduceFault)
+    → IsReduction log answer → IfOk answer (IsTapeOfRuns log)
+reduced_tape needed one log (Ok tape) h = needed_tape needed one log tape h.1
+reduced_tape needed one log (Err fault) h = tt
+
+pub answered_tape : LogsGiveNeededTapes → RunsHaveOneNeededTape → (most : ℕ) (log : Log)
+    (answer : Result Tape ReducerFault) → IsAnswer most log answer → IfOk answer (IsTapeOfRuns log)
+answered_tape needed one most log (Ok tape) h = needed_tape needed one log tape h.1.0
+answered_tape needed one most log (Err fault) h = tt
+
+pub reduced_in_order : LogsAreBalanced → (log : Log) (answer : Result Tape ReduceFault) → IsReduction log answer
+    → (run : OriginalRun) (count : ℕ) (outcome : Outcome) (event : ℕ) → HasLog run count outcome log
+    → answer ≡ Err (faults.Unbalanced event) → ⊥
+reduced_in_order balanced log answer h run count outcome event has is =
+    none_some (first_unbalanced log) event (balanced run count outcome has.ends log has.logged)
+    (subst (IsReduction log) is h)
+
+pub answered_in_order : LogsAreBalanced → (most : ℕ) (log : Log) (answer : Result Tape ReducerFault)
+    → IsAnswer most log answer
+    → (run : OriginalRun) (count : ℕ) (outcome : Outcome) (event : ℕ) → HasLog run count outcome log
+    → answer ≡ Err (Unbalanced event) → ⊥
+answered_in_order balanced most log answer h run count outcome event has is =
+    none_some (first_unbalanced log) event (balanced run count outcome has.ends log has.logged)
+    (subst (IsAnswer most log) is h)
