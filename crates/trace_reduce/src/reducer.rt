@@ -1,6 +1,6 @@
 // The reducer: events come one after another, and the tape of their log is what is left of them.
 
-ghost use Rattle.std.specs.Prelude.{◌≡◌, ◌+◌, ◌∷◌, List, [], Some, None, is_none, OnOk, OnErr};
+ghost use Rattle.std.specs.Prelude.{◌≡◌, ◌+◌, ◌∷◌, List, [], Some, None, is_none, true, OnOk, OnErr};
 ghost use Rattle.hook_spec.specs.LogTapes.{LogFrame, event_marks, import_marks, is_at_host};
 ghost use Rattle.trace_model.specs.Balance.{balanced_step};
 ghost use Rattle.trace_model.specs.Sink.{TookAlso};
@@ -96,6 +96,14 @@ impl Reducer {
         ensures { result ≡ imports_of self.now }
     {
         self.imports
+    }
+
+    /// Whether it was made for this number of imported functions and for a tape of this weight at most.
+    pub fn is_for(&self, imports: u32, most: u64) -> bool
+        ensures imports { result ≡ true → imports_of self.now ≡ imports }
+        ensures most { result ≡ true → most_of self.now ≡ most }
+    {
+        self.imports == imports && self.builder.tape.most == most
     }
 
     /// Takes an event.
