@@ -1,0 +1,213 @@
+// Replay modules of generated parts.
+
+ghost use Rattle.std.specs.Prelude.{◌≡◌, ◌<◌, ◌^◌, [], ◌∷◌, ◌++◌, length, map, IfOk};
+ghost use Rattle.wasm_syntax.specs.Index.{func_indices};
+ghost use Rattle.wasm_syntax.specs.Validity.{IsValid};
+ghost use Rattle.type_safety.specs.Supplies.{IsSupply};
+ghost use Rattle.module_merge.specs.Merge.{constant_data, constant_elem, declaration, replay_module};
+ghost use Rattle.module_merger.specs.Offsets.{HaveDataOffsets, HaveElemOffsets};
+ghost use Rattle.module_merger.specs.Parts.{module_of_parts, module_of_sections};
+ghost use Rattle.replay_modules.specs.Laws.{StatesMaximum};
+ghost use Rattle.module_merger.specs.Generated.{IsGenerated};
+
+use crate::lists::joined;
+use crate::sections::{Outline, outline_of, start_exports};
+use crate::segments::{constant_datas, merged_elems};
+use host_script::Supply;
+use no_memory::NoMemory;
+use replay_gen::Fragment;
+use replay_modules::replay_modules_of_tapes_are_valid;
+use std::alloc::Global;
+use wasm_syntax::{
+    DataSegs, ElemSegs, FuncTypes, Funcs, Globals, Indices, Limits, List, Module, Val,
+};
+use wasm_validate::Checked;
+
+/// Types and functions.
+#[derive(Drop)]
+pub(crate) struct Code {
+    types: FuncTypes,
+    funcs: Funcs,
+}
+
+/// Element and data segments.
+#[derive(Drop)]
+pub(crate) struct Segments {
+    elems: ElemSegs,
+    datas: DataSegs,
+}
+
+/// The replay module of a module, of what is supplied for its imports and of what is generated of a tape that fits the
+/// module. It is valid. The parts of the original and of what is generated are moved and not copied.
+///
+/// # Errors
+///
+/// Where memory is out.
+pub fn merge(
+    alloc: Global,
+    module: Checked,
+    supply: &Supply,
+    fragment: Fragment,
+) -> Result<Checked, NoMemory>
+    requires supplied { IsSupply «module» supply.now }
+    requires generated { IsGenerated «module» fragment }
+    requires few { length (func_indices «module») < 2 ^ 32 }
+    ensures { IfOk result (λ merged. merged ≡ replay_module «module» supply.now fragment) }
+{
+    replay_modules_of_tapes_are_valid();
+    know_maximum(supply.table);
+    let merged = merged_module(alloc, module.into_module(), supply, fragment)?;
+    Ok(Checked::new(merged))
+}
+
+/// A maximum of a table has 32 bits.
+fn know_maximum(limits: Option<Limits>)
+    ensures { StatesMaximum limits }
+{
+    if let Some(limits) = limits {
+        if let Some(max) = limits.max {
+            let _max = max;
+        }
+    }
+}
+
+/// The same, not known to be valid.
+fn merged_module(
+    alloc: Global,
+    module: Module,
+    supply: &Supply,
+    fragment: Fragment,
+) -> Result<Module, NoMemory>
+    requires valid { IsValid (replay_module «module» supply.now fragment) }
+    requires supplied { IsSupply «module» supply.now }
+    requires few { length (func_indices «module») < 2 ^ 32 }
+    ensures { IfOk result (λ merged. merged ≡ replay_module «module» supply.now fragment) }
+{
+    let outline = outline_of(alloc, &module, supply)?;
+    let (code, segments) = kept_parts(module);
+    with_fragment(
+        alloc,
+        outline,
+        code,
+        segments,
+        supply.globals.as_slice(),
+        fragment,
+    )
+}
+
+/// What a replay module keeps of the original.
+fn kept_parts(module: Module) -> (Code, Segments)
+    ensures types { result.0.types ≡ «module».types }
+    ensures funcs { result.0.funcs ≡ «module».funcs }
+    ensures elems { result.1.elems ≡ «module».elems }
+    ensures datas { result.1.datas ≡ «module».datas }
+{
+    let Module {
+        types,
+        funcs,
+        elems,
+        datas,
+        ..
+    } = module;
+    (Code { types, funcs }, Segments { elems, datas })
+}
+
+/// The replay module of what is kept of the original and of what is generated.
+fn with_fragment(
+    alloc: Global,
+    outline: Outline,
+    code: Code,
+    segments: Segments,
+    imported: &[Val],
+    fragment: Fragment,
+) -> Result<Module, NoMemory>
+    requires elems { HaveElemOffsets imported.now segments.elems }
+    requires datas { HaveDataOffsets imported.now segments.datas }
+    ensures { IfOk result (λ merged. merged ≡ module_of_parts outline code segments imported.now fragment) }
+{
+    let Fragment {
+        bodies,
+        helpers,
+        entry,
+        types,
+        globals,
+        declared,
+    } = fragment;
+    let code = merged_code(code, types, bodies, helpers)?;
+    let segments = merged_segments(alloc, segments, imported, declared)?;
+    with_exports(alloc, outline, globals, code, segments, entry)
+}
+
+/// Types and functions with those that are generated: bodies in the places of imports, and helpers at the end.
+fn merged_code(
+    code: Code,
+    types: FuncTypes,
+    bodies: Funcs,
+    helpers: Funcs,
+) -> Result<Code, NoMemory>
+    ensures types { IfOk result (λ merged. merged.types ≡ code.types ++ types) }
+    ensures funcs { IfOk result (λ merged. merged.funcs ≡ bodies ++ (code.funcs ++ helpers)) }
+{
+    let Code {
+        types: own_types,
+        funcs,
+    } = code;
+    let types = joined(own_types, types)?;
+    let funcs = joined(bodies, joined(funcs, helpers)?)?;
+    Ok(Code { types, funcs })
+}
+
+/// Segments with their offsets' values, and one that declares functions, where there are any.
+fn merged_segments(
+    alloc: Global,
+    segments: Segments,
+    imported: &[Val],
+    declared: Indices,
+) -> Result<Segments, NoMemory>
+    requires elems { HaveElemOffsets imported.now segments.elems }
+    requires datas { HaveDataOffsets imported.now segments.datas }
+    ensures elems { IfOk result (λ merged. merged.elems
+        ≡ map (constant_elem imported.now) segments.elems ++ declaration declared) }
+    ensures datas { IfOk result (λ merged. merged.datas ≡ map (constant_data imported.now) segments.datas) }
+{
+    let Segments { elems, datas } = segments;
+    let elems = merged_elems(alloc, elems, imported, declared)?;
+    let datas = constant_datas(alloc, datas, imported)?;
+    Ok(Segments { elems, datas })
+}
+
+/// The replay module of its parts, with the globals that are generated and the export of the function of index `entry`.
+fn with_exports(
+    alloc: Global,
+    outline: Outline,
+    globals: Globals,
+    code: Code,
+    segments: Segments,
+    entry: u32,
+) -> Result<Module, NoMemory>
+    ensures { IfOk result (λ merged. merged ≡ module_of_sections outline globals code segments entry) }
+{
+    let Outline {
+        tables,
+        memories,
+        globals: own_globals,
+        customs,
+    } = outline;
+    let Code { types, funcs } = code;
+    let Segments { elems, datas } = segments;
+    let globals = joined(own_globals, globals)?;
+    let exports = start_exports(alloc, entry)?;
+    Ok(Module {
+        types,
+        imports: List::new(alloc),
+        funcs,
+        tables,
+        memories,
+        globals,
+        exports,
+        start: None,
+        elems,
+        datas,
+        customs,
+    })
+}
