@@ -1,1 +1,2 @@
+mod PlanLengths
 mod TapesOfRuns

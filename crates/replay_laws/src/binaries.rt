@@ -1,0 +1,65 @@
+// The replay module of a tape.
+
+ghost use Rattle.std.specs.Prelude.{◌≡◌, IfOk};
+ghost use Rattle.wasm_syntax.specs.Index.{imported_funcs};
+ghost use Rattle.history_spec.specs.Store.{Store};
+ghost use Rattle.type_safety.specs.Supplies.{IsSupply};
+ghost use Rattle.trace_model.specs.Fitting.{IsFitting};
+ghost use Rattle.replay_plan.specs.Plans.{plan_of};
+ghost use Rattle.replay_modules.specs.Written.{IsConstantTape};
+ghost use Rattle.fragment_maker.specs.Bounds.{FitsIndices};
+ghost use Rattle.binary_follows.specs.Playable.{IsPlayable, replay_of};
+ghost use Rattle.replay_laws.specs.Follows.{FollowsTape};
+
+use crate::laws::replay_modules_follow_tapes;
+use fragment_maker::generate;
+use host_script::Supply;
+use module_merger::merge;
+use no_memory::NoMemory;
+use plan_maker::plan;
+use std::alloc::Global;
+use trace_model::Tape;
+use wasm_validate::Checked;
+
+/// The replay module of a tape, for a module and what is supplied for its imports. The tape fits the module, its values
+/// are constants, and all that is generated has indices of 32 bits. Where the module begins with a store, and the tape
+/// weighs at most 2,000,000, the run of the replay module follows that of the tape from this store.
+///
+/// # Errors
+///
+/// Where memory is out.
+pub fn build_binary(
+    alloc: Global,
+    module: Checked,
+    supply: &Supply,
+    tape: Tape,
+) -> Result<Checked, NoMemory>
+    requires supplied { IsSupply «module» supply.now }
+    requires fits { IsFitting «module» tape }
+    requires constants { IsConstantTape tape }
+    requires indices { FitsIndices «module» (plan_of (imported_funcs «module») tape) }
+    ensures replay { IfOk result (λ replay. replay ≡ replay_of «module» supply.now tape) }
+    ensures follows { (store : Store) → IsPlayable «module» supply.now store tape
+        → FollowsTape «module» supply.now store tape }
+{
+    replay_modules_follow_tapes();
+    merged_binary(alloc, module, supply, tape)
+}
+
+/// The same, by the plan of the tape and what is generated of it.
+fn merged_binary(
+    alloc: Global,
+    module: Checked,
+    supply: &Supply,
+    tape: Tape,
+) -> Result<Checked, NoMemory>
+    requires supplied { IsSupply «module» supply.now }
+    requires fits { IsFitting «module» tape }
+    requires constants { IsConstantTape tape }
+    requires indices { FitsIndices «module» (plan_of (imported_funcs «module») tape) }
+    ensures { IfOk result (λ replay. replay ≡ replay_of «module» supply.now tape) }
+{
+    let plan = plan(alloc, tape, module.module())?;
+    let fragment = generate(alloc, &plan, module.module())?;
+    merge(alloc, module, supply, fragment)
+}
