@@ -1,0 +1,5 @@
+mod OneTape
+mod OneBuilt
+mod Linked
+mod Sized
+mod Playable

@@ -1,0 +1,35 @@
+// `build`: the replay module of a tape.
+
+ghost use Rattle.std.specs.Prelude.{◌≡◌, ◌≤◌, ◌⊎◌, ℕ, List, Err, IfErr, IfOk, length};
+ghost use Rattle.wasm_syntax.specs.declared.limits.TheConstants.{MOST_FILE_BYTES};
+ghost use Rattle.r3_faults.specs.declared.faults.Fault.{Fault};
+ghost use Rattle.r3_faults.specs.declared.faults.Fault.TheVariants.{Memory};
+ghost use Rattle.r3_build.specs.Printed.{IsPrinted};
+ghost use Rattle.r3_build.specs.Refusals.{IsBuildRefusal};
+
+use crate::replays::replay_for;
+use accepted_runs::inputs_of;
+use r3_faults::Fault;
+use std::alloc::Global;
+
+/// The replay module of a tape in its binary format, for a module of at most 8,388,608 bytes and what a script supplies
+/// for its imports. The script's answers and actions are read and not played.
+///
+/// # Errors
+///
+/// The fault names why there is none: the module or the script is refused, the module does not link, the file is no
+/// tape, or a tape of another module, or one that does not fit the module or weighs more than 2,000,000. Each comes
+/// exactly where it stands and none before it does. `Memory` comes where memory is out.
+pub fn build(alloc: Global, module: &[u8], script: &[u8], tape: &[u8]) -> Result<Vec<u8>, Fault>
+    requires { length «module».now ≤ MOST_FILE_BYTES }
+    ensures cause { IfErr result (λ fault. (fault ≡ Memory)
+        ⊎ IsBuildRefusal «module».now script.now tape.now fault) }
+    ensures refused { (fault : Fault) → IsBuildRefusal «module».now script.now tape.now fault
+        → (result ≡ Err fault) ⊎ (result ≡ Err Memory) }
+    ensures printed { IfOk result (λ bytes. IsPrinted «module».now script.now tape.now bytes.items) }
+    ensures accepted { (text : List ℕ) → IsPrinted «module».now script.now tape.now text
+        → IfOk result (λ bytes. bytes.items ≡ text) × IfErr result (λ fault. fault ≡ Memory) }
+{
+    let (checked, script) = inputs_of(alloc, module, script)?;
+    replay_for(alloc, module, checked, &script, tape)
+}
