@@ -1,0 +1,5 @@
+//! Tests alone: replay modules that are built of tapes, and what their runs show; and tapes that are refused.
+#![tactic(auto)]
+
+#[cfg(test)]
+mod tests;

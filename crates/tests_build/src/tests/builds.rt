@@ -1,0 +1,101 @@
+// Files of tapes, and calls of `build` and of `replay`.
+
+ghost use Rattle.std.specs.Prelude.{◌≤◌, IfOk, length};
+ghost use Rattle.wasm_syntax.specs.declared.limits.TheConstants.{MOST_FILE_BYTES};
+
+use r3_build::build;
+use r3_faults::Fault;
+use r3_inputs::MOST_REPLAY_BYTES;
+use r3_outside::SureSink;
+use r3_replay::replay_text;
+use sha2::{Digest, Sha256};
+use std::alloc::Global;
+use std::test::Fail;
+use wasm_syntax::limits::MOST_FILE_BYTES;
+
+/// What a tape's file begins with, before its digest: its mark and its version.
+const TAPE_START: [u8; 5] = [0x72, 0x33, 0x74, 0x70, 2];
+
+/// The most turns that `replay` takes.
+const MOST_TURNS_REPLAYED: u64 = 20_000_000;
+
+/// The bytes of a module in hexadecimal.
+///
+/// # Errors
+///
+/// When memory runs out, or the text is no hexadecimal, or too long.
+pub fn module_bytes(alloc: Global, module: &str) -> Result<Vec<u8>, Fail>
+    ensures { IfOk result (λ bytes. length bytes.items ≤ MOST_FILE_BYTES) }
+{
+    let bytes = hex::decode(alloc, module)?;
+    if bytes.len() as u64 > MOST_FILE_BYTES {
+        return Err(Fail::from("too many bytes"));
+    }
+    Ok(bytes)
+}
+
+/// The file of a tape with the digest of a module's bytes: its segments and its end are these bytes.
+///
+/// # Errors
+///
+/// When memory runs out.
+pub fn tape_file(alloc: Global, module: &[u8], segments: &[u8]) -> Result<Vec<u8>, Fail> {
+    let mut bytes = Vec::from_slice(alloc, TAPE_START.as_slice())?;
+    bytes.extend_from_slice(Sha256::digest(module).as_slice())?;
+    bytes.extend_from_slice(segments)?;
+    Ok(bytes)
+}
+
+/// What `build` answers for a module in hexadecimal, a script, and a tape of the module with these segments, in
+/// hexadecimal too.
+///
+/// # Errors
+///
+/// When memory runs out, or a text is no hexadecimal, or too long.
+pub fn answer_for(
+    alloc: Global,
+    module: &str,
+    script: &str,
+    segments: &str,
+) -> Result<Result<Vec<u8>, Fault>, Fail> {
+    let bytes = module_bytes(alloc, module)?;
+    let tape = tape_file(
+        alloc,
+        bytes.as_slice(),
+        hex::decode(alloc, segments)?.as_slice(),
+    )?;
+    Ok(build(alloc, bytes.as_slice(), script.as_bytes(), tape.as_slice()))
+}
+
+/// The lines that the run of a replay module shows.
+///
+/// # Errors
+///
+/// When memory runs out, or the bytes are too many, or `replay` refuses them.
+pub fn lines_shown_by(alloc: Global, binary: &[u8]) -> Result<Vec<u8>, Fail> {
+    if binary.len() as u64 > MOST_REPLAY_BYTES {
+        return Err(Fail::from("too many bytes"));
+    }
+    Ok(replay_text(alloc, binary, MOST_TURNS_REPLAYED)?)
+}
+
+/// The line of error of what `build` answers, and its status; none where it prints something.
+///
+/// # Errors
+///
+/// When memory runs out.
+pub fn refusal_of(
+    alloc: Global,
+    answer: Result<Vec<u8>, Fault>,
+) -> Result<Option<(u8, Vec<u8>)>, Fail> {
+    let fault = match answer {
+        Ok(_) => return Ok(None),
+        Err(fault) => fault,
+    };
+    let mut sink = SureSink::new(alloc);
+    fault.put_line(&mut sink)?;
+    match sink.bytes() {
+        Some(line) => Ok(Some((fault.status(), Vec::from_slice(alloc, line)?))),
+        None => Err(Fail::from("out of memory")),
+    }
+}

@@ -1,0 +1,47 @@
+//! The most that a tape may weigh.
+
+use crate::tests::builds::{module_bytes, refusal_of, tape_file};
+use crate::tests::modules::OVERWRITE;
+use r3_build::build;
+use r3_faults::Fault;
+use std::alloc::Global;
+use std::test::Fail;
+
+/// A tape of one segment up to the bytes that it writes at 0: the memory grows to 40 pages before.
+const GROWTH: [u8; 4] = [0, 2, 5, 40];
+
+/// The mark of bytes, and their address.
+const BYTES_AT_0: [u8; 2] = [7, 0];
+
+/// The segment ends the host's work, and the tape ends.
+const END: [u8; 2] = [0x22, 0x2f];
+
+/// What `build` answers to a tape that grows the memory and writes zeros, whose number is spelled by `length`.
+fn answer_to_zeros(
+    alloc: Global,
+    count: usize,
+    length: [u8; 3],
+) -> Result<Result<Vec<u8>, Fault>, Fail> {
+    let module = module_bytes(alloc, OVERWRITE)?;
+    let mut segments = Vec::from_slice(alloc, GROWTH.as_slice())?;
+    segments.extend_from_slice(BYTES_AT_0.as_slice())?;
+    segments.extend_from_slice(length.as_slice())?;
+    segments.resize(segments.len() + count, 0)?;
+    segments.extend_from_slice(END.as_slice())?;
+    let tape = tape_file(alloc, module.as_slice(), segments.as_slice())?;
+    Ok(build(alloc, module.as_slice(), b"{}", tape.as_slice()))
+}
+
+#[test]
+fn tapes_of_two_millions(rt: HostRuntime) -> Result<(), Fail> {
+    let alloc = rt.alloc();
+    let heavy = answer_to_zeros(alloc, 2_000_000, [0x80, 0x89, 0x7a])?;
+    let Some((status, line)) = refusal_of(alloc, heavy)? else {
+        return Err(Fail::from("a tape that is too heavy is taken"));
+    };
+    assert_eq!(rt; status, 18);
+    assert_eq!(rt; line.as_slice(), b"tape limit: 2000002\n".as_slice());
+    let binary = answer_to_zeros(alloc, 1_999_998, [0xfe, 0x88, 0x7a])??;
+    assert!(rt; binary.len() > 1_999_998);
+    Ok(())
+}
