@@ -8,6 +8,7 @@ use std::marker::Model;
 use wasm_store::Store;
 
 /// What a call of a hook sees: the memory and the table of a store as it is then. Contracts see the store.
+#[derive(Drop)]
 pub struct View<'a> {
     store: &'a Store,
 }
