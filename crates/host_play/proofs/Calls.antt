@@ -26,13 +26,13 @@ calls_append front back =
 
 -- ---- what follows without a turn calls nothing
 
-returns_none : (func : ℕ) (results : List Val) (below : List Activation) (rest : List Entry) → all_calls (return_entry func results below ∷ rest) ≡ all_calls rest
+pub returns_none : (func : ℕ) (results : List Val) (below : List Activation) (rest : List Entry) → all_calls (return_entry func results below ∷ rest) ≡ all_calls rest
 returns_none func results [] rest = refl
 returns_none func results (InModule frame ∷ below) rest = refl
 returns_none func results (InMain actions ∷ below) rest = refl
 returns_none func results (InImport import args actions end ∷ below) rest = refl
 
-delivers_none : (stack : List Activation) (results : List Val) → all_calls (deliver stack results).entries ≡ 0
+pub delivers_none : (stack : List Activation) (results : List Val) → all_calls (deliver stack results).entries ≡ 0
 delivers_none [] results = refl
 delivers_none (InModule frame ∷ below) results = go (delivers_none below) (at_end (with_results frame results))
   where
@@ -50,7 +50,7 @@ delivers_none (InImport import args (action ∷ actions) end ∷ below) results 
 -- ---- a step calls once at most
 
 module _ (program : Program) where
-  enters_none : (store : Store) (counts : List ℕ) (func : ℕ) (args : List Val) (stack : List Activation) → all_calls (enter_function program.code store counts func args stack).entries ≡ 0
+  pub enters_none : (store : Store) (counts : List ℕ) (func : ℕ) (args : List Val) (stack : List Activation) → all_calls (enter_function program.code store counts func args stack).entries ≡ 0
   enters_none store counts func args stack = go (signature program.code func) (definition program.code func)
     where
       go : (ty : Option FuncType) (d : Option Definition) → all_calls (enter_defined ty d store counts func args stack).entries ≡ 0

@@ -1,6 +1,6 @@
 -- A run whose calls are counted so far.
 use Rattle.std.proofs.Common.{◌≡◌, ℕ, suc, zero, ◌+◌, ◌-◌, [], ◌++◌, length, refl, sym, ap, ◌∙◌, subst, arith}
-use Rattle.std.specs.Prelude.{replicate, slice_index}
+use Rattle.std.specs.Prelude.{None, replicate, slice_index}
 use Rattle.std.proofs.lemmas.List.{length-map}
 use Rattle.wasm_syntax.specs.declared.modules.Module.{Module}
 use Rattle.wasm_syntax.specs.Index.{imported_funcs}
@@ -28,7 +28,7 @@ zeros zero i = refl
 zeros (suc n) zero = refl
 zeros (suc n) (suc i) = zeros n i
 
-part_after : (d : HostStep) → BeginsPart (stand_after d)
+pub part_after : (d : HostStep) → BeginsPart (stand_after d)
 part_after host_step.Stays = tt
 part_after (host_step.Calls func args) = tt
 part_after (host_step.Returns import value) = tt
@@ -42,7 +42,7 @@ pub counts_begun : (m : Module) (script : Script) (initial : StepResult) (budget
 counts_begun m script initial budget calls d stand playing leads counts calls_are stands =
     let here : CountsSoFar m script initial budget calls (stand_after d) playing budget = record {
       history = [] ++ entries_of d;
-      reached = begins m script initial budget (entries_of d) (stand_after d) playing leads;
+      reached = begins m script None initial budget (entries_of d) (stand_after d) playing leads;
       counted = counted_host (imported_funcs m) playing.counts.items 0 calls [] d calls_are (counted_none (imported_funcs m) playing.counts.items 0 (λ import there. ap (λ cs. slice_index cs import) counts ∙ zeros (imported_funcs m) import) refl);
     } in
     (subst (λ st. CountsSoFar m script initial budget calls st playing budget) (sym stands) here, subst BeginsPart (sym stands) (part_after d))
@@ -55,8 +55,8 @@ plays m script initial budget calls e playing left t same_turns result is =
     let spent : t.reached.used + left ≡ budget = t.reached.spent in
     let turns : result.turns ≡ e.turns = ap (λ (p : Played). p.turns) is in
     record {
-      run = whole m script initial budget e.outcome t.history playing left t.reached;
-      within = over_within m script initial budget e.outcome t.history playing left t.reached;
+      run = whole m script None initial budget e.outcome t.history playing left t.reached;
+      within = over_within m script None initial budget e.outcome t.history playing left t.reached;
       outcome = ap (λ (p : Played). Finished p.outcome) (sym is);
       turns = omega arith;
       each = ap (λ (p : Played). length p.imports) is ∙ ap length t.reached.standing.counted ∙ length-map t.reached.standing.counts kept ∙ t.reached.standing.is_run.counted;

@@ -10,9 +10,20 @@ mod ActionSteps
 mod Ends
 mod Reaches
 mod ToldRuns
+mod HostParts
 mod Joins
 mod CallCounts
 mod ModuleParts
 mod Counted
 mod RunStarts
 pub mod Calls
+mod HookCalls
+mod ImportStores
+mod OtherAnswers
+mod HookedParts
+mod HookAnswers
+mod HookRuns
+mod HooksOn
+mod HookShapes
+mod HookArguments
+mod HookWaits

@@ -10,9 +10,9 @@ use Rattle.history_spec.specs.Configuration.{Config, InModule}
 use Rattle.history_spec.specs.Settle.{settle}
 use Rattle.history_spec.specs.Store.{Store}
 use Rattle.history_spec.specs.Step.{StepResult, after_settling}
-use Rattle.history_spec.specs.Run.{Run, all_one, program_of, run_from, weight}
+use Rattle.history_spec.specs.Run.{Meter, Run, all_one, program_of, run_from, weight}
 use Rattle.wasm_flat.specs.declared.code.Flat.{Flat}
-use Rattle.wasm_flat.specs.Meters.{Weighing}
+use Rattle.wasm_flat.specs.Meters.{Weighing, meter_of}
 use Rattle.flat_steps.specs.declared.frames.FlatFrame.{FlatFrame}
 use Rattle.flat_steps.specs.FlatStep as flat
 use Rattle.flat_steps.specs.Follows.{outside_of}
@@ -27,14 +27,14 @@ use Rattle.host_play.specs.declared.play_state.PlayState.{PlayState}
 use Rattle.host_play.specs.declared.play_state.Refusal.{Refusal}
 use Rattle.host_play.specs.declared.play_state.Stand.TheVariants as at
 use Rattle.host_play.specs.Hosts.{BeginsAnswer, HasNoResponse}
-use Rattle.host_play.specs.RunsSoFar.{CountsSoFar, HasCounted}
+use Rattle.host_play.specs.RunsSoFar.{ComesTo, CountsSoFar, HasCounted}
 use Rattle.host_play.specs.Results.{Refuses, play_fault}
-use Rattle.host_play.specs.Stands.{StandsAt}
+use Rattle.host_play.specs.Stands.{StandsAt, Stops}
 use Rattle.host_play.proofs.AnswerStarts as answering
 use Rattle.host_play.proofs.CallCounts as counting
 use Rattle.host_play.proofs.Arrivals.{at_host, at_trap}
 use Rattle.host_play.proofs.Joins.{run_joined}
-use Rattle.host_play.proofs.Reaches.{led, run_of, stopped, weight_one}
+use Rattle.host_play.proofs.Reaches.{led, run_of, stopped}
 use Rattle.host_play.proofs.Returns.{IsSettled, settle_pause}
 
 -- ---- a call of an import takes a turn
@@ -84,79 +84,66 @@ import_decreases hosts new_hosts answer now left is took =
 
 -- ---- where the module's part ends
 
-module _ (m : Module) (script : Script) (s : StepResult) (playing : PlayState) (standing : StandsAt m script at.Module playing s) (left : ℕ) (end : Pause) (new : State) (now : ℕ) (run : AdvancesRun playing.machine None left end now new) where
+module _ (m : Module) (script : Script) (weighing : Weighing) (s : StepResult) (playing : PlayState) (standing : StandsAt m script at.Module playing s) (left : ℕ) (end : Pause) (new : State) (now : ℕ)
+    (run : AdvancesRun playing.machine weighing left end now new) where
+  abbrev meter : Meter
+  meter = meter_of m weighing
+
   abbrev pub after : PlayState
   after = record playing { machine = new }
 
-  a : RunPart m standing.heights (program_of m script) all_one (outside_of standing.goes_on.below) standing.counts (after_settling playing.machine.store standing.counts (settle (InModule standing.goes_on.frame ∷ standing.goes_on.below))) left end now new
+  abbrev pub a : RunPart m standing.heights (program_of m script) meter (outside_of standing.goes_on.below) standing.counts (after_settling playing.machine.store standing.counts (settle (InModule standing.goes_on.frame ∷ standing.goes_on.below))) left end now new
   a = run m standing.heights (program_of m script) standing.counts standing.goes_on.frame standing.goes_on.below standing.is_run standing.goes_on.stack.machine
 
-  ends_as : (e : Pause) → end ≡ e → EndsRun m standing.heights (program_of m script) all_one (outside_of standing.goes_on.below) standing.counts e now a.entries new a.last
-  ends_as e is = subst (λ e'. EndsRun m standing.heights (program_of m script) all_one (outside_of standing.goes_on.below) standing.counts e' now a.entries new a.last) is a.ends
+  pub ends_as : (e : Pause) → end ≡ e → EndsRun m standing.heights (program_of m script) meter (outside_of standing.goes_on.below) standing.counts e now a.entries new a.last
+  ends_as e is = subst (λ e'. EndsRun m standing.heights (program_of m script) meter (outside_of standing.goes_on.below) standing.counts e' now a.entries new a.last) is a.ends
 
-  own_as : (e : Pause) → end ≡ e → AreOwnUpTo e (a.before ++ a.entries)
+  pub own_as : (e : Pause) → end ≡ e → AreOwnUpTo e (a.before ++ a.entries)
   own_as e is = subst (λ e'. AreOwnUpTo e' (a.before ++ a.entries)) is a.own
 
   module _ (index : ℕ) (is : end ≡ pause.Import index) where
-    comes : ComesToImport m standing.heights (program_of m script) (outside_of standing.goes_on.below) standing.counts index a.entries new a.last
+    pub comes : ComesToImport m standing.heights (program_of m script) (outside_of standing.goes_on.below) standing.counts index a.entries new a.last
     comes = ends_as (pause.Import index) is
 
     pub counted_import : index < length playing.counts.items
     counted_import =
         answering.counted_import m standing.heights script standing.counts standing.is_run standing.goes_on.below playing standing.functions standing.counted standing.goes_on.stack.hosts a.entries new a.last index comes
 
-  module _ (initial : StepResult) (budget steps used : ℕ) (history : List Entry) (so_far : run_from (program_of m script) all_one initial steps ≡ run_of (history ++ s.entries) used s.next) (spent : used + left ≡ budget) where
-    whole : run_from (program_of m script) all_one initial (steps + a.count) ≡ run_of ((history ++ a.before) ++ a.last.entries) (used + a.taken) a.last.next
-    whole = run_joined (program_of m script) all_one initial s a.last steps a.count history a.before used a.taken so_far (ap (λ start. run_from (program_of m script) all_one start a.count) standing.goes_on.same ∙ a.run)
+  module _ (initial : StepResult) (budget steps used : ℕ) (history : List Entry) (so_far : run_from (program_of m script) meter initial steps ≡ run_of (history ++ s.entries) used s.next) (spent : used + left ≡ budget) where
+    pub whole : run_from (program_of m script) meter initial (steps + a.count) ≡ run_of ((history ++ a.before) ++ a.last.entries) (used + a.taken) a.last.next
+    whole = run_joined (program_of m script) meter initial s a.last steps a.count history a.before used a.taken so_far (ap (λ start. run_from (program_of m script) meter start a.count) standing.goes_on.same ∙ a.run)
 
-    all : (used + a.taken) + now ≡ budget
+    pub all : (used + a.taken) + now ≡ budget
     all = let some : a.taken + now ≡ left = a.all in omega arith
 
-    module _ (calls : ℕ) (counted : HasCounted (imported_funcs m) playing.counts.items calls history) where
-      pub to_host : end ≡ pause.Returned → CountsSoFar m script initial budget calls at.Host after now
-      to_host is = record {
-        history = (history ++ a.before) ++ a.entries;
-        reached = led m script initial budget at.Host after (steps + a.count) now (used + a.taken) (history ++ a.before) a.entries a.last whole all
-            (at_host m standing.heights script standing.counts standing.is_run standing.goes_on.below after standing.functions standing.counted a.entries a.last standing.goes_on.stack.hosts (ends_as pause.Returned is));
-        counted = subst (HasCounted (imported_funcs m) playing.counts.items calls) (sym (append_assoc history a.before a.entries))
-            (counting.counted_own (imported_funcs m) playing.counts.items calls history (a.before ++ a.entries) (own_as pause.Returned is) counted);
-      }
+    abbrev pub to_host : end ≡ pause.Returned → ComesTo m script weighing initial budget ((history ++ a.before) ++ a.entries) at.Host after now
+    to_host is =
+        led m script weighing initial budget at.Host after (steps + a.count) now (used + a.taken) (history ++ a.before) a.entries a.last whole all
+        (at_host m standing.heights script standing.counts standing.is_run standing.goes_on.below after standing.functions standing.counted a.entries a.last standing.goes_on.stack.hosts (ends_as pause.Returned is))
 
-      pub to_trap : end ≡ pause.Trapped → CountsSoFar m script initial budget calls (at.Over ByTrap) after now
-      to_trap is = record {
-        history = (history ++ a.before) ++ a.entries;
-        reached = led m script initial budget (at.Over ByTrap) after (steps + a.count) now (used + a.taken) (history ++ a.before) a.entries a.last whole all
-            (at_trap m standing.heights script standing.counts standing.is_run standing.goes_on.below after standing.functions standing.counted a.entries a.last (ends_as pause.Trapped is));
-        counted = subst (HasCounted (imported_funcs m) playing.counts.items calls) (sym (append_assoc history a.before a.entries))
-            (counting.counted_own (imported_funcs m) playing.counts.items calls history (a.before ++ a.entries) (own_as pause.Trapped is) counted);
-      }
+    abbrev pub to_trap : end ≡ pause.Trapped → ComesTo m script weighing initial budget ((history ++ a.before) ++ a.entries) (at.Over ByTrap) after now
+    to_trap is =
+        led m script weighing initial budget (at.Over ByTrap) after (steps + a.count) now (used + a.taken) (history ++ a.before) a.entries a.last whole all
+        (at_trap m standing.heights script standing.counts standing.is_run standing.goes_on.below after standing.functions standing.counted a.entries a.last (ends_as pause.Trapped is))
 
-      pub to_import : (index : ℕ) → end ≡ pause.Import index → (hosts : List Host) (new_playing : PlayState) → new_playing.machine ≡ new → new_playing.functions ≡ playing.functions → new_playing.hosts ≡ hosts
-          → BeginsAnswer script playing.hosts playing.counts.items index hosts new_playing.counts.items → CountsSoFar m script initial budget calls at.Host new_playing now
-      to_import index is hosts new_playing same_machine same_functions same_hosts begins =
-          let own : AreOwnUpTo (pause.Import index) (a.before ++ a.entries) = own_as (pause.Import index) is in
-          record {
-            history = (history ++ a.before) ++ a.entries;
-            reached = led m script initial budget at.Host new_playing (steps + a.count) now (used + a.taken) (history ++ a.before) a.entries a.last whole all
-                (answering.import_begins m standing.heights script standing.counts standing.is_run standing.goes_on.below playing standing.functions standing.counted standing.goes_on.stack.hosts a.entries new a.last index (comes index is)
-                hosts new_playing same_machine same_functions same_hosts begins);
-            counted = subst (HasCounted (imported_funcs m) new_playing.counts.items calls) (sym (append_assoc history a.before a.entries))
-                (counting.counted_import (imported_funcs m) playing.counts.items new_playing.counts.items calls index own.1 history (a.before ++ a.entries) own.0 own.2 own.3 (counted_import index is) begins.counted counted);
-          }
+    abbrev pub to_import : (index : ℕ) → end ≡ pause.Import index → (hosts : List Host) (new_playing : PlayState) → new_playing.machine ≡ new → new_playing.functions ≡ playing.functions → new_playing.hosts ≡ hosts
+        → BeginsAnswer script playing.hosts playing.counts.items index hosts new_playing.counts.items → ComesTo m script weighing initial budget ((history ++ a.before) ++ a.entries) at.Host new_playing now
+    to_import index is hosts new_playing same_machine same_functions same_hosts begins =
+        led m script weighing initial budget at.Host new_playing (steps + a.count) now (used + a.taken) (history ++ a.before) a.entries a.last whole all
+        (answering.import_begins m standing.heights script standing.counts standing.is_run standing.goes_on.below playing standing.functions standing.counted standing.goes_on.stack.hosts a.entries new a.last index (comes index is)
+        hosts new_playing same_machine same_functions same_hosts begins)
 
-    pub without_response : (index : ℕ) → end ≡ pause.Import index → (refusal : Refusal) (turn : ℕ) → turn + now ≡ budget → HasNoResponse script playing.counts.items index refusal
-        → Refuses (program_of m script) initial budget (play_fault refusal turn)
-    without_response index is refusal turn at none =
-        stopped m script initial budget (steps + a.count) now (used + a.taken) turn (history ++ a.before) a.last refusal whole all at
-        (answering.no_response m standing.heights script standing.counts standing.is_run standing.goes_on.below playing standing.functions standing.counted standing.goes_on.stack.hosts a.entries new a.last index (comes index is) refusal none)
+    pub without_response : (index : ℕ) → end ≡ pause.Import index → (refusal : Refusal) → HasNoResponse script playing.counts.items index refusal → Stops refusal a.last
+    without_response index is refusal none =
+        answering.no_response m standing.heights script standing.counts standing.is_run standing.goes_on.below playing standing.functions standing.counted standing.goes_on.stack.hosts a.entries new a.last index (comes index is) refusal none
 
-    pub to_spent : end ≡ pause.Spent → IsSpent (run_from (program_of m script) all_one initial) all_one budget
+    abbrev pub to_spent : end ≡ pause.Spent → IsSpent (run_from (program_of m script) meter initial) meter budget
     to_spent is =
         let ends = ends_as pause.Spent is in
         let config : Config = config_of new (InModule ends.comes.frame ∷ ends.comes.below) standing.counts in
         let none : now ≡ 0 = ends.none_left in
         let sum : (used + a.taken) + now ≡ budget = all in
-        let one : weight all_one config ≡ 1 = weight_one config.stack in
+        let one : weight meter config ≡ 1 = ends.takes_one in
         record {
           count = steps + a.count;
           config = config;
@@ -164,3 +151,45 @@ module _ (m : Module) (script : Script) (s : StepResult) (playing : PlayState) (
           used = ap (λ (r : Run). r.turns) whole ∙ (let same : used + a.taken ≡ budget = omega arith in same);
           wants = omega arith;
         }
+
+-- ---- the same with the calls counted
+
+module _ (m : Module) (script : Script) (s : StepResult) (playing : PlayState) (standing : StandsAt m script at.Module playing s) (left : ℕ) (end : Pause) (new : State) (now : ℕ) (run : AdvancesRun playing.machine None left end now new)
+    (initial : StepResult) (budget steps used : ℕ) (history : List Entry) (so_far : run_from (program_of m script) all_one initial steps ≡ run_of (history ++ s.entries) used s.next) (spent : used + left ≡ budget) where
+  abbrev part : RunPart m standing.heights (program_of m script) all_one (outside_of standing.goes_on.below) standing.counts (after_settling playing.machine.store standing.counts (settle (InModule standing.goes_on.frame ∷ standing.goes_on.below))) left end now new
+  part = a m script None s playing standing left end new now run
+
+  module _ (calls : ℕ) (counted : HasCounted (imported_funcs m) playing.counts.items calls history) where
+    pub counts_to_host : end ≡ pause.Returned → CountsSoFar m script initial budget calls at.Host (after m script None s playing standing left end new now run) now
+    counts_to_host is = record {
+      history = (history ++ part.before) ++ part.entries;
+      reached = to_host m script None s playing standing left end new now run initial budget steps used history so_far spent is;
+      counted = subst (HasCounted (imported_funcs m) playing.counts.items calls) (sym (append_assoc history part.before part.entries))
+          (counting.counted_own (imported_funcs m) playing.counts.items calls history (part.before ++ part.entries) (own_as m script None s playing standing left end new now run pause.Returned is) counted);
+    }
+
+    pub counts_to_trap : end ≡ pause.Trapped → CountsSoFar m script initial budget calls (at.Over ByTrap) (after m script None s playing standing left end new now run) now
+    counts_to_trap is = record {
+      history = (history ++ part.before) ++ part.entries;
+      reached = to_trap m script None s playing standing left end new now run initial budget steps used history so_far spent is;
+      counted = subst (HasCounted (imported_funcs m) playing.counts.items calls) (sym (append_assoc history part.before part.entries))
+          (counting.counted_own (imported_funcs m) playing.counts.items calls history (part.before ++ part.entries) (own_as m script None s playing standing left end new now run pause.Trapped is) counted);
+    }
+
+    pub counts_to_import : (index : ℕ) → end ≡ pause.Import index → (hosts : List Host) (new_playing : PlayState) → new_playing.machine ≡ new → new_playing.functions ≡ playing.functions → new_playing.hosts ≡ hosts
+        → BeginsAnswer script playing.hosts playing.counts.items index hosts new_playing.counts.items → CountsSoFar m script initial budget calls at.Host new_playing now
+    counts_to_import index is hosts new_playing same_machine same_functions same_hosts begins =
+        let own : AreOwnUpTo (pause.Import index) (part.before ++ part.entries) = own_as m script None s playing standing left end new now run (pause.Import index) is in
+        record {
+          history = (history ++ part.before) ++ part.entries;
+          reached = to_import m script None s playing standing left end new now run initial budget steps used history so_far spent index is hosts new_playing same_machine same_functions same_hosts begins;
+          counted = subst (HasCounted (imported_funcs m) new_playing.counts.items calls) (sym (append_assoc history part.before part.entries))
+              (counting.counted_import (imported_funcs m) playing.counts.items new_playing.counts.items calls index own.1 history (part.before ++ part.entries) own.0 own.2 own.3 (counted_import m script None s playing standing left end new now run index is) begins.counted counted);
+        }
+
+  pub fault_without_response : (index : ℕ) → end ≡ pause.Import index → (refusal : Refusal) (turn : ℕ) → turn + now ≡ budget → HasNoResponse script playing.counts.items index refusal
+      → Refuses (program_of m script) initial budget (play_fault refusal turn)
+  fault_without_response index is refusal turn at none =
+      stopped m script initial budget (steps + part.count) now (used + part.taken) turn (history ++ part.before) part.last refusal
+      (whole m script None s playing standing left end new now run initial budget steps used history so_far spent) (all m script None s playing standing left end new now run initial budget steps used history so_far spent) at
+      (without_response m script None s playing standing left end new now run initial budget steps used history so_far spent index is refusal none)

@@ -10,7 +10,7 @@ use Rattle.host_script.specs.declared.scripts.Script.{Script}
 use Rattle.host_script.specs.Fits.{FitsAction}
 use Rattle.history_spec.specs.Action.{perform}
 use Rattle.history_spec.specs.Code.{code_of}
-use Rattle.history_spec.specs.Configuration.{Activation, Config, InModule, InMain, InImport}
+use Rattle.history_spec.specs.Configuration.{Activation, InModule, InMain, InImport}
 use Rattle.history_spec.specs.Settle.{settle}
 use Rattle.history_spec.specs.Store.{Store}
 use Rattle.history_spec.specs.Step.{Running, StepResult, step_result, after_action, after_settling, response_to, step}
@@ -25,6 +25,7 @@ use Rattle.wasm_interp.specs.Calls.{config_of}
 use Rattle.host_play.specs.declared.play_state.Host.{Host}
 use Rattle.host_play.specs.declared.play_state.Host.TheVariants as host
 use Rattle.host_play.specs.declared.play_state.PlayState.{PlayState}
+use Rattle.host_play.specs.HostParts.{BeforeHostStep}
 use Rattle.host_play.specs.Hosts.{Plays, IsChosen, action_at, actions_in, after_next_action, below_of, top_of}
 
 drop_at : {A : Type 0} (xs : List A) (i : ℕ) (x : A) → slice_get xs i ≡ Some x → drop i xs ≡ x ∷ drop (i + 1) xs
@@ -127,24 +128,32 @@ module _ (m : Module) (heights : Heights) (script : Script) (counts : List ℕ)
 -- the run stands before that action
 module _ (script : Script) (counts : List ℕ) (store : Store) (action : Action) (s : StepResult) where
   stands_main : (actions : List Action) (next : ℕ) (below : List Activation) → actions ≡ drop next script.main → slice_get script.main next ≡ Some action
-      → s ≡ after_settling store counts (settle (InMain actions ∷ below)) → (config : Config) × (s ≡ step_result [] (Running config))
+      → s ≡ after_settling store counts (settle (InMain actions ∷ below)) → BeforeHostStep s
   stands_main actions next below is there same =
       let rest : List Action = drop (next + 1) script.main in
       let front : actions ≡ action ∷ rest = is ∙ drop_at script.main next action there in
-      (record { store = store; stack = InMain (action ∷ rest) ∷ below; counts = counts }, same ∙ ap (λ a. after_settling store counts (settle (InMain a ∷ below))) front)
+      record {
+        config = record { store = store; stack = InMain (action ∷ rest) ∷ below; counts = counts };
+        standing = same ∙ ap (λ a. after_settling store counts (settle (InMain a ∷ below))) front;
+        awaits = tt;
+      }
 
   stands_answer : (import : ℕ) (args : List Val) (actions : List Action) («end» : ResponseEnd) (called number next : ℕ) (below : List Activation) → IsChosen script import actions «end» called number next
       → slice_get (actions_in (response_to script.imports called number)) next ≡ Some action
-      → s ≡ after_settling store counts (settle (InImport import args actions «end» ∷ below)) → (config : Config) × (s ≡ step_result [] (Running config))
+      → s ≡ after_settling store counts (settle (InImport import args actions «end» ∷ below)) → BeforeHostStep s
   stands_answer import args actions «end» called number next below chosen there same =
       let found : response_to script.imports called number ≡ Some chosen.response = ap (λ i. response_to script.imports i number) chosen.same ∙ chosen.chosen in
       let at : slice_get chosen.response.actions next ≡ Some action = subst (λ r. slice_get (actions_in r) next ≡ Some action) found there in
       let rest : List Action = drop (next + 1) chosen.response.actions in
       let front : actions ≡ action ∷ rest = chosen.left ∙ drop_at chosen.response.actions next action at in
-      (record { store = store; stack = InImport import args (action ∷ rest) «end» ∷ below; counts = counts }, same ∙ ap (λ a. after_settling store counts (settle (InImport import args a «end» ∷ below))) front)
+      record {
+        config = record { store = store; stack = InImport import args (action ∷ rest) «end» ∷ below; counts = counts };
+        standing = same ∙ ap (λ a. after_settling store counts (settle (InImport import args a «end» ∷ below))) front;
+        awaits = tt;
+      }
 
   pub action_stands : (stack : List Activation) (hosts : List Host) (top : Host) → AwaitsHost stack → Plays script stack hosts → s ≡ after_settling store counts (settle stack)
-      → top_of hosts ≡ Some top → action_at script top ≡ Some action → (config : Config) × (s ≡ step_result [] (Running config))
+      → top_of hosts ≡ Some top → action_at script top ≡ Some action → BeforeHostStep s
   action_stands [] hosts top awaits plays same is there = absurd awaits
   action_stands (InModule frame ∷ below) hosts top awaits plays same is there = absurd awaits
   action_stands (InMain actions ∷ below) [] top awaits plays same is there = absurd plays

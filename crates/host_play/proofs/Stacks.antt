@@ -1,5 +1,5 @@
 -- The last item of a list, which stands first in its reverse.
-use Rattle.std.proofs.Common.{◌≡◌, ℕ, ◌+◌, List, [], ◌∷◌, length, sym, ap, ◌∙◌}
+use Rattle.std.proofs.Common.{◌≡◌, ℕ, ◌+◌, List, ◌∷◌, length, sym, ap, ◌∙◌}
 use Rattle.std.specs.Prelude.{reverse, slice_set}
 use Rattle.list_laws.proofs.Lists.{last_set, last_is}
 use Rattle.host_play.specs.declared.play_state.Host.{Host}

@@ -1,5 +1,6 @@
 -- A run that is told so far.
 use Rattle.std.proofs.Common.{◌≡◌, ℕ, ◌+◌, ◌-◌, List, [], ◌∷◌, ◌++◌, length, refl, sym, ap, ◌∙◌, subst, arith, append_assoc, Result, Ok, Err, IfOk, IfErr}
+use Rattle.std.specs.Prelude.{None}
 use Rattle.std.proofs.lemmas.List.{length-append}
 use Rattle.wasm_syntax.specs.declared.modules.Module.{Module}
 use Rattle.host_script.specs.declared.scripts.Script.{Script}
@@ -41,7 +42,7 @@ tells_begun m script initial budget told new_told did stand playing none tells s
     subst (λ stand. TellsSoFar m script initial budget new_told stand playing budget) (sym stands)
     (record {
       history = [] ++ entries_of did;
-      reached = begins m script initial budget (entries_of did) (stand_after did) playing leads;
+      reached = begins m script None initial budget (entries_of did) (stand_after did) playing leads;
       tells = tells_more told new_told [] (entries_of did) (record { text_is = ap (λ (j : ToldLines). j.text) none; entries_are = ap (λ (j : ToldLines). j.entries) none }) tells;
     })
 
@@ -54,8 +55,8 @@ over m script initial budget e told playing left t turns result text rest =
     let spent : t.reached.used + left ≡ budget = t.reached.spent in
     let same_turns : result.turns ≡ e.turns = rest.1 in
     record {
-      run = whole m script initial budget e.outcome t.history playing left t.reached;
-      within = over_within m script initial budget e.outcome t.history playing left t.reached;
+      run = whole m script None initial budget e.outcome t.history playing left t.reached;
+      within = over_within m script None initial budget e.outcome t.history playing left t.reached;
       outcome = ap (λ o. Finished o) (sym rest.2);
       text = text ∙ ap (λ ls. ls ++ line (outcome_text e.outcome)) t.tells.text_is ∙ ap (λ o. lines t.history ++ line (outcome_text o)) (sym rest.2);
       entries = rest.0 ∙ t.tells.entries_are;

@@ -1,3 +1,5 @@
+pub mod ScriptedHosts
+pub mod Replies
 pub mod Arguments
 pub mod HostSteps
 pub mod Starts
@@ -5,5 +7,9 @@ pub mod Hosts
 pub mod ToldLines
 pub mod CallCounts
 pub mod Stands
+pub mod HostParts
+pub mod HookFaults
 pub mod Results
+pub mod HookedResults
 pub mod RunsSoFar
+pub mod HooksSoFar

@@ -34,6 +34,7 @@ pub record IsFault (program : Program) (initial : StepResult) (budget turn : ℕ
 abbrev pub Refuses : Program → (initial : StepResult) → (budget : ℕ) → PlayFault → Type 0
 Refuses program initial budget (refusal.Fault turn kind) = IsFault program initial budget turn kind
 Refuses program initial budget refusal.Spent = IsSpent (run_from program all_one initial) all_one budget
+Refuses program initial budget (refusal.Hook number) = ⊥
 Refuses program initial budget refusal.Memory = Unit {0}
 
 abbrev pub IsTold : Program → (initial : StepResult) → (budget : ℕ) → Result Told PlayFault → Type 0

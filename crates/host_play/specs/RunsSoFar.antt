@@ -1,11 +1,12 @@
 -- How far a run within a budget of turns has come.
-use Rattle.std.specs.Prelude.{◌≡◌, ℕ, ◌+◌, ◌-◌, ◌<◌, List, ◌++◌, slice_index, Result, Ok, Err}
+use Rattle.std.specs.Prelude.{◌≡◌, ℕ, ◌+◌, ◌-◌, ◌<◌, List, ◌++◌, slice_index, None, Result, Ok, Err}
 use Rattle.wasm_syntax.specs.declared.modules.Module.{Module}
 use Rattle.wasm_syntax.specs.Index.{imported_funcs}
 use Rattle.host_script.specs.declared.scripts.Script.{Script}
 use Rattle.history_spec.specs.declared.entries.Entry.{Entry}
 use Rattle.history_spec.specs.Step.{Program, StepResult}
-use Rattle.history_spec.specs.Run.{all_one, program_of, run_from}
+use Rattle.history_spec.specs.Run.{program_of, run_from}
+use Rattle.wasm_flat.specs.Meters.{Weighing, meter_of}
 use Rattle.host_play.specs.declared.host_steps.PlayStep.{PlayStep}
 use Rattle.host_play.specs.declared.play_state.Stand.{Stand}
 use Rattle.host_play.specs.declared.play_state.Stand.TheVariants as at
@@ -18,22 +19,23 @@ use Rattle.host_play.specs.Results.{Refuses}
 use Rattle.host_play.specs.Stands.{StandsAt}
 use Rattle.host_play.specs.ToldLines.{HasTold, ToldLines}
 
--- a number of steps is made, with this history, and the run goes on from here with what is left of the turns
-pub record ComesTo (m : Module) (script : Script) (initial : StepResult) (budget : ℕ) (history : List Entry)
-    (stand : Stand) (playing : PlayState) (left : ℕ) : Type 0 where
+-- a number of steps is made, with this history, and the run goes on from here with what is left of the turns, which
+-- are taken by a meter of this weighing
+pub record ComesTo (m : Module) (script : Script) (weighing : Weighing) (initial : StepResult) (budget : ℕ)
+    (history : List Entry) (stand : Stand) (playing : PlayState) (left : ℕ) : Type 0 where
   pub steps : ℕ
   pub pending : StepResult
   pub used : ℕ
-  pub run : run_from (program_of m script) all_one initial steps
+  pub run : run_from (program_of m script) (meter_of m weighing) initial steps
       ≡ record { history = history ++ pending.entries; turns = used; at = pending.next }
   pub spent : used + left ≡ budget
   pub standing : StandsAt m script stand playing pending
 
--- the run has come on from such a history, or there is no outcome
+-- the run has come on from such a history, each step by a turn, or there is no outcome
 abbrev pub GoesBy : Module → Script → (initial : StepResult) → (budget : ℕ) → (history : List Entry)
     → Result PlayStep PlayFault → PlayState → (left : ℕ) → Type 0
 GoesBy m script initial budget history (Ok step) playing left =
-    ComesTo m script initial budget (history ++ step.entries) step.stand playing left
+    ComesTo m script None initial budget (history ++ step.entries) step.stand playing left
 GoesBy m script initial budget history (Err fault) playing left = Refuses (program_of m script) initial budget fault
 
 -- each run that has come to here goes on so
@@ -41,7 +43,7 @@ abbrev pub GoesFrom : Script → (budget : ℕ) → Stand → PlayState → (lef
     → Result PlayStep PlayFault → PlayState → (left : ℕ) → Type 0
 GoesFrom script budget stand playing left result after after_left =
     (m : Module) (initial : StepResult) (history : List Entry)
-    → ComesTo m script initial budget history stand playing left
+    → ComesTo m script None initial budget history stand playing left
     → GoesBy m script initial budget history result after after_left
 
 -- ---- what is kept of the history
@@ -50,7 +52,7 @@ GoesFrom script budget stand playing left result after after_left =
 pub record TellsSoFar (m : Module) (script : Script) (initial : StepResult) (budget : ℕ) (told : ToldLines)
     (stand : Stand) (playing : PlayState) (left : ℕ) : Type 0 where
   pub history : List Entry
-  pub reached : ComesTo m script initial budget history stand playing left
+  pub reached : ComesTo m script None initial budget history stand playing left
   pub tells : HasTold told history
 
 abbrev pub TellsOn : Module → Script → (initial : StepResult) → (budget : ℕ)
@@ -67,7 +69,7 @@ pub record HasCounted (imported : ℕ) (counts : List ℕ) (calls : ℕ) (histor
 pub record CountsSoFar (m : Module) (script : Script) (initial : StepResult) (budget : ℕ) (calls : ℕ)
     (stand : Stand) (playing : PlayState) (left : ℕ) : Type 0 where
   pub history : List Entry
-  pub reached : ComesTo m script initial budget history stand playing left
+  pub reached : ComesTo m script None initial budget history stand playing left
   pub counted : HasCounted (imported_funcs m) playing.counts.items calls history
 
 abbrev pub CountsOn : Module → Script → (initial : StepResult) → (budget : ℕ) → (calls : ℕ)
@@ -89,6 +91,15 @@ UpToEnd program initial budget Kept (Err fault) = Refuses program initial budget
 abbrev pub IsOn : Stand → Type 0
 IsOn (at.Over outcome) = ⊥
 IsOn stand = Unit {0}
+
+abbrev pub IsOver : Stand → Type 0
+IsOver (at.Over outcome) = Unit {0}
+IsOver stand = ⊥
+
+-- 1 where the run is not over
+abbrev pub going : Stand → ℕ
+going (at.Over outcome) = 0
+going stand = 1
 
 -- the module or the host begins its part, or the run is over
 abbrev pub BeginsPart : Stand → Type 0

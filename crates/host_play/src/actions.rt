@@ -1,12 +1,13 @@
 // What the host does: its next action, and the end of an answer.
 
-ghost use Rattle.std.specs.Prelude.{◌≡◌, ℕ, ◌+◌, ◌^◌, ◌<◌, Some, None, IfOk, OnOk};
+ghost use Rattle.std.specs.Prelude.{◌≡◌, ℕ, ◌+◌, ◌^◌, ◌<◌, ◌≤◌, Some, None, IfOk, OnOk};
 ghost use Rattle.wasm_syntax.specs.declared.modules.Module.{Module};
 ghost use Rattle.wasm_syntax.specs.declared.values.Val.{Val};
 ghost use Rattle.history_spec.specs.Code.{Code};
 ghost use Rattle.history_spec.specs.Step.{StepResult};
 ghost use Rattle.host_actions.specs.Does.{Does, args_in};
 ghost use Rattle.host_actions.specs.Ready.{AreAddresses, AreOf, IsReady};
+ghost use Rattle.wasm_interp.specs.Ahead.{ahead};
 ghost use Rattle.wasm_interp.specs.Loans.{with_store};
 ghost use Rattle.wasm_interp.specs.Calls.{InvokesRun, IsCallable};
 ghost use Rattle.wasm_interp.specs.State.{IsAtHost};
@@ -17,13 +18,13 @@ ghost use Rattle.host_play.specs.Stands.{IsPlayed, Leads, MakesStep, StandsAt, r
 
 use crate::host_steps::HostStep;
 use crate::play_state::{Host, PlayState, Refusal, Stand};
-use crate::responses::response_to;
+use crate::scripted_host::ScriptedHost;
 use host_actions::{ActionFault, Addresses, Done, Functions, fitting_actions, perform as do_act};
-use host_script::{Action, Address, ResponseEnd, Script};
+use host_script::{Action, Address, ResponseEnd};
 use no_memory::NoMemory;
 use std::alloc::Global;
 use type_safety::rules_hold;
-use wasm_interp::{Machine, calls_are_ready, hosts_go_on};
+use wasm_interp::{Machine, calls_are_ready, hosts_go_on, weightless_turns_end};
 use wasm_syntax::{List, Vals};
 
 /// An address, without wrapping; an argument that it names is that of the call that is answered.
@@ -94,7 +95,7 @@ fn args_of(alloc: Global, action: &Action) -> Result<Vals, NoMemory>
 
 /// The host's next action.
 pub(crate) fn perform(
-    script: &Script,
+    script: &ScriptedHost<'_>,
     alloc: Global,
     playing: &mut PlayState,
     top: Host,
@@ -141,7 +142,7 @@ pub(crate) fn perform(
 }
 
 /// The end of what the topmost activation of the host has to do.
-pub(crate) fn end(script: &Script, playing: &mut PlayState, top: Host) -> HostStep
+pub(crate) fn end(script: &ScriptedHost<'_>, playing: &mut PlayState, top: Host) -> HostStep
     requires played { IsPlayed script.now Stand.Host playing.old }
     requires top { top_of playing.old.hosts ≡ Some top }
     requires done { action_at script.now top ≡ None }
@@ -149,16 +150,19 @@ pub(crate) fn end(script: &Script, playing: &mut PlayState, top: Host) -> HostSt
         → Leads m script.now s (entries_of result) (stand_after result) playing.new }
     ensures counts { playing.new.counts.items ≡ playing.old.counts.items }
     ensures less { rest (stand_after result) playing.new < rest Stand.Host playing.old }
+    ensures ahead { ahead playing.new.machine.flat playing.new.machine.frames
+        ≤ ahead playing.old.machine.flat playing.old.machine.frames }
 {
     calls_are_ready();
     hosts_go_on();
+    weightless_turns_end();
     match top {
         Host::Main { .. } => HostStep::Ends,
         Host::Answer { import, number, .. } => {
-            let Some(response) = response_to(script, import, number) else {
+            let Some(reply) = script.reply(import, number) else {
                 unreachable!();
             };
-            match response.end {
+            match reply.end {
                 ResponseEnd::Trap => HostStep::Traps,
                 ResponseEnd::Return(value) => {
                     playing.machine.resume(value);

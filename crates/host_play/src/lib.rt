@@ -3,6 +3,9 @@
 #![tactic(auto)]
 
 mod actions;
+mod hook_calls;
+mod hooked_parts;
+mod hooked_plays;
 pub mod host_steps;
 mod laws;
 mod modules;
@@ -11,11 +14,13 @@ mod plays;
 mod responses;
 pub mod results;
 mod runs;
+mod scripted_host;
 mod starts;
 mod steps;
 mod tells;
 pub mod told_text;
 
+pub use hooked_plays::play;
 pub use laws::calls_take_turns;
 pub use no_memory::NoMemory;
 pub use plays::{Play, run, tell};

@@ -8,14 +8,16 @@ ghost use Rattle.host_play.specs.Stands.{IsPlayed, LeadsBy, MakesStep, StandsAt,
 
 use crate::host_steps::PlayStep;
 use crate::play_state::{Host, Hosts, PlayState, Refusal, Stand};
-use crate::responses::response_to;
+use crate::scripted_host::ScriptedHost;
 use flat_steps::stores_fit;
 use history_spec::{FaultKind, Outcome};
-use host_script::Script;
 use wasm_interp::Pause;
 
 /// Makes the returns that are due.
-pub(crate) fn settle(script: &Script, playing: &mut PlayState) -> Result<PlayStep, Refusal>
+pub(crate) fn settle(
+    script: &ScriptedHost<'_>,
+    playing: &mut PlayState,
+) -> Result<PlayStep, Refusal>
     requires { IsPlayed script.now Stand.Module playing.old }
     ensures leads { (m : Module) (s : StepResult) → StandsAt m script.now Stand.Module playing.old s
         → LeadsBy m script.now s result playing.new }
@@ -37,7 +39,7 @@ pub(crate) fn settle(script: &Script, playing: &mut PlayState) -> Result<PlaySte
 }
 
 /// The next instruction.
-pub(crate) fn turn(script: &Script, playing: &mut PlayState) -> Result<PlayStep, Refusal>
+pub(crate) fn turn(script: &ScriptedHost<'_>, playing: &mut PlayState) -> Result<PlayStep, Refusal>
     requires { IsPlayed script.now Stand.Instruction playing.old }
     ensures makes { (m : Module) (s : StepResult) → StandsAt m script.now Stand.Instruction playing.old s
         → MakesStep m script.now s result playing.new }
@@ -79,7 +81,7 @@ pub(crate) fn turn(script: &Script, playing: &mut PlayState) -> Result<PlayStep,
 /// The host begins to answer a call of an import. The response is that of the call's number, counted
 /// from 0 for each import.
 pub(crate) fn begin_answer(
-    script: &Script,
+    script: &ScriptedHost<'_>,
     hosts: &mut Hosts,
     counts: &mut Vec<u64>,
     index: u32,
@@ -88,7 +90,7 @@ pub(crate) fn begin_answer(
     ensures { BeginsBy script.now hosts.old counts.old.items index result hosts.new counts.new.items }
 {
     let number = counts[index as usize];
-    let Some(_response) = response_to(script, index, number) else {
+    let Some(_reply) = script.reply(index, number) else {
         return Err(Refusal::Fault {
             kind: FaultKind::NoResponse,
         });

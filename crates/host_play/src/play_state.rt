@@ -1,6 +1,7 @@
 // The state of a run under way.
 
-ghost use Rattle.std.specs.Prelude.{◌≡◌, ◌<◌, ◌^◌, [], ◌∷◌, IfOk, IsSome, OnOk, OnErr};
+ghost use Rattle.std.specs.Prelude.{◌≡◌, ◌<◌, ◌^◌, [], ◌∷◌, IfOk, IsSome, OnOk, OnErr, true, false};
+ghost use Rattle.host_play.specs.RunsSoFar.{IsOn, IsOver};
 ghost use Rattle.host_play.specs.Hosts.{after_next_action, next_of, top_of, below_of};
 ghost use Rattle.host_play.specs.declared.play_state.Refusal.TheVariants.{Memory};
 
@@ -57,6 +58,16 @@ pub enum Stand {
     Host,
     /// The run is over.
     Over { outcome: Outcome },
+}
+
+impl Stand {
+    /// Whether the run is over.
+    pub(crate) fn is_over(&self) -> bool
+        ensures over { result ≡ true → IsOver self.now }
+        ensures on { result ≡ false → IsOn self.now }
+    {
+        matches!(self, Stand::Over { .. })
+    }
 }
 
 /// Why a step is not made.

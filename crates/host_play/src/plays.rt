@@ -13,6 +13,7 @@ ghost use Rattle.host_play.specs.Results.{IsPlayedOut, IsTold};
 
 use crate::results::{PlayFault, Played, Told};
 use crate::runs::run_from;
+use crate::scripted_host::ScriptedHost;
 use crate::tells::tell_from;
 use host_script::Script;
 use std::alloc::Global;
@@ -55,7 +56,7 @@ pub fn tell(alloc: Global, play: Play, turns: u64) -> Result<Told, PlayFault>
         script,
         store,
     } = play;
-    tell_from(alloc, code, flat, script, store, turns)
+    tell_from(alloc, code, flat, &ScriptedHost::of(script), store, turns)
 }
 
 /// The same run without its entries: the module goes on by many turns at once.
@@ -81,5 +82,5 @@ pub fn run(alloc: Global, play: Play, turns: u64) -> Result<Played, PlayFault>
         script,
         store,
     } = play;
-    run_from(alloc, code, flat, script, store, turns)
+    run_from(alloc, code, flat, &ScriptedHost::of(script), store, turns)
 }

@@ -1,11 +1,22 @@
-// What a script says of a call: the response, and the host's next action.
+// What a script says of a call: the response; and the host's next action.
 
-ghost use Rattle.std.specs.Prelude.{◌≡◌, ◌<◌, ◌^◌, None, Some, IsSome, MatchOption, slice_get};
+ghost use Rattle.std.specs.Prelude.{◌≡◌, ◌<◌, ◌≤◌, ◌^◌, None, Some, IsSome, MatchOption, slice_get};
+ghost use Rattle.hook_spec.specs.Hooks.{hook_count};
 ghost use Rattle.history_spec.specs.Step.{response_to};
 ghost use Rattle.host_play.specs.Hosts.{action_at, next_of, IsResponse};
+ghost use Rattle.host_play.specs.Replies.{nothing_done, response_in};
 
 use crate::play_state::Host;
-use host_script::{Action, Response, Script};
+use crate::scripted_host::ScriptedHost;
+use hook_names::HOOK_COUNT;
+use host_script::{Action, Response, ResponseEnd, Script};
+
+/// What the host does at a call of an import: actions in order, and how the call ends.
+#[derive(Clone, Copy)]
+pub struct Reply<'a> {
+    pub actions: &'a [Action],
+    pub end: ResponseEnd,
+}
 
 /// The response to the call of this number, counted from 0, of an import.
 pub(crate) fn response_to(script: &Script, import: u32, number: u64) -> Option<&Response>
@@ -28,21 +39,55 @@ pub(crate) fn response_to(script: &Script, import: u32, number: u64) -> Option<&
     }
 }
 
+/// What the host does at that call by the script.
+pub(crate) fn reply_of(script: &Script, import: u32, number: u64) -> Option<Reply<'_>>
+    ensures own { MatchOption result
+        (response_to script.now.imports import number ≡ None)
+        (λ reply. response_to script.now.imports import number ≡ Some (response_in reply)) }
+    ensures kept { MatchOption result
+        (IsResponse script.now import number None)
+        (λ reply. IsResponse script.now import number (Some (response_in reply))) }
+{
+    match response_to(script, import, number) {
+        Some(response) => Some(Reply {
+            actions: response.actions.as_slice(),
+            end: response.end,
+        }),
+        None => None,
+    }
+}
+
+/// What the host does at a call of a hook, by its place among the hooks.
+pub(crate) fn hook_reply(place: u32) -> Option<Reply<'static>>
+    ensures { MatchOption result
+        (hook_count ≤ place)
+        (λ reply. (place < hook_count) × (response_in reply ≡ nothing_done)) }
+{
+    if place < HOOK_COUNT {
+        Some(Reply {
+            actions: &[],
+            end: ResponseEnd::Return(None),
+        })
+    } else {
+        None
+    }
+}
+
 /// The next action of an activation of the host, where one is left.
-pub(crate) fn next_action(script: &Script, host: Host) -> Option<&Action>
+pub(crate) fn next_action<'a>(script: &ScriptedHost<'a>, host: Host) -> Option<&'a Action>
     ensures found { MatchOption result
         (action_at script.now host ≡ None)
         (λ action. action_at script.now host ≡ Some action.now) }
     ensures small { IsSome result → next_of host < 2 ^ 63 }
 {
     match host {
-        Host::Main { next } => action_in(script.main.as_slice(), next),
+        Host::Main { next } => action_in(script.main(), next),
         Host::Answer {
             import,
             number,
             next,
-        } => match response_to(script, import, number) {
-            Some(response) => action_in(response.actions.as_slice(), next),
+        } => match script.reply(import, number) {
+            Some(reply) => action_in(reply.actions, next),
             None => None,
         },
     }

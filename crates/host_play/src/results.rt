@@ -2,8 +2,10 @@
 
 ghost use Rattle.std.specs.Prelude.{◌≡◌};
 ghost use Rattle.host_play.specs.declared.results.PlayFault.TheVariants.{Memory};
+ghost use Rattle.host_play.specs.HookFaults.{fault_of_hook};
 
 use history_spec::{FaultKind, Outcome};
+use hook_names::HookFault;
 use no_memory::NoMemory;
 use std::alloc::AllocError;
 use thiserror::Error;
@@ -48,8 +50,22 @@ pub enum PlayFault {
     /// All turns are used, and the next step takes one.
     #[error("turns are spent")]
     Spent,
+    /// This call of a hook, by its number from 0, is out of order.
+    #[error("hook call {number} is out of order")]
+    Hook { number: u64 },
     #[error("out of memory")]
     Memory,
+}
+
+impl From<HookFault> for PlayFault {
+    ghost from_gives = { λ refused fault. fault ≡ fault_of_hook refused };
+
+    fn from(refused: HookFault) -> PlayFault {
+        match refused {
+            HookFault::Order { number } => PlayFault::Hook { number },
+            HookFault::Memory => PlayFault::Memory,
+        }
+    }
 }
 
 impl From<NoMemory> for PlayFault {

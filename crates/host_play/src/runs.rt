@@ -20,10 +20,10 @@ use crate::host_steps::HostStep;
 use crate::modules::begin_answer;
 use crate::play_state::{PlayState, Stand};
 use crate::results::{PlayFault, Played, RunEnd};
+use crate::scripted_host::ScriptedHost;
 use crate::starts::start;
 use crate::steps::{go_host, play_fault};
 use history_spec::Outcome;
-use host_script::Script;
 use std::alloc::Global;
 use wasm_flat::{Flat, Meter};
 use wasm_interp::{Pause, calls_are_ready};
@@ -32,7 +32,7 @@ use wasm_syntax::{List, Module};
 
 /// The module's part, by many turns at once: up to the host's next part, or an outcome.
 fn go_module(
-    script: &Script,
+    script: &ScriptedHost<'_>,
     playing: &mut PlayState,
     turns: u64,
     left: &mut u64,
@@ -67,7 +67,7 @@ fn go_module(
 
 /// The module's part, or the host's next action or its end, with the host's calls counted.
 fn run_on(
-    script: &Script,
+    script: &ScriptedHost<'_>,
     alloc: Global,
     playing: &mut PlayState,
     calls: &mut u64,
@@ -106,7 +106,7 @@ pub(crate) fn run_from(
     alloc: Global,
     module: &Module,
     flat: Flat,
-    script: &Script,
+    script: &ScriptedHost<'_>,
     store: Store,
     turns: u64,
 ) -> Result<Played, PlayFault>
@@ -125,7 +125,7 @@ pub(crate) fn run_from(
 
 /// The run from its start, with what the host did first, without its entries.
 fn run_start(
-    script: &Script,
+    script: &ScriptedHost<'_>,
     alloc: Global,
     playing: PlayState,
     host_step: &HostStep,
@@ -150,7 +150,7 @@ fn run_start(
 
 /// Goes on from where control stands first until the run is over, with the host's calls counted.
 fn run_parts(
-    script: &Script,
+    script: &ScriptedHost<'_>,
     alloc: Global,
     playing: &mut PlayState,
     calls: &mut u64,

@@ -15,9 +15,9 @@ ghost use Rattle.host_play.specs.Starts.{CanStart, LeadsFirst, Starts, functions
 use crate::actions::call;
 use crate::host_steps::HostStep;
 use crate::play_state::{Host, Hosts, PlayState};
+use crate::scripted_host::ScriptedHost;
 use flat_steps::stores_fit;
 use host_actions::Functions;
-use host_script::Script;
 use no_memory::NoMemory;
 use std::alloc::Global;
 use type_safety::typed_code;
@@ -36,7 +36,7 @@ pub(crate) fn start(
     alloc: Global,
     module: &Module,
     flat: Flat,
-    script: &Script,
+    script: &ScriptedHost<'_>,
     store: Store,
 ) -> Result<(PlayState, HostStep), NoMemory>
     requires supported { IsSupported «module».now }

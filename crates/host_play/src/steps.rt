@@ -1,8 +1,12 @@
 // Steps of a run within a budget of turns.
 
 ghost use Rattle.std.specs.Prelude.{◌≡◌, ℕ, ◌+◌, ◌-◌, ◌*◌, ◌<◌, ◌≤◌, List, IfOk};
-ghost use Rattle.host_play.specs.HostSteps.{play_step_result, stand_after};
-ghost use Rattle.host_play.specs.Stands.{IsPlayed, rest};
+ghost use Rattle.wasm_syntax.specs.declared.modules.Module.{Module};
+ghost use Rattle.history_spec.specs.Step.{StepResult};
+ghost use Rattle.host_play.specs.HostParts.{HostGoes};
+ghost use Rattle.host_play.specs.HooksSoFar.{IsLess};
+ghost use Rattle.host_play.specs.HostSteps.{stand_after};
+ghost use Rattle.host_play.specs.Stands.{IsPlayed, StandsAt, rest};
 ghost use Rattle.host_play.specs.RunsSoFar.{GoesFrom, IsOn};
 ghost use Rattle.host_play.specs.Results.{play_fault};
 
@@ -12,7 +16,7 @@ use crate::modules::{settle, turn};
 use crate::play_state::{PlayState, Refusal, Stand};
 use crate::responses::next_action;
 use crate::results::PlayFault;
-use host_script::Script;
+use crate::scripted_host::ScriptedHost;
 use std::alloc::Global;
 
 /// Why a step is not made, with its turn: of a number of turns these are left.
@@ -31,7 +35,7 @@ pub(crate) fn play_fault(refusal: Refusal, turns: u64, left: u64) -> PlayFault
 
 /// The host's next action, where a turn is left for it, or the end of what it has to do.
 pub(crate) fn go_host(
-    script: &Script,
+    script: &ScriptedHost<'_>,
     alloc: Global,
     playing: &mut PlayState,
     turns: u64,
@@ -39,11 +43,13 @@ pub(crate) fn go_host(
 ) -> Result<HostStep, PlayFault>
     requires played { IsPlayed script.now Stand.Host playing.old }
     requires left { left.old ≤ turns }
-    ensures goes { GoesFrom script.now turns Stand.Host playing.old left.old
-        (play_step_result result) playing.new left.new }
+    ensures goes { (m : Module) (s : StepResult) → StandsAt m script.now Stand.Host playing.old s
+        → HostGoes m script.now s turns left.old result playing.new left.new }
     ensures counts { playing.new.counts.items ≡ playing.old.counts.items }
     ensures less { IfOk result (λ host_step.
         4 * left.new + rest (stand_after host_step) playing.new < 4 * left.old + rest Stand.Host playing.old) }
+    ensures lower { IfOk result (λ host_step.
+        IsLess left.old Stand.Host playing.old left.new (stand_after host_step) playing.new) }
     ensures left { left.new ≤ turns }
 {
     let Some(top) = playing.hosts.top() else {
@@ -64,7 +70,7 @@ pub(crate) fn go_host(
 
 /// The next step, where a turn is left for it, or what follows without a turn, with the entries.
 pub(crate) fn go(
-    script: &Script,
+    script: &ScriptedHost<'_>,
     alloc: Global,
     playing: &mut PlayState,
     stand: Stand,

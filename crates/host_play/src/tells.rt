@@ -21,11 +21,11 @@ ghost use Rattle.host_play.specs.ToldLines.{Tells};
 use crate::host_steps::HostStep;
 use crate::play_state::{PlayState, Stand};
 use crate::results::{PlayFault, RunEnd, Told};
+use crate::scripted_host::ScriptedHost;
 use crate::starts::start;
 use crate::steps::go;
 use crate::told_text::ToldText;
 use history_lines::print_outcome;
-use host_script::Script;
 use no_memory::NoMemory;
 use std::alloc::Global;
 use wasm_flat::Flat;
@@ -38,7 +38,7 @@ pub(crate) fn tell_from(
     alloc: Global,
     module: &Module,
     flat: Flat,
-    script: &Script,
+    script: &ScriptedHost<'_>,
     store: Store,
     turns: u64,
 ) -> Result<Told, PlayFault>
@@ -56,7 +56,7 @@ pub(crate) fn tell_from(
 
 /// The run from its start, told, with what the host did first.
 fn tell_start(
-    script: &Script,
+    script: &ScriptedHost<'_>,
     alloc: Global,
     playing: &mut PlayState,
     host_step: HostStep,
@@ -92,7 +92,7 @@ fn tell_first(
 
 /// Goes on from where control stands first until the run is over, and tells the entries.
 fn tell_steps(
-    script: &Script,
+    script: &ScriptedHost<'_>,
     alloc: Global,
     playing: &mut PlayState,
     text_so_far: &mut ToldText,
@@ -124,7 +124,7 @@ fn tell_steps(
 
 /// Goes on from where control stands, and tells the entries.
 fn tell_on(
-    script: &Script,
+    script: &ScriptedHost<'_>,
     alloc: Global,
     playing: &mut PlayState,
     text_so_far: &mut ToldText,

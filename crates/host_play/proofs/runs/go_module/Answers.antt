@@ -1,10 +1,11 @@
 use Rattle.std.proofs.Common.{◌-◌, ◌∷◌, ◌≤◌, subst, sym, refl, arith}
+use Rattle.std.specs.Prelude.{None}
 use Rattle.history_spec.specs.Configuration.{InModule}
 use Rattle.history_spec.specs.Run.{program_of}
 use Rattle.wasm_interp.specs.Advance.{Advances}
 use Rattle.wasm_interp.specs.Calls.{AdvancesRun}
 use Rattle.host_play.specs.Results.{Refuses}
-use Rattle.host_play.proofs.ModuleParts.{counted_import, import_decreases, import_takes_turn, no_more_left, to_host, to_trap, to_import, to_spent, without_response}
+use Rattle.host_play.proofs.ModuleParts.{counted_import, counts_to_host, counts_to_import, counts_to_trap, fault_without_response, import_decreases, import_takes_turn, no_more_left, to_spent}
 use Rattle.host_play.proofs.runs.go_module.Goals as goal
 
 pub advance-requires-clause-fits : goal.advance-requires-clause-fits
@@ -12,12 +13,12 @@ advance-requires-clause-fits c = c.calls_are_ready.ensures.fits c.requires.playe
 
 pub begin_answer-requires : goal.begin_answer-requires
 begin_answer-requires c =
-    counted_import c.requires.played.0 c.args.script.now c.requires.played.1 c.args.playing.now c.requires.played.2 c.args.left.now c.in_ok-pause.pause c.advance.new.self c.advance.new.turns
+    counted_import c.requires.played.0 c.args.script.now None c.requires.played.1 c.args.playing.now c.requires.played.2 c.args.left.now c.in_ok-pause.pause c.advance.new.self c.advance.new.turns
     (subst (λ w. AdvancesRun c.args.playing.now.machine w c.args.left.now c.in_ok-pause.pause c.advance.new.turns c.advance.new.self) c.all_one-meter.ensures c.in_ok-pause.ensures.run) c.in-Import.index c.in-Import.is
 
 pub returns-in-Ok-clause-goes : goal.returns-in-Ok-clause-goes
 returns-in-Ok-clause-goes c = λ m initial calls t.
-    to_import m c.args.script.now t.reached.pending c.args.playing.now t.reached.standing c.args.left.now c.in_ok-pause.pause c.advance.new.self c.advance.new.turns
+    counts_to_import m c.args.script.now t.reached.pending c.args.playing.now t.reached.standing c.args.left.now c.in_ok-pause.pause c.advance.new.self c.advance.new.turns
     (subst (λ w. AdvancesRun c.args.playing.now.machine w c.args.left.now c.in_ok-pause.pause c.advance.new.turns c.advance.new.self) c.all_one-meter.ensures c.in_ok-pause.ensures.run)
     initial c.args.turns t.reached.steps t.reached.used t.history t.reached.run t.reached.spent calls t.counted c.in-Import.index c.in-Import.is c.begin_answer.new.hosts _ refl refl refl c.in-Ok.ensures
 
@@ -27,25 +28,25 @@ returns-in-Import-clause-goes c = λ m initial calls t.
     let before : c.args.left.now ≤ c.args.turns = c.requires.left in
     let small : c.advance.new.turns ≤ c.args.turns = omega arith in
     subst (Refuses (program_of m c.args.script.now) initial c.args.turns) (sym c.play_fault.ensures)
-    (without_response m c.args.script.now t.reached.pending c.args.playing.now t.reached.standing c.args.left.now c.in_ok-pause.pause c.advance.new.self c.advance.new.turns
+    (fault_without_response m c.args.script.now t.reached.pending c.args.playing.now t.reached.standing c.args.left.now c.in_ok-pause.pause c.advance.new.self c.advance.new.turns
     (subst (λ w. AdvancesRun c.args.playing.now.machine w c.args.left.now c.in_ok-pause.pause c.advance.new.turns c.advance.new.self) c.all_one-meter.ensures c.in_ok-pause.ensures.run)
     initial c.args.turns t.reached.steps t.reached.used t.history t.reached.run t.reached.spent c.in-Import.index c.in-Import.is c.in-Err.refusal (c.args.turns - c.advance.new.turns) (omega arith) c.in-Err.ensures)
 
 pub returns-in-Returned-clause-goes : goal.returns-in-Returned-clause-goes
 returns-in-Returned-clause-goes c = λ m initial calls t.
-    to_host m c.args.script.now t.reached.pending c.args.playing.now t.reached.standing c.args.left.now c.in_ok-pause.pause c.advance.new.self c.advance.new.turns
+    counts_to_host m c.args.script.now t.reached.pending c.args.playing.now t.reached.standing c.args.left.now c.in_ok-pause.pause c.advance.new.self c.advance.new.turns
     (subst (λ w. AdvancesRun c.args.playing.now.machine w c.args.left.now c.in_ok-pause.pause c.advance.new.turns c.advance.new.self) c.all_one-meter.ensures c.in_ok-pause.ensures.run)
     initial c.args.turns t.reached.steps t.reached.used t.history t.reached.run t.reached.spent calls t.counted c.in-Returned.is
 
 pub returns-in-Trapped-clause-goes : goal.returns-in-Trapped-clause-goes
 returns-in-Trapped-clause-goes c = λ m initial calls t.
-    to_trap m c.args.script.now t.reached.pending c.args.playing.now t.reached.standing c.args.left.now c.in_ok-pause.pause c.advance.new.self c.advance.new.turns
+    counts_to_trap m c.args.script.now t.reached.pending c.args.playing.now t.reached.standing c.args.left.now c.in_ok-pause.pause c.advance.new.self c.advance.new.turns
     (subst (λ w. AdvancesRun c.args.playing.now.machine w c.args.left.now c.in_ok-pause.pause c.advance.new.turns c.advance.new.self) c.all_one-meter.ensures c.in_ok-pause.ensures.run)
     initial c.args.turns t.reached.steps t.reached.used t.history t.reached.run t.reached.spent calls t.counted c.in-Trapped.is
 
 pub returns-clause-goes : goal.returns-clause-goes
 returns-clause-goes c = λ m initial calls t.
-    to_spent m c.args.script.now t.reached.pending c.args.playing.now t.reached.standing c.args.left.now c.in_ok-pause.pause c.advance.new.self c.advance.new.turns
+    to_spent m c.args.script.now None t.reached.pending c.args.playing.now t.reached.standing c.args.left.now c.in_ok-pause.pause c.advance.new.self c.advance.new.turns
     (subst (λ w. AdvancesRun c.args.playing.now.machine w c.args.left.now c.in_ok-pause.pause c.advance.new.turns c.advance.new.self) c.all_one-meter.ensures c.in_ok-pause.ensures.run)
     initial c.args.turns t.reached.steps t.reached.used t.history t.reached.run t.reached.spent c.in-Spent.is
 

@@ -1,0 +1,102 @@
+-- How far a run with hooks within a budget of turns has come.
+use Rattle.std.specs.Prelude.{◌≡◌, ℕ, ◌+◌, ◌*◌, ◌<◌, ◌≤◌, List, Some, Result, Ok, Err, length, slice_get, ◌⊎◌}
+use Rattle.wasm_syntax.specs.declared.values.Val.{Val}
+use Rattle.wasm_syntax.specs.declared.modules.Module.{Module}
+use Rattle.wasm_syntax.specs.Index.{imported_funcs}
+use Rattle.host_script.specs.declared.scripts.Script.{Script}
+use Rattle.history_spec.specs.declared.entries.Entry.{Entry}
+use Rattle.history_spec.specs.Code.{code_of, signature}
+use Rattle.history_spec.specs.Run.{program_of}
+use Rattle.history_spec.specs.Step.{StepResult, response_to}
+use Rattle.wasm_flat.specs.Meters.{FitsMeter, Weighing, meter_of}
+use Rattle.wasm_interp.specs.Ahead.{ahead}
+use Rattle.wasm_interp.specs.Frames.{argument_of}
+use Rattle.wasm_interp.specs.State.{IsWaiting, State}
+use Rattle.hook_spec.specs.declared.hooks.Hook.{Hook}
+use Rattle.hook_spec.specs.Hooks.{hooks, hook_count, hook_params, hook_type}
+use Rattle.hook_names.specs.Steps.{Steps}
+use Rattle.host_play.specs.declared.play_state.PlayState.{PlayState}
+use Rattle.host_play.specs.declared.play_state.Stand.{Stand}
+use Rattle.host_play.specs.declared.results.PlayFault.{PlayFault}
+use Rattle.host_play.specs.HookedResults.{HookedRun, HooksLead, RefusesWithHooks}
+use Rattle.host_play.specs.Replies.{nothing_done}
+use Rattle.host_play.specs.RunsSoFar.{ComesTo}
+use Rattle.host_play.specs.Stands.{StandsAt, rest}
+
+-- ---- hooks
+
+-- after a number of imports a module imports the hooks with their types, and the script answers them by doing nothing
+pub record HasHooks (m : Module) (script : Script) (imports : ℕ) : Type 0 where
+  pub imported : imported_funcs m ≡ imports + hook_count
+  pub has_type : (place : ℕ) (kind : Hook) → slice_get hooks place ≡ Some kind
+      → signature (code_of m) (imports + place) ≡ Some (hook_type kind)
+  pub answered : (import number : ℕ) → imports ≤ import → import < imported_funcs m
+      → response_to script.imports import number ≡ Some nothing_done
+
+-- the machine waits at a call of an import with these arguments
+pub record HasArguments (machine : State) (args : List Val) : Type 0 where
+  pub waits : IsWaiting machine.flat machine.frames
+  pub each : (number : ℕ) → argument_of machine.flat machine.frames machine.slots number ≡ slice_get args number
+
+-- they are as many as a hook takes
+abbrev pub AreArguments : State → Hook → List Val → Type 0
+AreArguments machine kind args = HasArguments machine args × (length args ≡ length (hook_params kind))
+
+-- where the import is none of those that stand before the hooks, it is a hook that takes so many
+pub record CallsHook (imports import : ℕ) (args : List Val) : Type 0 where
+  pub there : imports ≤ import → import < imports + hook_count
+  pub count : (place : ℕ) (kind : Hook) → slice_get hooks place ≡ Some kind → import ≡ imports + place
+      → length args ≡ length (hook_params kind)
+
+abbrev pub AwaitsCall : State → (imports import : ℕ) → List Val → Type 0
+AwaitsCall machine imports import args = HasArguments machine args × CallsHook imports import args
+
+-- ---- runs
+
+-- the run of a module under a script, as one with hooks
+abbrev pub run_in : Module → Script → Weighing → (imports : ℕ) → StepResult → (budget : ℕ) → HookedRun
+run_in m script weighing imports initial budget =
+    record {
+      imports = imports;
+      program = program_of m script;
+      meter = meter_of m weighing;
+      initial = initial;
+      budget = budget;
+    }
+
+-- what a run with hooks rests on
+pub record CanPlay (m : Module) (script : Script) (weighing : Weighing) (imports : ℕ) : Type 0 where
+  pub fits : FitsMeter m weighing
+  pub hooks : HasHooks m script imports
+
+-- it has come to here, and the hooks took its calls so far
+pub record HooksSoFar {H : Type 0} (is_step : Steps H) (m : Module) (script : Script) (weighing : Weighing)
+    (imports : ℕ) (initial : StepResult) (budget : ℕ) (begun now : H) (stand : Stand) (playing : PlayState)
+    (left : ℕ) : Type 0 where
+  pub can_play : CanPlay m script weighing imports
+  pub history : List Entry
+  pub reached : ComesTo m script weighing initial budget history stand playing left
+  pub told : HooksLead is_step (run_in m script weighing imports initial budget) reached.steps begun (Ok tt) now
+
+abbrev pub HooksOn : {H : Type 0} → Steps H → Module → Script → Weighing → (imports : ℕ) → StepResult → (budget : ℕ)
+    → (begun now : H) → Result Stand PlayFault → PlayState → (left : ℕ) → Type 0
+HooksOn is_step m script weighing imports initial budget begun now (Ok stand) playing left =
+    HooksSoFar is_step m script weighing imports initial budget begun now stand playing left
+HooksOn is_step m script weighing imports initial budget begun now (Err fault) playing left =
+    RefusesWithHooks is_step (run_in m script weighing imports initial budget) fault begun now
+
+-- some run with hooks stands here
+abbrev pub IsHooked : Script → Weighing → (imports : ℕ) → Stand → PlayState → Type 0
+IsHooked script weighing imports stand playing =
+    (m : Module) × (s : StepResult) × StandsAt m script stand playing s × CanPlay m script weighing imports
+
+-- ---- how much is left to do
+
+-- without a turn: the code that activations have ahead of them, and the host's activations
+abbrev pub free : Stand → PlayState → ℕ
+free stand playing = 2 * ahead playing.machine.flat playing.machine.frames + rest stand playing
+
+-- there are fewer turns, or as many and less to do without one
+abbrev pub IsLess : (before : ℕ) → Stand → PlayState → (after : ℕ) → Stand → PlayState → Type 0
+IsLess before stand playing after next later =
+    (after < before) ⊎ ((after ≡ before) × (free next later < free stand playing))

@@ -1,0 +1,103 @@
+// Calls of hooks: what the hooks are told of them.
+
+ghost use Rattle.std.specs.Prelude.{◌≡◌, ℕ, ◌-◌, ◌<◌, ◌≤◌, List, Some, length, slice_get};
+ghost use Rattle.wasm_syntax.specs.declared.values.Val as vals;
+ghost use Rattle.hook_names.specs.Steps.{IsRun};
+ghost use Rattle.hook_spec.specs.Hooks.{hooks as all_hooks, hook_count, hook_params};
+ghost use Rattle.hook_spec.specs.HookedRuns.{call_of_hook};
+ghost use Rattle.wasm_interp.specs.Frames.{argument_of};
+ghost use Rattle.wasm_interp.specs.State.{IsWaiting};
+ghost use Rattle.host_play.specs.HooksSoFar.{AreArguments, AwaitsCall, HasArguments};
+
+use hook_names::{HookFault, Hooks, View};
+use hook_spec::Hook;
+use wasm_interp::Machine;
+use wasm_syntax::{Val, ValType};
+
+/// The hooks in the order of their imports.
+static HOOKS: [Hook; 15] = [
+    Hook::Arg,
+    Hook::Enter,
+    Hook::Leave,
+    Hook::Pre,
+    Hook::Post,
+    Hook::Ipre,
+    Hook::Ipost,
+    Hook::Load,
+    Hook::Store,
+    Hook::Size,
+    Hook::Grow,
+    Hook::Gget,
+    Hook::Gset,
+    Hook::Copy,
+    Hook::Fill,
+];
+
+/// A hook by its place among the hooks.
+fn hook_at(place: u32) -> Hook
+    requires { place < hook_count }
+    ensures { slice_get all_hooks place ≡ Some result }
+{
+    HOOKS[place as usize]
+}
+
+/// How many arguments a hook takes.
+fn argument_count(kind: Hook) -> u32
+    ensures count { result ≡ length (hook_params kind) }
+    ensures few { result ≤ 4 }
+{
+    match kind {
+        Hook::Ipost | Hook::Size => 0,
+        Hook::Enter | Hook::Leave | Hook::Pre | Hook::Post | Hook::Ipre | Hook::Grow => 1,
+        Hook::Arg | Hook::Gget | Hook::Gset => 2,
+        Hook::Load | Hook::Copy | Hook::Fill => 3,
+        Hook::Store => 4,
+    }
+}
+
+/// The first arguments of the call of an import at which the machine waits.
+fn arguments(machine: &Machine, count: u32) -> [Val; 4]
+    requires few { count ≤ 4 }
+    requires waits { (args : List vals.Val) × HasArguments machine.now args × (length args ≡ count) }
+    ensures each { (number : ℕ) → number < count
+        → argument_of machine.now.flat machine.now.frames machine.now.slots number ≡ slice_get result number }
+    ensures room { length result ≡ 4 }
+{
+    let mut args = [Val {
+        ty: ValType::I32,
+        bits: 0,
+    }; 4];
+    'numbers: for number in 0..count {
+        args[number as usize] = machine.argument(number);
+    }
+    args
+}
+
+/// Calls a hook with the arguments of the call of an import at which the machine waits, and with a view of its store.
+fn call_hook<H: Hooks>(hooks: &mut H, machine: &Machine, kind: Hook) -> Result<(), HookFault>
+    requires waits { (args : List vals.Val) × AreArguments machine.now kind args }
+    ensures { (args : List vals.Val) → AreArguments machine.now kind args
+        → H.is_step hooks.old (record { kind = kind; args = args; view = machine.now.store }) result hooks.new }
+{
+    let count = argument_count(kind);
+    let args = arguments(machine, count);
+    hooks.hook(kind, &args[..count as usize], &View::of(machine.store()))
+}
+
+/// The hooks take the call of an import at which the machine waits, where it is a hook's: where it is none of a number
+/// of imports.
+pub(crate) fn take_call<H: Hooks>(
+    hooks: &mut H,
+    machine: &Machine,
+    imports: u32,
+    import: u32,
+) -> Result<(), HookFault>
+    requires waits { (args : List vals.Val) × AwaitsCall machine.now imports import args }
+    ensures { (args : List vals.Val) → AwaitsCall machine.now imports import args
+        → IsRun H.is_step hooks.old (call_of_hook imports import args machine.now.store) result hooks.new }
+{
+    if import < imports {
+        return Ok(());
+    }
+    call_hook(hooks, machine, hook_at(import - imports))
+}

@@ -1,0 +1,170 @@
+// The parts of a run with hooks.
+
+ghost use Rattle.std.specs.Prelude.{◌≡◌, ℕ, ◌<◌, ◌≤◌, ◌⊎◌, IfOk, OnOk};
+ghost use Rattle.wasm_syntax.specs.declared.modules.Module.{Module};
+ghost use Rattle.history_spec.specs.Step.{StepResult};
+ghost use Rattle.host_play.specs.RunsSoFar.{BeginsPart, IsOn, IsOver};
+ghost use Rattle.host_play.specs.HookedResults.{IsPlayedWithHooks};
+ghost use Rattle.host_play.specs.HooksSoFar.{HooksOn, HooksSoFar, IsHooked, IsLess, run_in};
+
+use crate::hook_calls::take_call;
+use crate::modules::begin_answer;
+use crate::play_state::{PlayState, Stand};
+use crate::results::PlayFault;
+use crate::scripted_host::ScriptedHost;
+use crate::steps::{go_host, play_fault};
+use history_spec::Outcome;
+use hook_names::Hooks;
+use std::alloc::Global;
+use wasm_flat::Meter;
+use wasm_interp::{Pause, calls_are_ready, meters_fit, weightless_turns_end};
+
+/// The module's part, by many turns at once: up to the host's next part, or an outcome. The call of a hook goes to the
+/// hooks before it is answered.
+fn advance_module<H: Hooks>(
+    script: &ScriptedHost<'_>,
+    hooks: &mut H,
+    imports: u32,
+    playing: &mut PlayState,
+    meter: &Meter,
+    turns: u64,
+    left: &mut u64,
+) -> Result<Stand, PlayFault>
+    requires hooked { IsHooked script.now meter.now imports Stand.Module playing.old }
+    requires left { left.old ≤ turns }
+    ensures goes { (m : Module) (initial : StepResult) (begun : H)
+        → HooksSoFar H.is_step m script.now meter.now imports initial turns begun hooks.old Stand.Module playing.old
+        left.old
+        → HooksOn H.is_step m script.now meter.now imports initial turns begun hooks.new result playing.new left.new }
+    ensures less { IfOk result (λ next. IsLess left.old Stand.Module playing.old left.new next playing.new) }
+    ensures part { IfOk result (λ next. BeginsPart next) }
+    ensures left { OnOk result (left.new ≤ turns) }
+{
+    calls_are_ready();
+    meters_fit();
+    weightless_turns_end();
+    let pause = playing.machine.advance(meter, left)?;
+    match pause {
+        Pause::Import { index } => {
+            if let Err(fault) = take_call(hooks, &playing.machine, imports, index) {
+                return Err(PlayFault::from(fault));
+            }
+            match begin_answer(script, &mut playing.hosts, &mut playing.counts, index) {
+                Ok(()) => Ok(Stand::Host),
+                Err(refusal) => Err(play_fault(refusal, turns, *left)),
+            }
+        }
+        Pause::Returned => Ok(Stand::Host),
+        Pause::Trapped => Ok(Stand::Over {
+            outcome: Outcome::Trapped,
+        }),
+        Pause::Spent => Err(PlayFault::Spent),
+    }
+}
+
+/// The module's part, or the host's next action or its end.
+fn go_on<H: Hooks>(
+    script: &ScriptedHost<'_>,
+    alloc: Global,
+    hooks: &mut H,
+    imports: u32,
+    playing: &mut PlayState,
+    meter: &Meter,
+    stand: Stand,
+    turns: u64,
+    left: &mut u64,
+) -> Result<Stand, PlayFault>
+    requires hooked { IsHooked script.now meter.now imports stand playing.old }
+    requires on { IsOn stand }
+    requires part { BeginsPart stand }
+    requires left { left.old ≤ turns }
+    ensures goes { (m : Module) (initial : StepResult) (begun : H)
+        → HooksSoFar H.is_step m script.now meter.now imports initial turns begun hooks.old stand playing.old left.old
+        → HooksOn H.is_step m script.now meter.now imports initial turns begun hooks.new result playing.new left.new }
+    ensures less { IfOk result (λ next. IsLess left.old stand playing.old left.new next playing.new) }
+    ensures part { IfOk result (λ next. BeginsPart next) }
+    ensures left { OnOk result (left.new ≤ turns) }
+{
+    match stand {
+        Stand::Module => advance_module(script, hooks, imports, playing, meter, turns, left),
+        Stand::Host => match go_host(script, alloc, playing, turns, left) {
+            Ok(host_step) => Ok(host_step.stand()),
+            Err(fault) => Err(fault),
+        },
+        Stand::Instruction | Stand::Over { .. } => unreachable!(),
+    }
+}
+
+/// Goes on from where control stands first until a turn is taken or the run is over.
+fn go_until_turn<H: Hooks>(
+    script: &ScriptedHost<'_>,
+    alloc: Global,
+    hooks: &mut H,
+    imports: u32,
+    playing: &mut PlayState,
+    meter: &Meter,
+    first: Stand,
+    turns: u64,
+    left: &mut u64,
+) -> Result<Stand, PlayFault>
+    requires so_far { (m : Module) × (initial : StepResult) × (begun : H)
+        × HooksSoFar H.is_step m script.now meter.now imports initial turns begun hooks.old first playing.old left.old }
+    requires on { IsOn first }
+    requires part { BeginsPart first }
+    requires left { left.old ≤ turns }
+    ensures goes { (m : Module) (initial : StepResult) (begun : H)
+        → HooksSoFar H.is_step m script.now meter.now imports initial turns begun hooks.old first playing.old left.old
+        → HooksOn H.is_step m script.now meter.now imports initial turns begun hooks.new result playing.new left.new }
+    ensures less { IfOk result (λ next. (left.new < left.old) ⊎ ((left.new ≤ left.old) × IsOver next)) }
+    ensures part { IfOk result (λ next. BeginsPart next) }
+    ensures left { OnOk result (left.new ≤ turns) }
+{
+    let before = *left;
+    let mut stand = first;
+    'parts: loop {
+        match go_on(
+            script, alloc, hooks, imports, playing, meter, stand, turns, left,
+        ) {
+            Ok(next) => {
+                if *left < before || next.is_over() {
+                    return Ok(next);
+                }
+                stand = next;
+            }
+            Err(fault) => return Err(fault),
+        }
+    }
+}
+
+/// Goes on from where control stands first until the run is over.
+pub(crate) fn play_parts<H: Hooks>(
+    script: &ScriptedHost<'_>,
+    alloc: Global,
+    hooks: &mut H,
+    imports: u32,
+    playing: &mut PlayState,
+    meter: &Meter,
+    first: Stand,
+    turns: u64,
+) -> Result<Outcome, PlayFault>
+    requires so_far { (m : Module) × (initial : StepResult) × (begun : H)
+        × HooksSoFar H.is_step m script.now meter.now imports initial turns begun hooks.old first playing.old turns }
+    requires part { BeginsPart first }
+    ensures { (m : Module) (initial : StepResult) (begun : H)
+        → HooksSoFar H.is_step m script.now meter.now imports initial turns begun hooks.old first playing.old turns
+        → IsPlayedWithHooks H.is_step (run_in m script.now meter.now imports initial turns) result begun hooks.new }
+{
+    let mut stand = first;
+    let mut left = turns;
+    'turns: loop {
+        if let Stand::Over { outcome } = stand {
+            return Ok(outcome);
+        }
+        match go_until_turn(
+            script, alloc, hooks, imports, playing, meter, stand, turns, &mut left,
+        ) {
+            Ok(next) => stand = next,
+            Err(fault) => return Err(fault),
+        }
+    }
+}

@@ -1,0 +1,133 @@
+// The run of a module in the hooked form, with hooks that take its calls.
+
+ghost use Rattle.std.specs.Prelude.{◌≡◌};
+ghost use Rattle.wasm_syntax.specs.declared.modules.Module as syntax;
+ghost use Rattle.wasm_syntax.specs.Validity.{IsValid};
+ghost use Rattle.wasm_syntax.specs.Profile.{IsSupported};
+ghost use Rattle.host_script.specs.Fits.{Fits};
+ghost use Rattle.history_spec.specs.Run.{start_in_store};
+ghost use Rattle.history_spec.specs.Step.{StepResult};
+ghost use Rattle.type_safety.specs.Stores.{IsStore};
+ghost use Rattle.wasm_flat.specs.Bounds.{IsBound};
+ghost use Rattle.wasm_flat.specs.FlatCode.{flat_of};
+ghost use Rattle.wasm_flat.specs.Meters.{FitsMeter};
+ghost use Rattle.host_play.specs.HookedResults.{HasHooksAfter, IsPlayedWithHooks, hooked_run};
+ghost use Rattle.host_play.specs.HooksSoFar.{CanPlay, run_in};
+ghost use Rattle.host_play.specs.HostSteps.{entries_of, stand_after};
+ghost use Rattle.host_play.specs.Stands.{Leads};
+
+use crate::hooked_parts::play_parts;
+use crate::host_steps::HostStep;
+use crate::play_state::PlayState;
+use crate::plays::Play;
+use crate::results::PlayFault;
+use crate::scripted_host::ScriptedHost;
+use crate::starts::start;
+use history_spec::Outcome;
+use hook_names::Hooks;
+use std::alloc::Global;
+use wasm_flat::{Flat, Meter};
+use wasm_store::Store;
+use wasm_syntax::Module;
+
+/// The run of a module whose last imported functions are the hooks, under a script and a meter, within a number of
+/// turns. A number of imports stand before the hooks. Each call of a hook goes to `hooks` with its arguments and a view
+/// of the store as it is then, and is answered by doing nothing, whatever the script has in the hooks' places; all else
+/// is as in `run`. The script and the meter fit the module, no instruction of which is refused.
+///
+/// # Errors
+///
+/// `Fault` where the host cannot do what the script says, with the turn as in `run`. `Spent` where the run needs more
+/// turns. `Hook` where the hooks find a call out of order, with its number; the run goes no further. `Memory` where
+/// memory is out, also where the hooks find none. Each of the calls of hooks up to there is a step of the hooks.
+pub fn play<H: Hooks>(
+    alloc: Global,
+    play: Play,
+    meter: &Meter,
+    turns: u64,
+    imports: u32,
+    hooks: &mut H,
+) -> Result<Outcome, PlayFault>
+    requires valid { IsValid play.code.now }
+    requires supported { IsSupported play.code.now }
+    requires hooked { HasHooksAfter play.code.now imports }
+    requires meter { FitsMeter play.code.now meter.now }
+    requires fits { Fits play.code.now play.script.now }
+    requires flat { play.flat ≡ flat_of play.code.now }
+    requires bound { IsBound play.flat }
+    requires store { IsStore play.code.now play.store }
+    ensures { IsPlayedWithHooks H.is_step
+        (hooked_run play.entry.code.now play.entry.script.now play.entry.store meter.now imports turns)
+        result hooks.old hooks.new }
+{
+    let Play {
+        code,
+        flat,
+        script,
+        store,
+    } = play;
+    let host = ScriptedHost::with_hooks(script, imports);
+    play_from(
+        alloc, code, flat, &host, store, meter, turns, imports, hooks,
+    )
+}
+
+/// The run of a module by its flat code and from the store that it starts with.
+fn play_from<H: Hooks>(
+    alloc: Global,
+    module: &Module,
+    flat: Flat,
+    script: &ScriptedHost<'_>,
+    store: Store,
+    meter: &Meter,
+    turns: u64,
+    imports: u32,
+    hooks: &mut H,
+) -> Result<Outcome, PlayFault>
+    requires valid { IsValid «module».now }
+    requires supported { IsSupported «module».now }
+    requires flat { flat ≡ flat_of «module».now }
+    requires bound { IsBound flat }
+    requires store { IsStore «module».now store }
+    requires fits { Fits «module».now script.now }
+    requires hooked { CanPlay «module».now script.now meter.now imports }
+    ensures { IsPlayedWithHooks H.is_step
+        (run_in «module».now script.now meter.now imports (start_in_store «module».now script.now store) turns)
+        result hooks.old hooks.new }
+{
+    let (playing, host_step) = start(alloc, module, flat, script, store)?;
+    play_start(
+        script, alloc, hooks, imports, playing, meter, &host_step, turns,
+    )
+}
+
+/// The run from its start, with what the host did first.
+fn play_start<H: Hooks>(
+    script: &ScriptedHost<'_>,
+    alloc: Global,
+    hooks: &mut H,
+    imports: u32,
+    playing: PlayState,
+    meter: &Meter,
+    host_step: &HostStep,
+    turns: u64,
+) -> Result<Outcome, PlayFault>
+    requires leads { (m : syntax.Module) × (initial : StepResult) × CanPlay m script.now meter.now imports
+        × Leads m script.now initial (entries_of host_step.now) (stand_after host_step.now) playing }
+    ensures { (m : syntax.Module) (initial : StepResult) → CanPlay m script.now meter.now imports
+        → Leads m script.now initial (entries_of host_step.now) (stand_after host_step.now) playing
+        → IsPlayedWithHooks H.is_step (run_in m script.now meter.now imports initial turns) result hooks.old hooks.new }
+{
+    let mut playing = playing;
+    let first = host_step.stand();
+    play_parts(
+        script,
+        alloc,
+        hooks,
+        imports,
+        &mut playing,
+        meter,
+        first,
+        turns,
+    )
+}
