@@ -90,6 +90,7 @@ fn fault_of(fault: PlayFault, turns: u64) -> Fault
     match fault {
         PlayFault::Fault { turn, kind } => Fault::Script { turn, kind },
         PlayFault::Spent => Fault::Spent { turns },
-        PlayFault::Memory => Fault::Memory,
+        // a run without hooks never answers that one refused a call
+        PlayFault::Hook { .. } | PlayFault::Memory => Fault::Memory,
     }
 }
