@@ -1,0 +1,6 @@
+mod Parts
+mod Lengths
+mod Short
+mod Words
+mod HookImports
+mod Stores
