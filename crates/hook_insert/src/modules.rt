@@ -1,31 +1,35 @@
 // Instrumented modules.
 
 ghost use Rattle.std.specs.Prelude.{◌≡◌, ◌<◌, ◌∷◌, [], ◌++◌, IfOk, IfSome, map, option_map, Some};
+ghost use Rattle.wasm_syntax.specs.Encoding.Forms.{IsCoreModule};
 ghost use Rattle.wasm_syntax.specs.Index.{imported_funcs};
+ghost use Rattle.wasm_syntax.specs.Validity.{IsValid};
 ghost use Rattle.wasm_flat.specs.Sizes.{IsShort, list_limit};
 ghost use Rattle.hook_spec.specs.Hooks.{hooks, renumber};
 ghost use Rattle.hook_spec.specs.Instrumented.{hook_import, hook_types, hooked_section, instrumented_module, instrumented_weights, renumbered_elem, renumbered_export, section_bytes, section_name};
+ghost use Rattle.instrumented_valid.specs.Laws.{HasWords};
 ghost use Rattle.hook_insert.specs.Modules.{HasLowNumbers, module_of_parts};
 
 use crate::functions::{Functions, instrumented_funcs};
 use crate::hook_imports::{hooked_imports, hooked_types, name};
 use crate::renumbering::{renumbered_elems, renumbered_exports};
 use hook_names::renumber;
+use instrumented_valid::instrumented_are_valid;
 use leb_bytes::push_u32;
 use module_index::scope::Scope;
 use no_memory::NoMemory;
 use std::alloc::Global;
 use wasm_flat::Meter;
 use wasm_syntax::{
-    Custom, Customs, DataSegs, ElemSegs, Exports, FuncTypes, Globals, Imports, LimitsList, List,
-    Module,
+    Bytes, Custom, Customs, DataSegs, ElemSegs, Exports, FuncTypes, Globals, Imports, LimitsList,
+    List, Module,
 };
 use wasm_validate::Checked;
 
-/// An instrumented module, with the meter under which its run takes the turns of the original's.
+/// An instrumented module, which is valid, with the meter under which its run takes the turns of the original's.
 #[derive(Drop)]
 pub struct Hooked {
-    pub module: Module,
+    pub module: Checked,
     pub meter: Meter,
 }
 
@@ -49,46 +53,69 @@ pub(crate) struct Kept {
     start: Option<u32>,
 }
 
-/// The instrumented module of a module with this digest, and its meter. Takes time in the length of the module alone.
+/// The instrumented module of a module of the form Core with this digest, and its meter. Takes time in the length of
+/// the module alone.
 ///
 /// # Errors
 ///
 /// Where an allocation fails.
 pub fn instrument(alloc: Global, checked: &Checked, digest: &[u8; 32]) -> Result<Hooked, NoMemory>
     requires short { IsShort checked.now }
+    requires core { IsCoreModule checked.now }
+    requires words { HasWords checked.now }
     ensures module { IfOk result (λ hooked. hooked.«module» ≡ instrumented_module checked.now digest.now) }
     ensures meter { IfOk result (λ hooked. hooked.meter ≡ Some (instrumented_weights checked.now)) }
 {
-    let module = checked.module();
+    // What is made is valid, so that it needs no test.
+    instrumented_are_valid();
+    let original = checked.module();
+    let (module, weights) = instrumented_parts(alloc, original, digest)?;
+    Ok(Hooked {
+        module: Checked::new(module),
+        meter: Meter::of(List::from_vec(weights)),
+    })
+}
+
+/// The instrumented module of a valid module, and the weights of its instructions.
+fn instrumented_parts(
+    alloc: Global,
+    module: &Module,
+    digest: &[u8; 32],
+) -> Result<(Module, Vec<Bytes>), NoMemory>
+    requires short { IsShort «module».now }
+    requires valid { IsValid «module».now }
+    ensures module { IfOk result (λ parts. parts.0 ≡ instrumented_module «module».now digest.now) }
+    ensures weights { IfOk result (λ parts. parts.1.items ≡ instrumented_weights «module».now) }
+{
     let scope = Scope::of(alloc, module)?;
     let functions = instrumented_funcs(alloc, &scope)?;
     let imports = scope.imported_funcs() as u32;
     with_functions(alloc, module, imports, digest, functions)
 }
 
-/// The instrumented module of a module and of its functions.
+/// The instrumented module of a module and of its functions, and the weights of these.
 fn with_functions(
     alloc: Global,
     module: &Module,
     imports: u32,
     digest: &[u8; 32],
     functions: Functions,
-) -> Result<Hooked, NoMemory>
+) -> Result<(Module, Vec<Bytes>), NoMemory>
     requires imports { imports ≡ imported_funcs «module».now }
     requires low { HasLowNumbers «module».now }
-    ensures module { IfOk result (λ hooked. hooked.«module»
+    ensures module { IfOk result (λ parts. parts.0
         ≡ record (instrumented_module «module».now digest.now) { funcs = functions.funcs.items }) }
-    ensures meter { IfOk result (λ hooked. hooked.meter ≡ Some functions.weights.items) }
+    ensures weights { IfOk result (λ parts. parts.1.items ≡ functions.weights.items) }
 {
     let hooking = hooking_of(alloc, module, imports, digest)?;
     let kept = kept_of(module, imports)?;
-    Ok(hooked_of(functions, hooking, kept))
+    Ok(joined_parts(functions, hooking, kept))
 }
 
-/// The instrumented module of its parts.
-fn hooked_of(functions: Functions, hooking: Hooking, kept: Kept) -> Hooked
-    ensures module { result.«module» ≡ module_of_parts functions.funcs.items hooking kept }
-    ensures meter { result.meter ≡ Some functions.weights.items }
+/// The instrumented module of its parts, and the weights of its functions.
+fn joined_parts(functions: Functions, hooking: Hooking, kept: Kept) -> (Module, Vec<Bytes>)
+    ensures module { result.0 ≡ module_of_parts functions.funcs.items hooking kept }
+    ensures weights { result.1.items ≡ functions.weights.items }
 {
     let Functions { funcs, weights } = functions;
     let Hooking {
@@ -105,22 +132,20 @@ fn hooked_of(functions: Functions, hooking: Hooking, kept: Kept) -> Hooked
         datas,
         start,
     } = kept;
-    Hooked {
-        module: Module {
-            types,
-            imports,
-            funcs: List::from_vec(funcs),
-            tables,
-            memories,
-            globals,
-            exports,
-            start,
-            elems,
-            datas,
-            customs,
-        },
-        meter: Meter::of(List::from_vec(weights)),
-    }
+    let module = Module {
+        types,
+        imports,
+        funcs: List::from_vec(funcs),
+        tables,
+        memories,
+        globals,
+        exports,
+        start,
+        elems,
+        datas,
+        customs,
+    };
+    (module, weights)
 }
 
 /// What the instrumented module of a module gets.

@@ -1,4 +1,5 @@
 use hook_insert::{Hooked, instrument};
+use instrumented_encoding::files_are_of_words;
 use r3_inputs::module_of;
 use std::alloc::Global;
 use std::test::Fail;
@@ -87,6 +88,7 @@ fn hooked(alloc: Global, text: &str) -> Result<Hooked, Fail> {
     if bytes.len() > MOST_FILE_BYTES as usize {
         return Err(Fail::from("a long text"));
     }
+    files_are_of_words();
     match module_of(alloc, bytes.as_slice()) {
         Ok(checked) => Ok(instrument(alloc, &checked, &[7; 32])?),
         Err(_) => Err(Fail::from("a refused module")),
@@ -98,15 +100,16 @@ fn figures(hooked: &Hooked) -> [usize; 4] {
     let mut instructions = 0;
     let mut turns = 0;
     let mut place: u32 = 0;
-    'funcs: for func in hooked.module.funcs.as_slice() {
+    let module = hooked.module.module();
+    'funcs: for func in module.funcs.as_slice() {
         instructions = func.body.as_slice().len().wrapping_add(instructions);
         'weights: for weight in hooked.meter.at(place).unwrap_or(&[]) {
             turns = (*weight as usize).wrapping_add(turns);
         }
         place = place.wrapping_add(1);
     }
-    let types = hooked.module.types.as_slice().len();
-    let imports = hooked.module.imports.as_slice().len();
+    let types = module.types.as_slice().len();
+    let imports = module.imports.as_slice().len();
     [instructions, turns, types, imports]
 }
 
@@ -125,7 +128,7 @@ fn instrumented_modules_have_these_figures(rt: HostRuntime) -> Result<(), Fail> 
 fn the_instrumented_body_of_two_answers(rt: HostRuntime) -> Result<(), Fail> {
     let hooked = hooked(rt.alloc(), TWO_ANSWERS)?;
     let mut text = String::new(rt.alloc());
-    for func in hooked.module.funcs.as_slice() {
+    for func in hooked.module.module().funcs.as_slice() {
         write!(text, "{:?}", func.body.as_slice())?;
     }
     assert!(rt; text.as_str() == BODY);

@@ -1,41 +1,19 @@
-use Rattle.std.proofs.Common.{◌≡◌, List, sym, ap, ◌∙◌, subst}
-use Rattle.wasm_syntax.specs.declared.modules.Func.{Func}
+use Rattle.std.proofs.Common.{◌≡◌, ap, sym, ◌∙◌, subst}
 use Rattle.wasm_syntax.specs.declared.modules.Module.{Module}
-use Rattle.wasm_syntax.specs.Index.{imported_funcs}
+use Rattle.wasm_syntax.specs.Encoding.Forms.{IsCoreModule}
 use Rattle.wasm_syntax.specs.Validity.{IsValid}
-use Rattle.wasm_flat.specs.Sizes.{IsShort}
-use Rattle.hook_spec.specs.Instrumented.{each_func, instrumented_func, instrumented_module}
-use Rattle.hook_insert.proofs.Accesses.{if_ok}
-use Rattle.hook_insert.proofs.Few.{few_params}
-use Rattle.hook_insert.proofs.Low.{insertable_funcs, low_numbers}
+use Rattle.hook_spec.specs.Instrumented.{instrumented_module}
+use Rattle.instrumented_valid.specs.Laws.{HasWords}
 use Rattle.hook_insert.proofs.modules.instrument.Goals as goal
 
-pub instrumented_funcs-requires-clause-types : goal.instrumented_funcs-requires-clause-types
-instrumented_funcs-requires-clause-types c =
-    let same : c.in_ok-scope.scope ≡ c.args.checked.now = c.in_ok-scope.ensures ∙ c.«module-module».ensures.same in
-    few_params c.in_ok-scope.scope (subst IsShort (sym same) c.requires.short).quantities
-
-pub instrumented_funcs-requires-clause-funcs : goal.instrumented_funcs-requires-clause-funcs
-instrumented_funcs-requires-clause-funcs c =
-    let same : c.in_ok-scope.scope ≡ c.args.checked.now = c.in_ok-scope.ensures ∙ c.«module-module».ensures.same in
-    let short : IsShort c.in_ok-scope.scope = subst IsShort (sym same) c.requires.short in
-    insertable_funcs c.in_ok-scope.scope short.funcs
-    (subst IsValid (sym c.in_ok-scope.ensures) c.«module-module».ensures.valid) short
-
-pub with_functions-requires-clause-low : goal.with_functions-requires-clause-low
-with_functions-requires-clause-low c =
-    let short : IsShort c.«module-module».result.now =
-    subst IsShort (sym c.«module-module».ensures.same) c.requires.short in
-    low_numbers c.«module-module».result.now short.funcs c.«module-module».ensures.valid short
+pub new-requires : goal.new-requires
+new-requires c =
+    let same : c.«module-original».result.now ≡ c.args.checked.now = c.«module-original».ensures.same in
+    subst IsValid (sym c.in_ok-module.ensures.«module»)
+    (c.instrumented_are_valid.ensures c.«module-original».result.now c.args.digest.now c.«module-original».ensures.valid
+    (subst IsCoreModule (sym same) c.requires.core) (subst HasWords (sym same) c.requires.words))
 
 pub returns-clause-module : goal.returns-clause-module
 returns-clause-module c =
-    if_ok c.with_functions.result
-    (λ hooked is. is
-    ∙ ap (λ (funcs : List Func). record (instrumented_module c.«module-module».result.now c.args.digest.now) { funcs = funcs })
-    c.in_ok-functions.ensures.funcs
-    ∙ ap (λ (m : Module). record (instrumented_module c.«module-module».result.now c.args.digest.now) {
-      funcs = each_func m (instrumented_func m) (imported_funcs m) m.funcs;
-    }) c.in_ok-scope.ensures
-    ∙ ap (λ (m : Module). instrumented_module m c.args.digest.now) c.«module-module».ensures.same)
-    c.with_functions.ensures.«module»
+    c.new.ensures ∙ c.in_ok-module.ensures.«module»
+    ∙ ap (λ (m : Module). instrumented_module m c.args.digest.now) c.«module-original».ensures.same

@@ -1,0 +1,7 @@
+mod Inserted
+mod Meters
+mod Words
+mod Locals
+mod Parts
+mod Bodies
+mod Encodable
