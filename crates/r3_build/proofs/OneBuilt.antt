@@ -7,7 +7,6 @@ use Rattle.host_script.specs.declared.scripts.Supply.{Supply}
 use Rattle.host_script.specs.declared.scripts.LinkFault.{LinkFault}
 use Rattle.host_script.specs.Supply.{supply_of}
 use Rattle.history_spec.specs.Store.{Store}
-use Rattle.history_spec.specs.Step.{StepResult}
 use Rattle.history_spec.specs.Run.{run_start, start_in_store, start_or_fault, start_with_supply}
 use Rattle.trace_format.specs.Laws.{TapesAreToldApart}
 use Rattle.binary_follows.specs.Playable.{replay_of}

@@ -1,5 +1,5 @@
 -- Bytes are one tape for a module, or no tape for one reason.
-use Rattle.std.proofs.Common.{◌≡◌, ℕ, ◌<◌, ◌≤◌, ◌^◌, ◌-◌, List, Option, Some, None, true, sym, ◌∙◌, ap, subst, refl, arith}
+use Rattle.std.proofs.Common.{◌≡◌, ℕ, ◌^◌, ◌-◌, List, Option, Some, None, true, sym, ◌∙◌, ap, subst, refl, arith}
 use Rattle.std.specs.Prelude.{min}
 use Rattle.wasm_syntax.specs.declared.modules.Module.{Module}
 use Rattle.trace_model.specs.declared.tapes.Tape.{Tape}
@@ -8,7 +8,6 @@ use Rattle.trace_model.specs.Weight.{tape_weight}
 use Rattle.trace_format.specs.Faults.{IsTapeOf}
 use Rattle.trace_format.specs.Laws.{TapesAreToldApart}
 use Rattle.trace_format.specs.Text.{tape_text}
-use Rattle.binary_follows.specs.Playable.{most_weight}
 use Rattle.r3_faults.specs.declared.faults.Fault.{Fault}
 use Rattle.r3_faults.specs.declared.faults.Fault.TheVariants.{OtherModule, TapeLimit, Unfit}
 use Rattle.r3_show.specs.Shown.{IsUnshownAs}

@@ -1,5 +1,5 @@
 -- The replay module of a tape that is taken can be encoded in fewer than 2^29 bytes.
-use Rattle.std.proofs.Common.{◌≡◌, ℕ, ◌<◌, ◌≤◌, ◌^◌, List, length, arith}
+use Rattle.std.proofs.Common.{ℕ, ◌<◌, ◌≤◌, ◌^◌, List, length, arith}
 use Rattle.std.specs.Prelude.{IfSome}
 use Rattle.wasm_syntax.specs.declared.forms.Form.TheVariants.{Core, Replay}
 use Rattle.wasm_syntax.specs.declared.limits.TheConstants.{MOST_FILE_BYTES}
@@ -20,7 +20,7 @@ use Rattle.fragment_maker.specs.Bounds.{FitsIndices}
 use Rattle.module_merge.specs.Size.{most_bytes}
 use Rattle.replay_modules.specs.Written.{IsConstantTape}
 use Rattle.replay_sizes.specs.Laws.{BoundsAreShort, PlansFitIndices, ReplayModulesAreEncodable, ReplayModulesAreShort}
-use Rattle.replay_sizes.specs.Premises.{IsFromFile, IsTakenSupply, IsTakenTape}
+use Rattle.replay_sizes.specs.Premises.{IsFromFile, IsTakenTape}
 use Rattle.binary_follows.specs.Playable.{most_weight, replay_of}
 
 module _ (bytes : List ℕ) (m : Module) (tape : Tape) (encoded : Encodes Core bytes m)

@@ -1,7 +1,6 @@
 use Rattle.std.proofs.Common.{◌≡◌, sym, subst}
 use Rattle.wasm_syntax.specs.declared.modules.Module.{Module}
 use Rattle.wasm_syntax.specs.Validity.{IsValid}
-use Rattle.wasm_syntax.specs.Index.{imported_funcs}
 use Rattle.host_script.specs.declared.scripts.Supply.{Supply}
 use Rattle.type_safety.specs.Supplies.{IsSupply}
 use Rattle.replay_gen.specs.declared.fragments.Fragment.{Fragment}

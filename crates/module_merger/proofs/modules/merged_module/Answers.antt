@@ -1,7 +1,5 @@
-use Rattle.std.proofs.Common.{◌≡◌, List, sym, subst, ◌∙◌}
+use Rattle.std.proofs.Common.{◌≡◌, sym, subst, ◌∙◌}
 use Rattle.std.proofs.lemmas.Result.{IfOk-weaker}
-use Rattle.wasm_syntax.specs.declared.modules.ElemSeg.{ElemSeg}
-use Rattle.wasm_syntax.specs.declared.modules.DataSeg.{DataSeg}
 use Rattle.module_merge.specs.Merge.{declaration, replay_module}
 use Rattle.module_merger.specs.Offsets.{HaveDataOffsets, HaveElemOffsets}
 use Rattle.module_merger.specs.Parts.{module_of_parts}
