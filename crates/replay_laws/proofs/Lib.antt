@@ -1,2 +1,1 @@
-mod PlanLengths
 mod TapesOfRuns
