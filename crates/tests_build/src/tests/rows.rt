@@ -2,8 +2,8 @@
 
 use crate::tests::builds::{answer_for, lines_shown_by};
 use crate::tests::modules::{
-    C_BUFFERS, EMPTY, FLOAT_GLOBAL, GROW_ACCESS, IMPORTED_OFFSET, NESTED_CALL, NESTED_TRAP,
-    OVERWRITE, TABLE_ENTRY, TWO_ANSWERS,
+    C_BUFFERS, EMPTY, FLOAT_GLOBAL, GROW_ACCESS, GROW_FAILED, IMPORTED_OFFSET, NESTED_CALL,
+    NESTED_TRAP, OVERWRITE, TABLE_ENTRY, TABLE_GROWTH, TWO_ANSWERS,
 };
 use std::test::Fail;
 
@@ -63,6 +63,14 @@ const ROWS: &[(&str, &str, &str, &str, &str)] = &[
          step 1 2 -> i32:00000009\ntrap 1 3 memory i32:00010000 i32:00000009 found 1\ntrapped\n",
     ),
     (
+        "growth that a growth sees",
+        GROW_FAILED,
+        "{}",
+        "0000200100010001050821000200222f",
+        "host-call 1\nstep 1 0 ->\nimport-call 0\nimport-return 0\nstep 1 1 -> i32:00000003\n\
+         step 1 2 i32:00000003 -> i32:ffffffff found 8\nhost-return 1 i32:ffffffff\nended\n",
+    ),
+    (
         "a call within an import",
         NESTED_CALL,
         "{}",
@@ -101,6 +109,22 @@ const ROWS: &[(&str, &str, &str, &str, &str)] = &[
         "000020010001000108000021002f",
         "host-call 1\nstep 1 0 ->\nimport-call 0\nimport-return 0\nstep 1 1 -> i32:00000000\n\
          trap 1 2 empty i32:00000000\ntrapped\n",
+    ),
+    (
+        "an entry of a table that grew",
+        TABLE_GROWTH,
+        "{}",
+        "00002001000100020a060805010321002f",
+        "host-call 1\nstep 1 0 ->\nimport-call 0\nimport-return 0\nstep 1 1 -> i32:00000005\n\
+         trap 1 2 signature i32:00000005 found 3\ntrapped\n",
+    ),
+    (
+        "past a table that grew",
+        TABLE_GROWTH,
+        "{}",
+        "00002001000100010a0421002f",
+        "host-call 1\nstep 1 0 ->\nimport-call 0\nimport-return 0\nstep 1 1 -> i32:00000005\n\
+         trap 1 2 table i32:00000005 found 4\ntrapped\n",
     ),
     (
         "the bits of a global",
