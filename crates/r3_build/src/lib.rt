@@ -7,4 +7,6 @@ mod replays;
 mod tapes;
 
 pub use builds::build;
+pub use links::linked_supply;
 pub use r3_faults::Fault;
+pub use replays::replay_bytes;

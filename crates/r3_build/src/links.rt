@@ -19,7 +19,7 @@ use wasm_validate::Checked;
 /// # Errors
 ///
 /// `Missing`, `Mismatch` or `Segment` where it does not link; `Memory` where memory is out.
-pub(crate) fn linked_supply(
+pub fn linked_supply(
     alloc: Global,
     checked: &Checked,
     script: &Script,

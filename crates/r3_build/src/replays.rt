@@ -90,7 +90,11 @@ fn digest_of(bytes: &[u8]) -> [u8; 32]
 }
 
 /// The encoding of the replay module of a tape, for a module that `bytes` encode and what is supplied for its imports.
-fn replay_bytes(
+///
+/// # Errors
+///
+/// `Memory` where memory is out.
+pub fn replay_bytes(
     alloc: Global,
     bytes: &[u8],
     checked: Checked,

@@ -1,5 +1,5 @@
-//! The tape of a run's log, made, and that it is the one that the run needs; the replay module of a tape, made, and that
-//! its run follows the run of the tape.
+//! The tape of a run's log, made, and that it is the one that the run needs; the replay module of a tape, made, and
+//! that its run follows the run of the tape.
 #![tactic(auto)]
 
 mod binaries;
