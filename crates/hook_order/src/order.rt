@@ -74,7 +74,8 @@ impl Order {
     /// Where an allocation failed.
     #[inline]
     pub fn tell(&mut self, value: Val) -> Result<(), NoMemory>
-        ensures { OnOk result (self.new ≡ parts_pending self.old value) }
+        ensures ok { OnOk result (self.new ≡ parts_pending self.old value) }
+        ensures shape { self.new.shape ≡ self.old.shape }
     {
         self.pending.push(value)?;
         Ok(())
@@ -86,7 +87,8 @@ impl Order {
     /// Where an allocation failed.
     #[inline]
     pub fn enter(&mut self, func: u32) -> Result<(), NoMemory>
-        ensures { OnOk result (self.new ≡ parts_entered self.old func) }
+        ensures ok { OnOk result (self.new ≡ parts_entered self.old func) }
+        ensures shape { self.new.shape ≡ self.old.shape }
     {
         self.pending.clear();
         self.frames.enter(func)
@@ -98,7 +100,8 @@ impl Order {
     /// Where an allocation failed.
     #[inline]
     pub fn call(&mut self, direct: bool, callee: Option<u32>) -> Result<(), NoMemory>
-        ensures { OnOk result (self.new ≡ parts_called self.old direct callee) }
+        ensures ok { OnOk result (self.new ≡ parts_called self.old direct callee) }
+        ensures shape { self.new.shape ≡ self.old.shape }
     {
         self.pending.clear();
         self.frames.push(Frame::Call {
