@@ -1,0 +1,353 @@
+-- Entries and globals that are found, and taken.
+use Rattle.std.proofs.Common.{◌≡◌, ◌≢◌, ℕ, zero, suc, ◌+◌, ◌-◌, ◌<◌, ◌≤◌, List, [], ◌∷◌, ◌++◌, length, map, Option, Some, None, Bool, true, false, cond, not, nat_eq, nat_lt, replicate, slice_get, slice_index_or, slice_set, option_map, option_and_then, refl, sym, ap, ◌∙◌, subst, arith}
+use Rattle.std.specs.Prelude.{unwrap_or}
+use Rattle.std.specs.Option.{option_or}
+use Rattle.std.proofs.lemmas.Bool.Decides.{nat_tests}
+use Rattle.std.proofs.lemmas.List.{append-nil, length-append, length-replicate, length-set, get_or-set_same, get_or-set_other, get_or_append_left, get_or-append_right}
+use Rattle.std.proofs.lemmas.Option.{slice_get-get_or, slice_get_within}
+use Rattle.wasm_syntax.specs.declared.values.Val.{Val}
+use Rattle.trace_model.specs.declared.events.Event.{Event}
+use Rattle.trace_model.specs.declared.events.Event.TheVariants.{Table, Entry, Global}
+use Rattle.trace_model.specs.Sink.{TookAlso}
+use Rattle.replay_spec.specs.Observations.{ReachesEntry, ReadsEntry, ReadsGlobal, WritesGlobal}
+use Rattle.hook_spec.specs.Hooks.{original}
+use Rattle.hook_spec.specs.Logs.{LogState, unless, same_entry, same_bits, all_observed_events, log_after}
+use Rattle.shadow_memory.specs.Shadow.{Shadow}
+use Rattle.shadow_tables.specs.Tables.{Tables}
+use Rattle.recorder.specs.Known.{Show, TellsOfTables}
+use Rattle.recorder.proofs.Kit.{took_none, took_same}
+
+or_none : {X : Type 0} (a : Option X) → option_or a None ≡ a
+or_none None = refl
+or_none (Some x) = refl
+
+-- ---- the table's size
+
+-- entries that are empty are as if they were not there
+padded : (entries : List (Option ℕ)) (count at : ℕ)
+    → slice_index_or entries at None ≡ slice_index_or (entries ++ replicate count None) at None
+padded [] zero at = refl
+padded [] (suc count) zero = refl
+padded [] (suc count) (suc at) = padded [] count at
+padded (x ∷ xs) count zero = refl
+padded (x ∷ xs) count (suc at) = padded xs count at
+
+module _ {S : Type 0} (has_taken : S → List Event → Type 0) (n : ℕ) (tables : Tables) where
+  pub reaches_known : (sink : S) (index found : ℕ) → index < length tables.entries
+      → TellsOfTables has_taken n tables sink (ReachesEntry index found ∷ []) tables sink
+  reaches_known sink index found below memory state shows =
+      let p' : nat_lt index (length tables.entries) ≡ true = grind (arith, nat_tests, below) in
+      let p : nat_lt index state.known.entries ≡ true = ap (nat_lt index) shows.entries ∙ p' in (
+        record {
+          byte = shows.byte;
+          entry = shows.entry;
+          global = shows.global;
+          pages = shows.pages;
+          entries = ap (λ b. cond b state.known.entries found) p ∙ shows.entries;
+          noticed = shows.noticed;
+        },
+        took_same has_taken sink sink [] (all_observed_events n state (ReachesEntry index found ∷ []))
+            (sym (ap (λ b. cond b [] (unless (nat_eq found state.known.entries) (Table found)) ++ []) p))
+            (took_none has_taken sink),
+      )
+
+  pub reaches_past : (sink sink' : S) (index found : ℕ) → length tables.entries ≤ index → length tables.entries ≤ found
+      → TookAlso has_taken sink sink' (unless (nat_eq found (length tables.entries)) (Table found))
+      → TellsOfTables has_taken n tables sink (ReachesEntry index found ∷ [])
+      (record tables { entries = tables.entries ++ replicate (found - length tables.entries) None }) sink'
+  reaches_past sink sink' index found past more told memory state shows =
+      let p' : nat_lt index (length tables.entries) ≡ false = grind (arith, nat_tests, past) in
+      let p : nat_lt index state.known.entries ≡ false = ap (nat_lt index) shows.entries ∙ p' in
+      let size : found ≡ length (tables.entries ++ replicate (found - length tables.entries) None) =
+      omega (
+        arith,
+        more,
+        length-append tables.entries (replicate (found - length tables.entries) None),
+        length-replicate {A = Option ℕ} (found - length tables.entries) None,
+      ) in (
+        record {
+          byte = shows.byte;
+          entry = λ at. shows.entry at ∙ padded tables.entries (found - length tables.entries) at;
+          global = shows.global;
+          pages = shows.pages;
+          entries = ap (λ b. cond b state.known.entries found) p ∙ size;
+          noticed = shows.noticed;
+        },
+        took_same has_taken sink sink' _ (all_observed_events n state (ReachesEntry index found ∷ []))
+            (sym
+            (ap (λ b. cond b [] (unless (nat_eq found state.known.entries) (Table found)) ++ []) p
+            ∙ append-nil (unless (nat_eq found state.known.entries) (Table found))
+            ∙ ap (λ known. unless (nat_eq found known) (Table found)) shows.entries)) told,
+      )
+
+-- ---- entries
+
+pub true_false : true ≡ false → ⊥
+true_false e = cc
+
+-- two entries hold the same exactly where the test says so
+same_is : (a b : Option ℕ) → same_entry a b ≡ true → a ≡ b
+same_is None None h = refl
+same_is None (Some b) h = cc
+same_is (Some a) None h = cc
+same_is (Some a) (Some b) h = let e : a ≡ b = grind (arith, nat_tests, h) in ap Some e
+
+same_self : (a : Option ℕ) → same_entry a a ≡ true
+same_self None = refl
+same_self (Some a) = grind (arith, nat_tests)
+
+module _ (entries : List (Option ℕ)) (index : ℕ) (func : Option ℕ) (below : index < length entries) where
+  abbrev known : Option ℕ
+  known = slice_index_or entries index None
+
+  there : slice_get entries index ≡ Some known
+  there = slice_get-get_or entries index None below
+
+  differs_test : slice_get entries index ≢ Some func → same_entry known func ≡ false
+  differs_test apart = go (same_entry known func) refl
+    where
+      go : (b : Bool) → same_entry known func ≡ b → b ≡ false
+      go true p = absurd (apart (there ∙ ap Some (same_is known func p)))
+      go false p = refl
+
+  same_test : (slice_get entries index ≢ Some func → ⊥) → same_entry known func ≡ true
+  same_test same = go (same_entry known func) refl
+    where
+      go : (b : Bool) → same_entry known func ≡ b → b ≡ true
+      go true p = refl
+      go false p = absurd (same (λ e. true_false (sym (one e) ∙ p)))
+        where
+          inner : Some known ≡ Some func → known ≡ func
+          inner e = cc
+
+          one : slice_get entries index ≡ Some func → same_entry known func ≡ true
+          one e = subst (λ f. same_entry known f ≡ true) (inner (sym there ∙ e)) (same_self known)
+
+module _ {S : Type 0} (has_taken : S → List Event → Type 0) (n : ℕ) (tables : Tables) (index : ℕ) (func : Option ℕ)
+    (below : index < length tables.entries) where
+  events_by : (state : LogState) → (b : Bool) → same_entry (state.known.entry index) func ≡ b
+      → all_observed_events n state (ReadsEntry index func ∷ [])
+      ≡ unless b (Entry index (option_and_then (original n) func)) ++ []
+  events_by state b p = ap (λ t. unless t (Entry index (option_and_then (original n) func)) ++ []) p
+
+  pub finds_entry : (sink sink' : S) (callee : Option ℕ) → option_and_then (original n) func ≡ callee
+      → slice_get tables.entries index ≢ Some func → TookAlso has_taken sink sink' (Entry index callee ∷ [])
+      → TellsOfTables has_taken n tables sink (ReadsEntry index func ∷ [])
+      (record tables { entries = slice_set tables.entries index func }) sink'
+  finds_entry sink sink' callee is apart told memory state shows =
+      let p : same_entry (state.known.entry index) func ≡ false =
+      ap (λ known. same_entry known func) (shows.entry index) ∙ differs_test tables.entries index func below apart in (
+        record {
+          byte = shows.byte;
+          entry = λ at. entry at (nat_eq index at) refl;
+          global = shows.global;
+          pages = shows.pages;
+          entries = shows.entries ∙ sym (length-set tables.entries index func);
+          noticed = shows.noticed;
+        },
+        took_same has_taken sink sink' _ (all_observed_events n state (ReadsEntry index func ∷ []))
+            (ap (λ c. Entry index c ∷ []) (sym is) ∙ sym (events_by state false p)) told,
+      )
+    where
+      entry : (at : ℕ) (b : Bool) → nat_eq index at ≡ b
+          → unwrap_or (option_or (cond b (Some func) None) None) (state.known.entry at)
+          ≡ slice_index_or (slice_set tables.entries index func) at None
+      entry at true p =
+          let e : at ≡ index = grind (arith, nat_tests, p) in
+          sym
+          (ap (λ i. slice_index_or (slice_set tables.entries index func) i None) e
+          ∙ get_or-set_same tables.entries index func None below)
+      entry at false p =
+          shows.entry at ∙ sym (get_or-set_other tables.entries index at func None (λ e. other at p e))
+        where
+          other : (at : ℕ) → nat_eq index at ≡ false → at ≡ index → ⊥
+          other at p e = let q : nat_eq index at ≡ true = grind (arith, nat_tests, e) in true_false (sym q ∙ p)
+
+  pub knows_entry : (sink : S) → (slice_get tables.entries index ≢ Some func → ⊥)
+      → TellsOfTables has_taken n tables sink (ReadsEntry index func ∷ []) tables sink
+  knows_entry sink same memory state shows =
+      let q = same_test tables.entries index func below same in
+      let p : same_entry (state.known.entry index) func ≡ true =
+      ap (λ known. same_entry known func) (shows.entry index) ∙ q in (
+        record {
+          byte = shows.byte;
+          entry = λ at. entry (same_is (slice_index_or tables.entries index None) func q) at (nat_eq index at) refl;
+          global = shows.global;
+          pages = shows.pages;
+          entries = shows.entries;
+          noticed = shows.noticed;
+        },
+        took_same has_taken sink sink _ (all_observed_events n state (ReadsEntry index func ∷ []))
+            (sym (events_by state true p)) (took_none has_taken sink),
+      )
+    where
+      entry : slice_index_or tables.entries index None ≡ func → (at : ℕ) (b : Bool) → nat_eq index at ≡ b
+          → unwrap_or (option_or (cond b (Some func) None) None) (state.known.entry at)
+          ≡ slice_index_or tables.entries at None
+      entry is at true p =
+          let e : index ≡ at = grind (arith, nat_tests, p) in
+          sym is ∙ ap (λ i. slice_index_or tables.entries i None) e
+      entry is at false p = shows.entry at
+
+-- ---- globals
+
+-- a value of the same type is another one exactly where its bits differ
+module _ (globals : List Val) (global : ℕ) (value : Val)
+    (typed : option_map (λ known. known.ty) (slice_get globals global) ≡ Some value.ty) where
+  bits_differ : slice_get globals global ≢ Some value → same_bits (slice_get globals global) value ≡ false
+  bits_differ apart = go (slice_get globals global) typed apart
+    where
+      go : (known : Option Val) → option_map (λ known. known.ty) known ≡ Some value.ty → known ≢ Some value
+          → same_bits known value ≡ false
+      go None is apart = refl
+      go (Some known) is apart = by_test (nat_eq known.bits value.bits) refl
+        where
+          by_test : (b : Bool) → nat_eq known.bits value.bits ≡ b → b ≡ false
+          by_test false p = refl
+          by_test true p =
+              let bits : known.bits ≡ value.bits = grind (arith, nat_tests, p) in
+              let ty : known.ty ≡ value.ty = cc in
+              absurd (apart (ap Some (ap (λ t. record { ty = t; bits = known.bits }) ty
+              ∙ ap (λ b. record { ty = value.ty; bits = b }) bits)))
+
+  bits_same : (slice_get globals global ≢ Some value → ⊥) → same_bits (slice_get globals global) value ≡ true
+  bits_same same = by_test (same_bits (slice_get globals global) value) refl
+    where
+      self : (known : Option Val) → known ≡ Some value → same_bits known value ≡ true
+      self None e = cc
+      self (Some known) e =
+          let bits : known.bits ≡ value.bits = ap (λ v. v.bits) (inner e) in grind (arith, nat_tests, bits)
+        where
+          inner : Some known ≡ Some value → known ≡ value
+          inner e = cc
+
+      by_test : (b : Bool) → same_bits (slice_get globals global) value ≡ b → b ≡ true
+      by_test true p = refl
+      by_test false p = absurd (same (λ e. true_false (sym (self (slice_get globals global) e) ∙ p)))
+
+  is_value : (slice_get globals global ≢ Some value → ⊥) → slice_get globals global ≡ Some value
+  is_value same = go (slice_get globals global) typed (bits_same same)
+    where
+      go : (known : Option Val) → option_map (λ known. known.ty) known ≡ Some value.ty
+          → same_bits known value ≡ true → known ≡ Some value
+      go None is h = cc
+      go (Some known) is h =
+          let bits : known.bits ≡ value.bits = grind (arith, nat_tests, h) in
+          let ty : known.ty ≡ value.ty = cc in
+          ap Some (ap (λ t. record { ty = t; bits = known.bits }) ty
+          ∙ ap (λ b. record { ty = value.ty; bits = b }) bits)
+
+  pub is_below : global < length globals
+  is_below = go (slice_get globals global) refl typed
+    where
+      go : (known : Option Val) → slice_get globals global ≡ known
+          → option_map (λ known. known.ty) known ≡ Some value.ty → global < length globals
+      go None is h = cc
+      go (Some known) is h = slice_get_within globals global known is
+
+-- a global that is set, and the others
+set_here : (globals : List Val) (index : ℕ) (value : Val) → index < length globals
+    → slice_get (slice_set globals index value) index ≡ Some value
+set_here [] index value below = absurd (omega (arith, below))
+set_here (x ∷ xs) zero value below = refl
+set_here (x ∷ xs) (suc index) value below = set_here xs index value (omega (arith, below))
+
+set_elsewhere : (globals : List Val) (index at : ℕ) (value : Val) → (index ≡ at → ⊥)
+    → slice_get (slice_set globals index value) at ≡ slice_get globals at
+set_elsewhere [] index at value apart = refl
+set_elsewhere (x ∷ xs) zero zero value apart = absurd (apart refl)
+set_elsewhere (x ∷ xs) zero (suc at) value apart = refl
+set_elsewhere (x ∷ xs) (suc index) zero value apart = refl
+set_elsewhere (x ∷ xs) (suc index) (suc at) value apart = set_elsewhere xs index at value (λ e. apart (ap suc e))
+
+set_global : (globals : List Val) (index at : ℕ) (value : Val) → index < length globals → (b : Bool)
+    → nat_eq index at ≡ b → (old : Option Val) → old ≡ slice_get globals at
+    → unwrap_or (cond b (Some (Some value)) None) old ≡ slice_get (slice_set globals index value) at
+set_global globals index at value below true p old same =
+    let e : index ≡ at = grind (arith, nat_tests, p) in
+    sym (ap (slice_get (slice_set globals index value)) (sym e) ∙ set_here globals index value below)
+set_global globals index at value below false p old same =
+    same ∙ sym (set_elsewhere globals index at value (λ e. apart e))
+  where
+    apart : index ≡ at → ⊥
+    apart e = let q : nat_eq index at ≡ true = grind (arith, nat_tests, e) in true_false (sym q ∙ p)
+
+module _ {S : Type 0} (has_taken : S → List Event → Type 0) (n : ℕ) (tables : Tables) (global : ℕ) (value : Val)
+    (typed : option_map (λ known. known.ty) (slice_get tables.globals global) ≡ Some value.ty) where
+  global_events : (state : LogState) → (b : Bool) → same_bits (state.known.global global) value ≡ b
+      → all_observed_events n state (ReadsGlobal global value ∷ []) ≡ unless b (Global global value) ++ []
+  global_events state b p = ap (λ t. unless t (Global global value) ++ []) p
+
+  pub finds_global : (sink sink' : S) → slice_get tables.globals global ≢ Some value
+      → TookAlso has_taken sink sink' (Global global value ∷ [])
+      → TellsOfTables has_taken n tables sink (ReadsGlobal global value ∷ [])
+      (record tables { globals = slice_set tables.globals global value }) sink'
+  finds_global sink sink' apart told memory state shows =
+      let p : same_bits (state.known.global global) value ≡ false =
+      ap (λ known. same_bits known value) (shows.global global) ∙ bits_differ tables.globals global value typed apart in (
+        record {
+          byte = shows.byte;
+          entry = shows.entry;
+          global = λ at.
+              ap (λ o. unwrap_or o (state.known.global at)) (or_none (cond (nat_eq global at) (Some (Some value)) None))
+              ∙ set_global tables.globals global at value (is_below tables.globals global value typed) (nat_eq global at)
+              refl (state.known.global at) (shows.global at);
+          pages = shows.pages;
+          entries = shows.entries;
+          noticed = shows.noticed;
+        },
+        took_same has_taken sink sink' _ (all_observed_events n state (ReadsGlobal global value ∷ []))
+            (sym (global_events state false p)) told,
+      )
+
+  pub knows_global : (sink : S) → (slice_get tables.globals global ≢ Some value → ⊥)
+      → TellsOfTables has_taken n tables sink (ReadsGlobal global value ∷ []) tables sink
+  knows_global sink same memory state shows =
+      let p : same_bits (state.known.global global) value ≡ true =
+      ap (λ known. same_bits known value) (shows.global global) ∙ bits_same tables.globals global value typed same in (
+        record {
+          byte = shows.byte;
+          entry = shows.entry;
+          global = λ at. known (is_value tables.globals global value typed same) at (nat_eq global at) refl;
+          pages = shows.pages;
+          entries = shows.entries;
+          noticed = shows.noticed;
+        },
+        took_same has_taken sink sink _ (all_observed_events n state (ReadsGlobal global value ∷ []))
+            (sym (global_events state true p)) (took_none has_taken sink),
+      )
+    where
+      known : slice_get tables.globals global ≡ Some value → (at : ℕ) (b : Bool) → nat_eq global at ≡ b
+          → unwrap_or (option_or (cond b (Some (Some value)) None) None) (state.known.global at)
+          ≡ slice_get tables.globals at
+      known is at true p =
+          let e : global ≡ at = grind (arith, nat_tests, p) in sym is ∙ ap (slice_get tables.globals) e
+      known is at false p = shows.global at
+
+  pub writes_global : (sink : S)
+      → TellsOfTables has_taken n tables sink (WritesGlobal global value ∷ [])
+      (record tables { globals = slice_set tables.globals global value }) sink
+  writes_global sink memory state shows = (
+    record {
+      byte = shows.byte;
+      entry = shows.entry;
+      global = λ at.
+          set_global tables.globals global at value (is_below tables.globals global value typed) (nat_eq global at) refl
+          (state.known.global at) (shows.global at);
+      pages = shows.pages;
+      entries = shows.entries;
+      noticed = shows.noticed;
+    },
+    took_none has_taken sink,
+  )
+
+  pub types_stay : map (λ known. known.ty) (slice_set tables.globals global value)
+      ≡ map (λ known. known.ty) tables.globals
+  types_stay = go tables.globals global typed
+    where
+      go : (globals : List Val) (index : ℕ) → option_map (λ known. known.ty) (slice_get globals index) ≡ Some value.ty
+          → map (λ known. known.ty) (slice_set globals index value) ≡ map (λ known. known.ty) globals
+      go [] index h = cc
+      go (x ∷ xs) zero h =
+          let e : x.ty ≡ value.ty = cc in ap (λ t. t ∷ map (λ known. known.ty) xs) (sym e)
+      go (x ∷ xs) (suc index) h = ap (λ types. x.ty ∷ types) (go xs index h)

@@ -1,0 +1,45 @@
+-- What sinks take and what shadows show, after observations one after another.
+use Rattle.std.proofs.Common.{◌≡◌, ℕ, List, [], ◌∷◌, ◌++◌, refl, sym, ap, ◌∙◌, subst}
+use Rattle.std.proofs.lemmas.List.{append_assoc, append-nil}
+use Rattle.trace_model.specs.declared.events.Event.{Event}
+use Rattle.trace_model.specs.Sink.{TookAlso}
+use Rattle.replay_spec.specs.Observations.{Observation}
+use Rattle.hook_spec.specs.Logs.{LogState, observed_events, all_observed_events, log_after, log_after_all}
+use Rattle.recorder.specs.Known.{Keeper, Show, Tells}
+
+module _ {S : Type 0} (has_taken : S → List Event → Type 0) where
+  -- nothing was taken
+  pub took_none : (sink : S) → TookAlso has_taken sink sink []
+  took_none sink taken h = subst (has_taken sink) (sym (append-nil taken)) h
+
+  -- some events, and others then
+  pub took_both : (a b c : S) (first later : List Event) → TookAlso has_taken a b first → TookAlso has_taken b c later
+      → TookAlso has_taken a c (first ++ later)
+  took_both a b c first later f g taken h =
+      subst (has_taken c) (append_assoc taken first later) (g (taken ++ first) (f taken h))
+
+  pub took_same : (a b : S) (events others : List Event) → events ≡ others → TookAlso has_taken a b events
+      → TookAlso has_taken a b others
+  took_same a b events others same f = subst (TookAlso has_taken a b) same f
+
+  module _ (n : ℕ) where
+    -- nothing is observed
+    pub tells_none : (keeper : Keeper S) → Tells has_taken n keeper [] keeper
+    tells_none keeper state shows = (shows, took_none keeper.sink)
+
+    -- one observation, and others then
+    pub tells_then : (a b c : Keeper S) (o : Observation) (later : List Observation)
+        → Tells has_taken n a (o ∷ []) b → Tells has_taken n b later c → Tells has_taken n a (o ∷ later) c
+    tells_then a b c o later f g state shows =
+        let first = f state shows in
+        let rest = g (log_after state o) first.0 in
+        let joined =
+        took_both a.sink b.sink c.sink (observed_events n state o ++ [])
+        (all_observed_events n (log_after state o) later) first.1 rest.1
+        in (
+          rest.0,
+          took_same a.sink c.sink _ _
+              (ap (λ events. events ++ all_observed_events n (log_after state o) later)
+              (append-nil (observed_events n state o)))
+              joined,
+        )

@@ -1,0 +1,12 @@
+mod Kit
+mod Sizes
+mod Differences
+mod Finds
+mod Entries
+mod Callees
+mod Within
+mod Arms
+mod Told
+mod Steps
+mod Openings
+mod Runs

@@ -1,0 +1,116 @@
+-- Runs of a recorder, call by call.
+use Rattle.std.proofs.Common.{◌≡◌, ℕ, ◌+◌, List, [], ◌∷◌, ◌++◌, length, Option, Some, None, Result, Ok, Err, true, false, inl, inr, refl, sym, ap, ◌∙◌, subst}
+use Rattle.trace_model.specs.declared.events.Event.{Event}
+use Rattle.trace_model.specs.Sink.{TookAlso}
+use Rattle.hook_names.specs.declared.hooks.HookFault.{HookFault}
+use Rattle.hook_names.specs.declared.hooks.HookFault.TheVariants.{Order, Memory}
+use Rattle.hook_names.specs.Steps.{IsRun}
+use Rattle.hook_spec.specs.Hooks.{HookCall}
+use Rattle.hook_spec.specs.Order.{HookedShape, OrderState, ordered_step, number_or, first_disorder}
+use Rattle.hook_spec.specs.Logs.{LogState, call_events, log_after_call, after_events, events_or, events_from}
+use Rattle.hook_order.specs.Orders.{state_of}
+use Rattle.hook_order.specs.Shapes.{shape_from}
+use Rattle.recorder.specs.Known.{Show}
+use Rattle.recorder.specs.Recordings.{Takes, order_after}
+use Rattle.recorder.specs.Recorders.{Recorded, IsAnswer, IsRecorderStep, StandsAt}
+use Rattle.recorder.specs.Laws.{RunsRecord, RunsAreRecorded}
+use Rattle.recorder.proofs.Kit.{took_none, took_both}
+
+module _ {S : Type 0} (has_taken : S → List Event → Type 0) (shape : HookedShape) where
+  -- the order after a call, as the recorder's parts say it
+  same_order : (before : Recorded S) (order : OrderState) (log : LogState) (number : ℕ) (call : HookCall)
+      → StandsAt before shape order log number
+      → ordered_step shape order call ≡ order_after before.recording call
+  same_order before order log number call stands =
+      ap (λ s. ordered_step s order call) (sym stands.shaped)
+      ∙ ap (λ o. ordered_step (shape_from before.recording.order.shape) o call) (sym stands.ordered)
+
+  -- where a call is taken, the recorder stands at the next state, and its sink took the call's events
+  record IsNext (before : Recorded S) (order : OrderState) (log : LogState) (number : ℕ) (call : HookCall)
+      (after : Recorded S) : Type 0 where
+    next : OrderState
+    ordered : ordered_step shape order call ≡ Some next
+    stands : StandsAt after shape next (log_after_call shape log call) (number + 1)
+    told : TookAlso has_taken before.recording.sink after.recording.sink (call_events shape log order.pending call)
+
+  is_next : (before : Recorded S) (order : OrderState) (log : LogState) (number : ℕ) (call : HookCall)
+      (after : Recorded S) → StandsAt before shape order log number → IsAnswer has_taken before call (Ok tt) after
+      → IsNext before order log number call after
+  is_next before order log number call after stands answer =
+      let takes = answer.0 in
+      let logged = takes.logged log stands.shows in
+      record {
+        next = state_of (length after.recording.tables.entries) after.recording.order;
+        ordered = same_order before order log number call stands ∙ takes.ordered;
+        stands =
+            record {
+              whole = answer.2;
+              counted = answer.1 ∙ ap (λ k. k + 1) stands.counted;
+              shaped = ap shape_from takes.shape ∙ stands.shaped;
+              ordered = refl;
+              shows =
+                  subst
+                  (λ s. Show after.recording.memory after.recording.tables (log_after_call s log call))
+                  stands.shaped logged.0;
+            };
+        told =
+            subst
+            (λ s. TookAlso has_taken before.recording.sink after.recording.sink
+            (call_events s log order.pending call))
+            stands.shaped
+            (subst
+            (λ pending. TookAlso has_taken before.recording.sink after.recording.sink
+            (call_events (shape_from before.recording.order.shape) log pending call))
+            (ap (λ o. o.pending) stands.ordered) logged.1);
+      }
+
+  accepted : (calls : List HookCall) (before : Recorded S) (order : OrderState) (log : LogState) (number : ℕ)
+      (after : Recorded S) → StandsAt before shape order log number
+      → IsRun (IsRecorderStep has_taken) before calls (Ok tt) after
+      → (told : List Event) × (events_from shape order log number calls ≡ Ok told)
+      × TookAlso has_taken before.recording.sink after.recording.sink told × (after.broken ≡ false)
+  accepted [] before order log number after stands run =
+      subst
+      (λ r. (told : List Event) × (events_from shape order log number [] ≡ Ok told)
+      × TookAlso has_taken before.recording.sink r.recording.sink told × (r.broken ≡ false))
+      run.1 ([], refl, took_none has_taken before.recording.sink, stands.whole)
+  accepted (call ∷ calls) before order log number after stands (inl run) =
+      let between = run.0 in
+      let one = is_next before order log number call between stands (run.1.0 stands.whole) in
+      let rest =
+      accepted calls between one.next (log_after_call shape log call) (number + 1) after one.stands run.2 in (
+        call_events shape log order.pending call ++ rest.0,
+        ap
+            (λ o. events_or number o (λ next.
+            after_events (call_events shape log order.pending call)
+            (events_from shape next (log_after_call shape log call) (number + 1) calls)))
+            one.ordered
+            ∙ ap (after_events (call_events shape log order.pending call)) rest.1,
+        took_both has_taken before.recording.sink between.recording.sink after.recording.sink
+            (call_events shape log order.pending call) rest.0 one.told rest.2,
+        rest.3,
+      )
+  accepted (call ∷ calls) before order log number after stands (inr run) = let e = run.1 in cc
+
+  refused : (calls : List HookCall) (before : Recorded S) (order : OrderState) (log : LogState) (number at : ℕ)
+      (after : Recorded S) → StandsAt before shape order log number
+      → IsRun (IsRecorderStep has_taken) before calls (Err (Order at)) after
+      → first_disorder shape order number calls ≡ Some at
+  refused [] before order log number at after stands run = let e = run.0 in cc
+  refused (call ∷ calls) before order log number at after stands (inl run) =
+      let between = run.0 in
+      let one = is_next before order log number call between stands (run.1.0 stands.whole) in
+      ap (λ o. number_or number o (λ next. first_disorder shape next (number + 1) calls)) one.ordered
+      ∙ refused calls between one.next (log_after_call shape log call) (number + 1) at after one.stands run.2
+  refused (call ∷ calls) before order log number at after stands (inr run) =
+      let answer = run.2.0 stands.whole in
+      ap (λ o. number_or number o (λ next. first_disorder shape next (number + 1) calls))
+      (same_order before order log number call stands ∙ answer.0)
+      ∙ ap Some (sym (answer.1 ∙ stands.counted))
+
+pub runs_are_recorded : {S : Type 0} (has_taken : S → List Event → Type 0) → RunsAreRecorded has_taken
+runs_are_recorded has_taken before shape order log number stands =
+    record {
+      accepted = λ calls after run. accepted has_taken shape calls before order log number after stands run;
+      refused = λ calls at after run. refused has_taken shape calls before order log number at after stands run;
+    }

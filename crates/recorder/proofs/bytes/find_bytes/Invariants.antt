@@ -1,0 +1,18 @@
+use Rattle.std.proofs.Common.{◌≡◌, ℕ, ◌+◌, ◌-◌, ◌≤◌, [], ◌∷◌, length, drop}
+use Rattle.replay_spec.specs.Observations.{Reads}
+use Rattle.shadow_memory.specs.Shadow.{Shadow}
+use Rattle.recorder.specs.Known.{TellsOfMemory}
+use Rattle.recorder.proofs.bytes.find_bytes.Given as goal
+
+-- what the rest leads to, the whole leads to
+abbrev pub invariant-runs : goal.invariant-runs
+invariant-runs g l = record {
+  within : l.done ≤ length l.bytes;
+  goes_on : (after : Shadow) (sink : g.row.S.Denot)
+      → TellsOfMemory g.S.EventSink.has_taken l.memory l.sink (Reads (l.addr + l.done) (drop l.done l.bytes) ∷ []) after
+      sink
+      → TellsOfMemory g.S.EventSink.has_taken l.initial.memory l.initial.sink (Reads l.addr l.bytes ∷ []) after sink;
+}
+
+abbrev pub decreases-runs : goal.decreases-runs
+decreases-runs g l = length l.bytes - l.done

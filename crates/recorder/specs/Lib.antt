@@ -1,0 +1,5 @@
+pub mod Known
+pub mod Bytes
+pub mod Recordings
+pub mod Recorders
+pub mod Laws

@@ -1,0 +1,50 @@
+-- The steps of a recorder, before its calls are counted.
+use Rattle.std.specs.Prelude.{◌≡◌, ℕ, List, length, map, Option, Some, None, Bool, true, false}
+use Rattle.wasm_syntax.specs.declared.values.Val.{Val}
+use Rattle.wasm_syntax.specs.declared.signatures.GlobalType.{GlobalType}
+use Rattle.trace_model.specs.declared.events.Event.{Event}
+use Rattle.trace_model.specs.Sink.{TookAlso}
+use Rattle.hook_spec.specs.Hooks.{HookCall}
+use Rattle.hook_spec.specs.Order.{OrderState}
+use Rattle.hook_spec.specs.Logs.{LogState, call_events, log_after_call}
+use Rattle.hook_order.specs.Orders.{OrderParts, state_of, step_from}
+use Rattle.hook_order.specs.Shapes.{shape_from}
+use Rattle.shadow_memory.specs.Shadow.{Shadow}
+use Rattle.shadow_tables.specs.Tables.{Tables}
+use Rattle.recorder.specs.Known.{Show}
+
+-- where the calls stand, what is known, and the sink of the events
+pub record Recording (S : Type 0) : Type 0 where
+  pub order : OrderParts
+  pub memory : Shadow
+  pub tables : Tables
+  pub sink : S
+
+-- known globals have their types
+abbrev pub HaveTypes : List GlobalType → List Val → Type 0
+HaveTypes types values = map (λ value. value.ty) values ≡ map (λ ty. ty.ty) types
+
+-- from whatever a recording shows, a call leads to what it shows afterwards, and its sink took the call's events
+abbrev pub Logs : {S : Type 0} → (has_taken : S → List Event → Type 0) → Recording S → HookCall → Recording S → Type 0
+Logs has_taken before call after =
+    (state : LogState) → Show before.memory before.tables state
+    → Show after.memory after.tables (log_after_call (shape_from before.order.shape) state call)
+    × TookAlso has_taken before.sink after.sink
+    (call_events (shape_from before.order.shape) state before.order.pending call)
+
+-- the order after a call; none where the call is out of order
+abbrev pub order_after : {S : Type 0} → Recording S → HookCall → Option OrderState
+order_after recording call = step_from (length recording.tables.entries) recording.order call
+
+-- a call in order is taken
+pub record Takes {S : Type 0} (has_taken : S → List Event → Type 0) (before : Recording S) (call : HookCall)
+    (after : Recording S) : Type 0 where
+  pub shape : after.order.shape ≡ before.order.shape
+  pub ordered : order_after before call ≡ Some (state_of (length after.tables.entries) after.order)
+  pub logged : Logs has_taken before call after
+
+-- a call is taken, or it is out of order and nothing changes
+abbrev pub IsTaken : {S : Type 0} → (has_taken : S → List Event → Type 0) → Recording S → HookCall → (may : Bool)
+    → Recording S → Type 0
+IsTaken has_taken before call true after = Takes has_taken before call after
+IsTaken has_taken before call false after = (order_after before call ≡ None) × (after ≡ before)

@@ -1,0 +1,135 @@
+// Calls by which the memory and globals are read and written.
+
+ghost use Rattle.std.specs.Prelude.{IfOk, IsSome, OnErr};
+ghost use Rattle.hook_spec.specs.declared.hooks.Hook.TheVariants as hooks;
+ghost use Rattle.recorder.specs.Recordings.{order_after, IsTaken};
+
+use crate::memory;
+use crate::recording::Recording;
+use crate::tables::find_global;
+use hook_names::View;
+use no_memory::NoMemory;
+use trace_model::EventSink;
+use wasm_syntax::Val;
+
+impl<S: EventSink> Recording<S> {
+    /// A load.
+    #[inline]
+    pub(crate) fn load(&mut self, args: &[Val], view: &View) -> Result<bool, NoMemory>
+        ensures ok { IfOk result (λ may. IsTaken S.has_taken self.old
+            (record { kind = hooks.Load; args = args.now; view = view.now }) may self.new) }
+        ensures err { OnErr result (IsSome (order_after self.old
+            (record { kind = hooks.Load; args = args.now; view = view.now }))) }
+    {
+        let Some(access) = self.order.loaded(args) else {
+            return Ok(false);
+        };
+        memory::load(self.alloc, &mut self.memory, &mut self.sink, access, view)?;
+        Ok(true)
+    }
+
+    /// A store.
+    #[inline]
+    pub(crate) fn store(&mut self, args: &[Val], view: &View) -> Result<bool, NoMemory>
+        ensures ok { IfOk result (λ may. IsTaken S.has_taken self.old
+            (record { kind = hooks.Store; args = args.now; view = view.now }) may self.new) }
+        ensures err { OnErr result (IsSome (order_after self.old
+            (record { kind = hooks.Store; args = args.now; view = view.now }))) }
+    {
+        let Some((access, bits)) = self.order.stored(args) else {
+            return Ok(false);
+        };
+        memory::store(&mut self.memory, &mut self.sink, access, bits, view)?;
+        Ok(true)
+    }
+
+    /// The memory's size is read.
+    #[inline]
+    pub(crate) fn size(&mut self, args: &[Val], view: &View) -> Result<bool, NoMemory>
+        ensures ok { IfOk result (λ may. IsTaken S.has_taken self.old
+            (record { kind = hooks.Size; args = args.now; view = view.now }) may self.new) }
+        ensures err { OnErr result (IsSome (order_after self.old
+            (record { kind = hooks.Size; args = args.now; view = view.now }))) }
+    {
+        if !self.order.sees_size(args) {
+            return Ok(false);
+        }
+        memory::resize(&mut self.memory, &mut self.sink, view)?;
+        Ok(true)
+    }
+
+    /// The memory was grown.
+    #[inline]
+    pub(crate) fn grow(&mut self, args: &[Val], view: &View) -> Result<bool, NoMemory>
+        ensures ok { IfOk result (λ may. IsTaken S.has_taken self.old
+            (record { kind = hooks.Grow; args = args.now; view = view.now }) may self.new) }
+        ensures err { OnErr result (IsSome (order_after self.old
+            (record { kind = hooks.Grow; args = args.now; view = view.now }))) }
+    {
+        if !self.order.grows(args) {
+            return Ok(false);
+        }
+        memory::resize(&mut self.memory, &mut self.sink, view)?;
+        Ok(true)
+    }
+
+    /// A global was read.
+    #[inline]
+    pub(crate) fn gget(&mut self, args: &[Val], _view: &View) -> Result<bool, NoMemory>
+        ensures ok { IfOk result (λ may. IsTaken S.has_taken self.old
+            (record { kind = hooks.Gget; args = args.now; view = _view.now }) may self.new) }
+        ensures err { OnErr result (IsSome (order_after self.old
+            (record { kind = hooks.Gget; args = args.now; view = _view.now }))) }
+    {
+        let Some(told) = self.order.read_global(args) else {
+            return Ok(false);
+        };
+        find_global(&mut self.tables, &mut self.sink, told.global, told.value)?;
+        Ok(true)
+    }
+
+    /// A global is set.
+    #[inline]
+    pub(crate) fn gset(&mut self, args: &[Val], _view: &View) -> Result<bool, NoMemory>
+        ensures ok { IfOk result (λ may. IsTaken S.has_taken self.old
+            (record { kind = hooks.Gset; args = args.now; view = _view.now }) may self.new) }
+        ensures err { OnErr result (IsSome (order_after self.old
+            (record { kind = hooks.Gset; args = args.now; view = _view.now }))) }
+    {
+        let Some(told) = self.order.set_global(args) else {
+            return Ok(false);
+        };
+        self.tables.take_global(told.global, told.value);
+        Ok(true)
+    }
+
+    /// Bytes are copied.
+    #[inline]
+    pub(crate) fn copy(&mut self, args: &[Val], view: &View) -> Result<bool, NoMemory>
+        ensures ok { IfOk result (λ may. IsTaken S.has_taken self.old
+            (record { kind = hooks.Copy; args = args.now; view = view.now }) may self.new) }
+        ensures err { OnErr result (IsSome (order_after self.old
+            (record { kind = hooks.Copy; args = args.now; view = view.now }))) }
+    {
+        let Some(told) = self.order.copied(args) else {
+            return Ok(false);
+        };
+        memory::copy(self.alloc, &mut self.memory, &mut self.sink, told, view)?;
+        Ok(true)
+    }
+
+    /// Bytes are filled.
+    #[inline]
+    pub(crate) fn fill(&mut self, args: &[Val], view: &View) -> Result<bool, NoMemory>
+        ensures ok { IfOk result (λ may. IsTaken S.has_taken self.old
+            (record { kind = hooks.Fill; args = args.now; view = view.now }) may self.new) }
+        ensures err { OnErr result (IsSome (order_after self.old
+            (record { kind = hooks.Fill; args = args.now; view = view.now }))) }
+    {
+        let Some(told) = self.order.filled(args) else {
+            return Ok(false);
+        };
+        memory::fill(&mut self.memory, &mut self.sink, told, view)?;
+        Ok(true)
+    }
+}

@@ -1,0 +1,135 @@
+// Bytes that the module finds, and bytes that it writes.
+
+ghost use Rattle.std.specs.Prelude.{◌+◌, ◌≤◌, ◌∷◌, [], length, replicate, IfOk, OnOk, IfNone, IfSome, IsTrue};
+ghost use Rattle.history_spec.specs.Store.{bytes_of};
+ghost use Rattle.hook_spec.specs.Order.{is_width};
+ghost use Rattle.replay_spec.specs.Observations.{Reads};
+ghost use Rattle.shadow_memory.specs.Shadow.{HasTaken};
+ghost use Rattle.trace_model.specs.Sink.{TookAlso};
+ghost use Rattle.trace_model.specs.declared.events.Event.TheVariants.{Bytes as FoundBytes};
+ghost use Rattle.recorder.specs.Bytes.{FindsNothing, FindsRun};
+ghost use Rattle.recorder.specs.Known.{TellsOfMemory};
+
+use no_memory::NoMemory;
+use shadow_memory::{Difference, ShadowMemory};
+use std::alloc::Global;
+use trace_model::{Event, EventSink};
+use wasm_syntax::Bytes;
+
+/// Tells bytes that are found from an address on.
+#[cold]
+fn tell_bytes<S: EventSink>(
+    alloc: Global,
+    sink: &mut S,
+    addr: u32,
+    bytes: &[u8],
+) -> Result<(), NoMemory>
+    ensures { OnOk result (TookAlso S.has_taken sink.old sink.new (FoundBytes addr bytes.now ∷ [])) }
+{
+    let copy = Vec::from_slice(alloc, bytes)?;
+    sink.event(Event::Bytes {
+        addr,
+        bytes: Bytes::from_vec(copy),
+    })
+}
+
+/// Tells the first bytes that are not the known ones, as many as stand in a row, and takes them. Answers which these
+/// are; None where all are known.
+///
+/// # Errors
+/// Where an allocation failed.
+#[inline]
+fn find_run<S: EventSink>(
+    alloc: Global,
+    memory: &mut ShadowMemory,
+    sink: &mut S,
+    addr: u64,
+    bytes: &[u8],
+) -> Result<Option<Difference>, NoMemory>
+    requires { addr + length bytes.now ≤ u32.MAX }
+    ensures run { IfOk result (λ found. IfSome found (λ run.
+        FindsRun S.has_taken memory.old sink.old addr bytes.now run memory.new sink.new)) }
+    ensures none { IfOk result (λ found. IfNone found
+        (FindsNothing S.has_taken memory.old sink.old addr bytes.now memory.new sink.new)) }
+{
+    let Some(run) = memory.take_difference(addr, bytes)? else {
+        return Ok(None);
+    };
+    let at = addr + run.start as u64;
+    tell_bytes(alloc, sink, at as u32, &bytes[run.start..run.end])?;
+    Ok(Some(run))
+}
+
+/// Tells the longest runs of those bytes that are not the known ones, in order, and takes them.
+///
+/// # Errors
+/// Where an allocation failed.
+#[tactic(auto, using(crate::proofs::Finds::finds_then, crate::proofs::Finds::finds_nothing, crate::proofs::Finds::finds_end))]
+#[inline]
+pub(crate) fn find_bytes<S: EventSink>(
+    alloc: Global,
+    memory: &mut ShadowMemory,
+    sink: &mut S,
+    addr: u64,
+    bytes: &[u8],
+) -> Result<(), NoMemory>
+    requires { addr + length bytes.now ≤ u32.MAX }
+    ensures { OnOk result (TellsOfMemory S.has_taken memory.old sink.old (Reads addr bytes.now ∷ []) memory.new sink.new) }
+{
+    let mut done = 0;
+    'runs: while done < bytes.len() {
+        match find_run(alloc, memory, sink, addr + done as u64, &bytes[done..])? {
+            Some(run) => done += run.end,
+            None => return Ok(()),
+        }
+    }
+    Ok(())
+}
+
+/// Takes the lowest bytes of a number.
+///
+/// # Errors
+/// Where an allocation failed.
+#[inline]
+pub(crate) fn take_number(
+    memory: &mut ShadowMemory,
+    addr: u64,
+    width: u64,
+    bits: u64,
+) -> Result<(), NoMemory>
+    requires width { IsTrue (is_width width) }
+    requires end { addr + width ≤ u32.MAX }
+    ensures { OnOk result (HasTaken memory.old addr (bytes_of width bits) memory.new) }
+{
+    let [a, b, c, d, e, f, g, h] = bits.to_le_bytes();
+    match width {
+        1 => memory.take_run(addr, &[a]),
+        2 => memory.take_run(addr, &[a, b]),
+        4 => memory.take_run(addr, &[a, b, c, d]),
+        _ => memory.take_run(addr, &[a, b, c, d, e, f, g, h]),
+    }
+}
+
+/// Takes a byte at each address of a range.
+///
+/// # Errors
+/// Where an allocation failed.
+#[tactic(auto, using(crate::proofs::Finds::taken_same, crate::proofs::Finds::taken_none))]
+pub(crate) fn take_same(
+    memory: &mut ShadowMemory,
+    addr: u64,
+    count: usize,
+    byte: u8,
+) -> Result<(), NoMemory>
+    requires { addr + count ≤ u32.MAX }
+    ensures { OnOk result (HasTaken memory.old addr (replicate count byte) memory.new) }
+{
+    let part = [byte; 256];
+    let mut done = 0;
+    'parts: while done < count {
+        let more = (count - done).min(256);
+        memory.take_run(addr + done as u64, &part[..more])?;
+        done += more;
+    }
+    Ok(())
+}

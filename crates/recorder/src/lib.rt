@@ -1,0 +1,15 @@
+//! The recorder: from the calls of hooks that an instrumented module makes to the events of their log.
+#![tactic(auto)]
+
+mod accesses;
+mod bytes;
+mod calls;
+mod laws;
+mod memory;
+mod recorder;
+mod recording;
+mod tables;
+
+pub use laws::runs_are_recorded;
+pub use no_memory::NoMemory;
+pub use recorder::Recorder;

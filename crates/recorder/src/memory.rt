@@ -1,0 +1,273 @@
+// What the module sees of its memory and does to it.
+
+ghost use Rattle.std.specs.Prelude.{◌≡◌, ℕ, ◌+◌, ◌%◌, ◌^◌, ◌≤◌, ◌∷◌, [], Some, None, IsTrue, OnOk, MatchOption, length, nat_eq, replicate};
+ghost use Rattle.trace_model.specs.Sink.{TookAlso};
+ghost use Rattle.trace_model.specs.declared.events.Event.TheVariants.{Grow as Grew, Seen};
+ghost use Rattle.history_spec.specs.Store.{Memory, bytes_at, bytes_of, pages, with_bytes_at};
+ghost use Rattle.wasm_store.specs.Calls.{pages_in};
+ghost use Rattle.replay_spec.specs.Observations as observed;
+ghost use Rattle.replay_spec.specs.Observations.{Copies, Reaches, Resizes, Writes, copy_observations, load_observations, store_observations};
+ghost use Rattle.hook_spec.specs.Hooks.{on};
+ghost use Rattle.hook_spec.specs.Logs.{unless};
+ghost use Rattle.hook_spec.specs.Order.{is_width};
+ghost use Rattle.recorder.specs.Known.{TellsOfMemory};
+
+use crate::bytes::{find_bytes, take_number, take_same};
+use hook_names::View;
+use hook_order::Access;
+use no_memory::NoMemory;
+use shadow_memory::ShadowMemory;
+use std::alloc::Global;
+use trace_model::{Event, EventSink};
+use wasm_syntax::limits::PAGE_SIZE;
+
+/// The module sees the memory's size.
+///
+/// # Errors
+/// Where an allocation failed.
+fn see<S: EventSink>(memory: &mut ShadowMemory, sink: &mut S, found: u32) -> Result<(), NoMemory>
+    ensures known { OnOk result (memory.new ≡ record memory.old { known = found; noticed = found }) }
+    ensures told { OnOk result (TookAlso S.has_taken sink.old sink.new
+        (unless (nat_eq memory.old.known memory.old.noticed) Seen)) }
+{
+    if memory.known_pages() != memory.noticed() {
+        sink.event(Event::Seen)?;
+    }
+    memory.set_known(found);
+    memory.set_noticed(found);
+    Ok(())
+}
+
+/// An access ends at an address, in a memory of so many pages.
+///
+/// # Errors
+/// Where an allocation failed.
+#[inline]
+fn reach<S: EventSink>(
+    memory: &mut ShadowMemory,
+    sink: &mut S,
+    end: u128,
+    found: u32,
+) -> Result<(), NoMemory>
+    ensures { OnOk result (TellsOfMemory S.has_taken memory.old sink.old (Reaches «end» found ∷ []) memory.new sink.new) }
+{
+    if end > u128::from(memory.known_pages()) * u128::from(PAGE_SIZE) {
+        see(memory, sink, found)?;
+    }
+    Ok(())
+}
+
+/// The memory's size is noticed, and told where it is another than the one that was.
+///
+/// # Errors
+/// Where an allocation failed.
+#[inline]
+pub(crate) fn notice<S: EventSink>(
+    memory: &mut ShadowMemory,
+    sink: &mut S,
+    view: &View,
+) -> Result<(), NoMemory>
+    ensures noticed { OnOk result (memory.new ≡ record memory.old { noticed = pages_in view.now }) }
+    ensures told { OnOk result (TookAlso S.has_taken sink.old sink.new
+        (unless (nat_eq (pages_in view.now) memory.old.noticed) (Grew (pages_in view.now)))) }
+{
+    let pages = view.pages();
+    if pages != memory.noticed() {
+        sink.event(Event::Grow { pages })?;
+    }
+    memory.set_noticed(pages);
+    Ok(())
+}
+
+/// The bytes from an address on, as many as are counted; None where they are not all there.
+#[inline]
+fn range(bytes: &[u8], start: u128, count: u64) -> Option<&[u8]>
+    requires { start ≤ 2 ^ 65 }
+    ensures { MatchOption result (bytes_at bytes.now start count ≡ None)
+        (λ part. (bytes_at bytes.now start count ≡ Some part.now) × (length part.now ≡ count)
+        × (start + count ≤ length bytes.now)) }
+{
+    let end = start + u128::from(count);
+    if end <= bytes.len() as u128 {
+        Some(&bytes[start as usize..end as usize])
+    } else {
+        None
+    }
+}
+
+/// The address of an access, which may be past what 64 bits count.
+#[inline]
+fn address_of(access: Access) -> u128
+    ensures { result ≡ access.base + access.offset }
+{
+    u128::from(access.base) + u128::from(access.offset)
+}
+
+/// A load.
+///
+/// # Errors
+/// Where an allocation failed.
+#[tactic(auto, using(crate::proofs::Within::loads_within, crate::proofs::Within::loads_past, crate::proofs::Within::tells_nowhere))]
+#[inline]
+pub(crate) fn load<S: EventSink>(
+    alloc: Global,
+    memory: &mut ShadowMemory,
+    sink: &mut S,
+    access: Access,
+    view: &View,
+) -> Result<(), NoMemory>
+    requires { IsTrue (is_width access.width) }
+    ensures { OnOk result (TellsOfMemory S.has_taken memory.old sink.old
+        (on view.now.memory (load_observations (access.base + access.offset) access.width)) memory.new sink.new) }
+{
+    if !view.has_memory() {
+        return Ok(());
+    }
+    let start = address_of(access);
+    let end = start + u128::from(access.width);
+    reach(memory, sink, end, view.pages())?;
+    let Some(bytes) = range(view.bytes(), start, access.width) else {
+        return Ok(());
+    };
+    find_bytes(alloc, memory, sink, start as u64, bytes)
+}
+
+/// A store.
+///
+/// # Errors
+/// Where an allocation failed.
+#[tactic(auto, using(crate::proofs::Within::stores_number, crate::proofs::Within::numbers_past, crate::proofs::Within::tells_nowhere))]
+#[inline]
+pub(crate) fn store<S: EventSink>(
+    memory: &mut ShadowMemory,
+    sink: &mut S,
+    access: Access,
+    bits: u64,
+    view: &View,
+) -> Result<(), NoMemory>
+    requires { IsTrue (is_width access.width) }
+    ensures { OnOk result (TellsOfMemory S.has_taken memory.old sink.old
+        (on view.now.memory (store_observations (access.base + access.offset) access.width (bytes_of access.width bits)))
+        memory.new sink.new) }
+{
+    if !view.has_memory() {
+        return Ok(());
+    }
+    let start = address_of(access);
+    reach(memory, sink, start + u128::from(access.width), view.pages())?;
+    let Some(_there) = range(view.bytes(), start, access.width) else {
+        return Ok(());
+    };
+    take_number(memory, start as u64, access.width, bits)
+}
+
+/// The memory's size is read, or was grown; what it found then makes no difference.
+///
+/// # Errors
+/// Where an allocation failed.
+pub(crate) fn resize<S: EventSink>(
+    memory: &mut ShadowMemory,
+    sink: &mut S,
+    view: &View,
+) -> Result<(), NoMemory>
+    ensures { OnOk result ((found : Memory → ℕ) → TellsOfMemory S.has_taken memory.old sink.old
+        (on view.now.memory (λ there. Resizes (found there) (pages there) ∷ [])) memory.new sink.new) }
+{
+    if !view.has_memory() {
+        return Ok(());
+    }
+    see(memory, sink, view.pages())
+}
+
+/// A copy, by its target, source and count.
+///
+/// # Errors
+/// Where an allocation failed.
+#[tactic(auto, using(crate::proofs::Within::copies, crate::proofs::Within::tells_nowhere))]
+pub(crate) fn copy<S: EventSink>(
+    alloc: Global,
+    memory: &mut ShadowMemory,
+    sink: &mut S,
+    told: (u64, u64, u64),
+    view: &View,
+) -> Result<(), NoMemory>
+    ensures { OnOk result (TellsOfMemory S.has_taken memory.old sink.old
+        (on view.now.memory (copy_observations told.0 told.1 told.2)) memory.new sink.new) }
+{
+    if !view.has_memory() {
+        return Ok(());
+    }
+    let (to, from, count) = told;
+    reach(
+        memory,
+        sink,
+        u128::from(from) + u128::from(count),
+        view.pages(),
+    )?;
+    reach(
+        memory,
+        sink,
+        u128::from(to) + u128::from(count),
+        view.pages(),
+    )?;
+    copy_bytes(alloc, memory, sink, told, view.bytes())
+}
+
+/// What a copy reads and writes, where both are within these bytes.
+///
+/// # Errors
+/// Where an allocation failed.
+#[tactic(auto, using(crate::proofs::Within::copies_nothing, crate::proofs::Within::copies_nowhere, crate::proofs::Within::copies_there))]
+fn copy_bytes<S: EventSink>(
+    alloc: Global,
+    memory: &mut ShadowMemory,
+    sink: &mut S,
+    told: (u64, u64, u64),
+    bytes: &[u8],
+) -> Result<(), NoMemory>
+    requires { length bytes.now ≤ u32.MAX }
+    ensures { OnOk result (TellsOfMemory S.has_taken memory.old sink.old
+        (observed.on (bytes_at bytes.now told.1 told.2) (λ part.
+        observed.on (with_bytes_at bytes.now told.0 part) (λ all. Copies told.1 part ∷ Writes told.0 part ∷ [])))
+        memory.new sink.new) }
+{
+    let (to, from, count) = told;
+    let Some(part) = range(bytes, u128::from(from), count) else {
+        return Ok(());
+    };
+    let Some(_there) = range(bytes, u128::from(to), count) else {
+        return Ok(());
+    };
+    find_bytes(alloc, memory, sink, from, part)?;
+    memory.take_run(to, part)
+}
+
+/// A fill, by its target, value and count.
+///
+/// # Errors
+/// Where an allocation failed.
+#[tactic(auto, using(crate::proofs::Within::stores_same, crate::proofs::Within::fills_past, crate::proofs::Within::tells_nowhere))]
+pub(crate) fn fill<S: EventSink>(
+    memory: &mut ShadowMemory,
+    sink: &mut S,
+    told: (u64, u64, u64),
+    view: &View,
+) -> Result<(), NoMemory>
+    ensures { OnOk result (TellsOfMemory S.has_taken memory.old sink.old
+        (on view.now.memory (store_observations told.0 told.2 (replicate told.2 (told.1 % 256)))) memory.new sink.new) }
+{
+    if !view.has_memory() {
+        return Ok(());
+    }
+    let (to, value, count) = told;
+    reach(
+        memory,
+        sink,
+        u128::from(to) + u128::from(count),
+        view.pages(),
+    )?;
+    let Some(_there) = range(view.bytes(), u128::from(to), count) else {
+        return Ok(());
+    };
+    take_same(memory, to, count as usize, (value % 256) as u8)
+}

@@ -1,0 +1,65 @@
+// Hook calls one after another: each is looked at by the order, and what it observes is told.
+
+ghost use Rattle.std.specs.Prelude.{IfOk, IsSome, OnErr};
+ghost use Rattle.recorder.specs.Recordings.{order_after, IsTaken};
+
+use hook_names::{Hook, View};
+use hook_order::Order;
+use no_memory::NoMemory;
+use shadow_memory::ShadowMemory;
+use shadow_tables::ShadowTables;
+use std::alloc::Global;
+use std::marker::Model;
+use trace_model::EventSink;
+use wasm_syntax::Val;
+
+/// Where the calls stand, what is known, and the sink of the events.
+#[derive(Drop)]
+pub(crate) struct Recording<S> {
+    pub(crate) order: Order,
+    pub(crate) memory: ShadowMemory,
+    pub(crate) tables: ShadowTables,
+    pub(crate) sink: S,
+    pub(crate) alloc: Global,
+}
+
+impl<S> Model for Recording<S> {
+    ghost use Rattle.recorder.specs.Recordings as recordings;
+
+    ghost Value = { recordings.Recording S };
+
+    ghost view = { λ r. record { order = r.order; memory = r.memory; tables = r.tables; sink = r.sink } };
+
+    ghost invariant = { λ r. recordings.HaveTypes r.order.shape.globals r.tables.globals };
+}
+
+impl<S: EventSink> Recording<S> {
+    /// Takes a call. Answers whether it is in order; nothing changes where it is not.
+    ///
+    /// # Errors
+    /// Where an allocation failed.
+    pub(crate) fn take(&mut self, kind: Hook, args: &[Val], view: &View) -> Result<bool, NoMemory>
+        ensures ok { IfOk result (λ may. IsTaken S.has_taken self.old
+            (record { kind = kind; args = args.now; view = view.now }) may self.new) }
+        ensures err { OnErr result (IsSome (order_after self.old
+            (record { kind = kind; args = args.now; view = view.now }))) }
+    {
+        match kind {
+            Hook::Arg => self.arg(args, view),
+            Hook::Enter => self.enter(args, view),
+            Hook::Leave => self.leave(args, view),
+            Hook::Pre => self.pre(args, view),
+            Hook::Post => self.post(args, view),
+            Hook::Ipre => self.ipre(args, view),
+            Hook::Ipost => self.ipost(args, view),
+            Hook::Load => self.load(args, view),
+            Hook::Store => self.store(args, view),
+            Hook::Size => self.size(args, view),
+            Hook::Grow => self.grow(args, view),
+            Hook::Gget => self.gget(args, view),
+            Hook::Gset => self.gset(args, view),
+            Hook::Copy => self.copy(args, view),
+            Hook::Fill => self.fill(args, view),
+        }
+    }
+}
