@@ -82,7 +82,8 @@ callee_of shape (Some func) =
     option_and_then (λ origin. cond (is_function shape origin) (Some (Some origin)) None) (original shape.imports func)
 
 -- the index, and the function that the entry holds, by which a call is in order
-pub record IsEntryCall (parts : OrderParts) (args : List Val) (known : ℕ) (view : Store) (call : EntryCall) : Type 0 where
+pub record IsEntryCall (parts : OrderParts) (args : List Val) (known : ℕ) (view : Store) (call : EntryCall)
+    : Type 0 where
   pub index : bits_at args 0 ≡ call.index
   pub table : nat_le known (table_length view.table) ≡ true
   pub callee : option_and_then (original parts.shape.imports) (entry_of view.table call.index) ≡ call.callee

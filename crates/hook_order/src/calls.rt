@@ -173,7 +173,8 @@ impl Order {
     /// have so many entries.
     #[inline]
     pub fn called_by_table(&self, args: &[Val], known: u32, view: &View) -> Option<EntryCall>
-        ensures { MatchOption result (step_from known self.now (record { kind = Ipre; args = args.now; view = view.now }) ≡ None)
+        ensures { MatchOption result
+            (step_from known self.now (record { kind = Ipre; args = args.now; view = view.now }) ≡ None)
             (IsEntryCall self.now args.now known view.now) }
     {
         let index = args::one(args)?;

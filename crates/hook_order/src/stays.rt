@@ -136,11 +136,10 @@ impl Order {
 
     /// A global with its bits, where it may be told.
     fn told_global(&self, global: u64, bits: u64) -> Option<ToldGlobal>
-        ensures { MatchOption result
-            ((may_tell (state_of 0 self.now) && fits_global (slice_get self.now.shape.globals global) bits) ≡ false)
-            (λ told. ((may_tell (state_of 0 self.now) && fits_global (slice_get self.now.shape.globals global) bits) ≡ true)
-            × (told.global ≡ global)
-            × (option_map (λ ty. value_of_global ty bits) (slice_get self.now.shape.globals global) ≡ Some told.value)) }
+        ensures { let ty = slice_get self.now.shape.globals global
+            in MatchOption result ((may_tell (state_of 0 self.now) && fits_global ty bits) ≡ false)
+            (λ told. ((may_tell (state_of 0 self.now) && fits_global ty bits) ≡ true) × (told.global ≡ global)
+            × (option_map (λ ty. value_of_global ty bits) ty ≡ Some told.value)) }
     {
         let ty = self.shape.global(global)?;
         if self.may_tell() && fits_global(Some(ty), bits) {
