@@ -1,27 +1,25 @@
 -- What a recording is after each kind of call.
-use Rattle.std.proofs.Common.{◌≡◌, ℕ, ◌+◌, List, [], ◌∷◌, ◌++◌, length, Option, Some, None, Result, Ok, Err, Bool, true, false, cond, nat_eq, nat_le, slice_get, option_map, option_and_then, refl, sym, ap, ◌∙◌, subst}
+use Rattle.std.proofs.Common.{◌≡◌, ℕ, List, [], ◌++◌, length, Option, Some, None, Result, Ok, Err, true, false, cond, nat_eq, refl, sym, ap, ◌∙◌, subst}
 use Rattle.std.specs.Prelude.{IfNone, IfSome, IsOk, IsSome, OnErr, OnOk, is_some}
 use Rattle.std.proofs.lemmas.List.{append-nil}
 use Rattle.wasm_syntax.specs.declared.values.Val.{Val}
 use Rattle.trace_model.specs.declared.events.Event.{Event}
 use Rattle.trace_model.specs.declared.events.Event.TheVariants as events
 use Rattle.trace_model.specs.Sink.{TookAlso}
-use Rattle.history_spec.specs.Store.{Store, Memory, pages}
-use Rattle.history_spec.specs.Instruction.{bits_at}
+use Rattle.history_spec.specs.Store.{Store, Memory}
 use Rattle.wasm_store.specs.Calls.{pages_in, pages_of_memory}
 use Rattle.replay_spec.specs.Known.{pages_of}
 use Rattle.hook_spec.specs.declared.hooks.Hook.{Hook}
-use Rattle.hook_spec.specs.declared.hooks.Hook.TheVariants.{Arg, Enter, Leave, Pre, Post, Ipre, Ipost}
 use Rattle.hook_spec.specs.Hooks.{HookCall}
 use Rattle.hook_spec.specs.Order.{OrderState}
-use Rattle.hook_spec.specs.Logs.{LogState, unless, own_events, notices_size, grown_events, observed_by, call_observations, call_events, all_observed_events, log_after_all, log_after_call}
+use Rattle.hook_spec.specs.Logs.{LogState, unless, own_events, notices_size, grown_events, observed_by, call_observations, call_events, all_observed_events, log_after_all}
 use Rattle.hook_order.specs.Orders.{OrderParts, LeadsTo, state_of}
 use Rattle.hook_order.specs.Shapes.{shape_from}
 use Rattle.shadow_memory.specs.Shadow.{Shadow}
 use Rattle.shadow_tables.specs.Tables.{Tables}
-use Rattle.recorder.specs.Known.{Keeper, Show, Tells, TellsOfMemory, TellsOfTables}
+use Rattle.recorder.specs.Known.{Show, Tells, TellsOfMemory, TellsOfTables}
 use Rattle.recorder.specs.Recordings.{Recording, Logs, Takes, order_after}
-use Rattle.recorder.proofs.Kit.{took_none, took_both, took_same}
+use Rattle.recorder.proofs.Kit.{took_both, took_same}
 
 pub pages_same : (memory : Option Memory) → pages_of_memory memory ≡ pages_of memory
 pages_same None = refl

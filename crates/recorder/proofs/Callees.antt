@@ -1,5 +1,5 @@
 -- Calls by the table: the entry is reached, and is read where it is there.
-use Rattle.std.proofs.Common.{◌≡◌, ℕ, ◌<◌, ◌≤◌, List, [], ◌∷◌, ◌++◌, length, Option, Some, None, Bool, true, false, cond, nat_eq, nat_le, nat_lt, slice_get, slice_index_or, refl, sym, ap, ◌∙◌, subst, arith}
+use Rattle.std.proofs.Common.{◌≡◌, ℕ, ◌<◌, ◌≤◌, List, [], ◌∷◌, length, Option, Some, None, Bool, true, false, cond, nat_eq, nat_lt, slice_get, slice_index_or, refl, sym, ap, ◌∙◌, subst, arith}
 use Rattle.std.specs.Option.{option_flatten}
 use Rattle.std.proofs.lemmas.Bool.Decides.{nat_tests}
 use Rattle.std.proofs.lemmas.List.{append-nil}
@@ -8,14 +8,14 @@ use Rattle.trace_model.specs.declared.events.Event.{Event}
 use Rattle.trace_model.specs.declared.events.Event.TheVariants.{Table as TableEvent}
 use Rattle.history_spec.specs.Store.{Store, Table}
 use Rattle.history_spec.specs.Instantiation.{table_length}
-use Rattle.wasm_store.specs.Calls.{entries_of_table, entries_in, entry_at}
+use Rattle.wasm_store.specs.Calls.{entries_of_table, entries_in}
 use Rattle.replay_spec.specs.Observations as observed
 use Rattle.replay_spec.specs.Observations.{Observation, ReachesEntry, ReadsEntry, entry_observations}
 use Rattle.replay_spec.specs.Known.{entry_of, entries_after}
 use Rattle.hook_spec.specs.Hooks.{on}
-use Rattle.hook_spec.specs.Logs.{LogState, unless, all_observed_events}
+use Rattle.hook_spec.specs.Logs.{unless, all_observed_events}
 use Rattle.shadow_tables.specs.Tables.{Tables}
-use Rattle.recorder.specs.Known.{Show, TellsOfTables}
+use Rattle.recorder.specs.Known.{TellsOfTables}
 use Rattle.recorder.proofs.Kit.{tells_then, took_same}
 
 pub size_same : (store : Store) → length (entries_in store) ≡ table_length store.table

@@ -1,9 +1,9 @@
 -- Entries and globals that are found, and taken.
-use Rattle.std.proofs.Common.{◌≡◌, ◌≢◌, ℕ, zero, suc, ◌+◌, ◌-◌, ◌<◌, ◌≤◌, List, [], ◌∷◌, ◌++◌, length, map, Option, Some, None, Bool, true, false, cond, not, nat_eq, nat_lt, replicate, slice_get, slice_index_or, slice_set, option_map, option_and_then, refl, sym, ap, ◌∙◌, subst, arith}
+use Rattle.std.proofs.Common.{◌≡◌, ◌≢◌, ℕ, zero, suc, ◌-◌, ◌<◌, ◌≤◌, List, [], ◌∷◌, ◌++◌, length, map, Option, Some, None, Bool, true, false, cond, nat_eq, nat_lt, replicate, slice_get, slice_index_or, slice_set, option_map, option_and_then, refl, sym, ap, ◌∙◌, subst, arith}
 use Rattle.std.specs.Prelude.{unwrap_or}
 use Rattle.std.specs.Option.{option_or}
 use Rattle.std.proofs.lemmas.Bool.Decides.{nat_tests}
-use Rattle.std.proofs.lemmas.List.{append-nil, length-append, length-replicate, length-set, get_or-set_same, get_or-set_other, get_or_append_left, get_or-append_right}
+use Rattle.std.proofs.lemmas.List.{append-nil, length-append, length-replicate, length-set, get_or-set_same, get_or-set_other}
 use Rattle.std.proofs.lemmas.Option.{slice_get-get_or, slice_get_within}
 use Rattle.wasm_syntax.specs.declared.values.Val.{Val}
 use Rattle.trace_model.specs.declared.events.Event.{Event}
@@ -11,10 +11,9 @@ use Rattle.trace_model.specs.declared.events.Event.TheVariants.{Table, Entry, Gl
 use Rattle.trace_model.specs.Sink.{TookAlso}
 use Rattle.replay_spec.specs.Observations.{ReachesEntry, ReadsEntry, ReadsGlobal, WritesGlobal}
 use Rattle.hook_spec.specs.Hooks.{original}
-use Rattle.hook_spec.specs.Logs.{LogState, unless, same_entry, same_bits, all_observed_events, log_after}
-use Rattle.shadow_memory.specs.Shadow.{Shadow}
+use Rattle.hook_spec.specs.Logs.{LogState, unless, same_entry, same_bits, all_observed_events}
 use Rattle.shadow_tables.specs.Tables.{Tables}
-use Rattle.recorder.specs.Known.{Show, TellsOfTables}
+use Rattle.recorder.specs.Known.{TellsOfTables}
 use Rattle.recorder.proofs.Kit.{took_none, took_same}
 
 or_none : {X : Type 0} (a : Option X) → option_or a None ≡ a

@@ -1,21 +1,17 @@
 -- Bytes that are found: each run as it is told and taken, and what is shown then.
-use Rattle.std.proofs.Common.{◌≡◌, ℕ, suc, ◌+◌, ◌-◌, ◌<◌, ◌≤◌, List, [], ◌∷◌, ◌++◌, length, take, drop, Option, Some, None, Bool, true, false, cond, nat_eq, nat_le, replicate, slice_get, slice_index, refl, sym, ap, ◌∙◌, subst, arith}
+use Rattle.std.proofs.Common.{◌≡◌, ℕ, ◌+◌, ◌-◌, ◌≤◌, List, [], ◌∷◌, ◌++◌, length, take, drop, Option, Some, None, Bool, true, false, cond, nat_eq, nat_le, replicate, slice_index, refl, sym, ap, ◌∙◌, subst, arith}
 use Rattle.std.specs.Prelude.{unwrap_or}
 use Rattle.std.specs.Option.{option_or}
 use Rattle.std.proofs.lemmas.Bool.{eqb-true}
 use Rattle.std.proofs.lemmas.Bool.Decides.{nat_tests}
 use Rattle.std.proofs.lemmas.List.{append-nil, get_or-drop, get_or-take, length-drop, length-take-le, length-append, length-replicate, replicate-append-replicate, take_at, drop_at}
 use Rattle.trace_model.specs.declared.events.Event.{Event}
-use Rattle.trace_model.specs.declared.events.Event.TheVariants.{Bytes}
-use Rattle.trace_model.specs.Sink.{TookAlso}
 use Rattle.replay_spec.specs.Observations.{Reads, Writes}
-use Rattle.hook_spec.specs.Logs.{LogState, differing_runs, all_observed_events, log_after}
+use Rattle.hook_spec.specs.Logs.{differing_runs, all_observed_events, log_after}
 use Rattle.shadow_memory.specs.Shadow.{Shadow, byte_among, HasTaken}
-use Rattle.shadow_memory.specs.Runs.{is_known}
 use Rattle.shadow_memory.specs.declared.runs.Difference.{Difference}
 use Rattle.shadow_memory.proofs.Written.{among_there, among_below, among_past, Among, Below, There, Past, where_among}
-use Rattle.shadow_tables.specs.Tables.{Tables}
-use Rattle.recorder.specs.Known.{Show, TellsOfMemory}
+use Rattle.recorder.specs.Known.{TellsOfMemory}
 use Rattle.recorder.specs.Bytes.{run_event, FindsRun, FindsNothing}
 use Rattle.recorder.proofs.Kit.{took_none, took_both, took_same}
 use Rattle.recorder.proofs.Sizes.{writes}

@@ -1,11 +1,11 @@
 -- What sinks take and what shadows show, after observations one after another.
-use Rattle.std.proofs.Common.{◌≡◌, ℕ, List, [], ◌∷◌, ◌++◌, refl, sym, ap, ◌∙◌, subst}
+use Rattle.std.proofs.Common.{◌≡◌, ℕ, List, [], ◌∷◌, ◌++◌, sym, ap, subst}
 use Rattle.std.proofs.lemmas.List.{append_assoc, append-nil}
 use Rattle.trace_model.specs.declared.events.Event.{Event}
 use Rattle.trace_model.specs.Sink.{TookAlso}
 use Rattle.replay_spec.specs.Observations.{Observation}
-use Rattle.hook_spec.specs.Logs.{LogState, observed_events, all_observed_events, log_after, log_after_all}
-use Rattle.recorder.specs.Known.{Keeper, Show, Tells}
+use Rattle.hook_spec.specs.Logs.{observed_events, all_observed_events, log_after}
+use Rattle.recorder.specs.Known.{Keeper, Tells}
 
 module _ {S : Type 0} (has_taken : S → List Event → Type 0) where
   -- nothing was taken

@@ -2,7 +2,6 @@
 use Rattle.std.proofs.Common.{◌≡◌, ℕ, zero, suc, List, [], ◌∷◌, length, map, false, Option, Some, None, slice_get, slice_index, slice_index_or, refl, sym, ap, ◌∙◌}
 use Rattle.std.specs.Option.{option_flatten}
 use Rattle.wasm_syntax.specs.declared.modules.Module.{Module}
-use Rattle.wasm_syntax.specs.Index.{all_globals}
 use Rattle.history_spec.specs.Store.{Store, Memory, Table}
 use Rattle.history_spec.specs.Instantiation.{table_length}
 use Rattle.wasm_store.specs.Calls.{bytes_of_memory, entries_of_table}
@@ -12,15 +11,15 @@ use Rattle.type_safety.proofs.Values.{types_values}
 use Rattle.replay_spec.specs.Known.{byte_of, entry_of}
 use Rattle.hook_spec.specs.Order.{order_start, shape_of}
 use Rattle.hook_spec.specs.Logs.{log_start}
-use Rattle.hook_order.specs.Orders.{OrderParts, parts_at_start}
+use Rattle.hook_order.specs.Orders.{parts_at_start}
 use Rattle.hook_order.specs.Shapes.{ShapeParts, parts_of, shape_from}
 use Rattle.shadow_memory.specs.Shadow.{Shadow}
 use Rattle.shadow_memory.specs.Opening as memories
 use Rattle.shadow_tables.specs.Tables.{Tables}
 use Rattle.shadow_tables.specs.Tables as tables_of
 use Rattle.recorder.specs.Known.{Show}
-use Rattle.recorder.specs.Recordings.{Recording, HaveTypes}
-use Rattle.recorder.specs.Recorders.{Recorded, StandsAt}
+use Rattle.recorder.specs.Recordings.{HaveTypes}
+use Rattle.recorder.specs.Recorders.{StandsAt}
 use Rattle.recorder.proofs.Arms.{pages_same}
 
 byte_same : (memory : Option Memory) (at : ℕ) → byte_of memory at ≡ slice_index (bytes_of_memory memory) at

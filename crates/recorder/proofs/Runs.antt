@@ -1,19 +1,19 @@
 -- Runs of a recorder, call by call.
-use Rattle.std.proofs.Common.{◌≡◌, ℕ, ◌+◌, List, [], ◌∷◌, ◌++◌, length, Option, Some, None, Result, Ok, Err, true, false, inl, inr, refl, sym, ap, ◌∙◌, subst}
+use Rattle.std.proofs.Common.{◌≡◌, ℕ, ◌+◌, List, [], ◌∷◌, ◌++◌, length, Option, Some, None, Ok, Err, false, inl, inr, refl, sym, ap, ◌∙◌, subst}
 use Rattle.trace_model.specs.declared.events.Event.{Event}
 use Rattle.trace_model.specs.Sink.{TookAlso}
-use Rattle.hook_names.specs.declared.hooks.HookFault.{HookFault}
-use Rattle.hook_names.specs.declared.hooks.HookFault.TheVariants.{Order, Memory}
+use Rattle.hook_names.specs.declared.hooks.HookFault.TheVariants.{Order}
 use Rattle.hook_names.specs.Steps.{IsRun}
+use Rattle.history_spec.specs.Instantiation.{table_length}
 use Rattle.hook_spec.specs.Hooks.{HookCall}
-use Rattle.hook_spec.specs.Order.{HookedShape, OrderState, ordered_step, number_or, first_disorder}
-use Rattle.hook_spec.specs.Logs.{LogState, call_events, log_after_call, after_events, events_or, events_from}
+use Rattle.hook_spec.specs.Order.{HookedShape, OrderState, ordered_step, number_or, first_disorder, order_start}
+use Rattle.hook_spec.specs.Logs.{LogState, call_events, log_after_call, after_events, events_or, events_from, log_with, log_start}
 use Rattle.hook_order.specs.Orders.{state_of}
 use Rattle.hook_order.specs.Shapes.{shape_from}
 use Rattle.recorder.specs.Known.{Show}
-use Rattle.recorder.specs.Recordings.{Takes, order_after}
+use Rattle.recorder.specs.Recordings.{order_after}
 use Rattle.recorder.specs.Recorders.{Recorded, IsAnswer, IsRecorderStep, StandsAt}
-use Rattle.recorder.specs.Laws.{RunsRecord, RunsAreRecorded}
+use Rattle.recorder.specs.Laws.{RunsAreRecorded, LogsAreRecorded}
 use Rattle.recorder.proofs.Kit.{took_none, took_both}
 
 module _ {S : Type 0} (has_taken : S → List Event → Type 0) (shape : HookedShape) where
@@ -68,12 +68,14 @@ module _ {S : Type 0} (has_taken : S → List Event → Type 0) (shape : HookedS
       (after : Recorded S) → StandsAt before shape order log number
       → IsRun (IsRecorderStep has_taken) before calls (Ok tt) after
       → (told : List Event) × (events_from shape order log number calls ≡ Ok told)
-      × TookAlso has_taken before.recording.sink after.recording.sink told × (after.broken ≡ false)
+      × TookAlso has_taken before.recording.sink after.recording.sink told
+      × (after.broken ≡ false) × (shape_from after.recording.order.shape ≡ shape)
   accepted [] before order log number after stands run =
       subst
       (λ r. (told : List Event) × (events_from shape order log number [] ≡ Ok told)
-      × TookAlso has_taken before.recording.sink r.recording.sink told × (r.broken ≡ false))
-      run.1 ([], refl, took_none has_taken before.recording.sink, stands.whole)
+      × TookAlso has_taken before.recording.sink r.recording.sink told
+      × (r.broken ≡ false) × (shape_from r.recording.order.shape ≡ shape))
+      run.1 ([], refl, took_none has_taken before.recording.sink, stands.whole, stands.shaped)
   accepted (call ∷ calls) before order log number after stands (inl run) =
       let between = run.0 in
       let one = is_next before order log number call between stands (run.1.0 stands.whole) in
@@ -89,6 +91,7 @@ module _ {S : Type 0} (has_taken : S → List Event → Type 0) (shape : HookedS
         took_both has_taken before.recording.sink between.recording.sink after.recording.sink
             (call_events shape log order.pending call) rest.0 one.told rest.2,
         rest.3,
+        rest.4,
       )
   accepted (call ∷ calls) before order log number after stands (inr run) = let e = run.1 in cc
 
@@ -113,4 +116,53 @@ runs_are_recorded has_taken before shape order log number stands =
     record {
       accepted = λ calls after run. accepted has_taken shape calls before order log number after stands run;
       refused = λ calls at after run. refused has_taken shape calls before order log number at after stands run;
+    }
+
+-- ---- logs
+
+module _ (shape : HookedShape) where
+  -- a call out of order leaves no events
+  no_events : (calls : List HookCall) (order : OrderState) (log : LogState) (number at : ℕ)
+      → first_disorder shape order number calls ≡ Some at → events_from shape order log number calls ≡ Err at
+  no_events [] order log number at h = cc
+  no_events (call ∷ calls) order log number at h =
+      go (λ next later. no_events calls next (log_after_call shape log call) (number + 1) at later)
+      (ordered_step shape order call) h
+    where
+      go : ((next : OrderState) → first_disorder shape next (number + 1) calls ≡ Some at
+          → events_from shape next (log_after_call shape log call) (number + 1) calls ≡ Err at)
+          → (next : Option OrderState)
+          → number_or number next (λ next. first_disorder shape next (number + 1) calls) ≡ Some at
+          → events_or number next (λ next.
+          after_events (call_events shape log order.pending call)
+          (events_from shape next (log_after_call shape log call) (number + 1) calls))
+          ≡ Err at
+      go rest None h = ap Err (inner h)
+        where
+          inner : Some number ≡ Some at → number ≡ at
+          inner e = cc
+      go rest (Some next) h = ap (after_events (call_events shape log order.pending call)) (rest next h)
+
+pub logs_are_recorded : {S : Type 0} (has_taken : S → List Event → Type 0) → LogsAreRecorded has_taken
+logs_are_recorded has_taken before shape opened stands empty =
+    record {
+      accepted = λ calls outcome after run.
+          let made =
+          accepted has_taken shape calls before (order_start (table_length opened.table)) (log_start opened) 0 after
+          stands run in (
+            record { imports = shape.imports; events = made.0; outcome = outcome },
+            ap (log_with shape.imports outcome) made.1,
+            made.2 [] empty,
+            ap (λ s. s.imports) (sym made.4),
+            refl,
+            made.3,
+          );
+      refused = λ calls outcome at after run.
+          let first =
+          refused has_taken shape calls before (order_start (table_length opened.table)) (log_start opened) 0 at after
+          stands run in (
+            ap (log_with shape.imports outcome)
+                (no_events shape calls (order_start (table_length opened.table)) (log_start opened) 0 at first),
+            first,
+          );
     }

@@ -1,5 +1,5 @@
 -- Observations of the memory's size, and bytes that are written.
-use Rattle.std.proofs.Common.{◌≡◌, ℕ, ◌*◌, ◌<◌, ◌≤◌, List, [], ◌∷◌, ◌++◌, Bool, true, false, cond, nat_eq, nat_le, slice_index, refl, sym, ap, ◌∙◌, subst, arith}
+use Rattle.std.proofs.Common.{◌≡◌, ℕ, ◌*◌, ◌<◌, ◌≤◌, List, [], ◌∷◌, ◌++◌, true, false, cond, nat_eq, nat_le, refl, sym, ap, ◌∙◌, arith}
 use Rattle.std.specs.Prelude.{unwrap_or}
 use Rattle.std.proofs.lemmas.Bool.Decides.{nat_tests}
 use Rattle.std.proofs.lemmas.List.{append-nil}
@@ -7,9 +7,9 @@ use Rattle.wasm_syntax.specs.declared.limits.TheConstants.{PAGE_SIZE}
 use Rattle.trace_model.specs.declared.events.Event.{Event}
 use Rattle.trace_model.specs.declared.events.Event.TheVariants.{Seen}
 use Rattle.trace_model.specs.Sink.{TookAlso}
-use Rattle.replay_spec.specs.Observations.{Observation, Reaches, Resizes, Writes}
+use Rattle.replay_spec.specs.Observations.{Reaches, Resizes, Writes}
 use Rattle.replay_spec.specs.Known.{byte_among}
-use Rattle.hook_spec.specs.Logs.{LogState, unless, seen_events, observed_events, all_observed_events, log_after}
+use Rattle.hook_spec.specs.Logs.{LogState, unless, seen_events, all_observed_events}
 use Rattle.shadow_memory.specs.Shadow.{Shadow, HasTaken}
 use Rattle.shadow_tables.specs.Tables.{Tables}
 use Rattle.recorder.specs.Known.{Show, TellsOfMemory}

@@ -1,6 +1,5 @@
 -- What a recording is after each hook's call.
-use Rattle.std.proofs.Common.{◌≡◌, ℕ, ◌+◌, ◌%◌, List, [], ◌∷◌, ◌++◌, length, Option, Some, None, true, false, cond, nat_eq, replicate, slice_get, slice_set, option_map, option_and_then, refl, sym, ap, ◌∙◌, subst}
-use Rattle.std.proofs.lemmas.List.{append-nil, length-set}
+use Rattle.std.proofs.Common.{◌≡◌, ℕ, ◌+◌, ◌%◌, List, [], ◌∷◌, ◌++◌, length, Some, true, false, nat_eq, replicate, slice_get, slice_set, option_and_then, refl, sym, ap, ◌∙◌, subst}
 use Rattle.wasm_syntax.specs.declared.values.Val.{Val}
 use Rattle.wasm_syntax.specs.declared.values.ValType.TheVariants.{I32}
 use Rattle.trace_model.specs.declared.events.Event.{Event}
@@ -10,10 +9,10 @@ use Rattle.history_spec.specs.Store.{Store, Memory, pages, bytes_of}
 use Rattle.history_spec.specs.Instantiation.{table_length}
 use Rattle.history_spec.specs.Instruction.{bits_at}
 use Rattle.wasm_store.specs.Calls.{pages_in}
-use Rattle.replay_spec.specs.Observations.{Observation, Resizes, ReachesEntry, ReadsGlobal, load_observations, store_observations, copy_observations, entry_observations}
+use Rattle.replay_spec.specs.Observations.{Resizes, ReachesEntry, ReadsGlobal, load_observations, store_observations, copy_observations, entry_observations}
 use Rattle.replay_spec.specs.Known.{entry_of, entries_after}
 use Rattle.hook_spec.specs.declared.hooks.Hook.TheVariants.{Arg, Enter, Leave, Pre, Post, Ipre, Ipost, Load, Store as ToStore, Size, Grow, Gget, Gset, Copy, Fill}
-use Rattle.hook_spec.specs.Hooks.{HookCall, original, on}
+use Rattle.hook_spec.specs.Hooks.{original, on}
 use Rattle.hook_spec.specs.Logs.{LogState, unless, found_by_growth, all_observed_events, call_events, log_after_all}
 use Rattle.hook_order.specs.Args.{AreArgs}
 use Rattle.hook_order.specs.Orders.{OrderParts, LeadsTo, IsAccess, IsGlobal, IsEntryCall, parts_pending, parts_entered, parts_called, parts_closed, state_of}

@@ -10,7 +10,7 @@ use Rattle.hook_spec.specs.Hooks.{on}
 use Rattle.shadow_memory.specs.Shadow.{Shadow, HasTaken}
 use Rattle.recorder.specs.Known.{TellsOfMemory}
 use Rattle.recorder.proofs.Kit.{tells_none, tells_then}
-use Rattle.recorder.proofs.Sizes.{resizes, writes}
+use Rattle.recorder.proofs.Sizes.{writes}
 
 true_false : true ≡ false → ⊥
 true_false e = cc

@@ -1,5 +1,5 @@
 -- The first bytes that are not the known ones, told.
-use Rattle.std.specs.Prelude.{◌≡◌, ℕ, ◌+◌, ◌-◌, List, [], ◌∷◌, length, take, drop, Option, Some, None}
+use Rattle.std.specs.Prelude.{ℕ, ◌+◌, ◌-◌, List, [], ◌∷◌, take, drop}
 use Rattle.trace_model.specs.declared.events.Event.{Event}
 use Rattle.trace_model.specs.declared.events.Event.TheVariants.{Bytes}
 use Rattle.trace_model.specs.Sink.{TookAlso}

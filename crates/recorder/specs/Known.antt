@@ -1,5 +1,5 @@
 -- What a recorder knows of a store, what its sink has taken, and how observations change both.
-use Rattle.std.specs.Prelude.{◌≡◌, ℕ, List, length, Option, None, slice_get, slice_index, slice_index_or}
+use Rattle.std.specs.Prelude.{◌≡◌, ℕ, List, length, None, slice_get, slice_index, slice_index_or}
 use Rattle.trace_model.specs.declared.events.Event.{Event}
 use Rattle.trace_model.specs.Sink.{TookAlso}
 use Rattle.replay_spec.specs.Observations.{Observation}

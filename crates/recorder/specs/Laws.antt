@@ -1,12 +1,17 @@
 -- What the runs of a recorder come to.
-use Rattle.std.specs.Prelude.{◌≡◌, ℕ, List, Result, Ok, Err, Some, false}
+use Rattle.std.specs.Prelude.{◌≡◌, ℕ, List, [], Ok, Err, Some, false}
 use Rattle.trace_model.specs.declared.events.Event.{Event}
+use Rattle.trace_model.specs.declared.events.Log.{Log}
 use Rattle.trace_model.specs.Sink.{TookAlso}
+use Rattle.run_outcomes.specs.declared.outcomes.Outcome.{Outcome}
+use Rattle.history_spec.specs.Store.{Store}
+use Rattle.history_spec.specs.Instantiation.{table_length}
 use Rattle.hook_names.specs.declared.hooks.HookFault.TheVariants.{Order}
 use Rattle.hook_names.specs.Steps.{IsRun}
 use Rattle.hook_spec.specs.Hooks.{HookCall}
-use Rattle.hook_spec.specs.Order.{HookedShape, OrderState, first_disorder}
-use Rattle.hook_spec.specs.Logs.{LogState, events_from}
+use Rattle.hook_spec.specs.Order.{HookedShape, OrderState, order_start, first_disorder}
+use Rattle.hook_spec.specs.Logs.{LogState, log_start, log_of, events_from}
+use Rattle.hook_order.specs.Shapes.{shape_from}
 use Rattle.recorder.specs.Recorders.{Recorded, IsRecorderStep, StandsAt}
 
 -- a run of calls from where a recorder stands: where all are accepted, its sink took just the events of their log;
@@ -16,7 +21,8 @@ pub record RunsRecord {S : Type 0} (has_taken : S → List Event → Type 0) (be
   pub accepted : (calls : List HookCall) (after : Recorded S)
       → IsRun (IsRecorderStep has_taken) before calls (Ok tt) after
       → (told : List Event) × (events_from shape order log number calls ≡ Ok told)
-      × TookAlso has_taken before.recording.sink after.recording.sink told × (after.broken ≡ false)
+      × TookAlso has_taken before.recording.sink after.recording.sink told
+      × (after.broken ≡ false) × (shape_from after.recording.order.shape ≡ shape)
   pub refused : (calls : List HookCall) (at : ℕ) (after : Recorded S)
       → IsRun (IsRecorderStep has_taken) before calls (Err (Order at)) after
       → first_disorder shape order number calls ≡ Some at
@@ -25,3 +31,22 @@ abbrev pub RunsAreRecorded : {S : Type 0} → (has_taken : S → List Event → 
 RunsAreRecorded {S} has_taken =
     (before : Recorded S) (shape : HookedShape) (order : OrderState) (log : LogState) (number : ℕ)
     → StandsAt before shape order log number → RunsRecord has_taken before shape order log number
+
+-- the same from a new recorder on, whose sink has taken nothing: its sink has then taken the events of the calls' log,
+-- whatever their outcome; or there is no log, since the call of this number is the first one out of order
+pub record RunsGiveLogs {S : Type 0} (has_taken : S → List Event → Type 0) (before : Recorded S) (shape : HookedShape)
+    (opened : Store) : Type 0 where
+  pub accepted : (calls : List HookCall) (outcome : Outcome) (after : Recorded S)
+      → IsRun (IsRecorderStep has_taken) before calls (Ok tt) after
+      → (log : Log) × (log_of shape opened calls outcome ≡ Ok log) × has_taken after.recording.sink log.events
+      × (log.imports ≡ after.recording.order.shape.imports) × (log.outcome ≡ outcome) × (after.broken ≡ false)
+  pub refused : (calls : List HookCall) (outcome : Outcome) (at : ℕ) (after : Recorded S)
+      → IsRun (IsRecorderStep has_taken) before calls (Err (Order at)) after
+      → (log_of shape opened calls outcome ≡ Err at)
+      × (first_disorder shape (order_start (table_length opened.table)) 0 calls ≡ Some at)
+
+abbrev pub LogsAreRecorded : {S : Type 0} → (has_taken : S → List Event → Type 0) → Type 0
+LogsAreRecorded {S} has_taken =
+    (before : Recorded S) (shape : HookedShape) (opened : Store)
+    → StandsAt before shape (order_start (table_length opened.table)) (log_start opened) 0
+    → has_taken before.recording.sink [] → RunsGiveLogs has_taken before shape opened

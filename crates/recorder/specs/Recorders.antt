@@ -1,5 +1,5 @@
 -- A recorder: its steps, and what it stands at.
-use Rattle.std.specs.Prelude.{◌≡◌, ℕ, ◌+◌, List, length, Option, Some, None, Bool, true, false, Result, Ok, Err, ⊤, IsSome}
+use Rattle.std.specs.Prelude.{◌≡◌, ℕ, ◌+◌, List, length, None, Bool, true, false, Result, Ok, Err, ⊤, IsSome}
 use Rattle.trace_model.specs.declared.events.Event.{Event}
 use Rattle.hook_names.specs.declared.hooks.HookFault.{HookFault}
 use Rattle.hook_names.specs.declared.hooks.HookFault.TheVariants.{Order, Memory}

@@ -1,5 +1,5 @@
 -- The steps of a recorder, before its calls are counted.
-use Rattle.std.specs.Prelude.{◌≡◌, ℕ, List, length, map, Option, Some, None, Bool, true, false}
+use Rattle.std.specs.Prelude.{◌≡◌, List, length, map, Option, Some, None, Bool, true, false}
 use Rattle.wasm_syntax.specs.declared.values.Val.{Val}
 use Rattle.wasm_syntax.specs.declared.signatures.GlobalType.{GlobalType}
 use Rattle.trace_model.specs.declared.events.Event.{Event}

@@ -64,7 +64,6 @@ fn find_run<S: EventSink>(
 ///
 /// # Errors
 /// Where an allocation failed.
-#[tactic(auto, using(crate::proofs::Finds::finds_then, crate::proofs::Finds::finds_nothing, crate::proofs::Finds::finds_end))]
 #[inline]
 pub(crate) fn find_bytes<S: EventSink>(
     alloc: Global,
@@ -74,7 +73,8 @@ pub(crate) fn find_bytes<S: EventSink>(
     bytes: &[u8],
 ) -> Result<(), NoMemory>
     requires { addr + length bytes.now ≤ u32.MAX }
-    ensures { OnOk result (TellsOfMemory S.has_taken memory.old sink.old (Reads addr bytes.now ∷ []) memory.new sink.new) }
+    ensures { OnOk result
+        (TellsOfMemory S.has_taken memory.old sink.old (Reads addr bytes.now ∷ []) memory.new sink.new) }
 {
     let mut done = 0;
     'runs: while done < bytes.len() {
@@ -114,7 +114,7 @@ pub(crate) fn take_number(
 ///
 /// # Errors
 /// Where an allocation failed.
-#[tactic(auto, using(crate::proofs::Finds::taken_same, crate::proofs::Finds::taken_none))]
+#[tactic(auto, using(crate::proofs::Finds::taken_none))]
 pub(crate) fn take_same(
     memory: &mut ShadowMemory,
     addr: u64,

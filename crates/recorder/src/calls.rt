@@ -170,7 +170,7 @@ impl<S: EventSink> Recording<S> {
 ///
 /// # Errors
 /// Where an allocation failed.
-#[tactic(auto, using(crate::proofs::Callees::size_same, crate::proofs::Callees::below_after, crate::proofs::Callees::callee_past, crate::proofs::Callees::callee_there))]
+#[tactic(auto, using(crate::proofs::Callees::size_same, crate::proofs::Callees::below_after))]
 fn find_callee<S: EventSink>(
     tables: &mut ShadowTables,
     sink: &mut S,

@@ -10,6 +10,6 @@ mod recorder;
 mod recording;
 mod tables;
 
-pub use laws::runs_are_recorded;
+pub use laws::{logs_are_recorded, runs_are_recorded};
 pub use no_memory::NoMemory;
 pub use recorder::Recorder;

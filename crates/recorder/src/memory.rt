@@ -49,7 +49,8 @@ fn reach<S: EventSink>(
     end: u128,
     found: u32,
 ) -> Result<(), NoMemory>
-    ensures { OnOk result (TellsOfMemory S.has_taken memory.old sink.old (Reaches «end» found ∷ []) memory.new sink.new) }
+    ensures { OnOk result
+        (TellsOfMemory S.has_taken memory.old sink.old (Reaches «end» found ∷ []) memory.new sink.new) }
 {
     if end > u128::from(memory.known_pages()) * u128::from(PAGE_SIZE) {
         see(memory, sink, found)?;
@@ -107,7 +108,7 @@ fn address_of(access: Access) -> u128
 ///
 /// # Errors
 /// Where an allocation failed.
-#[tactic(auto, using(crate::proofs::Within::loads_within, crate::proofs::Within::loads_past, crate::proofs::Within::tells_nowhere))]
+#[tactic(auto, using(crate::proofs::Within::tells_nowhere))]
 #[inline]
 pub(crate) fn load<S: EventSink>(
     alloc: Global,
@@ -136,7 +137,7 @@ pub(crate) fn load<S: EventSink>(
 ///
 /// # Errors
 /// Where an allocation failed.
-#[tactic(auto, using(crate::proofs::Within::stores_number, crate::proofs::Within::numbers_past, crate::proofs::Within::tells_nowhere))]
+#[tactic(auto, using(crate::proofs::Within::tells_nowhere))]
 #[inline]
 pub(crate) fn store<S: EventSink>(
     memory: &mut ShadowMemory,
@@ -147,7 +148,8 @@ pub(crate) fn store<S: EventSink>(
 ) -> Result<(), NoMemory>
     requires { IsTrue (is_width access.width) }
     ensures { OnOk result (TellsOfMemory S.has_taken memory.old sink.old
-        (on view.now.memory (store_observations (access.base + access.offset) access.width (bytes_of access.width bits)))
+        (on view.now.memory
+        (store_observations (access.base + access.offset) access.width (bytes_of access.width bits)))
         memory.new sink.new) }
 {
     if !view.has_memory() {
@@ -183,7 +185,7 @@ pub(crate) fn resize<S: EventSink>(
 ///
 /// # Errors
 /// Where an allocation failed.
-#[tactic(auto, using(crate::proofs::Within::copies, crate::proofs::Within::tells_nowhere))]
+#[tactic(auto, using(crate::proofs::Within::tells_nowhere))]
 pub(crate) fn copy<S: EventSink>(
     alloc: Global,
     memory: &mut ShadowMemory,
@@ -217,7 +219,7 @@ pub(crate) fn copy<S: EventSink>(
 ///
 /// # Errors
 /// Where an allocation failed.
-#[tactic(auto, using(crate::proofs::Within::copies_nothing, crate::proofs::Within::copies_nowhere, crate::proofs::Within::copies_there))]
+#[tactic(auto, using(crate::proofs::Within::copies_nothing, crate::proofs::Within::copies_nowhere))]
 fn copy_bytes<S: EventSink>(
     alloc: Global,
     memory: &mut ShadowMemory,
@@ -246,7 +248,7 @@ fn copy_bytes<S: EventSink>(
 ///
 /// # Errors
 /// Where an allocation failed.
-#[tactic(auto, using(crate::proofs::Within::stores_same, crate::proofs::Within::fills_past, crate::proofs::Within::tells_nowhere))]
+#[tactic(auto, using(crate::proofs::Within::tells_nowhere))]
 pub(crate) fn fill<S: EventSink>(
     memory: &mut ShadowMemory,
     sink: &mut S,

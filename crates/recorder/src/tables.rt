@@ -56,7 +56,7 @@ pub(crate) fn reach_entry<S: EventSink>(
 ///
 /// # Errors
 /// Where an allocation failed.
-#[tactic(auto, using(crate::proofs::Entries::finds_entry, crate::proofs::Entries::knows_entry))]
+#[tactic(auto, using(crate::proofs::Entries::finds_entry))]
 #[inline]
 pub(crate) fn find_entry<S: EventSink>(
     tables: &mut ShadowTables,
@@ -85,7 +85,7 @@ pub(crate) fn find_entry<S: EventSink>(
 ///
 /// # Errors
 /// Where an allocation failed.
-#[tactic(auto, using(crate::proofs::Entries::finds_global, crate::proofs::Entries::knows_global, crate::proofs::Entries::types_stay, crate::proofs::Entries::is_below))]
+#[tactic(auto, using(crate::proofs::Entries::finds_global, crate::proofs::Entries::knows_global, crate::proofs::Entries::is_below))]
 #[inline]
 pub(crate) fn find_global<S: EventSink>(
     tables: &mut ShadowTables,

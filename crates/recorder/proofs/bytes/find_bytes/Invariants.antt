@@ -1,4 +1,4 @@
-use Rattle.std.proofs.Common.{◌≡◌, ℕ, ◌+◌, ◌-◌, ◌≤◌, [], ◌∷◌, length, drop}
+use Rattle.std.proofs.Common.{◌+◌, ◌-◌, ◌≤◌, [], ◌∷◌, length, drop}
 use Rattle.replay_spec.specs.Observations.{Reads}
 use Rattle.shadow_memory.specs.Shadow.{Shadow}
 use Rattle.recorder.specs.Known.{TellsOfMemory}

@@ -1,4 +1,4 @@
-use Rattle.std.proofs.Common.{◌≡◌, ◌-◌, ◌≤◌, replicate}
+use Rattle.std.proofs.Common.{◌-◌, ◌≤◌, replicate}
 use Rattle.shadow_memory.specs.Shadow.{HasTaken}
 use Rattle.recorder.proofs.bytes.take_same.Given as goal
 

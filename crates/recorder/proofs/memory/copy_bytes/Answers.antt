@@ -1,4 +1,4 @@
-use Rattle.std.proofs.Common.{◌≡◌, sym, ap, ◌∙◌}
+use Rattle.std.proofs.Common.{sym, ap, ◌∙◌}
 use Rattle.history_spec.specs.Store.{bytes_at}
 use Rattle.recorder.proofs.Arms.{on_ok}
 use Rattle.recorder.proofs.Within.{copies_there}

@@ -1,4 +1,4 @@
-use Rattle.std.proofs.Common.{◌≡◌, true, false, sym, ◌∙◌}
+use Rattle.std.proofs.Common.{sym, ◌∙◌}
 use Rattle.recorder.proofs.Entries.{knows_entry, true_false}
 use Rattle.recorder.proofs.tables.find_entry.Goals as goal
 

@@ -1,4 +1,4 @@
-use Rattle.std.proofs.Common.{◌≡◌, map, ap, ◌∙◌}
+use Rattle.std.proofs.Common.{map, ap, ◌∙◌}
 use Rattle.recorder.proofs.Entries.{types_stay}
 use Rattle.recorder.proofs.tables.find_global.Goals as goal
 

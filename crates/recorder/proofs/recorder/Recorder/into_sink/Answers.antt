@@ -1,4 +1,4 @@
-use Rattle.std.proofs.Common.{◌≡◌, map, false, sym, ap, ◌∙◌, subst}
+use Rattle.std.proofs.Common.{false, sym, ap, ◌∙◌, subst}
 use Rattle.history_spec.specs.Instantiation.{instantiate, table_length}
 use Rattle.hook_spec.specs.Order.{order_start, shape_of}
 use Rattle.hook_spec.specs.Logs.{log_start}

@@ -1,4 +1,4 @@
-use Rattle.std.proofs.Common.{◌≡◌, [], ◌∷◌, length, None, slice_get, refl, subst}
+use Rattle.std.proofs.Common.{◌≡◌, [], ◌∷◌, length, None, refl, subst}
 use Rattle.trace_model.specs.declared.events.Event.TheVariants as events
 use Rattle.trace_model.specs.Sink.{TookAlso}
 use Rattle.hook_spec.specs.declared.hooks.Hook.TheVariants.{Enter}

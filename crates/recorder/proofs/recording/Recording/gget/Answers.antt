@@ -1,8 +1,7 @@
-use Rattle.std.proofs.Common.{◌≡◌, length, None, refl, ap, ◌∙◌, subst}
+use Rattle.std.proofs.Common.{◌≡◌, length, None, refl, subst}
 use Rattle.hook_spec.specs.declared.hooks.Hook.TheVariants.{Gget}
 use Rattle.recorder.specs.Recordings.{order_after, Takes}
 use Rattle.recorder.proofs.Arms.{err_led}
-use Rattle.recorder.proofs.Entries.{is_below, types_stay}
 use Rattle.recorder.proofs.Told.{known_typed}
 use Rattle.recorder.proofs.Steps.{take_gget}
 use Rattle.recorder.proofs.recording.Recording.gget.Goals as goal

@@ -1,7 +1,6 @@
 use Rattle.std.proofs.Common.{◌≡◌, length, map, None, refl, ap, ◌∙◌, subst}
 use Rattle.hook_spec.specs.declared.hooks.Hook.TheVariants.{Gset}
 use Rattle.recorder.specs.Recordings.{order_after, Takes}
-use Rattle.recorder.proofs.Arms.{err_led}
 use Rattle.recorder.proofs.Entries.{is_below, types_stay}
 use Rattle.recorder.proofs.Told.{known_typed}
 use Rattle.recorder.proofs.Steps.{take_gset}

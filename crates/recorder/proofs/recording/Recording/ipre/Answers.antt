@@ -1,8 +1,7 @@
-use Rattle.std.proofs.Common.{◌≡◌, length, None, refl, ap, ◌∙◌, subst}
+use Rattle.std.proofs.Common.{subst}
 use Rattle.hook_spec.specs.declared.hooks.Hook.TheVariants.{Ipre}
 use Rattle.hook_order.specs.Orders.{IsEntryCall}
-use Rattle.recorder.specs.Recordings.{order_after, Takes}
-use Rattle.recorder.proofs.Arms.{err_led}
+use Rattle.recorder.specs.Recordings.{Takes}
 use Rattle.recorder.proofs.Steps.{take_ipre}
 use Rattle.recorder.proofs.recording.Recording.ipre.Goals as goal
 

@@ -1,4 +1,4 @@
-use Rattle.std.proofs.Common.{◌≡◌, length, None, refl, ap, ◌∙◌, subst}
+use Rattle.std.proofs.Common.{◌≡◌, length, None, refl, subst}
 use Rattle.hook_spec.specs.declared.hooks.Hook.TheVariants.{Store as ToStore}
 use Rattle.recorder.specs.Recordings.{order_after, Takes}
 use Rattle.recorder.proofs.Arms.{err_led}
