@@ -1,0 +1,102 @@
+-- A recorder that a run has led on.
+use Rattle.std.proofs.Common.{◌≡◌, ℕ, ◌+◌, List, [], ◌∷◌, Option, Some, None, Result, Ok, Err, refl, sym, ap, ◌∙◌, subst}
+use Rattle.run_outcomes.specs.declared.outcomes.Outcome.{Outcome}
+use Rattle.trace_model.specs.declared.events.Event.{Event}
+use Rattle.trace_model.specs.declared.events.Log.{Log}
+use Rattle.history_spec.specs.Instantiation.{table_length}
+use Rattle.hook_spec.specs.Hooks.{HookCall}
+use Rattle.hook_spec.specs.Order.{HookedShape, OrderState, order_start, ordered_step, first_disorder, number_or}
+use Rattle.hook_spec.specs.Logs.{LogState, log_start, call_events, log_after_call, events_from, events_or, after_events, log_with}
+use Rattle.host_play.specs.HookedResults.{IsPlayedWithHooks}
+use Rattle.host_play.specs.declared.results.PlayFault.{PlayFault}
+use Rattle.host_play.specs.declared.results.PlayFault.TheVariants as refusal
+use Rattle.recorder.specs.Recorders.{Recorded, IsRecorderStep, StandsAt}
+use Rattle.recorder.specs.Laws.{RunsAreRecorded}
+use Rattle.run_recorder.specs.Records.{RecordedRun, calls_in, HasTakenLog, IsLog, RefusesRecord}
+
+-- no events, but a number
+abbrev IsNumber : Result (List Event) ℕ → Type 0
+IsNumber (Ok events) = ⊥
+IsNumber (Err number) = Unit {0}
+
+-- events after others are there where these are
+later_events : (first : List Event) (later : Result (List Event) ℕ) (told : List Event) → after_events first later ≡ Ok told
+    → (rest : List Event) × (later ≡ Ok rest)
+later_events first (Ok rest) told is = (rest, refl)
+later_events first (Err number) told is = absurd (subst IsNumber is tt)
+
+-- calls whose events are told are in order
+in_order : (shape : HookedShape) (order : OrderState) (log : LogState) (at : ℕ) (calls : List HookCall) (told : List Event)
+    → events_from shape order log at calls ≡ Ok told → first_disorder shape order at calls ≡ None
+in_order shape order log at [] told is = refl
+in_order shape order log at (call ∷ calls) told is =
+    go (ordered_step shape order call) (λ next told. in_order shape next (log_after_call shape log call) (at + 1) calls told) is
+  where
+    go : (next : Option OrderState)
+        → ((next : OrderState) (told : List Event) → events_from shape next (log_after_call shape log call) (at + 1) calls ≡ Ok told
+        → first_disorder shape next (at + 1) calls ≡ None)
+        → events_or at next (λ next. after_events (call_events shape log order.pending call)
+        (events_from shape next (log_after_call shape log call) (at + 1) calls)) ≡ Ok told
+        → number_or at next (λ next. first_disorder shape next (at + 1) calls) ≡ None
+    go None rest is = absurd (subst IsNumber is tt)
+    go (Some next) rest is =
+        let later = later_events (call_events shape log order.pending call)
+        (events_from shape next (log_after_call shape log call) (at + 1) calls) told is in
+        rest next later.0 later.1
+
+-- what is known of the recorder by what the run answered
+abbrev pub IsLed : {S : Type 0} → (has_taken : S → List Event → Type 0) → RecordedRun → Result Outcome PlayFault → Recorded S → Type 0
+IsLed has_taken r (Ok outcome) after = HasTakenLog has_taken r after.recording.sink outcome
+IsLed has_taken r (Err fault) after = RefusesRecord r fault
+
+pub led : {S : Type 0} (has_taken : S → List Event → Type 0) → RunsAreRecorded has_taken → (r : RecordedRun) (before after : Recorded S)
+    → StandsAt before r.shape (order_start (table_length r.opened.table)) (log_start r.opened) 0
+    → has_taken before.recording.sink [] → (answer : Result Outcome PlayFault)
+    → IsPlayedWithHooks (IsRecorderStep has_taken) r.run answer before after → IsLed has_taken r answer after
+led has_taken law r before after stands fresh (Ok outcome) played =
+    let told = (law before r.shape _ _ 0 stands).accepted (calls_in r played.within.count) after played.hooks in
+    record {
+      log = record { imports = r.shape.imports; events = told.0; outcome = outcome };
+      is_log = record {
+        after = played.run;
+        within = played.within;
+        ends = played.ends;
+        logged = ap (log_with r.shape.imports outcome) told.1;
+      };
+      taken = told.2 [] fresh;
+    }
+led has_taken law r before after stands fresh (Err (refusal.Fault turn kind)) played =
+    let told = (law before r.shape _ _ 0 stands).accepted (calls_in r played.within.count) after played.hooks in
+    record {
+      after = played.run;
+      within = played.within;
+      kind_is = played.kind_is;
+      turn_is = played.turn_is;
+      ordered = in_order r.shape _ _ 0 (calls_in r played.within.count) told.0 told.1;
+    }
+led has_taken law r before after stands fresh (Err refusal.Spent) played =
+    let told = (law before r.shape _ _ 0 stands).accepted (calls_in r played.spent.count) after played.hooks in
+    record { spent = played.spent; ordered = in_order r.shape _ _ 0 (calls_in r played.spent.count) told.0 told.1 }
+led has_taken law r before after stands fresh (Err (refusal.Hook number)) played =
+    record {
+      count = played.count;
+      in_budget = played.in_budget;
+      first = (law before r.shape _ _ 0 stands).refused (calls_in r played.count) number after played.hooks;
+    }
+led has_taken law r before after stands fresh (Err refusal.Memory) played = tt
+
+-- a log has the imports and the outcome that it is made with
+abbrev pub IsMadeWith : (imports : ℕ) → Outcome → Result Log ℕ → Type 0
+IsMadeWith imports outcome (Ok log) = log ≡ record { imports = imports; events = log.events; outcome = outcome }
+IsMadeWith imports outcome (Err number) = Unit {0}
+
+made_with : (imports : ℕ) (outcome : Outcome) (found : Result (List Event) ℕ) → IsMadeWith imports outcome (log_with imports outcome found)
+made_with imports outcome (Ok events) = refl
+made_with imports outcome (Err number) = tt
+
+pub log_of_events : (r : RecordedRun) (outcome : Outcome) (events : List Event) (log : Log) → events ≡ log.events → IsLog r outcome log
+    → IsLog r outcome (record { imports = r.shape.imports; events = events; outcome = outcome })
+log_of_events r outcome events log same is =
+    let found = events_from r.shape (order_start (table_length r.opened.table)) (log_start r.opened) 0 (calls_in r is.within.count) in
+    let parts = subst (IsMadeWith r.shape.imports outcome) is.logged (made_with r.shape.imports outcome found) in
+    subst (IsLog r outcome) (parts ∙ ap (λ (events : List Event). record { imports = r.shape.imports; events = events; outcome = outcome }) (sym same)) is

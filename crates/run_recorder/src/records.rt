@@ -1,0 +1,106 @@
+// Recorded runs.
+
+ghost use Rattle.std.specs.Prelude.{◌≡◌, [], Ok};
+ghost use Rattle.wasm_syntax.specs.Profile.{IsSupported};
+ghost use Rattle.host_script.specs.Fits.{Fits};
+ghost use Rattle.history_spec.specs.Instantiation.{instantiate};
+ghost use Rattle.type_safety.specs.Stores.{IsStore};
+ghost use Rattle.wasm_flat.specs.Bounds.{IsBound};
+ghost use Rattle.wasm_flat.specs.FlatCode.{flat_of};
+ghost use Rattle.wasm_flat.specs.Meters.{FitsMeter};
+ghost use Rattle.hook_spec.specs.Order.{shape_of};
+ghost use Rattle.host_play.specs.HookedResults.{HasHooksAfter, hooked_run};
+ghost use Rattle.run_recorder.specs.Records.{IsRecord, IsRecordedInto};
+
+use history_spec::Outcome;
+use host_play::{Play, PlayFault};
+use host_script::Supply;
+use recorder::{Recorder, runs_are_recorded};
+use std::alloc::Global;
+use trace_model::{EventSink, Events, Log};
+use wasm_flat::Meter;
+use wasm_validate::Checked;
+
+/// The run of a module in the hooked form, before whose hooks so many imports stand, under a meter, within a number of
+/// turns. The sink has taken no event; it takes the events of the log of the calls of hooks that the run makes. `play` is
+/// the module's instantiation with the supply.
+///
+/// # Errors
+///
+/// `Hook` exactly where a call of a hook is the first one out of order, with its number from 0; before any such call
+/// `Fault` where the host cannot do what the script says, and `Spent` where the run needs more turns. `Memory` where
+/// memory is out.
+pub fn record_into<S: EventSink + Drop>(
+    alloc: Global,
+    hooked: &Checked,
+    supply: &Supply,
+    imports: u32,
+    play: Play,
+    meter: &Meter,
+    turns: u64,
+    sink: S,
+) -> Result<(S, Outcome), PlayFault>
+    requires code { play.code.now ≡ hooked.now }
+    requires supported { IsSupported hooked.now }
+    requires hooked { HasHooksAfter hooked.now imports }
+    requires meter { FitsMeter hooked.now meter.now }
+    requires fits { Fits hooked.now play.script.now }
+    requires flat { play.flat ≡ flat_of hooked.now }
+    requires bound { IsBound play.flat }
+    requires store { IsStore hooked.now play.store }
+    requires begins { instantiate hooked.now supply.now ≡ Ok play.store }
+    requires fresh { S.has_taken sink [] }
+    ensures { IsRecordedInto S.has_taken
+        (record {
+          run = hooked_run hooked.now play.entry.script.now play.entry.store meter.now imports turns;
+          shape = shape_of imports hooked.now;
+          opened = play.entry.store;
+        }) result }
+{
+    runs_are_recorded::<S>();
+    let _valid = hooked.module();
+    let mut recorder = Recorder::into_sink(alloc, hooked, supply, imports, sink)?;
+    match host_play::play(alloc, play, meter, turns, imports, &mut recorder) {
+        Ok(outcome) => Ok((recorder.close(), outcome)),
+        Err(fault) => Err(fault),
+    }
+}
+
+/// The log of such a run.
+///
+/// # Errors
+///
+/// As of `record_into`.
+pub fn record_log(
+    alloc: Global,
+    hooked: &Checked,
+    supply: &Supply,
+    imports: u32,
+    play: Play,
+    meter: &Meter,
+    turns: u64,
+) -> Result<Log, PlayFault>
+    requires code { play.code.now ≡ hooked.now }
+    requires supported { IsSupported hooked.now }
+    requires hooked { HasHooksAfter hooked.now imports }
+    requires meter { FitsMeter hooked.now meter.now }
+    requires fits { Fits hooked.now play.script.now }
+    requires flat { play.flat ≡ flat_of hooked.now }
+    requires bound { IsBound play.flat }
+    requires store { IsStore hooked.now play.store }
+    requires begins { instantiate hooked.now supply.now ≡ Ok play.store }
+    ensures { IsRecord
+        (record {
+          run = hooked_run hooked.now play.entry.script.now play.entry.store meter.now imports turns;
+          shape = shape_of imports hooked.now;
+          opened = play.entry.store;
+        }) result }
+{
+    let sink = Events::new(alloc);
+    let (events, outcome) = record_into(alloc, hooked, supply, imports, play, meter, turns, sink)?;
+    Ok(Log {
+        imports,
+        events,
+        outcome,
+    })
+}
