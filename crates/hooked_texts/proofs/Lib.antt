@@ -1,0 +1,7 @@
+mod Steps
+mod Names
+mod Actions
+mod Answers
+mod Walks
+mod Scripts
+mod Accepted

@@ -1,0 +1,7 @@
+//! A script's text means the same for a module and for its instrumented module: laws about the definitions, whose
+//! statements stand in `specs/`; their functions do nothing.
+#![tactic(auto)]
+
+pub mod laws;
+
+pub use laws::{accepted_import_no_hooks, texts_are_renumbered, texts_leave_hooks_unanswered};
