@@ -1,0 +1,6 @@
+mod OneRecord
+mod HookedAnswers
+mod TypedCalls
+mod FittingObservations
+mod FittingEvents
+mod FittingLogs
