@@ -1,0 +1,3 @@
+mod OneAnswer
+mod ModuleAnswers
+pub mod Forms

@@ -1,0 +1,88 @@
+-- The file of the log of the run of a module in the hooked form under a script, or why there is none.
+use Rattle.std.specs.Prelude.{◌≡◌, ◌≢◌, ℕ, List, Some, None, Ok}
+use Rattle.wasm_syntax.specs.declared.modules.Module.{Module}
+use Rattle.host_script.specs.declared.scripts.Script.{Script}
+use Rattle.script_text.specs.Texts.{script_of_text}
+use Rattle.trace_model.specs.declared.events.Log.{Log}
+use Rattle.trace_bytes.specs.declared.tags.TheConstants.{VERSION_2}
+use Rattle.trace_bytes.specs.Spelling.{log_bytes}
+use Rattle.history_spec.specs.Store.{Store}
+use Rattle.host_link.specs.Link.{link_result}
+use Rattle.hook_spec.specs.HookedForm.{HookedForm, hooked_form}
+use Rattle.host_play.specs.declared.results.PlayFault.{PlayFault}
+use Rattle.host_play.specs.declared.results.PlayFault.TheVariants as refusal
+use Rattle.run_recorder.specs.Records.{RecordedRun, IsLog, RefusesRecord}
+use Rattle.record_laws.specs.Laws.{recorded_run}
+use Rattle.accepted_runs.specs.Unlinked.{IsUnlinkedFor}
+use Rattle.r3_faults.specs.declared.faults.Fault.{Fault}
+use Rattle.r3_faults.specs.declared.faults.Fault.TheVariants.{Script as ScriptFault, Spent, Memory, NotHooked, HookOrder}
+use Rattle.r3_inputs.specs.declared.module_files.ModuleFile.TheVariants.{Instrumented}
+use Rattle.r3_inputs.specs.Inputs.{IsModuleIn, IsRefusedIn, IsRefusedScript}
+
+-- ---- the run of a module in the hooked form under a script
+
+-- the run from a store, of which each instruction takes a turn
+abbrev pub run_of : Module → HookedForm → Script → Store → (turns : ℕ) → RecordedRun
+run_of m form script store turns = recorded_run m script store None form.imports turns
+
+-- the fault of a call that names why a run has no log
+abbrev pub record_fault : (turns : ℕ) → PlayFault → Fault
+record_fault turns (refusal.Fault turn kind) = ScriptFault turn kind
+record_fault turns refusal.Spent = Spent turns
+record_fault turns (refusal.Hook number) = HookOrder number
+record_fault turns refusal.Memory = Memory
+
+-- the fault names why the run has no log
+pub record IsRefusal (run : RecordedRun) (turns : ℕ) (fault : Fault) : Type 0 where
+  pub found : PlayFault
+  pub named : fault ≡ record_fault turns found
+  pub differs : found ≢ refusal.Memory
+  pub refused : RefusesRecord run found
+
+-- the module links, its run from there has a log, and this is the file of that with the digest that the module names
+pub record HasLogFile (m : Module) (form : HookedForm) (script : Script) (turns : ℕ) (file : List ℕ) : Type 0 where
+  pub store : Store
+  pub links : link_result m script ≡ Ok store
+  pub log : Log
+  pub logged : IsLog (run_of m form script store turns) log.outcome log
+  pub spelled : file ≡ log_bytes VERSION_2 form.digest log
+
+-- why there is none: the module does not link, or its run has no log
+pub data HasNoLogFile (m : Module) (form : HookedForm) (script : Script) (turns : ℕ) (fault : Fault) : Type 0 where
+  OfLink : (unlinked : IsUnlinkedFor m script fault) → HasNoLogFile m form script turns fault
+  OfRun : (store : Store) (links : link_result m script ≡ Ok store)
+      (refusal : IsRefusal (run_of m form script store turns) turns fault) → HasNoLogFile m form script turns fault
+
+-- ---- a module, and the bytes of a script for it
+
+-- the module has the hooked form, the bytes are a script for it, and its run under that has this log in a file
+pub record HasModuleLog (m : Module) (script_bytes : List ℕ) (turns : ℕ) (file : List ℕ) : Type 0 where
+  pub form : HookedForm
+  pub has_form : hooked_form m ≡ Some form
+  pub script : Script
+  pub is_script : script_of_text m script_bytes ≡ Ok script
+  pub logged : HasLogFile m form script turns file
+
+-- it has another form, the script is refused, or there is no log
+pub data HasNoModuleLog (m : Module) (script_bytes : List ℕ) (turns : ℕ) (fault : Fault) : Type 0 where
+  OfForm : (none : hooked_form m ≡ None) (named : fault ≡ NotHooked) → HasNoModuleLog m script_bytes turns fault
+  OfScript : (form : HookedForm) (has_form : hooked_form m ≡ Some form)
+      (refused : IsRefusedScript m script_bytes fault) → HasNoModuleLog m script_bytes turns fault
+  OfLog : (form : HookedForm) (has_form : hooked_form m ≡ Some form) (script : Script)
+      (is_script : script_of_text m script_bytes ≡ Ok script) (none : HasNoLogFile m form script turns fault)
+      → HasNoModuleLog m script_bytes turns fault
+
+-- ---- the bytes of a module and of a script
+
+-- they are an accepted module, and a script under which its run has this log in a file
+pub record IsLogFile (hooked_bytes script_bytes : List ℕ) (turns : ℕ) (file : List ℕ) : Type 0 where
+  pub m : Module
+  pub is_module : IsModuleIn Instrumented hooked_bytes m
+  pub logged : HasModuleLog m script_bytes turns file
+
+-- the module is refused, or there is no log of its run
+pub data IsLogRefusal (hooked_bytes script_bytes : List ℕ) (turns : ℕ) (fault : Fault) : Type 0 where
+  OfModule : (refused : IsRefusedIn Instrumented hooked_bytes fault)
+      → IsLogRefusal hooked_bytes script_bytes turns fault
+  OfModuleLog : (m : Module) (is_module : IsModuleIn Instrumented hooked_bytes m)
+      (none : HasNoModuleLog m script_bytes turns fault) → IsLogRefusal hooked_bytes script_bytes turns fault

@@ -1,0 +1,35 @@
+// `record`: the file of the log of a run.
+
+ghost use Rattle.std.specs.Prelude.{◌≡◌, ◌≤◌, ◌⊎◌, ℕ, List, Err, IfErr, IfOk, length};
+ghost use Rattle.r3_faults.specs.declared.faults.Fault.{Fault};
+ghost use Rattle.r3_faults.specs.declared.faults.Fault.TheVariants.{Memory};
+ghost use Rattle.r3_inputs.specs.declared.module_files.TheConstants.{MOST_INSTRUMENTED_BYTES};
+ghost use Rattle.r3_record.specs.LogFiles.{IsLogFile, IsLogRefusal};
+
+use crate::module_logs::log_file;
+use r3_faults::Fault;
+use r3_inputs::{ModuleFile, module_in};
+use std::alloc::Global;
+
+/// The file of the log of the run of a module in the hooked form under a script, which is read against that module,
+/// within a number of turns, of which each instruction of the module takes one. The log is that of the calls of hooks
+/// that this module makes, and names the digest that stands in it. The module has at most 134,217,728 bytes.
+///
+/// # Errors
+///
+/// The fault names why there is none: the module is refused, has not the hooked form, the script for it is refused, the
+/// module does not link, or its run has no log: the host cannot do what the script says, the run needs more turns, or a
+/// call of a hook before that is out of order. Each comes exactly where it stands and none before it does. `Memory`
+/// comes where memory is out.
+pub fn log_run(alloc: Global, hooked: &[u8], script: &[u8], turns: u64) -> Result<Vec<u8>, Fault>
+    requires { length hooked.now ≤ MOST_INSTRUMENTED_BYTES }
+    ensures cause { IfErr result (λ fault. (fault ≡ Memory) ⊎ IsLogRefusal hooked.now script.now turns fault) }
+    ensures refused { (fault : Fault) → IsLogRefusal hooked.now script.now turns fault
+        → (result ≡ Err fault) ⊎ (result ≡ Err Memory) }
+    ensures printed { IfOk result (λ bytes. IsLogFile hooked.now script.now turns bytes.items) }
+    ensures accepted { (file : List ℕ) → IsLogFile hooked.now script.now turns file
+        → IfOk result (λ bytes. bytes.items ≡ file) × IfErr result (λ fault. fault ≡ Memory) }
+{
+    let checked = module_in(alloc, ModuleFile::Instrumented, hooked)?;
+    log_file(alloc, &checked, script, turns)
+}
