@@ -1,0 +1,6 @@
+use Rattle.std.proofs.Common.{◌≡◌, ◌++◌, Some, replicate}
+use Rattle.hook_spec.specs.HookedRuns.{hook_answer}
+use Rattle.hooked_scripts.proofs.answers.push_hook_answers.Given as goal
+
+abbrev pub invariant-hooks : goal.invariant-hooks
+invariant-hooks l = l.answers.items ≡ l.fn.answers.items ++ replicate l.counter (Some hook_answer)

@@ -1,0 +1,56 @@
+// Scripts for instrumented modules.
+
+ghost use Rattle.std.specs.Prelude.{◌≡◌, ◌<◌, IfOk, length};
+ghost use Rattle.wasm_syntax.specs.Index.{func_indices};
+ghost use Rattle.wasm_flat.specs.Sizes.{list_limit};
+ghost use Rattle.host_script.specs.Fits.{Fits};
+ghost use Rattle.hook_spec.specs.HookedRuns.{hooked_script, renumbered_script};
+ghost use Rattle.instrumented_valid.specs.Links.{script_with_hooks};
+ghost use Rattle.hooked_scripts.specs.Low.{IsLowScript};
+
+use crate::actions::renumbered_actions;
+use crate::answers::hooked_answers;
+use host_script::Script;
+use module_index::scope::Scope;
+use no_memory::NoMemory;
+use std::alloc::Global;
+use wasm_syntax::Module;
+
+/// A script that fits a module, as one for its instrumented module: functions are renumbered, and each hook is answered
+/// by doing nothing. Values and bytes are moved and not copied.
+///
+/// # Errors
+///
+/// Where an allocation fails.
+pub fn script_with_hooks(alloc: Global, module: &Module, script: Script) -> Result<Script, NoMemory>
+    requires fits { Fits «module».now script }
+    requires few { length (func_indices «module».now) < list_limit }
+    ensures { IfOk result (λ hooked. hooked ≡ script_with_hooks «module».now script) }
+{
+    let imports = Scope::of(alloc, module)?.imported_funcs() as u32;
+    hooked_script(alloc, imports, script)
+}
+
+/// The same for a module that imports `imports` functions.
+fn hooked_script(alloc: Global, imports: u32, script: Script) -> Result<Script, NoMemory>
+    requires same { length script.imports ≡ imports }
+    requires low { IsLowScript script }
+    ensures { IfOk result (λ hooked. hooked ≡ hooked_script imports (renumbered_script imports script)) }
+{
+    let Script {
+        memory,
+        table,
+        globals,
+        imports: answers,
+        main,
+    } = script;
+    let main = renumbered_actions(alloc, imports, main)?;
+    let imports = hooked_answers(alloc, imports, answers)?;
+    Ok(Script {
+        memory,
+        table,
+        globals,
+        imports,
+        main,
+    })
+}
