@@ -83,10 +83,17 @@ module _ (reading : Reading) (files : List (List ℕ × ℕ)) (P : Fault → Typ
   load-cases faults.Memory c = absurd c
   load-cases (faults.BadTrace at) c = absurd c
   load-cases (faults.TraceVersion found) c = absurd c
+  load-cases (faults.OtherModule tape given) c = absurd c
+  load-cases faults.NotHooked c = absurd c
+  load-cases (faults.HookOrder number) c = absurd c
+  load-cases (faults.Unbalanced event) c = absurd c
+  load-cases (faults.Unfit segment) c = absurd c
   load-cases faults.NoLayout c = absurd c
   load-cases faults.NoImports c = absurd c
   load-cases faults.NoEntry c = absurd c
+  load-cases (faults.TapeLimit weight) c = absurd c
   load-cases faults.NotBuilt c = absurd c
+  load-cases faults.HookedLimit c = absurd c
 
 -- the cause of one file's fault, among files before it that are not too long
 module _ (told : Option FileMap) (fb fm fn tb tm tn : ℕ) (before : List (List ℕ × ℕ)) (file : List ℕ × ℕ)

@@ -1,5 +1,5 @@
 -- The causes of faults in the words of a call, and their statuses.
-use Rattle.std.proofs.Common.{◌≡◌, ℕ, zero, suc, ◌+◌, ◌^◌, ◌<◌, List, [], ◌∷◌, ◌++◌, length, take, drop, decimal, refl, sym, ◌∙◌, ap, subst, arith, map, Option, Some, None, inl, inr, ◌⊎◌, Result, Ok, Err, IfErr, IsSome, zip, Bool, true, false, not, ◌||◌, ◌==◌, true≢false, ⊎_elim}
+use Rattle.std.proofs.Common.{◌≡◌, ℕ, zero, suc, ◌+◌, ◌-◌, ◌^◌, min, ◌<◌, List, [], ◌∷◌, ◌++◌, length, take, drop, decimal, refl, sym, ◌∙◌, ap, subst, arith, map, Option, Some, None, inl, inr, ◌⊎◌, Result, Ok, Err, IfErr, IsSome, zip, Bool, true, false, not, ◌||◌, ◌==◌, true≢false, ⊎_elim}
 use Rattle.std.specs.List.{Contains}
 use Rattle.std.proofs.Math.Seq.{take-append_seam, drop-append_seam}
 use Rattle.std.specs.Option.{ForSome}
@@ -29,12 +29,23 @@ use Rattle.r3_history.specs.Histories.{IsHistoryRefusal, IsUntold, OfRun, OfLink
 use Rattle.replay_run.specs.declared.results.ReplayFault.{ReplayFault}
 use Rattle.replay_run.specs.declared.results.ReplayFault.TheVariants as replay
 use Rattle.r3_inputs.specs.declared.module_files.ModuleFile.{ModuleFile}
-use Rattle.r3_inputs.specs.declared.module_files.ModuleFile.TheVariants.{Original, Replay as ReplayModule}
+use Rattle.r3_inputs.specs.declared.module_files.ModuleFile.TheVariants.{Original, Instrumented, Replay as ReplayModule}
 use Rattle.r3_replay.specs.ReplayTexts as texts
 use Rattle.r3_replay.specs.ReplayTexts.{IsReplayRefusal, replay_fault}
 use Rattle.trace_format.specs.declared.files.FormatFault.{FormatFault}
 use Rattle.trace_format.specs.declared.files.FormatFault.TheVariants as format
 use Rattle.r3_show.specs.Shown.{IsShowRefusal, fault_of}
+use Rattle.sha2.specs.Sha256.{sha256}
+use Rattle.host_play.specs.declared.results.PlayFault.{PlayFault}
+use Rattle.host_play.specs.declared.results.PlayFault.TheVariants as play
+use Rattle.r3_instrument.specs.Hooked as hooked
+use Rattle.r3_instrument.specs.Hooked.{IsHookedRefusal}
+use Rattle.r3_record.specs.LogFiles as logs
+use Rattle.r3_record.specs.LogFiles.{HasNoModuleLog, IsLogRefusal, record_fault}
+use Rattle.trace_model.specs.Weight.{tape_weight}
+use Rattle.r3_reduce.specs.Reduced.{IsReduceRefusal}
+use Rattle.r3_build.specs.Refusals as tapes
+use Rattle.r3_build.specs.Refusals.{IsBuildRefusal, IsUntaken}
 use Rattle.r3_core.specs.declared.words.Command.{Command}
 use Rattle.r3_core.specs.declared.words.Command.TheVariants.{Make, Instrument, Record, Reduce, Build, History, Replay, Show, Load}
 use Rattle.r3_core.specs.Words.{form, is_built, IsAfterFiles, Says, IsListed, IsBuilt, IsUnbuilt, files_of}
@@ -198,6 +209,45 @@ trace-other format.Memory differs = absurd (differs refl)
 show-status : (trace : List ℕ) (fault : Fault) → IsShowRefusal trace fault → IsOther (status_of fault)
 show-status trace fault u = named-other fault (fault_of u.found) u.named (trace-other u.found u.differs)
 
+hooked-status : (bytes : List ℕ) (fault : Fault) → IsHookedRefusal bytes fault → IsOther (status_of fault)
+hooked-status bytes fault (hooked.OfModule refused) = module-other Original bytes fault refused
+hooked-status bytes fault (hooked.OfLength m is_module long) = named-other fault faults.HookedLimit long.named refl
+
+record-other : (turns : ℕ) (found : PlayFault) → (found ≡ play.Memory → ⊥) → is_other (status_of (record_fault turns found)) ≡ true
+record-other turns (play.Fault turn kind) differs = refl
+record-other turns play.Spent differs = refl
+record-other turns (play.Hook number) differs = refl
+record-other turns play.Memory differs = absurd (differs refl)
+
+unlogged-status : (m : Module) (script : List ℕ) (turns : ℕ) (fault : Fault) → HasNoModuleLog m script turns fault → IsOther (status_of fault)
+unlogged-status m script turns fault (logs.OfForm none named) = named-other fault faults.NotHooked named refl
+unlogged-status m script turns fault (logs.OfScript form has_form refused) = named-other fault (script_fault refused.found) refused.named (script-other refused.found refused.differs)
+unlogged-status m script turns fault (logs.OfLog form has_form played is_script (logs.OfLink u)) = named-other fault (unlinked.link_fault u.found) u.named (link-other u.found u.differs)
+unlogged-status m script turns fault (logs.OfLog form has_form played is_script (logs.OfRun store links u)) = named-other fault (record_fault turns u.found) u.named (record-other turns u.found u.differs)
+
+record-status : (h s : List ℕ) (turns : ℕ) (fault : Fault) → IsLogRefusal h s turns fault → IsOther (status_of fault)
+record-status h s turns fault (logs.OfModule refused) = module-other Instrumented h fault refused
+record-status h s turns fault (logs.OfModuleLog m is_module none) = unlogged-status m s turns fault none
+
+reduce-status : (log : List ℕ) (fault : Fault) → IsReduceRefusal log fault → IsOther (status_of fault)
+reduce-status log fault (inl u) = named-other fault (fault_of u.found) u.named (trace-other u.found u.differs)
+reduce-status log fault (inr u) = named-other fault (faults.Unbalanced u.unbalanced.event) u.unbalanced.named refl
+
+untaken-status : (m : Module) (digest bytes : List ℕ) (fault : Fault) → IsUntaken m digest bytes fault → IsOther (status_of fault)
+untaken-status m digest bytes fault (tapes.ByBytes u) = named-other fault (fault_of u.found) u.named (trace-other u.found u.differs)
+untaken-status m digest bytes fault (tapes.ByDigest u) = named-other fault (faults.OtherModule u.other digest) u.named refl
+untaken-status m digest bytes fault (tapes.ByForm u) = named-other fault (faults.Unfit u.unfit.segment) u.unfit.named refl
+untaken-status m digest bytes fault (tapes.ByWeight u) = named-other fault (faults.TapeLimit (min (tape_weight u.tape) (2 ^ 64 - 1))) u.named refl
+
+unbuilt-status : (m : Module) (played : Script) (digest tape : List ℕ) (fault : Fault) → tapes.IsUnbuilt m played digest tape fault
+    → IsOther (status_of fault)
+unbuilt-status m played digest tape fault (tapes.OfLink u) = named-other fault (unlinked.link_fault u.found) u.named (link-other u.found u.differs)
+unbuilt-status m played digest tape fault (tapes.OfTape links u) = untaken-status m digest tape fault u
+
+build-status : (m s t : List ℕ) (fault : Fault) → IsBuildRefusal m s t fault → IsOther (status_of fault)
+build-status m s t fault (tapes.OfInputs refused) = inputs-other m s fault refused
+build-status m s t fault (tapes.OfModule n played inputs u) = unbuilt-status n played (sha256 m) t fault u
+
 refusal-status : (command : Command) (loaded : List (List ℕ)) (number : Option ℕ) (fault : Fault)
     → IsRefusal command loaded number fault → IsOther (status_of fault)
 refusal-status Make [] number fault c = absurd c
@@ -205,10 +255,25 @@ refusal-status Make (m ∷ []) number fault c = absurd c
 refusal-status Make (m ∷ s ∷ []) None fault c = absurd c
 refusal-status Make (m ∷ s ∷ []) (Some turns) fault c = make-status m s turns fault c
 refusal-status Make (m ∷ s ∷ t ∷ more) number fault c = absurd c
-refusal-status Instrument loaded number fault c = absurd c
-refusal-status Record loaded number fault c = absurd c
-refusal-status Reduce loaded number fault c = absurd c
-refusal-status Build loaded number fault c = absurd c
+refusal-status Instrument [] number fault c = absurd c
+refusal-status Instrument (m ∷ []) None fault c = hooked-status m fault c
+refusal-status Instrument (m ∷ []) (Some number) fault c = absurd c
+refusal-status Instrument (m ∷ t ∷ more) number fault c = absurd c
+refusal-status Record [] number fault c = absurd c
+refusal-status Record (h ∷ []) number fault c = absurd c
+refusal-status Record (h ∷ s ∷ []) None fault c = absurd c
+refusal-status Record (h ∷ s ∷ []) (Some turns) fault c = record-status h s turns fault c
+refusal-status Record (h ∷ s ∷ t ∷ more) number fault c = absurd c
+refusal-status Reduce [] number fault c = absurd c
+refusal-status Reduce (log ∷ []) None fault c = reduce-status log fault c
+refusal-status Reduce (log ∷ []) (Some number) fault c = absurd c
+refusal-status Reduce (log ∷ t ∷ more) number fault c = absurd c
+refusal-status Build [] number fault c = absurd c
+refusal-status Build (m ∷ []) number fault c = absurd c
+refusal-status Build (m ∷ s ∷ []) number fault c = absurd c
+refusal-status Build (m ∷ s ∷ t ∷ []) None fault c = build-status m s t fault c
+refusal-status Build (m ∷ s ∷ t ∷ []) (Some number) fault c = absurd c
+refusal-status Build (m ∷ s ∷ t ∷ x ∷ more) number fault c = absurd c
 refusal-status History [] number fault c = absurd c
 refusal-status History (m ∷ []) number fault c = absurd c
 refusal-status History (m ∷ s ∷ []) None fault c = absurd c
@@ -431,6 +496,24 @@ longer-said words command names number says built told longer = (
   subst (λ files. IsSome (first_longer told files)) (files_of-Says words command names number says) longer,
 )
 
+-- why a command over files prints nothing is neither that words are not listed nor that a write failed
+pub print-other : (reading : Reading) (command : Command) (names : List (List ℕ)) (number : Option ℕ) (fault : Fault)
+    → IsPrintCause reading command names number fault → (fault ≡ faults.Usage → ⊥) × (fault ≡ faults.Write → ⊥)
+print-other reading command names number fault (UnbuiltCommand is unbuilt) =
+    let status = ap status_of is in
+    (λ e. absurd (omega (arith, status, ap status_of e)), λ e. absurd (omega (arith, status, ap status_of e)))
+print-other reading command names number fault (UnloadedFile cause) =
+    let either = load-statuses reading (zip names (form command).limits) fault cause in (
+      λ e. elim either [ inl three ↦ absurd (omega (arith, three, ap status_of e)) | inr four ↦ absurd (omega (arith, four, ap status_of e)) ],
+      λ e. elim either [ inl three ↦ absurd (omega (arith, three, ap status_of e)) | inr four ↦ absurd (omega (arith, four, ap status_of e)) ],
+    )
+print-other reading command names number fault (RefusedBytes loaded bytes refusal) =
+    let other = refusal-status command loaded number fault refusal in
+    (λ e. other.0 (ap status_of e), λ e. other.3 (ap status_of e))
+print-other reading command names number fault (NoMemoryLeft is) =
+    let status = ap status_of is in
+    (λ e. absurd (omega (arith, status, ap status_of e)), λ e. absurd (omega (arith, status, ap status_of e)))
+
 -- no fault has the status of a job that is done
 pub status-not_done : (fault : Fault) → status_of fault ≡ 0 → ⊥
 status-not_done fault e = true≢false (sym (is_fault fault) ∙ ap (λ status. not (status == 0)) e)
@@ -460,7 +543,14 @@ status-not_done fault e = true≢false (sym (is_fault fault) ∙ ap (λ status. 
     is_fault faults.Memory = refl
     is_fault (faults.BadTrace at) = refl
     is_fault (faults.TraceVersion found) = refl
+    is_fault (faults.OtherModule tape given) = refl
+    is_fault faults.NotHooked = refl
+    is_fault (faults.HookOrder number) = refl
+    is_fault (faults.Unbalanced event) = refl
+    is_fault (faults.Unfit segment) = refl
     is_fault faults.NoLayout = refl
     is_fault faults.NoImports = refl
     is_fault faults.NoEntry = refl
+    is_fault (faults.TapeLimit weight) = refl
     is_fault faults.NotBuilt = refl
+    is_fault faults.HookedLimit = refl

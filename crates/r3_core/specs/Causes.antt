@@ -7,11 +7,16 @@ use Rattle.r3_faults.specs.declared.faults.Fault.{Fault}
 use Rattle.r3_faults.specs.declared.faults.Fault.TheVariants.{Usage, Read, TooLong, NotBuilt, Write, Memory}
 use Rattle.r3_make.specs.Refusals.{AreReplayable, IsMakeRefusal}
 use Rattle.r3_make.specs.Printed.{IsPrinted}
+use Rattle.r3_instrument.specs.Hooked.{IsHookedOf, IsHookedRefusal}
+use Rattle.r3_record.specs.LogFiles.{IsLogFile, IsLogRefusal}
+use Rattle.r3_reduce.specs.Reduced.{IsReduced, IsReduceRefusal}
+use Rattle.r3_build.specs.Refusals.{IsBuildRefusal}
+use Rattle.r3_build.specs.Printed as built
 use Rattle.r3_history.specs.Histories.{IsHistory, IsHistoryRefusal}
 use Rattle.r3_replay.specs.ReplayTexts.{IsReplayText, IsReplayRefusal}
 use Rattle.r3_show.specs.Shown.{IsShown, IsShowRefusal}
 use Rattle.r3_core.specs.declared.words.Command.{Command}
-use Rattle.r3_core.specs.declared.words.Command.TheVariants.{Make, History, Replay, Show}
+use Rattle.r3_core.specs.declared.words.Command.TheVariants.{Make, Instrument, Record, Reduce, Build, History, Replay, Show}
 use Rattle.r3_core.specs.Words.{form, is_built, IsListed, IsUnbuilt, Says, files_of}
 
 -- ---- the files of a call
@@ -66,6 +71,12 @@ AreWithin (bytes ∷ lists) (limit ∷ limits) = (length bytes ≤ limit) × Are
 abbrev pub IsRefusal : Command → (loaded : List (List ℕ)) → (number : Option ℕ) → Fault → Type 0
 IsRefusal Make (module_bytes ∷ script_bytes ∷ []) (Some turns) fault =
     IsMakeRefusal module_bytes script_bytes turns fault
+IsRefusal Instrument (module_bytes ∷ []) None fault = IsHookedRefusal module_bytes fault
+IsRefusal Record (hooked_bytes ∷ script_bytes ∷ []) (Some turns) fault =
+    IsLogRefusal hooked_bytes script_bytes turns fault
+IsRefusal Reduce (log ∷ []) None fault = IsReduceRefusal log fault
+IsRefusal Build (module_bytes ∷ script_bytes ∷ tape_bytes ∷ []) None fault =
+    IsBuildRefusal module_bytes script_bytes tape_bytes fault
 IsRefusal History (module_bytes ∷ script_bytes ∷ []) (Some turns) fault =
     IsHistoryRefusal module_bytes script_bytes turns fault
 IsRefusal Replay (binary ∷ []) (Some turns) fault = IsReplayRefusal binary turns fault
@@ -75,6 +86,12 @@ IsRefusal command loaded number fault = ⊥
 -- a command does its job for them
 abbrev pub IsDoable : Command → (loaded : List (List ℕ)) → (number : Option ℕ) → Type 0
 IsDoable Make (module_bytes ∷ script_bytes ∷ []) (Some turns) = AreReplayable module_bytes script_bytes turns
+IsDoable Instrument (module_bytes ∷ []) None = (hooked : List ℕ) × IsHookedOf module_bytes hooked
+IsDoable Record (hooked_bytes ∷ script_bytes ∷ []) (Some turns) =
+    (file : List ℕ) × IsLogFile hooked_bytes script_bytes turns file
+IsDoable Reduce (log ∷ []) None = (file : List ℕ) × IsReduced log file
+IsDoable Build (module_bytes ∷ script_bytes ∷ tape_bytes ∷ []) None =
+    (bytes : List ℕ) × built.IsPrinted module_bytes script_bytes tape_bytes bytes
 IsDoable History (module_bytes ∷ script_bytes ∷ []) (Some turns) =
     (text : List ℕ) × IsHistory module_bytes script_bytes turns text
 IsDoable Replay (binary ∷ []) (Some turns) = (text : List ℕ) × IsReplayText binary turns text
@@ -85,6 +102,12 @@ IsDoable command loaded number = ⊥
 abbrev pub Prints : Command → (loaded : List (List ℕ)) → (number : Option ℕ) → (printed : List ℕ) → Type 0
 Prints Make (module_bytes ∷ script_bytes ∷ []) (Some turns) printed =
     IsPrinted module_bytes script_bytes turns printed
+Prints Instrument (module_bytes ∷ []) None printed = IsHookedOf module_bytes printed
+Prints Record (hooked_bytes ∷ script_bytes ∷ []) (Some turns) printed =
+    IsLogFile hooked_bytes script_bytes turns printed
+Prints Reduce (log ∷ []) None printed = IsReduced log printed
+Prints Build (module_bytes ∷ script_bytes ∷ tape_bytes ∷ []) None printed =
+    built.IsPrinted module_bytes script_bytes tape_bytes printed
 Prints History (module_bytes ∷ script_bytes ∷ []) (Some turns) printed =
     IsHistory module_bytes script_bytes turns printed
 Prints Replay (binary ∷ []) (Some turns) printed = IsReplayText binary turns printed

@@ -63,6 +63,10 @@ IsListed words =
 -- whether this program does the command
 abbrev pub is_built : Command → Bool
 is_built Make = true
+is_built Instrument = true
+is_built Record = true
+is_built Reduce = true
+is_built Build = true
 is_built History = true
 is_built Replay = true
 is_built Show = true

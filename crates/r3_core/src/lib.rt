@@ -22,9 +22,13 @@ mod loads;
 mod sure;
 mod words;
 
+pub use r3_build::build;
 pub use r3_faults::Fault;
 pub use r3_history::history;
+pub use r3_instrument::hooked;
 pub use r3_make::make;
+pub use r3_record::log_run;
+pub use r3_reduce::reduce_log;
 pub use r3_replay::replay_text;
 pub use r3_show::show;
 pub use sure::r3_in_memory;
@@ -197,7 +201,16 @@ fn output_of_command(
 {
     match (command, loaded, number) {
         (Command::Make, [module, script], Some(turns)) => make(alloc, module, script, turns),
-        (Command::History, [module, script], Some(turns)) => history(alloc, module, script, turns),
+        (Command::Instrument, [original], None) => hooked(alloc, original),
+        (Command::Record, [instrumented, played], Some(turns)) => log_run(
+            alloc,
+            instrumented,
+            played,
+            turns,
+        ),
+        (Command::Reduce, [log], None) => reduce_log(alloc, log),
+        (Command::Build, [kept, supplied, tape], None) => build(alloc, kept, supplied, tape),
+        (Command::History, [told, telling], Some(turns)) => history(alloc, told, telling, turns),
         (Command::Replay, [binary], Some(turns)) => replay_text(alloc, binary, turns),
         (Command::Show, [trace], None) => show(alloc, trace),
         _ => Err(Fault::NotBuilt),

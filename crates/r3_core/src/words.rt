@@ -77,7 +77,14 @@ impl Command {
     {
         matches!(
             self,
-            Command::Make | Command::History | Command::Replay | Command::Show
+            Command::Make
+                | Command::Instrument
+                | Command::Record
+                | Command::Reduce
+                | Command::Build
+                | Command::History
+                | Command::Replay
+                | Command::Show
         )
     }
 }

@@ -1,10 +1,15 @@
 use Rattle.std.proofs.Common.{◌≡◌, ℕ, ◌<◌, ◌≤◌, List, [], ◌∷◌, length, get_or, Option, Some, None, Vec, sym, subst, arith}
 use Rattle.r3_make.specs.Refusals.{AreReplayable, IsMakeRefusal}
+use Rattle.r3_instrument.specs.Hooked.{IsHookedOf, IsHookedRefusal}
+use Rattle.r3_record.specs.LogFiles.{IsLogFile, IsLogRefusal}
+use Rattle.r3_reduce.specs.Reduced.{IsReduced, IsReduceRefusal}
+use Rattle.r3_build.specs.Refusals.{IsBuildRefusal}
+use Rattle.r3_build.specs.Printed as built
 use Rattle.r3_history.specs.Histories.{IsHistory, IsHistoryRefusal}
 use Rattle.r3_replay.specs.ReplayTexts.{IsReplayText, IsReplayRefusal}
 use Rattle.r3_show.specs.Shown.{IsShown, IsShowRefusal}
 use Rattle.r3_core.specs.declared.words.Command.{Command}
-use Rattle.r3_core.specs.declared.words.Command.TheVariants.{Make, History, Replay, Show}
+use Rattle.r3_core.specs.declared.words.Command.TheVariants.{Make, Instrument, Record, Reduce, Build, History, Replay, Show}
 use Rattle.r3_core.specs.Causes.{IsRefusal, IsDoable, all_bytes}
 use Rattle.r3_core.proofs.output_of_command.Goals as goal
 
@@ -32,8 +37,8 @@ returns-in-History-len2-Some-clause-refused c = λ fault sure.
     let here = c.in-History-len2-Some in
     c.history.ensures.refused fault
     (subst (λ bytes. IsHistoryRefusal bytes c.deref-in-History-len2-Some-2.result.now here.turns fault) (sym c.deref-in-History-len2-Some.ensures.value)
-    (subst (λ bytes. IsHistoryRefusal c.module-item-in-Some-this-2-1.result.items bytes here.turns fault) (sym c.deref-in-History-len2-Some-2.ensures.value)
-    (two-files c.args.command History (λ a b turns. IsHistoryRefusal a b turns fault) (λ command loaded number. IsRefusal command loaded number fault) c.args.loaded.now c.args.number c.module-item-in-Some-this-2-1.result c.script-item-in-Some-this-2-1.result here.turns (λ a b sure. sure) here.is-0 here.is-2 c.module-item-in-Some-this-2-1.is c.script-item-in-Some-this-2-1.is (omega (arith, here.len_at_least)) (omega (arith, here.len_below)) sure)))
+    (subst (λ bytes. IsHistoryRefusal c.told-item.result.items bytes here.turns fault) (sym c.deref-in-History-len2-Some-2.ensures.value)
+    (two-files c.args.command History (λ a b turns. IsHistoryRefusal a b turns fault) (λ command loaded number. IsRefusal command loaded number fault) c.args.loaded.now c.args.number c.told-item.result c.telling-item.result here.turns (λ a b sure. sure) here.is-0 here.is-2 c.told-item.is c.telling-item.is (omega (arith, here.len_at_least)) (omega (arith, here.len_below)) sure)))
 
 pub returns-in-Make-len2-Some-clause-done : goal.returns-in-Make-len2-Some-clause-done
 returns-in-Make-len2-Some-clause-done c = λ doable.
@@ -52,8 +57,8 @@ returns-in-History-len2-Some-clause-done c = λ doable.
     let here = c.in-History-len2-Some in
     let history =
     (subst (λ bytes. HasHistory bytes c.deref-in-History-len2-Some-2.result.now here.turns) (sym c.deref-in-History-len2-Some.ensures.value)
-    (subst (λ bytes. HasHistory c.module-item-in-Some-this-2-1.result.items bytes here.turns) (sym c.deref-in-History-len2-Some-2.ensures.value)
-    (two-files c.args.command History (λ a b turns. HasHistory a b turns) (λ command loaded number. IsDoable command loaded number) c.args.loaded.now c.args.number c.module-item-in-Some-this-2-1.result c.script-item-in-Some-this-2-1.result here.turns (λ a b doable. doable) here.is-0 here.is-2 c.module-item-in-Some-this-2-1.is c.script-item-in-Some-this-2-1.is (omega (arith, here.len_at_least)) (omega (arith, here.len_below)) doable)))
+    (subst (λ bytes. HasHistory c.told-item.result.items bytes here.turns) (sym c.deref-in-History-len2-Some-2.ensures.value)
+    (two-files c.args.command History (λ a b turns. HasHistory a b turns) (λ command loaded number. IsDoable command loaded number) c.args.loaded.now c.args.number c.told-item.result c.telling-item.result here.turns (λ a b doable. doable) here.is-0 here.is-2 c.told-item.is c.telling-item.is (omega (arith, here.len_at_least)) (omega (arith, here.len_below)) doable)))
     in
     (c.history.ensures.accepted history.0 history.1).1
 
@@ -105,3 +110,103 @@ returns-in-Replay-len1-Some-clause-done c = λ doable.
     (one-file c.args.command Replay (Some here.turns) (ShowsLines here.turns) (λ command loaded number. IsDoable command loaded number) c.args.loaded.now c.args.number c.binary-item.result (λ a doable. doable) here.is-0 here.is-2 c.binary-item.is (omega (arith, here.len_at_least)) (omega (arith, here.len_below)) doable))
     in
     (c.replay_text.ensures.accepted lines.0 lines.1).1
+
+-- ---- instrumented modules, logs and tapes
+
+pub returns-in-Instrument-len1-None-clause-refused : goal.returns-in-Instrument-len1-None-clause-refused
+returns-in-Instrument-len1-None-clause-refused c = λ fault sure.
+    let here = c.in-Instrument-len1-None in
+    c.hooked.ensures.refused fault
+    (subst (λ bytes. IsHookedRefusal bytes fault) (sym c.deref-in-Instrument-len1-None.ensures.value)
+    (one-file c.args.command Instrument None (λ a. IsHookedRefusal a fault) (λ command loaded number. IsRefusal command loaded number fault) c.args.loaded.now c.args.number c.original-item.result (λ a sure. sure) here.is-0 here.is-2 c.original-item.is (omega (arith, here.len_at_least)) (omega (arith, here.len_below)) sure))
+
+-- it has an instrumented module that is short enough
+abbrev HasHooked : List ℕ → Type 0
+HasHooked bytes = (text : List ℕ) × IsHookedOf bytes text
+
+pub returns-in-Instrument-len1-None-clause-done : goal.returns-in-Instrument-len1-None-clause-done
+returns-in-Instrument-len1-None-clause-done c = λ doable.
+    let here = c.in-Instrument-len1-None in
+    let text =
+    (subst HasHooked (sym c.deref-in-Instrument-len1-None.ensures.value)
+    (one-file c.args.command Instrument None HasHooked (λ command loaded number. IsDoable command loaded number) c.args.loaded.now c.args.number c.original-item.result (λ a doable. doable) here.is-0 here.is-2 c.original-item.is (omega (arith, here.len_at_least)) (omega (arith, here.len_below)) doable))
+    in
+    (c.hooked.ensures.accepted text.0 text.1).1
+
+pub returns-in-Reduce-len1-None-clause-refused : goal.returns-in-Reduce-len1-None-clause-refused
+returns-in-Reduce-len1-None-clause-refused c = λ fault sure.
+    let here = c.in-Reduce-len1-None in
+    c.reduce_log.ensures.refused fault
+    (subst (λ bytes. IsReduceRefusal bytes fault) (sym c.deref-in-Reduce-len1-None.ensures.value)
+    (one-file c.args.command Reduce None (λ a. IsReduceRefusal a fault) (λ command loaded number. IsRefusal command loaded number fault) c.args.loaded.now c.args.number c.log-item.result (λ a sure. sure) here.is-0 here.is-2 c.log-item.is (omega (arith, here.len_at_least)) (omega (arith, here.len_below)) sure))
+
+-- it spells a log that has a tape
+abbrev HasTape : List ℕ → Type 0
+HasTape bytes = (file : List ℕ) × IsReduced bytes file
+
+pub returns-in-Reduce-len1-None-clause-done : goal.returns-in-Reduce-len1-None-clause-done
+returns-in-Reduce-len1-None-clause-done c = λ doable.
+    let here = c.in-Reduce-len1-None in
+    let file =
+    (subst HasTape (sym c.deref-in-Reduce-len1-None.ensures.value)
+    (one-file c.args.command Reduce None HasTape (λ command loaded number. IsDoable command loaded number) c.args.loaded.now c.args.number c.log-item.result (λ a doable. doable) here.is-0 here.is-2 c.log-item.is (omega (arith, here.len_at_least)) (omega (arith, here.len_below)) doable))
+    in
+    (c.reduce_log.ensures.accepted file.0 file.1).1
+
+pub returns-in-Record-len2-Some-clause-refused : goal.returns-in-Record-len2-Some-clause-refused
+returns-in-Record-len2-Some-clause-refused c = λ fault sure.
+    let here = c.in-Record-len2-Some in
+    c.log_run.ensures.refused fault
+    (subst (λ bytes. IsLogRefusal bytes c.deref-in-Record-len2-Some-2.result.now here.turns fault) (sym c.deref-in-Record-len2-Some.ensures.value)
+    (subst (λ bytes. IsLogRefusal c.instrumented-item.result.items bytes here.turns fault) (sym c.deref-in-Record-len2-Some-2.ensures.value)
+    (two-files c.args.command Record (λ a b turns. IsLogRefusal a b turns fault) (λ command loaded number. IsRefusal command loaded number fault) c.args.loaded.now c.args.number c.instrumented-item.result c.played-item.result here.turns (λ a b sure. sure) here.is-0 here.is-2 c.instrumented-item.is c.played-item.is (omega (arith, here.len_at_least)) (omega (arith, here.len_below)) sure)))
+
+-- their run has a log
+abbrev HasLog : (hooked_bytes script_bytes : List ℕ) → (turns : ℕ) → Type 0
+HasLog hooked_bytes script_bytes turns = (file : List ℕ) × IsLogFile hooked_bytes script_bytes turns file
+
+pub returns-in-Record-len2-Some-clause-done : goal.returns-in-Record-len2-Some-clause-done
+returns-in-Record-len2-Some-clause-done c = λ doable.
+    let here = c.in-Record-len2-Some in
+    let file =
+    (subst (λ bytes. HasLog bytes c.deref-in-Record-len2-Some-2.result.now here.turns) (sym c.deref-in-Record-len2-Some.ensures.value)
+    (subst (λ bytes. HasLog c.instrumented-item.result.items bytes here.turns) (sym c.deref-in-Record-len2-Some-2.ensures.value)
+    (two-files c.args.command Record (λ a b turns. HasLog a b turns) (λ command loaded number. IsDoable command loaded number) c.args.loaded.now c.args.number c.instrumented-item.result c.played-item.result here.turns (λ a b doable. doable) here.is-0 here.is-2 c.instrumented-item.is c.played-item.is (omega (arith, here.len_at_least)) (omega (arith, here.len_below)) doable)))
+    in
+    (c.log_run.ensures.accepted file.0 file.1).1
+
+-- what is said of three files
+three-files : {Z : Type 0} (command here : Command) (P : List ℕ → List ℕ → List ℕ → Type 0) (Q : Command → List (List ℕ) → Option ℕ → Type 0) (loaded : List (Vec ℕ Z)) (number : Option ℕ) (m s t : Vec ℕ Z) → ((a b d : List ℕ) → Q here (a ∷ b ∷ d ∷ []) None → P a b d)
+    → command ≡ here → number ≡ None → m ≡ get_or loaded 0 m → s ≡ get_or loaded 1 s → t ≡ get_or loaded 2 t → 3 ≤ length loaded → length loaded < 4 → Q command (all_bytes loaded) number → P m.items s.items t.items
+three-files command here P Q [] number m s t at c n first second third least most sure = absurd (omega (arith, least))
+three-files command here P Q (a ∷ []) number m s t at c n first second third least most sure = absurd (omega (arith, least))
+three-files command here P Q (a ∷ b ∷ []) number m s t at c n first second third least most sure = absurd (omega (arith, least))
+three-files command here P Q (a ∷ b ∷ d ∷ []) number m s t at c n first second third least most sure =
+    let made = subst (λ command. Q command (a.items ∷ b.items ∷ d.items ∷ []) number) c sure in
+    let numbered : P a.items b.items d.items = at a.items b.items d.items (subst (λ number. Q here (a.items ∷ b.items ∷ d.items ∷ []) number) n made) in
+    subst (λ (t : Vec ℕ _). P m.items s.items t.items) (sym third) (subst (λ (s : Vec ℕ _). P m.items s.items d.items) (sym second) (subst (λ (m : Vec ℕ _). P m.items b.items d.items) (sym first) numbered))
+three-files command here P Q (a ∷ b ∷ d ∷ x ∷ more) number m s t at c n first second third least most sure = absurd (omega (arith, most))
+
+pub returns-in-Build-len3-None-clause-refused : goal.returns-in-Build-len3-None-clause-refused
+returns-in-Build-len3-None-clause-refused c = λ fault sure.
+    let here = c.in-Build-len3-None in
+    c.build.ensures.refused fault
+    (subst (λ bytes. IsBuildRefusal bytes c.deref-in-Build-len3-None-2.result.now c.deref-in-Build-len3-None-3.result.now fault) (sym c.deref-in-Build-len3-None.ensures.value)
+    (subst (λ bytes. IsBuildRefusal c.kept-item.result.items bytes c.deref-in-Build-len3-None-3.result.now fault) (sym c.deref-in-Build-len3-None-2.ensures.value)
+    (subst (λ bytes. IsBuildRefusal c.kept-item.result.items c.supplied-item.result.items bytes fault) (sym c.deref-in-Build-len3-None-3.ensures.value)
+    (three-files c.args.command Build (λ a b d. IsBuildRefusal a b d fault) (λ command loaded number. IsRefusal command loaded number fault) c.args.loaded.now c.args.number c.kept-item.result c.supplied-item.result c.tape-item.result (λ a b d sure. sure) here.is-0 here.is-2 c.kept-item.is c.supplied-item.is c.tape-item.is (omega (arith, here.len_at_least)) (omega (arith, here.len_below)) sure))))
+
+-- they have a replay module
+abbrev HasBuilt : (module_bytes script_bytes tape_bytes : List ℕ) → Type 0
+HasBuilt module_bytes script_bytes tape_bytes = (bytes : List ℕ) × built.IsPrinted module_bytes script_bytes tape_bytes bytes
+
+pub returns-in-Build-len3-None-clause-done : goal.returns-in-Build-len3-None-clause-done
+returns-in-Build-len3-None-clause-done c = λ doable.
+    let here = c.in-Build-len3-None in
+    let bytes =
+    (subst (λ bytes. HasBuilt bytes c.deref-in-Build-len3-None-2.result.now c.deref-in-Build-len3-None-3.result.now) (sym c.deref-in-Build-len3-None.ensures.value)
+    (subst (λ bytes. HasBuilt c.kept-item.result.items bytes c.deref-in-Build-len3-None-3.result.now) (sym c.deref-in-Build-len3-None-2.ensures.value)
+    (subst (λ bytes. HasBuilt c.kept-item.result.items c.supplied-item.result.items bytes) (sym c.deref-in-Build-len3-None-3.ensures.value)
+    (three-files c.args.command Build HasBuilt (λ command loaded number. IsDoable command loaded number) c.args.loaded.now c.args.number c.kept-item.result c.supplied-item.result c.tape-item.result (λ a b d doable. doable) here.is-0 here.is-2 c.kept-item.is c.supplied-item.is c.tape-item.is (omega (arith, here.len_at_least)) (omega (arith, here.len_below)) doable))))
+    in
+    (c.build.ensures.accepted bytes.0 bytes.1).1

@@ -1,9 +1,11 @@
-use Rattle.std.proofs.Common.{◌≡◌, refl, subst, None, arith}
+use Rattle.std.proofs.Common.{◌≡◌, refl, sym, ◌∙◌, subst, None, Result, Ok, Err, arith}
+use Rattle.std.specs.Result.{IsErrAnd}
+use Rattle.r3_faults.specs.declared.faults.Fault.{Fault}
 use Rattle.r3_faults.specs.declared.faults.Fault.TheVariants.{Write as WriteFault}
 use Rattle.r3_core.specs.Causes.{first_longer}
 use Rattle.r3_core.proofs.ResultLemmas.{IfErr-from, IsErrAnd-from}
 use Rattle.r3_core.proofs.WordLemmas.{files_of-Says}
-use Rattle.r3_core.proofs.StatusLemmas.{IsCause-printing, IsRefusal-said, IsDoable-said, longer-said}
+use Rattle.r3_core.proofs.StatusLemmas.{print-other, IsCause-printing, IsRefusal-said, IsDoable-said, longer-said}
 use Rattle.r3_core.proofs.run.Goals as goal
 
 pub returns-in_err-printed-clause-longer : goal.returns-in_err-printed-clause-longer
@@ -60,3 +62,22 @@ returns-in_err-printed-clause-done g c = λ command names number says told e non
 pub returns-in_err-put_all-clause-done : goal.returns-in_err-put_all-clause-done
 returns-in_err-put_all-clause-done g c = λ command names number says told e none doable.
     IfErr-from _ WriteFault _ c.from_residual-in_err-put_all.ensures.1 (1, omega arith, refl)
+
+err-one : {T : Type 0} (r : Result T Fault) (f g : Fault) → r ≡ Err f → r ≡ Err g → f ≡ g
+err-one r f g e h = cc (sym e ∙ h)
+
+fault-one : {T : Type 0} (r : Result T Fault) (e f : Fault) → IsErrAnd r (λ y. y ≡ e) → r ≡ Err f → e ≡ f
+fault-one (Ok x) e f h is = absurd h
+fault-one (Err y) e f h is = sym h ∙ err-one (Err y) y f refl is
+
+pub returns-in_err-printed-clause-unlisted : goal.returns-in_err-printed-clause-unlisted
+returns-in_err-printed-clause-unlisted g c = λ is.
+    absurd
+    ((print-other _ _ _ _ c.in_err-printed.field-0.0 c.in_err-printed.ensures.cause).0
+    (fault-one c.from_residual-in_err-printed.result _ _ c.from_residual-in_err-printed.ensures.1 is))
+
+pub returns-in_err-printed-clause-printed_prefix : goal.returns-in_err-printed-clause-printed_prefix
+returns-in_err-printed-clause-printed_prefix g c = λ is.
+    absurd
+    ((print-other _ _ _ _ c.in_err-printed.field-0.0 c.in_err-printed.ensures.cause).1
+    (fault-one c.from_residual-in_err-printed.result _ _ c.from_residual-in_err-printed.ensures.1 is))
