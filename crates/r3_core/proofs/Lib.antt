@@ -1,4 +1,5 @@
 pub mod CauseLemmas
+pub mod RefusalLemmas
 pub mod ResultLemmas
 pub mod StatusLemmas
 pub mod WordLemmas

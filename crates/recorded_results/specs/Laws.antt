@@ -23,7 +23,8 @@ abbrev pub record_of : OriginalRun → (turns : ℕ) → RecordedRun
 record_of run turns =
     record {
       run = hooked_run (instrumented_of run) (script_with_hooks run.m run.script)
-          (renumbered_view (imported_funcs run.m) run.store) (Some (instrumented_weights run.m)) (imported_funcs run.m) turns;
+          (renumbered_view (imported_funcs run.m) run.store) (Some (instrumented_weights run.m))
+          (imported_funcs run.m) turns;
       shape = hooked_shape run;
       opened = renumbered_view (imported_funcs run.m) run.store;
     }
@@ -37,8 +38,8 @@ pub record IsLogOfRun (run : OriginalRun) (turns : ℕ) (outcome : Outcome) (log
   pub logged : log_of_run run count outcome ≡ Ok log
   pub shown : IsShownFromLog run count (original_run run count).history outcome
 
--- a log that is recorded is that of the original's run; where the record ends by a fault of the script, or the turns are
--- spent, so does the original's run; and no call of a hook is out of order
+-- a log that is recorded is that of the original's run; where the record ends by a fault of the script, or the turns
+-- are spent, so does the original's run; and no call of a hook is out of order
 pub record TellsOriginal (run : OriginalRun) (turns : ℕ) : Type 0 where
   pub logs : (outcome : Outcome) (log : Log) → IsLog (record_of run turns) outcome log
       → IsLogOfRun run turns outcome log

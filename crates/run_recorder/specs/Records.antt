@@ -17,7 +17,8 @@ use Rattle.host_play.specs.HookedResults.{HookedRun, steps_of}
 use Rattle.host_play.specs.declared.results.PlayFault.{PlayFault}
 use Rattle.host_play.specs.declared.results.PlayFault.TheVariants as refusal
 
--- a run of a module in the hooked form that is recorded: what the order of its hook calls needs of it, and the store that it begins with
+-- a run of a module in the hooked form that is recorded: what the order of its hook calls needs of it, and the store
+-- that it begins with
 pub record RecordedRun : Type 0 where
   pub run : HookedRun
   pub shape : HookedShape

@@ -21,9 +21,9 @@ use trace_model::{EventSink, Events, Log};
 use wasm_flat::Meter;
 use wasm_validate::Checked;
 
-/// The run of a module in the hooked form, before whose hooks so many imports stand, under a meter, within a number of
-/// turns. The sink has taken no event; it takes the events of the log of the calls of hooks that the run makes. `play` is
-/// the module's instantiation with the supply.
+/// The run of a module in the hooked form, before whose hooks this number of imports stands, under a meter, within a
+/// number of turns. The sink has taken no event; it takes the events of the log of the calls of hooks that the run
+/// makes. `play` is the module's instantiation with the supply.
 ///
 /// # Errors
 ///

@@ -1,0 +1,222 @@
+-- The statuses of refused bytes: none is that of another cause.
+use Rattle.std.proofs.Common.{◌≡◌, ℕ, ◌-◌, ◌^◌, min, List, [], ◌∷◌, refl, sym, ◌∙◌, ap, subst, Option, Some, None, inl, inr, Bool, true, false, not, ◌||◌, ◌==◌, true≢false}
+use Rattle.r3_faults.specs.Lines.{status_of}
+use Rattle.r3_faults.specs.declared.faults.Fault.{Fault}
+use Rattle.r3_faults.specs.declared.faults.Fault.TheVariants as faults
+use Rattle.wasm_syntax.specs.Profile as profile
+use Rattle.wasm_syntax.specs.Profile.{Refusal}
+use Rattle.script_text.specs.declared.faults.ScriptFault.{ScriptFault}
+use Rattle.script_text.specs.declared.faults.ScriptFault.TheVariants as script
+use Rattle.r3_inputs.specs.Inputs.{invalid_fault, refusal_fault, script_fault, IsRefusedIn, ByBytes, ByRules, ByProfile, AreRefused, ByModule, ByScript}
+use Rattle.accepted_runs.specs.Unlinked as unlinked
+use Rattle.accepted_runs.specs.Runs as runs
+use Rattle.r3_make.specs.Refusals as refusals
+use Rattle.r3_make.specs.Refusals.{IsMakeRefusal, IsUnmade, OfInputs, OfModule}
+use Rattle.wasm_syntax.specs.declared.modules.Module.{Module}
+use Rattle.host_script.specs.declared.scripts.Script.{Script}
+use Rattle.host_script.specs.declared.scripts.LinkFault.{LinkFault}
+use Rattle.host_script.specs.declared.scripts.LinkFault.TheVariants as link
+use Rattle.r3_history.specs.Histories as histories
+use Rattle.r3_history.specs.Histories.{IsHistoryRefusal, IsUntold, OfRun, OfLink}
+use Rattle.replay_run.specs.declared.results.ReplayFault.{ReplayFault}
+use Rattle.replay_run.specs.declared.results.ReplayFault.TheVariants as replay
+use Rattle.r3_inputs.specs.declared.module_files.ModuleFile.{ModuleFile}
+use Rattle.r3_inputs.specs.declared.module_files.ModuleFile.TheVariants.{Original, Instrumented, Replay as ReplayModule}
+use Rattle.r3_replay.specs.ReplayTexts as texts
+use Rattle.r3_replay.specs.ReplayTexts.{IsReplayRefusal, replay_fault}
+use Rattle.trace_format.specs.declared.files.FormatFault.{FormatFault}
+use Rattle.trace_format.specs.declared.files.FormatFault.TheVariants as format
+use Rattle.r3_show.specs.Shown.{IsShowRefusal, fault_of}
+use Rattle.sha2.specs.Sha256.{sha256}
+use Rattle.host_play.specs.declared.results.PlayFault.{PlayFault}
+use Rattle.host_play.specs.declared.results.PlayFault.TheVariants as play
+use Rattle.r3_instrument.specs.Hooked as hooked
+use Rattle.r3_instrument.specs.Hooked.{IsHookedRefusal}
+use Rattle.r3_record.specs.LogFiles as logs
+use Rattle.r3_record.specs.LogFiles.{HasNoModuleLog, IsLogRefusal, record_fault}
+use Rattle.trace_model.specs.Weight.{tape_weight}
+use Rattle.r3_reduce.specs.Reduced.{IsReduceRefusal}
+use Rattle.r3_build.specs.Refusals as tapes
+use Rattle.r3_build.specs.Refusals.{IsBuildRefusal, IsUntaken}
+use Rattle.r3_core.specs.declared.words.Command.{Command}
+use Rattle.r3_core.specs.declared.words.Command.TheVariants.{Make, Instrument, Record, Reduce, Build, History, Replay, Show, Load}
+use Rattle.r3_core.specs.Words.{form}
+use Rattle.r3_core.specs.Causes.{IsRefusal}
+
+-- ---- bytes that are refused
+
+-- a status that none of the other causes has
+abbrev IsOther : ℕ → Type 0
+IsOther status = (status ≡ 2 → ⊥) × (status ≡ 3 → ⊥) × (status ≡ 4 → ⊥) × (status ≡ 13 → ⊥) × (status ≡ 14 → ⊥)
+
+-- the same, as a test
+abbrev is_other : ℕ → Bool
+is_other status = not ((status == 2) || ((status == 3) || ((status == 4) || ((status == 13) || (status == 14)))))
+
+IsOther-from : (status : ℕ) → is_other status ≡ true → IsOther status
+IsOther-from status h = (differs 2 refl, differs 3 refl, differs 4 refl, differs 13 refl, differs 14 refl)
+  where
+    differs : (n : ℕ) → is_other n ≡ false → status ≡ n → ⊥
+    differs n none e = true≢false (sym h ∙ ap is_other e ∙ none)
+
+-- a fault that is named
+named-other : (fault other : Fault) → fault ≡ other → is_other (status_of other) ≡ true → IsOther (status_of fault)
+named-other fault other e is = subst (λ f. IsOther (status_of f)) (sym e) (IsOther-from (status_of other) is)
+
+invalid-other : (place : Option ℕ) → is_other (status_of (invalid_fault place)) ≡ true
+invalid-other None = refl
+invalid-other (Some func) = refl
+
+profile-other : (refusal : Refusal) → is_other (status_of (refusal_fault refusal)) ≡ true
+profile-other (profile.Unsupported func number feature) = refl
+profile-other (profile.Limit which value) = refl
+profile-other (profile.Reserved import) = refl
+
+script-other : (found : ScriptFault) → (found ≡ script.Memory → ⊥) → is_other (status_of (script_fault found)) ≡ true
+script-other script.NotJson differs = refl
+script-other (script.Shape path) differs = refl
+script-other (script.UnknownName name) differs = refl
+script-other (script.WrongType name) differs = refl
+script-other (script.NoAccess name) differs = refl
+script-other (script.CallsOwn name) differs = refl
+script-other script.Memory differs = absurd (differs refl)
+
+module-other : (file : ModuleFile) (bytes : List ℕ) (fault : Fault) → IsRefusedIn file bytes fault → IsOther (status_of fault)
+module-other file bytes fault (ByBytes malformed) = named-other fault (faults.Malformed malformed.at) malformed.named refl
+module-other file bytes fault (ByRules m encoded invalid) = named-other fault (invalid_fault invalid.place) invalid.named (invalid-other invalid.place)
+module-other file bytes fault (ByProfile m encoded valid refused) = named-other fault (refusal_fault refused.refusal) refused.named (profile-other refused.refusal)
+
+inputs-other : (module_bytes script_bytes : List ℕ) (fault : Fault) → AreRefused module_bytes script_bytes fault
+    → IsOther (status_of fault)
+inputs-other module_bytes script_bytes fault (ByModule refused) = module-other Original module_bytes fault refused
+inputs-other module_bytes script_bytes fault (ByScript m is refused) = named-other fault (script_fault refused.found) refused.named (script-other refused.found refused.differs)
+
+link-other : (found : LinkFault) → (found ≡ link.Memory → ⊥) → is_other (status_of (unlinked.link_fault found)) ≡ true
+link-other (link.Missing import) differs = refl
+link-other (link.Mismatch import) differs = refl
+link-other (link.Segment number) differs = refl
+link-other link.Memory differs = absurd (differs refl)
+
+unmade-status : (m : Module) (played : Script) (turns : ℕ) (fault : Fault) → IsUnmade m played turns fault
+    → IsOther (status_of fault)
+unmade-status m played turns fault (refusals.OfLink u) = named-other fault (unlinked.link_fault u.found) u.named (link-other u.found u.differs)
+unmade-status m played turns fault (refusals.OfForm u) = named-other fault faults.NotBuilt u.named refl
+unmade-status m played turns fault (refusals.OfRun built (runs.OfScript u)) = named-other fault (faults.Script u.turn u.kind) u.named refl
+unmade-status m played turns fault (refusals.OfRun built (runs.OfTurns u)) = named-other fault (faults.Spent turns) u.named refl
+unmade-status m played turns fault (refusals.OfLength built u) = named-other fault faults.NotBuilt u.named refl
+
+make-status : (module_bytes script_bytes : List ℕ) (turns : ℕ) (fault : Fault)
+    → IsMakeRefusal module_bytes script_bytes turns fault → IsOther (status_of fault)
+make-status m s turns fault (OfInputs refused) = inputs-other m s fault refused
+make-status m s turns fault (OfModule n played inputs unmade) = unmade-status n played turns fault unmade
+
+untold-status : (m : Module) (played : Script) (turns : ℕ) (fault : Fault) → IsUntold m played turns fault
+    → IsOther (status_of fault)
+untold-status m played turns fault (OfLink u) = named-other fault (unlinked.link_fault u.found) u.named (link-other u.found u.differs)
+untold-status m played turns fault (histories.OfOutcome (runs.OfScript u)) = named-other fault (faults.Script u.turn u.kind) u.named refl
+untold-status m played turns fault (histories.OfOutcome (runs.OfTurns u)) = named-other fault (faults.Spent turns) u.named refl
+
+history-status : (module_bytes script_bytes : List ℕ) (turns : ℕ) (fault : Fault)
+    → IsHistoryRefusal module_bytes script_bytes turns fault → IsOther (status_of fault)
+history-status m s turns fault (histories.OfInputs refused) = inputs-other m s fault refused
+history-status m s turns fault (OfRun original played inputs untold) = untold-status original played turns fault untold
+
+replay-other : (turns : ℕ) (found : ReplayFault) → (found ≡ replay.Memory → ⊥) → is_other (status_of (replay_fault turns found)) ≡ true
+replay-other turns replay.NoLayout differs = refl
+replay-other turns replay.Imports differs = refl
+replay-other turns replay.NoEntry differs = refl
+replay-other turns (replay.Link segment) differs = refl
+replay-other turns replay.Spent differs = refl
+replay-other turns replay.Memory differs = absurd (differs refl)
+
+replay-status : (binary : List ℕ) (turns : ℕ) (fault : Fault) → IsReplayRefusal binary turns fault → IsOther (status_of fault)
+replay-status binary turns fault (texts.OfModule refused) = module-other ReplayModule binary fault refused
+replay-status binary turns fault (texts.OfRun m is_module u) = named-other fault (replay_fault turns u.found) u.named (replay-other turns u.found u.differs)
+
+trace-other : (found : FormatFault) → (found ≡ format.Memory → ⊥) → is_other (status_of (fault_of found)) ≡ true
+trace-other (format.Version found) differs = refl
+trace-other (format.Bad at) differs = refl
+trace-other format.Memory differs = absurd (differs refl)
+
+show-status : (trace : List ℕ) (fault : Fault) → IsShowRefusal trace fault → IsOther (status_of fault)
+show-status trace fault u = named-other fault (fault_of u.found) u.named (trace-other u.found u.differs)
+
+hooked-status : (bytes : List ℕ) (fault : Fault) → IsHookedRefusal bytes fault → IsOther (status_of fault)
+hooked-status bytes fault (hooked.OfModule refused) = module-other Original bytes fault refused
+hooked-status bytes fault (hooked.OfLength m is_module long) = named-other fault faults.HookedLimit long.named refl
+
+record-other : (turns : ℕ) (found : PlayFault) → (found ≡ play.Memory → ⊥) → is_other (status_of (record_fault turns found)) ≡ true
+record-other turns (play.Fault turn kind) differs = refl
+record-other turns play.Spent differs = refl
+record-other turns (play.Hook number) differs = refl
+record-other turns play.Memory differs = absurd (differs refl)
+
+unlogged-status : (m : Module) (script : List ℕ) (turns : ℕ) (fault : Fault) → HasNoModuleLog m script turns fault → IsOther (status_of fault)
+unlogged-status m script turns fault (logs.OfForm none named) = named-other fault faults.NotHooked named refl
+unlogged-status m script turns fault (logs.OfScript form has_form refused) = named-other fault (script_fault refused.found) refused.named (script-other refused.found refused.differs)
+unlogged-status m script turns fault (logs.OfLog form has_form played is_script (logs.OfLink u)) = named-other fault (unlinked.link_fault u.found) u.named (link-other u.found u.differs)
+unlogged-status m script turns fault (logs.OfLog form has_form played is_script (logs.OfRun store links u)) = named-other fault (record_fault turns u.found) u.named (record-other turns u.found u.differs)
+
+record-status : (h s : List ℕ) (turns : ℕ) (fault : Fault) → IsLogRefusal h s turns fault → IsOther (status_of fault)
+record-status h s turns fault (logs.OfModule refused) = module-other Instrumented h fault refused
+record-status h s turns fault (logs.OfModuleLog m is_module none) = unlogged-status m s turns fault none
+
+reduce-status : (log : List ℕ) (fault : Fault) → IsReduceRefusal log fault → IsOther (status_of fault)
+reduce-status log fault (inl u) = named-other fault (fault_of u.found) u.named (trace-other u.found u.differs)
+reduce-status log fault (inr u) = named-other fault (faults.Unbalanced u.unbalanced.event) u.unbalanced.named refl
+
+untaken-status : (m : Module) (digest bytes : List ℕ) (fault : Fault) → IsUntaken m digest bytes fault → IsOther (status_of fault)
+untaken-status m digest bytes fault (tapes.ByBytes u) = named-other fault (fault_of u.found) u.named (trace-other u.found u.differs)
+untaken-status m digest bytes fault (tapes.ByDigest u) = named-other fault (faults.OtherModule u.other digest) u.named refl
+untaken-status m digest bytes fault (tapes.ByForm u) = named-other fault (faults.Unfit u.unfit.segment) u.unfit.named refl
+untaken-status m digest bytes fault (tapes.ByWeight u) = named-other fault (faults.TapeLimit (min (tape_weight u.tape) (2 ^ 64 - 1))) u.named refl
+
+unbuilt-status : (m : Module) (played : Script) (digest tape : List ℕ) (fault : Fault) → tapes.IsUnbuilt m played digest tape fault
+    → IsOther (status_of fault)
+unbuilt-status m played digest tape fault (tapes.OfLink u) = named-other fault (unlinked.link_fault u.found) u.named (link-other u.found u.differs)
+unbuilt-status m played digest tape fault (tapes.OfTape links u) = untaken-status m digest tape fault u
+
+build-status : (m s t : List ℕ) (fault : Fault) → IsBuildRefusal m s t fault → IsOther (status_of fault)
+build-status m s t fault (tapes.OfInputs refused) = inputs-other m s fault refused
+build-status m s t fault (tapes.OfModule n played inputs u) = unbuilt-status n played (sha256 m) t fault u
+
+pub refusal-status : (command : Command) (loaded : List (List ℕ)) (number : Option ℕ) (fault : Fault)
+    → IsRefusal command loaded number fault → IsOther (status_of fault)
+refusal-status Make [] number fault c = absurd c
+refusal-status Make (m ∷ []) number fault c = absurd c
+refusal-status Make (m ∷ s ∷ []) None fault c = absurd c
+refusal-status Make (m ∷ s ∷ []) (Some turns) fault c = make-status m s turns fault c
+refusal-status Make (m ∷ s ∷ t ∷ more) number fault c = absurd c
+refusal-status Instrument [] number fault c = absurd c
+refusal-status Instrument (m ∷ []) None fault c = hooked-status m fault c
+refusal-status Instrument (m ∷ []) (Some number) fault c = absurd c
+refusal-status Instrument (m ∷ t ∷ more) number fault c = absurd c
+refusal-status Record [] number fault c = absurd c
+refusal-status Record (h ∷ []) number fault c = absurd c
+refusal-status Record (h ∷ s ∷ []) None fault c = absurd c
+refusal-status Record (h ∷ s ∷ []) (Some turns) fault c = record-status h s turns fault c
+refusal-status Record (h ∷ s ∷ t ∷ more) number fault c = absurd c
+refusal-status Reduce [] number fault c = absurd c
+refusal-status Reduce (log ∷ []) None fault c = reduce-status log fault c
+refusal-status Reduce (log ∷ []) (Some number) fault c = absurd c
+refusal-status Reduce (log ∷ t ∷ more) number fault c = absurd c
+refusal-status Build [] number fault c = absurd c
+refusal-status Build (m ∷ []) number fault c = absurd c
+refusal-status Build (m ∷ s ∷ []) number fault c = absurd c
+refusal-status Build (m ∷ s ∷ t ∷ []) None fault c = build-status m s t fault c
+refusal-status Build (m ∷ s ∷ t ∷ []) (Some number) fault c = absurd c
+refusal-status Build (m ∷ s ∷ t ∷ x ∷ more) number fault c = absurd c
+refusal-status History [] number fault c = absurd c
+refusal-status History (m ∷ []) number fault c = absurd c
+refusal-status History (m ∷ s ∷ []) None fault c = absurd c
+refusal-status History (m ∷ s ∷ []) (Some turns) fault c = history-status m s turns fault c
+refusal-status History (m ∷ s ∷ t ∷ more) number fault c = absurd c
+refusal-status Replay [] number fault c = absurd c
+refusal-status Replay (binary ∷ []) None fault c = absurd c
+refusal-status Replay (binary ∷ []) (Some turns) fault c = replay-status binary turns fault c
+refusal-status Replay (binary ∷ t ∷ more) number fault c = absurd c
+refusal-status Show [] number fault c = absurd c
+refusal-status Show (trace ∷ []) None fault c = show-status trace fault c
+refusal-status Show (trace ∷ []) (Some number) fault c = absurd c
+refusal-status Show (trace ∷ t ∷ more) number fault c = absurd c
+refusal-status Load loaded number fault c = absurd c
