@@ -158,19 +158,27 @@ fn forms_that_are_not_built(rt: HostRuntime) -> Result<(), Fail> {
 }
 
 #[test]
-fn commands_that_are_not_built_read_no_file(rt: HostRuntime) -> Result<(), Fail> {
+fn a_command_that_is_not_built_reads_no_file(rt: HostRuntime) -> Result<(), Fail> {
     let alloc = rt.alloc();
     let mut files = MemFiles::new(alloc, Vec::new(alloc));
-    let calls: [&[&str]; 5] = [
-        &["instrument", "m"],
-        &["record", "m", "s", "20000000"],
-        &["reduce", "l"],
-        &["build", "m", "s", "t"],
-        &["load", "60000"],
+    let answer = outcome_of(alloc, &["load", "60000"], &mut files)?;
+    assert!(rt; answer.is_refused(19, "not built\n"));
+    Ok(())
+}
+
+#[test]
+fn the_first_file_that_is_not_there_is_named(rt: HostRuntime) -> Result<(), Fail> {
+    let alloc = rt.alloc();
+    let mut files = MemFiles::new(alloc, Vec::new(alloc));
+    let calls: [(&[&str], &str); 4] = [
+        (&["instrument", "m"], "read: m\n"),
+        (&["record", "n", "s", "20000000"], "read: n\n"),
+        (&["reduce", "l"], "read: l\n"),
+        (&["build", "o", "s", "t"], "read: o\n"),
     ];
-    for words in calls {
+    for (words, line) in calls {
         let answer = outcome_of(alloc, words, &mut files)?;
-        assert!(rt; answer.is_refused(19, "not built\n"));
+        assert!(rt; answer.is_refused(3, line));
     }
     Ok(())
 }
