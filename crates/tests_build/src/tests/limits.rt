@@ -26,7 +26,9 @@ fn answer_to_zeros(
     let mut segments = Vec::from_slice(alloc, GROWTH.as_slice())?;
     segments.extend_from_slice(BYTES_AT_0.as_slice())?;
     segments.extend_from_slice(length.as_slice())?;
-    segments.resize(segments.len() + count, 0)?;
+    let mut zeros = Vec::new(alloc);
+    zeros.resize(count, 0)?;
+    segments.extend_from_slice(zeros.as_slice())?;
     segments.extend_from_slice(END.as_slice())?;
     let tape = tape_file(alloc, module.as_slice(), segments.as_slice())?;
     Ok(build(alloc, module.as_slice(), b"{}", tape.as_slice()))

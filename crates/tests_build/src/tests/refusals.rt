@@ -114,6 +114,14 @@ fn tapes_are_refused(rt: HostRuntime) -> Result<(), Fail> {
     Ok(())
 }
 
+/// The digest in the file of a tape, in hexadecimal.
+fn digest_in(alloc: Global, tape: &[u8]) -> Result<String, Fail> {
+    let Some(digest) = tape.get(5..37) else {
+        return Err(Fail::from("no digest"));
+    };
+    Ok(hex::encode(alloc, digest)?)
+}
+
 #[test]
 fn a_tape_of_another_module(rt: HostRuntime) -> Result<(), Fail> {
     let alloc = rt.alloc();
@@ -123,9 +131,12 @@ fn a_tape_of_another_module(rt: HostRuntime) -> Result<(), Fail> {
         module.as_slice(),
         hex::decode(alloc, ANSWERS)?.as_slice(),
     )?;
-    let given = hex::encode(alloc, &tape[5..37])?;
-    tape[5] ^= 1;
-    let other = hex::encode(alloc, &tape[5..37])?;
+    let given = digest_in(alloc, tape.as_slice())?;
+    let Some(byte) = tape.get_mut(5) else {
+        return Err(Fail::from("no digest"));
+    };
+    *byte ^= 1;
+    let other = digest_in(alloc, tape.as_slice())?;
     let answer = build(alloc, module.as_slice(), b"{}", tape.as_slice());
     let Some((status, line)) = refusal_of(alloc, answer)? else {
         return Err(Fail::from("a tape of another module is taken"));
