@@ -3,6 +3,7 @@
 use crate::tests::builds::{answer_for, module_bytes, refusal_of, tape_file};
 use crate::tests::modules::{GROW_ACCESS, IMPORTED_OFFSET, OVERWRITE, TWO_ANSWERS};
 use r3_build::build;
+use std::alloc::Global;
 use std::test::Fail;
 
 /// The segments of a tape of two answers.
