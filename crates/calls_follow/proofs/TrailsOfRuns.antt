@@ -1,7 +1,6 @@
 -- The moments of each run are a trail.
-use Rattle.std.proofs.Common.{◌≡◌, ℕ, zero, suc, ◌-◌, List, [], ◌∷◌, ◌++◌, length, reverse, Option, Some, None, Bool, true, false, cond, nat_lt, slice_get, option_to_list, refl, sym, ap, ◌∙◌, subst, arith, ltb-false}
+use Rattle.std.proofs.Common.{◌≡◌, ℕ, zero, suc, ◌-◌, List, [], ◌∷◌, ◌++◌, length, Option, Some, None, Bool, true, false, cond, nat_lt, slice_get, option_to_list, refl, sym, ap, ◌∙◌, arith, ltb-false}
 use Rattle.std.specs.Prelude.{option_and_then}
-use Rattle.std.proofs.lemmas.List.{append-nil}
 use Rattle.std.proofs.lemmas.Option.{none-some}
 use Rattle.wasm_syntax.specs.declared.values.ValType.{ValType}
 use Rattle.wasm_syntax.specs.declared.values.Val.{Val}
@@ -9,8 +8,6 @@ use Rattle.wasm_syntax.specs.declared.instructions.Instr.{Instr}
 use Rattle.wasm_syntax.specs.declared.modules.Module.{Module}
 use Rattle.wasm_syntax.specs.Encoding.Forms.{IsCoreModule}
 use Rattle.wasm_syntax.specs.Index.{imported_funcs}
-use Rattle.wasm_syntax.specs.Nest.{Nest, Empty, Plain, InBlock, InLoop, InIf, InIfElse}
-use Rattle.wasm_syntax.specs.Typing.{IsTyped}
 use Rattle.host_script.specs.declared.scripts.Action.{Action}
 use Rattle.host_script.specs.declared.scripts.Answer.{Answer}
 use Rattle.host_script.specs.declared.scripts.ResponseEnd.{ResponseEnd}
@@ -22,20 +19,19 @@ use Rattle.trace_model.specs.declared.tapes.Next.TheVariants.{Trap as ByTrap}
 use Rattle.history_spec.specs.declared.entries.FaultKind.{FaultKind}
 use Rattle.history_spec.specs.Store.{Store}
 use Rattle.history_spec.specs.Code.{Definition, code_of, definition}
-use Rattle.history_spec.specs.Configuration.{Label, Frame, Activation, InModule, InMain, InImport, topmost, push_all, with_results}
-use Rattle.history_spec.specs.Settle.{AtEnd, Within, Gives, TooFew, end_results, at_end_of, at_end, return_entry, return_from, deliver}
+use Rattle.history_spec.specs.Configuration.{Frame, Activation, InModule, InMain, InImport, topmost, with_results}
+use Rattle.history_spec.specs.Settle.{AtEnd, Within, Gives, TooFew, at_end, return_entry, return_from, deliver}
 use Rattle.history_spec.specs.Step.{Program, Progress, Running, Finished, Faulted, StepResult, step_result, after_settling}
 use Rattle.history_spec.specs.Run.{all_one, steps}
 use Rattle.replay_spec.specs.Observations.{Observation, Ends, activity_observations, observations}
 use Rattle.replay_spec.specs.Known.{Known}
-use Rattle.type_safety.specs.Configurations.{scope, Accept, IsGoing, IsConfig, IsTypedCode}
-use Rattle.type_safety.specs.Frames.{Scope, context, AreLabels, IsFrame}
+use Rattle.type_safety.specs.Configurations.{scope, Accept, IsConfig, IsTypedCode}
+use Rattle.type_safety.specs.Frames.{Scope, IsFrame}
 use Rattle.type_safety.specs.Heights.{Heights}
 use Rattle.type_safety.specs.Stores.{func_count, IsStore}
 use Rattle.type_safety.specs.Values.{AreValues}
 use Rattle.type_safety.proofs.Constants.{fit_values}
-use Rattle.type_safety.proofs.SettleEnds.{leave_point, HasLeft, leave_left}
-use Rattle.type_safety.proofs.Values.{pushed_values, take_values}
+use Rattle.type_safety.proofs.SettleEnds.{results_frame, IsEnd, results_end}
 use Rattle.tape_follows.proofs.Relation.{IsKnownOf}
 use Rattle.hook_spec.specs.Order.{HookedShape}
 use Rattle.hook_spec.specs.ToldCalls.{moments}
@@ -43,55 +39,6 @@ use Rattle.calls_follow.proofs.CoreFrames.{CoreStack, core_results}
 use Rattle.calls_follow.proofs.Mirrors.{Mirrors, host_on_top, any_callee}
 use Rattle.calls_follow.proofs.RunCalls.{moments_at}
 use Rattle.calls_follow.proofs.Trails.{Level, AtFunction, AtCall, at_host, IsTypedFor, IsHostTrap, IsTrail}
-
--- ---- an activation that results come to
-
--- with them it is well typed
-results_frame : (s : Scope) (awaited : List ValType) (frame : Frame) (results : List Val) → IsFrame s awaited frame
-    → AreValues (func_count s.m) awaited results → IsFrame s [] (with_results frame results)
-results_frame s awaited frame results f p =
-    let q = leave_point s frame.labels (push_all results frame.values) frame.at.rest frame.at.number f.labels f.given
-    (reverse awaited ++ f.types) f.around.blocks
-    (pushed_values (func_count s.m) awaited f.types results frame.values p f.values) f.code in
-    record {
-      labels = q.labels;
-      given = q.given;
-      types = q.types;
-      around = record {
-        scope = f.around.scope;
-        func = f.around.func;
-        arity = f.around.arity;
-        locals = f.around.locals;
-        blocks = q.blocks;
-      };
-      values = q.values;
-      code = q.code;
-    }
-
--- it stands before an instruction, or it is at its end with its results
-abbrev IsEnd : Scope → Nest → AtEnd → Type 0
-IsEnd s rest Within = IsGoing rest
-IsEnd s rest (Gives results) = AreValues (func_count s.m) s.ty.results results
-IsEnd s rest TooFew = ⊥
-
-end_at : (s : Scope) (frame : Frame) (blocks : List Label) (rest : Nest) (labels : List (List ValType))
-    (given types : List ValType)
-    → AreLabels s labels given blocks → AreValues (func_count s.m) types frame.values
-    → IsTyped (context s labels) rest types given → HasLeft blocks rest
-    → frame.arity ≡ length s.ty.results → IsEnd s rest (at_end_of rest frame)
-end_at s frame [] Empty [] given types are p typed left arity =
-    let all : types ≡ reverse s.ty.results ++ [] = typed ∙ are ∙ sym (append-nil (reverse s.ty.results)) in
-    let t = take_values (func_count s.m) s.ty.results [] frame.values
-    (subst (λ ts. AreValues (func_count s.m) ts frame.values) all p) in
-    subst (λ k. IsEnd s Empty (end_results (topmost k frame.values))) (sym arity)
-    (subst (λ o. IsEnd s Empty (end_results o)) (sym t.taken) t.of_operands)
-end_at s frame [] Empty (taken ∷ labels) given types are p typed left arity = absurd are
-end_at s frame (label ∷ blocks) Empty labels given types are p typed left arity = absurd left
-end_at s frame blocks (Plain i rest) labels given types are p typed left arity = tt
-end_at s frame blocks (InBlock ty body rest) labels given types are p typed left arity = tt
-end_at s frame blocks (InLoop ty body rest) labels given types are p typed left arity = tt
-end_at s frame blocks (InIf ty body rest) labels given types are p typed left arity = tt
-end_at s frame blocks (InIfElse ty body other rest) labels given types are p typed left arity = tt
 
 -- the outcome of a run, where it has one
 abbrev pub outcome_of : Progress → Option Outcome
@@ -252,8 +199,7 @@ module _ (m : Module) (heights : Heights) (typed : IsTypedCode m heights) (core 
         mirrors =
         go (λ given q levels mirrors. deliver_from below a.0.results given store counts levels known instr before a.3 q
         is of count c.1 mirrors) (at_end next)
-        (end_at s next next.labels next.at.rest f.labels f.given f.types f.around.blocks f.values f.code.typed
-        (leave_left frame.labels (push_all results frame.values) frame.at.rest frame.at.number) f.around.arity)
+        (results_end s types frame results a.2 p)
       where
         next : Frame
         next = with_results frame results

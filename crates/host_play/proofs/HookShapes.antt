@@ -1,6 +1,6 @@
 -- A module whose last imported functions are the hooks: their types, and that a script that fits it still fits it with
 -- the hooks answered by doing nothing.
-use Rattle.std.proofs.Common.{◌≡◌, ℕ, zero, suc, ◌+◌, ◌-◌, List, [], ◌∷◌, ◌++◌, length, drop, Option, Some, None, true, refl, sym, ap, ◌∙◌, subst, arith}
+use Rattle.std.proofs.Common.{◌≡◌, ℕ, zero, suc, ◌+◌, ◌-◌, List, [], ◌∷◌, ◌++◌, length, drop, take, Option, Some, None, Bool, true, false, refl, sym, ap, ◌∙◌, subst, arith}
 use Rattle.std.specs.Prelude.{cond, filter, map, nat_eq, option_and_then, replicate, slice_get, IsTrue, ◌&&◌, bytes_eq}
 use Rattle.std.specs.List.{AllZip, cons_option}
 use Rattle.std.proofs.lemmas.List.{length-drop}
@@ -24,9 +24,11 @@ use Rattle.history_spec.specs.Code.{code_of, signature}
 use Rattle.wasm_flat.specs.Meters.{FitsMeter, Weighing}
 use Rattle.hook_spec.specs.declared.hooks.Hook.{Hook}
 use Rattle.hook_spec.specs.Hooks.{hooks, hook_count, hook_name, hook_type}
-use Rattle.hook_spec.specs.HookedForm.{are_hooks, brings, func_imports, is_from_hooks, is_func_kind, is_hook, is_of_type, own_imports}
+use Rattle.hook_spec.specs.HookedForm.{HookedForm, are_hooks, brings, digest_length, form_of_sections, func_imports, hooked_sections, imports_hooks, is_from_hooks, is_func_kind, is_hook, is_of_type, own_imports}
+use Rattle.hook_spec.specs.Instrumented.{section_bytes}
+use Rattle.wasm_syntax.specs.declared.modules.Custom.{Custom}
 use Rattle.hook_spec.specs.HookedRuns.{first_answers, hook_answer, hooked_script}
-use Rattle.host_play.specs.HookedResults.{HasHooksAfter}
+use Rattle.host_play.specs.HookedResults.{FormsHaveHooks, HasHooksAfter}
 use Rattle.host_play.specs.HooksSoFar.{CanPlay, HasHooks}
 use Rattle.host_play.proofs.HookAnswers.{hook_answered}
 
@@ -167,3 +169,27 @@ module _ (m : Module) (n : ℕ) (has : HasHooksAfter m n) where
 
 pub can_play : (m : Module) (n : ℕ) (script : Script) (weighing : Weighing) → HasHooksAfter m n → FitsMeter m weighing → CanPlay m (hooked_script n script) weighing n
 can_play m n script weighing has fits = record { fits = fits; hooks = has_hooks m n has script }
+
+-- ---- modules in the hooked form
+
+form_imports : (imports defined : ℕ) (sections : List Custom) (form : HookedForm) → form_of_sections imports defined sections ≡ Some form → form.imports ≡ imports
+form_imports imports defined [] form is = cc
+form_imports imports defined (custom ∷ next ∷ later) form is = cc
+form_imports imports defined (custom ∷ []) form is =
+    go (nat_eq (length (take digest_length custom.bytes)) digest_length && bytes_eq custom.bytes (section_bytes (take digest_length custom.bytes) imports defined)) is
+  where
+    go : (b : Bool) → cond b (Some (record { digest = take digest_length custom.bytes; imports = imports; defined = defined })) None ≡ Some form → form.imports ≡ imports
+    go true is = let same : record { digest = take digest_length custom.bytes; imports = imports; defined = defined } ≡ form = cc in ap (λ (f : HookedForm). f.imports) (sym same)
+    go false is = cc
+
+pub forms_have_hooks : FormsHaveHooks
+forms_have_hooks m form is = go (imports_hooks m) refl
+  where
+    go : (b : Bool) → imports_hooks m ≡ b → HasHooksAfter m form.imports
+    go true hooks =
+        record {
+          hooks = hooks;
+          before = sym (form_imports (own_imports m) (length m.funcs) (hooked_sections m) form (subst (λ b. cond b (form_of_sections (own_imports m) (length m.funcs) (hooked_sections m)) None ≡ Some form) hooks is));
+        }
+    go false hooks =
+        let none : None ≡ Some form = subst (λ b. cond b (form_of_sections (own_imports m) (length m.funcs) (hooked_sections m)) None ≡ Some form) hooks is in cc

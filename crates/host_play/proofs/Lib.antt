@@ -17,13 +17,13 @@ mod ModuleParts
 mod Counted
 mod RunStarts
 pub mod Calls
-mod HookCalls
+pub mod HookCalls
 mod ImportStores
 mod OtherAnswers
 mod HookedParts
 mod HookAnswers
-mod HookRuns
+pub mod HookRuns
 mod HooksOn
-mod HookShapes
+pub mod HookShapes
 mod HookArguments
 mod HookWaits

@@ -1,6 +1,6 @@
 -- What the run of a module in the hooked form answers: under a meter, within a budget of turns, with hooks that take
 -- the calls that it makes.
-use Rattle.std.specs.Prelude.{◌≡◌, ℕ, ◌≤◌, Result, Ok, Err, ⊤, ◌⊎◌, true}
+use Rattle.std.specs.Prelude.{◌≡◌, ℕ, ◌≤◌, Result, Ok, Err, ⊤, ◌⊎◌, true, Some}
 use Rattle.wasm_syntax.specs.declared.modules.Module.{Module}
 use Rattle.host_script.specs.declared.scripts.Script.{Script}
 use Rattle.run_outcomes.specs.declared.outcomes.Outcome.{Outcome}
@@ -10,7 +10,7 @@ use Rattle.history_spec.specs.Run.{Meter, Run, program_of, run_from, start_in_st
 use Rattle.history_spec.specs.Step.{Program, StepResult, Finished, Faulted}
 use Rattle.history_spec.specs.Store.{Store}
 use Rattle.wasm_flat.specs.Meters.{Weighing, meter_of}
-use Rattle.hook_spec.specs.HookedForm.{imports_hooks, own_imports}
+use Rattle.hook_spec.specs.HookedForm.{HookedForm, hooked_form, imports_hooks, own_imports}
 use Rattle.hook_spec.specs.HookedRuns.{hook_calls, hooked_script}
 use Rattle.hook_names.specs.Steps.{IsRun, Steps}
 use Rattle.hook_names.specs.declared.hooks.HookFault.{HookFault}
@@ -22,6 +22,10 @@ use Rattle.host_play.specs.declared.results.PlayFault.TheVariants as refusal
 pub record HasHooksAfter (m : Module) (imports : ℕ) : Type 0 where
   pub hooks : imports_hooks m ≡ true
   pub before : own_imports m ≡ imports
+
+-- a module in the hooked form is one of these
+abbrev pub FormsHaveHooks : Type 0
+FormsHaveHooks = (m : Module) (form : HookedForm) → hooked_form m ≡ Some form → HasHooksAfter m form.imports
 
 -- a run: from its start, by a meter, within a budget of turns, with hooks after a number of imports
 pub record HookedRun : Type 0 where

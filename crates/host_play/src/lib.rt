@@ -21,7 +21,7 @@ mod tells;
 pub mod told_text;
 
 pub use hooked_plays::play;
-pub use laws::calls_take_turns;
+pub use laws::{calls_take_turns, forms_have_hooks};
 pub use no_memory::NoMemory;
 pub use plays::{Play, run, tell};
 pub use results::{Counts, PlayFault, Played, Told};

@@ -27,7 +27,7 @@ use Rattle.type_safety.specs.Stores.{func_count}
 use Rattle.type_safety.specs.Values.{AreValues}
 use Rattle.type_safety.proofs.Responses.{response_fits}
 use Rattle.type_safety.proofs.Values.{append_values, zero_values}
-use Rattle.type_safety.proofs.SettleEnds.{IsEnd}
+use Rattle.type_safety.proofs.SettleEnds.{IsEnd, results_end}
 use Rattle.hook_spec.specs.Hooks.{renumber, hook_count, renumbered_view}
 use Rattle.hook_spec.specs.HookedRuns.{renumbered_action, renumbered_response}
 use Rattle.hook_spec.specs.ToldCalls.{WaitingCall, told_enter, latest_args}
@@ -40,7 +40,6 @@ use Rattle.inserted_code.proofs.Leads as leads
 use Rattle.inserted_code.proofs.Pieces.{HasHooks}
 use Rattle.inserted_code.proofs.Relation.{Beside, type_of, frame_beside, waiting_stack, AreWaiting, AreCounted}
 use Rattle.instrumented_steps.proofs.Settled as settled
-use Rattle.instrumented_steps.proofs.TypedEnds.{results_end}
 use Rattle.inserted_code.proofs.PieceFacts as facts
 use Rattle.inserted_code.proofs.PieceFacts.{HasPieces, HasProgram}
 

@@ -21,7 +21,7 @@ use Rattle.type_safety.specs.Heights.{Heights}
 use Rattle.type_safety.specs.Stores.{func_count}
 use Rattle.type_safety.specs.Values.{AreValues}
 use Rattle.type_safety.proofs.Constants.{fit_values}
-use Rattle.type_safety.proofs.SettleEnds.{IsEnd}
+use Rattle.type_safety.proofs.SettleEnds.{IsEnd, results_end}
 use Rattle.hook_spec.specs.Hooks.{renumbered_view}
 use Rattle.hook_spec.specs.ToldCalls.{WaitingCall, told_values, told_over}
 use Rattle.calls_follow.proofs.Ordered.{types_are}
@@ -31,7 +31,6 @@ use Rattle.inserted_code.proofs.Leads as leads
 use Rattle.inserted_code.proofs.Pieces.{HasHooks}
 use Rattle.inserted_code.proofs.Relation.{Beside, type_of, site_at, frame_beside, awaited_piece, IsBeside, waiting_stack, AreWaiting, AreCounted}
 use Rattle.instrumented_steps.proofs.Settled as settled
-use Rattle.instrumented_steps.proofs.TypedEnds.{results_end}
 use Rattle.inserted_code.proofs.PieceFacts.{HasPieces}
 
 -- results of a function, which number one at most

@@ -1,6 +1,5 @@
 pub mod Follows
 pub mod Kept
-pub mod TypedEnds
 pub mod Settled
 pub mod Delivers
 pub mod Calls

@@ -40,7 +40,7 @@ use Rattle.instrumented_steps.proofs.Ready as ready
 use Rattle.instrumented_steps.proofs.Ready.{IsReady}
 use Rattle.inserted_code.proofs.Relation.{Beside, type_of, site_at, frame_beside, waiting_stack}
 use Rattle.instrumented_steps.proofs.Settled as settled
-use Rattle.instrumented_steps.proofs.TypedEnds.{results_end}
+use Rattle.type_safety.proofs.SettleEnds.{results_end}
 use Rattle.inserted_code.proofs.PieceFacts.{HasPieces}
 
 -- results that were pushed on nothing stand on top

@@ -43,7 +43,7 @@ use Rattle.instrumented_steps.proofs.Settled as settled
 use Rattle.instrumented_steps.proofs.ToldBefore as told_first
 use Rattle.inserted_code.proofs.Straight as straight
 use Rattle.inserted_code.proofs.Straight.{IsStraight}
-use Rattle.instrumented_steps.proofs.TypedEnds.{results_end}
+use Rattle.type_safety.proofs.SettleEnds.{results_end}
 use Rattle.inserted_code.proofs.PieceFacts.{HasPieces}
 
 module _ (m : Module) (heights : Heights) (valid : IsValid m) (program other : Program) (meter : Meter)

@@ -1,6 +1,5 @@
 -- The replay module of any module, of a supply and of what is generated: it has no imports, and keeps the index of
--- every function, type, table, memory and global of the original. No code stands on it yet: what `make` prints today
--- is the `replay_module` of plain_replay, for modules of integer code and plain scripts alone.
+-- every function, type, table, memory and global of the original.
 use Rattle.std.specs.Prelude.{ℕ, ◌^◌, List, [], ◌∷◌, ◌++◌, length, map, min, None, option_map, option_to_list, codes}
 use Rattle.std.specs.List.{zip}
 use Rattle.leb_bytes.specs.Unsigned.{u32_bytes}
@@ -65,7 +64,7 @@ abbrev pub layout_section : Module → Custom
 layout_section m =
     record { name = codes "r3.layout"; bytes = u32_bytes (imported_funcs m) ++ u32_bytes (length m.funcs) }
 
--- the replay module of any module, from a generated part; the one for integer code stands in plain_replay
+-- the replay module of any module, from a generated part
 abbrev pub replay_module : Module → Supply → Fragment → Module
 replay_module m supply fragment =
     record {

@@ -13,9 +13,9 @@ use Rattle.type_safety.specs.Laws.{InstructionsHaveRules, StartsAreSafe, StepsAr
 use Rattle.hook_spec.specs.HookedRuns.{hooked_script}
 use Rattle.hook_spec.specs.Order.{order_start, shape_of}
 use Rattle.hook_spec.specs.Logs.{events_from, log_start, log_with}
+use Rattle.host_play.proofs.HookShapes.{hooked_fits}
 use Rattle.run_recorder.specs.Records.{calls_in}
 use Rattle.record_laws.specs.Laws.{LogsHaveSpellings, recorded_run}
-use Rattle.record_laws.proofs.HookedAnswers.{hooked_answers_fit}
 use Rattle.record_laws.proofs.TypedCalls.{AreTypedCalls, calls_typed}
 use Rattle.record_laws.proofs.FittingEvents.{events_fit}
 
@@ -39,7 +39,7 @@ fitting_logs has_heights is_typed rules starts steps m script store weighing imp
 
     program : IsProgram m (program_of m under)
     program =
-        record { code = refl; answers = hooked_answers_fit m imports can.hooked script.imports can.fits.imports }
+        record { code = refl; answers = (hooked_fits m imports can.hooked script can.fits).imports }
 
     safe : IsSafe m code.0 (start_in_store m under store).next
     safe =

@@ -1,5 +1,4 @@
 mod OneRecord
-mod HookedAnswers
 mod TypedCalls
 mod FittingObservations
 mod FittingEvents

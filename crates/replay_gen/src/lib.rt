@@ -1,6 +1,5 @@
 //! The generated part of a replay module of any module: functions that do what a plan has the host do. `Functions` and
-//! `Fragments` in specs define it. What `make` prints today is the `replay_module` of plain_replay, which has no such
-//! part.
+//! `Fragments` in specs define it, and `fragment_maker` makes it.
 #![tactic(auto)]
 
 pub mod fragments;

@@ -77,7 +77,8 @@ leave_left (label ∷ blocks) values (InIfElse ty body other rest) number = tt
 
 -- ---- an activation that results come to
 
-results_frame : (s : Scope) (awaited : List ValType) (frame : Frame) (results : List Val) → IsFrame s awaited frame
+-- with the results it is well typed
+pub results_frame : (s : Scope) (awaited : List ValType) (frame : Frame) (results : List Val) → IsFrame s awaited frame
     → AreValues (func_count s.m) awaited results → IsFrame s [] (with_results frame results)
 results_frame s awaited frame results f p =
     let q = leave_point s frame.labels (push_all results frame.values) frame.at.rest frame.at.number f.labels f.given
@@ -124,6 +125,16 @@ end_at s frame blocks (InLoop ty body rest) labels given types are p typed left 
 end_at s frame blocks (InIf ty body rest) labels given types are p typed left arity = tt
 end_at s frame blocks (InIfElse ty body other rest) labels given types are p typed left arity = tt
 
+-- of an activation that waits for these results
+pub results_end : (s : Scope) (awaited : List ValType) (frame : Frame) (results : List Val) → IsFrame s awaited frame
+    → AreValues (func_count s.m) awaited results
+    → IsEnd s (with_results frame results).at.rest (at_end (with_results frame results))
+results_end s awaited frame results f p =
+    let next = with_results frame results in
+    let g = results_frame s awaited frame results f p in
+    end_at s next next.labels next.at.rest g.labels g.given g.types g.around.blocks g.values g.code.typed
+    (leave_left frame.labels (push_all results frame.values) frame.at.rest frame.at.number) g.around.arity
+
 -- ---- a stack that results come to
 
 -- where settling ends, the activations there are well typed
@@ -152,9 +163,7 @@ deliver_safe m heights (InModule frame ∷ below) types results a p =
     let s = scope m heights frame.func a.0 a.1 in
     let next = with_results frame results in
     let f = results_frame s types frame results a.2 p in
-    let left = leave_left frame.labels (push_all results frame.values) frame.at.rest frame.at.number in
-    let e = end_at s next next.labels next.at.rest f.labels f.given f.types f.around.blocks f.values f.code.typed left
-    f.around.arity in
+    let e = results_end s types frame results a.2 p in
     return_safe m heights next a.0 a.1 below (deliver below) f a.3
     (λ rs q. deliver_safe m heights below a.0.results rs a.3 q) (at_end next) e
 deliver_safe m heights (InMain [] ∷ below) types results a p = tt

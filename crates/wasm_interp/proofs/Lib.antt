@@ -23,5 +23,6 @@ pub mod FormWalks
 pub mod FormCalls
 pub mod Single
 pub mod FormItems
+pub mod Measure
 pub mod OwnSteps
 pub mod WalkLaws

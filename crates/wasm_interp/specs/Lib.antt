@@ -9,6 +9,7 @@ pub mod OpcodeTypes
 pub mod Advance
 pub mod Loans
 pub mod Walks
+pub mod Weights
 pub mod OwnSteps
 pub mod Calls
 pub mod Ahead

@@ -8,6 +8,7 @@ mod form_advances;
 mod form_calls;
 mod form_steps;
 mod form_walks;
+mod form_weights;
 mod host;
 mod instructions;
 mod laws;
@@ -24,7 +25,6 @@ mod table;
 mod top_walks;
 mod turns;
 mod values;
-mod walks;
 
 pub use laws::{calls_are_ready, hosts_go_on, meters_fit, weightless_turns_end};
 pub use machine::{Machine, Pause, Turn};

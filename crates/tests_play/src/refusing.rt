@@ -1,0 +1,32 @@
+// Hooks that refuse a call.
+
+ghost use Rattle.std.specs.Prelude.{⊤};
+
+use hook_names::{Hook, HookFault, Hooks, View};
+use wasm_syntax::Val;
+
+/// Hooks that find the call of a number out of order, and remember how many they took, how many arguments these had,
+/// and the last one's bits.
+#[derive(Drop)]
+pub(crate) struct Refusing {
+    pub(crate) at: u64,
+    pub(crate) taken: u64,
+    pub(crate) arguments: u64,
+    pub(crate) last: u64,
+}
+
+impl Hooks for Refusing {
+    ghost is_step = { λ before call answer after. ⊤ };
+
+    fn hook(&mut self, _kind: Hook, args: &[Val], _view: &View) -> Result<(), HookFault> {
+        if self.taken == self.at {
+            return Err(HookFault::Order { number: self.taken });
+        }
+        self.taken = self.taken.saturating_add(1);
+        self.arguments = self.arguments.saturating_add(args.len() as u64);
+        if let Some(value) = args.last() {
+            self.last = value.bits;
+        }
+        Ok(())
+    }
+}

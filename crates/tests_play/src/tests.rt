@@ -1,0 +1,118 @@
+use crate::refusing::Refusing;
+use accepted_runs::start_store;
+use history_spec::Outcome;
+use hook_insert::hooked_form;
+use hook_names::{Hooks, NoHooks};
+use host_play::{Play, PlayFault, forms_have_hooks, play};
+use r3_inputs::{MOST_INSTRUMENTED_BYTES, ModuleFile, module_in, script_of};
+use std::alloc::Global;
+use std::test::Fail;
+use wasm_flat::Meter;
+use wasm_flatten::flatten;
+
+// (module (import "h" "f" (func (result i32))) (func (export "g") (result i32) call 0 call 0 i32.add)), instrumented
+const TWO_ANSWERS: &str =
+    "0061736d01000000011e066000017f60027f7e0060017f0060000060037f7f7f0060047f7f7f7e00029f011001680166\
+    000002723303617267000102723305656e7465720002027233056c65617665000202723303707265000202723304706f\
+    73740002027233046970726500020272330569706f73740003027233046c6f616400040272330573746f726500050272\
+    330473697a6500030272330467726f770002027233046767657400010272330467736574000102723304636f70790004\
+    0272330466696c6c000403020100070501016700100a44014204027f017e017d017c41011002027f4100100410002101\
+    41ff002001ad1001410010052001410010041000210141ff002001ad10014100100520016a0b410110030b002c097233\
+    2e686f6f6b656407070707070707070707070707070707070707070707070707070707070707070101";
+
+const SCRIPT: &str = "{\"imports\":{\"h\":{\"f\":{\"calls\":[{\"return\":{\"i32\":5}},\
+    {\"return\":{\"i32\":7}}]}}},\"main\":[{\"call\":\"g\"}]}";
+
+// the same, with answers in the hooks' places, which are not looked at
+const ANSWERED: &str = "{\"imports\":{\"h\":{\"f\":{\"calls\":[{\"return\":{\"i32\":5}},\
+    {\"return\":{\"i32\":7}}]}},\"r3\":{\"enter\":{\"rest\":{\"trap\":true}},\
+    \"leave\":{\"rest\":{\"do\":[{\"call\":\"g\"}]}}}},\"main\":[{\"call\":\"g\"}]}";
+
+/// The run within a number of turns, where each instruction takes one.
+fn played<H: Hooks>(
+    alloc: Global,
+    script: &str,
+    turns: u64,
+    hooks: &mut H,
+) -> Result<Result<Outcome, PlayFault>, Fail> {
+    let bytes = hex::decode(alloc, TWO_ANSWERS)?;
+    if bytes.len() > MOST_INSTRUMENTED_BYTES as usize {
+        return Err(Fail::from("a long module"));
+    }
+    let Ok(checked) = module_in(alloc, ModuleFile::Instrumented, bytes.as_slice()) else {
+        return Err(Fail::from("a refused module"));
+    };
+    let Ok(form) = hooked_form(&checked) else {
+        return Err(Fail::from("a module without the form"));
+    };
+    let Ok(script) = script_of(alloc, script.as_bytes(), &checked) else {
+        return Err(Fail::from("a refused script"));
+    };
+    let Ok(store) = start_store(alloc, &checked, &script) else {
+        return Err(Fail::from("a module that does not link"));
+    };
+    forms_have_hooks();
+    let play_of = Play {
+        code: checked.module(),
+        flat: flatten(alloc, &checked)?,
+        script: &script,
+        store,
+    };
+    Ok(play(
+        alloc,
+        play_of,
+        &Meter::all_one(),
+        turns,
+        form.imports,
+        hooks,
+    ))
+}
+
+#[test]
+fn runs_take_their_turns(rt: HostRuntime) -> Result<(), Fail> {
+    for script in [SCRIPT, ANSWERED] {
+        if played(rt.alloc(), script, 29, &mut NoHooks)? != Ok(Outcome::Ended) {
+            return Err(Fail::from("within 29 turns"));
+        }
+        if played(rt.alloc(), script, 28, &mut NoHooks)? != Err(PlayFault::Spent) {
+            return Err(Fail::from("within 28 turns"));
+        }
+    }
+    Ok(())
+}
+
+#[test]
+fn hooks_take_all_calls(rt: HostRuntime) -> Result<(), Fail> {
+    let mut hooks = Refusing {
+        at: 1_000,
+        taken: 0,
+        arguments: 0,
+        last: 0,
+    };
+    if played(rt.alloc(), SCRIPT, 29, &mut hooks)? != Ok(Outcome::Ended) {
+        return Err(Fail::from("an outcome"));
+    }
+    // enter 1; for each call pre 0, arg 127 and the answer, post 0; leave 1
+    if hooks.taken != 8 || hooks.arguments != 10 || hooks.last != 1 {
+        return Err(Fail::from("the calls"));
+    }
+    Ok(())
+}
+
+#[test]
+fn a_refused_call_ends_the_run(rt: HostRuntime) -> Result<(), Fail> {
+    for number in 0..8 {
+        let mut hooks = Refusing {
+            at: number,
+            taken: 0,
+            arguments: 0,
+            last: 0,
+        };
+        if played(rt.alloc(), SCRIPT, 29, &mut hooks)? != Err(PlayFault::Hook { number })
+            || hooks.taken != number
+        {
+            return Err(Fail::from("the call"));
+        }
+    }
+    Ok(())
+}

@@ -1,0 +1,7 @@
+//! Tests alone: hook calls made by hand, and the lines of their logs, which were worked out by hand as well.
+#![tactic(auto)]
+
+#[cfg(test)]
+mod calls;
+#[cfg(test)]
+mod modules;
