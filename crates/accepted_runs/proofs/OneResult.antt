@@ -1,16 +1,21 @@
 -- The run of a module under a script within a budget of turns has one result.
-use Rattle.std.proofs.Common.{◌≡◌, ℕ, Ok, Err, sym, ◌∙◌, ap, subst}
+use Rattle.std.proofs.Common.{◌≡◌, ℕ, Result, Ok, Err, sym, ◌∙◌, ap, subst}
 use Rattle.wasm_syntax.specs.declared.modules.Module.{Module}
 use Rattle.host_script.specs.declared.scripts.Script.{Script}
+use Rattle.host_script.specs.declared.scripts.Supply.{Supply}
 use Rattle.host_script.specs.declared.scripts.LinkFault.{LinkFault}
+use Rattle.host_script.specs.Supply.{supply_of}
 use Rattle.run_outcomes.specs.declared.outcomes.Outcome.{Outcome}
 use Rattle.history_spec.specs.declared.entries.FaultKind.{FaultKind}
 use Rattle.history_spec.specs.Step.{StepResult, Progress, Finished, Faulted}
-use Rattle.history_spec.specs.Run.{Run, all_one, program_of, run_start, run_from}
+use Rattle.history_spec.specs.Instantiation.{instantiate}
+use Rattle.history_spec.specs.Run.{Run, all_one, program_of, run_start, run_from, start_in_store, start_or_fault, start_with_supply}
+use Rattle.history_spec.specs.Store.{Store}
 use Rattle.history_spec.specs.Budget as budget
 use Rattle.history_spec.specs.Budget.{HasOneResultAtMost, IsResult}
 use Rattle.r3_faults.specs.declared.faults.Fault.{Fault}
-use Rattle.r3_faults.specs.declared.faults.Fault.TheVariants.{Script as ScriptFault, Spent}
+use Rattle.r3_faults.specs.declared.faults.Fault.TheVariants.{Script as ScriptFault}
+use Rattle.accepted_runs.specs.Linked.{IsLinked}
 use Rattle.accepted_runs.specs.Unlinked.{IsUnlinkedFor, link_fault}
 use Rattle.accepted_runs.specs.Runs.{HasOutcome, HasNoOutcome, IsFaultyFor, IsSpentFor, OfScript, OfTurns}
 
@@ -31,6 +36,12 @@ same-kind at a b e f = cc (sym e ∙ f)
 ended-faulted : (at : Progress) (a : Outcome) (b : FaultKind) → at ≡ Finished a → at ≡ Faulted b → ⊥
 ended-faulted at a b e f = absurd (cc (sym e ∙ f))
 
+same-supply : (r : Result Supply LinkFault) (a b : Supply) → r ≡ Ok a → r ≡ Ok b → a ≡ b
+same-supply r a b e f = cc (sym e ∙ f)
+
+same-store : (r : Result Store LinkFault) (a b : Store) → r ≡ Ok a → r ≡ Ok b → a ≡ b
+same-store r a b e f = cc (sym e ∙ f)
+
 module _ (m : Module) (script : Script) where
   -- ---- the start of the run
 
@@ -49,6 +60,26 @@ module _ (m : Module) (script : Script) where
   pub unlinked-run : (turns : ℕ) (f g : Fault) → IsUnlinkedFor m script f → HasNoOutcome m script turns g → ⊥
   unlinked-run turns f g u (OfScript v) = unlinked-started f v.initial u v.starts
   unlinked-run turns f g u (OfTurns v) = unlinked-started f v.initial u v.starts
+
+  -- ---- where the module links
+
+  pub linked-starts : (supply : Supply) (store : Store) → IsLinked m script supply store
+      → run_start m script ≡ Ok (start_in_store m script store)
+  linked-starts supply store is =
+      ap (start_with_supply m script) is.supplied ∙ ap (start_or_fault m script) is.begins
+
+  pub linked-unlinked : (supply : Supply) (store : Store) (fault : Fault) → IsLinked m script supply store
+      → IsUnlinkedFor m script fault → ⊥
+  linked-unlinked supply store fault is u =
+      unlinked-started fault (start_in_store m script store) u (linked-starts supply store is)
+
+  pub one-supply : (a b : Supply) (s t : Store) → IsLinked m script a s → IsLinked m script b t → a ≡ b
+  one-supply a b s t x y = same-supply (supply_of m script) a b x.supplied y.supplied
+
+  pub one-store : (a b : Supply) (s t : Store) → IsLinked m script a s → IsLinked m script b t → s ≡ t
+  one-store a b s t x y =
+      same-store (instantiate m b) s t
+      (subst (λ supply. instantiate m supply ≡ Ok s) (one-supply a b s t x y) x.begins) y.begins
 
   -- ---- its end
 

@@ -1,3 +1,4 @@
+pub mod Linked
 pub mod Unlinked
 pub mod Runnable
 pub mod Runs

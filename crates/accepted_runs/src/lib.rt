@@ -8,5 +8,5 @@ mod runs;
 
 pub use host_play::{Played, Told};
 pub use inputs::inputs_of;
-pub use links::start_store;
+pub use links::{start_store, supply_and_store};
 pub use runs::{played_run, told_run};

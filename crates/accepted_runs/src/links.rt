@@ -7,10 +7,11 @@ ghost use Rattle.history_spec.specs.Run.{run_start, start_in_store};
 ghost use Rattle.type_safety.specs.Stores.{IsStore};
 ghost use Rattle.type_safety.specs.Supplies.{HasBytes};
 ghost use Rattle.r3_faults.specs.declared.faults.Fault.TheVariants.{Memory};
+ghost use Rattle.accepted_runs.specs.Linked.{IsLinked};
 ghost use Rattle.accepted_runs.specs.Unlinked.{IsUnlinkedFor};
 
-use host_link::{LinkFault, link};
-use host_script::Script;
+use host_link::{LinkFault, link_with_supply};
+use host_script::{Script, Supply};
 use r3_faults::Fault;
 use std::alloc::Global;
 use wasm_store::Store;
@@ -20,8 +21,7 @@ use wasm_validate::Checked;
 ///
 /// # Errors
 ///
-/// `Missing`, `Mismatch` or `Segment` where the module does not link with the script; `Memory` where
-/// memory is out.
+/// As for `supply_and_store`.
 pub fn start_store(alloc: Global, checked: &Checked, script: &Script) -> Result<Store, Fault>
     requires supported { IsSupported checked.now }
     requires fits { Fits checked.now script.now }
@@ -30,8 +30,32 @@ pub fn start_store(alloc: Global, checked: &Checked, script: &Script) -> Result<
         run_start checked.now script.now ≡ Ok (start_in_store checked.now script.now store)) }
     ensures cause { IfErr result (λ fault. (fault ≡ Memory) ⊎ IsUnlinkedFor checked.now script.now fault) }
 {
-    match link(alloc, checked, script) {
-        Ok(store) => Ok(store),
+    let (_supply, store) = supply_and_store(alloc, checked, script)?;
+    Ok(store)
+}
+
+/// What a script that fits a module supplies for its imports, and the store that the run of the one under the other
+/// starts with.
+///
+/// # Errors
+///
+/// `Missing`, `Mismatch` or `Segment` where the module does not link with the script; `Memory` where
+/// memory is out.
+pub fn supply_and_store(
+    alloc: Global,
+    checked: &Checked,
+    script: &Script,
+) -> Result<(Supply, Store), Fault>
+    requires supported { IsSupported checked.now }
+    requires fits { Fits checked.now script.now }
+    ensures linked { IfOk result (λ opening. IsLinked checked.now script.now opening.0 opening.1) }
+    ensures typed { IfOk result (λ opening. HasBytes checked.now → IsStore checked.now opening.1) }
+    ensures opened { IfOk result (λ opening.
+        run_start checked.now script.now ≡ Ok (start_in_store checked.now script.now opening.1)) }
+    ensures cause { IfErr result (λ fault. (fault ≡ Memory) ⊎ IsUnlinkedFor checked.now script.now fault) }
+{
+    match link_with_supply(alloc, checked, script) {
+        Ok(opening) => Ok(opening),
         Err(LinkFault::Missing { import }) => Err(Fault::Missing {
             import: u64::from(import),
         }),

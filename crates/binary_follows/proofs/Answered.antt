@@ -48,7 +48,7 @@ use Rattle.binary_follows.proofs.Bounded.{most_before}
 use Rattle.binary_follows.proofs.DispatchSteps.{dispatch_items, dispatch_counted}
 use Rattle.generated_effects.proofs.Items.{entries_of_both, changes_of_both}
 use Rattle.generated_effects.proofs.Effects.{set_there}
-use Rattle.binary_follows.specs.Playable.{layout_of}
+use Rattle.module_merge.specs.Merge.{layout_of}
 use Rattle.replay_codes.specs.Stores.{counters, with_own}
 use Rattle.replay_codes.specs.Codes.{IsAnswered, IsDefined, IsReplayCode, first_group, import_definition}
 use Rattle.binary_follows.proofs.Relation.{AreBeside, Answers, own_place, returning_frame, waiting_frame, watched}

@@ -30,7 +30,7 @@ use Rattle.outside_spec.specs.Items.{Steps, Makes}
 use Rattle.outside_spec.specs.Steps.{steps_left}
 use Rattle.generated_steps.specs.Leads.{Place, Leads, InPlace, Behind, Standing, standing}
 use Rattle.single_steps.specs.Ends.{Ends}
-use Rattle.binary_follows.specs.Playable.{layout_of}
+use Rattle.module_merge.specs.Merge.{layout_of}
 use Rattle.replay_codes.specs.Stores.{counters, with_own}
 use Rattle.binary_follows.proofs.Relation.{AreBeside, Runs, imports_in, returning_frame, watched}
 use Rattle.binary_follows.proofs.Sides.{appended_side, below_start, import_side, original_side}

@@ -33,7 +33,8 @@ use Rattle.generated_steps.specs.Leads.{Leads, IsOutside, Behind, Standing, stan
 use Rattle.generated_effects.specs.Laws.{AllGrowSizes, EffectsAreMade}
 use Rattle.generated_effects.specs.Counts.{changes_in, steps_in}
 use Rattle.generated_effects.proofs.Does.{sequence_over}
-use Rattle.binary_follows.specs.Playable.{layout_of, WritesBytes}
+use Rattle.module_merge.specs.Merge.{layout_of}
+use Rattle.binary_follows.specs.Playable.{WritesBytes}
 use Rattle.binary_follows.specs.Laws.{AreEffectsOfFirst}
 use Rattle.replay_codes.specs.Stores.{counters, with_own}
 use Rattle.replay_codes.specs.Codes.{IsReplayCode}

@@ -28,7 +28,7 @@ use Rattle.observed_steps.specs.Executions.{IsCallOf, IsSameActivation}
 use Rattle.observed_steps.specs.Laws.{observed, ObservedStepsAreAlike, StoresAnswerThemselves}
 use Rattle.outside_spec.specs.Items.{Makes}
 use Rattle.generated_steps.specs.Leads.{Place}
-use Rattle.binary_follows.specs.Playable.{layout_of}
+use Rattle.module_merge.specs.Merge.{layout_of}
 use Rattle.replay_codes.specs.Stores.{counters, with_own}
 use Rattle.replay_codes.specs.Codes.{IsDefined, IsReplayCode, import_definition}
 use Rattle.binary_follows.proofs.Relation.{AreBeside, Runs, imports_in, own_place, watched}

@@ -32,7 +32,7 @@ use Rattle.generated_steps.specs.Laws.{LeadsRunAlong}
 use Rattle.single_steps.specs.Laws.{LeadsEnd, LeadsShow, StepsLead, StepsEnd, StepsShow}
 use Rattle.generated_effects.specs.Counts.{changes_in}
 use Rattle.generated_effects.proofs.Items.{entries_of_both}
-use Rattle.binary_follows.specs.Playable.{layout_of}
+use Rattle.module_merge.specs.Merge.{layout_of}
 use Rattle.binary_follows.specs.Laws.{AreEffectsOfFirst}
 use Rattle.replay_codes.specs.Stores.{counters, with_own}
 use Rattle.binary_follows.proofs.Relation.{own_place, watched}

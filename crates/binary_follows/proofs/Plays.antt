@@ -29,7 +29,7 @@ use Rattle.replay_gen.specs.Fragments.{start_index}
 use Rattle.replay_spec.specs.TapeRun.{after_next, after_step}
 use Rattle.outside_spec.specs.Items.{Makes, Steps}
 use Rattle.generated_steps.specs.Leads.{Place, Leads, IsOutside, Behind, Standing, standing}
-use Rattle.binary_follows.specs.Playable.{layout_of}
+use Rattle.module_merge.specs.Merge.{layout_of}
 use Rattle.replay_codes.specs.Stores.{counters, with_own}
 use Rattle.replay_codes.specs.Codes.{IsReplayCode}
 use Rattle.binary_follows.proofs.Relation.{AreBeside, imports_in, waiting_frame, watched}

@@ -38,7 +38,7 @@ use Rattle.outside_spec.specs.Inside.{inside_after_all}
 use Rattle.generated_steps.specs.Leads.{Place, Leads, IsOutside, Behind, Standing, standing, items_from}
 use Rattle.generated_steps.proofs.One.{begins}
 use Rattle.generated_effects.proofs.Does.{sequence_over}
-use Rattle.binary_follows.specs.Playable.{layout_of}
+use Rattle.module_merge.specs.Merge.{layout_of}
 use Rattle.replay_codes.specs.Stores.{with_own, counters}
 use Rattle.replay_codes.specs.Codes.{IsReplayCode}
 use Rattle.binary_follows.proofs.Relation.{AreBeside, Works, Runs, Answers, AreLeft, own_place, waiting_frame, returning_frame, watched, with_values}

@@ -19,7 +19,7 @@ use Rattle.replay_gen.specs.Dispatch.{sequence}
 use Rattle.replay_gen.specs.Segments.{segments_code}
 use Rattle.replay_gen.specs.Fragments.{start_index}
 use Rattle.generated_steps.specs.Leads.{Place, Watched}
-use Rattle.binary_follows.specs.Playable.{layout_of}
+use Rattle.module_merge.specs.Merge.{layout_of}
 use Rattle.replay_codes.specs.Stores.{counters, with_own}
 
 -- ---- activations of the host

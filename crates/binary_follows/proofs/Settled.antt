@@ -31,7 +31,7 @@ use Rattle.outside_spec.specs.Inside.{inside_after, inside_after_all}
 use Rattle.outside_spec.specs.Steps.{with_entry}
 use Rattle.generated_effects.proofs.Does.{sequence_over}
 use Rattle.observed_steps.proofs.Operands.{topmost_length}
-use Rattle.binary_follows.specs.Playable.{layout_of}
+use Rattle.module_merge.specs.Merge.{layout_of}
 use Rattle.binary_follows.proofs.Relation.{AreBeside, Works, Runs, Answers, waiting_frame, imports_in, returning_frame, with_values}
 use Rattle.binary_follows.proofs.Bounded.{AreWithinCalls}
 use Rattle.binary_follows.proofs.Sides.{original_side, appended_side, below_start}

@@ -11,7 +11,7 @@ use Rattle.history_spec.specs.Projection.{Import, Original, Appended, side, side
 use Rattle.replay_gen.specs.Fragments.{start_index}
 use Rattle.generated_steps.specs.Leads.{IsOutside, InPlace, Behind}
 use Rattle.replay_codes.proofs.Functions.{functions}
-use Rattle.binary_follows.specs.Playable.{layout_of}
+use Rattle.module_merge.specs.Merge.{layout_of}
 
 module _ (m : Module) where
   pub import_side : (func : ℕ) → func < imported_funcs m → side (layout_of m) func ≡ Import

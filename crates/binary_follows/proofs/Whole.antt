@@ -40,7 +40,8 @@ use Rattle.generated_steps.specs.Leads.{Place, items_from}
 use Rattle.type_safety.specs.Laws.{NewStoresAreTyped}
 use Rattle.type_safety.specs.Stores.{IsStore, MayBeMemory, func_count, global_types}
 use Rattle.type_safety.specs.Values.{AreValues}
-use Rattle.binary_follows.specs.Playable.{GrowsAlways, shown_run, IsPlayable, layout_of, replay_of, replay_run}
+use Rattle.module_merge.specs.Merge.{layout_of}
+use Rattle.binary_follows.specs.Playable.{GrowsAlways, shown_run, IsPlayable, replay_of, replay_run}
 use Rattle.binary_follows.specs.Laws.{AreBothOver, AreEffectsOfFirst, ReplaysAreWithinBound, ReplaysMakeEffects, ReplaysBegin, ReplaysShowHistories, ReplaysShowOutcomes, ShowsHistory}
 use Rattle.binary_follows.proofs.Relation.{AreLeft, own_place, watched}
 use Rattle.binary_follows.proofs.Sound.{IsSound}

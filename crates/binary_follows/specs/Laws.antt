@@ -18,7 +18,8 @@ use Rattle.replay_plan.specs.Plans.{plan_of}
 use Rattle.replay_gen.specs.Fragments.{start_index}
 use Rattle.outside_spec.specs.Stretches.{AreEffectsOf, stretches}
 use Rattle.outside_spec.specs.Steps.{AreWithinBound, call_steps}
-use Rattle.binary_follows.specs.Playable.{IsPlayable, GrowsAlways, replay_of, layout_of, replay_run, shown_run}
+use Rattle.module_merge.specs.Merge.{layout_of}
+use Rattle.binary_follows.specs.Playable.{IsPlayable, GrowsAlways, replay_of, replay_run, shown_run}
 
 -- ---- histories and outcomes
 

@@ -15,13 +15,12 @@ use Rattle.history_spec.specs.Configuration.{Activation, InModule}
 use Rattle.history_spec.specs.Instantiation.{instantiate}
 use Rattle.history_spec.specs.Step.{StepResult}
 use Rattle.history_spec.specs.Run.{Run, run_from}
-use Rattle.history_spec.specs.Projection.{Layout}
 use Rattle.history_spec.specs.Replay.{instructions, program_alone}
 use Rattle.replay_spec.specs.TapeRun.{Plays, TapeConfig, tape_run}
 use Rattle.type_safety.specs.Supplies.{IsRunnable, IsSupply}
 use Rattle.replay_plan.specs.Plans.{plan_of}
 use Rattle.replay_gen.specs.Fragments.{fragment_of}
-use Rattle.module_merge.specs.Merge.{replay_module}
+use Rattle.module_merge.specs.Merge.{layout_of, replay_module}
 use Rattle.outside_spec.specs.Items.{Item, run_items, shown_items}
 use Rattle.generated_effects.specs.Bytes.{AreBytes}
 use Rattle.generated_effects.specs.Laws.{AllGrowSizes}
@@ -67,10 +66,6 @@ GrowsAlways m store tape =
 -- the replay module of a tape, for a module with what is supplied
 abbrev pub replay_of : Module → Supply → Tape → Module
 replay_of m supply tape = replay_module m supply (fragment_of m (plan_of (imported_funcs m) tape))
-
--- the layout of a replay module
-abbrev pub layout_of : Module → Layout
-layout_of m = record { imports = imported_funcs m; defined = length m.funcs }
 
 -- its run after so many steps, each instruction a turn
 abbrev pub replay_run : Module → StepResult → ℕ → Run

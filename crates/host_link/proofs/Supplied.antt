@@ -1,5 +1,5 @@
 -- What follows from what a script supplies.
-use Rattle.std.proofs.Common.{◌≡◌, Option, Some, None, Result, Ok, Err, IfOk, IfErr, ap, refl, subst, ◌∙◌}
+use Rattle.std.proofs.Common.{◌≡◌, Option, Some, None, Result, Ok, Err, ap, refl, subst, ◌∙◌}
 use Rattle.wasm_syntax.specs.declared.modules.Module.{Module}
 use Rattle.host_script.specs.declared.scripts.Script.{Script}
 use Rattle.host_script.specs.declared.scripts.Supply.{Supply}
@@ -35,12 +35,3 @@ pub starts_by : (m : Module) (script : Script) (linked : Result Store LinkFault)
     → run_start m script ≡ start_or_fault m script linked
 starts_by m script linked links =
     starts_with m script (supply_of m script) ∙ ap (start_or_fault m script) links
-
--- what holds of any store, and of any fault
-pub at_ok : {T E : Type 0} {P Q : T → Type 0} (r : Result T E) → ((x : T) → P x → Q x) → IfOk r P → IfOk r Q
-at_ok (Ok x) f p = f x p
-at_ok (Err e) f p = tt
-
-pub at_err : {T E : Type 0} {P Q : E → Type 0} (r : Result T E) → ((e : E) → P e → Q e) → IfErr r P → IfErr r Q
-at_err (Ok x) f p = tt
-at_err (Err e) f p = f e p

@@ -5,7 +5,7 @@ mod links;
 mod segments;
 
 pub use host_script::LinkFault;
-pub use links::link;
+pub use links::{link, link_with_supply};
 pub use no_memory::NoMemory;
 
 #[cfg(test)]

@@ -4,6 +4,7 @@ ghost use Rattle.std.specs.Prelude.{◌≡◌, Ok, Err, IfOk, IfErr};
 ghost use Rattle.wasm_syntax.specs.Profile.{IsSupported};
 ghost use Rattle.host_script.specs.declared.scripts.LinkFault.TheVariants.{Memory as NoMemoryLeft, Segment};
 ghost use Rattle.host_script.specs.Fits.{Fits};
+ghost use Rattle.host_script.specs.Supply.{supply_of as supply_meant};
 ghost use Rattle.history_spec.specs.Instantiation as history;
 ghost use Rattle.history_spec.specs.Run.{run_start, start_in_store};
 ghost use Rattle.type_safety.specs.Stores.{IsStore};
@@ -40,10 +41,39 @@ pub fn link(alloc: Global, checked: &Checked, script: &Script) -> Result<Store, 
     ensures not_opened { IfErr result (λ fault. (fault ≡ NoMemoryLeft → ⊥)
         → run_start checked.now script.now ≡ Err fault) }
 {
+    let (_supply, store) = link_with_supply(alloc, checked, script)?;
+    Ok(store)
+}
+
+/// The same store, after what the script supplies for the module's imports.
+///
+/// # Errors
+/// As for `link`.
+pub fn link_with_supply(
+    alloc: Global,
+    checked: &Checked,
+    script: &Script,
+) -> Result<(Supply, Store), LinkFault>
+    requires supported { IsSupported checked.now }
+    requires fits { Fits checked.now script.now }
+    ensures supplied { IfOk result (λ linked. supply_meant checked.now script.now ≡ Ok linked.0) }
+    ensures begins { IfOk result (λ linked. history.instantiate checked.now linked.0 ≡ Ok linked.1) }
+    ensures ok { IfOk result (λ linked. link_result checked.now script.now ≡ Ok linked.1) }
+    ensures err { IfErr result (λ fault. (fault ≡ NoMemoryLeft → ⊥)
+        → link_result checked.now script.now ≡ Err fault) }
+    ensures typed { IfOk result (λ linked. HasBytes checked.now → IsStore checked.now linked.1) }
+    ensures opened { IfOk result (λ linked.
+        run_start checked.now script.now ≡ Ok (start_in_store checked.now script.now linked.1)) }
+    ensures not_opened { IfErr result (λ fault. (fault ≡ NoMemoryLeft → ⊥)
+        → run_start checked.now script.now ≡ Err fault) }
+{
     typed_store();
     let module = checked.module();
     let supply = supply_of(alloc, module, script)?;
-    instantiate(alloc, module, &supply)
+    match instantiate(alloc, module, &supply) {
+        Ok(store) => Ok((supply, store)),
+        Err(fault) => Err(fault),
+    }
 }
 
 /// The store of a module with a supply that matches its imports, or the first segment that does not

@@ -20,6 +20,7 @@ use Rattle.wasm_syntax.specs.Index.{imported_funcs, imported_globals}
 use Rattle.host_script.specs.declared.scripts.Supply.{Supply}
 use Rattle.history_spec.specs.Code.{zero_of}
 use Rattle.history_spec.specs.Instantiation.{constant, global_value, memory_limits, table_limits}
+use Rattle.history_spec.specs.Projection.{Layout}
 use Rattle.replay_gen.specs.declared.fragments.Fragment.{Fragment}
 
 -- the expression of one constant
@@ -58,6 +59,10 @@ constant_data imported segment = record segment { offset = constant_offset impor
 abbrev pub declaration : List ℕ → List ElemSeg
 declaration [] = []
 declaration (func ∷ funcs) = Declared (func ∷ funcs) ∷ []
+
+-- the layout that a replay module tells: how many functions the original imports and defines
+abbrev pub layout_of : Module → Layout
+layout_of m = record { imports = imported_funcs m; defined = length m.funcs }
 
 -- how many functions the original imports and defines
 abbrev pub layout_section : Module → Custom

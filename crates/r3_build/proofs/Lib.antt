@@ -1,5 +1,4 @@
 mod OneTape
 mod OneBuilt
-mod Linked
 mod Sized
 mod Playable

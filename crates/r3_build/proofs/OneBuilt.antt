@@ -1,51 +1,32 @@
 -- There is one replay module of a tape for a module and a script, or none for one reason.
-use Rattle.std.proofs.Common.{◌≡◌, ℕ, List, Ok, Result, sym, ◌∙◌, ap}
+use Rattle.std.proofs.Common.{◌≡◌, ℕ, List, sym, ◌∙◌, ap}
 use Rattle.wasm_syntax.specs.declared.modules.Module.{Module}
 use Rattle.wasm_syntax.specs.Encoding.Shortest.{encoding_of}
 use Rattle.host_script.specs.declared.scripts.Script.{Script}
-use Rattle.host_script.specs.declared.scripts.Supply.{Supply}
-use Rattle.host_script.specs.declared.scripts.LinkFault.{LinkFault}
-use Rattle.host_script.specs.Supply.{supply_of}
-use Rattle.history_spec.specs.Store.{Store}
-use Rattle.history_spec.specs.Run.{run_start, start_in_store, start_or_fault, start_with_supply}
 use Rattle.trace_format.specs.Laws.{TapesAreToldApart}
 use Rattle.binary_follows.specs.Playable.{replay_of}
-use Rattle.accepted_runs.proofs.OneResult.{unlinked-one, unlinked-started}
-use Rattle.accepted_runs.specs.Unlinked.{IsUnlinkedFor}
+use Rattle.accepted_runs.proofs.OneResult.{linked-unlinked, one-supply, unlinked-one}
 use Rattle.r3_faults.specs.declared.faults.Fault.{Fault}
-use Rattle.r3_build.specs.Refusals.{IsLinked, IsUnbuilt, OfLink, OfTape}
+use Rattle.r3_build.specs.Refusals.{IsUnbuilt, OfLink, OfTape}
 use Rattle.r3_build.specs.Printed.{IsBuilt}
 use Rattle.r3_build.proofs.OneTape.{taken_one, taken_untaken, untaken_one}
 
-same_supply : (r : Result Supply LinkFault) (a b : Supply) → r ≡ Ok a → r ≡ Ok b → a ≡ b
-same_supply r a b e f = cc (sym e ∙ f)
-
 module _ (m : Module) (script : Script) where
-  starts : (supply : Supply) (store : Store) → IsLinked m script supply store
-      → run_start m script ≡ Ok (start_in_store m script store)
-  starts supply store is =
-      ap (start_with_supply m script) is.supplied ∙ ap (start_or_fault m script) is.begins
-
-  not_unlinked : (supply : Supply) (store : Store) (fault : Fault) → IsLinked m script supply store
-      → IsUnlinkedFor m script fault → ⊥
-  not_unlinked supply store fault is u =
-      unlinked-started m script fault (start_in_store m script store) u (starts supply store is)
-
   module _ (tapes : TapesAreToldApart) (digest bytes : List ℕ) where
     pub unbuilt_one : (f g : Fault) → IsUnbuilt m script digest bytes f → IsUnbuilt m script digest bytes g → f ≡ g
     unbuilt_one f g (OfLink u) (OfLink v) = unlinked-one m script f g u v
-    unbuilt_one f g (OfLink u) (OfTape links v) = absurd (not_unlinked links.supply links.store f links.linked u)
-    unbuilt_one f g (OfTape links u) (OfLink v) = absurd (not_unlinked links.supply links.store g links.linked v)
+    unbuilt_one f g (OfLink u) (OfTape links v) = absurd (linked-unlinked m script links.supply links.store f links.linked u)
+    unbuilt_one f g (OfTape links u) (OfLink v) = absurd (linked-unlinked m script links.supply links.store g links.linked v)
     unbuilt_one f g (OfTape links u) (OfTape other v) = untaken_one tapes m digest bytes f g u v
 
     pub built_unbuilt : (text : List ℕ) (fault : Fault) → IsBuilt m script digest bytes text
         → IsUnbuilt m script digest bytes fault → ⊥
-    built_unbuilt text fault is (OfLink u) = not_unlinked is.supply is.store fault is.linked u
+    built_unbuilt text fault is (OfLink u) = linked-unlinked m script is.supply is.store fault is.linked u
     built_unbuilt text fault is (OfTape links u) = taken_untaken tapes m digest bytes is.tape fault is.taken u
 
     pub built_one : (a b : List ℕ) → IsBuilt m script digest bytes a → IsBuilt m script digest bytes b → a ≡ b
     built_one a b x y =
-        let supply = same_supply (supply_of m script) x.supply y.supply x.linked.supplied y.linked.supplied in
+        let supply = one-supply m script x.supply y.supply x.store y.store x.linked y.linked in
         let tape = taken_one tapes m digest bytes x.tape y.tape x.taken y.taken in
         x.replay.shortest ∙ ap (λ s. encoding_of (replay_of m s x.tape)) supply
         ∙ ap (λ t. encoding_of (replay_of m y.supply t)) tape ∙ sym y.replay.shortest

@@ -16,7 +16,8 @@ use Rattle.binary_follows.specs.Playable.{replay_of}
 use Rattle.replay_laws.specs.Follows.{FollowsTape}
 use Rattle.replay_laws.specs.Stands.{StandsForOriginal}
 use Rattle.r3_inputs.specs.Inputs.{AreInputs}
-use Rattle.r3_build.specs.Refusals.{IsLinked, IsTakenAs}
+use Rattle.accepted_runs.specs.Linked.{IsLinked}
+use Rattle.r3_build.specs.Refusals.{IsTakenAs}
 
 -- The bytes encode the replay module of the tape, in the shortest way. It is valid, keeps the original's functions,
 -- imports nothing, and its run follows that of the tape. They are at most `most_bytes`.

@@ -1,17 +1,16 @@
 -- Why no replay module is built of a tape, in order.
-use Rattle.std.specs.Prelude.{◌≡◌, ◌≢◌, ℕ, ◌<◌, ◌≤◌, ◌-◌, ◌^◌, List, Some, Ok, min, true}
+use Rattle.std.specs.Prelude.{◌≡◌, ◌≢◌, ℕ, ◌<◌, ◌≤◌, ◌-◌, ◌^◌, List, Some, min, true}
 use Rattle.sha2.specs.Sha256.{sha256}
 use Rattle.wasm_syntax.specs.declared.modules.Module.{Module}
 use Rattle.host_script.specs.declared.scripts.Script.{Script}
 use Rattle.host_script.specs.declared.scripts.Supply.{Supply}
-use Rattle.host_script.specs.Supply.{supply_of}
-use Rattle.history_spec.specs.Instantiation.{instantiate}
 use Rattle.history_spec.specs.Store.{Store}
 use Rattle.trace_model.specs.declared.tapes.Tape.{Tape}
 use Rattle.trace_model.specs.Fitting.{IsFitting, first_unfit}
 use Rattle.trace_model.specs.Weight.{tape_weight}
 use Rattle.trace_format.specs.Faults.{IsTapeOf}
 use Rattle.binary_follows.specs.Playable.{most_weight}
+use Rattle.accepted_runs.specs.Linked.{IsLinked}
 use Rattle.accepted_runs.specs.Unlinked.{IsUnlinkedFor}
 use Rattle.r3_faults.specs.declared.faults.Fault.{Fault}
 use Rattle.r3_faults.specs.declared.faults.Fault.TheVariants.{OtherModule, TapeLimit, Unfit}
@@ -19,11 +18,6 @@ use Rattle.r3_inputs.specs.Inputs.{AreInputs, AreRefused}
 use Rattle.r3_show.specs.Shown.{IsUnshownAs}
 
 -- ---- links
-
--- the script supplies so for the module's imports, and the module begins with this store
-pub record IsLinked (m : Module) (script : Script) (supply : Supply) (store : Store) : Type 0 where
-  pub supplied : supply_of m script ≡ Ok supply
-  pub begins : instantiate m supply ≡ Ok store
 
 -- it links
 pub record Links (m : Module) (script : Script) : Type 0 where

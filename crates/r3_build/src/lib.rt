@@ -2,11 +2,9 @@
 #![tactic(auto)]
 
 mod builds;
-mod links;
 mod replays;
 mod tapes;
 
 pub use builds::build;
-pub use links::linked_supply;
 pub use r3_faults::Fault;
 pub use replays::replay_bytes;

@@ -18,8 +18,8 @@ ghost use Rattle.r3_faults.specs.declared.faults.Fault.TheVariants.{Memory};
 ghost use Rattle.r3_build.specs.Printed.{IsBuilt, IsReplayOf};
 ghost use Rattle.r3_build.specs.Refusals.{IsUnbuilt};
 
-use crate::links::linked_supply;
 use crate::tapes::tape_for;
+use accepted_runs::supply_and_store;
 use host_script::{Script, Supply};
 use r3_faults::Fault;
 use replay_laws::{build_binary, replay_modules_of_tapes_stand};
@@ -77,7 +77,7 @@ fn built_replay(
         IsBuilt checked script.now (sha256 bytes.now) tape.now printed.items) }
 {
     typed_store();
-    let supply = linked_supply(alloc, &checked, script)?;
+    let (supply, _) = supply_and_store(alloc, &checked, script)?;
     let tape = tape_for(alloc, digest_of(bytes), checked.module(), tape)?;
     replay_bytes(alloc, bytes, checked, &supply, tape)
 }

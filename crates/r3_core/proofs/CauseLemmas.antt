@@ -92,7 +92,6 @@ module _ (reading : Reading) (files : List (List ℕ × ℕ)) (P : Fault → Typ
   load-cases faults.NoImports c = absurd c
   load-cases faults.NoEntry c = absurd c
   load-cases (faults.TapeLimit weight) c = absurd c
-  load-cases faults.NotBuilt c = absurd c
   load-cases faults.HookedLimit c = absurd c
 
 -- the cause of one file's fault, among files before it that are not too long

@@ -38,6 +38,9 @@ use Rattle.trace_model.specs.Weight.{tape_weight}
 use Rattle.r3_reduce.specs.Reduced.{IsReduceRefusal}
 use Rattle.r3_build.specs.Refusals as tapes
 use Rattle.r3_build.specs.Refusals.{IsBuildRefusal, IsUntaken}
+use Rattle.load_maker.specs.Loads.{load_script}
+use Rattle.load_maker.specs.declared.load_module.TheConstants.{LOAD_MODULE}
+use Rattle.r3_load.specs.Summaries.{load_turns}
 use Rattle.r3_core.specs.declared.words.Command.{Command}
 use Rattle.r3_core.specs.declared.words.Command.TheVariants.{Make, Instrument, Record, Reduce, Build, History, Replay, Show, Load}
 use Rattle.r3_core.specs.Words.{form}
@@ -100,10 +103,10 @@ link-other link.Memory differs = absurd (differs refl)
 unmade-status : (m : Module) (played : Script) (turns : ℕ) (fault : Fault) → IsUnmade m played turns fault
     → IsOther (status_of fault)
 unmade-status m played turns fault (refusals.OfLink u) = named-other fault (unlinked.link_fault u.found) u.named (link-other u.found u.differs)
-unmade-status m played turns fault (refusals.OfForm u) = named-other fault faults.NotBuilt u.named refl
-unmade-status m played turns fault (refusals.OfRun built (runs.OfScript u)) = named-other fault (faults.Script u.turn u.kind) u.named refl
-unmade-status m played turns fault (refusals.OfRun built (runs.OfTurns u)) = named-other fault (faults.Spent turns) u.named refl
-unmade-status m played turns fault (refusals.OfLength built u) = named-other fault faults.NotBuilt u.named refl
+unmade-status m played turns fault (refusals.OfRun (runs.OfScript u)) = named-other fault (faults.Script u.turn u.kind) u.named refl
+unmade-status m played turns fault (refusals.OfRun (runs.OfTurns u)) = named-other fault (faults.Spent turns) u.named refl
+unmade-status m played turns fault (refusals.OfWeight u) =
+    named-other fault (faults.TapeLimit (min (tape_weight u.tape) (2 ^ 64 - 1))) u.named refl
 
 make-status : (module_bytes script_bytes : List ℕ) (turns : ℕ) (fault : Fault)
     → IsMakeRefusal module_bytes script_bytes turns fault → IsOther (status_of fault)
@@ -155,7 +158,7 @@ unlogged-status : (m : Module) (script : List ℕ) (turns : ℕ) (fault : Fault)
 unlogged-status m script turns fault (logs.OfForm none named) = named-other fault faults.NotHooked named refl
 unlogged-status m script turns fault (logs.OfScript form has_form refused) = named-other fault (script_fault refused.found) refused.named (script-other refused.found refused.differs)
 unlogged-status m script turns fault (logs.OfLog form has_form played is_script (logs.OfLink u)) = named-other fault (unlinked.link_fault u.found) u.named (link-other u.found u.differs)
-unlogged-status m script turns fault (logs.OfLog form has_form played is_script (logs.OfRun store links u)) = named-other fault (record_fault turns u.found) u.named (record-other turns u.found u.differs)
+unlogged-status m script turns fault (logs.OfLog form has_form played is_script (logs.OfRun supply store links u)) = named-other fault (record_fault turns u.found) u.named (record-other turns u.found u.differs)
 
 record-status : (h s : List ℕ) (turns : ℕ) (fault : Fault) → IsLogRefusal h s turns fault → IsOther (status_of fault)
 record-status h s turns fault (logs.OfModule refused) = module-other Instrumented h fault refused
@@ -219,4 +222,6 @@ refusal-status Show [] number fault c = absurd c
 refusal-status Show (trace ∷ []) None fault c = show-status trace fault c
 refusal-status Show (trace ∷ []) (Some number) fault c = absurd c
 refusal-status Show (trace ∷ t ∷ more) number fault c = absurd c
-refusal-status Load loaded number fault c = absurd c
+refusal-status Load [] None fault c = absurd c
+refusal-status Load [] (Some number) fault c = make-status LOAD_MODULE (load_script number) load_turns fault c
+refusal-status Load (m ∷ more) number fault c = absurd c

@@ -13,8 +13,8 @@ use Rattle.r3_faults.specs.declared.faults.Fault.{Fault}
 use Rattle.r3_faults.specs.declared.faults.Fault.TheVariants as faults
 use Rattle.r3_core.specs.declared.words.Command.{Command}
 use Rattle.r3_core.specs.declared.words.Command.TheVariants.{Make, Instrument, Record, Reduce, Build, History, Replay, Show, Load}
-use Rattle.r3_core.specs.Words.{form, is_built, IsAfterFiles, Says, IsListed, IsBuilt, IsUnbuilt, files_of}
-use Rattle.r3_core.specs.Causes.{Reading, first_longer, IsLoadCause, AreBytesOf, IsRefusal, IsDoable, IsRefused, IsCause, Unlisted, Unbuilt, Unloaded, Refused, Unwritten, OutOfMemory, IsPrintCause, UnbuiltCommand, UnloadedFile, RefusedBytes, NoMemoryLeft}
+use Rattle.r3_core.specs.Words.{form, IsAfterFiles, Says, IsListed, files_of}
+use Rattle.r3_core.specs.Causes.{Reading, first_longer, IsLoadCause, AreBytesOf, IsRefusal, IsDoable, IsRefused, IsCause, Unlisted, Unloaded, Refused, Unwritten, OutOfMemory, IsPrintCause, UnloadedFile, RefusedBytes, NoMemoryLeft}
 use Rattle.r3_core.proofs.WordLemmas.{files_of-Says, Says-same}
 use Rattle.r3_core.proofs.CauseLemmas.{load-cases}
 use Rattle.r3_core.proofs.RefusalLemmas.{refusal-status}
@@ -83,9 +83,6 @@ module _ (words : List (List ℕ)) (reading : Reading) (before now : ℕ) (fault
   listed-when_refused : IsRefused words reading.contents fault → IsListed words
   listed-when_refused r = (r.command, r.call.names, r.number, r.call.says)
 
-  listed-when_unbuilt : IsUnbuilt words → IsListed words
-  listed-when_unbuilt u = (u.0, u.1, u.2, u.3)
-
   not-loaded : {P : Type 0} → IsLoadCause reading (files_of words) fault → (status_of fault ≡ 3 → P)
       → (status_of fault ≡ 4 → P) → P
   not-loaded cause read long = ⊎_elim read long (load-statuses reading (files_of words) fault cause)
@@ -93,7 +90,6 @@ module _ (words : List (List ℕ)) (reading : Reading) (before now : ℕ) (fault
   pub status-usage : IsCause words reading before now fault → status_of fault ≡ 2
       → (fault ≡ faults.Usage) × (¬ (IsListed words))
   status-usage (Unlisted is unlisted) e = (is, unlisted)
-  status-usage (Unbuilt is unbuilt) e = absurd (omega (arith, e, ap status_of is))
   status-usage (Unloaded listed cause) e =
       not-loaded cause (λ three. absurd (omega (arith, e, three))) (λ four. absurd (omega (arith, e, four)))
   status-usage (Refused r) e = absurd ((refusal-status r.command r.loaded r.number fault r.refusal).0 e)
@@ -102,7 +98,6 @@ module _ (words : List (List ℕ)) (reading : Reading) (before now : ℕ) (fault
 
   pub listed-unless_usage : IsCause words reading before now fault → (status_of fault ≡ 2) ⊎ IsListed words
   listed-unless_usage (Unlisted is unlisted) = inl (ap status_of is)
-  listed-unless_usage (Unbuilt is unbuilt) = inr (listed-when_unbuilt unbuilt)
   listed-unless_usage (Unloaded listed cause) = inr listed
   listed-unless_usage (Refused r) = inr (listed-when_refused r)
   listed-unless_usage (Unwritten is listed rose) = inr listed
@@ -111,7 +106,6 @@ module _ (words : List (List ℕ)) (reading : Reading) (before now : ℕ) (fault
   pub status-read : IsCause words reading before now fault → status_of fault ≡ 3
       → Rose reading.faults_before reading.faults_now
   status-read (Unlisted is unlisted) e = absurd (omega (arith, e, ap status_of is))
-  status-read (Unbuilt is unbuilt) e = absurd (omega (arith, e, ap status_of is))
   status-read (Unloaded listed cause) e = load-status_read reading (files_of words) fault cause e
   status-read (Refused r) e = absurd ((refusal-status r.command r.loaded r.number fault r.refusal).1 e)
   status-read (Unwritten is listed rose) e = absurd (omega (arith, e, ap status_of is))
@@ -120,7 +114,6 @@ module _ (words : List (List ℕ)) (reading : Reading) (before now : ℕ) (fault
   pub status-too_long : IsCause words reading before now fault → status_of fault ≡ 4
       → HasLongFile reading (files_of words)
   status-too_long (Unlisted is unlisted) e = absurd (omega (arith, e, ap status_of is))
-  status-too_long (Unbuilt is unbuilt) e = absurd (omega (arith, e, ap status_of is))
   status-too_long (Unloaded listed cause) e = load-status_too_long reading (files_of words) fault cause e
   status-too_long (Refused r) e = absurd ((refusal-status r.command r.loaded r.number fault r.refusal).2 e)
   status-too_long (Unwritten is listed rose) e = absurd (omega (arith, e, ap status_of is))
@@ -129,7 +122,6 @@ module _ (words : List (List ℕ)) (reading : Reading) (before now : ℕ) (fault
   pub status-write : IsCause words reading before now fault → status_of fault ≡ 13
       → (fault ≡ faults.Write) × Rose before now
   status-write (Unlisted is unlisted) e = absurd (omega (arith, e, ap status_of is))
-  status-write (Unbuilt is unbuilt) e = absurd (omega (arith, e, ap status_of is))
   status-write (Unloaded listed cause) e =
       not-loaded cause (λ three. absurd (omega (arith, e, three))) (λ four. absurd (omega (arith, e, four)))
   status-write (Refused r) e = absurd ((refusal-status r.command r.loaded r.number fault r.refusal).3 e)
@@ -140,8 +132,6 @@ module _ (words : List (List ℕ)) (reading : Reading) (before now : ℕ) (fault
 pub IsCause-printing : (words : List (List ℕ)) (command : Command) (names : List (List ℕ)) (given : Option ℕ)
     → Says words command names given → (reading : Reading) (before now : ℕ) (fault : Fault)
     → IsPrintCause reading command names given fault → IsCause words reading before now fault
-IsCause-printing words command names given says reading before now fault (UnbuiltCommand is unbuilt) =
-    Unbuilt is (command, names, given, says, unbuilt)
 IsCause-printing words command names given says reading before now fault (UnloadedFile cause) =
     Unloaded (command, names, given, says) (subst (λ files. IsLoadCause reading files fault) (sym (files_of-Says words command names given says)) cause)
 IsCause-printing words command names given says reading before now fault (RefusedBytes loaded bytes refusal) =
@@ -274,22 +264,28 @@ module _ (words : List (List ℕ)) (command : Command) (names : List (List ℕ))
       (subst (λ ns. IsDoable command' (map (file_bytes told) ns) number) same-names
       (subst (λ k. IsDoable command' (map (file_bytes told) names') k) same-number done))
 
--- a file is too long by one reading of the words: the command is built, and the file is too long by another
+-- a file is too long by one reading of the words, and by another
 pub longer-said : (words : List (List ℕ)) (command : Command) (names : List (List ℕ)) (number : Option ℕ)
-    → Says words command names number → IsBuilt words → (told : FileMap) → IsSome (first_longer told (files_of words))
-    → (is_built command ≡ true) × IsSome (first_longer told (zip names (form command).limits))
-longer-said words command names number says built told longer = (
-  subst (λ command. is_built command ≡ true)
-      (Says-same words command names number says built.0 built.1 built.2 built.3) built.4,
-  subst (λ files. IsSome (first_longer told files)) (files_of-Says words command names number says) longer,
-)
+    → Says words command names number → (told : FileMap) → IsSome (first_longer told (files_of words))
+    → IsSome (first_longer told (zip names (form command).limits))
+longer-said words command names number says told longer =
+    subst (λ files. IsSome (first_longer told files)) (files_of-Says words command names number says) longer
+
+-- words that name no file
+zip-none : (names : List (List ℕ)) (limits : List ℕ) → length names ≡ length limits → zip names limits ≡ [] → names ≡ []
+zip-none [] limits same none = refl
+zip-none (n ∷ ns) [] same none = absurd (omega (arith, same))
+zip-none (n ∷ ns) (l ∷ ls) same none = cc none
+
+pub names-none : (words : List (List ℕ)) (command : Command) (names : List (List ℕ)) (number : Option ℕ)
+    → Says words command names number → files_of words ≡ [] → names ≡ []
+names-none words command names number says none =
+    zip-none names (form command).limits says.all_files
+    (sym (files_of-Says words command names number says) ∙ none)
 
 -- why a command over files prints nothing is neither that words are not listed nor that a write failed
 pub print-other : (reading : Reading) (command : Command) (names : List (List ℕ)) (number : Option ℕ) (fault : Fault)
     → IsPrintCause reading command names number fault → (fault ≡ faults.Usage → ⊥) × (fault ≡ faults.Write → ⊥)
-print-other reading command names number fault (UnbuiltCommand is unbuilt) =
-    let status = ap status_of is in
-    (λ e. absurd (omega (arith, status, ap status_of e)), λ e. absurd (omega (arith, status, ap status_of e)))
 print-other reading command names number fault (UnloadedFile cause) =
     let either = load-statuses reading (zip names (form command).limits) fault cause in (
       λ e. elim either [ inl three ↦ absurd (omega (arith, three, ap status_of e)) | inr four ↦ absurd (omega (arith, four, ap status_of e)) ],
@@ -340,5 +336,4 @@ status-not_done fault e = true≢false (sym (is_fault fault) ∙ ap (λ status. 
     is_fault faults.NoImports = refl
     is_fault faults.NoEntry = refl
     is_fault (faults.TapeLimit weight) = refl
-    is_fault faults.NotBuilt = refl
     is_fault faults.HookedLimit = refl

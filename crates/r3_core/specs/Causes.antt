@@ -1,10 +1,10 @@
 -- Why a call ends with a fault, and what it prints where it ends without one.
-use Rattle.std.specs.Prelude.{◌≡◌, ℕ, ◌+◌, ◌≤◌, nat_lt, List, [], ◌∷◌, length, map, find, zip, Contains, Option, Some, None, false, Vec}
+use Rattle.std.specs.Prelude.{◌≡◌, ℕ, ◌+◌, ◌≤◌, nat_lt, List, [], ◌∷◌, length, map, find, zip, Contains, Option, Some, None, Vec}
 use Rattle.std.specs.Option.{ForSome}
 use Rattle.r3_outside.specs.Count.{Rose, Took}
 use Rattle.r3_outside.specs.Contents.{FileMap, file_bytes}
 use Rattle.r3_faults.specs.declared.faults.Fault.{Fault}
-use Rattle.r3_faults.specs.declared.faults.Fault.TheVariants.{Usage, Read, TooLong, NotBuilt, Write, Memory}
+use Rattle.r3_faults.specs.declared.faults.Fault.TheVariants.{Usage, Read, TooLong, Write, Memory}
 use Rattle.r3_make.specs.Refusals.{AreReplayable, IsMakeRefusal}
 use Rattle.r3_make.specs.Printed.{IsPrinted}
 use Rattle.r3_instrument.specs.Hooked.{IsHookedOf, IsHookedRefusal}
@@ -15,9 +15,12 @@ use Rattle.r3_build.specs.Printed as built
 use Rattle.r3_history.specs.Histories.{IsHistory, IsHistoryRefusal}
 use Rattle.r3_replay.specs.ReplayTexts.{IsReplayText, IsReplayRefusal}
 use Rattle.r3_show.specs.Shown.{IsShown, IsShowRefusal}
+use Rattle.load_maker.specs.Loads.{load_script}
+use Rattle.load_maker.specs.declared.load_module.TheConstants.{LOAD_MODULE}
+use Rattle.r3_load.specs.Summaries.{IsSummary, load_turns}
 use Rattle.r3_core.specs.declared.words.Command.{Command}
-use Rattle.r3_core.specs.declared.words.Command.TheVariants.{Make, Instrument, Record, Reduce, Build, History, Replay, Show}
-use Rattle.r3_core.specs.Words.{form, is_built, IsListed, IsUnbuilt, Says, files_of}
+use Rattle.r3_core.specs.declared.words.Command.TheVariants.{Make, Instrument, Record, Reduce, Build, History, Replay, Show, Load}
+use Rattle.r3_core.specs.Words.{form, IsListed, Says, files_of}
 
 -- ---- the files of a call
 
@@ -81,6 +84,7 @@ IsRefusal History (module_bytes ∷ script_bytes ∷ []) (Some turns) fault =
     IsHistoryRefusal module_bytes script_bytes turns fault
 IsRefusal Replay (binary ∷ []) (Some turns) fault = IsReplayRefusal binary turns fault
 IsRefusal Show (trace ∷ []) None fault = IsShowRefusal trace fault
+IsRefusal Load [] (Some number) fault = IsMakeRefusal LOAD_MODULE (load_script number) load_turns fault
 IsRefusal command loaded number fault = ⊥
 
 -- a command does its job for them
@@ -96,6 +100,7 @@ IsDoable History (module_bytes ∷ script_bytes ∷ []) (Some turns) =
     (text : List ℕ) × IsHistory module_bytes script_bytes turns text
 IsDoable Replay (binary ∷ []) (Some turns) = (text : List ℕ) × IsReplayText binary turns text
 IsDoable Show (trace ∷ []) None = (text : List ℕ) × IsShown trace text
+IsDoable Load [] (Some number) = AreReplayable LOAD_MODULE (load_script number) load_turns
 IsDoable command loaded number = ⊥
 
 -- a command prints these bytes for them
@@ -112,6 +117,7 @@ Prints History (module_bytes ∷ script_bytes ∷ []) (Some turns) printed =
     IsHistory module_bytes script_bytes turns printed
 Prints Replay (binary ∷ []) (Some turns) printed = IsReplayText binary turns printed
 Prints Show (trace ∷ []) None printed = IsShown trace printed
+Prints Load [] (Some number) printed = IsSummary number printed
 Prints command loaded number printed = ⊥
 
 -- ---- calls
@@ -144,8 +150,6 @@ pub data IsCause (words : List (List ℕ)) (reading : Reading) (writes_before wr
     : Type 0 where
   Unlisted : (is_usage : fault ≡ Usage) (unlisted : ¬ (IsListed words))
       → IsCause words reading writes_before writes_now fault
-  Unbuilt : (is_not_built : fault ≡ NotBuilt) (unbuilt : IsUnbuilt words)
-      → IsCause words reading writes_before writes_now fault
   Unloaded : (listed : IsListed words) (cause : IsLoadCause reading (files_of words) fault)
       → IsCause words reading writes_before writes_now fault
   Refused : (refused : IsRefused words reading.contents fault) → IsCause words reading writes_before writes_now fault
@@ -157,8 +161,6 @@ pub data IsCause (words : List (List ℕ)) (reading : Reading) (writes_before wr
 -- why a command over files prints nothing
 pub data IsPrintCause (reading : Reading) (command : Command) (names : List (List ℕ)) (number : Option ℕ)
     (fault : Fault) : Type 0 where
-  UnbuiltCommand : (is_not_built : fault ≡ NotBuilt) (unbuilt : is_built command ≡ false)
-      → IsPrintCause reading command names number fault
   UnloadedFile : (cause : IsLoadCause reading (zip names (form command).limits) fault)
       → IsPrintCause reading command names number fault
   RefusedBytes : (loaded : List (List ℕ)) (bytes : AreBytesOf reading.contents names loaded)

@@ -1,5 +1,5 @@
 -- The words of a call: a command's name, its files, each with a limit in bytes, and after them a number.
-use Rattle.std.specs.Prelude.{◌≡◌, ℕ, ◌≤◌, Bool, true, false, List, [], ◌∷◌, ◌++◌, length, map, find, Option, Some, None, codes, decimal, String, string_bytes}
+use Rattle.std.specs.Prelude.{◌≡◌, ℕ, ◌≤◌, List, [], ◌∷◌, ◌++◌, length, map, find, Option, Some, None, codes, decimal, String, string_bytes}
 use Rattle.std.specs.List.{zip}
 use Rattle.std.specs.Option.{option_map_or}
 use Rattle.std.specs.Str.{bytes_eq}
@@ -59,29 +59,6 @@ pub record Says (words : List (List ℕ)) (command : Command) (files : List (Lis
 abbrev pub IsListed : List (List ℕ) → Type 0
 IsListed words =
     (command : Command) × (files : List (List ℕ)) × (number : Option ℕ) × Says words command files number
-
--- whether this program does the command
-abbrev pub is_built : Command → Bool
-is_built Make = true
-is_built Instrument = true
-is_built Record = true
-is_built Reduce = true
-is_built Build = true
-is_built History = true
-is_built Replay = true
-is_built Show = true
-is_built command = false
-
--- listed words of a command that this program does, and of one that it does not do yet
-abbrev pub IsBuilt : List (List ℕ) → Type 0
-IsBuilt words =
-    (command : Command) × (files : List (List ℕ)) × (number : Option ℕ) × Says words command files number
-    × (is_built command ≡ true)
-
-abbrev pub IsUnbuilt : List (List ℕ) → Type 0
-IsUnbuilt words =
-    (command : Command) × (files : List (List ℕ)) × (number : Option ℕ) × Says words command files number
-    × (is_built command ≡ false)
 
 -- the files that the words name, in order, each with its limit
 abbrev pub files_of : List (List ℕ) → List (List ℕ × ℕ)

@@ -8,8 +8,8 @@ ghost use Rattle.r3_outside.specs.Count.{Rose, Took};
 ghost use Rattle.r3_outside.specs.Growth.{Grew, GrewByPrefix};
 ghost use Rattle.r3_faults.specs.Lines.{status_of, line_of, IsTold};
 ghost use Rattle.r3_faults.specs.declared.faults.Fault.{Fault};
-ghost use Rattle.r3_faults.specs.declared.faults.Fault.TheVariants.{NotBuilt, Memory, Write as WriteFault};
-ghost use Rattle.r3_core.specs.Words.{form, texts, is_built, files_of, IsAfterFiles, IsListed, IsBuilt, IsUnbuilt, Says};
+ghost use Rattle.r3_faults.specs.declared.faults.Fault.TheVariants.{Memory, Write as WriteFault};
+ghost use Rattle.r3_core.specs.Words.{form, texts, files_of, IsAfterFiles, IsListed, Says};
 ghost use Rattle.r3_core.specs.Causes.{reading_of, first_longer, AreBytesOf, Prints, IsRefusal, IsDoable, IsPrintedFor, IsPrintCause, IsCause, AreWithin, all_bytes};
 
 use loads::load_files;
@@ -26,6 +26,7 @@ pub use r3_build::build;
 pub use r3_faults::Fault;
 pub use r3_history::history;
 pub use r3_instrument::hooked;
+pub use r3_load::load_summary;
 pub use r3_make::make;
 pub use r3_record::log_run;
 pub use r3_reduce::reduce_log;
@@ -45,11 +46,10 @@ pub fn r3<F: Files, O: Sink, E: Sink>(
     out: &mut O,
     err: &mut E,
 ) -> u8
-    // The words are no listed ones, or their command is not built: no file is read.
+    // The words are no listed ones: no file is read, nor is one where the words name none.
     ensures usage { (result ≡ 2) ↔ (¬ (IsListed (texts words.now))) }
     ensures listed { result ≢ 2 → IsListed (texts words.now) }
-    ensures not_built { IsUnbuilt (texts words.now) → result ≡ 19 }
-    ensures unread { (result ≡ 2) ⊎ IsUnbuilt (texts words.now) → files.new ≡ files.old }
+    ensures unread { (result ≡ 2) ⊎ (files_of (texts words.now) ≡ []) → files.new ≡ files.old }
 
     // A file was not loaded: the first one, in the order of the words.
     ensures contents_unchanged { F.contents files.new ≡ F.contents files.old }
@@ -58,7 +58,7 @@ pub fn r3<F: Files, O: Sink, E: Sink>(
         × Took (F.taken files.old) (F.taken files.new) (file.1 + 1)
         × ForSome (F.contents files.old)
         (λ told. first_longer told (files_of (texts words.now)) ≡ Some file) }
-    ensures longer { IsBuilt (texts words.now) → ForSome (F.contents files.old)
+    ensures longer { IsListed (texts words.now) → ForSome (F.contents files.old)
         (λ told. IsSome (first_longer told (files_of (texts words.now)))
         → Contains (3 ∷ 4 ∷ 14 ∷ []) result) }
 
@@ -115,8 +115,8 @@ fn run<F: Files, O: Sink>(
     ensures contents_unchanged { F.contents files.new ≡ F.contents files.old }
     ensures listed { OnOk result (IsListed (texts words.now)) }
     ensures unlisted { result ≡ Err Fault.Usage → files.new ≡ files.old }
-    ensures unbuilt { IsUnbuilt (texts words.now) → (result ≡ Err Fault.NotBuilt) × (files.new ≡ files.old) }
-    ensures longer { IsBuilt (texts words.now) → ForSome (F.contents files.old)
+    ensures unread { files_of (texts words.now) ≡ [] → files.new ≡ files.old }
+    ensures longer { IsListed (texts words.now) → ForSome (F.contents files.old)
         (λ told. IsSome (first_longer told (files_of (texts words.now)))
         → IsErrAnd result (λ fault. Contains (3 ∷ 4 ∷ 14 ∷ []) (status_of fault))) }
     ensures refused { (command : Command) (names : List (List ℕ)) (number : Option ℕ) (fault : Fault)
@@ -152,9 +152,8 @@ fn output_of_call<F: Files>(alloc: Global, call: &Call<'_>, files: &mut F) -> Re
     requires { (words : List (List ℕ)) × Says words call.now.command (texts call.now.names.now) call.now.number }
 
     ensures contents_unchanged { F.contents files.new ≡ F.contents files.old }
-    ensures unbuilt { is_built call.now.command ≡ false →
-        (result ≡ Err NotBuilt) × (files.new ≡ files.old) }
-    ensures longer { is_built call.now.command ≡ true → ForSome (F.contents files.old)
+    ensures unread { texts call.now.names.now ≡ [] → files.new ≡ files.old }
+    ensures longer { ForSome (F.contents files.old)
         (λ told. IsSome (first_longer told (zip (texts call.now.names.now) (form call.now.command).limits))
         → IsErrAnd result (λ fault. Contains (3 ∷ 4 ∷ 14 ∷ []) (status_of fault))) }
     ensures refused { (fault : Fault) → ForSome (F.contents files.old)
@@ -173,21 +172,17 @@ fn output_of_call<F: Files>(alloc: Global, call: &Call<'_>, files: &mut F) -> Re
         (F.faults files.old) (F.faults files.new) (F.taken files.old) (F.taken files.new))
         call.now.command (texts call.now.names.now) call.now.number fault) }
 {
-    if !call.command.is_built() {
-        return Err(Fault::NotBuilt);
-    }
     let loaded = load_files(alloc, files, call.names, call.command.limits())?;
     output_of_command(alloc, call.command, &loaded, call.number)
 }
 
-/// The bytes that a command that is built prints for the bytes of its files.
+/// The bytes that a command prints for the bytes of its files.
 fn output_of_command(
     alloc: Global,
     command: Command,
     loaded: &[Vec<u8>],
     number: Option<u64>,
 ) -> Result<Vec<u8>, Fault>
-    requires built { is_built command ≡ true }
     requires files { length loaded.now ≡ length (form command).limits }
     requires within { AreWithin (all_bytes loaded.now) (form command).limits }
     requires after { (after : List (List ℕ)) × IsAfterFiles (form command).most after number }
@@ -213,6 +208,7 @@ fn output_of_command(
         (Command::History, [told, telling], Some(turns)) => history(alloc, told, telling, turns),
         (Command::Replay, [binary], Some(turns)) => replay_text(alloc, binary, turns),
         (Command::Show, [trace], None) => show(alloc, trace),
-        _ => Err(Fault::NotBuilt),
+        (Command::Load, [], Some(number)) => load_summary(alloc, number as u32),
+        _ => unreachable!(),
     }
 }

@@ -27,6 +27,7 @@ pub(crate) fn load_files<F: Files>(
     ensures faults_never_fall { F.faults files.old ≤ F.faults files.new }
     ensures taken_never_falls { F.taken files.old ≤ F.taken files.new }
 
+    ensures unread { length names.now ≡ 0 → files.new ≡ files.old }
     ensures all { IfOk result (λ loaded. vec_len loaded ≡ length names.now) }
     ensures bytes { IfOk result (λ loaded.
         AreBytesOf (F.contents files.old) (texts names.now) (all_bytes loaded.items)) }

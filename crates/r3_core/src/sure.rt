@@ -5,7 +5,7 @@ ghost use Rattle.r3_outside.specs.Contents.{file_bytes};
 ghost use Rattle.r3_outside.specs.Growth.{Grew};
 ghost use Rattle.r3_faults.specs.declared.faults.Fault.{Fault};
 ghost use Rattle.r3_faults.specs.Lines.{status_of};
-ghost use Rattle.r3_core.specs.Words.{texts, files_of, IsBuilt, Says};
+ghost use Rattle.r3_core.specs.Words.{texts, files_of, IsListed, Says};
 ghost use Rattle.r3_core.specs.declared.words.Command.{Command};
 ghost use Rattle.r3_core.specs.Causes.{first_longer, IsDoable, IsPrintedFor, IsRefusal};
 
@@ -14,7 +14,7 @@ use r3_outside::{SureFiles, SureSink};
 use std::alloc::Global;
 
 /// [`r3`] over files and sinks in memory, which never fail: no status speaks of a fault of theirs. Where
-/// the words are those of a command that is built and its files are within their limits, the status is 0
+/// the words are listed and their files are within their limits, the status is 0
 /// where the job can be done and that of the refusal where it can't, and 14 only where an allocation failed.
 pub fn r3_in_memory(
     alloc: Global,
@@ -25,7 +25,7 @@ pub fn r3_in_memory(
 ) -> u8
     ensures no_read_fault { result ≢ 3 }
     ensures no_write_fault { result ≢ 13 }
-    ensures longer { IsBuilt (texts words.now)
+    ensures longer { IsListed (texts words.now)
         → IsSome (first_longer files.old.files (files_of (texts words.now)))
         → (result ≡ 4) ⊎ (result ≡ 14) }
     ensures refused { (command : Command) (names : List (List ℕ)) (number : Option ℕ) (fault : Fault)

@@ -1,7 +1,7 @@
 // What the words of a call say.
 
 ghost use Rattle.std.specs.Prelude.{◌≡◌, ℕ, Option, IfOk, IfErr, MatchOption};
-ghost use Rattle.r3_core.specs.Words.{form, texts, command_of_name, is_built, IsNumber, IsAfterFiles, IsListed, Says};
+ghost use Rattle.r3_core.specs.Words.{form, texts, command_of_name, IsNumber, IsAfterFiles, IsListed, Says};
 
 use crate::limits::{
     BINARY_BYTES, HOOKED_BYTES, LOAD_NUMBER, MODULE_BYTES, RECORD_TURNS, SCRIPT_BYTES, TOLD_TURNS,
@@ -69,23 +69,6 @@ impl Command {
             Command::Load => Some(LOAD_NUMBER),
             Command::Instrument | Command::Reduce | Command::Build | Command::Show => None,
         }
-    }
-
-    /// Whether this program does the command.
-    pub(crate) fn is_built(self) -> bool
-        ensures { result ≡ is_built self }
-    {
-        matches!(
-            self,
-            Command::Make
-                | Command::Instrument
-                | Command::Record
-                | Command::Reduce
-                | Command::Build
-                | Command::History
-                | Command::Replay
-                | Command::Show
-        )
     }
 }
 

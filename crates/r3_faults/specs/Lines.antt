@@ -9,7 +9,7 @@ use Rattle.wasm_syntax.specs.declared.profile.Which.TheVariants.{Parameters, Tab
 use Rattle.history_spec.specs.declared.entries.FaultKind.{FaultKind}
 use Rattle.history_spec.specs.declared.entries.FaultKind.TheVariants as kind
 use Rattle.r3_faults.specs.declared.faults.Fault.{Fault}
-use Rattle.r3_faults.specs.declared.faults.Fault.TheVariants.{Usage, Read, TooLong, Malformed, InvalidFunction, InvalidModule, Unsupported, Limit, Reserved, NotJson, Shape, UnknownName, WrongType, NoAccess, CallsOwn, Missing, Mismatch, Segment, Script, Spent, Write, Memory, BadTrace, TraceVersion, OtherModule, NotHooked, HookOrder, Unbalanced, Unfit, NoLayout, NoImports, NoEntry, TapeLimit, NotBuilt, HookedLimit}
+use Rattle.r3_faults.specs.declared.faults.Fault.TheVariants.{Usage, Read, TooLong, Malformed, InvalidFunction, InvalidModule, Unsupported, Limit, Reserved, NotJson, Shape, UnknownName, WrongType, NoAccess, CallsOwn, Missing, Mismatch, Segment, Script, Spent, Write, Memory, BadTrace, TraceVersion, OtherModule, NotHooked, HookOrder, Unbalanced, Unfit, NoLayout, NoImports, NoEntry, TapeLimit, HookedLimit}
 use Rattle.hex.specs.Hex.{encode_lower}
 
 abbrev pub status_of : Fault → ℕ
@@ -46,7 +46,6 @@ status_of NoLayout = 17
 status_of NoImports = 17
 status_of NoEntry = 17
 status_of (TapeLimit weight) = 18
-status_of NotBuilt = 19
 status_of HookedLimit = 23
 
 -- a byte that is printed as it is: from the space to `~`, but for `\`
@@ -127,7 +126,6 @@ line_of NoLayout = codes "replay: layout\n"
 line_of NoImports = codes "replay: imports\n"
 line_of NoEntry = codes "replay: entry\n"
 line_of (TapeLimit weight) = with_number (codes "tape limit: ") weight
-line_of NotBuilt = codes "not built\n"
 line_of HookedLimit = codes "hooked limit: 134217728\n"
 
 -- the line was written whole, or a first part of it and the count of faults rose

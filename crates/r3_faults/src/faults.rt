@@ -138,8 +138,6 @@ pub enum Fault {
     TapeLimit {
         weight: u64,
     },
-    /// A form that is not built yet.
-    NotBuilt,
     /// The instrumented module is longer than a file of one may be.
     HookedLimit,
 }
@@ -228,7 +226,6 @@ impl Fault {
             | Fault::NoImports
             | Fault::NoEntry => 17,
             Fault::TapeLimit { .. } => 18,
-            Fault::NotBuilt => 19,
             Fault::HookedLimit => 23,
         }
     }

@@ -68,7 +68,6 @@ impl Fault {
             Fault::NoImports => put_all(err, b"replay: imports\n"),
             Fault::NoEntry => put_all(err, b"replay: entry\n"),
             Fault::TapeLimit { weight } => put_number(err, b"tape limit: ", *weight),
-            Fault::NotBuilt => put_all(err, b"not built\n"),
             Fault::HookedLimit => put_all(err, b"hooked limit: 134217728\n"),
         }
     }

@@ -1,4 +1,5 @@
-mod Used
-mod OneAnswer
-mod Counted
-mod OfRun
+pub mod OneAnswer
+mod Originals
+mod Recordings
+mod LogTapes
+mod Shown

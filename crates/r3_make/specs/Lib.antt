@@ -1,3 +1,5 @@
-pub mod Parts
+pub mod Answers
+pub mod Tapes
+pub mod Records
 pub mod Refusals
 pub mod Printed

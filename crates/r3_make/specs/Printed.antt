@@ -1,37 +1,56 @@
 -- What `make` prints.
-use Rattle.std.specs.Prelude.{ℕ, ◌+◌, ◌*◌, ◌≤◌, List, length}
-use Rattle.wasm_syntax.specs.declared.values.Val.{Val}
+use Rattle.std.specs.Prelude.{◌≢◌, ℕ, ◌≤◌, List}
 use Rattle.wasm_syntax.specs.declared.modules.Module.{Module}
-use Rattle.wasm_syntax.specs.Index.{imported_funcs}
 use Rattle.host_script.specs.declared.scripts.Script.{Script}
-use Rattle.run_outcomes.specs.declared.outcomes.Outcome.{Outcome}
-use Rattle.history_spec.specs.Run.{Run}
-use Rattle.host_play.specs.CallCounts.{all_calls}
-use Rattle.plain_replay.specs.Covers.{Uses}
-use Rattle.plain_replay.specs.ReplayModule.{replay_module}
-use Rattle.plain_maker.specs.Replay.{IsReplay}
-use Rattle.accepted_runs.specs.Runs.{HasOutcome}
+use Rattle.host_script.specs.declared.scripts.Supply.{Supply}
+use Rattle.trace_model.specs.declared.tapes.Segment.{Segment}
+use Rattle.trace_model.specs.declared.tapes.Tape.{Tape}
+use Rattle.trace_model.specs.Weight.{tape_weight}
+use Rattle.history_spec.specs.Code.{code_of}
+use Rattle.history_spec.specs.Replay.{Replays}
+use Rattle.history_spec.specs.Run.{all_one, program_of, run_from, start_in_store}
+use Rattle.history_spec.specs.Store.{Store}
+use Rattle.replay_spec.specs.Needed.{IsNeededTape}
+use Rattle.replay_spec.specs.Observations.{run_observations}
+use Rattle.replay_spec.specs.TapeRun.{tape_run}
+use Rattle.tape_follows.specs.Dropped.{AreLeftSegments, IsAnother}
+use Rattle.replay_gen.specs.Fragments.{start_index}
+use Rattle.module_merge.specs.Merge.{layout_of}
+use Rattle.binary_follows.specs.Playable.{most_weight, replay_of}
+use Rattle.run_replays.specs.Laws.{MakesEffectsOf}
+use Rattle.r3_build.specs.Printed.{IsReplayOf}
 use Rattle.r3_inputs.specs.Inputs.{AreInputs}
-use Rattle.r3_make.specs.Refusals.{IsBuilt}
+use Rattle.r3_make.specs.Tapes.{NeedsTape}
 
--- the module, of this number of bytes, and the script are built, and their run has an outcome within the turns; the
--- bytes that are printed encode a valid module without imports that keeps the original's functions, and whose run shows
--- exactly the history and the outcome of that run: the replay module of its answers and its host's calls. They are at
--- most 64 more for each import, 32 for each call of an import and each call by the host that the history has, and 1,024
-pub record IsReplayFor (m : Module) (script : Script) (turns size : ℕ) (printed : List ℕ) : Type 0 where
-  pub built : IsBuilt m script
-  pub run : Run
-  pub outcome : Outcome
-  pub ends : HasOutcome m script turns run outcome
-  pub table : List (List Val)
-  pub calls : List ℕ
-  pub uses : Uses run.history table calls
-  pub replay : IsReplay m run.history outcome (replay_module m table calls) printed
-  pub most : length printed ≤ size + 64 * imported_funcs m + 32 * all_calls run.history + 1024
+-- out of the segments that a run needs nothing can be taken: the run of what is left is another
+abbrev pub HasNothingToSpare : (m : Module) (script : Script) (store : Store) (segments : List Segment)
+    → IsNeededTape (program_of m script) (start_in_store m script store) store segments → Type 0
+HasNothingToSpare m script store segments needed =
+    (left : List Segment)
+    → AreLeftSegments (run_observations (program_of m script) (start_in_store m script store) needed.count) segments
+    left
+    → left ≢ segments
+    → IsAnother (tape_run (code_of m) store left)
+    (run_from (program_of m script) all_one (start_in_store m script store) needed.count).history
+
+-- The run of the module under the script has an outcome within the turns, and the bytes that are printed encode the
+-- replay module of the one tape that it needs, out of which nothing can be taken: a valid module without imports that
+-- keeps the original's functions, whose run shows exactly the history and the outcome of that run, and makes just the
+-- effects of the tape.
+pub record IsReplayFor (m : Module) (script : Script) (turns : ℕ) (printed : List ℕ) : Type 0 where
+  pub supply : Supply
+  pub store : Store
+  pub tape : Tape
+  pub needed : NeedsTape m script turns supply store tape
+  pub light : tape_weight tape ≤ most_weight
+  pub nothing_spare : HasNothingToSpare m script store tape.segments needed.is_one.is_needed
+  pub replay : IsReplayOf m supply store tape printed
+  pub shows : Replays (replay_of m supply tape) (layout_of m) (start_index m) needed.run.history needed.outcome
+  pub makes : MakesEffectsOf m supply tape
 
 -- the same, of the module and the script that the bytes of two files are
 pub record IsPrinted (module_bytes script_bytes : List ℕ) (turns : ℕ) (printed : List ℕ) : Type 0 where
   pub m : Module
   pub script : Script
   pub inputs : AreInputs module_bytes script_bytes m script
-  pub replay : IsReplayFor m script turns (length module_bytes) printed
+  pub replay : IsReplayFor m script turns printed

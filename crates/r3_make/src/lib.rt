@@ -2,7 +2,9 @@
 #![tactic(auto)]
 
 mod makes;
-mod parts;
+mod records;
 mod replays;
+mod tapes;
 
 pub use makes::make;
+pub use tapes::needed_tape;

@@ -17,11 +17,9 @@ use std::alloc::Global;
 ///
 /// # Errors
 ///
-/// The fault names why there is none: the module or the script is refused, the module does not link,
-/// one of the two has another form than those that are built (`NotBuilt`), the host cannot do what
-/// the script says, the run needs more turns, or it has more than 2,000,000 calls of imports and by the
-/// host (`NotBuilt`). Each comes exactly where it stands and none before it does. `Memory` comes where
-/// memory is out.
+/// The fault names why there is none: the module or the script is refused, the module does not link, the host cannot do
+/// what the script says, the run needs more turns, or it needs a tape that weighs more than 2,000,000. Each comes
+/// exactly where it stands and none before it does. `Memory` comes where memory is out.
 pub fn make(alloc: Global, module: &[u8], script: &[u8], turns: u64) -> Result<Vec<u8>, Fault>
     requires small { length «module».now ≤ MOST_FILE_BYTES }
     requires few { turns ≤ MOST_TURNS }
@@ -32,5 +30,5 @@ pub fn make(alloc: Global, module: &[u8], script: &[u8], turns: u64) -> Result<V
     ensures accepted { AreReplayable «module».now script.now turns → IfErr result (λ fault. fault ≡ Memory) }
 {
     let (checked, script) = inputs_of(alloc, module, script)?;
-    replay_of(alloc, module, checked, &script, turns)
+    replay_of(alloc, module, checked, script, turns)
 }

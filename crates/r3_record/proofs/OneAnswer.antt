@@ -2,23 +2,17 @@
 use Rattle.std.proofs.Common.{◌≡◌, ◌⊎◌, inl, inr, ℕ, List, Option, Some, None, Result, Ok, Err, IfOk, IfErr, sym, ◌∙◌, ap, subst}
 use Rattle.wasm_syntax.specs.declared.modules.Module.{Module}
 use Rattle.host_script.specs.declared.scripts.Script.{Script}
-use Rattle.host_script.specs.declared.scripts.Supply.{Supply}
-use Rattle.host_script.specs.declared.scripts.LinkFault.{LinkFault}
-use Rattle.host_script.specs.Supply.{supply_of}
 use Rattle.script_text.specs.Texts.{script_of_text}
 use Rattle.trace_model.specs.declared.events.Log.{Log}
 use Rattle.trace_bytes.specs.declared.tags.TheConstants.{VERSION_2}
 use Rattle.trace_bytes.specs.Spelling.{log_bytes}
-use Rattle.history_spec.specs.Instantiation.{instantiate}
-use Rattle.history_spec.specs.Run.{run_start, start_or_fault, start_with_supply}
 use Rattle.history_spec.specs.Store.{Store}
-use Rattle.host_link.specs.Link.{link_result, with_supply}
 use Rattle.hook_spec.specs.HookedForm.{HookedForm, hooked_form}
 use Rattle.host_play.specs.declared.results.PlayFault.{PlayFault}
 use Rattle.host_play.specs.declared.results.PlayFault.TheVariants as refusal
 use Rattle.run_recorder.specs.Records.{RecordedRun, IsLog}
 use Rattle.record_laws.specs.Laws.{RecordsAreOne}
-use Rattle.accepted_runs.proofs.OneResult.{unlinked-one}
+use Rattle.accepted_runs.proofs.OneResult.{linked-unlinked, one-store, unlinked-one}
 use Rattle.r3_faults.specs.declared.faults.Fault.{Fault}
 use Rattle.r3_faults.specs.declared.faults.Fault.TheVariants.{Memory}
 use Rattle.r3_inputs.specs.Inputs.{IsRefusedScript, script_fault}
@@ -57,19 +51,6 @@ refused-one a b e = cc e
 logged-refused : (a : Log) (b : PlayFault) → logged a ≡ refused b → ⊥
 logged-refused a b e = absurd (cc e)
 
--- what links does not fail to
-unlinked-linked : (m : Module) (script : Script) (store : Store) (fault : LinkFault) → link_result m script ≡ Ok store
-    → run_start m script ≡ Err fault → ⊥
-unlinked-linked m script store fault = by (supply_of m script)
-  where
-    stands : (r : Result Store LinkFault) → r ≡ Ok store → start_or_fault m script r ≡ Err fault → ⊥
-    stands (Ok other) e f = absurd (cc f)
-    stands (Err other) e f = absurd (cc e)
-
-    by : (r : Result Supply LinkFault) → with_supply m r ≡ Ok store → start_with_supply m script r ≡ Err fault → ⊥
-    by (Ok supply) e f = stands (instantiate m supply) e f
-    by (Err other) e f = absurd (cc e)
-
 module _ (one : RecordsAreOne) (m : Module) (turns : ℕ) where
   -- ---- the run from a store
 
@@ -98,7 +79,7 @@ module _ (one : RecordsAreOne) (m : Module) (turns : ℕ) where
 
     file-one : (a b : List ℕ) → HasLogFile m form script turns a → HasLogFile m form script turns b → a ≡ b
     file-one a b x y =
-        let store : y.store ≡ x.store = ok-one (link_result m script) y.store x.store y.links x.links in
+        let store : y.store ≡ x.store = one-store m script y.supply x.supply y.store x.store y.linked x.linked in
         let found = subst (λ store. IsLog (run store) y.log.outcome y.log) store y.logged in
         x.spelled
         ∙ ap (log_bytes VERSION_2 form.digest) (log-one (run x.store) x.log y.log x.logged found)
@@ -106,20 +87,20 @@ module _ (one : RecordsAreOne) (m : Module) (turns : ℕ) where
 
     file-none : (file : List ℕ) (fault : Fault) → HasLogFile m form script turns file
         → HasNoLogFile m form script turns fault → ⊥
-    file-none file fault x (OfLink u) = unlinked-linked m script x.store u.found x.links u.unopened
-    file-none file fault x (OfRun store links cause) =
-        let same : store ≡ x.store = ok-one (link_result m script) store x.store links x.links in
+    file-none file fault x (OfLink u) = linked-unlinked m script x.supply x.store fault x.linked u
+    file-none file fault x (OfRun supply store linked cause) =
+        let same : store ≡ x.store = one-store m script supply x.supply store x.store linked x.linked in
         log-refusal (run x.store) x.log fault x.logged
         (subst (λ store. IsRefusal (run store) turns fault) same cause)
 
     fault-one : (f g : Fault) → HasNoLogFile m form script turns f → HasNoLogFile m form script turns g → f ≡ g
     fault-one f g (OfLink u) (OfLink v) = unlinked-one m script f g u v
-    fault-one f g (OfLink u) (OfRun store links cause) =
-        absurd (unlinked-linked m script store u.found links u.unopened)
-    fault-one f g (OfRun store links cause) (OfLink v) =
-        absurd (unlinked-linked m script store v.found links v.unopened)
-    fault-one f g (OfRun store links cause) (OfRun other link too) =
-        let same : other ≡ store = ok-one (link_result m script) other store link links in
+    fault-one f g (OfLink u) (OfRun supply store linked cause) =
+        absurd (linked-unlinked m script supply store f linked u)
+    fault-one f g (OfRun supply store linked cause) (OfLink v) =
+        absurd (linked-unlinked m script supply store g linked v)
+    fault-one f g (OfRun supply store linked cause) (OfRun another other links too) =
+        let same : other ≡ store = one-store m script another supply other store links linked in
         refusal-one (run store) f g cause (subst (λ store. IsRefusal (run store) turns g) same too)
 
   -- ---- the module and the bytes of a script

@@ -2,17 +2,18 @@
 use Rattle.std.specs.Prelude.{◌≡◌, ◌≢◌, ℕ, List, Some, None, Ok}
 use Rattle.wasm_syntax.specs.declared.modules.Module.{Module}
 use Rattle.host_script.specs.declared.scripts.Script.{Script}
+use Rattle.host_script.specs.declared.scripts.Supply.{Supply}
 use Rattle.script_text.specs.Texts.{script_of_text}
 use Rattle.trace_model.specs.declared.events.Log.{Log}
 use Rattle.trace_bytes.specs.declared.tags.TheConstants.{VERSION_2}
 use Rattle.trace_bytes.specs.Spelling.{log_bytes}
 use Rattle.history_spec.specs.Store.{Store}
-use Rattle.host_link.specs.Link.{link_result}
 use Rattle.hook_spec.specs.HookedForm.{HookedForm, hooked_form}
 use Rattle.host_play.specs.declared.results.PlayFault.{PlayFault}
 use Rattle.host_play.specs.declared.results.PlayFault.TheVariants as refusal
 use Rattle.run_recorder.specs.Records.{RecordedRun, IsLog, RefusesRecord}
 use Rattle.record_laws.specs.Laws.{recorded_run}
+use Rattle.accepted_runs.specs.Linked.{IsLinked}
 use Rattle.accepted_runs.specs.Unlinked.{IsUnlinkedFor}
 use Rattle.r3_faults.specs.declared.faults.Fault.{Fault}
 use Rattle.r3_faults.specs.declared.faults.Fault.TheVariants.{Script as ScriptFault, Spent, Memory, NotHooked, HookOrder}
@@ -41,8 +42,9 @@ pub record IsRefusal (run : RecordedRun) (turns : ℕ) (fault : Fault) : Type 0 
 
 -- the module links, its run from there has a log, and this is the file of that with the digest that the module names
 pub record HasLogFile (m : Module) (form : HookedForm) (script : Script) (turns : ℕ) (file : List ℕ) : Type 0 where
+  pub supply : Supply
   pub store : Store
-  pub links : link_result m script ≡ Ok store
+  pub linked : IsLinked m script supply store
   pub log : Log
   pub logged : IsLog (run_of m form script store turns) log.outcome log
   pub spelled : file ≡ log_bytes VERSION_2 form.digest log
@@ -50,7 +52,7 @@ pub record HasLogFile (m : Module) (form : HookedForm) (script : Script) (turns 
 -- why there is none: the module does not link, or its run has no log
 pub data HasNoLogFile (m : Module) (form : HookedForm) (script : Script) (turns : ℕ) (fault : Fault) : Type 0 where
   OfLink : (unlinked : IsUnlinkedFor m script fault) → HasNoLogFile m form script turns fault
-  OfRun : (store : Store) (links : link_result m script ≡ Ok store)
+  OfRun : (supply : Supply) (store : Store) (linked : IsLinked m script supply store)
       (refusal : IsRefusal (run_of m form script store turns) turns fault) → HasNoLogFile m form script turns fault
 
 -- ---- a module, and the bytes of a script for it

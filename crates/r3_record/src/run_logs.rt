@@ -4,10 +4,10 @@ ghost use Rattle.std.specs.Prelude.{◌≡◌, ◌⊎◌, Some, Ok, IfErr, IfOk}
 ghost use Rattle.wasm_syntax.specs.Profile.{IsSupported};
 ghost use Rattle.wasm_flat.specs.Sizes.{IsShort};
 ghost use Rattle.host_script.specs.Fits.{Fits};
-ghost use Rattle.host_link.specs.Link.{link_result};
 ghost use Rattle.history_spec.specs.Instantiation.{instantiate};
 ghost use Rattle.type_safety.specs.Stores.{IsStore};
 ghost use Rattle.type_safety.specs.Supplies.{HasBytes};
+ghost use Rattle.accepted_runs.specs.Linked.{IsLinked};
 ghost use Rattle.trace_bytes.specs.declared.tags.TheConstants.{VERSION_2};
 ghost use Rattle.trace_bytes.specs.Spelling.{log_bytes};
 ghost use Rattle.trace_bytes.specs.Spelled.{FitEvents};
@@ -15,15 +15,13 @@ ghost use Rattle.hook_spec.specs.HookedForm.{hooked_form};
 ghost use Rattle.hook_insert.specs.Forms.{form_of};
 ghost use Rattle.host_play.specs.HookedResults.{HasHooksAfter};
 ghost use Rattle.run_recorder.specs.Records.{IsLog};
-ghost use Rattle.accepted_runs.specs.Unlinked.{IsUnlinkedFor};
 ghost use Rattle.r3_faults.specs.declared.faults.Fault.TheVariants.{Memory};
 ghost use Rattle.r3_record.specs.LogFiles.{HasLogFile, HasNoLogFile, IsRefusal, record_fault, run_of};
 
+use accepted_runs::supply_and_store;
 use hook_insert::HookedForm;
-use host_link::{LinkFault, link};
 use host_play::{Play, PlayFault};
 use host_script::{Script, Supply};
-use host_supply::supply_of;
 use r3_faults::Fault;
 use record_laws::logs_have_spellings;
 use run_recorder::record_log;
@@ -52,48 +50,8 @@ pub(crate) fn run_file(
         ⊎ HasNoLogFile checked.now (form_of form) script.now turns fault) }
     ensures printed { IfOk result (λ bytes. HasLogFile checked.now (form_of form) script.now turns bytes.items) }
 {
-    let (supply, store) = opening(alloc, checked, script)?;
+    let (supply, store) = supply_and_store(alloc, checked, script)?;
     log_from(alloc, checked, form, script, &supply, store, turns)
-}
-
-/// What the script supplies, and the store that the module's run starts with.
-fn opening(alloc: Global, checked: &Checked, script: &Script) -> Result<(Supply, Store), Fault>
-    requires supported { IsSupported checked.now }
-    requires fits { Fits checked.now script.now }
-    ensures links { IfOk result (λ opening. link_result checked.now script.now ≡ Ok opening.1) }
-    ensures opens { IfOk result (λ opening. instantiate checked.now opening.0 ≡ Ok opening.1) }
-    ensures typed { IfOk result (λ opening. HasBytes checked.now → IsStore checked.now opening.1) }
-    ensures cause { IfErr result (λ fault. (fault ≡ Memory) ⊎ IsUnlinkedFor checked.now script.now fault) }
-{
-    let store = start_store(alloc, checked, script)?;
-    // What links is supplied.
-    match supply_of(alloc, checked.module(), script) {
-        Ok(supply) => Ok((supply, store)),
-        Err(_) => Err(Fault::Memory),
-    }
-}
-
-/// The store that the module's run starts with.
-fn start_store(alloc: Global, checked: &Checked, script: &Script) -> Result<Store, Fault>
-    requires supported { IsSupported checked.now }
-    requires fits { Fits checked.now script.now }
-    ensures links { IfOk result (λ store. link_result checked.now script.now ≡ Ok store) }
-    ensures typed { IfOk result (λ store. HasBytes checked.now → IsStore checked.now store) }
-    ensures cause { IfErr result (λ fault. (fault ≡ Memory) ⊎ IsUnlinkedFor checked.now script.now fault) }
-{
-    match link(alloc, checked, script) {
-        Ok(store) => Ok(store),
-        Err(LinkFault::Missing { import }) => Err(Fault::Missing {
-            import: u64::from(import),
-        }),
-        Err(LinkFault::Mismatch { import }) => Err(Fault::Mismatch {
-            import: u64::from(import),
-        }),
-        Err(LinkFault::Segment { number }) => Err(Fault::Segment {
-            number: u64::from(number),
-        }),
-        Err(LinkFault::Memory) => Err(Fault::Memory),
-    }
 }
 
 /// The file of the log of the run from its store.
@@ -112,8 +70,7 @@ fn log_from(
     requires bytes { HasBytes checked.now }
     requires fits { Fits checked.now script.now }
     requires typed { IsStore checked.now store }
-    requires opens { instantiate checked.now supply.now ≡ Ok store }
-    requires links { link_result checked.now script.now ≡ Ok store }
+    requires linked { IsLinked checked.now script.now supply.now store }
     ensures cause { IfErr result (λ fault. (fault ≡ Memory)
         ⊎ HasNoLogFile checked.now (form_of form) script.now turns fault) }
     ensures printed { IfOk result (λ bytes. HasLogFile checked.now (form_of form) script.now turns bytes.items) }

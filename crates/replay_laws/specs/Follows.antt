@@ -14,7 +14,8 @@ use Rattle.replay_plan.specs.Plans.{plan_of}
 use Rattle.replay_gen.specs.Fragments.{start_index}
 use Rattle.outside_spec.specs.Stretches.{stretches}
 use Rattle.outside_spec.specs.Steps.{AreWithinBound, call_steps}
-use Rattle.binary_follows.specs.Playable.{GrowsAlways, IsPlayable, layout_of, replay_of, shown_run}
+use Rattle.module_merge.specs.Merge.{layout_of}
+use Rattle.binary_follows.specs.Playable.{GrowsAlways, IsPlayable, replay_of, shown_run}
 use Rattle.binary_follows.specs.Laws.{AreBothOver, AreEffectsOfFirst, ShowsHistory}
 
 -- It is instantiated without a fault. It shows each history that the tape's run comes to, where this disagrees in the

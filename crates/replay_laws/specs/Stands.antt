@@ -3,7 +3,7 @@ use Rattle.wasm_syntax.specs.declared.modules.Module.{Module}
 use Rattle.wasm_syntax.specs.Validity.{IsValid}
 use Rattle.host_script.specs.declared.scripts.Supply.{Supply}
 use Rattle.trace_model.specs.declared.tapes.Tape.{Tape}
-use Rattle.plain_replay.specs.Replay.{KeepsOriginals, StandsAlone}
+use Rattle.replay_modules.specs.Standing.{KeepsOriginals, StandsAlone}
 use Rattle.binary_follows.specs.Playable.{replay_of}
 
 -- it keeps the original's types and functions at their indices, and stands alone

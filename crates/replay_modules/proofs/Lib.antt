@@ -2,6 +2,7 @@ mod Standing
 pub mod Outside
 mod ValidOutside
 pub mod Declarations
+mod Wider
 mod Originals
 mod TypedOriginals
 mod Serving

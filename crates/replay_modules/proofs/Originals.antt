@@ -9,8 +9,7 @@ use Rattle.wasm_syntax.specs.declared.instructions.Instr.TheVariants.{Block, If,
 use Rattle.wasm_syntax.specs.Nest.{IsNest, is_plain, Nest, Empty, Plain, InBlock, InLoop, InIf, InIfElse, flat}
 use Rattle.wasm_syntax.specs.Opcodes.{load_of, store_of}
 use Rattle.wasm_syntax.specs.Typing.{Context, Drops, InstrType, IsTyped, Leads, Leaves, Moves, Selects, Switches, has_memory, has_table, if_true, indirect_of, inside, instr_type, is_declared, load_type, results_of, store_type}
-use Rattle.plain_replay.specs.Forms.{is_unreferring}
-use Rattle.plain_replay.proofs.Wider.{Widens, both_parts, typed_wider}
+use Rattle.replay_modules.proofs.Wider.{Widens, both_parts, is_unreferring, typed_wider}
 
 -- what one context knows the other knows too, but for the limits of tables and memories, of which both have as many
 abbrev narrowed : Context → Context → Context

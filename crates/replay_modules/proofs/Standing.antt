@@ -1,5 +1,5 @@
 -- The replay module keeps the original's functions, and stands alone.
-use Rattle.std.proofs.Common.{◌≡◌, ℕ, ◌+◌, ◌^◌, ◌<◌, List, [], ◌∷◌, ◌++◌, length, Some, refl, ap, ◌∙◌, subst, arith, length-append}
+use Rattle.std.proofs.Common.{◌≡◌, ℕ, ◌+◌, ◌^◌, ◌<◌, List, [], ◌∷◌, ◌++◌, length, Some, refl, ◌∙◌, arith, length-append}
 use Rattle.std.proofs.lemmas.List.{length-map}
 use Rattle.std.proofs.lemmas.Option.{slice_get_within}
 use Rattle.list_laws.proofs.Lists.{get_after_by, get_front}
@@ -10,13 +10,12 @@ use Rattle.wasm_syntax.specs.Validity.{IsValid}
 use Rattle.host_script.specs.declared.scripts.Supply.{Supply}
 use Rattle.trace_model.specs.declared.tapes.Segment.{Segment}
 use Rattle.history_spec.specs.Code.{code_of}
-use Rattle.plain_replay.specs.Replay.{KeepsOriginals, StandsAlone}
-use Rattle.plain_replay.specs.ReplayModule.{layout_of}
 use Rattle.replay_form.specs.Forms.{IsReplayable}
 use Rattle.replay_plan.specs.declared.plans.Plan.{Plan}
 use Rattle.replay_gen.specs.Functions.{group_count, import_funcs, start_type}
 use Rattle.replay_gen.specs.Fragments.{fragment_of, helper_funcs, import_bodies, import_types, start_index}
-use Rattle.module_merge.specs.Merge.{layout_section, replay_module}
+use Rattle.module_merge.specs.Merge.{layout_of, layout_section, replay_module}
+use Rattle.replay_modules.specs.Standing.{KeepsOriginals, StandsAlone}
 use Rattle.replay_codes.specs.Codes.{IsReplayCode}
 use Rattle.replay_codes.specs.Laws.{ReplayModulesHaveCode}
 use Rattle.replay_codes.proofs.Functions.{functions}
@@ -69,8 +68,8 @@ module _ (law : ReplayModulesHaveCode) (m : Module) (supply : Supply) (plan : Pl
       record {
         imports = refl;
         start = refl;
-        entry = ap (λ n. Some n) (functions m);
-        entry_type = subst (λ n. func_type replay n ≡ Some start_type) (functions m) entry_typed;
+        entry = refl;
+        entry_type = entry_typed;
       }
 
   -- there are more functions than in the original

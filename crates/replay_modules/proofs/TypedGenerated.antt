@@ -35,7 +35,7 @@ use Rattle.replay_gen.specs.Fragments.{counter, fragment_of, helper_funcs, impor
 use Rattle.module_merge.specs.Merge.{replay_module}
 use Rattle.replay_codes.specs.Codes.{IsReplayCode, first_group}
 use Rattle.replay_codes.specs.Laws.{ReplayModulesHaveCode}
-use Rattle.plain_replay.proofs.Wider.{both_parts}
+use Rattle.replay_modules.proofs.Wider.{both_parts}
 use Rattle.replay_modules.specs.Plans.{AreFit, CallsFit, PlanFits}
 use Rattle.replay_modules.proofs.Declarations.{IsReferred, in_range, range_end, refers_among}
 use Rattle.replay_modules.proofs.Generated.{counter_type, group_typed, import_typed}

@@ -31,7 +31,7 @@ use Rattle.replay_plan.specs.declared.plans.Plan.{Plan}
 use Rattle.replay_gen.specs.Fragments.{counter, fragment_of, helper_funcs, import_bodies, referred_funcs, start_index}
 use Rattle.module_merge.specs.Merge.{constant_elem, constant_global, memory_written, replay_module, supplied_global}
 use Rattle.replay_codes.specs.Laws.{ReplayModulesHaveCode}
-use Rattle.plain_replay.proofs.Wider.{both_parts}
+use Rattle.replay_modules.proofs.Wider.{both_parts}
 use Rattle.replay_modules.proofs.Declarations.{IsReferred, declared_among, refers_among}
 use Rattle.replay_modules.proofs.Originals.{Extends, IsKnown, typed_known}
 use Rattle.replay_modules.proofs.Standing.{functions_more, originals_kept}

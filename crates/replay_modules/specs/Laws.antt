@@ -6,16 +6,15 @@ use Rattle.wasm_syntax.specs.Index.{imported_funcs}
 use Rattle.wasm_syntax.specs.Validity.{IsTypedFunc, IsValid, IsValidOutside}
 use Rattle.host_script.specs.declared.scripts.Supply.{Supply}
 use Rattle.type_safety.specs.Supplies.{IsSupply}
-use Rattle.plain_replay.specs.Replay.{KeepsOriginals, StandsAlone}
-use Rattle.plain_replay.specs.ReplayModule.{layout_of}
 use Rattle.replay_form.specs.Forms.{IsReplayable}
 use Rattle.trace_model.specs.declared.tapes.Tape.{Tape}
 use Rattle.trace_model.specs.Fitting.{IsFitting}
 use Rattle.replay_plan.specs.declared.plans.Plan.{Plan}
 use Rattle.replay_plan.specs.Plans.{plan_of}
 use Rattle.replay_gen.specs.Fragments.{fragment_of, start_index}
-use Rattle.module_merge.specs.Merge.{replay_module}
+use Rattle.module_merge.specs.Merge.{layout_of, replay_module}
 use Rattle.replay_modules.specs.Plans.{PlanFits}
+use Rattle.replay_modules.specs.Standing.{KeepsOriginals, StandsAlone}
 use Rattle.replay_modules.specs.Written.{IsConstantTape}
 
 -- the replay module of a plan for a valid module, with calls for each import, keeps the types and functions of the

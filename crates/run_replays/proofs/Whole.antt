@@ -27,7 +27,8 @@ use Rattle.tape_follows.specs.Below.{LawsOfSteps, LawsOfRuns}
 use Rattle.tape_follows.specs.NeededTape.{NeededTapesFit, RunsHaveOneNeededTape}
 use Rattle.logs_follow.specs.Laws.{LogsGiveNeededTapes}
 use Rattle.binary_follows.specs.Laws.{AreEffectsOfFirst, ReplaysShowOutcomes, ReplaysMakeEffects}
-use Rattle.binary_follows.specs.Playable.{most_weight, replay_of, layout_of, replay_run, shown_run}
+use Rattle.module_merge.specs.Merge.{layout_of}
+use Rattle.binary_follows.specs.Playable.{most_weight, replay_of, replay_run, shown_run}
 use Rattle.tape_follows.proofs.HostStores.{sizes_of}
 use Rattle.tape_follows.proofs.AllSteps.{opening_holds, started}
 use Rattle.run_replays.specs.Laws.{NeededTapesWriteBytes, NeededTapesArePlayable, NeededTapesGrowSizes, RunsAreReplayed, RunsAreReplayedFromLogs}

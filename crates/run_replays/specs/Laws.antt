@@ -24,7 +24,8 @@ use Rattle.hook_spec.specs.LogTapes.{IsLogTape}
 use Rattle.tape_follows.specs.NeededTape.{IsOneNeededTape}
 use Rattle.calls_follow.specs.Laws.{OriginalRun}
 use Rattle.logs_follow.specs.Laws.{log_of_run}
-use Rattle.binary_follows.specs.Playable.{AllWriteBytes, IsPlayable, GrowsAlways, most_weight, replay_of, layout_of, replay_run, shown_run}
+use Rattle.module_merge.specs.Merge.{layout_of}
+use Rattle.binary_follows.specs.Playable.{AllWriteBytes, IsPlayable, GrowsAlways, most_weight, replay_of, replay_run, shown_run}
 
 -- ---- needed tapes
 

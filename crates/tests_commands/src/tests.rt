@@ -8,6 +8,8 @@ mod histories;
 mod history_modules;
 mod history_refusals;
 mod large;
+mod load_calls;
+mod makes;
 mod modules;
 mod replay_calls;
 mod replays;

@@ -1,7 +1,11 @@
-//! Tests alone: runs of a module in the hooked form, with hooks that take its calls or refuse one. The module was
-//! instrumented by hand, and its turns and calls were counted by hand.
+//! Tests alone: runs of modules in the hooked form, with hooks that take their calls or refuse one. One module was
+//! instrumented by hand; turns and calls were counted by hand.
 #![tactic(auto)]
 
+#[cfg(test)]
+mod buffers;
+#[cfg(test)]
+mod plays;
 #[cfg(test)]
 mod refusing;
 #[cfg(test)]

@@ -1,14 +1,12 @@
+use crate::plays::played;
 use crate::refusing::Refusing;
-use accepted_runs::start_store;
 use history_spec::Outcome;
-use hook_insert::hooked_form;
 use hook_names::{Hooks, NoHooks};
-use host_play::{Play, PlayFault, forms_have_hooks, play};
-use r3_inputs::{MOST_INSTRUMENTED_BYTES, ModuleFile, module_in, script_of};
+use host_play::PlayFault;
+use r3_inputs::{MOST_INSTRUMENTED_BYTES, ModuleFile, module_in};
 use std::alloc::Global;
 use std::test::Fail;
 use wasm_flat::Meter;
-use wasm_flatten::flatten;
 
 // (module (import "h" "f" (func (result i32))) (func (export "g") (result i32) call 0 call 0 i32.add)), instrumented
 const TWO_ANSWERS: &str =
@@ -29,7 +27,7 @@ const ANSWERED: &str = "{\"imports\":{\"h\":{\"f\":{\"calls\":[{\"return\":{\"i3
     \"leave\":{\"rest\":{\"do\":[{\"call\":\"g\"}]}}}},\"main\":[{\"call\":\"g\"}]}";
 
 /// The run within a number of turns, where each instruction takes one.
-fn played<H: Hooks>(
+fn run_of<H: Hooks>(
     alloc: Global,
     script: &str,
     turns: u64,
@@ -42,39 +40,16 @@ fn played<H: Hooks>(
     let Ok(checked) = module_in(alloc, ModuleFile::Instrumented, bytes.as_slice()) else {
         return Err(Fail::from("a refused module"));
     };
-    let Ok(form) = hooked_form(&checked) else {
-        return Err(Fail::from("a module without the form"));
-    };
-    let Ok(script) = script_of(alloc, script.as_bytes(), &checked) else {
-        return Err(Fail::from("a refused script"));
-    };
-    let Ok(store) = start_store(alloc, &checked, &script) else {
-        return Err(Fail::from("a module that does not link"));
-    };
-    forms_have_hooks();
-    let play_of = Play {
-        code: checked.module(),
-        flat: flatten(alloc, &checked)?,
-        script: &script,
-        store,
-    };
-    Ok(play(
-        alloc,
-        play_of,
-        &Meter::all_one(),
-        turns,
-        form.imports,
-        hooks,
-    ))
+    played(alloc, &checked, &Meter::all_one(), script, turns, hooks)
 }
 
 #[test]
 fn runs_take_their_turns(rt: HostRuntime) -> Result<(), Fail> {
     for script in [SCRIPT, ANSWERED] {
-        if played(rt.alloc(), script, 29, &mut NoHooks)? != Ok(Outcome::Ended) {
+        if run_of(rt.alloc(), script, 29, &mut NoHooks)? != Ok(Outcome::Ended) {
             return Err(Fail::from("within 29 turns"));
         }
-        if played(rt.alloc(), script, 28, &mut NoHooks)? != Err(PlayFault::Spent) {
+        if run_of(rt.alloc(), script, 28, &mut NoHooks)? != Err(PlayFault::Spent) {
             return Err(Fail::from("within 28 turns"));
         }
     }
@@ -89,7 +64,7 @@ fn hooks_take_all_calls(rt: HostRuntime) -> Result<(), Fail> {
         arguments: 0,
         last: 0,
     };
-    if played(rt.alloc(), SCRIPT, 29, &mut hooks)? != Ok(Outcome::Ended) {
+    if run_of(rt.alloc(), SCRIPT, 29, &mut hooks)? != Ok(Outcome::Ended) {
         return Err(Fail::from("an outcome"));
     }
     // enter 1; for each call pre 0, arg 127 and the answer, post 0; leave 1
@@ -108,7 +83,7 @@ fn a_refused_call_ends_the_run(rt: HostRuntime) -> Result<(), Fail> {
             arguments: 0,
             last: 0,
         };
-        if played(rt.alloc(), SCRIPT, 29, &mut hooks)? != Err(PlayFault::Hook { number })
+        if run_of(rt.alloc(), SCRIPT, 29, &mut hooks)? != Err(PlayFault::Hook { number })
             || hooks.taken != number
         {
             return Err(Fail::from("the call"));

@@ -5,3 +5,7 @@
 mod calls;
 #[cfg(test)]
 mod modules;
+#[cfg(test)]
+mod rows;
+#[cfg(test)]
+mod steps;

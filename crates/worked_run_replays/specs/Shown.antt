@@ -14,7 +14,8 @@ use Rattle.history_spec.specs.Store.{Store}
 use Rattle.history_spec.specs.Replay.{Replays, alone}
 use Rattle.replay_spec.specs.Needed.{opening_store}
 use Rattle.replay_gen.specs.Fragments.{start_index}
-use Rattle.binary_follows.specs.Playable.{replay_of, layout_of}
+use Rattle.module_merge.specs.Merge.{layout_of}
+use Rattle.binary_follows.specs.Playable.{replay_of}
 use Rattle.run_replays.specs.Laws.{MakesEffectsOf}
 use Rattle.worked_histories.specs.Build.{value}
 use Rattle.worked_histories.specs.Modules.{two_answers, overwrite, grow_access, copy_load, fill_past, nested_call, table_entry, table_growth, float_global, c_buffers}

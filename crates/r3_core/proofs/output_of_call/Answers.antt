@@ -1,5 +1,6 @@
-use Rattle.std.proofs.Common.{◌≡◌, sym, ap, subst, ◌∙◌, zip, Option, Some, None, IsSome}
+use Rattle.std.proofs.Common.{◌≡◌, List, [], length, sym, ap, subst, ◌∙◌, zip, Option, Some, None, IsSome, String, string_bytes}
 use Rattle.std.proofs.lemmas.Bool.{false≢true}
+use Rattle.std.proofs.lemmas.List.{length-map}
 use Rattle.r3_core.specs.Causes.{first_longer, IsRefusal, IsDoable, all_bytes}
 use Rattle.r3_core.specs.Words.{form, texts}
 use Rattle.r3_core.proofs.ResultLemmas.{IfErr-from, IsErrAnd-from}
@@ -7,7 +8,7 @@ use Rattle.r3_core.proofs.StatusLemmas.{load-contains, load-refused, load-done, 
 use Rattle.r3_core.proofs.output_of_call.Goals as goal
 
 pub returns-in_err-loaded-clause-longer : goal.returns-in_err-loaded-clause-longer
-returns-in_err-loaded-clause-longer g c = λ built told e longer.
+returns-in_err-loaded-clause-longer g c = λ told e longer.
     IsErrAnd-from _ _ _ c.from_residual.ensures.1 (load-contains _ _ c.in_err-loaded.field-0.0 c.in_err-loaded.ensures.cause)
 
 pub returns-in_err-loaded-clause-refused : goal.returns-in_err-loaded-clause-refused
@@ -31,7 +32,7 @@ none-longer None none some = false≢true some
 none-longer (Some file) none some = cc none
 
 pub returns-clause-longer : goal.returns-clause-longer
-returns-clause-longer g c = λ built told e longer.
+returns-clause-longer g c = λ told e longer.
     absurd
     (none-longer (first_longer told (zip (texts c.args.call.now.names.now) (form c.args.call.now.command).limits))
     (subst (λ limits. first_longer told (zip (texts c.args.call.now.names.now) limits) ≡ None) c.limits.ensures (c.in_ok-loaded.ensures.within_limits told e))
@@ -48,3 +49,13 @@ pub returns-clause-done : goal.returns-clause-done
 returns-clause-done g c = λ told e none doable.
     IfErr-done c.output_of_command.result
     (c.output_of_command.ensures.done (subst (λ loaded. IsDoable c.args.call.now.command loaded c.args.call.now.number) (sym (ap all_bytes c.deref.ensures.value ∙ c.in_ok-loaded.ensures.bytes told e)) doable))
+
+-- no names
+no-names : {Y : Type 0} (names : List (String Y)) → texts names ≡ [] → length names ≡ 0
+no-names names none = sym (length-map names string_bytes) ∙ ap length none
+
+pub returns-in_err-loaded-clause-unread : goal.returns-in_err-loaded-clause-unread
+returns-in_err-loaded-clause-unread g c = λ none. c.in_err-loaded.ensures.unread (no-names c.args.call.now.names.now none)
+
+pub returns-clause-unread : goal.returns-clause-unread
+returns-clause-unread g c = λ none. c.in_ok-loaded.ensures.unread (no-names c.args.call.now.names.now none)

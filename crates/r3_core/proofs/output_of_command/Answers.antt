@@ -8,8 +8,11 @@ use Rattle.r3_build.specs.Printed as built
 use Rattle.r3_history.specs.Histories.{IsHistory, IsHistoryRefusal}
 use Rattle.r3_replay.specs.ReplayTexts.{IsReplayText, IsReplayRefusal}
 use Rattle.r3_show.specs.Shown.{IsShown, IsShowRefusal}
+use Rattle.load_maker.specs.Loads.{load_script}
+use Rattle.load_maker.specs.declared.load_module.TheConstants.{LOAD_MODULE}
+use Rattle.r3_load.specs.Summaries.{load_turns}
 use Rattle.r3_core.specs.declared.words.Command.{Command}
-use Rattle.r3_core.specs.declared.words.Command.TheVariants.{Make, Instrument, Record, Reduce, Build, History, Replay, Show}
+use Rattle.r3_core.specs.declared.words.Command.TheVariants.{Make, Instrument, Record, Reduce, Build, History, Replay, Show, Load}
 use Rattle.r3_core.specs.Causes.{IsRefusal, IsDoable, all_bytes}
 use Rattle.r3_core.proofs.output_of_command.Goals as goal
 
@@ -210,3 +213,18 @@ returns-in-Build-len3-None-clause-done c = λ doable.
     (three-files c.args.command Build HasBuilt (λ command loaded number. IsDoable command loaded number) c.args.loaded.now c.args.number c.kept-item.result c.supplied-item.result c.tape-item.result (λ a b d doable. doable) here.is-0 here.is-2 c.kept-item.is c.supplied-item.is c.tape-item.is (omega (arith, here.len_at_least)) (omega (arith, here.len_below)) doable))))
     in
     (c.build.ensures.accepted bytes.0 bytes.1).1
+
+-- ---- loads
+
+-- what is said of a number alone
+no-file : {Z : Type 0} (command here : Command) (given : Option ℕ) (P : Type 0) (Q : Command → List (List ℕ) → Option ℕ → Type 0) (loaded : List (Vec ℕ Z)) (number : Option ℕ)
+    → (Q here [] given → P) → command ≡ here → number ≡ given → length loaded < 1 → Q command (all_bytes loaded) number → P
+no-file command here given P Q [] number at c n most sure =
+    at (subst (λ number. Q here [] number) n (subst (λ command. Q command [] number) c sure))
+no-file command here given P Q (a ∷ more) number at c n most sure = absurd (omega (arith, most))
+
+pub returns-in-Load-empty-Some-clause-refused : goal.returns-in-Load-empty-Some-clause-refused
+returns-in-Load-empty-Some-clause-refused c = λ fault sure.
+    let here = c.in-Load-empty-Some in
+    c.load_summary.ensures.refused fault
+    (no-file c.args.command Load (Some here.number) (IsMakeRefusal LOAD_MODULE (load_script here.number) load_turns fault) (λ command loaded number. IsRefusal command loaded number fault) c.args.loaded.now c.args.number (λ sure. sure) here.is-0 here.is-2 (omega (arith, here.len_below)) sure)

@@ -30,8 +30,8 @@ returns-in-Err-clause-printed_prefix g c = λ e.
     c.in-Err.ensures.printed_prefix (ap Err (status-write _ _ _ _ c.in-Err.fault c.in-Err.ensures.cause (sym c.status.ensures ∙ e)).0)
 
 pub returns-in-Err-clause-longer : goal.returns-in-Err-clause-longer
-returns-in-Err-clause-longer g c = λ built told e longer.
-    subst (Contains (3 ∷ 4 ∷ 14 ∷ [])) (sym c.status.ensures) (c.in-Err.ensures.longer built told e longer)
+returns-in-Err-clause-longer g c = λ listed told e longer.
+    subst (Contains (3 ∷ 4 ∷ 14 ∷ [])) (sym c.status.ensures) (c.in-Err.ensures.longer listed told e longer)
 
 pub returns-in-Err-clause-refused : goal.returns-in-Err-clause-refused
 returns-in-Err-clause-refused g c = λ command names number fault says told e none sure.
@@ -48,7 +48,7 @@ returns-in-Err-clause-told g c = λ other. (
 pub returns-in-Err-clause-unread : goal.returns-in-Err-clause-unread
 returns-in-Err-clause-unread g c = λ either. elim either [
   | inl e ↦ c.in-Err.ensures.unlisted (ap Err (status-usage _ _ _ _ c.in-Err.fault c.in-Err.ensures.cause (sym c.status.ensures ∙ e)).0)
-  | inr unbuilt ↦ (c.in-Err.ensures.unbuilt unbuilt).1
+  | inr none ↦ c.in-Err.ensures.unread none
 ]
 
 pub returns-in-Err-clause-printed : goal.returns-in-Err-clause-printed

@@ -5,13 +5,13 @@ use Rattle.r3_faults.specs.declared.faults.Fault.TheVariants.{Write as WriteFaul
 use Rattle.r3_core.specs.Causes.{first_longer}
 use Rattle.r3_core.proofs.ResultLemmas.{IfErr-from, IsErrAnd-from}
 use Rattle.r3_core.proofs.WordLemmas.{files_of-Says}
-use Rattle.r3_core.proofs.StatusLemmas.{print-other, IsCause-printing, IsRefusal-said, IsDoable-said, longer-said}
+use Rattle.r3_core.proofs.StatusLemmas.{print-other, IsCause-printing, IsRefusal-said, IsDoable-said, longer-said, names-none}
 use Rattle.r3_core.proofs.run.Goals as goal
 
 pub returns-in_err-printed-clause-longer : goal.returns-in_err-printed-clause-longer
-returns-in_err-printed-clause-longer g c = λ built told e longer.
-    let both = longer-said _ _ _ _ c.in_ok-call.ensures.listed built told longer in
-    IsErrAnd-from _ _ _ c.from_residual-in_err-printed.ensures.1 (c.in_err-printed.ensures.longer both.0 told e both.1)
+returns-in_err-printed-clause-longer g c = λ listed told e longer.
+    let here = longer-said _ _ _ _ c.in_ok-call.ensures.listed told longer in
+    IsErrAnd-from _ _ _ c.from_residual-in_err-printed.ensures.1 (c.in_err-printed.ensures.longer told e here)
 
 pub returns-in_err-printed-clause-cause : goal.returns-in_err-printed-clause-cause
 returns-in_err-printed-clause-cause g c =
@@ -27,9 +27,9 @@ returns-in_err-printed-clause-refused g c = λ command names number fault says t
     (IsRefusal-said _ _ _ _ _ _ _ here says told fault sure))
 
 pub returns-in_err-put_all-clause-longer : goal.returns-in_err-put_all-clause-longer
-returns-in_err-put_all-clause-longer g c = λ built told e longer.
-    let both = longer-said _ _ _ _ c.in_ok-call.ensures.listed built told longer in
-    absurd (c.in_ok-printed.ensures.longer both.0 told e both.1)
+returns-in_err-put_all-clause-longer g c = λ listed told e longer.
+    let here = longer-said _ _ _ _ c.in_ok-call.ensures.listed told longer in
+    absurd (c.in_ok-printed.ensures.longer told e here)
 
 pub returns-in_err-put_all-clause-refused : goal.returns-in_err-put_all-clause-refused
 returns-in_err-put_all-clause-refused g c = λ command names number fault says told e none sure.
@@ -40,9 +40,9 @@ returns-in_err-put_all-clause-refused g c = λ command names number fault says t
     (IsRefusal-said _ _ _ _ _ _ _ here says told fault sure))
 
 pub returns-clause-longer : goal.returns-clause-longer
-returns-clause-longer g c = λ built told e longer.
-    let both = longer-said _ _ _ _ c.in_ok-call.ensures.listed built told longer in
-    c.in_ok-printed.ensures.longer both.0 told e both.1
+returns-clause-longer g c = λ listed told e longer.
+    let here = longer-said _ _ _ _ c.in_ok-call.ensures.listed told longer in
+    c.in_ok-printed.ensures.longer told e here
 
 pub returns-clause-refused : goal.returns-clause-refused
 returns-clause-refused g c = λ command names number fault says told e none sure.
@@ -81,3 +81,15 @@ returns-in_err-printed-clause-printed_prefix g c = λ is.
     absurd
     ((print-other _ _ _ _ c.in_err-printed.field-0.0 c.in_err-printed.ensures.cause).1
     (fault-one c.from_residual-in_err-printed.result _ _ c.from_residual-in_err-printed.ensures.1 is))
+
+pub returns-in_err-printed-clause-unread : goal.returns-in_err-printed-clause-unread
+returns-in_err-printed-clause-unread g c = λ none.
+    c.in_err-printed.ensures.unread (names-none _ _ _ _ c.in_ok-call.ensures.listed none)
+
+pub returns-in_err-put_all-clause-unread : goal.returns-in_err-put_all-clause-unread
+returns-in_err-put_all-clause-unread g c = λ none.
+    c.in_ok-printed.ensures.unread (names-none _ _ _ _ c.in_ok-call.ensures.listed none)
+
+pub returns-clause-unread : goal.returns-clause-unread
+returns-clause-unread g c = λ none.
+    c.in_ok-printed.ensures.unread (names-none _ _ _ _ c.in_ok-call.ensures.listed none)

@@ -69,7 +69,7 @@ fn files_at_and_past_their_limit(rt: HostRuntime) -> Result<(), Fail> {
 /// Words, and what is printed before the second call of the sink, which takes ten bytes a call: the preamble
 /// and the begin of a section with the types; the begin of the first line.
 const CUT_SHORT: &[(&str, &str, &[u8])] = &[
-    ("make", "4", b"\0asm\x01\0\0\0\x01\x08"),
+    ("make", "4", b"\0asm\x01\0\0\0\x01\x20"),
     ("history", "100", b"host-call "),
 ];
 

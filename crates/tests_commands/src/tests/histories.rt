@@ -10,7 +10,7 @@ use crate::tests::tables::check_tables;
 use std::test::Fail;
 
 /// Modules with their runs.
-const RUNS: &[(&str, &str)] = &[
+pub const RUNS: &[(&str, &str)] = &[
     (
         TWO_ANSWERS,
         r#"

@@ -29,24 +29,29 @@ const ROUNDS: &str =
     "0061736d010000000105016000017f02070101680166000003020100070501016700010a18011601017f1000210003402000417f\
      6a22000d000b20000b";
 
-/// The replay module of 500,000 rounds, section by section: types, functions, the counter, `_start`, the
-/// bodies of the import, of the original and of `_start`, and the layout.
-const ROUNDS_REPLAYED: &str =
-    // (module (type (func (result i32))) (type (func)) (global (mut i32) (i32.const 0))
-    //   (func (type 0) (local i32) global.get 0 local.set 0 local.get 0 i32.const 1 i32.add global.set 0
-    //     local.get 0 i32.const 0 i32.eq if i32.const 500000 return end unreachable)
-    //   (func (type 0) (local i32) call 0 local.set 0
-    //     loop local.get 0 i32.const -1 i32.add local.tee 0 br_if 0 end local.get 0)
-    //   (func (type 1) call 1 drop) (export "_start" (func 2))),
-    //   with a custom section "r3.layout" of the bytes 01 01 at the end
-    "0061736d01000000\
-     0108026000017f600000\
-     030403000001\
+/// The replay module of 500,000 rounds, section by section: types, functions, the counter, `_start`, the bodies
+/// of the import, of the original, of `_start` and of the answer, and the layout.
+// (module (type (func (result i32))) (type (func)) (type (func (param i32)))
+//   (type (func (param i32) (result i32))) (type (func (param i32) (result i64)))
+//   (type (func (param i32) (result f32))) (type (func (param i32) (result f64)))
+//   (global (mut i32) (i32.const 0))
+//   (func (type 0) (local i32) global.get 0 local.tee 0 i32.const 1 i32.add global.set 0
+//     block block local.get 0 i32.const 256 i32.div_u br_table 0 1 end local.get 0 call 3 return end unreachable)
+//   (func (type 0) (local i32) call 0 local.set 0
+//     loop local.get 0 i32.const -1 i32.add local.tee 0 br_if 0 end local.get 0)
+//   (func (type 1) call 1 drop return)
+//   (func (type 3) block block local.get 0 i32.const 256 i32.rem_u br_table 0 1 end i32.const 500000 return
+//     end unreachable)
+//   (export "_start" (func 2))), with a custom section "r3.layout" of the bytes 01 01 at the end
+const ROUNDS_REPLAYED: &str = "0061736d01000000\
+     0120076000017f60000060017f0060017f017f60017f017e60017f017d60017f017c\
+     03050400000103\
      0606017f0141000b\
      070a01065f73746172740002\
-     0a3c031d01017f23002100200041016a24002000410046044041a0c21e0f0b000b\
+     0a5c042301017f2300220041016a24000240024020004180026e0e0100010b200010030f0b000b\
      1601017f1000210003402000417f6a22000d000b20000b\
-     050010011a0b\
+     060010011a0f0b\
+     1800024002402000418002700e0100010b41a0c21e0f0b000b\
      000c0972332e6c61796f75740101";
 
 #[test]
@@ -75,7 +80,7 @@ const EIGHT_IMPORTS: &str =
      680166000001680166000001680166000003020101070501016700080a2f012d01017f034010001a10011a10021a10031a10041a\
      10051a10061a10071a200041016a22004190a10f490d000b0b";
 
-/// The calls of the imports and the one by the host are one more than the most that are replayed.
+/// The tape has two units for each call of an import, one for the call by the host and one for its end.
 #[test]
 fn a_run_of_two_million_calls_and_one(rt: HostRuntime) -> Result<(), Fail> {
     let alloc = rt.alloc();
@@ -84,7 +89,7 @@ fn a_run_of_two_million_calls_and_one(rt: HostRuntime) -> Result<(), Fail> {
     let spent = outcome_of_command(alloc, "make", EIGHT_IMPORTS, script.as_str(), "6000000")?;
     assert!(rt; spent.is_refused(12, "turns spent: 6000000\n"));
     let answer = outcome_of_command(alloc, "make", EIGHT_IMPORTS, script.as_str(), "6000001")?;
-    assert!(rt; answer.is_refused(19, "not built\n"));
+    assert!(rt; answer.is_refused(18, "tape limit: 4000002\n"));
     Ok(())
 }
 
@@ -108,7 +113,7 @@ fn a_module_of_three_million_bytes(rt: HostRuntime) -> Result<(), Fail> {
     files.add("large", module.as_slice())?;
     let answer = outcome_of(alloc, &["make", "large", "s.json", "4"], &mut files)?;
     assert!(rt; answer.is_done());
-    // As with the small module, 68 bytes more than the original's 3,000,058.
-    assert_eq!(rt; answer.printed.len(), 3_000_126);
+    // As with the small module, 121 bytes more than the original's 3,000,058.
+    assert_eq!(rt; answer.printed.len(), 3_000_179);
     Ok(())
 }

@@ -12,20 +12,26 @@ use wasm_syntax::Form;
 use wasm_validate::validate;
 
 /// The replay module of two answers, section by section: types, functions, the counter, `_start`, the bodies
-/// of the import, of the original and of `_start`, and the layout.
-// (module (type (func (result i32))) (type (func)) (global (mut i32) (i32.const 0))
-//   (func (type 0) (local i32) global.get 0 local.set 0 local.get 0 i32.const 1 i32.add global.set 0
-//     local.get 0 i32.const 0 i32.eq if i32.const 5 return end local.get 0 i32.const 1 i32.eq if i32.const 7 return
-//     end unreachable) (func (type 0) call 0 call 0 i32.add) (func (type 1) call 1 drop)
+/// of the import, of the original, of `_start` and of the answers, and the layout.
+// (module (type (func (result i32))) (type (func)) (type (func (param i32)))
+//   (type (func (param i32) (result i32))) (type (func (param i32) (result i64)))
+//   (type (func (param i32) (result f32))) (type (func (param i32) (result f64)))
+//   (global (mut i32) (i32.const 0))
+//   (func (type 0) (local i32) global.get 0 local.tee 0 i32.const 1 i32.add global.set 0
+//     block block local.get 0 i32.const 256 i32.div_u br_table 0 1 end local.get 0 call 3 return end unreachable)
+//   (func (type 0) call 0 call 0 i32.add) (func (type 1) call 1 drop return)
+//   (func (type 3) block block block local.get 0 i32.const 256 i32.rem_u br_table 0 1 2 end i32.const 5 return
+//     end i32.const 7 return end unreachable)
 //   (export "_start" (func 2))), with a custom section "r3.layout" of the bytes 01 01 at the end
 const TWO_ANSWERS_REPLAYED: &str = "0061736d01000000\
-     0108026000017f600000\
-     030403000001\
+     0120076000017f60000060017f0060017f017f60017f017e60017f017d60017f017c\
+     03050400000103\
      0606017f0141000b\
      070a01065f73746172740002\
-     0a36032601017f23002100200041016a24002000410046044041050f0b2000410146044041070f0b000b\
+     0a52042301017f2300220041016a24000240024020004180026e0e0100010b200010030f0b000b\
      0700100010006a0b\
-     050010011a0b\
+     060010011a0f0b\
+     1d000240024002402000418002700e020001020b41050f0b41070f0b000b\
      000c0972332e6c61796f75740101";
 
 /// A loop that adds what 200 calls of its import give.
@@ -151,8 +157,8 @@ fn a_loop_that_calls_its_import_200_times(rt: HostRuntime) -> Result<(), Fail> {
     let script = script_of_answers(alloc, &[], 200)?;
     // A call of the host, twelve instructions for each call of the import, and the last `local.get`.
     assert!(rt; takes_turns(alloc, LOOP, script.as_str(), "2401", "2402")?);
-    // Call k of the import takes 8 instructions and 4 for each test, of which it makes k; `_start` has 2 more.
-    assert!(rt; is_replay(alloc, LOOP, script.as_str(), "2402", "84403", "84404")?);
+    // A call of the import takes 14 instructions in its place and 207 where its answer is; `_start` has 3 more.
+    assert!(rt; is_replay(alloc, LOOP, script.as_str(), "2402", "46604", "46605")?);
     let short = script_of_answers(alloc, &[], 199)?;
     let fault = outcome_of_command(alloc, "make", LOOP, short.as_str(), "2402")?;
     assert!(rt; fault.is_refused(11, "script fault: turn 2392 no response\n"));
@@ -167,17 +173,29 @@ const TRAP_REPLAYED: &[u8] = b"host-call 2\n\
     step 1 1 ->\n\
     enter 0\n\
     step 0 0 -> i32:00000000\n\
-    step 0 1 i32:00000000 ->\n\
-    step 0 2 -> i32:00000000\n\
-    step 0 3 -> i32:00000001\n\
-    step 0 4 i32:00000000 i32:00000001 -> i32:00000001\n\
-    step 0 5 i32:00000001 ->\n\
-    step 0 6 -> i32:00000000\n\
+    step 0 1 i32:00000000 -> i32:00000000\n\
+    step 0 2 -> i32:00000001\n\
+    step 0 3 i32:00000000 i32:00000001 -> i32:00000001\n\
+    step 0 4 i32:00000001 ->\n\
+    step 0 5 ->\n\
+    step 0 6 ->\n\
     step 0 7 -> i32:00000000\n\
-    step 0 8 i32:00000000 i32:00000000 -> i32:00000001\n\
-    step 0 9 i32:00000001 ->\n\
-    step 0 10 -> i32:00000000\n\
-    step 0 11 ->\n\
+    step 0 8 -> i32:00000100\n\
+    step 0 9 i32:00000000 i32:00000100 -> i32:00000000\n\
+    step 0 10 i32:00000000 ->\n\
+    step 0 11 -> i32:00000000\n\
+    step 0 12 i32:00000000 ->\n\
+    enter 3\n\
+    step 3 0 ->\n\
+    step 3 1 ->\n\
+    step 3 2 -> i32:00000000\n\
+    step 3 3 -> i32:00000100\n\
+    step 3 4 i32:00000000 i32:00000100 -> i32:00000000\n\
+    step 3 5 i32:00000000 ->\n\
+    step 3 6 -> i32:00000000\n\
+    step 3 7 ->\n\
+    exit 3 i32:00000000\n\
+    step 0 13 ->\n\
     exit 0 i32:00000000\n\
     trap 1 2 divide i32:00000064 i32:00000000\n\
     trapped\n";
@@ -188,9 +206,9 @@ fn a_trap_is_an_outcome(rt: HostRuntime) -> Result<(), Fail> {
     let script = script_of_answers(alloc, &[], 1)?;
     let answer = outcome_of_command(alloc, "make", TRAP, script.as_str(), "4")?;
     assert_eq!(rt; answer.status, 0);
-    let replay = run_of_replay(alloc, &answer.printed, "17")?;
+    let replay = run_of_replay(alloc, &answer.printed, "27")?;
     assert_eq!(rt; replay.printed.as_slice(), TRAP_REPLAYED);
-    assert!(rt; is_replay(alloc, TRAP, script.as_str(), "4", "16", "17")?);
+    assert!(rt; is_replay(alloc, TRAP, script.as_str(), "4", "26", "27")?);
     Ok(())
 }
 
@@ -198,6 +216,7 @@ fn a_trap_is_an_outcome(rt: HostRuntime) -> Result<(), Fail> {
 fn a_program_compiled_from_c(rt: HostRuntime) -> Result<(), Fail> {
     let alloc = rt.alloc();
     assert!(rt; takes_turns(alloc, COLLATZ, NUMBERS, "638", "639")?);
-    assert!(rt; is_replay(alloc, COLLATZ, NUMBERS, "639", "712", "713")?);
+    // 25 instructions for each of the four calls of the import, and three of `_start`
+    assert!(rt; is_replay(alloc, COLLATZ, NUMBERS, "639", "741", "742")?);
     Ok(())
 }

@@ -1,8 +1,11 @@
 //! Runs and their budgets.
 
 use crate::tests::calls::{ANSWERS, TWO_ANSWERS, files_of, outcome_of, outcome_of_command};
-use crate::tests::history_modules::{COPY_LOAD, NESTED_CALL, NESTED_TRAP, OVERWRITE, TABLE_GROWTH};
+use crate::tests::history_modules::{
+    COPY_LOAD, FLOAT_GLOBAL, NESTED_CALL, NESTED_TRAP, OVERWRITE, TABLE_GROWTH,
+};
 use r3_outside::MemFiles;
+use std::alloc::Global;
 use std::test::Fail;
 
 #[test]
@@ -90,12 +93,11 @@ fn words_of_no_form(rt: HostRuntime) -> Result<(), Fail> {
         let answer = outcome_of_command(alloc, "history", TWO_ANSWERS, ANSWERS, turns)?;
         assert!(rt; answer.is_refused(2, "usage\n"), "{turns}");
     }
-    let words: [&[&str]; 5] = [
+    let words: [&[&str]; 4] = [
         &[],
         &["make", "m.wasm"],
         &["make", "m.wasm", "s.json", "4", "4"],
         &["Make", "m.wasm", "s.json", "4"],
-        &["load", "60001"],
     ];
     for words in words {
         let mut files = files_of(alloc, TWO_ANSWERS, ANSWERS, Vec::new(alloc))?;
@@ -111,12 +113,34 @@ const CALLING: &str = concat!(
     r#"{"return":{"i32":3}},{"return":{"i32":4}}]}}},"main":[{"call":"g"}]}"#
 );
 
+/// Whether the run of what `make` prints within 100 turns shows what `history` prints.
+fn shows_its_history(alloc: Global, module: &str, script: &str) -> Result<bool, Fail> {
+    let made = outcome_of_command(alloc, "make", module, script, "100")?;
+    let mut files = MemFiles::new(alloc, Vec::new(alloc));
+    files.add("r.wasm", made.printed.as_slice())?;
+    let shown = outcome_of(alloc, &["replay", "r.wasm", "20000000"], &mut files)?;
+    let history = outcome_of_command(alloc, "history", module, script, "100")?;
+    Ok(
+        made.is_done()
+            && shown.is_done()
+            && history.is_done()
+            && shown.printed.as_slice() == history.printed.as_slice(),
+    )
+}
+
 #[test]
-fn forms_that_are_not_built(rt: HostRuntime) -> Result<(), Fail> {
-    let alloc = rt.alloc();
+fn what_is_made_shows_the_history(rt: HostRuntime) -> Result<(), Fail> {
     let rows = [
-        // (module (memory 4096))
-        ("a memory", "0061736d01000000050401008020", "{}"),
+        // (module (memory 1))
+        ("a memory", "0061736d010000000503010001", "{}"),
+        (
+            "a float global that the host sets",
+            FLOAT_GLOBAL,
+            concat!(
+                r#"{"imports":{"h":{"f":{"calls":[{"do":[{"set_global":"x","value":{"f32":2141192193}}]}]}}},"#,
+                r#""main":[{"call":"g"}]}"#
+            ),
+        ),
         (
             "a host that writes",
             OVERWRITE,
@@ -143,7 +167,7 @@ fn forms_that_are_not_built(rt: HostRuntime) -> Result<(), Fail> {
             NESTED_TRAP,
             r#"{"imports":{"h":{"f":{"calls":[{"do":[{"call":"e"}],"return":{"i32":1}}]}}},"main":[{"call":"g"}]}"#,
         ),
-        ("a copy", COPY_LOAD, r#"{}"#),
+        ("a copy", COPY_LOAD, "{}"),
         (
             "a host that grows a table",
             TABLE_GROWTH,
@@ -151,18 +175,8 @@ fn forms_that_are_not_built(rt: HostRuntime) -> Result<(), Fail> {
         ),
     ];
     for (name, module, script) in rows {
-        let answer = outcome_of_command(alloc, "make", module, script, "100")?;
-        assert!(rt; answer.is_refused(19, "not built\n"), "{name}");
+        assert!(rt; shows_its_history(rt.alloc(), module, script)?, "{name}");
     }
-    Ok(())
-}
-
-#[test]
-fn a_command_that_is_not_built_reads_no_file(rt: HostRuntime) -> Result<(), Fail> {
-    let alloc = rt.alloc();
-    let mut files = MemFiles::new(alloc, Vec::new(alloc));
-    let answer = outcome_of(alloc, &["load", "60000"], &mut files)?;
-    assert!(rt; answer.is_refused(19, "not built\n"));
     Ok(())
 }
 

@@ -22,32 +22,54 @@ pub fn check_tables(alloc: Global, tables: &[(&str, &str)]) -> Result<u64, Fail>
     Ok(count)
 }
 
+/// A row: what it is called, its budget of turns, its script, and its lines, apart from each other.
+#[derive(Clone, Copy)]
+pub struct Row<'a> {
+    pub name: &'a str,
+    pub turns: &'a str,
+    pub script: &'a str,
+    lines: &'a str,
+}
+
+impl<'a> Row<'a> {
+    /// The row that a text is, where it is one.
+    pub fn of(text: &'a str) -> Option<Row<'a>> {
+        let (name, rest) = text.split_once(" | ")?;
+        let (turns, rest) = rest.split_once(" | ")?;
+        let (script, lines) = rest.split_once("=>")?;
+        Some(Row {
+            name,
+            turns,
+            script: script.trim(),
+            lines,
+        })
+    }
+
+    /// Its lines, each with its end.
+    ///
+    /// # Errors
+    ///
+    /// When memory runs out.
+    pub fn text(&self, alloc: Global) -> Result<String, Fail> {
+        let mut text = String::new(alloc);
+        for line in self.lines.split(";") {
+            text.push_str(line.trim())?;
+            text.push_str("\n")?;
+        }
+        Ok(text)
+    }
+}
+
 /// Compares what `history` prints with a row.
 fn check_row(alloc: Global, module: &str, row: &str) -> Result<(), Fail> {
-    let Some((name, rest)) = row.split_once(" | ") else {
-        return Err(Fail::from("a row without a name"));
+    let Some(row) = Row::of(row) else {
+        return Err(Fail::from("a row of another form"));
     };
-    let Some((turns, rest)) = rest.split_once(" | ") else {
-        return Err(Fail::from("a row without turns"));
-    };
-    let Some((script, lines)) = rest.split_once("=>") else {
-        return Err(Fail::from("a row without lines"));
-    };
-    let wanted = text_of(alloc, lines)?;
-    let answer = outcome_of_command(alloc, "history", module, script.trim(), turns)?;
+    let wanted = row.text(alloc)?;
+    let answer = outcome_of_command(alloc, "history", module, row.script, row.turns)?;
     if answer.is_done() && answer.printed.as_slice() == wanted.as_bytes() {
         return Ok(());
     }
     let printed = String::from_utf8_lossy(alloc, answer.printed.as_slice())?;
-    Err(Fail::new(format_args!("{name}: {printed}")))
-}
-
-/// Lines with their ends.
-fn text_of(alloc: Global, lines: &str) -> Result<String, Fail> {
-    let mut text = String::new(alloc);
-    for line in lines.split(";") {
-        text.push_str(line.trim())?;
-        text.push_str("\n")?;
-    }
-    Ok(text)
+    Err(Fail::new(format_args!("{}: {printed}", row.name)))
 }

@@ -1,7 +1,7 @@
 //! What `replay` prints for modules that were written by hand, and why it prints nothing. The lines were worked out by
 //! hand.
 
-use crate::tests::replay_modules::{
+use crate::tests::handmade::{
     BY_TABLE, DATA, DATA_AND_NO_EXPORT, ELEMENT, EMPTY, EXPORTED_MEMORY, FLOAT, IMPORT_BY_TABLE,
     IMPORTED_MEMORY, IMPORTING, INVALID, MEMORY, NESTED, NO_EXPORT, NONE, ONE_AND_ONE,
     ONE_AND_THREE, ONE_AND_TWO, ONE_DEFINED, OTHER_NAME, PARAMETER, REFERENCES, RESERVED, RESULT,

@@ -1,4 +1,4 @@
-use Rattle.std.proofs.Common.{◌≡◌, ◌⊎◌, inl, inr, refl, ap, Ok}
+use Rattle.std.proofs.Common.{inl, inr, refl, ap, Ok}
 use Rattle.r3_inputs.specs.Inputs.{ByModule, ByScript}
 use Rattle.accepted_runs.proofs.InputAnswers.{module-refused, module-accepted, script-not-taken, script-wanted, both-refused, both-same}
 use Rattle.accepted_runs.proofs.inputs.inputs_of.Goals as goal

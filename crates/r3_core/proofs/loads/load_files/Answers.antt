@@ -20,6 +20,7 @@ pub files-preserved : goal.files-preserved
 files-preserved g c =
     let name = c.as_str.ensures.value ∙ ap string_bytes c.index-names-index.is in
     record {
+      unread = λ none. absurd (omega (arith, none, c.files-test.true));
       all = omega (arith, c.in_ok-push.ensures.len);
       bytes =
           AreBytesOf-more _ c.args.names.now c.files.index c.index-names-index.result _ _ _ c.files-test.true c.in_ok-push.ensures.items c.files.invariant.bytes

@@ -1,4 +1,4 @@
-use Rattle.std.proofs.Common.{◌≡◌, ◌≤◌, take, zip, None, vec_len}
+use Rattle.std.proofs.Common.{◌≡◌, ◌≤◌, length, take, zip, None, vec_len}
 use Rattle.std.specs.Option.{ForSome}
 use Rattle.r3_core.specs.Words.{texts}
 use Rattle.r3_core.specs.Causes.{first_longer, AreBytesOf, AreWithin, all_bytes}
@@ -6,6 +6,7 @@ use Rattle.r3_core.proofs.loads.load_files.Given as goal
 
 abbrev pub invariant-files : goal.invariant-files
 invariant-files g l = record {
+  unread : length l.names ≡ 0 → l.files ≡ l.initial.files;
   all : vec_len l.loaded ≡ l.index;
   bytes : AreBytesOf (g.F.Files.contents l.initial.files) (texts (take l.index l.names)) (all_bytes l.loaded.items);
   within : AreWithin (all_bytes l.loaded.items) l.limits;

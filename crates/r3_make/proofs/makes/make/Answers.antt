@@ -1,4 +1,4 @@
-use Rattle.std.proofs.Common.{◌≡◌, ◌⊎◌, inl, inr, ℕ, List, length}
+use Rattle.std.proofs.Common.{◌≡◌, ◌⊎◌, inl, inr, ℕ, List}
 use Rattle.std.proofs.lemmas.Result.{IfErr-weaker, IfOk-weaker}
 use Rattle.wasm_syntax.specs.declared.modules.Module.{Module}
 use Rattle.host_script.specs.declared.scripts.Script.{Script}
@@ -6,7 +6,8 @@ use Rattle.r3_faults.specs.declared.faults.Fault.{Fault}
 use Rattle.r3_faults.specs.declared.faults.Fault.TheVariants.{Memory}
 use Rattle.accepted_runs.proofs.InputAnswers.{IsWhy, passed, inputs-answer, inputs-memory, inputs-same, inputs-why}
 use Rattle.r3_make.specs.Printed.{IsPrinted, IsReplayFor}
-use Rattle.r3_make.specs.Refusals.{IsMakeRefusal, IsReplayable, OfInputs, OfModule, IsUnmade}
+use Rattle.r3_make.specs.Refusals.{IsMakeRefusal, OfInputs, OfModule, IsUnmade}
+use Rattle.r3_make.specs.Tapes.{NeedsLightTape}
 use Rattle.r3_make.proofs.makes.make.Goals as goal
 
 -- why there is no replay module of a module and a script
@@ -41,7 +42,7 @@ returns-clause-cause c =
 
 pub returns-clause-printed : goal.returns-clause-printed
 returns-clause-printed c =
-    IfOk-weaker c.replay_of.result (λ bytes. IsReplayFor c.in_ok-checked.checked c.in_ok-checked.script c.args.turns (length c.args.module.now) bytes.items)
+    IfOk-weaker c.replay_of.result (λ bytes. IsReplayFor c.in_ok-checked.checked c.in_ok-checked.script c.args.turns bytes.items)
     (λ bytes. IsPrinted c.args.module.now c.args.script.now c.args.turns bytes.items)
     (λ bytes replay. record { m = c.in_ok-checked.checked; script = c.in_ok-checked.script; inputs = c.in_ok-checked.ensures.taken.inputs; replay = replay })
     c.replay_of.ensures.printed
@@ -56,4 +57,4 @@ pub returns-clause-accepted : goal.returns-clause-accepted
 returns-clause-accepted c = λ these.
     c.replay_of.ensures.accepted
     (inputs-same c.args.module.now c.args.script.now c.inputs_of.result c.inputs_of.ensures.refused c.inputs_of.ensures.accepted c.in_ok-checked.checked c.in_ok-checked.script c.in_ok-checked.was
-    (λ m script. IsReplayable m script c.args.turns) these.m these.script these.inputs these.replayable)
+    (λ m script. NeedsLightTape m script c.args.turns) these.m these.script these.inputs these.replayable)

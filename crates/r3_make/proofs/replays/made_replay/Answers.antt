@@ -1,36 +1,44 @@
-use Rattle.std.proofs.Common.{◌≡◌, ℕ, List, length, sym, ap, subst}
+use Rattle.std.proofs.Common.{◌≡◌, Ok, subst}
 use Rattle.std.proofs.lemmas.Result.{IfOk-weaker}
-use Rattle.wasm_syntax.specs.declared.values.Val.{Val}
-use Rattle.wasm_syntax.specs.declared.modules.Module.{Module}
-use Rattle.host_script.specs.declared.scripts.Script.{Script}
-use Rattle.plain_maker.specs.Parts.{table_of}
-use Rattle.r3_make.specs.Parts.{AreOfRun}
+use Rattle.wasm_syntax.specs.Validity.{IsValid}
+use Rattle.history_spec.specs.Instantiation.{instantiate}
+use Rattle.history_spec.specs.Store.{Store}
+use Rattle.r3_build.specs.Printed.{IsReplayOf}
 use Rattle.r3_make.specs.Printed.{IsReplayFor}
+use Rattle.r3_make.proofs.Shown.{constant, replay_for}
 use Rattle.r3_make.proofs.replays.made_replay.Goals as goal
 
--- what is printed for the module, the answers and the calls that are handed over, of those that they are
-handed-over : (m n : Module) (script : Script) (turns size : ℕ) (table other : List (List Val)) (calls more : List ℕ) (printed : List ℕ)
-    → m ≡ n → table ≡ other → calls ≡ more → AreOfRun n script turns other more
-    → ((turns : ℕ) → AreOfRun m script turns table calls → IsReplayFor m script turns size printed)
-    → IsReplayFor n script turns size printed
-handed-over m n script turns size table other calls more printed same_module same_table same_calls used prints =
-    subst (λ m. IsReplayFor m script turns size printed) same_module
-    (prints turns
-    (subst (λ n. AreOfRun n script turns table calls) (sym same_module)
-    (subst (λ (calls : List ℕ). AreOfRun n script turns table calls) (sym same_calls)
-    (subst (λ (table : List (List Val)). AreOfRun n script turns table more) (sym same_table) used))))
+pub replay_bytes-requires-clause-supplied : goal.replay_bytes-requires-clause-supplied
+replay_bytes-requires-clause-supplied c =
+    c.typed_store.ensures.supplied c.args.checked c.args.script c.in_ok-supply.supply c.requires.runnable.fits
+    c.in_ok-supply.ensures.linked.supplied
+
+pub replay_bytes-requires-clause-constants : goal.replay_bytes-requires-clause-constants
+replay_bytes-requires-clause-constants c =
+    let needed = c.in_ok-tape.ensures.needed in
+    constant c.args.checked c.args.script c.args.turns c.in_ok-supply.supply needed.0 c.in_ok-tape.tape needed.1
+    (record {
+      valid = subst IsValid c.module-valid.ensures.same c.module-valid.ensures.valid;
+      supported = c.requires.runnable.supported;
+      bytes = c.requires.bytes;
+    }) c.requires.runnable.fits c.needed_tapes_are_constant.ensures
 
 pub returns-clause-printed : goal.returns-clause-printed
 returns-clause-printed c =
-    let m = c.into_module-module.result in
-    let n = c.args.checked in
-    let script = c.args.script.now in
-    let size = length c.args.bytes.now in
-    let table = table_of c.deref.result.now in
-    let calls = c.deref-2.result.now in
-    let used = c.in_ok-used.used in
+    let m = c.args.checked in
+    let script = c.args.script in
+    let supply = c.in_ok-supply.supply in
+    let tape = c.in_ok-tape.tape in
+    let needed = c.in_ok-tape.ensures.needed in
     IfOk-weaker c.replay_bytes.result
-    (λ printed. (turns : ℕ) → AreOfRun m script turns table calls → IsReplayFor m script turns size printed.items)
-    (λ printed. IsReplayFor n script c.args.turns size printed.items)
-    (λ printed. handed-over m n script c.args.turns size table (table_of used.answers.items) calls used.calls.items printed.items c.into_module-module.ensures.same (ap (λ items. table_of items) c.deref.ensures.value) c.deref-2.ensures.value c.in_ok-used.ensures.used)
+    (λ printed. (store : Store) → instantiate m supply ≡ Ok store → IsReplayOf m supply store tape printed.items)
+    (λ printed. IsReplayFor m script c.args.turns printed.items)
+    (λ printed is.
+    replay_for m script c.args.turns supply needed.0 tape needed.1
+    (record {
+      valid = subst IsValid c.module-valid.ensures.same c.module-valid.ensures.valid;
+      supported = c.requires.runnable.supported;
+      bytes = c.requires.bytes;
+    }) c.requires.runnable.fits c.runs_are_replayed.ensures c.nothing_can_be_dropped.ensures c.in_ok-tape.ensures.light
+    printed.items (is needed.0 needed.1.linked.begins))
     c.replay_bytes.ensures.printed

@@ -17,7 +17,7 @@ returns-in_err-log-clause-cause c =
     ⊎ HasNoLogFile c.args.checked.now (form_of c.args.form) c.args.script.now c.args.turns fault)
     c.from_residual.ensures.1
     (elim c.in_err-log.ensures.cause
-    [ inl memory ↦ inl memory | inr refusal ↦ inr (OfRun c.args.store c.requires.links refusal) ])
+    [ inl memory ↦ inl memory | inr refusal ↦ inr (OfRun c.args.supply.now c.args.store c.requires.linked refusal) ])
 
 pub file_bytes-requires : goal.file_bytes-requires
 file_bytes-requires c =

@@ -1,0 +1,179 @@
+-- The tape of the log of a run is the one that the run needs.
+use Rattle.std.proofs.Common.{◌≡◌, ◌⊎◌, inl, inr, ℕ, ◌≤◌, List, Result, Ok, Err, IfOk, IfErr, refl, sym, ◌∙◌, subst}
+use Rattle.wasm_syntax.specs.Index.{imported_funcs}
+use Rattle.run_outcomes.specs.declared.outcomes.Outcome.{Outcome}
+use Rattle.trace_model.specs.declared.events.Event.{Event}
+use Rattle.trace_model.specs.declared.events.Log.{Log}
+use Rattle.trace_model.specs.declared.tapes.Tape.{Tape}
+use Rattle.trace_model.specs.Balance.{IsBalanced}
+use Rattle.trace_model.specs.Weight.{tape_weight}
+use Rattle.history_spec.specs.declared.entries.FaultKind.{FaultKind}
+use Rattle.history_spec.specs.Budget.{IsOver, IsSpent}
+use Rattle.history_spec.specs.Run.{all_one, program_of, start_in_store}
+use Rattle.history_spec.specs.Step.{Progress, Finished}
+use Rattle.history_spec.specs.Store.{Store}
+use Rattle.hook_spec.specs.LogTapes.{IsLogTape}
+use Rattle.hook_spec.specs.Logs.{log_with}
+use Rattle.host_play.specs.Results.{IsFault}
+use Rattle.calls_follow.specs.Laws.{OriginalRun}
+use Rattle.logs_follow.specs.Laws.{LogsAreBalanced, log_of_run}
+use Rattle.instrumented_follows.specs.Laws.{original_run}
+use Rattle.tape_follows.specs.NeededTape.{IsOneNeededTape}
+use Rattle.trace_reduce.specs.declared.reducer.Reducer.{Reducer}
+use Rattle.trace_reduce.specs.Reducer.{HasTaken}
+use Rattle.run_recorder.specs.Records.{HasTakenLog, IsLog}
+use Rattle.recorded_results.specs.Laws.{IsLogOfRun, TellsOriginal, record_of}
+use Rattle.accepted_runs.specs.Linked.{IsLinked}
+use Rattle.accepted_runs.specs.Runs.{OfScript, OfTurns}
+use Rattle.accepted_runs.proofs.OneResult.{linked-starts}
+use Rattle.binary_follows.specs.Playable.{most_weight}
+use Rattle.r3_faults.specs.declared.faults.Fault.{Fault}
+use Rattle.r3_faults.specs.declared.faults.Fault.TheVariants.{Memory, Script as ScriptFault, Spent}
+use Rattle.r3_make.specs.Answers.{IsHeavyLog, IsLightTape}
+use Rattle.r3_make.specs.Refusals.{IsUnmade, OfRun, OfWeight}
+use Rattle.r3_make.specs.Tapes.{NeedsTape}
+
+-- the log that events and an outcome make, of a module that imports this number of functions
+abbrev pub log_for : (imports : ℕ) (events : List Event) (outcome : Outcome) → Log
+log_for imports events outcome = record { imports = imports; events = events; outcome = outcome }
+
+log_is : (imports : ℕ) (outcome : Outcome) (found : Result (List Event) ℕ) (log : Log)
+    → log_with imports outcome found ≡ Ok log → log ≡ log_for imports log.events outcome
+log_is imports outcome (Ok events) log e = cc e
+log_is imports outcome (Err number) log e = absurd (cc e)
+
+over_at : (at : Progress) (outcome : Outcome) → at ≡ Finished outcome → IsOver at
+over_at at outcome e = subst IsOver (sym e) tt
+
+module _ (run : OriginalRun) (turns : ℕ) (tells : TellsOriginal run turns)
+    (linked : IsLinked run.m run.script run.supply run.store) where
+  -- a log of the record is that of its events and its outcome
+  pub log_parts : (outcome : Outcome) (log : Log) → IsLog (record_of run turns) outcome log
+      → log ≡ log_for (imported_funcs run.m) log.events outcome
+  log_parts outcome log is = log_is (imported_funcs run.m) outcome _ log is.logged
+
+  pub log_balanced : LogsAreBalanced → (outcome : Outcome) (log : Log) → IsLog (record_of run turns) outcome log
+      → IsBalanced (log_for (imported_funcs run.m) log.events outcome)
+  log_balanced balanced outcome log is =
+      let of = tells.logs outcome log is in
+      subst IsBalanced (log_parts outcome log is) (balanced run of.count outcome of.ends log of.logged)
+
+  same_log : (found : Result Log ℕ) (a b : Log) → found ≡ Ok a → found ≡ Ok b → b ≡ a
+  same_log found a b e f = cc (sym f ∙ e)
+
+  -- the one tape of the log
+  module _ (outcome : Outcome) (log : Log) (is : IsLog (record_of run turns) outcome log) (tape : Tape)
+      (is_tape : IsLogTape (log_for (imported_funcs run.m) log.events outcome) tape) where
+    of : IsLogOfRun run turns outcome log
+    of = tells.logs outcome log is
+
+    tape_same : tape ≡ of.shown.tape
+    tape_same =
+        of.shown.is_one tape
+        (subst (λ log. IsLogTape log tape)
+        (sym (log_parts outcome log is)
+        ∙ same_log (log_of_run run of.count outcome) of.shown.log log of.shown.logged of.logged) is_tape)
+
+    pub needs : NeedsTape run.m run.script turns run.supply run.store tape
+    needs =
+        record {
+          linked = linked;
+          run = original_run run of.count;
+          outcome = outcome;
+          ends = record {
+            initial = start_in_store run.m run.script run.store;
+            starts = linked-starts run.m run.script run.supply run.store linked;
+            within = record { count = of.count; is_run = refl; over = over_at (original_run run of.count).at outcome of.ends; in_budget = of.in_budget };
+            ends = of.ends;
+          };
+          is_one = subst
+              (λ (tape : Tape). IsOneNeededTape run.m run.script run.store (original_run run of.count).history outcome
+              tape.segments) (sym tape_same) of.shown.shown.is_one;
+        }
+
+  -- why there is no tape
+  pub faulty : (turn : ℕ) (kind : FaultKind)
+      → IsFault (program_of run.m run.script) (start_in_store run.m run.script run.store) turns turn kind
+      → IsUnmade run.m run.script turns (ScriptFault turn kind)
+  faulty turn kind is =
+      OfRun
+      (OfScript
+      (record {
+        turn = turn;
+        kind = kind;
+        named = refl;
+        initial = start_in_store run.m run.script run.store;
+        starts = linked-starts run.m run.script run.supply run.store linked;
+        faulty = is;
+      }))
+
+  pub spent : IsSpent (original_run run) all_one turns → IsUnmade run.m run.script turns (Spent turns)
+  spent is =
+      OfRun
+      (OfTurns
+      (record {
+        named = refl;
+        initial = start_in_store run.m run.script run.store;
+        starts = linked-starts run.m run.script run.supply run.store linked;
+        spent = is;
+      }))
+
+  pub heavy : (outcome : Outcome) (log : Log) → IsLog (record_of run turns) outcome log → (fault : Fault)
+      → IsHeavyLog (log_for (imported_funcs run.m) log.events outcome) fault → IsUnmade run.m run.script turns fault
+  heavy outcome log is fault h =
+      OfWeight
+      (record {
+        supply = run.supply;
+        store = run.store;
+        tape = h.tape;
+        needed = needs outcome log is h.tape h.is_tape;
+        heavy = h.heavy;
+        named = h.named;
+      })
+
+  -- ---- what is recorded, with the number of imports that the inputs have
+
+  module _ (imports : ℕ) (same : imports ≡ imported_funcs run.m) (reducer : Reducer) (outcome : Outcome)
+      (told : HasTakenLog HasTaken (record_of run turns) reducer outcome) where
+    pub taken : LogsAreBalanced
+        → (events : List Event) × HasTaken reducer events × IsBalanced (log_for imports events outcome)
+    taken balanced = (
+      told.log.events,
+      told.taken,
+      subst (λ n. IsBalanced (log_for n told.log.events outcome)) (sym same)
+          (log_balanced balanced outcome told.log told.is_log),
+    )
+
+    module _ (result : Result Tape Fault)
+        (answers : (events : List Event) → HasTaken reducer events
+        → IsLightTape (log_for imports events outcome) result) where
+      answered : IsLightTape (log_for (imported_funcs run.m) told.log.events outcome) result
+      answered =
+          subst (λ n. IsLightTape (log_for n told.log.events outcome) result) same
+          (answers told.log.events told.taken)
+
+      pub needed_answer : IfOk result (λ tape.
+          (store : Store) × NeedsTape run.m run.script turns run.supply store tape)
+      needed_answer = go result answered
+        where
+          go : (r : Result Tape Fault) → IsLightTape (log_for (imported_funcs run.m) told.log.events outcome) r
+              → IfOk r (λ tape. (store : Store) × NeedsTape run.m run.script turns run.supply store tape)
+          go (Ok tape) is = (run.store, needs outcome told.log told.is_log tape is.0)
+          go (Err fault) is = tt
+
+      pub light_answer : IfOk result (λ tape. tape_weight tape ≤ most_weight)
+      light_answer = go result answered
+        where
+          go : (r : Result Tape Fault) → IsLightTape (log_for (imported_funcs run.m) told.log.events outcome) r
+              → IfOk r (λ tape. tape_weight tape ≤ most_weight)
+          go (Ok tape) is = is.1
+          go (Err fault) is = tt
+
+      pub heavy_answer : IfErr result (λ fault. (fault ≡ Memory) ⊎ IsUnmade run.m run.script turns fault)
+      heavy_answer = go result answered
+        where
+          go : (r : Result Tape Fault) → IsLightTape (log_for (imported_funcs run.m) told.log.events outcome) r
+              → IfErr r (λ fault. (fault ≡ Memory) ⊎ IsUnmade run.m run.script turns fault)
+          go (Ok tape) is = tt
+          go (Err fault) (inl memory) = inl memory
+          go (Err fault) (inr is) = inr (heavy outcome told.log told.is_log fault is)

@@ -1,0 +1,58 @@
+-- The run of a module that bytes encode, as the laws of instrumented modules speak of it.
+use Rattle.std.proofs.Common.{◌≡◌, ℕ, ◌≤◌, List, length, refl}
+use Rattle.sha2.specs.Sha256.{sha256}
+use Rattle.wasm_syntax.specs.declared.limits.TheConstants.{MOST_FILE_BYTES}
+use Rattle.wasm_syntax.specs.declared.modules.Module.{Module}
+use Rattle.wasm_syntax.specs.Encoding.Forms.{IsCoreModule}
+use Rattle.encoding_sizes.specs.Within.{HasListsWithin}
+use Rattle.host_script.specs.declared.scripts.Script.{Script}
+use Rattle.host_script.specs.declared.scripts.Supply.{Supply}
+use Rattle.history_spec.specs.Store.{Store}
+use Rattle.type_safety.specs.Supplies.{HasBytes}
+use Rattle.calls_follow.specs.Laws.{OriginalRun}
+use Rattle.instrumented_valid.specs.Laws.{HasWords}
+use Rattle.instrumented_sizes.specs.Laws.{EncodedHaveWords}
+use Rattle.r3_inputs.specs.Inputs.{IsModuleOf}
+use Rattle.accepted_runs.specs.Linked.{IsLinked}
+use Rattle.accepted_runs.specs.Runnable.{CanRun}
+use Rattle.r3_make.specs.declared.records.HookedInputs.{HookedInputs}
+use Rattle.r3_make.specs.Records.{AreHooked, IsOriginal, IsRecordable}
+
+module _ (words : EncodedHaveWords) (bytes : List ℕ) (m : Module) (script : Script) (supply : Supply) (store : Store)
+    (is_module : IsModuleOf bytes m) (small : length bytes ≤ MOST_FILE_BYTES) (within : HasListsWithin (length bytes) m)
+    (can : CanRun m script) (has_bytes : HasBytes m) (linked : IsLinked m script supply store) where
+  pub of_words : IsCoreModule m × HasWords m
+  of_words = words bytes m is_module.encoded small
+
+  abbrev pub original : OriginalRun
+  original =
+      record {
+        m = m;
+        digest = sha256 bytes;
+        script = script;
+        supply = supply;
+        store = store;
+        runnable = record { valid = is_module.accepted.valid; supported = can.supported; bytes = has_bytes };
+        core = of_words.0;
+        fits = can.fits;
+        supplied = linked.supplied;
+        opens = linked.begins;
+      }
+
+  pub is_original : IsOriginal original
+  is_original =
+      record {
+        accepted = is_module.accepted;
+        bytes = has_bytes;
+        words = of_words.1;
+        most = length bytes;
+        within = within;
+        few = small;
+      }
+
+  -- all that its record is made with
+  pub recordable : (inputs : HookedInputs)
+      → ((run : OriginalRun) → run.m ≡ m → run.digest ≡ sha256 bytes → run.script ≡ script → AreHooked run inputs)
+      → IsRecordable original inputs supply
+  recordable inputs are =
+      record { original = is_original; inputs_are = are original refl refl refl; supply_is = refl }

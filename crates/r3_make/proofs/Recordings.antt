@@ -1,0 +1,110 @@
+-- The recorded run of an instrumented module, with what it is recorded with.
+use Rattle.std.proofs.Common.{◌≡◌, ℕ, Some, Ok, Err, Result, sym, ◌∙◌, ap}
+use Rattle.wasm_syntax.specs.declared.modules.Module.{Module}
+use Rattle.wasm_syntax.specs.Index.{imported_funcs}
+use Rattle.host_script.specs.declared.scripts.Script.{Script}
+use Rattle.host_script.specs.declared.scripts.LinkFault.{LinkFault}
+use Rattle.host_script.specs.declared.scripts.LinkFault.TheVariants.{Memory, Mismatch, Missing, Segment}
+use Rattle.host_script.specs.Fits.{Fits}
+use Rattle.host_script.specs.Supply.{supply_of}
+use Rattle.history_spec.specs.Instantiation.{instantiate}
+use Rattle.history_spec.specs.Store.{Store}
+use Rattle.type_safety.specs.Stores.{IsStore}
+use Rattle.type_safety.specs.Supplies.{IsRunnable}
+use Rattle.wasm_flat.specs.Meters.{FitsMeter, Weighing}
+use Rattle.wasm_flat.specs.Sizes.{IsShort}
+use Rattle.hook_spec.specs.Hooks.{renumbered_view}
+use Rattle.hook_spec.specs.Instrumented.{instrumented_weights}
+use Rattle.hook_spec.specs.Order.{shape_of}
+use Rattle.host_link.specs.Link.{link_result, with_supply}
+use Rattle.host_play.specs.HookedResults.{HasHooksAfter, hooked_run}
+use Rattle.calls_follow.specs.Laws.{OriginalRun}
+use Rattle.instrumented_encoding.specs.Laws.{InstrumentedMetersFit}
+use Rattle.instrumented_sizes.specs.Laws.{InstrumentedAreShort, InstrumentedHaveStores, InstrumentedImportHooks}
+use Rattle.instrumented_valid.specs.Links.{InstrumentedAreFitted, InstrumentedAreInstantiated, InstrumentedAreRunnable, InstrumentedAreSupplied, renumbered_link, script_with_hooks}
+use Rattle.instrumented_follows.specs.Laws.{instrumented_of}
+use Rattle.run_recorder.specs.Records.{RecordedRun}
+use Rattle.recorded_results.specs.Laws.{record_of}
+use Rattle.r3_make.specs.Records.{IsOriginal}
+
+-- the run from a store, as it is recorded
+abbrev pub recorded : Module → Script → Store → Weighing → (imports turns : ℕ) → RecordedRun
+recorded hooked script store meter imports turns =
+    record {
+      run = hooked_run hooked script store meter imports turns;
+      shape = shape_of imports hooked;
+      opened = store;
+    }
+
+-- with what the instrumented module of a run's original is recorded with, it is that of the run
+pub recorded_same : (run : OriginalRun) (turns : ℕ) (hooked : Module) (script : Script) (store : Store)
+    (meter : Weighing) (imports : ℕ)
+    → hooked ≡ instrumented_of run → script ≡ script_with_hooks run.m run.script
+    → store ≡ renumbered_view (imported_funcs run.m) run.store → meter ≡ Some (instrumented_weights run.m)
+    → imports ≡ imported_funcs run.m → recorded hooked script store meter imports turns ≡ record_of run turns
+recorded_same run turns hooked script store meter imports a b c d e =
+    ap (λ hooked. recorded hooked script store meter imports turns) a
+    ∙ ap (λ script. recorded (instrumented_of run) script store meter imports turns) b
+    ∙ ap (λ store. recorded (instrumented_of run) (script_with_hooks run.m run.script) store meter imports turns) c
+    ∙ ap
+    (λ meter. recorded (instrumented_of run) (script_with_hooks run.m run.script)
+    (renumbered_view (imported_funcs run.m) run.store) meter imports turns) d
+    ∙ ap
+    (λ imports. recorded (instrumented_of run) (script_with_hooks run.m run.script)
+    (renumbered_view (imported_funcs run.m) run.store) (Some (instrumented_weights run.m)) imports turns) e
+
+-- ---- a link has one answer
+
+pub one_link : (r : Result Store LinkFault) (a b : Store) → r ≡ Ok a → r ≡ Ok b → a ≡ b
+one_link r a b e f = cc (sym e ∙ f)
+
+pub linked_or_not : (r : Result Store LinkFault) (a : Store) (fault : LinkFault) → r ≡ Ok a → r ≡ Err fault → ⊥
+linked_or_not r a fault e f = absurd (cc (sym e ∙ f))
+
+pub missing_memory : (import : ℕ) (fault : LinkFault) → fault ≡ Missing import → fault ≡ Memory → ⊥
+missing_memory import fault e f = absurd (cc (sym e ∙ f))
+
+pub mismatch_memory : (import : ℕ) (fault : LinkFault) → fault ≡ Mismatch import → fault ≡ Memory → ⊥
+mismatch_memory import fault e f = absurd (cc (sym e ∙ f))
+
+pub segment_memory : (number : ℕ) (fault : LinkFault) → fault ≡ Segment number → fault ≡ Memory → ⊥
+segment_memory number fault e f = absurd (cc (sym e ∙ f))
+
+-- ---- what holds of the instrumented module of an original
+
+module _ (run : OriginalRun) (is : IsOriginal run) where
+  pub hooked_runnable : InstrumentedAreRunnable → IsRunnable (instrumented_of run)
+  hooked_runnable law = law run.m run.digest is.accepted is.bytes run.core is.words
+
+  pub hooked_short : InstrumentedAreShort → IsShort (instrumented_of run)
+  hooked_short law = law run.m run.digest is.most is.accepted run.core is.words is.within is.few
+
+  pub hooks_after : InstrumentedImportHooks → HasHooksAfter (instrumented_of run) (imported_funcs run.m)
+  hooks_after law =
+      let both = law run.m run.digest is.accepted in
+      record { hooks = both.0; before = both.1 }
+
+  pub meter_fits : InstrumentedMetersFit → FitsMeter (instrumented_of run) (Some (instrumented_weights run.m))
+  meter_fits law = law run.m run.digest is.accepted.valid
+
+  pub script_fits : InstrumentedAreFitted → Fits (instrumented_of run) (script_with_hooks run.m run.script)
+  script_fits law = law run.m run.digest run.script run.fits
+
+  pub hooked_supplied : InstrumentedAreSupplied
+      → supply_of (instrumented_of run) (script_with_hooks run.m run.script) ≡ Ok run.supply
+  hooked_supplied law = law run.m run.digest run.script ∙ run.supplied
+
+  pub hooked_begins : InstrumentedAreInstantiated
+      → instantiate (instrumented_of run) run.supply ≡ Ok (renumbered_view (imported_funcs run.m) run.store)
+  hooked_begins law = law run.m run.digest run.supply ∙ ap (renumbered_link (imported_funcs run.m)) run.opens
+
+  pub hooked_links : InstrumentedAreSupplied → InstrumentedAreInstantiated → (hooked : Module) (script : Script)
+      → hooked ≡ instrumented_of run → script ≡ script_with_hooks run.m run.script
+      → link_result hooked script ≡ Ok (renumbered_view (imported_funcs run.m) run.store)
+  hooked_links supplied begins hooked script a b =
+      ap (λ hooked. link_result hooked script) a ∙ ap (link_result (instrumented_of run)) b
+      ∙ ap (with_supply (instrumented_of run)) (hooked_supplied supplied) ∙ hooked_begins begins
+
+  pub hooked_store : InstrumentedHaveStores → IsStore run.m run.store
+      → IsStore (instrumented_of run) (renumbered_view (imported_funcs run.m) run.store)
+  hooked_store law typed = law run.m run.digest run.store typed

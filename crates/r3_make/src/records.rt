@@ -1,0 +1,168 @@
+// The record of a run: the instrumented module is run, and what its hooks are told goes to a reducer.
+
+ghost use Rattle.std.specs.Prelude.{◌≡◌, ◌≤◌, ◌⊎◌, IfErr, IfOk, length};
+ghost use Rattle.sha2.specs.Sha256.{sha256};
+ghost use Rattle.wasm_syntax.specs.declared.limits.TheConstants.{MOST_FILE_BYTES};
+ghost use Rattle.encoding_sizes.specs.Within.{HasListsWithin};
+ghost use Rattle.host_script.specs.Fits.{Fits};
+ghost use Rattle.wasm_flat.specs.Bounds.{IsBound};
+ghost use Rattle.wasm_flat.specs.FlatCode.{flat_of};
+ghost use Rattle.wasm_flat.specs.Sizes.{IsShort};
+ghost use Rattle.history_spec.specs.Store.{Store};
+ghost use Rattle.calls_follow.specs.Laws.{OriginalRun};
+ghost use Rattle.hook_spec.specs.Hooks.{renumbered_view};
+ghost use Rattle.wasm_syntax.specs.Index.{imported_funcs};
+ghost use Rattle.trace_reduce.specs.Reducer.{HasTaken};
+ghost use Rattle.run_recorder.specs.Records.{IsRecordedInto};
+ghost use Rattle.recorded_results.specs.Laws.{record_of};
+ghost use Rattle.r3_inputs.specs.Inputs.{IsModuleOf};
+ghost use Rattle.r3_faults.specs.declared.faults.Fault.TheVariants.{Memory};
+ghost use Rattle.r3_make.specs.Records.{AreHooked, IsRecordable};
+
+use history_spec::Outcome;
+use hook_insert::instrument;
+use hooked_scripts::script_with_hooks;
+use host_link::{LinkFault, link};
+use host_play::{Play, PlayFault};
+use host_script::{Script, Supply};
+use instrumented_encoding::instrumented_meters_fit;
+use instrumented_sizes::{
+    encoded_have_words, instrumented_are_short, instrumented_have_stores, instrumented_import_hooks,
+};
+use instrumented_valid::{
+    instrumented_are_fitted, instrumented_are_instantiated, instrumented_are_runnable,
+    instrumented_are_supplied,
+};
+use module_index::scope::Scope;
+use no_memory::NoMemory;
+use run_recorder::record_into;
+use sha2::{Digest, Sha256};
+use std::alloc::Global;
+use trace_reduce::Reducer;
+use type_safety::typed_store;
+use wasm_flat::Meter;
+use wasm_flatten::flatten;
+use wasm_store::Store;
+use wasm_validate::Checked;
+
+/// The most that the tape of a replay module may weigh.
+pub(crate) const MOST_WEIGHT: u64 = 2_000_000;
+
+/// An instrumented module, the meter under which its run takes the turns of the original's, the script for it, and how
+/// many functions the original imports.
+#[derive(Drop)]
+pub struct HookedInputs {
+    pub(crate) hooked: Checked,
+    pub(crate) meter: Meter,
+    pub(crate) script: Script,
+    pub(crate) imports: u32,
+}
+
+/// The instrumented module of a module that `bytes` encode, and what its run needs beside it.
+pub(crate) fn hooked_inputs(
+    alloc: Global,
+    bytes: &[u8],
+    checked: &Checked,
+    script: Script,
+) -> Result<HookedInputs, NoMemory>
+    requires is_module { IsModuleOf bytes.now checked.now }
+    requires small { length bytes.now ≤ MOST_FILE_BYTES }
+    requires within { HasListsWithin (length bytes.now) checked.now }
+    requires short { IsShort checked.now }
+    requires fits { Fits checked.now script }
+    ensures { IfOk result (λ inputs. (run : OriginalRun) → run.m ≡ checked.now → run.digest ≡ sha256 bytes.now
+        → run.script ≡ script → AreHooked run inputs) }
+{
+    encoded_have_words();
+    let digest = Sha256::digest(bytes);
+    let hooked = instrument(alloc, checked, &digest)?;
+    let script = script_with_hooks(alloc, checked.module(), script)?;
+    let imports = Scope::of(alloc, checked.module())?.imported_funcs() as u32;
+    Ok(HookedInputs {
+        hooked: hooked.module,
+        meter: hooked.meter,
+        script,
+        imports,
+    })
+}
+
+/// The store that the run of the instrumented module starts with, which links as the original does.
+fn hooked_store(alloc: Global, inputs: &HookedInputs, _supply: &Supply) -> Result<Store, NoMemory>
+    requires { (run : OriginalRun) × IsRecordable run inputs.now _supply.now }
+    ensures { IfOk result (λ store. (run : OriginalRun) → IsRecordable run inputs.now _supply.now
+        → store ≡ renumbered_view (imported_funcs run.m) run.store) }
+{
+    instrumented_are_runnable();
+    instrumented_are_fitted();
+    instrumented_are_supplied();
+    instrumented_are_instantiated();
+    match link(alloc, &inputs.hooked, &inputs.script) {
+        Ok(store) => Ok(store),
+        Err(LinkFault::Memory) => Err(NoMemory),
+        // What links with the script links instrumented.
+        Err(LinkFault::Missing { .. }) => unreachable!(),
+        Err(LinkFault::Mismatch { .. }) => unreachable!(),
+        Err(LinkFault::Segment { .. }) => unreachable!(),
+    }
+}
+
+/// Records the run within a number of turns, into a reducer.
+pub(crate) fn recorded_run(
+    alloc: Global,
+    inputs: &HookedInputs,
+    supply: &Supply,
+    turns: u64,
+) -> Result<(Reducer, Outcome), PlayFault>
+    requires { (run : OriginalRun) × IsRecordable run inputs.now supply.now }
+    ensures { (run : OriginalRun) → IsRecordable run inputs.now supply.now
+        → IsRecordedInto HasTaken (record_of run turns) result }
+{
+    instrumented_are_short();
+    let store = hooked_store(alloc, inputs, supply)?;
+    let flat = flatten(alloc, &inputs.hooked)?;
+    let play = Play {
+        code: inputs.hooked.module(),
+        flat,
+        script: &inputs.script,
+        store,
+    };
+    record_play(alloc, inputs, supply, play, turns)
+}
+
+/// The same from the instantiation of the instrumented module.
+fn record_play(
+    alloc: Global,
+    inputs: &HookedInputs,
+    supply: &Supply,
+    play: Play,
+    turns: u64,
+) -> Result<(Reducer, Outcome), PlayFault>
+    requires recordable { (run : OriginalRun) × IsRecordable run inputs.now supply.now
+        × (play.store ≡ renumbered_view (imported_funcs run.m) run.store) }
+    requires code { play.code.now ≡ inputs.now.hooked }
+    requires script { play.script.now ≡ inputs.now.script }
+    requires flat { play.flat ≡ flat_of inputs.now.hooked }
+    requires bound { IsBound play.flat }
+    ensures { (run : OriginalRun) → IsRecordable run inputs.now supply.now
+        → play.entry.store ≡ renumbered_view (imported_funcs run.m) run.store
+        → IsRecordedInto HasTaken (record_of run turns) result }
+{
+    instrumented_are_runnable();
+    instrumented_are_fitted();
+    instrumented_are_instantiated();
+    instrumented_meters_fit();
+    instrumented_import_hooks();
+    instrumented_have_stores();
+    typed_store();
+    let sink = Reducer::new(alloc, inputs.imports, MOST_WEIGHT);
+    record_into(
+        alloc,
+        &inputs.hooked,
+        supply,
+        inputs.imports,
+        play,
+        &inputs.meter,
+        turns,
+        sink,
+    )
+}

@@ -1,0 +1,90 @@
+// The tape that the run of a module needs.
+
+ghost use Rattle.std.specs.Prelude.{◌≡◌, ◌≤◌, ◌⊎◌, List, IfErr, IfOk, length};
+ghost use Rattle.wasm_syntax.specs.declared.limits.TheConstants.{MOST_FILE_BYTES};
+ghost use Rattle.encoding_sizes.specs.Within.{HasListsWithin};
+ghost use Rattle.trace_model.specs.declared.events.Event.{Event};
+ghost use Rattle.trace_model.specs.Weight.{tape_weight};
+ghost use Rattle.history_spec.specs.Store.{Store};
+ghost use Rattle.type_safety.specs.Supplies.{HasBytes};
+ghost use Rattle.trace_model.specs.Balance.{IsBalanced};
+ghost use Rattle.trace_reduce.specs.Reducer.{HasTaken};
+ghost use Rattle.binary_follows.specs.Playable.{most_weight};
+ghost use Rattle.accepted_runs.specs.Runnable.{CanRun};
+ghost use Rattle.r3_inputs.specs.Inputs.{IsModuleOf};
+ghost use Rattle.accepted_runs.specs.Linked.{IsLinked};
+ghost use Rattle.r3_faults.specs.declared.faults.Fault.TheVariants.{Memory};
+ghost use Rattle.r3_make.specs.Answers.{IsLightTape};
+ghost use Rattle.r3_make.specs.Refusals.{IsUnmade};
+ghost use Rattle.r3_make.specs.Tapes.{NeedsTape};
+
+use crate::records::{MOST_WEIGHT, hooked_inputs, recorded_run};
+use history_spec::Outcome;
+use host_play::PlayFault;
+use host_script::{Script, Supply};
+use instrumented_sizes::encoded_have_words;
+use logs_follow::logs_are_balanced;
+use r3_faults::Fault;
+use recorded_results::records_tell_originals;
+use replay_laws::tape_from;
+use std::alloc::Global;
+use trace_model::Tape;
+use trace_reduce::{Reducer, ReducerFault};
+use wasm_validate::Checked;
+
+/// The tape that the run of a module under a script needs, where the run has an outcome within the turns; `bytes`
+/// encode the module, which links with the script and is supplied with this.
+///
+/// # Errors
+///
+/// `Script` where the host cannot do what the script says, `Spent` where the run needs more turns, `TapeLimit` where
+/// the tape weighs more than 2,000,000. `Memory` where memory is out.
+pub fn needed_tape(
+    alloc: Global,
+    bytes: &[u8],
+    checked: &Checked,
+    supply: &Supply,
+    script: Script,
+    turns: u64,
+) -> Result<Tape, Fault>
+    requires is_module { IsModuleOf bytes.now checked.now }
+    requires small { length bytes.now ≤ MOST_FILE_BYTES }
+    requires within { HasListsWithin (length bytes.now) checked.now }
+    requires runnable { CanRun checked.now script }
+    requires bytes { HasBytes checked.now }
+    requires linked { (store : Store) × IsLinked checked.now script supply.now store }
+    ensures needed { IfOk result (λ tape. (store : Store) × NeedsTape checked.now script turns supply.now store tape) }
+    ensures light { IfOk result (λ tape. tape_weight tape ≤ most_weight) }
+    ensures cause { IfErr result (λ fault. (fault ≡ Memory) ⊎ IsUnmade checked.now script turns fault) }
+{
+    records_tell_originals();
+    encoded_have_words();
+    logs_are_balanced();
+    let inputs = hooked_inputs(alloc, bytes, checked, script)?;
+    match recorded_run(alloc, &inputs, supply, turns) {
+        Ok((reducer, outcome)) => tape_of(reducer, inputs.imports, outcome),
+        Err(PlayFault::Fault { turn, kind }) => Err(Fault::Script { turn, kind }),
+        Err(PlayFault::Spent) => Err(Fault::Spent { turns }),
+        Err(PlayFault::Hook { .. }) => unreachable!(),
+        Err(PlayFault::Memory) => Err(Fault::Memory),
+    }
+}
+
+/// The tape of the log whose events a reducer has taken, of a module that imports this number of functions.
+fn tape_of(reducer: Reducer, imports: u32, outcome: Outcome) -> Result<Tape, Fault>
+    requires { (taken : List Event) × HasTaken reducer taken
+        × IsBalanced (record { imports = imports; events = taken; outcome = outcome }) }
+    ensures { (taken : List Event) → HasTaken reducer taken
+        → IsLightTape (record { imports = imports; events = taken; outcome = outcome }) result }
+{
+    // What a sink has taken does not tell that it is the reducer that was given.
+    if !reducer.is_for(imports, MOST_WEIGHT) {
+        return Err(Fault::Memory);
+    }
+    match tape_from(reducer, outcome) {
+        Ok(tape) => Ok(tape),
+        Err(ReducerFault::Unbalanced { .. }) => unreachable!(),
+        Err(ReducerFault::TooHeavy { weight }) => Err(Fault::TapeLimit { weight }),
+        Err(ReducerFault::Memory) => Err(Fault::Memory),
+    }
+}

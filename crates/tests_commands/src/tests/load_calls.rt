@@ -1,0 +1,62 @@
+//! Calls of `load`: its words, and what it prints: numbers that were worked out by hand.
+
+use crate::tests::calls::{outcome_into, outcome_of};
+use r3_outside::{MemFiles, MemSink};
+use std::test::Fail;
+
+/// Numbers of calls, and the four lines. With q the whole part of N / 16, and z how many calls below N write the byte 0
+/// over a 0: 17N + 2 + 5q turns, 18N + 3 + 6q entries, S = N + 2 + q segments, a weight of S + 2N + 1 - z.
+const SUMMARIES: [(&str, &str); 3] = [
+    ("1", "turns 19\nentries 21\nsegments 3\nweight 6\n"),
+    // The host calls back in the sixteenth call.
+    ("16", "turns 279\nentries 297\nsegments 19\nweight 52\n"),
+    (
+        "1000",
+        "turns 17312\nentries 18375\nsegments 1064\nweight 3061\n",
+    ),
+];
+
+#[test]
+fn the_lines_of_loads(rt: HostRuntime) -> Result<(), Fail> {
+    let alloc = rt.alloc();
+    for (number, lines) in SUMMARIES {
+        let mut files = MemFiles::new(alloc, Vec::new(alloc));
+        let answer = outcome_of(alloc, &["load", number], &mut files)?;
+        assert!(rt; answer.is_done(), "{number}");
+        assert_eq!(rt; answer.printed.as_slice(), lines.as_bytes(), "{number}");
+    }
+    Ok(())
+}
+
+/// Each read would fail, and no file is read.
+#[test]
+fn words_that_are_not_of_load(rt: HostRuntime) -> Result<(), Fail> {
+    let alloc = rt.alloc();
+    let calls: [&[&str]; 7] = [
+        &["load"],
+        &["load", "0"],
+        &["load", "60001"],
+        &["load", "01"],
+        &["load", ""],
+        &["load", "1", "1"],
+        &["load", "m.wasm", "1"],
+    ];
+    for words in calls {
+        let mut files = MemFiles::new(alloc, vec![in alloc; 0u64]?);
+        let answer = outcome_of(alloc, words, &mut files)?;
+        assert!(rt; answer.is_refused(2, "usage\n"));
+    }
+    Ok(())
+}
+
+#[test]
+fn a_load_that_is_not_written(rt: HostRuntime) -> Result<(), Fail> {
+    let alloc = rt.alloc();
+    let mut files = MemFiles::new(alloc, vec![in alloc; 0u64]?);
+    let out = MemSink::new(alloc, 10, vec![in alloc; 1u64]?);
+    let answer = outcome_into(alloc, &["load", "1"], &mut files, out)?;
+    assert_eq!(rt; answer.status, 13);
+    assert_eq!(rt; answer.printed.as_slice(), b"turns 19\ne".as_slice());
+    assert_eq!(rt; answer.line.as_slice(), b"write\n".as_slice());
+    Ok(())
+}

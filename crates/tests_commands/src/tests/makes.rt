@@ -1,0 +1,123 @@
+//! `make` on the runs whose lines were worked out by hand: the run of what it prints shows these lines, it prints the
+//! same when it is called again, and so do the commands for its parts, one after another.
+
+use crate::tests::calls::outcome_of;
+use crate::tests::histories::RUNS;
+use crate::tests::tables::Row;
+use load_maker::make_load;
+use r3_outside::MemFiles;
+use std::alloc::Global;
+use std::test::Fail;
+
+/// The most turns of `record` and `replay`.
+const MOST: &str = "20000000";
+
+/// What a call with these words prints, over files with these names.
+///
+/// # Errors
+///
+/// Where it ends with another status than 0, and when memory runs out.
+fn printed_by(alloc: Global, words: &[&str], contents: &[(&str, &[u8])]) -> Result<Vec<u8>, Fail> {
+    let mut files = MemFiles::new(alloc, Vec::new(alloc));
+    for &(name, bytes) in contents {
+        files.add(name, bytes)?;
+    }
+    let answer = outcome_of(alloc, words, &mut files)?;
+    if answer.is_done() {
+        return Ok(answer.printed);
+    }
+    let line = String::from_utf8_lossy(alloc, answer.line.as_slice())?;
+    Err(Fail::new(format_args!("{line}")))
+}
+
+/// What `instrument`, `record`, `reduce` and `build` print, each of what the one before it printed.
+///
+/// # Errors
+///
+/// As for `printed_by`.
+fn built(alloc: Global, module: &[u8], script: &[u8]) -> Result<Vec<u8>, Fail> {
+    let hooked = printed_by(alloc, &["instrument", "m"], &[("m", module)])?;
+    let files: [(&str, &[u8]); 2] = [("h", hooked.as_slice()), ("s", script)];
+    let log = printed_by(alloc, &["record", "h", "s", MOST], &files)?;
+    let tape = printed_by(alloc, &["reduce", "l"], &[("l", log.as_slice())])?;
+    let files: [(&str, &[u8]); 3] = [("m", module), ("s", script), ("t", tape.as_slice())];
+    printed_by(alloc, &["build", "m", "s", "t"], &files)
+}
+
+/// Compares what `make` prints for a row with what the row, `make` once more and its parts say.
+fn check_row(alloc: Global, module: &[u8], row: Row<'_>) -> Result<(), Fail> {
+    let script = row.script.as_bytes();
+    let files: [(&str, &[u8]); 2] = [("m", module), ("s", script)];
+    let words = ["make", "m", "s", row.turns];
+    let replay = printed_by(alloc, &words, &files)?;
+    let again = printed_by(alloc, &words, &files)?;
+    if again.as_slice() != replay.as_slice() {
+        return Err(Fail::new(format_args!("{}: made again it is another", row.name)));
+    }
+    let parts = built(alloc, module, script)?;
+    if parts.as_slice() != replay.as_slice() {
+        return Err(Fail::new(format_args!("{}: its parts make another", row.name)));
+    }
+    let shown = printed_by(alloc, &["replay", "r", MOST], &[("r", replay.as_slice())])?;
+    let wanted = row.text(alloc)?;
+    if shown.as_slice() != wanted.as_bytes() {
+        let lines = String::from_utf8_lossy(alloc, shown.as_slice())?;
+        return Err(Fail::new(format_args!("{}: {lines}", row.name)));
+    }
+    Ok(())
+}
+
+#[test]
+fn replays_show_the_runs_that_they_are_made_of(rt: HostRuntime) -> Result<(), Fail> {
+    let alloc = rt.alloc();
+    let mut count = 0u64;
+    for &(module, table) in RUNS {
+        let module = hex::decode(alloc, module)?;
+        for row in table.split("\n- ").skip(1) {
+            let Some(row) = Row::of(row) else {
+                return Err(Fail::from("a row of another form"));
+            };
+            check_row(alloc, module.as_slice(), row)?;
+            count = count.saturating_add(1);
+        }
+    }
+    // as many as `histories` has
+    assert_eq!(rt; count, 27);
+    Ok(())
+}
+
+/// A run of 346,252 turns, in which the host writes and is called 20,000 times.
+#[test]
+fn a_load_of_20000_calls(rt: HostRuntime) -> Result<(), Fail> {
+    let alloc = rt.alloc();
+    let (module, script) = make_load(alloc, 20_000)?;
+    let files: [(&str, &[u8]); 2] = [("m", module.as_slice()), ("s", script.as_slice())];
+    let replay = printed_by(alloc, &["make", "m", "s", "346252"], &files)?;
+    let told = printed_by(alloc, &["history", "m", "s", "346252"], &files)?;
+    let shown = printed_by(alloc, &["replay", "r", MOST], &[("r", replay.as_slice())])?;
+    assert!(rt; shown.as_slice() == told.as_slice());
+    // each entry has a line, and so has the outcome
+    let mut lines = 0u64;
+    for &byte in shown.as_slice() {
+        if byte == b'\n' {
+            lines = lines.saturating_add(1);
+        }
+    }
+    assert_eq!(rt; lines, 367_504);
+    Ok(())
+}
+
+/// A run of 15,999,987 turns with 999,999 calls of its import, each of which needs two units of the tape.
+#[test]
+fn a_tape_that_is_too_heavy(rt: HostRuntime) -> Result<(), Fail> {
+    let alloc = rt.alloc();
+    let (module, _script) = make_load(alloc, 1)?;
+    let script = br#"{"imports":{"h":{"f":{"rest":{"return":{"i32":0}}}}},
+        "main":[{"grow":15},{"call":"run","args":[{"i32":999999}]}]}"#;
+    let mut files = MemFiles::new(alloc, Vec::new(alloc));
+    files.add("m", module.as_slice())?;
+    files.add("s", script)?;
+    let answer = outcome_of(alloc, &["make", "m", "s", "1000000000"], &mut files)?;
+    assert!(rt; answer.is_refused(18, "tape limit: 2000002\n"));
+    Ok(())
+}

@@ -1,0 +1,88 @@
+// A module that is instrumented, and played under the meter that it comes with.
+
+ghost use Rattle.std.specs.Prelude.{◌≤◌, IfOk, length};
+ghost use Rattle.wasm_syntax.specs.declared.limits.TheConstants.{MOST_FILE_BYTES};
+ghost use Rattle.wasm_flat.specs.Meters.{FitsMeter};
+ghost use Rattle.wasm_flat.specs.Sizes.{IsShort};
+ghost use Rattle.type_safety.specs.Supplies.{IsRunnable};
+
+use crate::plays::played;
+use history_spec::Outcome;
+use hook_insert::{Hooked, instrument};
+use hook_names::NoHooks;
+use host_play::PlayFault;
+use instrumented_encoding::instrumented_meters_fit;
+use instrumented_sizes::{encoded_have_words, instrumented_are_short};
+use instrumented_valid::instrumented_are_runnable;
+use r3_inputs::module_of;
+use std::alloc::Global;
+use std::test::Fail;
+use wasm_syntax::limits::MOST_FILE_BYTES;
+
+// examples/c_buffers.wat
+const BUFFERS: &str =
+    "0061736d0100000001110360037f7f7f017f60017f017f6000017f020c0103656e7604726561640000030302020104050170\
+     01020205030100020608017f01418080040b071002066d656d6f727902000372756e00010907010041010b01020a3a023001\
+     017f230041106b2200240020004104200041086a10001a200028020020002802086a4101110100200041106a24000b070020\
+     004101740b";
+
+// examples/c_buffers.json
+const SCRIPT: &str = "{\"imports\":{\"env\":{\"read\":{\"calls\":[{\"do\":[\
+    {\"write\":{\"arg\":0},\"bytes\":\"68690a00\"},{\"write\":{\"arg\":2},\"bytes\":\"03000000\"}],\
+    \"return\":{\"i32\":0}}]}}},\"main\":[{\"call\":\"run\"}]}";
+
+/// The module that bytes encode, instrumented.
+fn hooked_of(alloc: Global, bytes: &[u8]) -> Result<Hooked, Fail>
+    requires { length bytes.now ≤ MOST_FILE_BYTES }
+    ensures short { IfOk result (λ hooked. IsShort hooked.«module») }
+    ensures runnable { IfOk result (λ hooked. IsRunnable hooked.«module») }
+    ensures meter { IfOk result (λ hooked. FitsMeter hooked.«module» hooked.meter) }
+{
+    encoded_have_words();
+    instrumented_are_short();
+    instrumented_are_runnable();
+    instrumented_meters_fit();
+    match module_of(alloc, bytes) {
+        Ok(checked) => Ok(instrument(alloc, &checked, &[7; 32])?),
+        Err(_) => Err(Fail::from("a refused module")),
+    }
+}
+
+/// The module, instrumented.
+fn hooked_buffers(alloc: Global) -> Result<Hooked, Fail>
+    ensures short { IfOk result (λ hooked. IsShort hooked.«module») }
+    ensures runnable { IfOk result (λ hooked. IsRunnable hooked.«module») }
+    ensures meter { IfOk result (λ hooked. FitsMeter hooked.«module» hooked.meter) }
+{
+    let bytes = hex::decode(alloc, BUFFERS)?;
+    if bytes.len() > MOST_FILE_BYTES as usize {
+        return Err(Fail::from("a long text"));
+    }
+    hooked_of(alloc, bytes.as_slice())
+}
+
+// The functions take 23 and 3 turns, the host one for the call and one for each write; calls of hooks take none.
+#[test]
+fn instrumented_modules_take_the_turns_of_their_originals(rt: HostRuntime) -> Result<(), Fail> {
+    let alloc = rt.alloc();
+    let hooked = hooked_buffers(alloc)?;
+    let within = played(
+        alloc,
+        &hooked.module,
+        &hooked.meter,
+        SCRIPT,
+        29,
+        &mut NoHooks,
+    )?;
+    assert!(rt; within == Ok(Outcome::Ended));
+    let short = played(
+        alloc,
+        &hooked.module,
+        &hooked.meter,
+        SCRIPT,
+        28,
+        &mut NoHooks,
+    )?;
+    assert!(rt; short == Err(PlayFault::Spent));
+    Ok(())
+}
