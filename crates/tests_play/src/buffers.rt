@@ -31,8 +31,8 @@ const SCRIPT: &str = "{\"imports\":{\"env\":{\"read\":{\"calls\":[{\"do\":[\
     {\"write\":{\"arg\":0},\"bytes\":\"68690a00\"},{\"write\":{\"arg\":2},\"bytes\":\"03000000\"}],\
     \"return\":{\"i32\":0}}]}}},\"main\":[{\"call\":\"run\"}]}";
 
-/// The module that bytes encode, instrumented.
-fn hooked_of(alloc: Global, bytes: &[u8]) -> Result<Hooked, Fail>
+/// The module that bytes encode, instrumented, with this digest.
+fn hooked_of(alloc: Global, bytes: &[u8], digest: &[u8; 32]) -> Result<Hooked, Fail>
     requires { length bytes.now ≤ MOST_FILE_BYTES }
     ensures short { IfOk result (λ hooked. IsShort hooked.«module») }
     ensures runnable { IfOk result (λ hooked. IsRunnable hooked.«module») }
@@ -43,7 +43,7 @@ fn hooked_of(alloc: Global, bytes: &[u8]) -> Result<Hooked, Fail>
     instrumented_are_runnable();
     instrumented_meters_fit();
     match module_of(alloc, bytes) {
-        Ok(checked) => Ok(instrument(alloc, &checked, &[7; 32])?),
+        Ok(checked) => Ok(instrument(alloc, &checked, digest)?),
         Err(_) => Err(Fail::from("a refused module")),
     }
 }
@@ -58,7 +58,7 @@ fn hooked_buffers(alloc: Global) -> Result<Hooked, Fail>
     if bytes.len() > MOST_FILE_BYTES as usize {
         return Err(Fail::from("a long text"));
     }
-    hooked_of(alloc, bytes.as_slice())
+    hooked_of(alloc, bytes.as_slice(), &[7; 32])
 }
 
 // The functions take 23 and 3 turns, the host one for the call and one for each write; calls of hooks take none.

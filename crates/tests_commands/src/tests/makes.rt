@@ -12,17 +12,25 @@ use std::test::Fail;
 /// The most turns of `record` and `replay`.
 const MOST: &str = "20000000";
 
-/// What a call with these words prints, over files with these names.
+/// Files with a module and a script.
+///
+/// # Errors
+///
+/// When memory runs out.
+fn files_with(alloc: Global, module: &[u8], script: &[u8]) -> Result<MemFiles, Fail> {
+    let mut files = MemFiles::new(alloc, Vec::new(alloc));
+    files.add("m", module)?;
+    files.add("s", script)?;
+    Ok(files)
+}
+
+/// What a call with these words prints.
 ///
 /// # Errors
 ///
 /// Where it ends with another status than 0, and when memory runs out.
-fn printed_by(alloc: Global, words: &[&str], contents: &[(&str, &[u8])]) -> Result<Vec<u8>, Fail> {
-    let mut files = MemFiles::new(alloc, Vec::new(alloc));
-    for &(name, bytes) in contents {
-        files.add(name, bytes)?;
-    }
-    let answer = outcome_of(alloc, words, &mut files)?;
+fn printed_by(alloc: Global, words: &[&str], files: &mut MemFiles) -> Result<Vec<u8>, Fail> {
+    let answer = outcome_of(alloc, words, files)?;
     if answer.is_done() {
         return Ok(answer.printed);
     }
@@ -35,30 +43,30 @@ fn printed_by(alloc: Global, words: &[&str], contents: &[(&str, &[u8])]) -> Resu
 /// # Errors
 ///
 /// As for `printed_by`.
-fn built(alloc: Global, module: &[u8], script: &[u8]) -> Result<Vec<u8>, Fail> {
-    let hooked = printed_by(alloc, &["instrument", "m"], &[("m", module)])?;
-    let files: [(&str, &[u8]); 2] = [("h", hooked.as_slice()), ("s", script)];
-    let log = printed_by(alloc, &["record", "h", "s", MOST], &files)?;
-    let tape = printed_by(alloc, &["reduce", "l"], &[("l", log.as_slice())])?;
-    let files: [(&str, &[u8]); 3] = [("m", module), ("s", script), ("t", tape.as_slice())];
-    printed_by(alloc, &["build", "m", "s", "t"], &files)
+fn built(alloc: Global, files: &mut MemFiles) -> Result<Vec<u8>, Fail> {
+    let hooked = printed_by(alloc, &["instrument", "m"], files)?;
+    files.add("h", hooked.as_slice())?;
+    let log = printed_by(alloc, &["record", "h", "s", MOST], files)?;
+    files.add("l", log.as_slice())?;
+    let tape = printed_by(alloc, &["reduce", "l"], files)?;
+    files.add("t", tape.as_slice())?;
+    printed_by(alloc, &["build", "m", "s", "t"], files)
 }
 
 /// Compares what `make` prints for a row with what the row, `make` once more and its parts say.
 fn check_row(alloc: Global, module: &[u8], row: Row<'_>) -> Result<(), Fail> {
-    let script = row.script.as_bytes();
-    let files: [(&str, &[u8]); 2] = [("m", module), ("s", script)];
-    let words = ["make", "m", "s", row.turns];
-    let replay = printed_by(alloc, &words, &files)?;
-    let again = printed_by(alloc, &words, &files)?;
+    let mut files = files_with(alloc, module, row.script.as_bytes())?;
+    let replay = printed_by(alloc, &["make", "m", "s", row.turns], &mut files)?;
+    let again = printed_by(alloc, &["make", "m", "s", row.turns], &mut files)?;
     if again.as_slice() != replay.as_slice() {
         return Err(Fail::new(format_args!("{}: made again it is another", row.name)));
     }
-    let parts = built(alloc, module, script)?;
+    let parts = built(alloc, &mut files)?;
     if parts.as_slice() != replay.as_slice() {
         return Err(Fail::new(format_args!("{}: its parts make another", row.name)));
     }
-    let shown = printed_by(alloc, &["replay", "r", MOST], &[("r", replay.as_slice())])?;
+    files.add("r", replay.as_slice())?;
+    let shown = printed_by(alloc, &["replay", "r", MOST], &mut files)?;
     let wanted = row.text(alloc)?;
     if shown.as_slice() != wanted.as_bytes() {
         let lines = String::from_utf8_lossy(alloc, shown.as_slice())?;
@@ -91,10 +99,11 @@ fn replays_show_the_runs_that_they_are_made_of(rt: HostRuntime) -> Result<(), Fa
 fn a_load_of_20000_calls(rt: HostRuntime) -> Result<(), Fail> {
     let alloc = rt.alloc();
     let (module, script) = make_load(alloc, 20_000)?;
-    let files: [(&str, &[u8]); 2] = [("m", module.as_slice()), ("s", script.as_slice())];
-    let replay = printed_by(alloc, &["make", "m", "s", "346252"], &files)?;
-    let told = printed_by(alloc, &["history", "m", "s", "346252"], &files)?;
-    let shown = printed_by(alloc, &["replay", "r", MOST], &[("r", replay.as_slice())])?;
+    let mut files = files_with(alloc, module.as_slice(), script.as_slice())?;
+    let replay = printed_by(alloc, &["make", "m", "s", "346252"], &mut files)?;
+    let told = printed_by(alloc, &["history", "m", "s", "346252"], &mut files)?;
+    files.add("r", replay.as_slice())?;
+    let shown = printed_by(alloc, &["replay", "r", MOST], &mut files)?;
     assert!(rt; shown.as_slice() == told.as_slice());
     // each entry has a line, and so has the outcome
     let mut lines = 0u64;
@@ -114,9 +123,7 @@ fn a_tape_that_is_too_heavy(rt: HostRuntime) -> Result<(), Fail> {
     let (module, _script) = make_load(alloc, 1)?;
     let script = br#"{"imports":{"h":{"f":{"rest":{"return":{"i32":0}}}}},
         "main":[{"grow":15},{"call":"run","args":[{"i32":999999}]}]}"#;
-    let mut files = MemFiles::new(alloc, Vec::new(alloc));
-    files.add("m", module.as_slice())?;
-    files.add("s", script)?;
+    let mut files = files_with(alloc, module.as_slice(), script)?;
     let answer = outcome_of(alloc, &["make", "m", "s", "1000000000"], &mut files)?;
     assert!(rt; answer.is_refused(18, "tape limit: 2000002\n"));
     Ok(())
