@@ -160,7 +160,10 @@ fn what_is_made_shows_the_history(rt: HostRuntime) -> Result<(), Fail> {
         (
             "a host that calls in an answer, and a memory",
             NESTED_CALL,
-            r#"{"imports":{"h":{"f":{"calls":[{"do":[{"call":"e"}],"return":{"i32":1}}]}}},"main":[{"call":"g"}]}"#,
+            concat!(
+                r#"{"imports":{"h":{"f":{"calls":[{"do":[{"call":"e"}],"return":{"i32":1}},"#,
+                r#"{"return":{"i32":2}}]}}},"main":[{"call":"g"}]}"#
+            ),
         ),
         (
             "a call in an answer that traps",
