@@ -174,7 +174,7 @@ fn what_is_made_shows_the_history(rt: HostRuntime) -> Result<(), Fail> {
         (
             "a host that grows a table",
             TABLE_GROWTH,
-            r#"{"main":[{"grow_table":999999}]}"#,
+            r#"{"main":[{"grow_table":999998}]}"#,
         ),
     ];
     for (name, module, script) in rows {
