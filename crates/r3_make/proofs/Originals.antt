@@ -50,9 +50,9 @@ module _ (words : EncodedHaveWords) (bytes : List ℕ) (m : Module) (script : Sc
         few = small;
       }
 
-  -- all that its record is made with
-  pub recordable : (inputs : HookedInputs)
+  -- it, with all that its record is made with
+  abbrev pub recorded_original : (inputs : HookedInputs)
       → ((run : OriginalRun) → run.m ≡ m → run.digest ≡ sha256 bytes → run.script ≡ script → AreHooked run inputs)
-      → IsRecordable original inputs supply
-  recordable inputs are =
-      record { original = is_original; inputs_are = are original refl refl refl; supply_is = refl }
+      → (run : OriginalRun) × IsRecordable run inputs supply
+  recorded_original inputs are =
+      (original, record { original = is_original; inputs_are = are original refl refl refl; supply_is = refl })

@@ -58,7 +58,7 @@ recorded_same run turns hooked script store meter imports a b c d e =
 pub one_link : (r : Result Store LinkFault) (a b : Store) → r ≡ Ok a → r ≡ Ok b → a ≡ b
 one_link r a b e f = cc (sym e ∙ f)
 
-pub linked_or_not : (r : Result Store LinkFault) (a : Store) (fault : LinkFault) → r ≡ Ok a → r ≡ Err fault → ⊥
+linked_or_not : (r : Result Store LinkFault) (a : Store) (fault : LinkFault) → r ≡ Ok a → r ≡ Err fault → ⊥
 linked_or_not r a fault e f = absurd (cc (sym e ∙ f))
 
 pub missing_memory : (import : ℕ) (fault : LinkFault) → fault ≡ Missing import → fault ≡ Memory → ⊥
@@ -104,6 +104,14 @@ module _ (run : OriginalRun) (is : IsOriginal run) where
   hooked_links supplied begins hooked script a b =
       ap (λ hooked. link_result hooked script) a ∙ ap (link_result (instrumented_of run)) b
       ∙ ap (with_supply (instrumented_of run)) (hooked_supplied supplied) ∙ hooked_begins begins
+
+  -- so linking it never fails, but where memory is out
+  pub never_unlinked : InstrumentedAreSupplied → InstrumentedAreInstantiated → (hooked : Module) (script : Script)
+      → hooked ≡ instrumented_of run → script ≡ script_with_hooks run.m run.script → (fault : LinkFault)
+      → ((fault ≡ Memory → ⊥) → link_result hooked script ≡ Err fault) → (fault ≡ Memory → ⊥) → ⊥
+  never_unlinked supplied begins hooked script a b fault fails other =
+      linked_or_not (link_result hooked script) (renumbered_view (imported_funcs run.m) run.store) fault
+      (hooked_links supplied begins hooked script a b) (fails other)
 
   pub hooked_store : InstrumentedHaveStores → IsStore run.m run.store
       → IsStore (instrumented_of run) (renumbered_view (imported_funcs run.m) run.store)

@@ -4,7 +4,7 @@ use Rattle.host_script.specs.Fits.{Fits}
 use Rattle.hook_spec.specs.Hooks.{renumbered_view}
 use Rattle.host_link.specs.Link.{link_result}
 use Rattle.instrumented_follows.specs.Laws.{instrumented_of}
-use Rattle.r3_make.proofs.Recordings.{hooked_links, linked_or_not, mismatch_memory, missing_memory, one_link, script_fits, segment_memory}
+use Rattle.r3_make.proofs.Recordings.{hooked_links, mismatch_memory, missing_memory, never_unlinked, one_link, script_fits, segment_memory}
 use Rattle.r3_make.proofs.records.hooked_store.Goals as goal
 
 pub link-requires-clause-fits : goal.link-requires-clause-fits
@@ -26,33 +26,21 @@ returns-in-Ok c = λ run is.
 
 pub unreachable-requires : goal.unreachable-requires
 unreachable-requires c =
-    let run = c.requires.0 in
     let is = c.requires.1 in
-    let hooked = c.args.inputs.now.hooked in
-    let script = c.args.inputs.now.script in
-    linked_or_not (link_result hooked script) (renumbered_view (imported_funcs run.m) run.store) c.in-Err-Missing.field-0
-    (hooked_links run is.original c.instrumented_are_supplied.ensures c.instrumented_are_instantiated.ensures hooked
-    script is.inputs_are.hooked is.inputs_are.script)
-    (c.in-Err-Missing.ensures.err (missing_memory _ c.in-Err-Missing.field-0 c.in-Err-Missing.field-0-is))
+    never_unlinked c.requires.0 is.original c.instrumented_are_supplied.ensures c.instrumented_are_instantiated.ensures
+    c.args.inputs.now.hooked c.args.inputs.now.script is.inputs_are.hooked is.inputs_are.script c.in-Err-Missing.field-0
+    c.in-Err-Missing.ensures.err (missing_memory _ c.in-Err-Missing.field-0 c.in-Err-Missing.field-0-is)
 
 pub unreachable-requires-in-Err-Mismatch : goal.unreachable-requires-in-Err-Mismatch
 unreachable-requires-in-Err-Mismatch c =
-    let run = c.requires.0 in
     let is = c.requires.1 in
-    let hooked = c.args.inputs.now.hooked in
-    let script = c.args.inputs.now.script in
-    linked_or_not (link_result hooked script) (renumbered_view (imported_funcs run.m) run.store) c.in-Err-Mismatch.field-0
-    (hooked_links run is.original c.instrumented_are_supplied.ensures c.instrumented_are_instantiated.ensures hooked
-    script is.inputs_are.hooked is.inputs_are.script)
-    (c.in-Err-Mismatch.ensures.err (mismatch_memory _ c.in-Err-Mismatch.field-0 c.in-Err-Mismatch.field-0-is))
+    never_unlinked c.requires.0 is.original c.instrumented_are_supplied.ensures c.instrumented_are_instantiated.ensures
+    c.args.inputs.now.hooked c.args.inputs.now.script is.inputs_are.hooked is.inputs_are.script c.in-Err-Mismatch.field-0
+    c.in-Err-Mismatch.ensures.err (mismatch_memory _ c.in-Err-Mismatch.field-0 c.in-Err-Mismatch.field-0-is)
 
 pub unreachable-requires-in-Err-Segment : goal.unreachable-requires-in-Err-Segment
 unreachable-requires-in-Err-Segment c =
-    let run = c.requires.0 in
     let is = c.requires.1 in
-    let hooked = c.args.inputs.now.hooked in
-    let script = c.args.inputs.now.script in
-    linked_or_not (link_result hooked script) (renumbered_view (imported_funcs run.m) run.store) c.in-Err-Segment.field-0
-    (hooked_links run is.original c.instrumented_are_supplied.ensures c.instrumented_are_instantiated.ensures hooked
-    script is.inputs_are.hooked is.inputs_are.script)
-    (c.in-Err-Segment.ensures.err (segment_memory _ c.in-Err-Segment.field-0 c.in-Err-Segment.field-0-is))
+    never_unlinked c.requires.0 is.original c.instrumented_are_supplied.ensures c.instrumented_are_instantiated.ensures
+    c.args.inputs.now.hooked c.args.inputs.now.script is.inputs_are.hooked is.inputs_are.script c.in-Err-Segment.field-0
+    c.in-Err-Segment.ensures.err (segment_memory _ c.in-Err-Segment.field-0 c.in-Err-Segment.field-0-is)
