@@ -6,7 +6,7 @@ mod inputs;
 mod links;
 mod runs;
 
-pub use host_play::{Played, Told};
+pub use host_play::Told;
 pub use inputs::inputs_of;
 pub use links::{start_store, supply_and_store};
-pub use runs::{played_run, told_run};
+pub use runs::told_run;

@@ -5,12 +5,12 @@ ghost use Rattle.wasm_syntax.specs.declared.modules.Module.{Module};
 ghost use Rattle.host_script.specs.declared.scripts.Script.{Script};
 ghost use Rattle.history_spec.specs.Run.{run_start, program_of, start_in_store};
 ghost use Rattle.history_spec.specs.Step.{StepResult};
-ghost use Rattle.host_play.specs.Results.{PlaysRun, Refuses, TellsRun};
+ghost use Rattle.host_play.specs.Results.{Refuses, TellsRun};
 ghost use Rattle.r3_faults.specs.declared.faults.Fault.TheVariants.{Memory};
 ghost use Rattle.accepted_runs.specs.Runnable.{CanRun, StartsWith};
 ghost use Rattle.accepted_runs.specs.Runs.{HasNoOutcome};
 
-use host_play::{Play, PlayFault, Played, Told, run, tell};
+use host_play::{Play, PlayFault, Told, tell};
 use host_script::Script;
 use r3_faults::Fault;
 use std::alloc::Global;
@@ -46,37 +46,6 @@ pub fn told_run(
     };
     match tell(alloc, play, turns) {
         Ok(told) => Ok(told),
-        Err(fault) => Err(fault_of(fault, turns)),
-    }
-}
-
-/// The same run without its entries: its outcome, how many turns it took, and how many calls of each
-/// import and by the host it has.
-///
-/// # Errors
-///
-/// As for `told_run`.
-pub fn played_run(
-    alloc: Global,
-    checked: &Checked,
-    script: &Script,
-    store: Store,
-    turns: u64,
-) -> Result<Played, Fault>
-    requires runnable { CanRun checked.now script.now }
-    requires start { StartsWith checked.now script.now store }
-    ensures played { IfOk result (λ played.
-        PlaysRun (program_of checked.now script.now) (start_in_store checked.now script.now store) turns played) }
-    ensures cause { IfErr result (λ fault. (fault ≡ Memory) ⊎ HasNoOutcome checked.now script.now turns fault) }
-{
-    let play = Play {
-        code: checked.module(),
-        flat: flatten(alloc, checked)?,
-        script,
-        store,
-    };
-    match run(alloc, play, turns) {
-        Ok(played) => Ok(played),
         Err(fault) => Err(fault_of(fault, turns)),
     }
 }

@@ -1,12 +1,9 @@
 -- Counts of calls that stay at the greatest number of 64 bits.
-use Rattle.std.proofs.Common.{◌≡◌, ℕ, ◌+◌, ◌^◌, ◌<◌, List, map, slice_set, sym, ap, ◌∙◌, arith}
+use Rattle.std.proofs.Common.{◌≡◌, ℕ, ◌+◌, List, map, slice_set, sym, ap, ◌∙◌, arith}
 use Rattle.std.specs.Prelude.{slice_index}
 use Rattle.std.proofs.Math.ListN.{get_or-map}
 use Rattle.std.proofs.lemmas.List.{map-set}
 use Rattle.host_play.specs.Hosts.{kept}
-
-pub kept_small : (count : ℕ) → count < 2 ^ 64 → kept count ≡ count
-kept_small count small = omega arith
 
 kept_next : (count : ℕ) → kept (kept count + 1) ≡ kept (count + 1)
 kept_next count = omega arith

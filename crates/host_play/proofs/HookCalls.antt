@@ -10,7 +10,7 @@ use Rattle.history_spec.specs.Run.{Meter, steps}
 use Rattle.hook_spec.specs.Hooks.{hooks, on}
 use Rattle.hook_spec.specs.HookedRuns.{calls_among, hook_calls}
 use Rattle.wasm_interp.specs.Calls.{IsOwn}
-use Rattle.host_play.specs.CallCounts.{is_call, all_calls}
+use Rattle.host_play.proofs.Calls.{all_calls, is_call}
 
 -- the call of an import, and of one that is none of the first `n`
 abbrev pub is_import_call : Entry → Bool

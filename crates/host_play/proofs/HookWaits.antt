@@ -1,5 +1,5 @@
 -- Where the machine has come to a call of an import: its arguments, and how much is left to do.
-use Rattle.std.proofs.Common.{◌≡◌, ℕ, suc, ◌+◌, ◌<◌, [], ◌∷◌, length, Some, sym, ap, ◌∙◌, subst, arith, ◌⊎◌, inl, inr, slice_get}
+use Rattle.std.proofs.Common.{◌≡◌, ℕ, suc, ◌+◌, ◌<◌, ◌≤◌, [], ◌∷◌, length, Some, refl, sym, ap, ◌∙◌, subst, arith, ◌⊎◌, inl, inr, slice_get}
 use Rattle.std.proofs.Math.Nat.{eq-or-lt_of_le}
 use Rattle.wasm_syntax.specs.declared.signatures.FuncType.{FuncType}
 use Rattle.wasm_syntax.specs.declared.modules.Module.{Module}
@@ -26,6 +26,7 @@ use Rattle.wasm_interp.specs.Laws.{AdvancesLessen, ArgumentsAreThere, ImportsWai
 use Rattle.wasm_interp.specs.State.{IsInModule, State, StandsFor}
 use Rattle.wasm_interp.specs.Walks.{FitsWeights}
 use Rattle.host_play.specs.declared.play_state.Host.{Host}
+use Rattle.host_play.specs.declared.play_state.Host.TheVariants as host
 use Rattle.host_play.specs.declared.play_state.PlayState.{PlayState}
 use Rattle.host_play.specs.declared.play_state.Stand.TheVariants as at
 use Rattle.host_play.specs.HooksSoFar.{AwaitsCall, CanPlay, IsLess}
@@ -44,7 +45,7 @@ module _ (m : Module) (script : Script) (weighing : Weighing) (imports : ℕ) (c
   stands : StandsFor m standing.heights (InImport index to.args [] Trap ∷ InModule to.frame ∷ to.below) new
   stands = to.stands [] Trap (λ k d below. absurd (omega arith)) tt
 
-  there : index < imported_funcs m
+  pub there : index < imported_funcs m
   there = stands.holds.laid.2
 
   counted : (place : ℕ) (kind : Hook) → slice_get hooks place ≡ Some kind → index ≡ imports + place → length to.args ≡ length (hook_params kind)
@@ -90,3 +91,22 @@ import_lessens law playing weighing given index left new new_playing answer insi
         let one : length new_playing.hosts ≡ suc (length playing.hosts) = ap length same_hosts in
         let falls : ahead new_playing.machine.flat new_playing.machine.frames < ahead playing.machine.flat playing.machine.frames = less same in
         inr (same, omega (arith, one, falls))
+
+-- up to the call of a hook, which is answered at once
+pub hook_lessens : AdvancesLessen → (playing : PlayState) (weighing : Weighing) (given index left : ℕ) (new : State)
+    (after : PlayState) → IsInModule playing.machine.flat playing.machine.frames
+    → FitsWeights playing.machine.flat weighing
+    → Advances playing.machine.flat playing.machine.store playing.machine.frames playing.machine.slots weighing given
+    (pause.Import index) left new
+    → after.hosts ≡ playing.hosts → ahead after.machine.flat after.machine.frames ≤ ahead new.flat new.frames
+    → IsLess given at.Module playing left at.Module after
+hook_lessens law playing weighing given index left new after inside fits advances same_hosts smaller =
+    let answer : Host = host.Answer index 0 0 in
+    elim (import_lessens law playing weighing given index left new
+    (record after { machine = new; hosts = answer ∷ playing.hosts }) answer inside fits advances refl refl) [
+      | inl fewer ↦ inl fewer
+      | inr more ↦
+          (let same : length after.hosts ≡ length playing.hosts = ap length same_hosts in
+          let falls = more.1 in
+          inr (more.0, omega (arith, same, falls, smaller)))
+    ]

@@ -25,9 +25,8 @@ use Rattle.wasm_interp.specs.State.{State}
 use Rattle.wasm_interp.specs.Calls.{AdvancesRun, AreOwnUpTo, ComesToImport, EndsRun, IsOwn, RunPart}
 use Rattle.host_play.specs.declared.play_state.PlayState.{PlayState}
 use Rattle.host_play.specs.declared.play_state.Stand.TheVariants as at
-use Rattle.host_play.specs.CallCounts.{all_calls, is_host_call}
 use Rattle.host_play.specs.Stands.{StandsAt}
-use Rattle.host_play.proofs.Calls.{delivers_none}
+use Rattle.host_play.proofs.Calls.{all_calls, delivers_none, is_host_call}
 use Rattle.host_play.proofs.HookCalls.{IsOfCalls, hook_is_call, import_is_call, is_hook_call, is_import_call, no_hooks, none_called, none_in_both, none_own, quiet}
 use Rattle.host_play.proofs.ImportStores.{answered_instead, calling, hook_seen, hosts_in, imports_in, other}
 use Rattle.host_play.proofs.ModuleParts.{comes, ends_as, own_as}

@@ -37,7 +37,6 @@ use Rattle.host_play.specs.declared.play_state.Stand.{Stand}
 use Rattle.host_play.specs.declared.play_state.Stand.TheVariants as at
 use Rattle.host_play.specs.declared.results.PlayFault.{PlayFault}
 use Rattle.host_play.specs.declared.results.PlayFault.TheVariants as refusal
-use Rattle.host_play.specs.CallCounts.{all_calls}
 use Rattle.host_play.specs.HookFaults.{fault_of_hook}
 use Rattle.host_play.specs.HookedResults.{AnswersWithin, EndsWithHooks, HookedRun, HooksLead, RefusesWithHooks, steps_of}
 use Rattle.host_play.specs.HooksSoFar.{CanPlay, HooksSoFar, run_in}
@@ -47,7 +46,7 @@ use Rattle.host_play.specs.Hosts.{BeginsAnswer, HasNoResponse}
 use Rattle.host_play.specs.Replies.{nothing_done}
 use Rattle.host_play.specs.Results.{play_fault}
 use Rattle.host_play.specs.Stands.{Leads, StandsAt, Stops}
-use Rattle.host_play.proofs.Calls.{delivers_none, enters_none}
+use Rattle.host_play.proofs.Calls.{all_calls, delivers_none, enters_none}
 use Rattle.host_play.proofs.HookCalls.{calls_joined, calls_none, hook_is_call, is_hook_call, none_called}
 use Rattle.host_play.proofs.HookedParts as hooked
 use Rattle.host_play.proofs.HookRuns.{runs_on}
@@ -90,10 +89,6 @@ module _ {H : Type 0} (is_step : Steps H) (m : Module) (script : Script) (weighi
     reached = begins m script weighing initial budget entries stand playing leads;
     told = (refl, refl);
   }
-
-  -- no step is made
-  pub nothing_taken : AnswersWithin is_step r (Ok tt) begun begun
-  nothing_taken = record { count = 0; in_budget = omega arith; hooks = (refl, refl) }
 
   module _ (now : H) (stand : Stand) (playing : PlayState) (left : ℕ) (t : HooksSoFar is_step m script weighing n initial budget begun now stand playing left) where
     -- memory is out

@@ -9,6 +9,7 @@ use Rattle.history_spec.specs.Step.{Running, StepResult, step_result, step}
 use Rattle.history_spec.specs.Run.{program_of}
 use Rattle.wasm_flat.specs.Meters.{Weighing}
 use Rattle.host_play.specs.declared.host_steps.HostStep.{HostStep}
+use Rattle.host_play.specs.declared.host_steps.HostStep.TheVariants as host_step
 use Rattle.host_play.specs.declared.host_steps.PlayStep.{PlayStep}
 use Rattle.host_play.specs.declared.play_state.PlayState.{PlayState}
 use Rattle.host_play.specs.declared.play_state.Refusal.{Refusal}
@@ -19,7 +20,7 @@ use Rattle.host_play.specs.declared.results.PlayFault.TheVariants as refusal
 use Rattle.host_play.specs.HostParts.{BeforeHostStep, HostDid, HostStops, MakesHostStep}
 use Rattle.host_play.specs.HostSteps.{play_step_of, entries_of, stand_after}
 use Rattle.host_play.specs.Results.{Refuses, play_fault}
-use Rattle.host_play.specs.RunsSoFar.{ComesTo}
+use Rattle.host_play.specs.RunsSoFar.{BeginsPart, ComesTo}
 use Rattle.host_play.specs.Stands.{LeadsBy, MakesStep}
 use Rattle.host_play.proofs.Reaches.{goes_free, goes_step, host_weight, spends, step_fails, weight_one}
 
@@ -43,6 +44,14 @@ action_stops m script s budget left now (unmade.Fault kind) playing one before m
     let same : budget - now ≡ budget - now = omega arith in
     (one, same, made_by_host m script s (Err (unmade.Fault kind)) playing before made)
 action_stops m script s budget left now unmade.Memory playing one before made = tt
+
+-- what the host did leads to where a part begins, or to the end
+pub part_after : (did : HostStep) → BeginsPart (stand_after did)
+part_after host_step.Stays = tt
+part_after (host_step.Calls func args) = tt
+part_after (host_step.Returns import value) = tt
+part_after host_step.Traps = tt
+part_after host_step.Ends = tt
 
 -- ---- after what has come before
 

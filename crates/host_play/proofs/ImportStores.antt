@@ -19,8 +19,7 @@ use Rattle.history_spec.specs.Settle.{settle, deliver, return_entry}
 use Rattle.history_spec.specs.Step.{Program, Progress, Running, Finished, Faulted, Stuck, StepResult, after_action, after_entries, after_instruction, after_settling, answer_call, call_function, enter_function, response_of, response_to, step, step_of}
 use Rattle.history_spec.specs.Run.{Meter, steps}
 use Rattle.hook_spec.specs.HookedRuns.{call_of_hook, calls_among, hook_calls}
-use Rattle.host_play.specs.CallCounts.{all_calls, is_host_call}
-use Rattle.host_play.proofs.Calls.{delivers_none, enters_none, returns_none}
+use Rattle.host_play.proofs.Calls.{all_calls, delivers_none, enters_none, is_host_call, returns_none}
 use Rattle.host_play.proofs.HookCalls.{calls_none, import_is_call, is_import_call, none_called, none_in_both, no_hooks, quiet}
 
 abbrev pub imports_in : List Entry → List Entry

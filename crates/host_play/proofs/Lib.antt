@@ -12,11 +12,9 @@ mod Reaches
 mod ToldRuns
 mod HostParts
 mod Joins
-mod CallCounts
 mod ModuleParts
-mod Counted
 mod RunStarts
-pub mod Calls
+mod Calls
 pub mod HookCalls
 mod ImportStores
 mod OtherAnswers
@@ -27,3 +25,4 @@ mod HooksOn
 pub mod HookShapes
 mod HookArguments
 mod HookWaits
+mod HooksAnswered

@@ -1,7 +1,6 @@
 -- The module's part of a run, by many turns at once.
-use Rattle.std.proofs.Common.{◌≡◌, ℕ, suc, zero, ◌+◌, ◌*◌, ◌<◌, ◌≤◌, List, ◌∷◌, ◌++◌, length, Some, None, refl, sym, ap, ◌∙◌, subst, arith, inl, inr, append_assoc}
+use Rattle.std.proofs.Common.{◌≡◌, ℕ, ◌+◌, ◌<◌, ◌≤◌, List, ◌∷◌, ◌++◌, length, ap, ◌∙◌, subst, arith}
 use Rattle.wasm_syntax.specs.declared.modules.Module.{Module}
-use Rattle.wasm_syntax.specs.Index.{imported_funcs}
 use Rattle.host_script.specs.declared.scripts.Script.{Script}
 use Rattle.run_outcomes.specs.declared.outcomes.Outcome.TheVariants.{Trapped as ByTrap}
 use Rattle.history_spec.specs.declared.entries.Entry.{Entry}
@@ -10,16 +9,16 @@ use Rattle.history_spec.specs.Configuration.{Config, InModule}
 use Rattle.history_spec.specs.Settle.{settle}
 use Rattle.history_spec.specs.Store.{Store}
 use Rattle.history_spec.specs.Step.{StepResult, after_settling}
-use Rattle.history_spec.specs.Run.{Meter, Run, all_one, program_of, run_from, weight}
+use Rattle.history_spec.specs.Run.{Meter, Run, program_of, run_from, weight}
 use Rattle.wasm_flat.specs.declared.code.Flat.{Flat}
 use Rattle.wasm_flat.specs.Meters.{Weighing, meter_of}
 use Rattle.flat_steps.specs.declared.frames.FlatFrame.{FlatFrame}
 use Rattle.flat_steps.specs.FlatStep as flat
 use Rattle.flat_steps.specs.Follows.{outside_of}
-use Rattle.flat_steps.specs.Runs.{taken, taken_by, turns, turns_by, weight_at}
+use Rattle.flat_steps.specs.Runs.{taken}
 use Rattle.wasm_interp.specs.declared.machine.Pause.{Pause}
 use Rattle.wasm_interp.specs.declared.machine.Pause.TheVariants as pause
-use Rattle.wasm_interp.specs.Advance.{Advances, EndsBy, flat_meter, without_entries}
+use Rattle.wasm_interp.specs.Advance.{Advances, flat_meter, without_entries}
 use Rattle.wasm_interp.specs.State.{State}
 use Rattle.wasm_interp.specs.Calls.{RunPart, AdvancesRun, AreOwnUpTo, ComesToImport, EndsRun, config_of}
 use Rattle.host_play.specs.declared.play_state.Host.{Host}
@@ -27,59 +26,16 @@ use Rattle.host_play.specs.declared.play_state.PlayState.{PlayState}
 use Rattle.host_play.specs.declared.play_state.Refusal.{Refusal}
 use Rattle.host_play.specs.declared.play_state.Stand.TheVariants as at
 use Rattle.host_play.specs.Hosts.{BeginsAnswer, HasNoResponse}
-use Rattle.host_play.specs.RunsSoFar.{ComesTo, CountsSoFar, HasCounted}
-use Rattle.host_play.specs.Results.{Refuses, play_fault}
+use Rattle.host_play.specs.RunsSoFar.{ComesTo}
 use Rattle.host_play.specs.Stands.{StandsAt, Stops}
 use Rattle.host_play.proofs.AnswerStarts as answering
-use Rattle.host_play.proofs.CallCounts as counting
 use Rattle.host_play.proofs.Arrivals.{at_host, at_trap}
 use Rattle.host_play.proofs.Joins.{run_joined}
-use Rattle.host_play.proofs.Reaches.{led, run_of, stopped}
-use Rattle.host_play.proofs.Returns.{IsSettled, settle_pause}
-
--- ---- a call of an import takes a turn
-
-pauses_at : (p : flat.Pause) (weight left index : ℕ) → EndsBy p weight left (pause.Import index) → p ≡ flat.Imports index
-pauses_at flat.Stands weight left index ends = let no : pause.Import index ≡ pause.Spent = ends.0 in cc
-pauses_at (flat.Imports i) weight left index ends = let same : Some (pause.Import i) ≡ Some (pause.Import index) = ends in cc
-pauses_at flat.Returned weight left index ends = let no : Some pause.Returned ≡ Some (pause.Import index) = ends in cc
-pauses_at flat.Trapped weight left index ends = let no : Some pause.Trapped ≡ Some (pause.Import index) = ends in cc
-
-taken_standing : (f : Flat) (count index : ℕ) (p : flat.Part) → p.pause ≡ flat.Stands → weight_at all_one p.frames ≡ 1 → (turns_by f count p flat.Stands).pause ≡ flat.Imports index → 0 < taken_by f all_one count p flat.Stands
-taken_standing f zero index p stands one is = cc
-taken_standing f (suc k) index p stands one is = omega arith
-
-stays_returned : (f : Flat) (count : ℕ) (p : flat.Part) → turns_by f count p flat.Returned ≡ p
-stays_returned f zero p = refl
-stays_returned f (suc k) p = refl
-
-taken_some : (f : Flat) (count index : ℕ) (p : flat.Part) → IsSettled p → (turns f count p).pause ≡ flat.Imports index → 0 < taken f all_one count p
-taken_some f count index p (inl stands) is =
-    subst (λ a. 0 < taken_by f all_one count p a) (sym stands.0) (taken_standing f count index p stands.0 stands.1 (subst (λ a. (turns_by f count p a).pause ≡ flat.Imports index) stands.0 is))
-taken_some f count index p (inr returned) is =
-    let there : (turns_by f count p flat.Returned).pause ≡ flat.Imports index = subst (λ a. (turns_by f count p a).pause ≡ flat.Imports index) returned is in
-    let no : flat.Returned ≡ flat.Imports index = sym returned ∙ sym (ap (λ (q : flat.Part). q.pause) (stays_returned f count p)) ∙ there in
-    cc
-
-pub import_takes_turn : (f : Flat) (store : Store) (frames : List FlatFrame) (slots : List ℕ) (weighing : Weighing) (given index left : ℕ) (new : State) → weighing ≡ None
-    → Advances f store frames slots weighing given (pause.Import index) left new → left < given
-import_takes_turn f store frames slots weighing given index left new none advances =
-    let a : Advances f store frames slots None given (pause.Import index) left new = subst (λ w. Advances f store frames slots w given (pause.Import index) left new) none advances in
-    let p : flat.Part = without_entries (flat.settle f store frames slots) in
-    let ends : (turns f a.count p).pause ≡ flat.Imports index = ap (λ (q : flat.Part). q.pause) a.made ∙ pauses_at a.last.pause (weight_at all_one a.last.frames) left index a.ends in
-    let some : 0 < taken f all_one a.count p = taken_some f a.count index p (settle_pause f store frames slots) ends in
-    let all : taken f all_one a.count p + left ≡ given = a.all in
-    omega arith
+use Rattle.host_play.proofs.Reaches.{led, run_of}
 
 pub no_more_left : {f : Flat} {store : Store} {frames : List FlatFrame} {slots : List ℕ} {weighing : Weighing} {given left : ℕ} {end : Pause} {new : State} → Advances f store frames slots weighing given end left new → left ≤ given
 no_more_left {f = f} {store = store} {frames = frames} {slots = slots} {weighing = weighing} {given = given} {left = left} a =
     let all : taken f (flat_meter f weighing) a.count (without_entries (flat.settle f store frames slots)) + left ≡ given = a.all in
-    omega arith
-
-pub import_decreases : (hosts new_hosts : List Host) (answer : Host) (now left : ℕ) → new_hosts ≡ answer ∷ hosts → now < left
-    → 4 * now + (2 * length new_hosts + 1) < 4 * left + (2 * length hosts + 2)
-import_decreases hosts new_hosts answer now left is took =
-    let one : length new_hosts ≡ suc (length hosts) = ap length is in
     omega arith
 
 -- ---- where the module's part ends
@@ -151,45 +107,3 @@ module _ (m : Module) (script : Script) (weighing : Weighing) (s : StepResult) (
           used = ap (λ (r : Run). r.turns) whole ∙ (let same : used + a.taken ≡ budget = omega arith in same);
           wants = omega arith;
         }
-
--- ---- the same with the calls counted
-
-module _ (m : Module) (script : Script) (s : StepResult) (playing : PlayState) (standing : StandsAt m script at.Module playing s) (left : ℕ) (end : Pause) (new : State) (now : ℕ) (run : AdvancesRun playing.machine None left end now new)
-    (initial : StepResult) (budget steps used : ℕ) (history : List Entry) (so_far : run_from (program_of m script) all_one initial steps ≡ run_of (history ++ s.entries) used s.next) (spent : used + left ≡ budget) where
-  abbrev part : RunPart m standing.heights (program_of m script) all_one (outside_of standing.goes_on.below) standing.counts (after_settling playing.machine.store standing.counts (settle (InModule standing.goes_on.frame ∷ standing.goes_on.below))) left end now new
-  part = a m script None s playing standing left end new now run
-
-  module _ (calls : ℕ) (counted : HasCounted (imported_funcs m) playing.counts.items calls history) where
-    pub counts_to_host : end ≡ pause.Returned → CountsSoFar m script initial budget calls at.Host (after m script None s playing standing left end new now run) now
-    counts_to_host is = record {
-      history = (history ++ part.before) ++ part.entries;
-      reached = to_host m script None s playing standing left end new now run initial budget steps used history so_far spent is;
-      counted = subst (HasCounted (imported_funcs m) playing.counts.items calls) (sym (append_assoc history part.before part.entries))
-          (counting.counted_own (imported_funcs m) playing.counts.items calls history (part.before ++ part.entries) (own_as m script None s playing standing left end new now run pause.Returned is) counted);
-    }
-
-    pub counts_to_trap : end ≡ pause.Trapped → CountsSoFar m script initial budget calls (at.Over ByTrap) (after m script None s playing standing left end new now run) now
-    counts_to_trap is = record {
-      history = (history ++ part.before) ++ part.entries;
-      reached = to_trap m script None s playing standing left end new now run initial budget steps used history so_far spent is;
-      counted = subst (HasCounted (imported_funcs m) playing.counts.items calls) (sym (append_assoc history part.before part.entries))
-          (counting.counted_own (imported_funcs m) playing.counts.items calls history (part.before ++ part.entries) (own_as m script None s playing standing left end new now run pause.Trapped is) counted);
-    }
-
-    pub counts_to_import : (index : ℕ) → end ≡ pause.Import index → (hosts : List Host) (new_playing : PlayState) → new_playing.machine ≡ new → new_playing.functions ≡ playing.functions → new_playing.hosts ≡ hosts
-        → BeginsAnswer script playing.hosts playing.counts.items index hosts new_playing.counts.items → CountsSoFar m script initial budget calls at.Host new_playing now
-    counts_to_import index is hosts new_playing same_machine same_functions same_hosts begins =
-        let own : AreOwnUpTo (pause.Import index) (part.before ++ part.entries) = own_as m script None s playing standing left end new now run (pause.Import index) is in
-        record {
-          history = (history ++ part.before) ++ part.entries;
-          reached = to_import m script None s playing standing left end new now run initial budget steps used history so_far spent index is hosts new_playing same_machine same_functions same_hosts begins;
-          counted = subst (HasCounted (imported_funcs m) new_playing.counts.items calls) (sym (append_assoc history part.before part.entries))
-              (counting.counted_import (imported_funcs m) playing.counts.items new_playing.counts.items calls index own.1 history (part.before ++ part.entries) own.0 own.2 own.3 (counted_import m script None s playing standing left end new now run index is) begins.counted counted);
-        }
-
-  pub fault_without_response : (index : ℕ) → end ≡ pause.Import index → (refusal : Refusal) (turn : ℕ) → turn + now ≡ budget → HasNoResponse script playing.counts.items index refusal
-      → Refuses (program_of m script) initial budget (play_fault refusal turn)
-  fault_without_response index is refusal turn at none =
-      stopped m script initial budget (steps + part.count) now (used + part.taken) turn (history ++ part.before) part.last refusal
-      (whole m script None s playing standing left end new now run initial budget steps used history so_far spent) (all m script None s playing standing left end new now run initial budget steps used history so_far spent) at
-      (without_response m script None s playing standing left end new now run initial budget steps used history so_far spent index is refusal none)

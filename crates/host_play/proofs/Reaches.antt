@@ -159,7 +159,7 @@ module _ (m : Module) (script : Script) (weighing : Weighing) (initial : StepRes
 
 module _ (m : Module) (script : Script) (initial : StepResult) (budget : ℕ) where
   -- a fault of the script stops it
-  pub stopped : (count left used turn : ℕ) (history : List Entry) (s : StepResult) (refusal : Refusal)
+  stopped : (count left used turn : ℕ) (history : List Entry) (s : StepResult) (refusal : Refusal)
       → run_from (program_of m script) all_one initial count ≡ run_of (history ++ s.entries) used s.next → used + left ≡ budget → turn + left ≡ budget
       → Stops refusal s → Refuses (program_of m script) initial budget (play_fault refusal turn)
   stopped count left used turn history s unmade.Memory run spent is stops = tt

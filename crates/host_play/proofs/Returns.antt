@@ -7,12 +7,11 @@ use Rattle.history_spec.specs.Store.{Store}
 use Rattle.history_spec.specs.Configuration.{InModule}
 use Rattle.history_spec.specs.Settle.{settle}
 use Rattle.history_spec.specs.Step.{StepResult, after_settling}
-use Rattle.history_spec.specs.Run.{all_one, program_of}
+use Rattle.history_spec.specs.Run.{program_of}
 use Rattle.wasm_flat.specs.declared.code.Flat.{Flat}
 use Rattle.flat_steps.specs.declared.frames.FlatFrame.{FlatFrame}
 use Rattle.flat_steps.specs.FlatStep as flat
 use Rattle.flat_steps.specs.Follows.{outside_of}
-use Rattle.flat_steps.specs.Runs.{weight_at}
 use Rattle.wasm_interp.specs.declared.machine.Pause.{Pause}
 use Rattle.wasm_interp.specs.declared.machine.Pause.TheVariants as pause
 use Rattle.wasm_interp.specs.declared.machine.Turn.{Turn}
@@ -24,17 +23,17 @@ use Rattle.host_play.specs.declared.play_state.PlayState.{PlayState}
 use Rattle.host_play.specs.Stands.{Leads, StandsAt}
 use Rattle.host_play.proofs.Arrivals.{at_instruction, at_host}
 
--- a part ends at an instruction, which takes a turn, or at the host
-abbrev pub IsSettled : flat.Part → Type 0
-IsSettled p = ((p.pause ≡ flat.Stands) × (weight_at all_one p.frames ≡ 1)) ⊎ (p.pause ≡ flat.Returned)
+-- a part ends at an instruction or at the host
+abbrev IsSettled : flat.Part → Type 0
+IsSettled p = (p.pause ≡ flat.Stands) ⊎ (p.pause ≡ flat.Returned)
 
 returned_pause : (results : Option (List Val)) (to_host : Bool) (store : Store) (frame : FlatFrame) (below : List FlatFrame) (slots : List ℕ) (go : List ℕ → flat.Part)
     → ((more : List ℕ) → IsSettled (go more)) → IsSettled (flat.after_return results to_host store frame below slots go)
-returned_pause None to_host store frame below slots go each = inl (refl, refl)
+returned_pause None to_host store frame below slots go each = inl refl
 returned_pause (Some results) true store frame below slots go each = inr refl
 returned_pause (Some results) false store frame below slots go each = each (flat.with_values slots frame.base results)
 
-pub settle_pause : (f : Flat) (store : Store) (frames : List FlatFrame) (slots : List ℕ) → IsSettled (flat.settle f store frames slots)
+settle_pause : (f : Flat) (store : Store) (frames : List FlatFrame) (slots : List ℕ) → IsSettled (flat.settle f store frames slots)
 settle_pause f store [] slots = inr refl
 settle_pause f store (frame ∷ below) slots =
     returned_pause (flat.results_of f slots frame) (flat.host_awaits f below) store frame below slots (flat.settle f store below) (settle_pause f store below)
@@ -56,6 +55,6 @@ module _ (m : Module) (script : Script) (s : StepResult) (playing : PlayState) (
   settled_at_host p is makes =
       at_host m standing.heights script standing.counts standing.is_run standing.goes_on.below (record playing { machine = machine }) standing.functions standing.counted turn.entries s standing.goes_on.stack.hosts
       (comes_as (Some pause.Returned) (elim (settle_pause playing.machine.flat playing.machine.store playing.machine.frames playing.machine.slots) [
-        | inl stands ↦ (let none : turn.pause ≡ None = makes.pause ∙ ap pause_of stands.0 in cc)
+        | inl stands ↦ (let none : turn.pause ≡ None = makes.pause ∙ ap pause_of stands in cc)
         | inr returned ↦ makes.pause ∙ ap pause_of returned
       ]))

@@ -61,10 +61,6 @@ module _ (m : Module) (script : Script) (s : StepResult) (playing : PlayState) (
       turns (Ok (play_step (at.Over ByTrap) turn.entries)) (record playing { machine = machine })
       (at_trap m standing.heights script standing.counts standing.is_run standing.goes_on.below (record playing { machine = machine }) standing.functions standing.counted turn.entries (step (program_of m script) config) (comes_as (Some pause.Trapped) is))
 
-  pub never_spent : turn.pause ≡ Some pause.Spent → ⊥
-  unfolding ComesAs
-  never_spent is = comes_as (Some pause.Spent) is
-
   module _ (index : ℕ) (is : turn.pause ≡ Some (pause.Import index)) where
     comes : ComesToImport m standing.heights (program_of m script) (outside_of standing.goes_on.below) standing.counts index turn.entries machine (step (program_of m script) config)
     unfolding ComesAs

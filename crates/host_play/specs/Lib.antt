@@ -5,7 +5,6 @@ pub mod HostSteps
 pub mod Starts
 pub mod Hosts
 pub mod ToldLines
-pub mod CallCounts
 pub mod Stands
 pub mod HostParts
 pub mod HookFaults

@@ -1,5 +1,5 @@
 -- What a run within a budget of turns answers.
-use Rattle.std.specs.Prelude.{◌≡◌, ℕ, ◌<◌, length, slice_index, Result, Ok, Err}
+use Rattle.std.specs.Prelude.{◌≡◌, ℕ, length, Result, Ok, Err}
 use Rattle.history_spec.specs.declared.entries.FaultKind.{FaultKind}
 use Rattle.history_spec.specs.Budget.{IsOverWithin, IsSpent}
 use Rattle.history_spec.specs.Line.{history_text}
@@ -10,9 +10,6 @@ use Rattle.host_play.specs.declared.results.PlayFault.TheVariants as refusal
 use Rattle.host_play.specs.declared.play_state.Refusal.{Refusal}
 use Rattle.host_play.specs.declared.play_state.Refusal.TheVariants as unmade
 use Rattle.host_play.specs.declared.results.Told.{Told}
-use Rattle.host_play.specs.declared.results.Played.{Played}
-use Rattle.host_play.specs.CallCounts.{host_calls, import_calls}
-use Rattle.host_play.specs.Hosts.{kept}
 
 -- the run is over by an outcome: its history and its outcome as lines, how many entries it has, the turns that it took
 pub record TellsRun (program : Program) (initial : StepResult) (budget : ℕ) (told : Told) : Type 0 where
@@ -40,21 +37,6 @@ Refuses program initial budget refusal.Memory = Unit {0}
 abbrev pub IsTold : Program → (initial : StepResult) → (budget : ℕ) → Result Told PlayFault → Type 0
 IsTold program initial budget (Ok told) = TellsRun program initial budget told
 IsTold program initial budget (Err fault) = Refuses program initial budget fault
-
--- the run is over by an outcome: how many turns it took, how many calls of each import it has, and how many by the host
-pub record PlaysRun (program : Program) (initial : StepResult) (budget : ℕ) (played : Played) : Type 0 where
-  pub run : Run
-  pub within : IsOverWithin (run_from program all_one initial) budget run
-  pub outcome : run.at ≡ Finished played.outcome
-  pub turns : played.turns ≡ run.turns
-  pub each : length played.imports ≡ program.code.imported
-  pub imports : (import : ℕ) → import < program.code.imported
-      → slice_index played.imports import ≡ kept (import_calls import run.history)
-  pub calls : played.calls ≡ kept (host_calls run.history)
-
-abbrev pub IsPlayedOut : Program → (initial : StepResult) → (budget : ℕ) → Result Played PlayFault → Type 0
-IsPlayedOut program initial budget (Ok played) = PlaysRun program initial budget played
-IsPlayedOut program initial budget (Err fault) = Refuses program initial budget fault
 
 -- the same, where a step is not made
 abbrev pub play_fault : Refusal → (turn : ℕ) → PlayFault

@@ -1,7 +1,6 @@
 -- How far a run within a budget of turns has come.
-use Rattle.std.specs.Prelude.{◌≡◌, ℕ, ◌+◌, ◌-◌, ◌<◌, List, ◌++◌, slice_index, None, Result, Ok, Err}
+use Rattle.std.specs.Prelude.{◌≡◌, ℕ, ◌+◌, ◌-◌, List, ◌++◌, None, Result, Ok, Err}
 use Rattle.wasm_syntax.specs.declared.modules.Module.{Module}
-use Rattle.wasm_syntax.specs.Index.{imported_funcs}
 use Rattle.host_script.specs.declared.scripts.Script.{Script}
 use Rattle.history_spec.specs.declared.entries.Entry.{Entry}
 use Rattle.history_spec.specs.Step.{Program, StepResult}
@@ -13,8 +12,6 @@ use Rattle.host_play.specs.declared.play_state.Stand.TheVariants as at
 use Rattle.host_play.specs.declared.play_state.PlayState.{PlayState}
 use Rattle.host_play.specs.declared.results.PlayFault.{PlayFault}
 use Rattle.host_play.specs.declared.results.RunEnd.{RunEnd}
-use Rattle.host_play.specs.CallCounts.{host_calls, import_calls}
-use Rattle.host_play.specs.Hosts.{kept}
 use Rattle.host_play.specs.Results.{Refuses}
 use Rattle.host_play.specs.Stands.{StandsAt}
 use Rattle.host_play.specs.ToldLines.{HasTold, ToldLines}
@@ -60,23 +57,6 @@ abbrev pub TellsOn : Module → Script → (initial : StepResult) → (budget : 
 TellsOn m script initial budget (Ok stand) told playing left =
     TellsSoFar m script initial budget told stand playing left
 TellsOn m script initial budget (Err fault) told playing left = Refuses (program_of m script) initial budget fault
-
--- its calls are counted
-pub record HasCounted (imported : ℕ) (counts : List ℕ) (calls : ℕ) (history : List Entry) : Type 0 where
-  pub imports : (import : ℕ) → import < imported → slice_index counts import ≡ kept (import_calls import history)
-  pub calls_are : calls ≡ kept (host_calls history)
-
-pub record CountsSoFar (m : Module) (script : Script) (initial : StepResult) (budget : ℕ) (calls : ℕ)
-    (stand : Stand) (playing : PlayState) (left : ℕ) : Type 0 where
-  pub history : List Entry
-  pub reached : ComesTo m script None initial budget history stand playing left
-  pub counted : HasCounted (imported_funcs m) playing.counts.items calls history
-
-abbrev pub CountsOn : Module → Script → (initial : StepResult) → (budget : ℕ) → (calls : ℕ)
-    → Result Stand PlayFault → PlayState → (left : ℕ) → Type 0
-CountsOn m script initial budget calls (Ok stand) playing left =
-    CountsSoFar m script initial budget calls stand playing left
-CountsOn m script initial budget calls (Err fault) playing left = Refuses (program_of m script) initial budget fault
 
 -- where the run is over, such a thing is kept of its whole history; or there is no outcome
 abbrev pub UpToEnd : Program → (initial : StepResult) → (budget : ℕ) → (Kept : Stand → (left : ℕ) → Type 0)

@@ -1,6 +1,6 @@
 // What the host does: its next action, and the end of an answer.
 
-ghost use Rattle.std.specs.Prelude.{◌≡◌, ℕ, ◌+◌, ◌^◌, ◌<◌, ◌≤◌, Some, None, IfOk, OnOk};
+ghost use Rattle.std.specs.Prelude.{◌≡◌, ◌+◌, ◌^◌, ◌<◌, ◌≤◌, Some, None, IfOk, OnOk};
 ghost use Rattle.wasm_syntax.specs.declared.modules.Module.{Module};
 ghost use Rattle.wasm_syntax.specs.declared.values.Val.{Val};
 ghost use Rattle.history_spec.specs.Code.{Code};
@@ -107,7 +107,6 @@ pub(crate) fn perform(
     requires small { next_of top < 2 ^ 63 }
     ensures makes { (m : Module) (s : StepResult) → StandsAt m script.now Stand.Host playing.old s
         → MakesStep m script.now s (play_step_result result) playing.new }
-    ensures counts { playing.new.counts.items ≡ playing.old.counts.items }
     ensures less { IfOk result (λ host_step.
         rest (stand_after host_step) playing.new < rest Stand.Host playing.old + 4) }
 {
@@ -148,7 +147,6 @@ pub(crate) fn end(script: &ScriptedHost<'_>, playing: &mut PlayState, top: Host)
     requires done { action_at script.now top ≡ None }
     ensures leads { (m : Module) (s : StepResult) → StandsAt m script.now Stand.Host playing.old s
         → Leads m script.now s (entries_of result) (stand_after result) playing.new }
-    ensures counts { playing.new.counts.items ≡ playing.old.counts.items }
     ensures less { rest (stand_after result) playing.new < rest Stand.Host playing.old }
     ensures ahead { ahead playing.new.machine.flat playing.new.machine.frames
         ≤ ahead playing.old.machine.flat playing.old.machine.frames }

@@ -6,7 +6,6 @@ ghost use Rattle.hook_names.specs.Steps.{IsRun};
 ghost use Rattle.hook_spec.specs.Hooks.{hooks as all_hooks, hook_count, hook_params};
 ghost use Rattle.hook_spec.specs.HookedRuns.{call_of_hook};
 ghost use Rattle.wasm_interp.specs.Frames.{argument_of};
-ghost use Rattle.wasm_interp.specs.State.{IsWaiting};
 ghost use Rattle.host_play.specs.HooksSoFar.{AreArguments, AwaitsCall, HasArguments};
 
 use hook_names::{HookFault, Hooks, View};

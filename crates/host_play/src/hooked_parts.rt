@@ -1,12 +1,13 @@
 // The parts of a run with hooks.
 
-ghost use Rattle.std.specs.Prelude.{◌≡◌, ℕ, ◌<◌, ◌≤◌, ◌⊎◌, IfOk, OnOk};
+ghost use Rattle.std.specs.Prelude.{◌<◌, ◌≤◌, ◌⊎◌, IfOk, OnOk};
 ghost use Rattle.wasm_syntax.specs.declared.modules.Module.{Module};
 ghost use Rattle.history_spec.specs.Step.{StepResult};
 ghost use Rattle.host_play.specs.RunsSoFar.{BeginsPart, IsOn, IsOver};
 ghost use Rattle.host_play.specs.HookedResults.{IsPlayedWithHooks};
 ghost use Rattle.host_play.specs.HooksSoFar.{HooksOn, HooksSoFar, IsHooked, IsLess, run_in};
 
+use crate::hook_answers::answer_hook;
 use crate::hook_calls::take_call;
 use crate::modules::begin_answer;
 use crate::play_state::{PlayState, Stand};
@@ -17,10 +18,10 @@ use history_spec::Outcome;
 use hook_names::Hooks;
 use std::alloc::Global;
 use wasm_flat::Meter;
-use wasm_interp::{Pause, calls_are_ready, meters_fit, weightless_turns_end};
+use wasm_interp::{Pause, calls_are_ready, hosts_go_on, meters_fit, weightless_turns_end};
 
-/// The module's part, by many turns at once: up to the host's next part, or an outcome. The call of a hook goes to the
-/// hooks before it is answered.
+/// The module's part, by many turns at once: up to the host's next part, the call of a hook, or an outcome. The call of
+/// a hook goes to the hooks and is answered at once.
 fn advance_module<H: Hooks>(
     script: &ScriptedHost<'_>,
     hooks: &mut H,
@@ -41,6 +42,7 @@ fn advance_module<H: Hooks>(
     ensures left { OnOk result (left.new ≤ turns) }
 {
     calls_are_ready();
+    hosts_go_on();
     meters_fit();
     weightless_turns_end();
     let pause = playing.machine.advance(meter, left)?;
@@ -48,6 +50,10 @@ fn advance_module<H: Hooks>(
         Pause::Import { index } => {
             if let Err(fault) = take_call(hooks, &playing.machine, imports, index) {
                 return Err(PlayFault::from(fault));
+            }
+            if index >= imports {
+                answer_hook(playing, index);
+                return Ok(Stand::Module);
             }
             match begin_answer(script, &mut playing.hosts, &mut playing.counts, index) {
                 Ok(()) => Ok(Stand::Host),

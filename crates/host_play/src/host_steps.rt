@@ -1,9 +1,7 @@
 // What the host did in a step, and what a history says of it.
 
-ghost use Rattle.std.specs.Prelude.{◌≡◌, ◌+◌, ◌∷◌, [], IfOk, option_to_list};
-ghost use Rattle.host_play.specs.CallCounts.{host_calls};
-ghost use Rattle.host_play.specs.HostSteps.{play_step_of, stand_after, entries_of};
-ghost use Rattle.host_play.specs.Hosts.{kept};
+ghost use Rattle.std.specs.Prelude.{◌≡◌, ◌∷◌, [], IfOk, option_to_list};
+ghost use Rattle.host_play.specs.HostSteps.{play_step_of, stand_after};
 
 use crate::play_state::Stand;
 use history_spec::{Entries, Entry, Outcome};
@@ -47,17 +45,6 @@ impl HostStep {
             HostStep::Ends => Stand::Over {
                 outcome: Outcome::Ended,
             },
-        }
-    }
-
-    /// How many calls the host has made, with this step after a given number of calls. The count stays at
-    /// 2^64 - 1 once it is there.
-    pub(crate) fn calls_after(&self, calls: u64) -> u64
-        ensures { result ≡ kept (calls + host_calls (entries_of self.now)) }
-    {
-        match self {
-            HostStep::Calls { .. } => calls.saturating_add(1),
-            _ => calls,
         }
     }
 

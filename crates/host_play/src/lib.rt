@@ -3,6 +3,7 @@
 #![tactic(auto)]
 
 mod actions;
+mod hook_answers;
 mod hook_calls;
 mod hooked_parts;
 mod hooked_plays;
@@ -13,7 +14,6 @@ pub mod play_state;
 mod plays;
 mod responses;
 pub mod results;
-mod runs;
 mod scripted_host;
 mod starts;
 mod steps;
@@ -21,7 +21,7 @@ mod tells;
 pub mod told_text;
 
 pub use hooked_plays::play;
-pub use laws::{calls_take_turns, forms_have_hooks};
+pub use laws::forms_have_hooks;
 pub use no_memory::NoMemory;
-pub use plays::{Play, run, tell};
-pub use results::{Counts, PlayFault, Played, Told};
+pub use plays::{Play, tell};
+pub use results::{PlayFault, Told};

@@ -1,9 +1,9 @@
 // What the module does: the returns that are due, and its next instruction.
 
-ghost use Rattle.std.specs.Prelude.{◌≡◌, ◌≢◌, ℕ, ◌+◌, ◌<◌, ◌∷◌, length, map, IfOk, OnOk, IsErr, Err};
+ghost use Rattle.std.specs.Prelude.{◌+◌, ◌<◌, length, IfOk, Err};
 ghost use Rattle.wasm_syntax.specs.declared.modules.Module.{Module};
 ghost use Rattle.history_spec.specs.Step.{StepResult};
-ghost use Rattle.host_play.specs.Hosts.{BeginsAnswer, BeginsBy};
+ghost use Rattle.host_play.specs.Hosts.{BeginsBy};
 ghost use Rattle.host_play.specs.Stands.{IsPlayed, LeadsBy, MakesStep, StandsAt, rest};
 
 use crate::host_steps::PlayStep;

@@ -9,10 +9,9 @@ ghost use Rattle.history_spec.specs.Step.{StepResult};
 ghost use Rattle.type_safety.specs.Stores.{IsStore};
 ghost use Rattle.wasm_flat.specs.Bounds.{IsBound};
 ghost use Rattle.wasm_flat.specs.FlatCode.{flat_of};
-ghost use Rattle.host_play.specs.Results.{IsPlayedOut, IsTold};
+ghost use Rattle.host_play.specs.Results.{IsTold};
 
-use crate::results::{PlayFault, Played, Told};
-use crate::runs::run_from;
+use crate::results::{PlayFault, Told};
 use crate::scripted_host::ScriptedHost;
 use crate::tells::tell_from;
 use host_script::Script;
@@ -57,30 +56,4 @@ pub fn tell(alloc: Global, play: Play, turns: u64) -> Result<Told, PlayFault>
         store,
     } = play;
     tell_from(alloc, code, flat, &ScriptedHost::of(script), store, turns)
-}
-
-/// The same run without its entries: the module goes on by many turns at once.
-///
-/// # Errors
-///
-/// As for `tell`.
-pub fn run(alloc: Global, play: Play, turns: u64) -> Result<Played, PlayFault>
-    requires valid { IsValid play.code.now }
-    requires supported { IsSupported play.code.now }
-    requires fits { Fits play.code.now play.script.now }
-    requires flat { play.flat ≡ flat_of play.code.now }
-    requires bound { IsBound play.flat }
-    requires store { IsStore play.code.now play.store }
-    requires opened { run_start play.code.now play.script.now
-        ≡ Ok (start_in_store play.code.now play.script.now play.store) }
-    ensures { (initial : StepResult) → run_start play.entry.code.now play.entry.script.now ≡ Ok initial
-        → IsPlayedOut (program_of play.entry.code.now play.entry.script.now) initial turns result }
-{
-    let Play {
-        code,
-        flat,
-        script,
-        store,
-    } = play;
-    run_from(alloc, code, flat, &ScriptedHost::of(script), store, turns)
 }

@@ -9,7 +9,7 @@ use hook_names::HookFault;
 use no_memory::NoMemory;
 use std::alloc::AllocError;
 use thiserror::Error;
-use wasm_syntax::{Bytes, List};
+use wasm_syntax::Bytes;
 
 /// A run that has an outcome: the lines of its history and of its outcome, how many entries the history
 /// has, and how many turns it took.
@@ -19,19 +19,6 @@ pub struct Told {
     pub entries: u64,
     pub turns: u64,
     pub outcome: Outcome,
-}
-
-/// A count for each import.
-pub type Counts = List<u64>;
-
-/// A run that has an outcome, without its history: how many turns it took, how many calls of each
-/// import it has, and how many by the host. A count stays at 2^64 - 1 once it is there.
-#[derive(Debug, Drop)]
-pub struct Played {
-    pub outcome: Outcome,
-    pub turns: u64,
-    pub imports: Counts,
-    pub calls: u64,
 }
 
 /// How a run is over: its outcome, and how many turns it took.

@@ -1,7 +1,6 @@
 // The start of a run.
 
 ghost use Rattle.std.specs.Prelude.{◌≡◌, [], ◌∷◌, replicate, IfOk, false};
-ghost use Rattle.wasm_syntax.specs.Index.{imported_funcs};
 ghost use Rattle.wasm_syntax.specs.Validity.{IsValid};
 ghost use Rattle.wasm_syntax.specs.Profile.{IsSupported};
 ghost use Rattle.host_script.specs.Fits.{Fits};
@@ -45,9 +44,7 @@ pub(crate) fn start(
     requires bound { IsBound flat }
     requires store { IsStore «module».now store }
     requires fits { Fits «module».now script.now }
-    ensures leads { IfOk result (λ started. LeadsFirst «module».now script.now store started.1 started.0) }
-    ensures counts { IfOk result (λ started.
-        started.0.counts.items ≡ replicate (imported_funcs «module».now) 0) }
+    ensures { IfOk result (λ started. LeadsFirst «module».now script.now store started.1 started.0) }
 {
     typed_code();
     stores_fit();
@@ -65,8 +62,7 @@ fn with_first_step(
     start: Option<u32>,
 ) -> Result<(PlayState, HostStep), NoMemory>
     requires { CanStart playing start }
-    ensures starts { IfOk result (λ started. Starts start playing started.1 started.0) }
-    ensures counts { IfOk result (λ started. started.0.counts.items ≡ playing.counts.items) }
+    ensures { IfOk result (λ started. Starts start playing started.1 started.0) }
 {
     let mut playing = playing;
     match first_step(alloc, &mut playing, start) {
@@ -83,8 +79,7 @@ fn first_step(
     start: Option<u32>,
 ) -> Result<HostStep, NoMemory>
     requires { CanStart playing.old start }
-    ensures starts { IfOk result (λ host_step. Starts start playing.old host_step playing.new) }
-    ensures counts { playing.new.counts.items ≡ playing.old.counts.items }
+    ensures { IfOk result (λ host_step. Starts start playing.old host_step playing.new) }
 {
     match start {
         Some(func) if func >= playing.functions.imported => {

@@ -1,6 +1,6 @@
 // Steps of a run within a budget of turns.
 
-ghost use Rattle.std.specs.Prelude.{◌≡◌, ℕ, ◌+◌, ◌-◌, ◌*◌, ◌<◌, ◌≤◌, List, IfOk};
+ghost use Rattle.std.specs.Prelude.{◌≡◌, ◌+◌, ◌-◌, ◌*◌, ◌<◌, ◌≤◌, IfOk};
 ghost use Rattle.wasm_syntax.specs.declared.modules.Module.{Module};
 ghost use Rattle.history_spec.specs.Step.{StepResult};
 ghost use Rattle.host_play.specs.HostParts.{HostGoes};
@@ -45,7 +45,6 @@ pub(crate) fn go_host(
     requires left { left.old ≤ turns }
     ensures goes { (m : Module) (s : StepResult) → StandsAt m script.now Stand.Host playing.old s
         → HostGoes m script.now s turns left.old result playing.new left.new }
-    ensures counts { playing.new.counts.items ≡ playing.old.counts.items }
     ensures less { IfOk result (λ host_step.
         4 * left.new + rest (stand_after host_step) playing.new < 4 * left.old + rest Stand.Host playing.old) }
     ensures lower { IfOk result (λ host_step.

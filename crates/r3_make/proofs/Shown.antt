@@ -11,14 +11,14 @@ use Rattle.history_spec.specs.Run.{Run, all_one, program_of, run_from, run_start
 use Rattle.history_spec.specs.Step.{StepResult}
 use Rattle.history_spec.specs.Store.{Store}
 use Rattle.type_safety.specs.Supplies.{IsRunnable}
-use Rattle.tape_follows.specs.Dropped.{NothingCanBeDropped}
+use Rattle.tape_follows.specs.Dropped.{HasNothingToSpare, NothingCanBeDropped}
 use Rattle.replay_modules.specs.Written.{IsConstantTape}
 use Rattle.binary_follows.specs.Playable.{most_weight}
 use Rattle.run_replays.specs.Laws.{IsShownByReplay, RunsAreReplayed}
 use Rattle.needed_constants.specs.Laws.{NeededTapesAreConstant}
 use Rattle.accepted_runs.proofs.OneResult.{linked-starts}
 use Rattle.r3_build.specs.Printed.{IsReplayOf}
-use Rattle.r3_make.specs.Printed.{HasNothingToSpare, IsReplayFor}
+use Rattle.r3_make.specs.Printed.{IsReplayFor}
 use Rattle.r3_make.specs.Tapes.{NeedsTape}
 
 one_start : (r : Result StepResult LinkFault) (a b : StepResult) → r ≡ Ok a → r ≡ Ok b → a ≡ b
@@ -46,9 +46,9 @@ module _ (m : Module) (script : Script) (turns : ℕ) (supply : Supply) (store :
       (ap (λ (run : Run). run.history) same_run) found.1)
 
   spare : NothingCanBeDropped → HasNothingToSpare m script store tape.segments needs.is_one.is_needed
-  spare law = λ left are differs.
-      law m script supply store tape.segments left runnable fits needs.linked.supplied needs.linked.begins
-      needs.is_one.is_needed are differs
+  spare law =
+      law m script supply store tape.segments runnable fits needs.linked.supplied needs.linked.begins
+      needs.is_one.is_needed
 
   pub constant : NeededTapesAreConstant → IsConstantTape tape
   constant law =

@@ -1,19 +1,13 @@
 -- What `make` prints.
-use Rattle.std.specs.Prelude.{◌≢◌, ℕ, ◌≤◌, List}
+use Rattle.std.specs.Prelude.{ℕ, ◌≤◌, List}
 use Rattle.wasm_syntax.specs.declared.modules.Module.{Module}
 use Rattle.host_script.specs.declared.scripts.Script.{Script}
 use Rattle.host_script.specs.declared.scripts.Supply.{Supply}
-use Rattle.trace_model.specs.declared.tapes.Segment.{Segment}
 use Rattle.trace_model.specs.declared.tapes.Tape.{Tape}
 use Rattle.trace_model.specs.Weight.{tape_weight}
-use Rattle.history_spec.specs.Code.{code_of}
 use Rattle.history_spec.specs.Replay.{Replays}
-use Rattle.history_spec.specs.Run.{all_one, program_of, run_from, start_in_store}
 use Rattle.history_spec.specs.Store.{Store}
-use Rattle.replay_spec.specs.Needed.{IsNeededTape}
-use Rattle.replay_spec.specs.Observations.{run_observations}
-use Rattle.replay_spec.specs.TapeRun.{tape_run}
-use Rattle.tape_follows.specs.Dropped.{AreLeftSegments, IsAnother}
+use Rattle.tape_follows.specs.Dropped.{HasNothingToSpare}
 use Rattle.replay_gen.specs.Fragments.{start_index}
 use Rattle.module_merge.specs.Merge.{layout_of}
 use Rattle.binary_follows.specs.Playable.{most_weight, replay_of}
@@ -21,17 +15,6 @@ use Rattle.run_replays.specs.Laws.{MakesEffectsOf}
 use Rattle.r3_build.specs.Printed.{IsReplayOf}
 use Rattle.r3_inputs.specs.Inputs.{AreInputs}
 use Rattle.r3_make.specs.Tapes.{NeedsTape}
-
--- out of the segments that a run needs nothing can be taken: the run of what is left is another
-abbrev pub HasNothingToSpare : (m : Module) (script : Script) (store : Store) (segments : List Segment)
-    → IsNeededTape (program_of m script) (start_in_store m script store) store segments → Type 0
-HasNothingToSpare m script store segments needed =
-    (left : List Segment)
-    → AreLeftSegments (run_observations (program_of m script) (start_in_store m script store) needed.count) segments
-    left
-    → left ≢ segments
-    → IsAnother (tape_run (code_of m) store left)
-    (run_from (program_of m script) all_one (start_in_store m script store) needed.count).history
 
 -- The run of the module under the script has an outcome within the turns, and the bytes that are printed encode the
 -- replay module of the one tape that it needs, out of which nothing can be taken: a valid module without imports that

@@ -14,7 +14,7 @@ use r3_show::fault_of;
 use std::alloc::Global;
 use trace_format::{Digest, log_files, read_log, write_tape};
 use trace_model::{Log, Tape};
-use trace_reduce::{ReduceFault, reduce};
+use trace_reduce::{ReduceFault, tape_of_log};
 
 /// The file of the tape that the log of a file is reduced to, with the log's digest.
 ///
@@ -42,17 +42,17 @@ fn reduced_file(alloc: Global, bytes: &[u8]) -> Result<Vec<u8>, Fault>
     ensures printed { IfOk result (λ file. IsReduced bytes.now file.items) }
 {
     match read_log(alloc, bytes) {
-        Ok((digest, log)) => tape_file(alloc, &digest, &log),
+        Ok((digest, log)) => tape_file(alloc, &digest, log),
         Err(cause) => Err(fault_of(cause)),
     }
 }
 
 /// The file of the tape of a log.
-fn tape_file(alloc: Global, digest: &Digest, log: &Log) -> Result<Vec<u8>, Fault>
-    ensures cause { IfErr result (λ fault. (fault ≡ Memory) ⊎ IsUnbalanced log.now fault) }
-    ensures printed { IfOk result (λ file. IsTapeFile digest.now log.now file.items) }
+fn tape_file(alloc: Global, digest: &Digest, log: Log) -> Result<Vec<u8>, Fault>
+    ensures cause { IfErr result (λ fault. (fault ≡ Memory) ⊎ IsUnbalanced log fault) }
+    ensures printed { IfOk result (λ file. IsTapeFile digest.now log file.items) }
 {
-    match reduce(alloc, log) {
+    match tape_of_log(alloc, log) {
         Ok(tape) => file_of_tape(alloc, digest, &tape),
         Err(ReduceFault::Unbalanced { event }) => Err(Fault::Unbalanced { event }),
         Err(ReduceFault::Memory) => Err(Fault::Memory),

@@ -24,7 +24,7 @@ opening_holds_less store sizes =
     }
 
 pub nothing_can_be_dropped : LawsOfSteps → LawsOfRuns → ShownStepsAreAnswered → NothingCanBeDropped
-nothing_can_be_dropped laws safety answered m script supply store segments left runnable fits links opens needed are
+nothing_can_be_dropped laws safety answered m script supply store segments runnable fits links opens needed left are
     apart =
     let h = safety.heights m runnable.valid in
     let typed = safety.code m h.0 runnable.valid runnable.supported h.1 in

@@ -83,15 +83,22 @@ OtherRunsNeverHaveTheHistory =
 
 -- ---- the law
 
--- of each module that can be run, and each script that fits it and links with it: out of the tape that its run needs
--- nothing can be taken, or the run of what is left disagrees before it has the run's history, or has another
-abbrev pub NothingCanBeDropped : Type 0
-NothingCanBeDropped =
-    (m : Module) (script : Script) (supply : Supply) (store : Store) (segments left : List Segment)
-    → IsRunnable m → Fits m script → supply_of m script ≡ Ok supply → instantiate m supply ≡ Ok store
-    → (needed : IsNeededTape (program_of m script) (start_in_store m script store) store segments)
+-- out of the segments that a run needs nothing can be taken: the run of what is left disagrees before it has the run's
+-- history, or has another
+abbrev pub HasNothingToSpare : (m : Module) (script : Script) (store : Store) (segments : List Segment)
+    → IsNeededTape (program_of m script) (start_in_store m script store) store segments → Type 0
+HasNothingToSpare m script store segments needed =
+    (left : List Segment)
     → AreLeftSegments (run_observations (program_of m script) (start_in_store m script store) needed.count) segments
     left
     → left ≢ segments
     → IsAnother (tape_run (code_of m) store left)
     (run_from (program_of m script) all_one (start_in_store m script store) needed.count).history
+
+-- so it is of each module that can be run, and each script that fits it and links with it
+abbrev pub NothingCanBeDropped : Type 0
+NothingCanBeDropped =
+    (m : Module) (script : Script) (supply : Supply) (store : Store) (segments : List Segment)
+    → IsRunnable m → Fits m script → supply_of m script ≡ Ok supply → instantiate m supply ≡ Ok store
+    → (needed : IsNeededTape (program_of m script) (start_in_store m script store) store segments)
+    → HasNothingToSpare m script store segments needed

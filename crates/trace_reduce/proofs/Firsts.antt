@@ -39,7 +39,7 @@ next_first finds before find after h step =
       pages = part_next before.pages after.pages effect_pages finds find h.pages step.pages;
       size = part_next before.size after.size effect_entries finds find h.size step.size;
       byte =
-          λ at. part_next (byte_at before.bytes at) (byte_at after.bytes at) (effect_byte at) finds find (h.byte at)
+          λ at. part_next (byte_at before.bytes.items at) (byte_at after.bytes.items at) (effect_byte at) finds find (h.byte at)
           (step.byte at);
       entry =
           λ at. part_next (get nat_cmp before.entries at) (get nat_cmp after.entries at) (effect_entry at) finds find

@@ -16,9 +16,9 @@ use Rattle.trace_reduce.specs.declared.finds.Firsts.{Firsts}
 use Rattle.trace_reduce.specs.Firsts.{AreFirsts, global_of}
 use Rattle.trace_reduce.specs.Runs.{runs_from, entry_effect, global_effect, size_effects, firsts_effects, AreSorted}
 use Rattle.trace_reduce.proofs.Firsts.{or_none}
-use Rattle.trace_reduce.specs.ByteGroups.{byte_at, bytes_of}
+use Rattle.trace_reduce.specs.ByteGroups.{byte_at, bytes_of, merged}
 use Rattle.trace_reduce.proofs.Bytes.{Ascend, at_key, ascends, looked_up}
-use Rattle.trace_reduce.proofs.Groups.{bytes_ascend, byte_looked_up}
+use Rattle.trace_reduce.proofs.Groups.{bytes_ascend, byte_looked_up, merged_ascend}
 use Rattle.trace_reduce.proofs.Ordered.{all_ordered, all_have}
 use Rattle.trace_reduce.proofs.Parts.{last_append, entries_none, globals_none, sizes_none, runs_none, keyed, all_runs}
 
@@ -30,7 +30,7 @@ module _ (firsts : Firsts) where
   size_part = size_effects Table firsts.size
 
   abbrev all_bytes : List (ℕ × ℕ)
-  all_bytes = bytes_of firsts.bytes.entries
+  all_bytes = bytes_of (merged firsts.bytes.items)
 
   abbrev bytes_part : List Effect
   bytes_part = runs_from 0 [] all_bytes
@@ -76,7 +76,7 @@ module _ (firsts : Firsts) where
 
   module _ (finds : List Effect) (h : AreFirsts finds firsts) (s : AreSorted firsts) where
     ascending : Ascend 0 all_bytes
-    ascending = bytes_ascend 0 firsts.bytes.entries (ascends firsts.bytes.entries s.bytes)
+    ascending = bytes_ascend 0 (merged firsts.bytes.items) (merged_ascend firsts.bytes.items s.bytes)
 
     pages_same : last_some effect_pages (firsts_effects firsts) ≡ firsts.pages
     pages_same =
@@ -96,7 +96,7 @@ module _ (firsts : Firsts) where
         (globals_none effect_entries (λ k value. refl) firsts.globals.entries)
         ∙ or_none firsts.size
 
-    byte_same : (at : ℕ) → last_some (effect_byte at) (firsts_effects firsts) ≡ byte_at firsts.bytes at
+    byte_same : (at : ℕ) → last_some (effect_byte at) (firsts_effects firsts) ≡ byte_at firsts.bytes.items at
     byte_same at =
         part_of (effect_byte at) None None (at_key all_bytes at) None None
         (sizes_none (effect_byte at) Grow (λ pages. refl) firsts.pages)
@@ -105,7 +105,7 @@ module _ (firsts : Firsts) where
         (entries_none (effect_byte at) (λ k func. refl) firsts.entries.entries)
         (globals_none (effect_byte at) (λ k value. refl) firsts.globals.entries)
         ∙ or_none (at_key all_bytes at)
-        ∙ byte_looked_up firsts.bytes at (ascends firsts.bytes.entries s.bytes)
+        ∙ byte_looked_up firsts.bytes.items at s.bytes
 
     entry_same : (at : ℕ) → last_some (effect_entry at) (firsts_effects firsts) ≡ get nat_cmp firsts.entries at
     entry_same at =
@@ -149,11 +149,28 @@ module _ (firsts : Firsts) where
           global = λ at. global_same at ∙ h.global at;
         }
 
+-- what is found first, with the bytes in another order
+same_firsts : (before sorted : Firsts) → sorted.pages ≡ before.pages → sorted.size ≡ before.size
+    → ((at : ℕ) → byte_at sorted.bytes.items at ≡ byte_at before.bytes.items at) → sorted.entries ≡ before.entries
+    → sorted.globals ≡ before.globals → (finds : List Effect) → AreFirsts finds before → AreFirsts finds sorted
+same_firsts before sorted pages size bytes entries globals finds h =
+    record {
+      pages = pages ∙ h.pages;
+      size = size ∙ h.size;
+      byte = λ at. bytes at ∙ h.byte at;
+      entry = λ at. ap (λ kept. get nat_cmp kept at) entries ∙ h.entry at;
+      global = λ at. ap (λ kept. option_map Some (get nat_cmp kept at)) globals ∙ h.global at;
+    }
+
 -- what is answered
-pub effects_answered : (firsts : Firsts) (answer : Result (List Effect) NoMemory)
-    → IfOk answer (λ effects. effects ≡ firsts_effects firsts)
-    → IfOk answer (λ effects. AreSorted firsts)
-    → IfOk answer (λ effects. (finds : List Effect) → AreFirsts finds firsts → AreFirstFinds finds effects)
-effects_answered firsts (Ok effects) same sorted =
-    λ finds h. subst (AreFirstFinds finds) (sym same) (are_first_finds firsts finds h sorted)
-effects_answered firsts (Err refused) same sorted = tt
+pub effects_answered : (before sorted : Firsts) (answer : Result (List Effect) NoMemory)
+    → sorted.pages ≡ before.pages → sorted.size ≡ before.size
+    → ((at : ℕ) → byte_at sorted.bytes.items at ≡ byte_at before.bytes.items at) → sorted.entries ≡ before.entries
+    → sorted.globals ≡ before.globals
+    → IfOk answer (λ effects. effects ≡ firsts_effects sorted)
+    → IfOk answer (λ effects. AreSorted sorted)
+    → IfOk answer (λ effects. (finds : List Effect) → AreFirsts finds before → AreFirstFinds finds effects)
+effects_answered before sorted (Ok effects) pages size bytes entries globals same order =
+    λ finds h. subst (AreFirstFinds finds) (sym same)
+    (are_first_finds sorted finds (same_firsts before sorted pages size bytes entries globals finds h) order)
+effects_answered before sorted (Err refused) pages size bytes entries globals same order = tt

@@ -1,17 +1,18 @@
--- Bytes in groups: what one more group takes, and the bytes of all by their addresses.
-use Rattle.std.proofs.Common.{BTreeMap, ◌≡◌, ℕ, suc, zero, ◌+◌, ◌-◌, ◌*◌, ◌/◌, ◌%◌, ◌≤◌, ◌<◌, List, [], ◌∷◌, ◌++◌, length, drop, min, take, Option, Some, None, Bool, true, false, cond, nat_eq, nat_le, nat_lt, slice_get, unwrap_or, refl, sym, ap, ◌∙◌, subst, arith}
+-- Bytes in groups: what one more group has, groups in order, and the bytes of all by their addresses.
+use Rattle.std.proofs.Common.{◌≡◌, ℕ, suc, zero, ◌+◌, ◌-◌, ◌*◌, ◌/◌, ◌%◌, ◌≤◌, ◌<◌, List, [], ◌∷◌, ◌++◌, length, drop, min, take, Option, Some, None, Bool, true, false, cond, nat_eq, nat_le, nat_lt, slice_get, unwrap_or, refl, sym, ap, ◌∙◌, subst, arith}
+use Rattle.std.specs.List.{filter}
+use Rattle.std.specs.List.Sorted.{IsNonDecreasingBy, ties}
 use Rattle.std.specs.Option.{option_flatten, option_or}
-use Rattle.std.specs.Ordering.{nat_cmp}
-use Rattle.std.specs.BTreeMap.{get}
+use Rattle.std.specs.Ordering.{is_lt, nat_cmp}
 use Rattle.std.proofs.lemmas.Bool.Decides.{nat_tests}
 use Rattle.std.proofs.lemmas.Option.{slice_get_past}
 use Rattle.std.proofs.lemmas.List.{length-append, length-take, take-append-drop}
 use Rattle.list_laws.proofs.Lists.{get_front, get_after_by}
 use Rattle.replay_spec.specs.Known.{byte_among}
 use Rattle.trace_reduce.specs.declared.byte_groups.TheConstants.{GROUP}
-use Rattle.trace_reduce.specs.ByteGroups.{TakesFront, slot_at, slots_of, byte_at, slot_bytes, bytes_of}
+use Rattle.trace_reduce.specs.ByteGroups.{AreInOrder, TakesFront, both_slots, bytes_of, byte_at, group_byte, joined, merged, slot_at, slot_bytes}
 use Rattle.trace_reduce.proofs.Firsts.{or_assoc, or_none}
-use Rattle.trace_reduce.proofs.Bytes.{at_key, Ascend, looked_up, none_below}
+use Rattle.trace_reduce.proofs.Bytes.{at_key, Ascend, none_below}
 
 -- ---- bytes among others
 
@@ -69,31 +70,22 @@ among_moved by start run at =
 
 -- ---- one group
 
--- the bytes of one group are taken
-pub group_taken : (old new : BTreeMap ℕ (List (Option ℕ))) (at : ℕ) (front : List ℕ)
-    → at % GROUP + length front ≤ GROUP
-    → ((place : ℕ) → slot_at (slots_of new (at / GROUP)) place
-    ≡ option_or (slot_at (slots_of old (at / GROUP)) place) (byte_among (at % GROUP) front place))
-    → ((q : ℕ) → nat_eq (at / GROUP) q ≡ false → get nat_cmp new q ≡ get nat_cmp old q)
-    → (q : ℕ) → byte_at new q ≡ option_or (byte_at old q) (byte_among at front q)
-group_taken old new at front within here others q = go (nat_eq (at / GROUP) (q / GROUP)) refl
+-- a group has the bytes that stand from an address on
+group_has : (slots : List (Option ℕ)) (at : ℕ) (front : List ℕ) → at % GROUP + length front ≤ GROUP
+    → ((place : ℕ) → slot_at slots place ≡ byte_among (at % GROUP) front place)
+    → (q : ℕ) → group_byte (at / GROUP, slots) q ≡ byte_among at front q
+group_has slots at front within has q = go (nat_eq (at / GROUP) (q / GROUP)) refl
   where
     go : (b : Bool) → nat_eq (at / GROUP) (q / GROUP) ≡ b
-        → byte_at new q ≡ option_or (byte_at old q) (byte_among at front q)
+        → cond b (slot_at slots (q % GROUP)) None ≡ byte_among at front q
     go true same =
         let group : at / GROUP ≡ q / GROUP = grind (arith, nat_tests, same) in
         let from : at ≡ GROUP * (at / GROUP) + at % GROUP = omega arith in
         let place : q ≡ GROUP * (at / GROUP) + q % GROUP = omega (arith, group) in
-        subst
-        (λ n. slot_at (slots_of new n) (q % GROUP)
-        ≡ option_or (slot_at (slots_of old n) (q % GROUP)) (byte_among (at % GROUP) front (q % GROUP)))
-        group (here (q % GROUP))
-        ∙ ap (option_or (byte_at old q))
-        (sym ((λ i. byte_among (from i) front (place i))
-        ∙ among_moved (GROUP * (at / GROUP)) (at % GROUP) front (q % GROUP)))
-    go false apart =
-        ap (λ kept. slot_at (unwrap_or kept []) (q % GROUP)) (others (q / GROUP) apart)
-        ∙ sym (ap (option_or (byte_at old q)) (outside (nat_lt q at) refl) ∙ or_none (byte_at old q))
+        has (q % GROUP)
+        ∙ sym ((λ i. byte_among (from i) front (place i))
+        ∙ among_moved (GROUP * (at / GROUP)) (at % GROUP) front (q % GROUP))
+    go false apart = sym (outside (nat_lt q at) refl)
       where
         outside : (b : Bool) → nat_lt q at ≡ b → byte_among at front q ≡ None
         outside true less = among_under at front q (grind (arith, nat_tests, less))
@@ -104,6 +96,14 @@ group_taken old new at front within here others q = go (nat_eq (at / GROUP) (q /
           where
             beyond : at ≤ q → (at / GROUP ≡ q / GROUP → ⊥) → at + length front ≤ q
             beyond after other = omega (arith, after, other, within)
+
+-- one more group after the others
+group_snoc : (groups : List (ℕ × List (Option ℕ))) (group : ℕ × List (Option ℕ)) (q : ℕ)
+    → byte_at (groups ++ group ∷ []) q ≡ option_or (byte_at groups q) (group_byte group q)
+group_snoc [] group q = or_none (group_byte group q)
+group_snoc (first ∷ groups) group q =
+    ap (option_or (group_byte first q)) (group_snoc groups group q)
+    ∙ sym (or_assoc (group_byte first q) (byte_at groups q) (group_byte group q))
 
 -- ---- the bytes of all groups
 
@@ -242,16 +242,170 @@ bytes_key low (group ∷ groups) at h =
         ∙ later
         ∙ sym (ap (λ b. slot_at (unwrap_or (cond b (Some group.1) (at_key groups (at / GROUP))) []) (at % GROUP)) apart)
 
-pub byte_looked_up : (groups : BTreeMap ℕ (List (Option ℕ))) (at : ℕ) → Ascend 0 groups.entries
-    → at_key (bytes_of groups.entries) at ≡ byte_at groups at
-byte_looked_up groups at h =
-    bytes_key 0 groups.entries at h
-    ∙ ap (λ o. slot_at (unwrap_or o []) (at % GROUP)) (sym (looked_up groups.entries (at / GROUP)))
+-- ---- groups in order
+
+-- the byte at an address, of two groups that are made one
+both_bytes : (first second : ℕ × List (Option ℕ)) (at : ℕ) → first.0 ≡ second.0
+    → group_byte (first.0, both_slots first.1 second.1) at
+    ≡ option_or (group_byte first at) (group_byte second at)
+both_bytes first second at same =
+    go (nat_eq first.0 (at / GROUP))
+    ∙ ap (λ n. option_or (group_byte first at) (group_byte (n, second.1) at)) same
+  where
+    here : (place : ℕ) → place < GROUP
+        → slot_at (both_slots first.1 second.1) place ≡ option_or (slot_at first.1 place) (slot_at second.1 place)
+    here zero less = refl
+    here (suc zero) less = refl
+    here (suc (suc zero)) less = refl
+    here (suc (suc (suc zero))) less = refl
+    here (suc (suc (suc (suc place)))) less = absurd (omega (arith, less))
+
+    go : (b : Bool) → cond b (slot_at (both_slots first.1 second.1) (at % GROUP)) None
+        ≡ option_or (cond b (slot_at first.1 (at % GROUP)) None) (cond b (slot_at second.1 (at % GROUP)) None)
+    go true = here (at % GROUP) (omega arith)
+    go false = refl
+
+none_under : (low : ℕ) (groups : List (ℕ × List (Option ℕ))) (at : ℕ) → AreInOrder low groups → at / GROUP < low
+    → byte_at groups at ≡ None
+none_under low [] at h less = refl
+none_under low (group ∷ groups) at h less =
+    let apart : nat_eq group.0 (at / GROUP) ≡ false = grind (arith, nat_tests, h.0, less) in
+    ap (λ b. option_or (cond b (slot_at group.1 (at % GROUP)) None) (byte_at groups at)) apart
+    ∙ none_under group.0 groups at h.1 (omega (arith, h.0, less))
+
+joined_ascend : (low : ℕ) (group : ℕ × List (Option ℕ)) (groups : List (ℕ × List (Option ℕ))) → low ≤ group.0
+    → AreInOrder group.0 groups → Ascend low (joined group groups)
+joined_ascend low group [] from h = (from, tt)
+joined_ascend low group (next ∷ later) from h =
+    go (nat_eq group.0 next.0) refl
+    (λ o. joined_ascend low (group.0, both_slots group.1 next.1) later from o)
+    (λ past. joined_ascend (suc group.0) next later past h.1)
+  where
+    go : (b : Bool) → nat_eq group.0 next.0 ≡ b
+        → (AreInOrder group.0 later → Ascend low (joined (group.0, both_slots group.1 next.1) later))
+        → (group.0 < next.0 → Ascend (suc group.0) (joined next later))
+        → Ascend low (cond b (joined (group.0, both_slots group.1 next.1) later) (group ∷ joined next later))
+    go true same together apart =
+        let number : next.0 ≡ group.0 = grind (arith, nat_tests, same) in
+        together (subst (λ n. AreInOrder n later) number h.1)
+    go false other together apart =
+        let more : group.0 < next.0 = grind (arith, nat_tests, other, h.0) in
+        (from, apart more)
+
+joined_bytes : (group : ℕ × List (Option ℕ)) (groups : List (ℕ × List (Option ℕ))) (at : ℕ) → AreInOrder group.0 groups
+    → slot_at (unwrap_or (at_key (joined group groups) (at / GROUP)) []) (at % GROUP)
+    ≡ option_or (group_byte group at) (byte_at groups at)
+joined_bytes group [] at h = go (nat_eq group.0 (at / GROUP))
+  where
+    go : (b : Bool) → slot_at (unwrap_or (cond b (Some group.1) None) []) (at % GROUP)
+        ≡ option_or (cond b (slot_at group.1 (at % GROUP)) None) None
+    go true = sym (or_none (slot_at group.1 (at % GROUP)))
+    go false = refl
+joined_bytes group (next ∷ later) at h =
+    go (nat_eq group.0 next.0) refl (nat_eq group.0 (at / GROUP)) refl
+    (λ o. joined_bytes (group.0, both_slots group.1 next.1) later at o) (joined_bytes next later at h.1)
+  where
+    rest : Option ℕ
+    rest = byte_at (next ∷ later) at
+
+    go : (b : Bool) → nat_eq group.0 next.0 ≡ b → (c : Bool) → nat_eq group.0 (at / GROUP) ≡ c
+        → (AreInOrder group.0 later
+        → slot_at (unwrap_or (at_key (joined (group.0, both_slots group.1 next.1) later) (at / GROUP)) []) (at % GROUP)
+        ≡ option_or (group_byte (group.0, both_slots group.1 next.1) at) (byte_at later at))
+        → slot_at (unwrap_or (at_key (joined next later) (at / GROUP)) []) (at % GROUP) ≡ rest
+        → slot_at
+        (unwrap_or
+        (at_key (cond b (joined (group.0, both_slots group.1 next.1) later) (group ∷ joined next later)) (at / GROUP))
+        [])
+        (at % GROUP)
+        ≡ option_or (group_byte group at) rest
+    go true same c key together apart =
+        let number : next.0 ≡ group.0 = grind (arith, nat_tests, same) in
+        together (subst (λ n. AreInOrder n later) number h.1)
+        ∙ ap (λ o. option_or o (byte_at later at)) (both_bytes group next at (sym number))
+        ∙ or_assoc (group_byte group at) (group_byte next at) (byte_at later at)
+    go false other true key together apart =
+        let under : at / GROUP < next.0 = grind (arith, nat_tests, other, key, h.0) in
+        let ordered : AreInOrder next.0 (next ∷ later) = (omega arith, h.1) in
+        ap (λ c. slot_at (unwrap_or (cond c (Some group.1) (at_key (joined next later) (at / GROUP))) []) (at % GROUP)) key
+        ∙ sym (ap (option_or (group_byte group at)) (none_under next.0 (next ∷ later) at ordered under)
+        ∙ or_none (group_byte group at)
+        ∙ ap (λ c. cond c (slot_at group.1 (at % GROUP)) None) key)
+    go false other false key together apart =
+        ap (λ c. slot_at (unwrap_or (cond c (Some group.1) (at_key (joined next later) (at / GROUP))) []) (at % GROUP)) key
+        ∙ apart
+        ∙ sym (ap (λ c. option_or (cond c (slot_at group.1 (at % GROUP)) None) rest) key)
+
+pub merged_ascend : (groups : List (ℕ × List (Option ℕ))) → AreInOrder 0 groups → Ascend 0 (merged groups)
+merged_ascend [] h = tt
+merged_ascend (group ∷ groups) h = joined_ascend 0 group groups h.0 h.1
+
+-- the bytes of groups in order, by their addresses
+pub byte_looked_up : (groups : List (ℕ × List (Option ℕ))) (at : ℕ) → AreInOrder 0 groups
+    → at_key (bytes_of (merged groups)) at ≡ byte_at groups at
+byte_looked_up groups at h = bytes_key 0 (merged groups) at (merged_ascend groups h) ∙ all groups h
+  where
+    all : (groups : List (ℕ × List (Option ℕ))) → AreInOrder 0 groups
+        → slot_at (unwrap_or (at_key (merged groups) (at / GROUP)) []) (at % GROUP) ≡ byte_at groups at
+    all [] h = refl
+    all (group ∷ groups) h = joined_bytes group groups at h.1
+
+-- ---- groups, sorted
+
+in_order : (group : ℕ × List (Option ℕ)) (groups : List (ℕ × List (Option ℕ)))
+    → IsNonDecreasingBy (λ g. g.0) (group ∷ groups) → AreInOrder group.0 groups
+in_order group [] h = tt
+in_order group (next ∷ later) h = (
+  h 0 1 group (omega arith) (omega arith),
+  in_order next later (λ i j d up within. h (suc i) (suc j) d (omega (arith, up)) (omega (arith, within))),
+)
+
+pub all_in_order : (groups : List (ℕ × List (Option ℕ))) → IsNonDecreasingBy (λ g. g.0) groups → AreInOrder 0 groups
+all_in_order [] h = tt
+all_in_order (group ∷ groups) h = (omega arith, in_order group groups h)
+
+abbrev number_below : (group other : ℕ × List (Option ℕ)) → Bool
+number_below group other = is_lt (nat_cmp group.0 other.0)
+
+-- groups of other numbers have no byte at an address
+of_number : (groups : List (ℕ × List (Option ℕ))) (at : ℕ)
+    → byte_at (filter (ties number_below (at / GROUP, [])) groups) at ≡ byte_at groups at
+of_number [] at = refl
+of_number (group ∷ groups) at = go (of_number groups at) (nat_eq group.0 (at / GROUP)) refl
+  where
+    tied : ties number_below (at / GROUP, []) group ≡ nat_eq group.0 (at / GROUP)
+    tied = grind (arith, nat_tests)
+
+    go : byte_at (filter (ties number_below (at / GROUP, [])) groups) at ≡ byte_at groups at
+        → (b : Bool) → nat_eq group.0 (at / GROUP) ≡ b
+        → byte_at (filter (ties number_below (at / GROUP, [])) (group ∷ groups)) at ≡ byte_at (group ∷ groups) at
+    go later true same =
+        ap
+        (λ b. byte_at
+        (cond b (group ∷ filter (ties number_below (at / GROUP, [])) groups)
+        (filter (ties number_below (at / GROUP, [])) groups)) at)
+        (tied ∙ same)
+        ∙ ap (option_or (group_byte group at)) later
+    go later false apart =
+        ap
+        (λ b. byte_at
+        (cond b (group ∷ filter (ties number_below (at / GROUP, [])) groups)
+        (filter (ties number_below (at / GROUP, [])) groups)) at)
+        (tied ∙ apart)
+        ∙ later
+        ∙ sym (ap (λ b. option_or (cond b (slot_at group.1 (at % GROUP)) None) (byte_at groups at)) apart)
+
+-- a stable sort leaves the byte at each address
+pub same_bytes : (old new : List (ℕ × List (Option ℕ)))
+    → ((group : ℕ × List (Option ℕ)) → filter (ties number_below group) new ≡ filter (ties number_below group) old)
+    → (at : ℕ) → byte_at new at ≡ byte_at old at
+same_bytes old new stable at =
+    sym (of_number new at) ∙ ap (λ groups. byte_at groups at) (stable (at / GROUP, [])) ∙ of_number old at
 
 -- ---- all of some bytes
 
 -- the front of what is still to come is taken
-pub front_taken : (old new : BTreeMap ℕ (List (Option ℕ))) (at on : ℕ) (left later : List ℕ) → TakesFront old at left new later
+pub front_taken : (old new : List (ℕ × List (Option ℕ))) (at on : ℕ) (left later : List ℕ) → TakesFront old at left new later
     → on ≡ at + (length left - length later)
     → (q : ℕ) → option_or (byte_at new q) (byte_among on later q) ≡ option_or (byte_at old q) (byte_among at left q)
 front_taken old new at on left later t moved q =
@@ -273,28 +427,25 @@ none_left o at q left is =
     same_either true x = refl
     same_either false x = refl
 
-pub front_is : (old new : BTreeMap ℕ (List (Option ℕ))) (at number from count : ℕ) (bytes front later : List ℕ)
+pub front_is : (old new : List (ℕ × List (Option ℕ))) (slots : List (Option ℕ)) (at number from count : ℕ)
+    (bytes front later : List ℕ)
     → number ≡ at / GROUP → from ≡ at % GROUP → count ≡ min (length bytes) (GROUP - from) → front ≡ take count bytes
     → later ≡ drop count bytes → length front ≡ count
-    → ((place : ℕ) → slot_at (slots_of new number) place
-    ≡ option_or (slot_at (slots_of old number) place) (byte_among from front place))
-    → ((q : ℕ) → nat_eq number q ≡ false → get nat_cmp new q ≡ get nat_cmp old q)
+    → ((place : ℕ) → slot_at slots place ≡ byte_among from front place)
+    → new ≡ old ++ (number, slots) ∷ []
     → TakesFront old at bytes new later
-front_is old new at number from count bytes front later group place many first rest long here others =
+front_is old new slots at number from count bytes front later group place many first rest long has more =
     record {
       front = front;
       parts = whole;
       fewer = λ some. fewer_left some (ap length whole ∙ length-append front later);
       byte =
-          group_taken old new at front
-          (subst (λ n. n + length front ≤ GROUP) place fits)
-          (λ q. subst
-          (λ n. slot_at (slots_of new n) q ≡ option_or (slot_at (slots_of old n) q) (byte_among (at % GROUP) front q))
-          group
-          (subst
-          (λ n. slot_at (slots_of new number) q ≡ option_or (slot_at (slots_of old number) q) (byte_among n front q))
-          place (here q)))
-          (λ q apart. others q (subst (λ n. nat_eq n q ≡ false) (sym group) apart));
+          λ q. ap (λ groups. byte_at groups q) more
+          ∙ group_snoc old (number, slots) q
+          ∙ ap (option_or (byte_at old q))
+          (ap (λ n. group_byte (n, slots) q) group
+          ∙ group_has slots at front (subst (λ n. n + length front ≤ GROUP) place fits)
+          (λ p. subst (λ n. slot_at slots p ≡ byte_among n front p) place (has p)) q);
     }
   where
     whole : bytes ≡ front ++ later

@@ -1,8 +1,6 @@
 -- Bytes by address, in groups.
-use Rattle.std.specs.Prelude.{◌≡◌, ℕ, ◌+◌, ◌*◌, ◌/◌, ◌%◌, ◌<◌, List, [], ◌∷◌, ◌++◌, length, take, Option, Some, None, slice_get, unwrap_or}
+use Rattle.std.specs.Prelude.{◌≡◌, ℕ, ◌+◌, ◌*◌, ◌/◌, ◌%◌, ◌≤◌, ◌<◌, List, [], ◌∷◌, ◌++◌, length, take, Option, Some, None, cond, nat_eq, slice_get}
 use Rattle.std.specs.Option.{option_flatten, option_or}
-use Rattle.std.specs.Ordering.{nat_cmp}
-use Rattle.std.specs.BTreeMap.{BTreeMap, get}
 use Rattle.replay_spec.specs.Known.{byte_among}
 use Rattle.trace_reduce.specs.declared.byte_groups.TheConstants.{GROUP}
 
@@ -10,13 +8,46 @@ use Rattle.trace_reduce.specs.declared.byte_groups.TheConstants.{GROUP}
 abbrev pub slot_at : List (Option ℕ) → (place : ℕ) → Option ℕ
 slot_at slots place = option_flatten (slice_get slots place)
 
--- a group's slots; none where it isn't kept
-abbrev pub slots_of : BTreeMap ℕ (List (Option ℕ)) → (number : ℕ) → List (Option ℕ)
-slots_of groups number = unwrap_or (get nat_cmp groups number) []
+-- the byte that a group has at an address
+abbrev pub group_byte : ℕ × List (Option ℕ) → (at : ℕ) → Option ℕ
+group_byte group at = cond (nat_eq group.0 (at / GROUP)) (slot_at group.1 (at % GROUP)) None
 
--- the byte at an address
-abbrev pub byte_at : BTreeMap ℕ (List (Option ℕ)) → (at : ℕ) → Option ℕ
-byte_at groups at = slot_at (slots_of groups (at / GROUP)) (at % GROUP)
+-- the byte at an address, of the first group that has one
+abbrev pub byte_at : List (ℕ × List (Option ℕ)) → (at : ℕ) → Option ℕ
+byte_at [] at = None
+byte_at (group ∷ groups) at = option_or (group_byte group at) (byte_at groups at)
+
+-- the first of some bytes are taken after the others, and there are fewer left
+pub record TakesFront (old : List (ℕ × List (Option ℕ))) (at : ℕ) (bytes : List ℕ)
+    (new : List (ℕ × List (Option ℕ))) (later : List ℕ) : Type 0 where
+  pub front : List ℕ
+  pub parts : bytes ≡ front ++ later
+  pub fewer : 0 < length bytes → length later < length bytes
+  pub byte : (q : ℕ) → byte_at new q ≡ option_or (byte_at old q) (byte_among at front q)
+
+-- the numbers of groups do not fall, from one on
+abbrev pub AreInOrder : (low : ℕ) → List (ℕ × List (Option ℕ)) → Type 0
+AreInOrder low [] = Unit {0}
+AreInOrder low (group ∷ groups) = (low ≤ group.0) × AreInOrder group.0 groups
+
+-- at each place of a group the first byte of two
+abbrev pub both_slots : (slots others : List (Option ℕ)) → List (Option ℕ)
+both_slots slots others =
+    option_or (slot_at slots 0) (slot_at others 0)
+    ∷ option_or (slot_at slots 1) (slot_at others 1)
+    ∷ option_or (slot_at slots 2) (slot_at others 2)
+    ∷ option_or (slot_at slots 3) (slot_at others 3)
+    ∷ []
+
+-- a group and those after it, where next to each other those of one number are made one
+abbrev pub joined : ℕ × List (Option ℕ) → List (ℕ × List (Option ℕ)) → List (ℕ × List (Option ℕ))
+joined group [] = group ∷ []
+joined group (next ∷ later) =
+    cond (nat_eq group.0 next.0) (joined (group.0, both_slots group.1 next.1) later) (group ∷ joined next later)
+
+abbrev pub merged : List (ℕ × List (Option ℕ)) → List (ℕ × List (Option ℕ))
+merged [] = []
+merged (group ∷ groups) = joined group groups
 
 -- the bytes of slots that stand from an address on
 abbrev pub slot_bytes : (start : ℕ) → List (Option ℕ) → List (ℕ × ℕ)
@@ -28,11 +59,3 @@ slot_bytes start (Some byte ∷ slots) = (start, byte) ∷ slot_bytes (start + 1
 abbrev pub bytes_of : List (ℕ × List (Option ℕ)) → List (ℕ × ℕ)
 bytes_of [] = []
 bytes_of (group ∷ groups) = slot_bytes (group.0 * GROUP) (take GROUP group.1) ++ bytes_of groups
-
--- the first of some bytes are taken where none was, and there are fewer left
-pub record TakesFront (old : BTreeMap ℕ (List (Option ℕ))) (at : ℕ) (bytes : List ℕ)
-    (new : BTreeMap ℕ (List (Option ℕ))) (later : List ℕ) : Type 0 where
-  pub front : List ℕ
-  pub parts : bytes ≡ front ++ later
-  pub fewer : 0 < length bytes → length later < length bytes
-  pub byte : (q : ℕ) → byte_at new q ≡ option_or (byte_at old q) (byte_among at front q)

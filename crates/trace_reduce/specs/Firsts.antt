@@ -18,7 +18,7 @@ global_of firsts at = option_map Some (get nat_cmp firsts.globals at)
 pub record AreFirsts (finds : List Effect) (firsts : Firsts) : Type 0 where
   pub pages : firsts.pages ≡ first_some effect_pages finds
   pub size : firsts.size ≡ first_some effect_entries finds
-  pub byte : (at : ℕ) → byte_at firsts.bytes at ≡ first_some (effect_byte at) finds
+  pub byte : (at : ℕ) → byte_at firsts.bytes.items at ≡ first_some (effect_byte at) finds
   pub entry : (at : ℕ) → get nat_cmp firsts.entries at ≡ first_some (effect_entry at) finds
   pub global : (at : ℕ) → global_of firsts at ≡ first_some (effect_global at) finds
 
@@ -26,7 +26,7 @@ pub record AreFirsts (finds : List Effect) (firsts : Firsts) : Type 0 where
 pub record IsNextFind (before : Firsts) (find : Effect) (after : Firsts) : Type 0 where
   pub pages : after.pages ≡ option_or before.pages (effect_pages find)
   pub size : after.size ≡ option_or before.size (effect_entries find)
-  pub byte : (at : ℕ) → byte_at after.bytes at ≡ option_or (byte_at before.bytes at) (effect_byte at find)
+  pub byte : (at : ℕ) → byte_at after.bytes.items at ≡ option_or (byte_at before.bytes.items at) (effect_byte at find)
   pub entry : (at : ℕ) → get nat_cmp after.entries at
       ≡ option_or (get nat_cmp before.entries at) (effect_entry at find)
   pub global : (at : ℕ) → global_of after at ≡ option_or (global_of before at) (effect_global at find)

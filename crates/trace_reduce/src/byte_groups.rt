@@ -1,24 +1,25 @@
-// The bytes that a window finds first, by address.
+// The bytes that a window finds, in groups of addresses.
 
-ghost use Rattle.std.specs.Prelude.{◌≡◌, ◌≤◌, ◌+◌, ◌*◌, ℕ, List, [], Some, IfOk, OnOk, false, length, nat_eq, unwrap_or};
+ghost use Rattle.std.specs.Prelude.{◌≡◌, ◌≤◌, ◌+◌, ℕ, Some, IfOk, OnOk, false, length, nat_eq, unwrap_or};
 ghost use Rattle.std.specs.Option.{option_or};
-ghost use Rattle.std.specs.Ordering.{nat_cmp};
-ghost use Rattle.std.specs.BTreeMap.{get};
 ghost use Rattle.replay_spec.specs.Known.{byte_among};
-ghost use Rattle.trace_reduce.specs.ByteGroups.{TakesFront, byte_at, slot_at, slots_of};
+ghost use Rattle.trace_reduce.specs.ByteGroups.{AreInOrder, TakesFront, both_slots, byte_at, slot_at};
 ghost use Rattle.trace_reduce.specs.declared.byte_groups.TheConstants.{GROUP};
 
 use no_memory::NoMemory;
-use std::collections::BTreeMap;
 
 /// How many addresses make a group.
-pub(crate) const GROUP: u64 = 16;
+pub(crate) const GROUP: u64 = 4;
 
 /// The bytes at the addresses of a group, where one was found.
-pub(crate) type Slots = [Option<u8>; 16];
+pub(crate) type Slots = [Option<u8>; 4];
 
-/// Bytes by address, in groups by the number of the group.
-pub(crate) type Groups = BTreeMap<u32, Slots>;
+/// A group's number, and bytes of it.
+pub(crate) type Group = (u32, Slots);
+
+/// Groups in the order in which their bytes were found. One number may come several times: of an
+/// address, the byte counts that comes first.
+pub(crate) type Groups = Vec<Group>;
 
 /// Takes the byte at a place, where none was taken before.
 fn take_byte(slots: &mut Slots, place: usize, byte: u8)
@@ -40,46 +41,50 @@ fn take_slots(slots: &mut Slots, from: usize, bytes: &[u8])
     }
 }
 
-/// The same in a group, which may have none yet.
-fn take_in_group(
-    groups: &mut Groups,
-    number: u32,
-    from: usize,
-    bytes: &[u8],
-) -> Result<(), NoMemory>
+/// The slots of bytes that stand from a place on.
+fn slots_of(from: usize, bytes: &[u8]) -> Slots
     requires within { from + length bytes.now ≤ GROUP }
-    ensures here { OnOk result ((place : ℕ) → slot_at (slots_of groups.new number) place
-        ≡ option_or (slot_at (slots_of groups.old number) place) (byte_among from bytes.now place)) }
-    ensures others { OnOk result ((q : ℕ) → nat_eq number q ≡ false
-        → get nat_cmp groups.new q ≡ get nat_cmp groups.old q) }
+    ensures { (place : ℕ) → slot_at result place ≡ byte_among from bytes.now place }
 {
-    let slots = groups.entry(number)?.or_insert([None; 16]);
-    take_slots(slots, from, bytes);
-    Ok(())
+    let mut slots = [None; 4];
+    take_slots(&mut slots, from, bytes);
+    slots
 }
 
-/// Takes those of the first of bytes from an address on, as far as they are in one group. Returns the others.
+/// Takes the bytes of other slots where none was taken before.
+pub(crate) fn take_others(slots: &mut Slots, others: &Slots)
+    ensures { slots.new ≡ both_slots slots.old others.now }
+{
+    *slots = [
+        slots[0].or(others[0]),
+        slots[1].or(others[1]),
+        slots[2].or(others[2]),
+        slots[3].or(others[3]),
+    ];
+}
+
+/// Takes the first of bytes from an address on, as far as they are in one group. Returns the others.
 fn take_front<'a>(groups: &mut Groups, at: u64, bytes: &'a [u8]) -> Result<&'a [u8], NoMemory>
-    ensures { IfOk result (λ later. TakesFront groups.old at bytes.now groups.new later.now) }
+    ensures { IfOk result (λ later. TakesFront groups.old.items at bytes.now groups.new.items later.now) }
 {
     // No memory holds bytes that reach so far.
     let Ok(number) = u32::try_from(at / GROUP) else {
         return Err(NoMemory);
     };
     let from = (at % GROUP) as usize;
-    let count = bytes.len().min(16 - from);
+    let count = bytes.len().min(4 - from);
     let (front, later) = bytes.split_at(count);
-    take_in_group(groups, number, from, front)?;
+    groups.push((number, slots_of(from, front)))?;
     Ok(later)
 }
 
-/// Takes those bytes that stand from the address on where none was taken before.
+/// Takes bytes that stand from the address on, after those that were found before.
 ///
 /// # Errors
 /// Where an allocation failed.
 pub(crate) fn take_bytes(groups: &mut Groups, addr: u32, bytes: &[u8]) -> Result<(), NoMemory>
-    ensures { OnOk result ((at : ℕ) → byte_at groups.new at
-        ≡ option_or (byte_at groups.old at) (byte_among addr bytes.now at)) }
+    ensures { OnOk result ((at : ℕ) → byte_at groups.new.items at
+        ≡ option_or (byte_at groups.old.items at) (byte_among addr bytes.now at)) }
 {
     let mut at = u64::from(addr);
     let mut left = bytes;
@@ -88,5 +93,17 @@ pub(crate) fn take_bytes(groups: &mut Groups, addr: u32, bytes: &[u8]) -> Result
         at += (left.len() - later.len()) as u64;
         left = later;
     }
+    Ok(())
+}
+
+/// Puts groups in the order of their numbers, those of one number in the order in which they were found.
+///
+/// # Errors
+/// Where an allocation failed.
+pub(crate) fn sort_groups(groups: &mut Groups) -> Result<(), NoMemory>
+    ensures sorted { OnOk result (AreInOrder 0 groups.new.items) }
+    ensures bytes { OnOk result ((at : ℕ) → byte_at groups.new.items at ≡ byte_at groups.old.items at) }
+{
+    groups.sort_by_key(|group| group.0)?;
     Ok(())
 }

@@ -5,7 +5,7 @@ ghost use Rattle.hook_spec.specs.LogTapes.{AreFirstFinds};
 ghost use Rattle.trace_model.specs.declared.tapes.Effect.{Effect};
 ghost use Rattle.trace_reduce.specs.Firsts.{AreFirsts, IsNextFind};
 
-use crate::byte_groups::{Groups, take_bytes};
+use crate::byte_groups::{Groups, sort_groups, take_bytes};
 use crate::runs::effects_of;
 use no_memory::NoMemory;
 use std::alloc::Global;
@@ -13,8 +13,8 @@ use std::collections::BTreeMap;
 use trace_model::{Effect, Effects};
 use wasm_syntax::Val;
 
-/// What is found first, by kind: the memory's pages, the table's size, bytes by address, entries and
-/// globals by index.
+/// What is found first, by kind: the memory's pages, the table's size, bytes in groups of addresses,
+/// entries and globals by index.
 #[derive(Drop)]
 pub(crate) struct Firsts {
     pub(crate) pages: Option<u32>,
@@ -32,7 +32,7 @@ impl Firsts {
         Firsts {
             pages: None,
             size: None,
-            bytes: BTreeMap::new(alloc),
+            bytes: Vec::new(alloc),
             entries: BTreeMap::new(alloc),
             globals: BTreeMap::new(alloc),
         }
@@ -64,13 +64,15 @@ impl Firsts {
     }
 
     /// The effects of what a window finds: in order, bytes in longest runs, everywhere what is found first.
+    /// Groups of bytes are sorted for that.
     ///
     /// # Errors
     /// Where an allocation failed.
-    pub(crate) fn effects(&self, alloc: Global) -> Result<Effects, NoMemory>
-        ensures { IfOk result (λ effects. (finds : List Effect) → AreFirsts finds self.now
+    pub(crate) fn effects(&mut self, alloc: Global) -> Result<Effects, NoMemory>
+        ensures { IfOk result (λ effects. (finds : List Effect) → AreFirsts finds self.old
             → AreFirstFinds finds effects) }
     {
+        sort_groups(&mut self.bytes)?;
         effects_of(alloc, self)
     }
 }

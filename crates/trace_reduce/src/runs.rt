@@ -3,11 +3,11 @@
 ghost use Rattle.std.specs.Prelude.{◌≡◌, ◌+◌, ◌*◌, ◌^◌, ◌<◌, ◌∷◌, List, Option, ℕ, [], ◌++◌, length, map, take, IfOk, OnOk};
 ghost use Rattle.std.specs.Ordering.{nat_cmp};
 ghost use Rattle.std.specs.BTreeMap.{IsOrdered};
-ghost use Rattle.trace_reduce.specs.ByteGroups.{bytes_of, slot_bytes};
+ghost use Rattle.trace_reduce.specs.ByteGroups.{AreInOrder, bytes_of, joined, merged, slot_bytes};
 ghost use Rattle.trace_reduce.specs.declared.byte_groups.TheConstants.{GROUP};
 ghost use Rattle.trace_reduce.specs.Runs.{runs_from, entry_effect, global_effect, firsts_effects, AreSorted};
 
-use crate::byte_groups::{GROUP, Groups, Slots};
+use crate::byte_groups::{GROUP, Group, Slots, take_others};
 use crate::finds::Firsts;
 use no_memory::NoMemory;
 use std::alloc::Global;
@@ -105,18 +105,53 @@ fn put_group(runs: &mut Runs, alloc: Global, number: u32, slots: &Slots) -> Resu
     put_slots(runs, alloc, number as u64 * GROUP, &slots[..])
 }
 
+/// Takes the next group into the one before it where both have one number, else the bytes of that one.
+fn put_next(runs: &mut Runs, alloc: Global, group: &mut Group, next: &Group) -> Result<(), NoMemory>
+    ensures { OnOk result ((later : List (ℕ × List (Option ℕ)))
+        → runs.old.effects.items
+        ++ runs_from runs.old.start runs.old.run.items (bytes_of (joined group.old (next.now ∷ later)))
+        ≡ runs.new.effects.items
+        ++ runs_from runs.new.start runs.new.run.items (bytes_of (joined group.new later))) }
+{
+    if group.0 == next.0 {
+        take_others(&mut group.1, &next.1);
+    } else {
+        put_group(runs, alloc, group.0, &group.1)?;
+        *group = *next;
+    }
+    Ok(())
+}
+
+/// Takes the bytes of a group and of those after it.
+fn put_groups(
+    runs: &mut Runs,
+    alloc: Global,
+    first: &Group,
+    others: &[Group],
+) -> Result<(), NoMemory>
+    ensures { OnOk result (runs.old.effects.items
+        ++ runs_from runs.old.start runs.old.run.items (bytes_of (joined first.now others.now))
+        ≡ runs.new.effects.items ++ runs_from runs.new.start runs.new.run.items []) }
+{
+    let mut group = *first;
+    'others: for next in others {
+        put_next(runs, alloc, &mut group, next)?;
+    }
+    put_group(runs, alloc, group.0, &group.1)?;
+    Ok(())
+}
+
 /// Appends bytes in longest runs.
-fn put_bytes(alloc: Global, effects: Vec<Effect>, groups: &Groups) -> Result<Vec<Effect>, NoMemory>
-    ensures runs { IfOk result (λ all. all.items ≡ effects.items ++ runs_from 0 [] (bytes_of groups.now.entries)) }
-    ensures ordered { IsOrdered nat_cmp groups.now }
+fn put_bytes(alloc: Global, effects: Vec<Effect>, groups: &[Group]) -> Result<Vec<Effect>, NoMemory>
+    ensures { IfOk result (λ all. all.items ≡ effects.items ++ runs_from 0 [] (bytes_of (merged groups.now))) }
 {
     let mut runs = Runs {
         effects,
         start: 0,
         run: Vec::new(alloc),
     };
-    'groups: for (number, slots) in groups {
-        put_group(&mut runs, alloc, *number, slots)?;
+    if let Some((first, others)) = groups.split_first() {
+        put_groups(&mut runs, alloc, first, others)?;
     }
     runs.close(alloc)?;
     let Runs { effects, .. } = runs;
@@ -159,6 +194,7 @@ fn put_globals(effects: &mut Vec<Effect>, globals: &BTreeMap<u32, Val>) -> Resul
 /// # Errors
 /// Where an allocation failed.
 pub(crate) fn effects_of(alloc: Global, firsts: &Firsts) -> Result<Effects, NoMemory>
+    requires in_order { AreInOrder 0 firsts.now.bytes.items }
     ensures effects { IfOk result (λ effects. effects ≡ firsts_effects firsts.now) }
     ensures sorted { IfOk result (λ effects. AreSorted firsts.now) }
 {
@@ -169,7 +205,7 @@ pub(crate) fn effects_of(alloc: Global, firsts: &Firsts) -> Result<Effects, NoMe
     if let Some(size) = firsts.size {
         effects.push(Effect::Table { size })?;
     }
-    let mut effects = put_bytes(alloc, effects, &firsts.bytes)?;
+    let mut effects = put_bytes(alloc, effects, firsts.bytes.as_slice())?;
     put_entries(&mut effects, &firsts.entries)?;
     put_globals(&mut effects, &firsts.globals)?;
     Ok(Effects::from_vec(effects))

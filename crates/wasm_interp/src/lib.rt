@@ -12,6 +12,7 @@ mod form_weights;
 mod host;
 mod instructions;
 mod laws;
+mod loops;
 pub mod machine;
 mod memory;
 mod numeric;

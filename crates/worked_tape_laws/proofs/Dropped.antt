@@ -61,9 +61,9 @@ lacks law tested valid m script segments left outcome can apart passes =
         → IfOpened o (λ store. IsAnother (tape_run (code_of m) store left) (scripted_run m script store).history)
     go (Err fault) e passes = passes
     go (Ok store) e passes =
-        law m script none_supplied store segments left (runnable valid m script can) can.fits can.supplied
-        (opens m script store can e) (needed_tape tested m script segments outcome store passes.has) passes.are_left
-        (lighter_apart left segments apart)
+        law m script none_supplied store segments (runnable valid m script can) can.fits can.supplied
+        (opens m script store can e) (needed_tape tested m script segments outcome store passes.has) left
+        passes.are_left (lighter_apart left segments apart)
 
 -- ---- the examples
 

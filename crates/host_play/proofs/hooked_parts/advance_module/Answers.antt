@@ -7,7 +7,8 @@ use Rattle.wasm_interp.specs.State.{State}
 use Rattle.wasm_interp.specs.Walks.{FitsWeights}
 use Rattle.host_play.specs.HookedResults.{RefusesWithHooks}
 use Rattle.host_play.specs.HooksSoFar.{run_in}
-use Rattle.host_play.proofs.HookWaits.{awaits_call, import_lessens, to}
+use Rattle.host_play.proofs.HookWaits.{awaits_call, hook_lessens, import_lessens, to}
+use Rattle.host_play.proofs.HooksAnswered.{hook_answered}
 use Rattle.host_play.proofs.HooksOn.{hook_refuses, part_to_host, part_to_import, part_to_spent, part_to_trap, part_without_response}
 use Rattle.host_play.proofs.ModuleParts.{counted_import, no_more_left}
 use Rattle.host_play.proofs.hooked_parts.advance_module.Goals as goal
@@ -30,6 +31,39 @@ take_call-requires g c =
             c.calls_are_ready.ensures.waits c.calls_are_ready.ensures.arguments,
       );
     }
+
+pub answer_hook-requires-clause-there : goal.answer_hook-requires-clause-there
+answer_hook-requires-clause-there g c =
+    counted_import c.requires.hooked.0 c.args.script.now c.args.meter.now c.requires.hooked.1 c.args.playing.now c.requires.hooked.2 c.args.left.now c.in_ok-pause.pause c.advance.new.self c.advance.new.turns
+    c.in_ok-pause.ensures.run c.in-Import.index c.in-Import.is
+
+pub answer_hook-requires-clause-waits : goal.answer_hook-requires-clause-waits
+answer_hook-requires-clause-waits g c =
+    let awaits = awaits_call c.requires.hooked.0 c.args.script.now c.args.meter.now c.args.imports c.requires.hooked.3 c.requires.hooked.1 c.args.playing.now c.requires.hooked.2 c.args.left.now c.in_ok-pause.pause c.advance.new.self c.advance.new.turns
+    c.in_ok-pause.ensures.run c.in-Import.index c.in-Import.is c.calls_are_ready.ensures.waits c.calls_are_ready.ensures.arguments in
+    awaits.0.waits
+
+pub returns-then-index-imports-clause-goes : goal.returns-then-index-imports-clause-goes
+returns-then-index-imports-clause-goes g c = λ m initial begun t.
+    let awaits = awaits_call m c.args.script.now c.args.meter.now c.args.imports t.can_play t.reached.pending c.args.playing.now t.reached.standing c.args.left.now c.in_ok-pause.pause c.advance.new.self c.advance.new.turns c.in_ok-pause.ensures.run c.in-Import.index c.in-Import.is
+    c.calls_are_ready.ensures.waits c.calls_are_ready.ensures.arguments in
+    let called = to m c.args.script.now c.args.meter.now c.args.imports t.can_play t.reached.pending c.args.playing.now t.reached.standing c.args.left.now c.in_ok-pause.pause c.advance.new.self c.advance.new.turns c.in_ok-pause.ensures.run c.in-Import.index c.in-Import.is in
+    hook_answered g.H.Hooks.is_step m c.args.script.now c.args.meter.now c.args.imports initial c.args.turns begun c.args.hooks.now c.args.playing.now c.args.left.now t c.in_ok-pause.pause c.advance.new.self c.advance.new.turns c.in_ok-pause.ensures.run c.in-Import.index c.in-Import.is
+    c.if-index-imports.true c.hosts_go_on.ensures.results c.take_call.new.hooks
+    (subst (λ answer. IsRun g.H.Hooks.is_step c.args.hooks.now (call_of_hook c.args.imports c.in-Import.index called.args c.advance.new.self.store) answer c.take_call.new.hooks) c.in_default.is (c.take_call.ensures called.args awaits))
+    c.answer_hook.new.playing c.answer_hook.ensures.resumes c.answer_hook.ensures.functions c.answer_hook.ensures.hosts c.answer_hook.ensures.counted
+
+pub returns-then-index-imports-clause-less : goal.returns-then-index-imports-clause-less
+returns-then-index-imports-clause-less g c =
+    let m = c.requires.hooked.0 in
+    let standing = c.requires.hooked.2 in
+    let machine : State = c.args.playing.now.machine in
+    hook_lessens c.weightless_turns_end.ensures.advances c.args.playing.now c.args.meter.now c.args.left.now c.in-Import.index c.advance.new.turns c.advance.new.self
+    c.answer_hook.new.playing
+    (c.calls_are_ready.ensures.module m standing.heights standing.goes_on.frame standing.goes_on.below machine standing.goes_on.stack.machine)
+    (subst (λ flat. FitsWeights flat c.args.meter.now) (sym standing.goes_on.stack.machine.flat) (c.meters_fit.ensures m c.args.meter.now standing.is_run.valid c.requires.hooked.3.fits))
+    (subst (λ e. Advances machine.flat machine.store machine.frames machine.slots c.args.meter.now c.args.left.now e c.advance.new.turns c.advance.new.self) c.in-Import.is c.in_ok-pause.ensures.ok)
+    c.answer_hook.ensures.hosts c.answer_hook.ensures.ahead
 
 pub begin_answer-requires : goal.begin_answer-requires
 begin_answer-requires g c =

@@ -2,7 +2,7 @@ use Rattle.std.proofs.Common.{subst, sym}
 use Rattle.host_play.specs.HostSteps.{entries_of, stand_after}
 use Rattle.host_play.specs.HooksSoFar.{HooksSoFar}
 use Rattle.host_play.specs.RunsSoFar.{BeginsPart}
-use Rattle.host_play.proofs.Counted.{part_after}
+use Rattle.host_play.proofs.HostParts.{part_after}
 use Rattle.host_play.proofs.HooksOn.{hooks_begun}
 use Rattle.host_play.proofs.hooked_plays.play_start.Goals as goal
 

@@ -24,8 +24,8 @@ with_first_step-requires c =
     (λ func ty args. c.calls_are_ready.ensures.callable c.args.module.now found.0 (InMain c.args.script.now.main ∷ []) first.machine func ty args begun.stands)
     c.args.module.now.start c.requires.valid.outside.start
 
-pub returns-clause-leads : goal.returns-clause-leads
-returns-clause-leads c =
+pub returns : goal.returns
+returns c =
     let found = c.typed_code.ensures.heights c.args.module.now c.requires.valid in
     let typed : IsTypedCode c.args.module.now found.0 = c.typed_code.ensures.code c.args.module.now found.0 c.requires.valid c.requires.supported found.1 in
     let is_run : IsRun c.args.module.now found.0 (program_of c.args.module.now c.args.script.now) (replicate (imported_funcs c.args.module.now) 0) = record {
@@ -46,12 +46,4 @@ returns-clause-leads c =
     (λ started starts.
     start_leads c.args.module.now c.args.script.now c.args.store found.0 is_run first begun.stands begun.same_store begun.functions c.in_ok-playing.ensures.hosts counted started.1 started.0
     c.args.module.now.start c.requires.valid.outside.start starts)
-    c.with_first_step.ensures.starts
-
-pub returns-clause-counts : goal.returns-clause-counts
-returns-clause-counts c =
-    if_ok c.with_first_step.result
-    (λ started. started.0.counts.items ≡ c.in_ok-playing.playing.counts.items)
-    (λ started. started.0.counts.items ≡ replicate (imported_funcs c.args.module.now) 0)
-    (λ started same. same ∙ c.in_ok-playing.ensures.counts ∙ ap (λ (flat : Flat). replicate flat.imported 0) c.requires.flat)
-    c.with_first_step.ensures.counts
+    c.with_first_step.ensures

@@ -6,8 +6,8 @@ use Rattle.trace_reduce.proofs.byte_groups.take_bytes.Given as goal
 
 abbrev pub invariant-left : goal.invariant-left
 invariant-left l =
-    ((q : ℕ) → option_or (byte_at l.groups q) (byte_among l.at l.left q)
-    ≡ option_or (byte_at l.initial.groups q) (byte_among l.addr l.bytes q))
+    ((q : ℕ) → option_or (byte_at l.groups.items q) (byte_among l.at l.left q)
+    ≡ option_or (byte_at l.initial.groups.items q) (byte_among l.addr l.bytes q))
     × (l.at + length l.left ≡ l.addr + length l.bytes)
 
 abbrev pub decreases-left : goal.decreases-left
