@@ -25,4 +25,4 @@ mod HooksOn
 pub mod HookShapes
 mod HookArguments
 mod HookWaits
-mod HooksAnswered
+mod HookReturns

@@ -16,6 +16,10 @@ use Rattle.history_spec.specs.declared.entries.FaultKind.TheVariants.{NoResponse
 abbrev pub kept : ℕ → ℕ
 kept count = min count (2 ^ 64 - 1)
 
+-- the numbers of calls of each import, after one more call of this one
+abbrev pub counts_after_call : List ℕ → (import : ℕ) → List ℕ
+counts_after_call counts import = slice_set counts import (kept (slice_index counts import + 1))
+
 -- parts of the host's activations, the topmost first
 abbrev pub top_of : List Host → Option Host
 top_of [] = None
@@ -97,7 +101,7 @@ pub record BeginsAnswer (script : Script) (hosts : List Host) (counts : List ℕ
   pub response : Response
   pub chosen : IsResponse script import (slice_index counts import) (Some response)
   pub pushed : new_hosts ≡ host.Answer import (slice_index counts import) 0 ∷ hosts
-  pub counted : new_counts ≡ slice_set counts import (kept (slice_index counts import + 1))
+  pub counted : new_counts ≡ counts_after_call counts import
 
 -- why this is not the case, where memory is not out
 abbrev pub HasNoResponse : Script → (counts : List ℕ) → (import : ℕ) → Refusal → Type 0

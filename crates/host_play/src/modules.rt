@@ -1,9 +1,9 @@
 // What the module does: the returns that are due, and its next instruction.
 
-ghost use Rattle.std.specs.Prelude.{◌+◌, ◌<◌, length, IfOk, Err};
+ghost use Rattle.std.specs.Prelude.{◌≡◌, ◌+◌, ◌<◌, length, IfOk, Err};
 ghost use Rattle.wasm_syntax.specs.declared.modules.Module.{Module};
 ghost use Rattle.history_spec.specs.Step.{StepResult};
-ghost use Rattle.host_play.specs.Hosts.{BeginsBy};
+ghost use Rattle.host_play.specs.Hosts.{BeginsBy, counts_after_call};
 ghost use Rattle.host_play.specs.Stands.{IsPlayed, LeadsBy, MakesStep, StandsAt, rest};
 
 use crate::host_steps::PlayStep;
@@ -100,6 +100,15 @@ pub(crate) fn begin_answer(
         number,
         next: 0,
     })?;
-    counts[index as usize] = number.saturating_add(1);
+    count_call(counts, index);
     Ok(())
+}
+
+/// Counts a call of an import.
+pub(crate) fn count_call(counts: &mut Vec<u64>, import: u32)
+    requires { import < length counts.old.items }
+    ensures { counts.new.items ≡ counts_after_call counts.old.items import }
+{
+    let count = counts[import as usize];
+    counts[import as usize] = count.saturating_add(1);
 }

@@ -1,1 +1,2 @@
 mod OneReduced
+mod TakenEvents

@@ -1,5 +1,8 @@
 -- What the log of a file is reduced to, and why it is not.
-use Rattle.std.specs.Prelude.{◌≡◌, ◌⊎◌, ℕ, List, Some, false}
+use Rattle.std.specs.Prelude.{◌≡◌, ◌⊎◌, ℕ, List, [], ◌∷◌, Some, false}
+use Rattle.run_outcomes.specs.declared.outcomes.Outcome.{Outcome}
+use Rattle.trace_model.specs.Sink.{TookAlso}
+use Rattle.trace_model.specs.declared.events.Event.{Event}
 use Rattle.trace_model.specs.Balance.{IsBalanced, first_unbalanced}
 use Rattle.trace_model.specs.declared.events.Log.{Log}
 use Rattle.trace_model.specs.declared.tapes.Tape.{Tape}
@@ -7,6 +10,8 @@ use Rattle.trace_bytes.specs.declared.tags.TheConstants.{VERSION_2}
 use Rattle.trace_bytes.specs.Spelled.{SpellsTape}
 use Rattle.trace_format.specs.Faults.{IsLogOf}
 use Rattle.hook_spec.specs.LogTapes.{IsLogTape}
+use Rattle.trace_reduce.specs.Reducer.{HasTaken, imports_of}
+use Rattle.trace_reduce.specs.declared.reducer.Reducer.{Reducer}
 use Rattle.r3_faults.specs.declared.faults.Fault.{Fault}
 use Rattle.r3_faults.specs.declared.faults.Fault.TheVariants.{Unbalanced}
 use Rattle.r3_show.specs.Shown.{IsUnshownAs}
@@ -24,6 +29,25 @@ pub record IsReduced (bytes file : List ℕ) : Type 0 where
   pub log : Log
   pub read : IsLogOf bytes digest log
   pub made : IsTapeFile digest log file
+
+-- ---- the reducer
+
+-- a reducer takes one event more
+pub record TakesNext (before : Reducer) (event : Event) (now : Reducer) : Type 0 where
+  pub took : TookAlso HasTaken before now (event ∷ [])
+  pub imports : imports_of now ≡ imports_of before
+
+-- it has taken the events of a log, whose run ended so
+pub record HasTakenLog (reducer : Reducer) (outcome : Outcome) (log : Log) : Type 0 where
+  pub taken : HasTaken reducer log.events
+  pub imports : imports_of reducer ≡ log.imports
+  pub ended : outcome ≡ log.outcome
+
+-- so it is of the log that the bytes spell, with its digest
+pub record IsTaken (bytes digest : List ℕ) (reducer : Reducer) (outcome : Outcome) : Type 0 where
+  pub log : Log
+  pub read : IsLogOf bytes digest log
+  pub has : HasTakenLog reducer outcome log
 
 -- ---- refusals
 

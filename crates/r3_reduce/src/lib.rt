@@ -2,6 +2,7 @@
 #![tactic(auto)]
 
 mod reduced;
+mod reducer_sink;
 mod writable;
 
 pub use r3_faults::Fault;

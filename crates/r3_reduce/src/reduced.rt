@@ -1,20 +1,23 @@
 // `reduce`: the file of the tape of a log's file.
 
-ghost use Rattle.std.specs.Prelude.{◌≡◌, ◌⊎◌, ℕ, List, Err, IfOk, IfErr};
+ghost use Rattle.std.specs.Prelude.{◌≡◌, ◌⊎◌, ℕ, List, Err, IfOk, IfErr, MatchResult};
+ghost use Rattle.trace_model.specs.declared.events.Log.{Log};
 ghost use Rattle.trace_bytes.specs.declared.tags.TheConstants.{VERSION_2};
 ghost use Rattle.trace_bytes.specs.Spelled.{SpellsTape};
+ghost use Rattle.trace_format.specs.Faults.{IsLogFault};
 ghost use Rattle.r3_faults.specs.declared.faults.Fault.{Fault};
 ghost use Rattle.r3_faults.specs.declared.faults.Fault.TheVariants.{Memory};
-ghost use Rattle.r3_reduce.specs.Reduced.{IsReduced, IsReduceRefusal, IsTapeFile, IsUnbalanced};
+ghost use Rattle.r3_reduce.specs.Reduced.{HasTakenLog, IsReduced, IsReduceRefusal, IsTaken, IsTapeFile, IsUnbalanced};
 
+use crate::reducer_sink::ReducerSink;
 use crate::writable::is_writable;
 use hook_spec::log_tape_is_one;
 use r3_faults::Fault;
 use r3_show::fault_of;
 use std::alloc::Global;
-use trace_format::{Digest, log_files, read_log, write_tape};
-use trace_model::{Log, Tape};
-use trace_reduce::{ReduceFault, tape_of_log};
+use trace_format::{Digest, FormatFault, log_events, log_files, log_header, write_tape};
+use trace_model::{Outcome, Tape};
+use trace_reduce::{Reducer, ReducerFault};
 
 /// The file of the tape that the log of a file is reduced to, with the log's digest.
 ///
@@ -41,21 +44,43 @@ fn reduced_file(alloc: Global, bytes: &[u8]) -> Result<Vec<u8>, Fault>
     ensures cause { IfErr result (λ fault. (fault ≡ Memory) ⊎ IsReduceRefusal bytes.now fault) }
     ensures printed { IfOk result (λ file. IsReduced bytes.now file.items) }
 {
-    match read_log(alloc, bytes) {
-        Ok((digest, log)) => tape_file(alloc, &digest, log),
+    match read_events(alloc, bytes) {
+        Ok((digest, reducer, outcome)) => tape_file(alloc, &digest, reducer, outcome),
         Err(cause) => Err(fault_of(cause)),
     }
 }
 
-/// The file of the tape of a log.
-fn tape_file(alloc: Global, digest: &Digest, log: Log) -> Result<Vec<u8>, Fault>
-    ensures cause { IfErr result (λ fault. (fault ≡ Memory) ⊎ IsUnbalanced log fault) }
-    ensures printed { IfOk result (λ file. IsTapeFile digest.now log file.items) }
+/// The digest of a log's file, the reducer that has taken its events one at a time, and the outcome.
+fn read_events(alloc: Global, bytes: &[u8]) -> Result<(Digest, Reducer, Outcome), FormatFault>
+    ensures { MatchResult result
+        (λ read. IsTaken bytes.now read.0 read.1 read.2)
+        (λ fault. IsLogFault bytes.now fault) }
 {
-    match tape_of_log(alloc, log) {
+    let (digest, imports) = log_header(bytes)?;
+    let mut sink = ReducerSink::new(alloc, imports);
+    match log_events(alloc, bytes, &mut sink) {
+        Ok(outcome) => Ok((digest, sink.into_reducer(), outcome)),
+        Err(fault) => Err(fault),
+    }
+}
+
+/// The file of the tape of a log whose events are taken.
+fn tape_file(
+    alloc: Global,
+    digest: &Digest,
+    reducer: Reducer,
+    outcome: Outcome,
+) -> Result<Vec<u8>, Fault>
+    ensures cause { (log : Log) → HasTakenLog reducer outcome log
+        → IfErr result (λ fault. (fault ≡ Memory) ⊎ IsUnbalanced log fault) }
+    ensures printed { (log : Log) → HasTakenLog reducer outcome log
+        → IfOk result (λ file. IsTapeFile digest.now log file.items) }
+{
+    match reducer.finish(outcome) {
         Ok(tape) => file_of_tape(alloc, digest, &tape),
-        Err(ReduceFault::Unbalanced { event }) => Err(Fault::Unbalanced { event }),
-        Err(ReduceFault::Memory) => Err(Fault::Memory),
+        Err(ReducerFault::Unbalanced { event }) => Err(Fault::Unbalanced { event }),
+        // A tape that weighs 2^64 is in no memory.
+        Err(ReducerFault::TooHeavy { .. } | ReducerFault::Memory) => Err(Fault::Memory),
     }
 }
 

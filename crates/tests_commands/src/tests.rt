@@ -1,6 +1,7 @@
 //! Calls of the commands by what they are about, and what makes them.
 
 mod calls;
+mod damages;
 mod edge_modules;
 mod edges;
 mod files;

@@ -1,6 +1,6 @@
 -- What reading a file answers, by what holds of its readers.
-use Rattle.std.proofs.Common.{◌≡◌, ℕ, ◌⊎◌, List, Result, Ok, Err, refl, ap, sym, ◌∙◌, inl, inr}
-use Rattle.std.specs.Prelude.{IfOk, IfErr}
+use Rattle.std.proofs.Common.{◌≡◌, ℕ, ◌⊎◌, List, Result, Ok, Err, refl, ap, sym, ◌∙◌, subst, inl, inr}
+use Rattle.std.specs.Prelude.{IfOk, IfErr, MatchResult}
 use Rattle.std.proofs.lemmas.Option.{none-some}
 use Rattle.trace_format.specs.Answers.{IsFileAnswer}
 use Rattle.trace_format.specs.Faults.{IsFaultOf, IsFaultPlace, IsOtherVersion}
@@ -59,3 +59,32 @@ module _ {C : Type 0} (magic bytes : List ℕ) (IsOf IsRead : C → Type 0) (IsF
       → IfErr answer (λ fault. IsFaultOf magic IsOf IsFront bytes fault)
   answer_fault (Ok content) is = tt
   answer_fault (Err fault) is = fault_is fault is
+
+-- what is told of the content of a file that is read
+module _ {C T : Type 0} (magic bytes : List ℕ) (IsOf IsRead : C → Type 0) (IsFront IsBad : ℕ → Type 0)
+    (facts : FileFacts magic bytes IsOf IsRead IsFront IsBad) (Tells : C → T → Type 0) where
+  abbrev IsFault : FormatFault → Type 0
+  IsFault fault = IsFileAnswer IsRead IsBad (other_version magic bytes) (Err fault)
+
+  abbrev IsTelling : Result T FormatFault → Type 0
+  IsTelling answer = MatchResult answer (λ told. (content : C) × IsRead content × Tells content told) IsFault
+
+  pub telling_found : (IsTold : T → Type 0)
+      → ((content : C) (told : T) → IsOf content → Tells content told → IsTold told)
+      → (answer : Result T FormatFault) → IsTelling answer → IfOk answer IsTold
+  telling_found IsTold all (Ok told) is = all is.0 told (facts.read_is is.0 is.1) is.2
+  telling_found IsTold all (Err fault) is = tt
+
+  pub telling_only : (answer : Result T FormatFault) → IsTelling answer → (content : C) → IsOf content
+      → IfOk answer (λ told. Tells content told) × IfErr answer (λ fault. fault ≡ Memory)
+  telling_only (Ok told) is content spelled = (
+    subst (λ c. Tells c told) (facts.one is.0 content is.1 (facts.is_read content spelled)) is.2,
+    tt,
+  )
+  telling_only (Err fault) is content spelled =
+      (tt, fault_only magic bytes IsOf IsRead IsFront IsBad facts fault is content spelled)
+
+  pub telling_fault : (answer : Result T FormatFault) → IsTelling answer
+      → IfErr answer (λ fault. IsFaultOf magic IsOf IsFront bytes fault)
+  telling_fault (Ok told) is = tt
+  telling_fault (Err fault) is = fault_is magic bytes IsOf IsRead IsFront IsBad facts fault is

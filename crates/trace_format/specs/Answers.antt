@@ -8,7 +8,7 @@ use Rattle.trace_model.specs.declared.tapes.Tape.{Tape}
 use Rattle.trace_bytes.specs.declared.tags.TheConstants.{LOG_MAGIC, TAPE_MAGIC, DIGEST_BYTES}
 use Rattle.trace_format.specs.declared.files.FormatFault.{FormatFault}
 use Rattle.trace_format.specs.declared.files.FormatFault.TheVariants.{Version, Bad, Memory}
-use Rattle.trace_format.specs.Reading.{first_close, first_event, first_header, first_log_header, first_outcome, first_segment, other_version}
+use Rattle.trace_format.specs.Reading.{first_close, first_event, first_header, first_log_header, first_number, first_outcome, first_segment, other_version}
 use Rattle.trace_format.specs.Files.{AreAllRead, IsBadAt, IsMore, IsNoEnd, IsWhole}
 
 -- the bytes of a header
@@ -85,6 +85,18 @@ IsLogBad bytes at = IsBadAt first_log_header log_item first_outcome bytes at
 
 abbrev pub IsLogAnswer : (bytes : List ℕ) → Result (List ℕ × Log) FormatFault → Type 0
 IsLogAnswer bytes answer = IsFileAnswer (IsLogRead bytes) (IsLogBad bytes) (other_version LOG_MAGIC bytes) answer
+
+-- a log's header is read, with the number of imported functions after it, and the events begin at the start
+pub record IsLogStart (bytes : List ℕ) (version : ℕ) (digest : List ℕ) (imports : ℕ) (start : List ℕ) : Type 0 where
+  pub header : IsHeaderThere LOG_MAGIC bytes (version, digest)
+  pub number : first_number (drop header_length bytes) ≡ Some (imports, start)
+  pub shorter : length start ≤ length bytes
+
+-- none is there, or one of another version
+abbrev pub IsLogStartFault : List ℕ → FormatFault → Type 0
+IsLogStartFault bytes (Version found) = other_version LOG_MAGIC bytes ≡ Some found
+IsLogStartFault bytes (Bad at) = (other_version LOG_MAGIC bytes ≡ None) × (first_log_header bytes ≡ None) × (at ≡ 0)
+IsLogStartFault bytes Memory = ⊥
 
 abbrev pub tape_item : ℕ × List ℕ → Reader Segment
 tape_item header = first_segment header.0

@@ -1,8 +1,9 @@
-pub mod Reading
-pub mod Files
-pub mod Faults
-pub mod Laws
-pub mod ReadResults
 pub mod Answers
-pub mod Text
+pub mod Faults
+pub mod Files
+pub mod Laws
 pub mod Lines
+pub mod ReadResults
+pub mod Reading
+pub mod Taken
+pub mod Text

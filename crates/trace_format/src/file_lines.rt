@@ -10,8 +10,8 @@ ghost use Rattle.trace_format.specs.Lines.{IsLogEndShown, IsLogShown, IsTapeEndS
 ghost use Rattle.trace_format.specs.Text.{log_text, tape_text};
 ghost use Rattle.trace_format.specs.declared.files.FormatFault.TheVariants.{Memory};
 
-use crate::files::{FormatFault, HEADER_BYTES};
-use crate::headers::{end_of_log, end_of_tape, header_of};
+use crate::files::FormatFault;
+use crate::headers::{HEADER_BYTES, end_of_log, end_of_tape, header_of};
 use crate::items::put_whole_items;
 use crate::laws::{event_readers, segment_readers};
 use crate::numbers::first_number;

@@ -8,14 +8,14 @@ ghost use Rattle.trace_format.specs.Answers.{AreEnded, IsItemsFault, IsLogAnswer
 ghost use Rattle.trace_format.specs.Faults.{IsLogFault, IsLogOf, IsTapeFault, IsTapeOf};
 ghost use Rattle.trace_format.specs.declared.files.FormatFault.TheVariants.{Memory};
 
-use crate::headers::{Digest, end_of_log, end_of_tape, header_of};
+use crate::headers::{Digest, HEADER_BYTES, end_of_log, end_of_tape, header_of};
 use crate::items::whole_items;
 use crate::laws::{event_readers, segment_readers};
 use crate::numbers::first_number;
 use no_memory::NoMemory;
 use std::alloc::Global;
 use thiserror::Error;
-use trace_bytes::tags::{DIGEST_BYTES, LOG_MAGIC, TAPE_MAGIC};
+use trace_bytes::tags::{LOG_MAGIC, TAPE_MAGIC};
 use trace_model::{Event, Events, Log, Segment, Segments, Tape};
 
 /// Why a file was not read.
@@ -75,9 +75,6 @@ pub fn read_tape(alloc: Global, bytes: &[u8]) -> Result<(Digest, Tape), FormatFa
     segment_readers();
     tape_in(alloc, bytes)
 }
-
-/// The bytes of a header: what it begins with, its version and its digest.
-pub(crate) const HEADER_BYTES: usize = 5 + DIGEST_BYTES;
 
 /// The log of a file, as the plain readers read it.
 #[tactic(auto, unfolding(crate::specs::Reading::first_log_header))]

@@ -15,6 +15,9 @@ use std::marker::Model;
 use trace_bytes::tags::{DIGEST_BYTES, TAG_CLOSE, VERSION_1, VERSION_2};
 use trace_model::Outcome;
 
+/// The bytes of a header: what it begins with, its version and its digest.
+pub(crate) const HEADER_BYTES: usize = 5 + DIGEST_BYTES;
+
 /// A SHA-256 digest; contracts see its bytes.
 #[derive(Clone, Copy, PartialEq, Eq, Debug)]
 pub struct Digest {

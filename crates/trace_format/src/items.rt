@@ -79,7 +79,7 @@ fn first_items<K: Kind>(
 }
 
 /// The next item, where a whole one is there.
-fn next_item<K: Kind>(
+pub(crate) fn next_item<K: Kind>(
     alloc: Global,
     version: u8,
     bytes: &[u8],

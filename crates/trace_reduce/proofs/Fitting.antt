@@ -16,9 +16,9 @@ use Rattle.trace_reduce.specs.declared.finds.Firsts.{Firsts}
 use Rattle.trace_reduce.specs.Firsts.{AreFirsts, global_of}
 use Rattle.trace_reduce.specs.Runs.{runs_from, entry_effect, global_effect, size_effects, firsts_effects, AreSorted}
 use Rattle.trace_reduce.proofs.Firsts.{or_none}
-use Rattle.trace_reduce.specs.ByteGroups.{byte_at, bytes_of, merged}
+use Rattle.trace_reduce.specs.ByteGroups.{byte_at, bytes_of, merged_groups}
 use Rattle.trace_reduce.proofs.Bytes.{Ascend, at_key, ascends, looked_up}
-use Rattle.trace_reduce.proofs.Groups.{bytes_ascend, byte_looked_up, merged_ascend}
+use Rattle.trace_reduce.proofs.Groups.{bytes_ascend, byte_looked_up, merged_groups_ascend}
 use Rattle.trace_reduce.proofs.Ordered.{all_ordered, all_have}
 use Rattle.trace_reduce.proofs.Parts.{last_append, entries_none, globals_none, sizes_none, runs_none, keyed, all_runs}
 
@@ -30,7 +30,7 @@ module _ (firsts : Firsts) where
   size_part = size_effects Table firsts.size
 
   abbrev all_bytes : List (ℕ × ℕ)
-  all_bytes = bytes_of (merged firsts.bytes.items)
+  all_bytes = bytes_of (merged_groups firsts.bytes.items)
 
   abbrev bytes_part : List Effect
   bytes_part = runs_from 0 [] all_bytes
@@ -76,7 +76,7 @@ module _ (firsts : Firsts) where
 
   module _ (finds : List Effect) (h : AreFirsts finds firsts) (s : AreSorted firsts) where
     ascending : Ascend 0 all_bytes
-    ascending = bytes_ascend 0 (merged firsts.bytes.items) (merged_ascend firsts.bytes.items s.bytes)
+    ascending = bytes_ascend 0 (merged_groups firsts.bytes.items) (merged_groups_ascend firsts.bytes.items s.bytes)
 
     pages_same : last_some effect_pages (firsts_effects firsts) ≡ firsts.pages
     pages_same =

@@ -10,7 +10,7 @@ use Rattle.std.proofs.lemmas.List.{length-append, length-take, take-append-drop}
 use Rattle.list_laws.proofs.Lists.{get_front, get_after_by}
 use Rattle.replay_spec.specs.Known.{byte_among}
 use Rattle.trace_reduce.specs.declared.byte_groups.TheConstants.{GROUP}
-use Rattle.trace_reduce.specs.ByteGroups.{AreInOrder, TakesFront, both_slots, bytes_of, byte_at, group_byte, joined, merged, slot_at, slot_bytes}
+use Rattle.trace_reduce.specs.ByteGroups.{AreInOrder, TakesFront, both_slots, bytes_of, byte_at, group_byte, merged_from, merged_groups, slot_at, slot_bytes}
 use Rattle.trace_reduce.proofs.Firsts.{or_assoc, or_none}
 use Rattle.trace_reduce.proofs.Bytes.{at_key, Ascend, none_below}
 
@@ -273,18 +273,18 @@ none_under low (group ∷ groups) at h less =
     ap (λ b. option_or (cond b (slot_at group.1 (at % GROUP)) None) (byte_at groups at)) apart
     ∙ none_under group.0 groups at h.1 (omega (arith, h.0, less))
 
-joined_ascend : (low : ℕ) (group : ℕ × List (Option ℕ)) (groups : List (ℕ × List (Option ℕ))) → low ≤ group.0
-    → AreInOrder group.0 groups → Ascend low (joined group groups)
-joined_ascend low group [] from h = (from, tt)
-joined_ascend low group (next ∷ later) from h =
+merged_from_ascend : (low : ℕ) (group : ℕ × List (Option ℕ)) (groups : List (ℕ × List (Option ℕ))) → low ≤ group.0
+    → AreInOrder group.0 groups → Ascend low (merged_from group groups)
+merged_from_ascend low group [] from h = (from, tt)
+merged_from_ascend low group (next ∷ later) from h =
     go (nat_eq group.0 next.0) refl
-    (λ o. joined_ascend low (group.0, both_slots group.1 next.1) later from o)
-    (λ past. joined_ascend (suc group.0) next later past h.1)
+    (λ o. merged_from_ascend low (group.0, both_slots group.1 next.1) later from o)
+    (λ past. merged_from_ascend (suc group.0) next later past h.1)
   where
     go : (b : Bool) → nat_eq group.0 next.0 ≡ b
-        → (AreInOrder group.0 later → Ascend low (joined (group.0, both_slots group.1 next.1) later))
-        → (group.0 < next.0 → Ascend (suc group.0) (joined next later))
-        → Ascend low (cond b (joined (group.0, both_slots group.1 next.1) later) (group ∷ joined next later))
+        → (AreInOrder group.0 later → Ascend low (merged_from (group.0, both_slots group.1 next.1) later))
+        → (group.0 < next.0 → Ascend (suc group.0) (merged_from next later))
+        → Ascend low (cond b (merged_from (group.0, both_slots group.1 next.1) later) (group ∷ merged_from next later))
     go true same together apart =
         let number : next.0 ≡ group.0 = grind (arith, nat_tests, same) in
         together (subst (λ n. AreInOrder n later) number h.1)
@@ -292,30 +292,30 @@ joined_ascend low group (next ∷ later) from h =
         let more : group.0 < next.0 = grind (arith, nat_tests, other, h.0) in
         (from, apart more)
 
-joined_bytes : (group : ℕ × List (Option ℕ)) (groups : List (ℕ × List (Option ℕ))) (at : ℕ) → AreInOrder group.0 groups
-    → slot_at (unwrap_or (at_key (joined group groups) (at / GROUP)) []) (at % GROUP)
+merged_from_bytes : (group : ℕ × List (Option ℕ)) (groups : List (ℕ × List (Option ℕ))) (at : ℕ) → AreInOrder group.0 groups
+    → slot_at (unwrap_or (at_key (merged_from group groups) (at / GROUP)) []) (at % GROUP)
     ≡ option_or (group_byte group at) (byte_at groups at)
-joined_bytes group [] at h = go (nat_eq group.0 (at / GROUP))
+merged_from_bytes group [] at h = go (nat_eq group.0 (at / GROUP))
   where
     go : (b : Bool) → slot_at (unwrap_or (cond b (Some group.1) None) []) (at % GROUP)
         ≡ option_or (cond b (slot_at group.1 (at % GROUP)) None) None
     go true = sym (or_none (slot_at group.1 (at % GROUP)))
     go false = refl
-joined_bytes group (next ∷ later) at h =
+merged_from_bytes group (next ∷ later) at h =
     go (nat_eq group.0 next.0) refl (nat_eq group.0 (at / GROUP)) refl
-    (λ o. joined_bytes (group.0, both_slots group.1 next.1) later at o) (joined_bytes next later at h.1)
+    (λ o. merged_from_bytes (group.0, both_slots group.1 next.1) later at o) (merged_from_bytes next later at h.1)
   where
     rest : Option ℕ
     rest = byte_at (next ∷ later) at
 
     go : (b : Bool) → nat_eq group.0 next.0 ≡ b → (c : Bool) → nat_eq group.0 (at / GROUP) ≡ c
         → (AreInOrder group.0 later
-        → slot_at (unwrap_or (at_key (joined (group.0, both_slots group.1 next.1) later) (at / GROUP)) []) (at % GROUP)
+        → slot_at (unwrap_or (at_key (merged_from (group.0, both_slots group.1 next.1) later) (at / GROUP)) []) (at % GROUP)
         ≡ option_or (group_byte (group.0, both_slots group.1 next.1) at) (byte_at later at))
-        → slot_at (unwrap_or (at_key (joined next later) (at / GROUP)) []) (at % GROUP) ≡ rest
+        → slot_at (unwrap_or (at_key (merged_from next later) (at / GROUP)) []) (at % GROUP) ≡ rest
         → slot_at
         (unwrap_or
-        (at_key (cond b (joined (group.0, both_slots group.1 next.1) later) (group ∷ joined next later)) (at / GROUP))
+        (at_key (cond b (merged_from (group.0, both_slots group.1 next.1) later) (group ∷ merged_from next later)) (at / GROUP))
         [])
         (at % GROUP)
         ≡ option_or (group_byte group at) rest
@@ -327,28 +327,28 @@ joined_bytes group (next ∷ later) at h =
     go false other true key together apart =
         let under : at / GROUP < next.0 = grind (arith, nat_tests, other, key, h.0) in
         let ordered : AreInOrder next.0 (next ∷ later) = (omega arith, h.1) in
-        ap (λ c. slot_at (unwrap_or (cond c (Some group.1) (at_key (joined next later) (at / GROUP))) []) (at % GROUP)) key
+        ap (λ c. slot_at (unwrap_or (cond c (Some group.1) (at_key (merged_from next later) (at / GROUP))) []) (at % GROUP)) key
         ∙ sym (ap (option_or (group_byte group at)) (none_under next.0 (next ∷ later) at ordered under)
         ∙ or_none (group_byte group at)
         ∙ ap (λ c. cond c (slot_at group.1 (at % GROUP)) None) key)
     go false other false key together apart =
-        ap (λ c. slot_at (unwrap_or (cond c (Some group.1) (at_key (joined next later) (at / GROUP))) []) (at % GROUP)) key
+        ap (λ c. slot_at (unwrap_or (cond c (Some group.1) (at_key (merged_from next later) (at / GROUP))) []) (at % GROUP)) key
         ∙ apart
         ∙ sym (ap (λ c. option_or (cond c (slot_at group.1 (at % GROUP)) None) rest) key)
 
-pub merged_ascend : (groups : List (ℕ × List (Option ℕ))) → AreInOrder 0 groups → Ascend 0 (merged groups)
-merged_ascend [] h = tt
-merged_ascend (group ∷ groups) h = joined_ascend 0 group groups h.0 h.1
+pub merged_groups_ascend : (groups : List (ℕ × List (Option ℕ))) → AreInOrder 0 groups → Ascend 0 (merged_groups groups)
+merged_groups_ascend [] h = tt
+merged_groups_ascend (group ∷ groups) h = merged_from_ascend 0 group groups h.0 h.1
 
 -- the bytes of groups in order, by their addresses
 pub byte_looked_up : (groups : List (ℕ × List (Option ℕ))) (at : ℕ) → AreInOrder 0 groups
-    → at_key (bytes_of (merged groups)) at ≡ byte_at groups at
-byte_looked_up groups at h = bytes_key 0 (merged groups) at (merged_ascend groups h) ∙ all groups h
+    → at_key (bytes_of (merged_groups groups)) at ≡ byte_at groups at
+byte_looked_up groups at h = bytes_key 0 (merged_groups groups) at (merged_groups_ascend groups h) ∙ all groups h
   where
     all : (groups : List (ℕ × List (Option ℕ))) → AreInOrder 0 groups
-        → slot_at (unwrap_or (at_key (merged groups) (at / GROUP)) []) (at % GROUP) ≡ byte_at groups at
+        → slot_at (unwrap_or (at_key (merged_groups groups) (at / GROUP)) []) (at % GROUP) ≡ byte_at groups at
     all [] h = refl
-    all (group ∷ groups) h = joined_bytes group groups at h.1
+    all (group ∷ groups) h = merged_from_bytes group groups at h.1
 
 -- ---- groups, sorted
 

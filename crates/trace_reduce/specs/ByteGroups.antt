@@ -40,14 +40,16 @@ both_slots slots others =
     ∷ []
 
 -- a group and those after it, where next to each other those of one number are made one
-abbrev pub joined : ℕ × List (Option ℕ) → List (ℕ × List (Option ℕ)) → List (ℕ × List (Option ℕ))
-joined group [] = group ∷ []
-joined group (next ∷ later) =
-    cond (nat_eq group.0 next.0) (joined (group.0, both_slots group.1 next.1) later) (group ∷ joined next later)
+abbrev pub merged_from : ℕ × List (Option ℕ) → List (ℕ × List (Option ℕ)) → List (ℕ × List (Option ℕ))
+merged_from group [] = group ∷ []
+merged_from group (next ∷ later) =
+    cond (nat_eq group.0 next.0) (merged_from (group.0, both_slots group.1 next.1) later)
+    (group ∷ merged_from next later)
 
-abbrev pub merged : List (ℕ × List (Option ℕ)) → List (ℕ × List (Option ℕ))
-merged [] = []
-merged (group ∷ groups) = joined group groups
+-- groups, where next to each other those of one number are made one
+abbrev pub merged_groups : List (ℕ × List (Option ℕ)) → List (ℕ × List (Option ℕ))
+merged_groups [] = []
+merged_groups (group ∷ groups) = merged_from group groups
 
 -- the bytes of slots that stand from an address on
 abbrev pub slot_bytes : (start : ℕ) → List (Option ℕ) → List (ℕ × ℕ)

@@ -5,7 +5,7 @@ use Rattle.std.specs.BTreeMap.{IsOrdered}
 use Rattle.wasm_syntax.specs.declared.values.Val.{Val}
 use Rattle.trace_model.specs.declared.tapes.Effect.{Effect}
 use Rattle.trace_model.specs.declared.tapes.Effect.TheVariants.{Grow, Table, Bytes, Entry, Global}
-use Rattle.trace_reduce.specs.ByteGroups.{AreInOrder, bytes_of, merged}
+use Rattle.trace_reduce.specs.ByteGroups.{AreInOrder, bytes_of, merged_groups}
 use Rattle.trace_reduce.specs.declared.finds.Firsts.{Firsts}
 
 -- a run as an effect, if it has bytes
@@ -36,7 +36,7 @@ size_effects effect (Some size) = effect size ∷ []
 abbrev pub firsts_effects : Firsts → List Effect
 firsts_effects firsts =
     (((size_effects Grow firsts.pages ++ size_effects Table firsts.size)
-    ++ runs_from 0 [] (bytes_of (merged firsts.bytes.items)))
+    ++ runs_from 0 [] (bytes_of (merged_groups firsts.bytes.items)))
     ++ map entry_effect firsts.entries.entries)
     ++ map global_effect firsts.globals.entries
 

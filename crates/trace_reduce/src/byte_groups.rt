@@ -72,7 +72,7 @@ fn take_front<'a>(groups: &mut Groups, at: u64, bytes: &'a [u8]) -> Result<&'a [
         return Err(NoMemory);
     };
     let from = (at % GROUP) as usize;
-    let count = bytes.len().min(4 - from);
+    let count = bytes.len().min(GROUP as usize - from);
     let (front, later) = bytes.split_at(count);
     groups.push((number, slots_of(from, front)))?;
     Ok(later)

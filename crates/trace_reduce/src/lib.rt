@@ -12,6 +12,6 @@ pub mod reducer;
 mod runs;
 
 pub use faults::{ReduceFault, ReducerFault};
-pub use logs::{reduce, tape_of_log};
+pub use logs::reduce;
 pub use no_memory::NoMemory;
 pub use reducer::Reducer;

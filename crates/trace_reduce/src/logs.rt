@@ -84,17 +84,3 @@ pub fn reduce(alloc: Global, log: &Log) -> Result<Tape, ReduceFault>
     push_all(&mut reducer, log.events.as_slice())?;
     of_any_weight(reducer.finish(log.outcome))
 }
-
-/// The same, of a log that is let go before its tape is made, so that not both are in memory.
-///
-/// # Errors
-/// The first event that is out of order, or the outcome; or where an allocation failed.
-pub fn tape_of_log(alloc: Global, log: Log) -> Result<Tape, ReduceFault>
-    ensures { IsReduction log result }
-{
-    let mut reducer = Reducer::new(alloc, log.imports, u64::MAX);
-    push_all(&mut reducer, log.events.as_slice())?;
-    let outcome = log.outcome;
-    drop(log);
-    of_any_weight(reducer.finish(outcome))
-}

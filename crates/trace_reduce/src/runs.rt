@@ -3,7 +3,7 @@
 ghost use Rattle.std.specs.Prelude.{◌≡◌, ◌+◌, ◌*◌, ◌^◌, ◌<◌, ◌∷◌, List, Option, ℕ, [], ◌++◌, length, map, take, IfOk, OnOk};
 ghost use Rattle.std.specs.Ordering.{nat_cmp};
 ghost use Rattle.std.specs.BTreeMap.{IsOrdered};
-ghost use Rattle.trace_reduce.specs.ByteGroups.{AreInOrder, bytes_of, joined, merged, slot_bytes};
+ghost use Rattle.trace_reduce.specs.ByteGroups.{AreInOrder, bytes_of, merged_from, merged_groups, slot_bytes};
 ghost use Rattle.trace_reduce.specs.declared.byte_groups.TheConstants.{GROUP};
 ghost use Rattle.trace_reduce.specs.Runs.{runs_from, entry_effect, global_effect, firsts_effects, AreSorted};
 
@@ -109,9 +109,9 @@ fn put_group(runs: &mut Runs, alloc: Global, number: u32, slots: &Slots) -> Resu
 fn put_next(runs: &mut Runs, alloc: Global, group: &mut Group, next: &Group) -> Result<(), NoMemory>
     ensures { OnOk result ((later : List (ℕ × List (Option ℕ)))
         → runs.old.effects.items
-        ++ runs_from runs.old.start runs.old.run.items (bytes_of (joined group.old (next.now ∷ later)))
+        ++ runs_from runs.old.start runs.old.run.items (bytes_of (merged_from group.old (next.now ∷ later)))
         ≡ runs.new.effects.items
-        ++ runs_from runs.new.start runs.new.run.items (bytes_of (joined group.new later))) }
+        ++ runs_from runs.new.start runs.new.run.items (bytes_of (merged_from group.new later))) }
 {
     if group.0 == next.0 {
         take_others(&mut group.1, &next.1);
@@ -130,7 +130,7 @@ fn put_groups(
     others: &[Group],
 ) -> Result<(), NoMemory>
     ensures { OnOk result (runs.old.effects.items
-        ++ runs_from runs.old.start runs.old.run.items (bytes_of (joined first.now others.now))
+        ++ runs_from runs.old.start runs.old.run.items (bytes_of (merged_from first.now others.now))
         ≡ runs.new.effects.items ++ runs_from runs.new.start runs.new.run.items []) }
 {
     let mut group = *first;
@@ -143,7 +143,7 @@ fn put_groups(
 
 /// Appends bytes in longest runs.
 fn put_bytes(alloc: Global, effects: Vec<Effect>, groups: &[Group]) -> Result<Vec<Effect>, NoMemory>
-    ensures { IfOk result (λ all. all.items ≡ effects.items ++ runs_from 0 [] (bytes_of (merged groups.now))) }
+    ensures { IfOk result (λ all. all.items ≡ effects.items ++ runs_from 0 [] (bytes_of (merged_groups groups.now))) }
 {
     let mut runs = Runs {
         effects,

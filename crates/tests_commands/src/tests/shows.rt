@@ -195,7 +195,7 @@ const WHOLE_PARTS: [(&str, &str, usize, &[usize]); 2] = [
 ];
 
 /// The greatest of the places that is not past the length; 0 before all of them.
-fn place_within(places: &[usize], length: usize) -> usize {
+pub fn place_within(places: &[usize], length: usize) -> usize {
     let mut found = 0;
     for place in places {
         if *place <= length {

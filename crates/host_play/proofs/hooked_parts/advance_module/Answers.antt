@@ -8,7 +8,7 @@ use Rattle.wasm_interp.specs.Walks.{FitsWeights}
 use Rattle.host_play.specs.HookedResults.{RefusesWithHooks}
 use Rattle.host_play.specs.HooksSoFar.{run_in}
 use Rattle.host_play.proofs.HookWaits.{awaits_call, hook_lessens, import_lessens, to}
-use Rattle.host_play.proofs.HooksAnswered.{hook_answered}
+use Rattle.host_play.proofs.HookReturns.{hook_answered}
 use Rattle.host_play.proofs.HooksOn.{hook_refuses, part_to_host, part_to_import, part_to_spent, part_to_trap, part_without_response}
 use Rattle.host_play.proofs.ModuleParts.{counted_import, no_more_left}
 use Rattle.host_play.proofs.hooked_parts.advance_module.Goals as goal

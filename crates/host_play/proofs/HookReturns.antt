@@ -1,6 +1,6 @@
 -- A run with hooks after the call of a hook, which the host answers at once by doing nothing.
-use Rattle.std.proofs.Common.{◌≡◌, ℕ, ◌+◌, ◌≤◌, [], ◌∷◌, None, Some, Ok, refl, ap, inl}
-use Rattle.std.specs.Prelude.{slice_get, slice_index, slice_set}
+use Rattle.std.proofs.Common.{◌≡◌, ℕ, ◌≤◌, [], ◌∷◌, None, Some, Ok, refl, ap, inl}
+use Rattle.std.specs.Prelude.{slice_get, slice_index}
 use Rattle.wasm_syntax.specs.declared.modules.Module.{Module}
 use Rattle.host_script.specs.declared.scripts.Script.{Script}
 use Rattle.history_spec.specs.declared.entries.Entry.TheVariants.{ImportReturn}
@@ -19,7 +19,7 @@ use Rattle.host_play.specs.declared.play_state.Host.TheVariants as host
 use Rattle.host_play.specs.declared.play_state.PlayState.{PlayState}
 use Rattle.host_play.specs.declared.play_state.Stand.TheVariants as at
 use Rattle.host_play.specs.HooksSoFar.{HooksSoFar}
-use Rattle.host_play.specs.Hosts.{BeginsAnswer, action_at, actions_in, kept}
+use Rattle.host_play.specs.Hosts.{BeginsAnswer, action_at, actions_in, counts_after_call}
 use Rattle.host_play.specs.Replies.{nothing_done}
 use Rattle.host_play.specs.Stands.{Leads, StandsAt}
 use Rattle.host_play.proofs.Ends.{Answered, answered, return_leads}
@@ -47,8 +47,7 @@ module _ {H : Type 0} (is_step : Steps H) (m : Module) (script : Script) (weighi
   no_action = ap (λ response. slice_get (actions_in response) 0) (replies (slice_index playing.counts.items index))
 
   begins : (after : PlayState)
-      → after.counts.items
-      ≡ slice_set playing.counts.items index (kept (slice_index playing.counts.items index + 1))
+      → after.counts.items ≡ counts_after_call playing.counts.items index
       → BeginsAnswer script playing.hosts playing.counts.items index (answer ∷ playing.hosts) after.counts.items
   begins after counted =
       record { response = nothing_done; chosen = λ count same. replies count; pushed = refl; counted = counted }
@@ -59,8 +58,7 @@ module _ {H : Type 0} (is_step : Steps H) (m : Module) (script : Script) (weighi
       new.store) (Ok tt) later
       → (after : PlayState) → ResumesRun new None after.machine → after.functions ≡ playing.functions
       → after.hosts ≡ playing.hosts
-      → after.counts.items
-      ≡ slice_set playing.counts.items index (kept (slice_index playing.counts.items index + 1))
+      → after.counts.items ≡ counts_after_call playing.counts.items index
       → HooksSoFar is_step m script weighing n initial budget begun later at.Module after left
   hook_answered results later taken after resumes functions hosts counted =
       let before : PlayState = record after { machine = new; hosts = answer ∷ playing.hosts } in

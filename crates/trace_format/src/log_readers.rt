@@ -1,0 +1,143 @@
+// The events of a log's file, handed on one at a time.
+
+ghost use Rattle.std.specs.Prelude.{◌≡◌, ◌≤◌, ℕ, List, length, Err, Ok, OnOk, IfOk, IfErr, IsErrOf, MatchResult};
+ghost use Rattle.trace_model.specs.declared.events.Log.{Log};
+ghost use Rattle.trace_format.specs.Answers.{IsItemsFault, IsLogAnswer, IsLogRead};
+ghost use Rattle.trace_format.specs.Faults.{IsLogFault, IsLogOf};
+ghost use Rattle.trace_format.specs.Files.{Shrinks};
+ghost use Rattle.trace_format.specs.Reading as plain;
+ghost use Rattle.trace_format.specs.Taken.{AreAllTaken, AreTakenToEnd, BeginsLog, IsLogTaken, TakesLog};
+ghost use Rattle.trace_format.specs.declared.files.FormatFault.TheVariants as faults;
+
+use crate::files::FormatFault;
+use crate::headers::{Digest, HEADER_BYTES, end_of_log, header_of};
+use crate::items::next_item;
+use crate::laws::event_readers;
+use crate::numbers::first_number;
+use no_memory::NoMemory;
+use std::alloc::Global;
+use trace_bytes::tags::LOG_MAGIC;
+use trace_model::{Event, Outcome};
+
+/// What takes the events of a log's file in order. A step is a relation, so that what the steps of a
+/// sink leave as it is can be told of all of them.
+pub trait LogSink {
+    ghost use Rattle.trace_model.specs.declared.events.Event.{Event};
+
+    // the sink takes an event, and is another then
+    ghost takes: { Self → Event → Self → Type 0 };
+
+    /// Takes an event.
+    ///
+    /// # Errors
+    /// Where an allocation failed.
+    fn take(&mut self, event: Event) -> Result<(), NoMemory>
+        ensures { OnOk result (takes self.old event self.new) };
+}
+
+/// What the file of a log begins with, of either version: the digest, and how many functions the
+/// recorded module imports. Takes no memory.
+///
+/// # Errors
+/// The version where it is another; else the place 0 where no whole header is there.
+pub fn log_header(bytes: &[u8]) -> Result<(Digest, u32), FormatFault>
+    // The file begins with them.
+    ensures found { IfOk result (λ header. BeginsLog bytes.now header.0 header.1) }
+    // What it begins with is told.
+    ensures only { (digest : List ℕ) (imports : ℕ) → BeginsLog bytes.now digest imports
+        → result ≡ Ok (digest, imports) }
+    // The cause of each other answer, which is one.
+    ensures fault { IfErr result (λ fault. IsLogFault bytes.now fault) }
+    ensures caused { IsErrOf result faults.Memory → ⊥ }
+{
+    event_readers();
+    let (_, digest) = header_of(&LOG_MAGIC, bytes)?;
+    match first_number(&bytes[HEADER_BYTES..]) {
+        Some((imports, _)) => Ok((digest, imports)),
+        None => Err(FormatFault::Bad { at: 0 }),
+    }
+}
+
+/// Hands on the events of a log's file, of either version, and gives how the run ended. Beside the file
+/// and the sink, one event at a time is in memory.
+///
+/// # Errors
+/// The version where it is another; else where the file is faulty, after the events before that place
+/// have been handed on; or out of memory.
+pub fn log_events<S: LogSink>(
+    alloc: Global,
+    bytes: &[u8],
+    sink: &mut S,
+) -> Result<Outcome, FormatFault>
+    // The sink takes the events of a log that the bytes spell, and the outcome is that log's.
+    ensures found { IfOk result (λ outcome. IsLogTaken S.takes bytes.now sink.old sink.new outcome) }
+    // The log that they spell is handed on, unless memory runs out.
+    ensures only { (digest : List ℕ) (log : Log) → IsLogOf bytes.now digest log
+        → IfOk result (λ outcome. TakesLog S.takes sink.old sink.new (digest, log) outcome)
+        × IfErr result (λ fault. fault ≡ faults.Memory) }
+    // The cause of each other answer.
+    ensures fault { IfErr result (λ fault. IsLogFault bytes.now fault) }
+{
+    event_readers();
+    events_in(alloc, bytes, sink)
+}
+
+/// Hands on the events, as the plain readers read them.
+#[tactic(auto, unfolding(crate::specs::Reading::first_log_header))]
+fn events_in<S: LogSink>(alloc: Global, bytes: &[u8], sink: &mut S) -> Result<Outcome, FormatFault>
+    ensures { MatchResult result
+        (λ outcome. (content : List ℕ × Log) × IsLogRead bytes.now content
+        × TakesLog S.takes sink.old sink.new content outcome)
+        (λ fault. IsLogAnswer bytes.now (Err fault)) }
+{
+    event_readers();
+    let (version, _) = header_of(&LOG_MAGIC, bytes)?;
+    match first_number(&bytes[HEADER_BYTES..]) {
+        Some((_, start)) => events_after(alloc, version, bytes, start, sink),
+        None => Err(FormatFault::Bad { at: 0 }),
+    }
+}
+
+/// Hands on the events that begin at the start, and gives the outcome after them.
+fn events_after<S: LogSink>(
+    alloc: Global,
+    version: u8,
+    bytes: &[u8],
+    start: &[u8],
+    sink: &mut S,
+) -> Result<Outcome, FormatFault>
+    requires { length start.now ≤ length bytes.now }
+    ensures { MatchResult result
+        (λ outcome. AreTakenToEnd version start.now S.takes sink.old sink.new outcome)
+        (λ fault. IsItemsFault (plain.first_event version) plain.first_outcome bytes.now start.now fault) }
+{
+    event_readers();
+    let left = whole_events(alloc, version, start, sink)?;
+    match end_of_log(bytes, left) {
+        Ok(outcome) => Ok(outcome),
+        Err(fault) => Err(fault),
+    }
+}
+
+/// Hands on events as long as whole ones are there, and gives what is left.
+///
+/// # Errors
+/// Where an allocation failed.
+fn whole_events<'a, S: LogSink>(
+    alloc: Global,
+    version: u8,
+    bytes: &'a [u8],
+    sink: &mut S,
+) -> Result<&'a [u8], NoMemory>
+    requires { Shrinks (plain.first_event version) }
+    ensures took { IfOk result (λ left.
+        AreAllTaken (plain.first_event version) S.takes bytes.now left.now sink.old sink.new) }
+    ensures shorter { IfOk result (λ left. length left.now ≤ length bytes.now) }
+{
+    let mut rest = bytes;
+    'events: while let Some((event, after)) = next_item::<Event>(alloc, version, rest)? {
+        sink.take(event)?;
+        rest = after;
+    }
+    Ok(rest)
+}
