@@ -1,4 +1,5 @@
 pub mod Digits
 pub mod Growths
+pub mod Numbers
 pub mod Values
 pub mod Texts

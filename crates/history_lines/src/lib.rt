@@ -4,7 +4,7 @@
 mod lines;
 mod words;
 
-pub use lines::{print_entry, print_outcome};
+pub use lines::{print_entry, print_outcome, print_step, print_trap};
 pub use no_memory::NoMemory;
 pub use words::{put, put_number, put_value, put_values};
 

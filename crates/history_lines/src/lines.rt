@@ -20,7 +20,49 @@ pub fn print_entry(out: &mut Vec<u8>, entry: &Entry) -> Result<(), NoMemory>
         (GrewByFirstPart out.old.items out.new.items (line (entry_text entry.now))) }
 {
     put_entry(out, entry)?;
-    put(out, b"\n")
+    put_line_feed(out)
+}
+
+/// Appends the line of an instruction, with its line feed.
+///
+/// # Errors
+/// Where an allocation failed; a first part of the line may be appended then.
+pub fn print_step(
+    out: &mut Vec<u8>,
+    func: u32,
+    number: u32,
+    operands: &[Val],
+    results: &[Val],
+    found: Option<u32>,
+) -> Result<(), NoMemory>
+    ensures ok { OnOk result
+        (out.new.items ≡ out.old.items ++ line (entry_text (Step func number operands.now results.now found))) }
+    ensures refused { OnErr result (GrewByFirstPart out.old.items out.new.items
+        (line (entry_text (Step func number operands.now results.now found)))) }
+{
+    put_step(out, func, number, operands, results, found)?;
+    put_line_feed(out)
+}
+
+/// Appends the line of an instruction that traps, with its line feed.
+///
+/// # Errors
+/// Where an allocation failed; a first part of the line may be appended then.
+pub fn print_trap(
+    out: &mut Vec<u8>,
+    func: u32,
+    number: u32,
+    kind: TrapKind,
+    operands: &[Val],
+    found: Option<u32>,
+) -> Result<(), NoMemory>
+    ensures ok { OnOk result
+        (out.new.items ≡ out.old.items ++ line (entry_text (Trap func number kind operands.now found))) }
+    ensures refused { OnErr result (GrewByFirstPart out.old.items out.new.items
+        (line (entry_text (Trap func number kind operands.now found)))) }
+{
+    put_trap(out, func, number, kind, operands, found)?;
+    put_line_feed(out)
 }
 
 /// Appends the line of an outcome, with its line feed.
@@ -37,6 +79,15 @@ pub fn print_outcome(out: &mut Vec<u8>, outcome: Outcome) -> Result<(), NoMemory
         Outcome::Trapped => put(out, b"trapped\n"),
         Outcome::HostTrapped => put(out, b"host-trapped\n"),
     }
+}
+
+/// Appends a line feed.
+#[inline(always)]
+fn put_line_feed(out: &mut Vec<u8>) -> Result<(), NoMemory>
+    ensures ok { OnOk result (out.new.items ≡ out.old.items ++ codes "\n") }
+    ensures refused { OnErr result (GrewByFirstPart out.old.items out.new.items (codes "\n")) }
+{
+    put(out, b"\n")
 }
 
 /// Appends the text of an entry.

@@ -1,7 +1,7 @@
 //! Lines of a history that is worked out from the standard, of a function that has a buffer on a C
 //! stack filled by an import, and lines by the format where that history has none of a kind.
 
-use crate::{print_entry, print_outcome};
+use crate::{print_entry, print_outcome, print_step, print_trap};
 use history_spec::{Entry, Outcome, TrapKind};
 use std::alloc::Global;
 use std::test::Fail;
@@ -188,5 +188,29 @@ fn outcomes_have_their_lines(rt: HostRuntime) -> Result<(), Fail> {
     print_outcome(&mut out, Outcome::Trapped)?;
     print_outcome(&mut out, Outcome::HostTrapped)?;
     assert!(rt; out.as_slice() == b"ended\ntrapped\nhost-trapped\n".as_slice());
+    Ok(())
+}
+
+#[test]
+fn numbers_of_each_length_have_their_lines(rt: HostRuntime) -> Result<(), Fail> {
+    let alloc = rt.alloc();
+    let mut out = Vec::new(alloc);
+    let numbers = [0, 9, 10, 99, 100, 907, 999, 1000, 65_536, 4_294_967_295];
+    'numbers: for number in numbers {
+        print_step(&mut out, number, number, &[], &[], Some(number))?;
+    }
+    print_trap(&mut out, 40, 105, TrapKind::Memory, &[i32(0xfffc)], Some(1))?;
+    let expected: &[u8] = b"step 0 0 -> found 0\n\
+          step 9 9 -> found 9\n\
+          step 10 10 -> found 10\n\
+          step 99 99 -> found 99\n\
+          step 100 100 -> found 100\n\
+          step 907 907 -> found 907\n\
+          step 999 999 -> found 999\n\
+          step 1000 1000 -> found 1000\n\
+          step 65536 65536 -> found 65536\n\
+          step 4294967295 4294967295 -> found 4294967295\n\
+          trap 40 105 memory i32:0000fffc found 1\n";
+    assert!(rt; out.as_slice() == expected);
     Ok(())
 }

@@ -10,6 +10,6 @@ returns-in_err-put_entry-clause-refused c =
 
 pub returns-clause-refused : goal.returns-clause-refused
 returns-clause-refused c =
-    at-refusal c.put.result
+    at-refusal c.put_line_feed.result
     (λ part. grew-after _ _ _ (entry_text c.args.entry.now) (codes "\n") c.in_ok-put_entry.ensures.ok
-    (part)) c.put.ensures.refused
+    (part)) c.put_line_feed.ensures.refused
