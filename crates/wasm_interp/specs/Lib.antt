@@ -1,5 +1,6 @@
 pub mod State
 pub mod Turns
+pub mod InstrEntries
 pub mod Controls
 pub mod Frames
 pub mod Traps

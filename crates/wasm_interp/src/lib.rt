@@ -10,6 +10,7 @@ mod form_steps;
 mod form_walks;
 mod form_weights;
 mod host;
+pub mod instr_entries;
 mod instructions;
 mod laws;
 mod loops;
@@ -27,6 +28,7 @@ mod top_walks;
 mod turns;
 mod values;
 
+pub use instr_entries::{InstrEntry, TurnEntries};
 pub use laws::{calls_are_ready, hosts_go_on, meters_fit, weightless_turns_end};
 pub use machine::{Machine, Pause, Turn};
 pub use no_memory::NoMemory;

@@ -6,11 +6,11 @@ ghost use Rattle.wasm_flat.specs.Slots as slot_types;
 ghost use Rattle.wasm_flat.specs.Slots.{operands_of_shape, result_of_shape, types_of_access, params_of};
 ghost use Rattle.wasm_numeric.specs.Opcode.{Test, Compare, Unary, Binary, Convert, kind_of};
 ghost use Rattle.wasm_interp.specs.OpcodeTypes.{operand_by, result_by, is_integer, takes_one, takes_two};
+ghost use Rattle.flat_steps.specs.FlatStep.{values_at};
 ghost use Rattle.wasm_interp.specs.Steps.{IsTypedOp};
 
-use crate::values::param_types;
+use crate::values::{param_types, push_values};
 use no_memory::NoMemory;
-use std::alloc::Global;
 use wasm_flat::{Flat, Op};
 use wasm_opcodes::{
     F32_LOAD, F32_REINTERPRET_I32, F32_STORE, F64_GE, F64_LOAD, F64_REINTERPRET_I64, F64_STORE,
@@ -18,7 +18,7 @@ use wasm_opcodes::{
     I32_LOAD16_U, I32_REINTERPRET_F32, I32_ROTR, I32_STORE, I32_STORE8, I32_STORE16, I32_WRAP_I64,
     I64_EXTEND8_S, I64_REINTERPRET_F64, I64_ROTR,
 };
-use wasm_syntax::ValType;
+use wasm_syntax::{Val, ValType};
 
 /// The type of each operand of a numeric instruction on integers.
 fn operand_type(opcode: u8) -> ValType
@@ -94,69 +94,91 @@ fn store_type(opcode: u8) -> ValType
     }
 }
 
-/// The types of the operands of a call through the table.
-fn indirect_types(alloc: Global, params: &[ValType]) -> Result<Vec<ValType>, NoMemory>
-    ensures { IfOk result (λ types. types.items ≡ params.now ++ ValType.I32 ∷ []) }
+/// Appends the operands of a call through the table by a type: the arguments, and the index.
+fn push_indirect(
+    flat: &Flat,
+    ty: u32,
+    slots: &[u64],
+    at: usize,
+    values: &mut Vec<Val>,
+) -> Result<(), NoMemory>
+    requires { at < 2 ^ 63 }
+    ensures { OnOk result (values.new.items
+        ≡ values.old.items ++ values_at slots.now at (params_of (slice_get flat.now.types ty) ++ ValType.I32 ∷ [])) }
 {
-    let mut types = Vec::from_slice(alloc, params)?;
-    types.push(ValType::I32)?;
-    Ok(types)
+    let params = params_at(flat, ty);
+    push_values(slots, at, params, values)?;
+    push_values(slots, at + params.len(), &[ValType::I32], values)
 }
 
-/// The types of the operands of an instruction.
-pub(crate) fn operand_types(alloc: Global, flat: &Flat, op: &Op) -> Result<Vec<ValType>, NoMemory>
-    requires { IsTypedOp op.now }
-    ensures { IfOk result (λ types. types.items ≡ slot_types.operand_types flat.now.types flat.now.indices op.now) }
+/// Appends the operands of an instruction whose first slot is given; after a refusal, some of them.
+pub(crate) fn push_operands(
+    flat: &Flat,
+    op: &Op,
+    slots: &[u64],
+    at: usize,
+    values: &mut Vec<Val>,
+) -> Result<(), NoMemory>
+    requires typed { IsTypedOp op.now }
+    requires small { at < 2 ^ 63 }
+    ensures { OnOk result (values.new.items ≡ values.old.items
+        ++ values_at slots.now at (slot_types.operand_types flat.now.types flat.now.indices op.now)) }
 {
     match op {
-        Op::Choose { .. } | Op::Branch { .. } | Op::Switch { .. } => list_of_types(
-            alloc,
-            &[ValType::I32],
-        ),
-        Op::Load { .. } | Op::MemoryGrow => list_of_types(alloc, &[ValType::I32]),
-        Op::Call { func } => list_of_types(alloc, param_types(flat, *func)),
-        Op::CallIndirect { ty } => indirect_types(alloc, params_at(flat, *ty)),
-        Op::Drop { ty } | Op::GlobalSet { ty, .. } => list_of_types(alloc, &[*ty]),
-        Op::LocalSet { ty, .. } | Op::LocalTee { ty, .. } => list_of_types(alloc, &[*ty]),
-        Op::Select { ty } => list_of_types(alloc, &[*ty, *ty, ValType::I32]),
-        Op::Store { op, .. } => list_of_types(alloc, &[ValType::I32, store_type(*op)]),
-        Op::Test { op } | Op::Unary { op } => one_operand(alloc, *op),
-        Op::Convert { op } => one_operand(alloc, *op),
-        Op::Compare { op } | Op::Binary { op } => two_operands(alloc, *op),
-        Op::MemoryCopy | Op::MemoryFill => list_of_types(
-            alloc,
+        Op::Choose { .. } | Op::Branch { .. } | Op::Switch { .. } => {
+            push_values(slots, at, &[ValType::I32], values)
+        }
+        Op::Load { .. } | Op::MemoryGrow => push_values(slots, at, &[ValType::I32], values),
+        Op::Call { func } => push_values(slots, at, param_types(flat, *func), values),
+        Op::CallIndirect { ty } => push_indirect(flat, *ty, slots, at, values),
+        Op::Drop { ty } | Op::GlobalSet { ty, .. } => push_values(slots, at, &[*ty], values),
+        Op::LocalSet { ty, .. } | Op::LocalTee { ty, .. } => push_values(slots, at, &[*ty], values),
+        Op::Select { ty } => push_values(slots, at, &[*ty, *ty, ValType::I32], values),
+        Op::Store { op, .. } => push_values(slots, at, &[ValType::I32, store_type(*op)], values),
+        Op::Test { op } | Op::Unary { op } => push_one(*op, slots, at, values),
+        Op::Convert { op } => push_one(*op, slots, at, values),
+        Op::Compare { op } | Op::Binary { op } => push_two(*op, slots, at, values),
+        Op::MemoryCopy | Op::MemoryFill => push_values(
+            slots,
+            at,
             &[ValType::I32, ValType::I32, ValType::I32],
+            values,
         ),
-        Op::TableSet => list_of_types(alloc, &[ValType::I32, ValType::FuncRef]),
-        Op::TableGrow => list_of_types(alloc, &[ValType::FuncRef, ValType::I32]),
-        _ => list_of_types(alloc, &[]),
+        Op::TableSet => push_values(slots, at, &[ValType::I32, ValType::FuncRef], values),
+        Op::TableGrow => push_values(slots, at, &[ValType::FuncRef, ValType::I32], values),
+        _ => Ok(()),
     }
 }
 
-/// The type of the result of an instruction, where it has one.
-pub(crate) fn result_types(alloc: Global, op: &Op) -> Result<Vec<ValType>, NoMemory>
-    requires { IsTypedOp op.now }
-    ensures { IfOk result (λ types. types.items ≡ slot_types.result_types op.now) }
+/// Appends the result of an instruction whose first slot is given, where it has one.
+pub(crate) fn push_results(
+    op: &Op,
+    slots: &[u64],
+    at: usize,
+    values: &mut Vec<Val>,
+) -> Result<(), NoMemory>
+    requires typed { IsTypedOp op.now }
+    requires small { at < 2 ^ 63 }
+    ensures { OnOk result
+        (values.new.items ≡ values.old.items ++ values_at slots.now at (slot_types.result_types op.now)) }
 {
     match op {
-        Op::Select { ty } | Op::LocalGet { ty, .. } => list_of_types(alloc, &[*ty]),
-        Op::LocalTee { ty, .. } | Op::GlobalGet { ty, .. } => list_of_types(alloc, &[*ty]),
-        Op::Load { op, .. } => list_of_types(alloc, &[load_type(*op)]),
-        Op::MemorySize | Op::MemoryGrow => list_of_types(alloc, &[ValType::I32]),
-        Op::TableGrow | Op::TableSize => list_of_types(alloc, &[ValType::I32]),
-        Op::Const { value } => list_of_types(alloc, &[value.ty]),
-        Op::Test { op } | Op::Compare { op } => numeric_result(alloc, *op),
-        Op::Unary { op } | Op::Binary { op } => numeric_result(alloc, *op),
-        Op::Convert { op } => numeric_result(alloc, *op),
-        _ => list_of_types(alloc, &[]),
+        Op::Select { ty } | Op::LocalGet { ty, .. } => push_values(slots, at, &[*ty], values),
+        Op::LocalTee { ty, .. } | Op::GlobalGet { ty, .. } => push_values(
+            slots,
+            at,
+            &[*ty],
+            values,
+        ),
+        Op::Load { op, .. } => push_values(slots, at, &[load_type(*op)], values),
+        Op::MemorySize | Op::MemoryGrow => push_values(slots, at, &[ValType::I32], values),
+        Op::TableGrow | Op::TableSize => push_values(slots, at, &[ValType::I32], values),
+        Op::Const { value } => push_values(slots, at, &[value.ty], values),
+        Op::Test { op } | Op::Compare { op } => push_numeric(*op, slots, at, values),
+        Op::Unary { op } | Op::Binary { op } => push_numeric(*op, slots, at, values),
+        Op::Convert { op } => push_numeric(*op, slots, at, values),
+        _ => Ok(()),
     }
-}
-
-/// The types of a list.
-fn list_of_types(alloc: Global, types: &[ValType]) -> Result<Vec<ValType>, NoMemory>
-    ensures { IfOk result (λ list_of_types. list_of_types.items ≡ types.now) }
-{
-    Ok(Vec::from_slice(alloc, types)?)
 }
 
 /// The parameters of a type.
@@ -169,30 +191,36 @@ fn params_at(flat: &Flat, ty: u32) -> &[ValType]
     }
 }
 
-/// The type of the result of a numeric instruction.
+/// Appends the result of a numeric instruction.
 #[tactic(auto, using(crate::proofs::Opcodes::numeric_result))]
-fn numeric_result(alloc: Global, opcode: u8) -> Result<Vec<ValType>, NoMemory>
-    requires { is_integer (kind_of opcode) ≡ true }
-    ensures { IfOk result (λ types. types.items ≡ result_of_shape (numeric_shape opcode)) }
+fn push_numeric(opcode: u8, slots: &[u64], at: usize, values: &mut Vec<Val>) -> Result<(), NoMemory>
+    requires integer { is_integer (kind_of opcode) ≡ true }
+    requires small { at < 2 ^ 63 }
+    ensures { OnOk result (values.new.items
+        ≡ values.old.items ++ values_at slots.now at (result_of_shape (numeric_shape opcode))) }
 {
-    list_of_types(alloc, &[result_type(opcode)])
+    push_values(slots, at, &[result_type(opcode)], values)
 }
 
-/// The types of the operands of a numeric instruction that takes one.
+/// Appends the operand of a numeric instruction that takes one.
 #[tactic(auto, using(crate::proofs::Opcodes::one_operand))]
-fn one_operand(alloc: Global, opcode: u8) -> Result<Vec<ValType>, NoMemory>
-    requires { takes_one (kind_of opcode) ≡ true }
-    ensures { IfOk result (λ types. types.items ≡ operands_of_shape (numeric_shape opcode)) }
+fn push_one(opcode: u8, slots: &[u64], at: usize, values: &mut Vec<Val>) -> Result<(), NoMemory>
+    requires one { takes_one (kind_of opcode) ≡ true }
+    requires small { at < 2 ^ 63 }
+    ensures { OnOk result (values.new.items
+        ≡ values.old.items ++ values_at slots.now at (operands_of_shape (numeric_shape opcode))) }
 {
-    list_of_types(alloc, &[operand_type(opcode)])
+    push_values(slots, at, &[operand_type(opcode)], values)
 }
 
-/// The types of the operands of a numeric instruction that takes two.
+/// Appends the operands of a numeric instruction that takes two.
 #[tactic(auto, using(crate::proofs::Opcodes::two_operands))]
-fn two_operands(alloc: Global, opcode: u8) -> Result<Vec<ValType>, NoMemory>
-    requires { takes_two (kind_of opcode) ≡ true }
-    ensures { IfOk result (λ types. types.items ≡ operands_of_shape (numeric_shape opcode)) }
+fn push_two(opcode: u8, slots: &[u64], at: usize, values: &mut Vec<Val>) -> Result<(), NoMemory>
+    requires two { takes_two (kind_of opcode) ≡ true }
+    requires small { at < 2 ^ 63 }
+    ensures { OnOk result (values.new.items
+        ≡ values.old.items ++ values_at slots.now at (operands_of_shape (numeric_shape opcode))) }
 {
     let ty = operand_type(opcode);
-    list_of_types(alloc, &[ty, ty])
+    push_values(slots, at, &[ty, ty], values)
 }

@@ -1,9 +1,9 @@
 -- The topmost activation stands at an instruction of its function; what follows is within bounds.
-use Rattle.std.proofs.Common.{◌≡◌, subst, arith}
-use Rattle.std.specs.Prelude.{IfOk}
-use Rattle.flat_steps.specs.FlatStep.{part}
-use Rattle.wasm_interp.specs.Parts.{pause_by}
-use Rattle.wasm_interp.proofs.Entries.{turned}
+use Rattle.std.proofs.Common.{◌∷◌, [], ap, arith}
+use Rattle.flat_steps.specs.FlatStep.{turn}
+use Rattle.wasm_interp.specs.InstrEntries.{as_entry}
+use Rattle.wasm_interp.specs.Steps.{after_control}
+use Rattle.wasm_interp.proofs.Entries.{turned, turn_told}
 use Rattle.wasm_interp.proofs.Fits.{act_keeps, on_ok}
 use Rattle.wasm_interp.proofs.Safety.{base_top}
 use Rattle.wasm_interp.proofs.CodeBounds.{Stands, stands, instr_bound, after_safe, no_instr}
@@ -42,9 +42,12 @@ after_control-requires-clause-small c =
 
 pub returns-clause-done : goal.returns-clause-done
 returns-clause-done c =
-    subst (λ p. IfOk c.after_control.result (λ comes. part c.after_control.new.entries.items c.execute_and_tell_all.new.store c.after_control.new.frames c.after_control.new.slots.items (pause_by comes) ≡ p))
-    (turned c.args.flat.now c.args.store.now c.execute_and_tell_all.new.store c.args.slots.now.items c.execute_and_tell_all.new.slots.items c.args.frames.now c.in-Some.frame c.in-Some-function_at.func.now c.in-Some-instr_at.i.now c.in_ok-control.control c.args.entries.now.items c.execute_and_tell_all.new.entries.items
-    c.in-Some.ensures c.in-Some-function_at.ensures.there c.in-Some-instr_at.ensures.there c.in_ok-control.ensures.control c.in_ok-control.ensures.store c.in_ok-control.ensures.slots c.in_ok-control.ensures.entries)
+    turn_told c.after_control.result (as_entry c.execute_and_tell_all.new.entry) c.after_control.new.entries.items c.args.entries.now.items c.execute_and_tell_all.new.store c.after_control.new.frames c.after_control.new.slots.items
+    (after_control c.args.flat.now c.execute_and_tell_all.new.store c.execute_and_tell_all.new.slots.items c.args.frames.now c.in-Some-instr_at.i.now c.in_ok-control.control)
+    (turn c.args.flat.now c.args.store.now c.args.frames.now c.args.slots.now.items)
+    c.requires.none
+    (turned c.args.flat.now c.args.store.now c.execute_and_tell_all.new.store c.args.slots.now.items c.execute_and_tell_all.new.slots.items c.args.frames.now c.in-Some.frame c.in-Some-function_at.func.now c.in-Some-instr_at.i.now c.in_ok-control.control [] (as_entry c.execute_and_tell_all.new.entry ∷ [])
+    c.in-Some.ensures c.in-Some-function_at.ensures.there c.in-Some-instr_at.ensures.there c.in_ok-control.ensures.control c.in_ok-control.ensures.store c.in_ok-control.ensures.slots (ap (λ e. e ∷ []) c.in_ok-control.ensures.entry))
     c.after_control.ensures.done
 
 pub unreachable-requires-in_default-instr_at : goal.unreachable-requires-in_default-instr_at
