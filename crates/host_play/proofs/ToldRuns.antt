@@ -1,5 +1,5 @@
 -- A run that is told so far.
-use Rattle.std.proofs.Common.{◌≡◌, ℕ, ◌+◌, ◌-◌, List, [], ◌∷◌, ◌++◌, length, refl, sym, ap, ◌∙◌, subst, arith, append_assoc, Result, Ok, Err, IfOk, IfErr}
+use Rattle.std.proofs.Common.{◌≡◌, ℕ, ◌+◌, ◌-◌, List, [], ◌∷◌, ◌++◌, length, refl, sym, ap, ◌∙◌, subst, arith, append_assoc, Result, Ok, Err, IfOk, IfErr, OnOk}
 use Rattle.std.specs.Prelude.{None}
 use Rattle.std.proofs.lemmas.List.{length-append}
 use Rattle.wasm_syntax.specs.declared.modules.Module.{Module}
@@ -33,6 +33,14 @@ tells_more told new_told history entries so_far tells = record {
   text_is = tells.lines_are ∙ ap (λ t. t ++ lines entries) so_far.text_is ∙ sym (lines_after history entries);
   entries_are = tells.count_is ∙ ap (λ n. n + length entries) so_far.entries_are ∙ sym (length-append history entries);
 }
+
+-- one entry, and others after it
+pub tells_first : {T E : Type 0} (result : Result T E) (told mid new_told : ToldLines) (entry : Entry) (entries : List Entry) → Tells told mid (entry ∷ []) → OnOk result (Tells mid new_told entries) → OnOk result (Tells told new_told (entry ∷ entries))
+tells_first (Ok x) told mid new_told entry entries first tells = record {
+  lines_are = tells.lines_are ∙ ap (λ t. t ++ lines entries) first.lines_are ∙ append_assoc told.text (lines (entry ∷ [])) (lines entries) ∙ ap (λ t. told.text ++ t) (sym (lines_after (entry ∷ []) entries));
+  count_is = tells.count_is ∙ ap (λ n. n + length entries) first.count_is ∙ omega arith;
+}
+tells_first (Err refused) told mid new_told entry entries first tells = tt
 
 -- the entries with which the run starts, by what the host did first, are told
 pub tells_begun : (m : Module) (script : Script) (initial : StepResult) (budget : ℕ) (told new_told : ToldLines) (did : HostStep) (stand : Stand) (playing : PlayState)

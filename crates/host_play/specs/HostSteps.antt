@@ -37,3 +37,8 @@ play_step_of d = play_step (stand_after d) (entries_of d)
 abbrev pub play_step_result : {E : Type 0} → Result HostStep E → Result PlayStep E
 play_step_result (Ok d) = Ok (play_step_of d)
 play_step_result (Err refused) = Err refused
+
+-- a step with these entries, where it comes to a stand
+abbrev pub result_with : {E : Type 0} → List Entry → Result Stand E → Result PlayStep E
+result_with entries (Ok stand) = Ok (play_step stand entries)
+result_with entries (Err refused) = Err refused

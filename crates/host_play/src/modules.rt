@@ -3,6 +3,8 @@
 ghost use Rattle.std.specs.Prelude.{◌≡◌, ◌+◌, ◌<◌, length, IfOk, Err};
 ghost use Rattle.wasm_syntax.specs.declared.modules.Module.{Module};
 ghost use Rattle.history_spec.specs.Step.{StepResult};
+ghost use Rattle.wasm_interp.specs.InstrEntries.{entries_of};
+ghost use Rattle.host_play.specs.HostSteps.{result_with};
 ghost use Rattle.host_play.specs.Hosts.{BeginsBy, counts_after_call};
 ghost use Rattle.host_play.specs.Stands.{IsPlayed, LeadsBy, MakesStep, StandsAt, rest};
 
@@ -11,7 +13,7 @@ use crate::play_state::{Host, Hosts, PlayState, Refusal, Stand};
 use crate::scripted_host::ScriptedHost;
 use flat_steps::stores_fit;
 use history_spec::{FaultKind, Outcome};
-use wasm_interp::Pause;
+use wasm_interp::{Pause, TurnEntries};
 
 /// Makes the returns that are due.
 pub(crate) fn settle(
@@ -38,38 +40,29 @@ pub(crate) fn settle(
     }
 }
 
-/// The next instruction.
-pub(crate) fn turn(script: &ScriptedHost<'_>, playing: &mut PlayState) -> Result<PlayStep, Refusal>
+/// The next instruction: where control stands after it.
+pub(crate) fn turn(
+    script: &ScriptedHost<'_>,
+    playing: &mut PlayState,
+    entries: &mut TurnEntries,
+) -> Result<Stand, Refusal>
     requires { IsPlayed script.now Stand.Instruction playing.old }
     ensures makes { (m : Module) (s : StepResult) → StandsAt m script.now Stand.Instruction playing.old s
-        → MakesStep m script.now s result playing.new }
-    ensures less { IfOk result (λ moved. rest moved.stand playing.new < rest Stand.Instruction playing.old + 4) }
+        → MakesStep m script.now s (result_with (entries_of entries.new) result) playing.new }
+    ensures less { IfOk result (λ stand. rest stand playing.new < rest Stand.Instruction playing.old + 4) }
 {
     stores_fit();
-    let turn = playing.machine.turn()?;
-    let entries = turn.entries;
-    match turn.pause {
-        None => Ok(PlayStep {
-            stand: Stand::Instruction,
-            entries,
-        }),
-        Some(pause) => match pause {
-            Pause::Returned => Ok(PlayStep {
-                stand: Stand::Host,
-                entries,
-            }),
-            Pause::Trapped => Ok(PlayStep {
-                stand: Stand::Over {
-                    outcome: Outcome::Trapped,
-                },
-                entries,
+    let pause = playing.machine.turn_into(entries)?;
+    match pause {
+        None => Ok(Stand::Instruction),
+        Some(why) => match why {
+            Pause::Returned => Ok(Stand::Host),
+            Pause::Trapped => Ok(Stand::Over {
+                outcome: Outcome::Trapped,
             }),
             Pause::Import { index } => {
                 match begin_answer(script, &mut playing.hosts, &mut playing.counts, index) {
-                    Ok(()) => Ok(PlayStep {
-                        stand: Stand::Host,
-                        entries,
-                    }),
+                    Ok(()) => Ok(Stand::Host),
                     Err(refused) => Err(refused),
                 }
             }

@@ -3,11 +3,12 @@
 ghost use Rattle.std.specs.Prelude.{◌≡◌, ◌+◌, ◌-◌, ◌*◌, ◌<◌, ◌≤◌, IfOk};
 ghost use Rattle.wasm_syntax.specs.declared.modules.Module.{Module};
 ghost use Rattle.history_spec.specs.Step.{StepResult};
+ghost use Rattle.wasm_interp.specs.InstrEntries.{entries_of};
 ghost use Rattle.host_play.specs.HostParts.{HostGoes};
 ghost use Rattle.host_play.specs.HooksSoFar.{IsLess};
-ghost use Rattle.host_play.specs.HostSteps.{stand_after};
+ghost use Rattle.host_play.specs.HostSteps.{result_with, stand_after};
 ghost use Rattle.host_play.specs.Stands.{IsPlayed, StandsAt, rest};
-ghost use Rattle.host_play.specs.RunsSoFar.{GoesFrom, IsOn};
+ghost use Rattle.host_play.specs.RunsSoFar.{BeginsPart, GoesFrom, IsOn};
 ghost use Rattle.host_play.specs.Results.{play_fault};
 
 use crate::actions::{end, perform};
@@ -18,6 +19,7 @@ use crate::responses::next_action;
 use crate::results::PlayFault;
 use crate::scripted_host::ScriptedHost;
 use std::alloc::Global;
+use wasm_interp::TurnEntries;
 
 /// Why a step is not made, with its turn: of a number of turns these are left.
 pub(crate) fn play_fault(refusal: Refusal, turns: u64, left: u64) -> PlayFault
@@ -67,7 +69,34 @@ pub(crate) fn go_host(
     }
 }
 
-/// The next step, where a turn is left for it, or what follows without a turn, with the entries.
+/// The next instruction, where a turn is left for it: where control stands after it.
+pub(crate) fn go_instruction(
+    script: &ScriptedHost<'_>,
+    playing: &mut PlayState,
+    entries: &mut TurnEntries,
+    turns: u64,
+    left: &mut u64,
+) -> Result<Stand, PlayFault>
+    requires played { IsPlayed script.now Stand.Instruction playing.old }
+    requires left { left.old ≤ turns }
+    ensures goes { GoesFrom script.now turns Stand.Instruction playing.old left.old
+        (result_with (entries_of entries.new) result) playing.new left.new }
+    ensures less { IfOk result (λ next.
+        4 * left.new + rest next playing.new < 4 * left.old + rest Stand.Instruction playing.old) }
+    ensures left { left.new ≤ turns }
+{
+    if *left == 0 {
+        return Err(PlayFault::Spent);
+    }
+    *left -= 1;
+    match turn(script, playing, entries) {
+        Ok(next) => Ok(next),
+        Err(refusal) => Err(play_fault(refusal, turns, *left)),
+    }
+}
+
+/// Where the module or the host begins its part: what follows without a turn, or the host's next action, where a
+/// turn is left for it, with the entries.
 pub(crate) fn go(
     script: &ScriptedHost<'_>,
     alloc: Global,
@@ -78,6 +107,7 @@ pub(crate) fn go(
 ) -> Result<PlayStep, PlayFault>
     requires played { IsPlayed script.now stand playing.old }
     requires on { IsOn stand }
+    requires begins { BeginsPart stand }
     requires left { left.old ≤ turns }
     ensures goes { GoesFrom script.now turns stand playing.old left.old result playing.new left.new }
     ensures less { IfOk result (λ moved.
@@ -85,16 +115,6 @@ pub(crate) fn go(
     ensures left { left.new ≤ turns }
 {
     match stand {
-        Stand::Instruction => {
-            if *left == 0 {
-                return Err(PlayFault::Spent);
-            }
-            *left -= 1;
-            match turn(script, playing) {
-                Ok(moved) => Ok(moved),
-                Err(refusal) => Err(play_fault(refusal, turns, *left)),
-            }
-        }
         Stand::Module => match settle(script, playing) {
             Ok(moved) => Ok(moved),
             Err(refusal) => Err(play_fault(refusal, turns, *left)),
@@ -106,6 +126,7 @@ pub(crate) fn go(
             },
             Err(fault) => Err(fault),
         },
+        Stand::Instruction => unreachable!(),
         Stand::Over { .. } => unreachable!(),
     }
 }

@@ -14,7 +14,7 @@ ghost use Rattle.wasm_flat.specs.FlatCode.{flat_of};
 ghost use Rattle.host_play.specs.declared.results.PlayFault.TheVariants.{Memory};
 ghost use Rattle.host_play.specs.HostSteps.{entries_of, stand_after};
 ghost use Rattle.host_play.specs.Stands.{IsPlayed, Leads, rest};
-ghost use Rattle.host_play.specs.RunsSoFar.{IsOn, TellsOn, TellsSoFar, UpToEnd};
+ghost use Rattle.host_play.specs.RunsSoFar.{BeginsPart, IsOn, TellsOn, TellsSoFar, UpToEnd};
 ghost use Rattle.host_play.specs.Results.{IsTold};
 ghost use Rattle.host_play.specs.ToldLines.{Tells};
 
@@ -23,12 +23,13 @@ use crate::play_state::{PlayState, Stand};
 use crate::results::{PlayFault, RunEnd, Told};
 use crate::scripted_host::ScriptedHost;
 use crate::starts::start;
-use crate::steps::go;
+use crate::steps::{go, go_instruction};
 use crate::told_text::ToldText;
 use history_lines::print_outcome;
 use no_memory::NoMemory;
 use std::alloc::Global;
 use wasm_flat::Flat;
+use wasm_interp::TurnEntries;
 use wasm_store::Store;
 use wasm_syntax::{List, Module};
 
@@ -70,7 +71,16 @@ fn tell_start(
 {
     let mut text_so_far = ToldText::new(alloc);
     let stand = tell_first(alloc, &mut text_so_far, host_step)?;
-    match tell_steps(script, alloc, playing, &mut text_so_far, stand, turns) {
+    let mut entries = TurnEntries::new(alloc);
+    match tell_steps(
+        script,
+        alloc,
+        playing,
+        &mut text_so_far,
+        &mut entries,
+        stand,
+        turns,
+    ) {
         Ok(end) => told_run(text_so_far, end),
         Err(fault) => Err(fault),
     }
@@ -96,6 +106,7 @@ fn tell_steps(
     alloc: Global,
     playing: &mut PlayState,
     text_so_far: &mut ToldText,
+    entries: &mut TurnEntries,
     first: Stand,
     turns: u64,
 ) -> Result<RunEnd, PlayFault>
@@ -115,7 +126,16 @@ fn tell_steps(
                 turns: turns - left,
             });
         }
-        match tell_on(script, alloc, playing, text_so_far, stand, turns, &mut left) {
+        match tell_on(
+            script,
+            alloc,
+            playing,
+            text_so_far,
+            entries,
+            stand,
+            turns,
+            &mut left,
+        ) {
             Ok(next) => stand = next,
             Err(fault) => return Err(fault),
         }
@@ -128,12 +148,89 @@ fn tell_on(
     alloc: Global,
     playing: &mut PlayState,
     text_so_far: &mut ToldText,
+    entries: &mut TurnEntries,
     stand: Stand,
     turns: u64,
     left: &mut u64,
 ) -> Result<Stand, PlayFault>
     requires played { IsPlayed script.now stand playing.old }
     requires on { IsOn stand }
+    requires left { left.old ≤ turns }
+    ensures goes { (m : syntax.Module) (initial : StepResult)
+        → TellsSoFar m script.now initial turns text_so_far.old stand playing.old left.old
+        → TellsOn m script.now initial turns result text_so_far.new playing.new left.new }
+    ensures less { IfOk result (λ next.
+        4 * left.new + rest next playing.new < 4 * left.old + rest stand playing.old) }
+    ensures left { left.new ≤ turns }
+{
+    match stand {
+        Stand::Instruction => tell_instruction(script, playing, text_so_far, entries, turns, left),
+        Stand::Module => {
+            tell_part(
+                script,
+                alloc,
+                playing,
+                text_so_far,
+                Stand::Module,
+                turns,
+                left,
+            )
+        }
+        Stand::Host => tell_part(
+            script,
+            alloc,
+            playing,
+            text_so_far,
+            Stand::Host,
+            turns,
+            left,
+        ),
+        Stand::Over { .. } => unreachable!(),
+    }
+}
+
+/// Makes the next instruction, and tells it with the entries after its own.
+fn tell_instruction(
+    script: &ScriptedHost<'_>,
+    playing: &mut PlayState,
+    text_so_far: &mut ToldText,
+    entries: &mut TurnEntries,
+    turns: u64,
+    left: &mut u64,
+) -> Result<Stand, PlayFault>
+    requires played { IsPlayed script.now Stand.Instruction playing.old }
+    requires left { left.old ≤ turns }
+    ensures goes { (m : syntax.Module) (initial : StepResult)
+        → TellsSoFar m script.now initial turns text_so_far.old Stand.Instruction playing.old left.old
+        → TellsOn m script.now initial turns result text_so_far.new playing.new left.new }
+    ensures less { IfOk result (λ next.
+        4 * left.new + rest next playing.new < 4 * left.old + rest Stand.Instruction playing.old) }
+    ensures left { left.new ≤ turns }
+{
+    match go_instruction(script, playing, entries, turns, left) {
+        Ok(next) => {
+            let Ok(()) = text_so_far.tell_turn(entries) else {
+                return Err(PlayFault::Memory);
+            };
+            Ok(next)
+        }
+        Err(fault) => Err(fault),
+    }
+}
+
+/// Goes on where the module or the host begins its part, and tells the entries.
+fn tell_part(
+    script: &ScriptedHost<'_>,
+    alloc: Global,
+    playing: &mut PlayState,
+    text_so_far: &mut ToldText,
+    stand: Stand,
+    turns: u64,
+    left: &mut u64,
+) -> Result<Stand, PlayFault>
+    requires played { IsPlayed script.now stand playing.old }
+    requires on { IsOn stand }
+    requires begins { BeginsPart stand }
     requires left { left.old ≤ turns }
     ensures goes { (m : syntax.Module) (initial : StepResult)
         → TellsSoFar m script.now initial turns text_so_far.old stand playing.old left.old

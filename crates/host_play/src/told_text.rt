@@ -1,13 +1,17 @@
 // The text of a history while it is told.
 
-ghost use Rattle.std.specs.Prelude.{◌≡◌, ◌∷◌, [], OnOk};
+ghost use Rattle.std.specs.Prelude.{◌≡◌, ◌∷◌, ◌++◌, [], OnOk, OnErr};
+ghost use Rattle.history_spec.specs.Line.{entry_text, line};
+ghost use Rattle.history_lines.specs.Growth.{GrewByFirstPart};
+ghost use Rattle.wasm_interp.specs.InstrEntries.{as_entry, entries_of};
 ghost use Rattle.host_play.specs.ToldLines.{Tells};
 
-use history_lines::print_entry;
+use history_lines::{print_entry, print_step, print_trap};
 use history_spec::Entry;
 use no_memory::NoMemory;
 use std::alloc::Global;
 use std::marker::Model;
+use wasm_interp::{InstrEntry, TurnEntries};
 
 /// The lines of the entries so far, and how many these are.
 #[derive(Drop)]
@@ -48,6 +52,27 @@ impl ToldText {
         Ok(())
     }
 
+    /// Tells an instruction.
+    fn tell_instr(&mut self, entry: &InstrEntry) -> Result<(), NoMemory>
+        ensures { OnOk result (Tells self.old self.new (as_entry entry.now ∷ [])) }
+    {
+        print_instr(&mut self.text, entry)?;
+        let _length = self.text.len();
+        self.entries += 1;
+        Ok(())
+    }
+
+    /// Tells a turn.
+    pub(crate) fn tell_turn(&mut self, entries: &TurnEntries) -> Result<(), NoMemory>
+        ensures { OnOk result (Tells self.old self.new (entries_of entries.now)) }
+    {
+        self.tell_instr(&entries.instr)?;
+        match entries.after.as_slice() {
+            [] => Ok(()),
+            after => self.tell_all(after),
+        }
+    }
+
     /// Tells entries in order.
     pub(crate) fn tell_all(&mut self, entries: &[Entry]) -> Result<(), NoMemory>
         ensures { OnOk result (Tells self.old self.new entries.now) }
@@ -56,5 +81,26 @@ impl ToldText {
             self.tell(entry)?;
         }
         Ok(())
+    }
+}
+
+/// Appends the line of an instruction.
+fn print_instr(out: &mut Vec<u8>, entry: &InstrEntry) -> Result<(), NoMemory>
+    ensures ok { OnOk result (out.new.items ≡ out.old.items ++ line (entry_text (as_entry entry.now))) }
+    ensures refused { OnErr result (GrewByFirstPart out.old.items out.new.items
+        (line (entry_text (as_entry entry.now)))) }
+{
+    let operands = entry.operands.as_slice();
+    let results = entry.results.as_slice();
+    match entry.trap {
+        None => print_step(
+            out,
+            entry.func,
+            entry.number,
+            operands,
+            results,
+            entry.found,
+        ),
+        Some(kind) => print_trap(out, entry.func, entry.number, kind, operands, entry.found),
     }
 }

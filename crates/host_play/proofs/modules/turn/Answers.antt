@@ -1,28 +1,29 @@
 use Rattle.std.proofs.Common.{Some, ap, ◌∙◌, refl}
+use Rattle.wasm_interp.specs.InstrEntries.{entries_of, turn_of}
 use Rattle.host_play.proofs.Turns.{turn_at_instruction, turn_at_host, turn_at_trap, counted_import, import_begins, no_response}
 use Rattle.host_play.proofs.modules.turn.Goals as goal
 
 pub returns-in-None-clause-makes : goal.returns-in-None-clause-makes
 returns-in-None-clause-makes c = λ m s standing.
-    turn_at_instruction m c.args.script.now s c.args.playing.now c.turn.new.self c.in_ok-turn.turn standing c.in_ok-turn.ensures.run c.in-None.is
+    turn_at_instruction m c.args.script.now s c.args.playing.now c.turn_into.new.self (turn_of (entries_of c.turn_into.new.entries) c.in_ok-pause.pause) standing c.in_ok-pause.ensures.run c.in-None.is
 
 pub returns-in-Returned-clause-makes : goal.returns-in-Returned-clause-makes
 returns-in-Returned-clause-makes c = λ m s standing.
-    turn_at_host m c.args.script.now s c.args.playing.now c.turn.new.self c.in_ok-turn.turn standing c.in_ok-turn.ensures.run (c.in-Some.is ∙ ap (λ p. Some p) c.in-Returned.is)
+    turn_at_host m c.args.script.now s c.args.playing.now c.turn_into.new.self (turn_of (entries_of c.turn_into.new.entries) c.in_ok-pause.pause) standing c.in_ok-pause.ensures.run (c.in-Some.is ∙ ap (λ p. Some p) c.in-Returned.is)
 
 pub returns-in-Trapped-clause-makes : goal.returns-in-Trapped-clause-makes
 returns-in-Trapped-clause-makes c = λ m s standing.
-    turn_at_trap m c.args.script.now s c.args.playing.now c.turn.new.self c.in_ok-turn.turn standing c.in_ok-turn.ensures.run (c.in-Some.is ∙ ap (λ p. Some p) c.in-Trapped.is)
+    turn_at_trap m c.args.script.now s c.args.playing.now c.turn_into.new.self (turn_of (entries_of c.turn_into.new.entries) c.in_ok-pause.pause) standing c.in_ok-pause.ensures.run (c.in-Some.is ∙ ap (λ p. Some p) c.in-Trapped.is)
 
 pub begin_answer-requires : goal.begin_answer-requires
 begin_answer-requires c =
-    counted_import c.requires.0 c.args.script.now c.requires.1 c.args.playing.now c.turn.new.self c.in_ok-turn.turn c.requires.2 c.in_ok-turn.ensures.run c.in-Import.index (c.in-Some.is ∙ ap (λ p. Some p) c.in-Import.is)
+    counted_import c.requires.0 c.args.script.now c.requires.1 c.args.playing.now c.turn_into.new.self (turn_of (entries_of c.turn_into.new.entries) c.in_ok-pause.pause) c.requires.2 c.in_ok-pause.ensures.run c.in-Import.index (c.in-Some.is ∙ ap (λ p. Some p) c.in-Import.is)
 
 pub returns-in-Ok-clause-makes : goal.returns-in-Ok-clause-makes
 returns-in-Ok-clause-makes c = λ m s standing.
-    import_begins m c.args.script.now s c.args.playing.now c.turn.new.self c.in_ok-turn.turn standing c.in_ok-turn.ensures.run c.in-Import.index (c.in-Some.is ∙ ap (λ p. Some p) c.in-Import.is)
+    import_begins m c.args.script.now s c.args.playing.now c.turn_into.new.self (turn_of (entries_of c.turn_into.new.entries) c.in_ok-pause.pause) standing c.in_ok-pause.ensures.run c.in-Import.index (c.in-Some.is ∙ ap (λ p. Some p) c.in-Import.is)
     c.begin_answer.new.hosts _ refl refl refl c.in-Ok.ensures
 
 pub returns-in-Err-clause-makes : goal.returns-in-Err-clause-makes
 returns-in-Err-clause-makes c = λ m s standing.
-    no_response m c.args.script.now s c.args.playing.now c.turn.new.self c.in_ok-turn.turn standing c.in_ok-turn.ensures.run c.in-Import.index (c.in-Some.is ∙ ap (λ p. Some p) c.in-Import.is) c.in-Err.refused _ c.in-Err.ensures
+    no_response m c.args.script.now s c.args.playing.now c.turn_into.new.self (turn_of (entries_of c.turn_into.new.entries) c.in_ok-pause.pause) standing c.in_ok-pause.ensures.run c.in-Import.index (c.in-Some.is ∙ ap (λ p. Some p) c.in-Import.is) c.in-Err.refused _ c.in-Err.ensures

@@ -1,7 +1,7 @@
 use Rattle.std.proofs.Common.{◌++◌, subst}
 use Rattle.host_play.specs.ToldLines.{Tells}
 use Rattle.host_play.proofs.ToldRuns.{tells_more}
-use Rattle.host_play.proofs.tells.tell_on.Goals as goal
+use Rattle.host_play.proofs.tells.tell_part.Goals as goal
 
 pub returns-in-Ok-tell_all-clause-goes : goal.returns-in-Ok-tell_all-clause-goes
 returns-in-Ok-tell_all-clause-goes c = λ m initial t. record {
