@@ -1,5 +1,5 @@
 -- What a recording is after each kind of call.
-use Rattle.std.proofs.Common.{◌≡◌, ℕ, List, [], ◌++◌, length, Option, Some, None, Result, Ok, Err, true, false, cond, nat_eq, refl, sym, ap, ◌∙◌, subst}
+use Rattle.std.proofs.Common.{◌≡◌, List, [], ◌++◌, length, Option, Some, None, Result, Ok, Err, Bool, true, false, cond, nat_eq, refl, sym, ap, ◌∙◌, subst}
 use Rattle.std.specs.Prelude.{IfNone, IfSome, IsOk, IsSome, OnErr, OnOk, is_some}
 use Rattle.std.proofs.lemmas.List.{append-nil}
 use Rattle.wasm_syntax.specs.declared.values.Val.{Val}
@@ -8,18 +8,18 @@ use Rattle.trace_model.specs.declared.events.Event.TheVariants as events
 use Rattle.trace_model.specs.Sink.{TookAlso}
 use Rattle.history_spec.specs.Store.{Store, Memory}
 use Rattle.wasm_store.specs.Calls.{pages_in, pages_of_memory}
+use Rattle.replay_spec.specs.Observations.{Observation}
 use Rattle.replay_spec.specs.Known.{pages_of}
 use Rattle.hook_spec.specs.declared.hooks.Hook.{Hook}
 use Rattle.hook_spec.specs.Hooks.{HookCall}
-use Rattle.hook_spec.specs.Order.{OrderState}
-use Rattle.hook_spec.specs.Logs.{LogState, unless, own_events, notices_size, grown_events, observed_by, call_observations, call_events, all_observed_events, log_after_all}
+use Rattle.hook_spec.specs.Logs.{LogState, unless, own_events, notices_size, grown_events, observed_by, call_observations, call_events, all_observed_events, log_after_all, log_after_call}
 use Rattle.hook_order.specs.Orders.{OrderParts, LeadsTo, state_of}
 use Rattle.hook_order.specs.Shapes.{shape_from}
 use Rattle.shadow_memory.specs.Shadow.{Shadow}
 use Rattle.shadow_tables.specs.Tables.{Tables}
 use Rattle.recorder.specs.Known.{Show, Tells, TellsOfMemory, TellsOfTables}
 use Rattle.recorder.specs.Recordings.{Recording, Logs, Takes, order_after}
-use Rattle.recorder.proofs.Kit.{took_both, took_same}
+use Rattle.recorder.proofs.Kit.{resized, took_both, took_same}
 
 pub pages_same : (memory : Option Memory) → pages_of_memory memory ≡ pages_of memory
 pages_same None = refl
@@ -30,11 +30,33 @@ module _ {S : Type 0} (has_taken : S → List Event → Type 0) (before : Record
   abbrev call : HookCall
   call = record { kind = kind; args = args; view = view }
 
-  -- a call that the order refuses, or takes
-  pub not_led : LeadsTo before.order kind args None → order_after before call ≡ None
-  not_led h = h (length before.tables.entries) view
+  -- what it observes, and the events that are its own
+  abbrev seen : List Observation
+  seen = call_observations (shape_from before.order.shape) call
 
-  pub led : (parts : OrderParts) → LeadsTo before.order kind args (Some parts)
+  abbrev own : List Event
+  own = own_events before.order.shape.imports before.order.pending kind args view
+
+  -- the log after it, and its events, by whether it notices the size
+  log_by : (state : LogState) (b : Bool) → notices_size kind ≡ b
+      → log_after_call (shape_from before.order.shape) state call
+      ≡ cond b (record (log_after_all state seen) { noticed = pages_of view.memory }) (log_after_all state seen)
+  log_by state b noticing =
+      ap
+      (λ b. cond b (record (log_after_all state seen) { noticed = pages_of view.memory }) (log_after_all state seen))
+      noticing
+
+  events_by : (state : LogState) (b : Bool) → notices_size kind ≡ b
+      → call_events (shape_from before.order.shape) state before.order.pending call
+      ≡ all_observed_events before.order.shape.imports state seen ++ (own ++ cond b (grown_events state.noticed view) [])
+  events_by state b noticing =
+      ap
+      (λ b. all_observed_events before.order.shape.imports state seen
+      ++ (own ++ cond b (grown_events state.noticed view) []))
+      noticing
+
+  -- a call that the order takes
+  led : (parts : OrderParts) → LeadsTo before.order kind args (Some parts)
       → order_after before call ≡ Some (state_of (length before.tables.entries) parts)
   led parts h = h (length before.tables.entries) view
 
@@ -53,37 +75,27 @@ module _ {S : Type 0} (has_taken : S → List Event → Type 0) (before : Record
       }
 
   -- it is only observed
-  logs_observed : (after : Recording S) → ((n : ℕ) (pending : List Val) → own_events n pending kind args view ≡ [])
+  logs_observed : (after : Recording S) → own ≡ []
       → notices_size kind ≡ false
       → Tells has_taken before.order.shape.imports
       (record { memory = before.memory; tables = before.tables; sink = before.sink })
       (observed_by (shape_from before.order.shape) kind args view)
       (record { memory = after.memory; tables = after.tables; sink = after.sink })
       → Logs has_taken before call after
-  logs_observed after own quiet tells state shows =
-      let told = tells state shows in
-      let shape = shape_from before.order.shape in
-      let seen = call_observations shape call in (
-        subst (Show after.memory after.tables)
+  logs_observed after none quiet tells state shows =
+      let told = tells state shows in (
+        subst (Show after.memory after.tables) (sym (log_by state false quiet)) told.0,
+        took_same has_taken before.sink after.sink _ _
             (sym
-            (ap
-            (λ b. cond b (record (log_after_all state seen) { noticed = pages_of view.memory }) (log_after_all state seen))
-            quiet)) told.0,
-        took_same has_taken before.sink after.sink _ (call_events shape state before.order.pending call)
-            (sym
-            (ap
-            (λ b. all_observed_events shape.imports state seen
-            ++ (own_events shape.imports before.order.pending kind args view
-            ++ cond b (grown_events state.noticed view) []))
-            quiet
-            ∙ ap (λ o. all_observed_events shape.imports state seen ++ (o ++ []))
-            (own shape.imports before.order.pending)
-            ∙ append-nil (all_observed_events shape.imports state seen))) told.1,
+            (events_by state false quiet
+            ∙ ap (λ o. all_observed_events before.order.shape.imports state seen ++ (o ++ []))
+            none
+            ∙ append-nil (all_observed_events before.order.shape.imports state seen))) told.1,
       )
 
   -- of the memory alone, or of the tables alone
   pub takes_memory : (memory : Shadow) (sink : S) → LeadsTo before.order kind args (Some before.order)
-      → ((n : ℕ) (pending : List Val) → own_events n pending kind args view ≡ []) → notices_size kind ≡ false
+      → own ≡ [] → notices_size kind ≡ false
       → TellsOfMemory has_taken before.memory before.sink (observed_by (shape_from before.order.shape) kind args view)
       memory sink
       → Takes has_taken before call
@@ -96,7 +108,7 @@ module _ {S : Type 0} (has_taken : S → List Event → Type 0) (before : Record
 
   pub takes_tables : (tables : Tables) (sink : S) → LeadsTo before.order kind args (Some before.order)
       → length tables.entries ≡ length before.tables.entries
-      → ((n : ℕ) (pending : List Val) → own_events n pending kind args view ≡ []) → notices_size kind ≡ false
+      → own ≡ [] → notices_size kind ≡ false
       → TellsOfTables has_taken before.order.shape.imports before.tables before.sink
       (observed_by (shape_from before.order.shape) kind args view) tables sink
       → Takes has_taken before call
@@ -119,30 +131,14 @@ module _ {S : Type 0} (has_taken : S → List Event → Type 0) (before : Record
       takes_led (record { order = order; memory = before.memory; tables = before.tables; sink = sink }) parts h same shape
       refl logged
     where
-      own : List Event
-      own = own_events before.order.shape.imports before.order.pending kind args view
-
       logged : Logs has_taken before call
           (record { order = order; memory = before.memory; tables = before.tables; sink = sink })
       logged state shows = (
         subst (Show before.memory before.tables)
+            (sym (log_by state false quiet ∙ ap (log_after_all state) none)) shows,
+        took_same has_taken before.sink sink own _
             (sym
-            (ap
-            (λ b. cond b
-            (record (log_after_all state (call_observations (shape_from before.order.shape) call)) {
-              noticed = pages_of view.memory;
-            })
-            (log_after_all state (call_observations (shape_from before.order.shape) call)))
-            quiet
-            ∙ ap (log_after_all state) none)) shows,
-        took_same has_taken before.sink sink own
-            (call_events (shape_from before.order.shape) state before.order.pending call)
-            (sym
-            (ap
-            (λ b. all_observed_events before.order.shape.imports state
-            (call_observations (shape_from before.order.shape) call)
-            ++ (own ++ cond b (grown_events state.noticed view) []))
-            quiet
+            (events_by state false quiet
             ∙ ap (λ seen. all_observed_events before.order.shape.imports state seen ++ (own ++ [])) none
             ∙ append-nil own)) told,
       )
@@ -170,9 +166,6 @@ module _ {S : Type 0} (has_taken : S → List Event → Type 0) (before : Record
       })
       parts h same shape refl logged)
     where
-      own : List Event
-      own = own_events before.order.shape.imports before.order.pending kind args view
-
       grew : (state : LogState) → Show before.memory before.tables state
           → unless (nat_eq (pages_in view) before.memory.noticed) (events.Grow (pages_in view))
           ≡ grown_events state.noticed view
@@ -190,30 +183,13 @@ module _ {S : Type 0} (has_taken : S → List Event → Type 0) (before : Record
       logged state shows = (
         subst (Show (record before.memory { noticed = pages_in view }) before.tables)
             (sym
-            (ap
-            (λ b. cond b
-            (record (log_after_all state (call_observations (shape_from before.order.shape) call)) {
-              noticed = pages_of view.memory;
-            })
-            (log_after_all state (call_observations (shape_from before.order.shape) call)))
-            noticing
+            (log_by state true noticing
             ∙ ap (λ seen. record (log_after_all state seen) { noticed = pages_of view.memory }) none))
-            (record {
-              byte = shows.byte;
-              entry = shows.entry;
-              global = shows.global;
-              pages = shows.pages;
-              entries = shows.entries;
-              noticed = sym (pages_same view.memory);
-            }),
-        took_same has_taken before.sink sink _
-            (call_events (shape_from before.order.shape) state before.order.pending call)
+            (resized shows state.known.pages (pages_of view.memory) before.memory.known (pages_in view) shows.pages
+            (sym (pages_same view.memory))),
+        took_same has_taken before.sink sink _ _
             (sym
-            (ap
-            (λ b. all_observed_events before.order.shape.imports state
-            (call_observations (shape_from before.order.shape) call)
-            ++ (own ++ cond b (grown_events state.noticed view) []))
-            noticing
+            (events_by state true noticing
             ∙ ap
             (λ seen. all_observed_events before.order.shape.imports state seen
             ++ (own ++ grown_events state.noticed view))
@@ -227,11 +203,8 @@ is_err : {A E P : Type 0} (result : Result A E) → P → OnErr result P
 is_err (Ok x) h = tt
 is_err (Err e) h = h
 
-pub err_led : {S A E : Type 0} (result : Result A E) (now : Recording S) (call : HookCall) (before : Recording S)
-    → before ≡ now → (next : OrderState) → order_after before call ≡ Some next
-    → OnErr result (IsSome (order_after now call))
-err_led result now call before same next h =
-    is_err result (subst (λ r. IsSome (order_after r call)) same (ap is_some h))
+pub err_led : {A E X : Type 0} (result : Result A E) {o : Option X} {x : X} → o ≡ Some x → OnErr result (IsSome o)
+err_led result is = is_err result (ap is_some is)
 
 -- what follows from what holds where memory was enough
 pub on_ok : {A E P Q : Type 0} (result : Result A E) → (P → Q) → OnOk result P → OnOk result Q

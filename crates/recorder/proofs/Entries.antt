@@ -14,7 +14,7 @@ use Rattle.hook_spec.specs.Hooks.{original}
 use Rattle.hook_spec.specs.Logs.{LogState, unless, same_entry, same_bits, all_observed_events}
 use Rattle.shadow_tables.specs.Tables.{Tables}
 use Rattle.recorder.specs.Known.{TellsOfTables}
-use Rattle.recorder.proofs.Kit.{took_none, took_same}
+use Rattle.recorder.proofs.Kit.{took_none, took_same, with_entries, with_globals}
 
 or_none : {X : Type 0} (a : Option X) → option_or a None ≡ a
 or_none None = refl
@@ -37,14 +37,7 @@ module _ {S : Type 0} (has_taken : S → List Event → Type 0) (n : ℕ) (table
   reaches_known sink index found below memory state shows =
       let p' : nat_lt index (length tables.entries) ≡ true = grind (arith, nat_tests, below) in
       let p : nat_lt index state.known.entries ≡ true = ap (nat_lt index) shows.entries ∙ p' in (
-        record {
-          byte = shows.byte;
-          entry = shows.entry;
-          global = shows.global;
-          pages = shows.pages;
-          entries = ap (λ b. cond b state.known.entries found) p ∙ shows.entries;
-          noticed = shows.noticed;
-        },
+        with_entries shows _ _ tables.entries shows.entry (ap (λ b. cond b state.known.entries found) p ∙ shows.entries),
         took_same has_taken sink sink [] (all_observed_events n state (ReachesEntry index found ∷ []))
             (sym (ap (λ b. cond b [] (unless (nat_eq found state.known.entries) (Table found)) ++ []) p))
             (took_none has_taken sink),
@@ -64,14 +57,9 @@ module _ {S : Type 0} (has_taken : S → List Event → Type 0) (n : ℕ) (table
         length-append tables.entries (replicate (found - length tables.entries) None),
         length-replicate {A = Option ℕ} (found - length tables.entries) None,
       ) in (
-        record {
-          byte = shows.byte;
-          entry = λ at. shows.entry at ∙ padded tables.entries (found - length tables.entries) at;
-          global = shows.global;
-          pages = shows.pages;
-          entries = ap (λ b. cond b state.known.entries found) p ∙ size;
-          noticed = shows.noticed;
-        },
+        with_entries shows _ _ (tables.entries ++ replicate (found - length tables.entries) None)
+            (λ at. shows.entry at ∙ padded tables.entries (found - length tables.entries) at)
+            (ap (λ b. cond b state.known.entries found) p ∙ size),
         took_same has_taken sink sink' _ (all_observed_events n state (ReachesEntry index found ∷ []))
             (sym
             (ap (λ b. cond b [] (unless (nat_eq found state.known.entries) (Table found)) ++ []) p
@@ -136,14 +124,8 @@ module _ {S : Type 0} (has_taken : S → List Event → Type 0) (n : ℕ) (table
   finds_entry sink sink' callee is apart told memory state shows =
       let p : same_entry (state.known.entry index) func ≡ false =
       ap (λ known. same_entry known func) (shows.entry index) ∙ differs_test tables.entries index func below apart in (
-        record {
-          byte = shows.byte;
-          entry = λ at. entry at (nat_eq index at) refl;
-          global = shows.global;
-          pages = shows.pages;
-          entries = shows.entries ∙ sym (length-set tables.entries index func);
-          noticed = shows.noticed;
-        },
+        with_entries shows _ _ (slice_set tables.entries index func) (λ at. entry at (nat_eq index at) refl)
+            (shows.entries ∙ sym (length-set tables.entries index func)),
         took_same has_taken sink sink' _ (all_observed_events n state (ReadsEntry index func ∷ []))
             (ap (λ c. Entry index c ∷ []) (sym is) ∙ sym (events_by state false p)) told,
       )
@@ -168,14 +150,8 @@ module _ {S : Type 0} (has_taken : S → List Event → Type 0) (n : ℕ) (table
       let q = same_test tables.entries index func below same in
       let p : same_entry (state.known.entry index) func ≡ true =
       ap (λ known. same_entry known func) (shows.entry index) ∙ q in (
-        record {
-          byte = shows.byte;
-          entry = λ at. entry (same_is (slice_index_or tables.entries index None) func q) at (nat_eq index at) refl;
-          global = shows.global;
-          pages = shows.pages;
-          entries = shows.entries;
-          noticed = shows.noticed;
-        },
+        with_entries shows _ _ tables.entries
+            (λ at. entry (same_is (slice_index_or tables.entries index None) func q) at (nat_eq index at) refl) shows.entries,
         took_same has_taken sink sink _ (all_observed_events n state (ReadsEntry index func ∷ []))
             (sym (events_by state true p)) (took_none has_taken sink),
       )
@@ -244,6 +220,17 @@ module _ (globals : List Val) (global : ℕ) (value : Val)
       go None is h = cc
       go (Some known) is h = slice_get_within globals global known is
 
+  -- the types stay where it is set
+  pub types_stay : map (λ known. known.ty) (slice_set globals global value) ≡ map (λ known. known.ty) globals
+  types_stay = go globals global typed
+    where
+      go : (globals : List Val) (index : ℕ) → option_map (λ known. known.ty) (slice_get globals index) ≡ Some value.ty
+          → map (λ known. known.ty) (slice_set globals index value) ≡ map (λ known. known.ty) globals
+      go [] index h = cc
+      go (x ∷ xs) zero h =
+          let e : x.ty ≡ value.ty = cc in ap (λ t. t ∷ map (λ known. known.ty) xs) (sym e)
+      go (x ∷ xs) (suc index) h = ap (λ types. x.ty ∷ types) (go xs index h)
+
 -- a global that is set, and the others
 set_here : (globals : List Val) (index : ℕ) (value : Val) → index < length globals
     → slice_get (slice_set globals index value) index ≡ Some value
@@ -284,17 +271,10 @@ module _ {S : Type 0} (has_taken : S → List Event → Type 0) (n : ℕ) (table
   finds_global sink sink' apart told memory state shows =
       let p : same_bits (state.known.global global) value ≡ false =
       ap (λ known. same_bits known value) (shows.global global) ∙ bits_differ tables.globals global value typed apart in (
-        record {
-          byte = shows.byte;
-          entry = shows.entry;
-          global = λ at.
-              ap (λ o. unwrap_or o (state.known.global at)) (or_none (cond (nat_eq global at) (Some (Some value)) None))
-              ∙ set_global tables.globals global at value (is_below tables.globals global value typed) (nat_eq global at)
-              refl (state.known.global at) (shows.global at);
-          pages = shows.pages;
-          entries = shows.entries;
-          noticed = shows.noticed;
-        },
+        with_globals shows _ (slice_set tables.globals global value) (λ at.
+            ap (λ o. unwrap_or o (state.known.global at)) (or_none (cond (nat_eq global at) (Some (Some value)) None))
+            ∙ set_global tables.globals global at value (is_below tables.globals global value typed) (nat_eq global at)
+            refl (state.known.global at) (shows.global at)),
         took_same has_taken sink sink' _ (all_observed_events n state (ReadsGlobal global value ∷ []))
             (sym (global_events state false p)) told,
       )
@@ -304,14 +284,8 @@ module _ {S : Type 0} (has_taken : S → List Event → Type 0) (n : ℕ) (table
   knows_global sink same memory state shows =
       let p : same_bits (state.known.global global) value ≡ true =
       ap (λ known. same_bits known value) (shows.global global) ∙ bits_same tables.globals global value typed same in (
-        record {
-          byte = shows.byte;
-          entry = shows.entry;
-          global = λ at. known (is_value tables.globals global value typed same) at (nat_eq global at) refl;
-          pages = shows.pages;
-          entries = shows.entries;
-          noticed = shows.noticed;
-        },
+        with_globals shows _ tables.globals (λ at.
+            known (is_value tables.globals global value typed same) at (nat_eq global at) refl),
         took_same has_taken sink sink _ (all_observed_events n state (ReadsGlobal global value ∷ []))
             (sym (global_events state true p)) (took_none has_taken sink),
       )
@@ -327,26 +301,8 @@ module _ {S : Type 0} (has_taken : S → List Event → Type 0) (n : ℕ) (table
       → TellsOfTables has_taken n tables sink (WritesGlobal global value ∷ [])
       (record tables { globals = slice_set tables.globals global value }) sink
   writes_global sink memory state shows = (
-    record {
-      byte = shows.byte;
-      entry = shows.entry;
-      global = λ at.
-          set_global tables.globals global at value (is_below tables.globals global value typed) (nat_eq global at) refl
-          (state.known.global at) (shows.global at);
-      pages = shows.pages;
-      entries = shows.entries;
-      noticed = shows.noticed;
-    },
+    with_globals shows _ (slice_set tables.globals global value) (λ at.
+        set_global tables.globals global at value (is_below tables.globals global value typed) (nat_eq global at) refl
+        (state.known.global at) (shows.global at)),
     took_none has_taken sink,
   )
-
-  pub types_stay : map (λ known. known.ty) (slice_set tables.globals global value)
-      ≡ map (λ known. known.ty) tables.globals
-  types_stay = go tables.globals global typed
-    where
-      go : (globals : List Val) (index : ℕ) → option_map (λ known. known.ty) (slice_get globals index) ≡ Some value.ty
-          → map (λ known. known.ty) (slice_set globals index value) ≡ map (λ known. known.ty) globals
-      go [] index h = cc
-      go (x ∷ xs) zero h =
-          let e : x.ty ≡ value.ty = cc in ap (λ t. t ∷ map (λ known. known.ty) xs) (sym e)
-      go (x ∷ xs) (suc index) h = ap (λ types. x.ty ∷ types) (go xs index h)

@@ -1,11 +1,14 @@
 -- What sinks take and what shadows show, after observations one after another.
-use Rattle.std.proofs.Common.{◌≡◌, ℕ, List, [], ◌∷◌, ◌++◌, sym, ap, subst}
+use Rattle.std.proofs.Common.{◌≡◌, ℕ, List, [], ◌∷◌, ◌++◌, length, Option, None, slice_get, slice_index_or, sym, ap, subst}
 use Rattle.std.proofs.lemmas.List.{append_assoc, append-nil}
+use Rattle.wasm_syntax.specs.declared.values.Val.{Val}
 use Rattle.trace_model.specs.declared.events.Event.{Event}
 use Rattle.trace_model.specs.Sink.{TookAlso}
 use Rattle.replay_spec.specs.Observations.{Observation}
-use Rattle.hook_spec.specs.Logs.{observed_events, all_observed_events, log_after}
-use Rattle.recorder.specs.Known.{Keeper, Tells}
+use Rattle.hook_spec.specs.Logs.{LogState, observed_events, all_observed_events, log_after}
+use Rattle.shadow_memory.specs.Shadow.{Shadow}
+use Rattle.shadow_tables.specs.Tables.{Tables}
+use Rattle.recorder.specs.Known.{Keeper, Show, Tells}
 
 module _ {S : Type 0} (has_taken : S → List Event → Type 0) where
   -- nothing was taken
@@ -43,3 +46,49 @@ module _ {S : Type 0} (has_taken : S → List Event → Type 0) where
               (append-nil (observed_events n state o)))
               joined,
         )
+
+-- other sizes are known, and another one was noticed
+pub resized : {memory : Shadow} {tables : Tables} {state : LogState} → Show memory tables state
+    → (pages noticed known found : ℕ) → pages ≡ known → noticed ≡ found
+    → Show (record memory { known = known; noticed = found }) tables
+    (record { known = record state.known { pages = pages }; noticed = noticed })
+resized shows pages noticed known found same_pages same_noticed =
+    record {
+      byte = shows.byte;
+      entry = shows.entry;
+      global = shows.global;
+      pages = same_pages;
+      entries = shows.entries;
+      noticed = same_noticed;
+    }
+
+-- other entries are known
+pub with_entries : {memory : Shadow} {tables : Tables} {state : LogState} → Show memory tables state
+    → (entry : ℕ → Option ℕ) (size : ℕ) (entries : List (Option ℕ))
+    → ((at : ℕ) → entry at ≡ slice_index_or entries at None) → size ≡ length entries
+    → Show memory (record tables { entries = entries })
+    (record state { known = record state.known { entry = entry; entries = size } })
+with_entries shows entry size entries same same_size =
+    record {
+      byte = shows.byte;
+      entry = same;
+      global = shows.global;
+      pages = shows.pages;
+      entries = same_size;
+      noticed = shows.noticed;
+    }
+
+-- other globals
+pub with_globals : {memory : Shadow} {tables : Tables} {state : LogState} → Show memory tables state
+    → (global : ℕ → Option Val) (globals : List Val) → ((at : ℕ) → global at ≡ slice_get globals at)
+    → Show memory (record tables { globals = globals })
+    (record state { known = record state.known { global = global } })
+with_globals shows global globals same =
+    record {
+      byte = shows.byte;
+      entry = shows.entry;
+      global = same;
+      pages = shows.pages;
+      entries = shows.entries;
+      noticed = shows.noticed;
+    }

@@ -18,7 +18,7 @@ use Rattle.shadow_memory.specs.Opening as memories
 use Rattle.shadow_tables.specs.Tables.{Tables}
 use Rattle.shadow_tables.specs.Tables as tables_of
 use Rattle.recorder.specs.Known.{Show}
-use Rattle.recorder.specs.Recordings.{HaveTypes}
+use Rattle.recorder.specs.Known.{HaveTypes}
 use Rattle.recorder.specs.Recorders.{StandsAt}
 use Rattle.recorder.proofs.Arms.{pages_same}
 

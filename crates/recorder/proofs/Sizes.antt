@@ -13,7 +13,7 @@ use Rattle.hook_spec.specs.Logs.{LogState, unless, seen_events, all_observed_eve
 use Rattle.shadow_memory.specs.Shadow.{Shadow, HasTaken}
 use Rattle.shadow_tables.specs.Tables.{Tables}
 use Rattle.recorder.specs.Known.{Show, TellsOfMemory}
-use Rattle.recorder.proofs.Kit.{took_none, took_same}
+use Rattle.recorder.proofs.Kit.{resized, took_none, took_same}
 
 module _ {S : Type 0} (has_taken : S → List Event → Type 0) (memory : Shadow) where
   -- the event of a size that is seen, by what the shadow says
@@ -30,15 +30,8 @@ module _ {S : Type 0} (has_taken : S → List Event → Type 0) (memory : Shadow
       let near' : nat_le last (memory.known * PAGE_SIZE) ≡ true = grind (arith, nat_tests, near) in
       let p : nat_le last (state.known.pages * PAGE_SIZE) ≡ true =
       ap (λ known. nat_le last (known * PAGE_SIZE)) shows.pages ∙ near' in (
-        record {
-          byte = shows.byte;
-          entry = shows.entry;
-          global = shows.global;
-          pages = ap (λ b. cond b state.known.pages found) p ∙ shows.pages;
-          entries = shows.entries;
-          noticed =
-              ap (λ b. cond (cond b false true) (cond b state.known.pages found) state.noticed) p ∙ shows.noticed;
-        },
+        resized shows _ _ memory.known memory.noticed (ap (λ b. cond b state.known.pages found) p ∙ shows.pages)
+            (ap (λ b. cond (cond b false true) (cond b state.known.pages found) state.noticed) p ∙ shows.noticed),
         took_same has_taken sink sink [] (all_observed_events n state (Reaches last found ∷ []))
             (sym (ap (λ b. (cond (cond b false true) (seen_events state) [] ++ []) ++ []) p)) (took_none has_taken sink),
       )
@@ -52,14 +45,8 @@ module _ {S : Type 0} (has_taken : S → List Event → Type 0) (memory : Shadow
       let far' : nat_le last (memory.known * PAGE_SIZE) ≡ false = grind (arith, nat_tests, far) in
       let p : nat_le last (state.known.pages * PAGE_SIZE) ≡ false =
       ap (λ known. nat_le last (known * PAGE_SIZE)) shows.pages ∙ far' in (
-        record {
-          byte = shows.byte;
-          entry = shows.entry;
-          global = shows.global;
-          pages = ap (λ b. cond b state.known.pages found) p;
-          entries = shows.entries;
-          noticed = ap (λ b. cond (cond b false true) (cond b state.known.pages found) state.noticed) p;
-        },
+        resized shows _ _ found found (ap (λ b. cond b state.known.pages found) p)
+            (ap (λ b. cond (cond b false true) (cond b state.known.pages found) state.noticed) p),
         took_same has_taken sink sink' _ (all_observed_events n state (Reaches last found ∷ []))
             (seen_same tables state shows
             ∙ sym (append-nil (seen_events state))
@@ -73,14 +60,7 @@ module _ {S : Type 0} (has_taken : S → List Event → Type 0) (memory : Shadow
       → TellsOfMemory has_taken memory sink (Resizes found left ∷ [])
       (record memory { known = left; noticed = left }) sink'
   resizes sink sink' found left told n tables state shows = (
-    record {
-      byte = shows.byte;
-      entry = shows.entry;
-      global = shows.global;
-      pages = refl;
-      entries = shows.entries;
-      noticed = refl;
-    },
+    resized shows left left left left refl refl,
     took_same has_taken sink sink' _ (all_observed_events n state (Resizes found left ∷ []))
         (seen_same tables state shows
         ∙ sym (append-nil (seen_events state))

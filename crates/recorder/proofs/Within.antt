@@ -1,6 +1,5 @@
 -- Loads, stores, copies and fills: what they reach, and what they read and write where that is within the memory.
-use Rattle.std.proofs.Common.{◌≡◌, ℕ, zero, suc, ◌+◌, ◌/◌, List, [], ◌∷◌, length, take, drop, Option, Some, None, Bool, true, false, cond, nat_le, is_some, replicate, refl, sym, ap, ◌∙◌, subst}
-use Rattle.std.proofs.lemmas.List.{length-replicate}
+use Rattle.std.proofs.Common.{◌≡◌, ℕ, zero, suc, ◌+◌, ◌/◌, List, [], ◌∷◌, length, take, drop, Option, Some, None, Bool, true, false, cond, nat_le, is_some, refl, sym, ap, ◌∙◌, subst}
 use Rattle.trace_model.specs.declared.events.Event.{Event}
 use Rattle.history_spec.specs.Store.{Store, Memory, pages, bytes_at, bytes_of, with_bytes_at, with_items_at}
 use Rattle.wasm_store.specs.Calls.{bytes_in, bytes_of_memory, pages_in, pages_of_memory}
@@ -52,7 +51,7 @@ on_written bytes address count news seen long b p =
 
 -- ---- how long what is written is
 
-number_length : (width number : ℕ) → length (bytes_of width number) ≡ width
+pub number_length : (width number : ℕ) → length (bytes_of width number) ≡ width
 number_length zero number = refl
 number_length (suc width) number = ap suc (number_length width (number / 256))
 
@@ -115,7 +114,7 @@ module _ {S : Type 0} (has_taken : S → List Event → Type 0) where
 
     -- ---- stores and fills
 
-    stores_within : (address count : ℕ) (news part : List ℕ) (c : Shadow) → length news ≡ count
+    pub stores_within : (address count : ℕ) (news part : List ℕ) (c : Shadow) → length news ≡ count
         → TellsOfMemory has_taken a s (Reaches (address + count) (pages_of_memory memory) ∷ []) b t
         → bytes_at (bytes_of_memory memory) address count ≡ Some part
         → HasTaken b address news c
@@ -137,7 +136,7 @@ module _ {S : Type 0} (has_taken : S → List Event → Type 0) where
             (is_there memory.bytes address count part found)))
             (writes has_taken b t address news c taken))
 
-    stores_past : (address count : ℕ) (news : List ℕ) → length news ≡ count
+    pub stores_past : (address count : ℕ) (news : List ℕ) → length news ≡ count
         → TellsOfMemory has_taken a s (Reaches (address + count) (pages_of_memory memory) ∷ []) b t
         → bytes_at (bytes_of_memory memory) address count ≡ None
         → TellsOfMemory has_taken a s (on memory (store_observations address count news)) b t
@@ -154,35 +153,6 @@ module _ {S : Type 0} (has_taken : S → List Event → Type 0) where
             (tells_no_more b t (observed.on (with_bytes_at memory.bytes address news) (λ all. Writes address news ∷ []))
             (on_written memory.bytes address count news (Writes address news ∷ []) long false
             (is_past memory.bytes address count past)))
-
-    pub stores_number : (address width bits : ℕ) (part : List ℕ) (c : Shadow)
-        → TellsOfMemory has_taken a s (Reaches (address + width) (pages_of_memory memory) ∷ []) b t
-        → bytes_at (bytes_of_memory memory) address width ≡ Some part
-        → HasTaken b address (bytes_of width bits) c
-        → TellsOfMemory has_taken a s (on memory (store_observations address width (bytes_of width bits))) c t
-    stores_number address width bits part c =
-        stores_within address width (bytes_of width bits) part c (number_length width bits)
-
-    pub numbers_past : (address width bits : ℕ)
-        → TellsOfMemory has_taken a s (Reaches (address + width) (pages_of_memory memory) ∷ []) b t
-        → bytes_at (bytes_of_memory memory) address width ≡ None
-        → TellsOfMemory has_taken a s (on memory (store_observations address width (bytes_of width bits))) b t
-    numbers_past address width bits = stores_past address width (bytes_of width bits) (number_length width bits)
-
-    pub stores_same : (address count byte : ℕ) (part : List ℕ) (c : Shadow)
-        → TellsOfMemory has_taken a s (Reaches (address + count) (pages_of_memory memory) ∷ []) b t
-        → bytes_at (bytes_of_memory memory) address count ≡ Some part
-        → HasTaken b address (replicate count byte) c
-        → TellsOfMemory has_taken a s (on memory (store_observations address count (replicate count byte))) c t
-    stores_same address count byte part c =
-        stores_within address count (replicate count byte) part c (length-replicate {A = ℕ} count byte)
-
-    pub fills_past : (address count byte : ℕ)
-        → TellsOfMemory has_taken a s (Reaches (address + count) (pages_of_memory memory) ∷ []) b t
-        → bytes_at (bytes_of_memory memory) address count ≡ None
-        → TellsOfMemory has_taken a s (on memory (store_observations address count (replicate count byte))) b t
-    fills_past address count byte =
-        stores_past address count (replicate count byte) (length-replicate {A = ℕ} count byte)
 
     -- ---- copies
 
@@ -293,28 +263,18 @@ module _ {S : Type 0} (has_taken : S → List Event → Type 0) (view : Store) (
       loads_within has_taken view.memory there a b s t address count part c u reached (part_is ∙ is)
       (subst (λ at. TellsOfMemory has_taken b t (Reads at part ∷ []) c u) starts reads)
 
-  pub store_past : (bits : ℕ) → bytes_at bytes start count ≡ None
-      → TellsOfMemory has_taken a s (on view.memory (store_observations address count (bytes_of count bits))) b t
-  store_past bits past =
-      numbers_past has_taken view.memory there a b s t address count bits reached (part_is ∙ past)
+  module _ (news : List ℕ) (long : length news ≡ count) where
+    pub store_past : bytes_at bytes start count ≡ None
+        → TellsOfMemory has_taken a s (on view.memory (store_observations address count news)) b t
+    store_past past =
+        stores_past has_taken view.memory there a b s t address count news long reached (part_is ∙ past)
 
-  pub store_there : (bits : ℕ) (part : List ℕ) (c : Shadow) → bytes_at bytes start count ≡ Some part
-      → HasTaken b start (bytes_of count bits) c
-      → TellsOfMemory has_taken a s (on view.memory (store_observations address count (bytes_of count bits))) c t
-  store_there bits part c is taken =
-      stores_number has_taken view.memory there a b s t address count bits part c reached (part_is ∙ is)
-      (subst (λ at. HasTaken b at (bytes_of count bits) c) starts taken)
-
-  pub fill_past : (byte : ℕ) → bytes_at bytes start count ≡ None
-      → TellsOfMemory has_taken a s (on view.memory (store_observations address count (replicate count byte))) b t
-  fill_past byte past =
-      fills_past has_taken view.memory there a b s t address count byte reached (part_is ∙ past)
-
-  pub fill_there : (byte : ℕ) (part : List ℕ) (c : Shadow) → bytes_at bytes start count ≡ Some part
-      → HasTaken b address (replicate count byte) c
-      → TellsOfMemory has_taken a s (on view.memory (store_observations address count (replicate count byte))) c t
-  fill_there byte part c is taken =
-      stores_same has_taken view.memory there a b s t address count byte part c reached (part_is ∙ is) taken
+    pub store_there : (part : List ℕ) (c : Shadow) (at : ℕ) → at ≡ address → bytes_at bytes start count ≡ Some part
+        → HasTaken b at news c
+        → TellsOfMemory has_taken a s (on view.memory (store_observations address count news)) c t
+    store_there part c at same is taken =
+        stores_within has_taken view.memory there a b s t address count news part c long reached (part_is ∙ is)
+        (subst (λ at. HasTaken b at news c) same taken)
 
 pub copy_all : {S : Type 0} (has_taken : S → List Event → Type 0) (view : Store) (a next b c : Shadow) (s middle t u : S)
     (to source count last last' found found' : ℕ) (bytes : List ℕ)

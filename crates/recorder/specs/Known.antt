@@ -1,11 +1,17 @@
 -- What a recorder knows of a store, what its sink has taken, and how observations change both.
-use Rattle.std.specs.Prelude.{◌≡◌, ℕ, List, length, None, slice_get, slice_index, slice_index_or}
+use Rattle.std.specs.Prelude.{◌≡◌, ℕ, List, length, map, None, slice_get, slice_index, slice_index_or}
+use Rattle.wasm_syntax.specs.declared.values.Val.{Val}
+use Rattle.wasm_syntax.specs.declared.signatures.GlobalType.{GlobalType}
 use Rattle.trace_model.specs.declared.events.Event.{Event}
 use Rattle.trace_model.specs.Sink.{TookAlso}
 use Rattle.replay_spec.specs.Observations.{Observation}
 use Rattle.hook_spec.specs.Logs.{LogState, all_observed_events, log_after_all}
 use Rattle.shadow_memory.specs.Shadow.{Shadow}
 use Rattle.shadow_tables.specs.Tables.{Tables}
+
+-- known globals have their types
+abbrev pub HaveTypes : List GlobalType → List Val → Type 0
+HaveTypes types values = map (λ value. value.ty) values ≡ map (λ ty. ty.ty) types
 
 -- shadows show what the log knows: each byte, entry and global, the sizes, and the memory's size that was noticed last
 pub record Show (memory : Shadow) (tables : Tables) (state : LogState) : Type 0 where

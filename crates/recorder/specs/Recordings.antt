@@ -1,7 +1,5 @@
 -- The steps of a recorder, before its calls are counted.
-use Rattle.std.specs.Prelude.{◌≡◌, List, length, map, Option, Some, None, Bool, true, false}
-use Rattle.wasm_syntax.specs.declared.values.Val.{Val}
-use Rattle.wasm_syntax.specs.declared.signatures.GlobalType.{GlobalType}
+use Rattle.std.specs.Prelude.{◌≡◌, List, length, Option, Some, None, Bool, true, false}
 use Rattle.trace_model.specs.declared.events.Event.{Event}
 use Rattle.trace_model.specs.Sink.{TookAlso}
 use Rattle.hook_spec.specs.Hooks.{HookCall}
@@ -12,6 +10,7 @@ use Rattle.hook_order.specs.Shapes.{shape_from}
 use Rattle.shadow_memory.specs.Shadow.{Shadow}
 use Rattle.shadow_tables.specs.Tables.{Tables}
 use Rattle.recorder.specs.Known.{Show}
+use Rattle.recorder.specs.declared.recording.Recording as recording
 
 -- where the calls stand, what is known, and the sink of the events
 pub record Recording (S : Type 0) : Type 0 where
@@ -20,9 +19,10 @@ pub record Recording (S : Type 0) : Type 0 where
   pub tables : Tables
   pub sink : S
 
--- known globals have their types
-abbrev pub HaveTypes : List GlobalType → List Val → Type 0
-HaveTypes types values = map (λ value. value.ty) values ≡ map (λ ty. ty.ty) types
+-- these, of the fields
+abbrev pub recording_of : {S : Type 0} → recording.Recording S → Recording S
+recording_of fields =
+    record { order = fields.order; memory = fields.memory; tables = fields.tables; sink = fields.sink }
 
 -- from whatever a recording shows, a call leads to what it shows afterwards, and its sink took the call's events
 abbrev pub Logs : {S : Type 0} → (has_taken : S → List Event → Type 0) → Recording S → HookCall → Recording S → Type 0

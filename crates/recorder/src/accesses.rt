@@ -2,7 +2,7 @@
 
 ghost use Rattle.std.specs.Prelude.{IfOk, IsSome, OnErr};
 ghost use Rattle.hook_spec.specs.declared.hooks.Hook.TheVariants as hooks;
-ghost use Rattle.recorder.specs.Recordings.{order_after, IsTaken};
+ghost use Rattle.recorder.specs.Recordings.{order_after, recording_of, IsTaken};
 
 use crate::memory;
 use crate::recording::Recording;
@@ -16,9 +16,9 @@ impl<S: EventSink> Recording<S> {
     /// A load.
     #[inline]
     pub(crate) fn load(&mut self, args: &[Val], view: &View) -> Result<bool, NoMemory>
-        ensures ok { IfOk result (λ may. IsTaken S.has_taken self.old
-            (record { kind = hooks.Load; args = args.now; view = view.now }) may self.new) }
-        ensures err { OnErr result (IsSome (order_after self.old
+        ensures ok { IfOk result (λ may. IsTaken S.has_taken (recording_of self.old)
+            (record { kind = hooks.Load; args = args.now; view = view.now }) may (recording_of self.new)) }
+        ensures err { OnErr result (IsSome (order_after (recording_of self.old)
             (record { kind = hooks.Load; args = args.now; view = view.now }))) }
     {
         let Some(access) = self.order.loaded(args) else {
@@ -31,9 +31,9 @@ impl<S: EventSink> Recording<S> {
     /// A store.
     #[inline]
     pub(crate) fn store(&mut self, args: &[Val], view: &View) -> Result<bool, NoMemory>
-        ensures ok { IfOk result (λ may. IsTaken S.has_taken self.old
-            (record { kind = hooks.Store; args = args.now; view = view.now }) may self.new) }
-        ensures err { OnErr result (IsSome (order_after self.old
+        ensures ok { IfOk result (λ may. IsTaken S.has_taken (recording_of self.old)
+            (record { kind = hooks.Store; args = args.now; view = view.now }) may (recording_of self.new)) }
+        ensures err { OnErr result (IsSome (order_after (recording_of self.old)
             (record { kind = hooks.Store; args = args.now; view = view.now }))) }
     {
         let Some((access, bits)) = self.order.stored(args) else {
@@ -46,9 +46,9 @@ impl<S: EventSink> Recording<S> {
     /// The memory's size is read.
     #[inline]
     pub(crate) fn size(&mut self, args: &[Val], view: &View) -> Result<bool, NoMemory>
-        ensures ok { IfOk result (λ may. IsTaken S.has_taken self.old
-            (record { kind = hooks.Size; args = args.now; view = view.now }) may self.new) }
-        ensures err { OnErr result (IsSome (order_after self.old
+        ensures ok { IfOk result (λ may. IsTaken S.has_taken (recording_of self.old)
+            (record { kind = hooks.Size; args = args.now; view = view.now }) may (recording_of self.new)) }
+        ensures err { OnErr result (IsSome (order_after (recording_of self.old)
             (record { kind = hooks.Size; args = args.now; view = view.now }))) }
     {
         if !self.order.sees_size(args) {
@@ -61,9 +61,9 @@ impl<S: EventSink> Recording<S> {
     /// The memory was grown.
     #[inline]
     pub(crate) fn grow(&mut self, args: &[Val], view: &View) -> Result<bool, NoMemory>
-        ensures ok { IfOk result (λ may. IsTaken S.has_taken self.old
-            (record { kind = hooks.Grow; args = args.now; view = view.now }) may self.new) }
-        ensures err { OnErr result (IsSome (order_after self.old
+        ensures ok { IfOk result (λ may. IsTaken S.has_taken (recording_of self.old)
+            (record { kind = hooks.Grow; args = args.now; view = view.now }) may (recording_of self.new)) }
+        ensures err { OnErr result (IsSome (order_after (recording_of self.old)
             (record { kind = hooks.Grow; args = args.now; view = view.now }))) }
     {
         if !self.order.grows(args) {
@@ -76,9 +76,9 @@ impl<S: EventSink> Recording<S> {
     /// A global was read.
     #[inline]
     pub(crate) fn gget(&mut self, args: &[Val], _view: &View) -> Result<bool, NoMemory>
-        ensures ok { IfOk result (λ may. IsTaken S.has_taken self.old
-            (record { kind = hooks.Gget; args = args.now; view = _view.now }) may self.new) }
-        ensures err { OnErr result (IsSome (order_after self.old
+        ensures ok { IfOk result (λ may. IsTaken S.has_taken (recording_of self.old)
+            (record { kind = hooks.Gget; args = args.now; view = _view.now }) may (recording_of self.new)) }
+        ensures err { OnErr result (IsSome (order_after (recording_of self.old)
             (record { kind = hooks.Gget; args = args.now; view = _view.now }))) }
     {
         let Some(told) = self.order.read_global(args) else {
@@ -91,9 +91,9 @@ impl<S: EventSink> Recording<S> {
     /// A global is set.
     #[inline]
     pub(crate) fn gset(&mut self, args: &[Val], _view: &View) -> Result<bool, NoMemory>
-        ensures ok { IfOk result (λ may. IsTaken S.has_taken self.old
-            (record { kind = hooks.Gset; args = args.now; view = _view.now }) may self.new) }
-        ensures err { OnErr result (IsSome (order_after self.old
+        ensures ok { IfOk result (λ may. IsTaken S.has_taken (recording_of self.old)
+            (record { kind = hooks.Gset; args = args.now; view = _view.now }) may (recording_of self.new)) }
+        ensures err { OnErr result (IsSome (order_after (recording_of self.old)
             (record { kind = hooks.Gset; args = args.now; view = _view.now }))) }
     {
         let Some(told) = self.order.set_global(args) else {
@@ -106,9 +106,9 @@ impl<S: EventSink> Recording<S> {
     /// Bytes are copied.
     #[inline]
     pub(crate) fn copy(&mut self, args: &[Val], view: &View) -> Result<bool, NoMemory>
-        ensures ok { IfOk result (λ may. IsTaken S.has_taken self.old
-            (record { kind = hooks.Copy; args = args.now; view = view.now }) may self.new) }
-        ensures err { OnErr result (IsSome (order_after self.old
+        ensures ok { IfOk result (λ may. IsTaken S.has_taken (recording_of self.old)
+            (record { kind = hooks.Copy; args = args.now; view = view.now }) may (recording_of self.new)) }
+        ensures err { OnErr result (IsSome (order_after (recording_of self.old)
             (record { kind = hooks.Copy; args = args.now; view = view.now }))) }
     {
         let Some(told) = self.order.copied(args) else {
@@ -121,9 +121,9 @@ impl<S: EventSink> Recording<S> {
     /// Bytes are filled.
     #[inline]
     pub(crate) fn fill(&mut self, args: &[Val], view: &View) -> Result<bool, NoMemory>
-        ensures ok { IfOk result (λ may. IsTaken S.has_taken self.old
-            (record { kind = hooks.Fill; args = args.now; view = view.now }) may self.new) }
-        ensures err { OnErr result (IsSome (order_after self.old
+        ensures ok { IfOk result (λ may. IsTaken S.has_taken (recording_of self.old)
+            (record { kind = hooks.Fill; args = args.now; view = view.now }) may (recording_of self.new)) }
+        ensures err { OnErr result (IsSome (order_after (recording_of self.old)
             (record { kind = hooks.Fill; args = args.now; view = view.now }))) }
     {
         let Some(told) = self.order.filled(args) else {

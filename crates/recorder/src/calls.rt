@@ -9,7 +9,7 @@ ghost use Rattle.replay_spec.specs.Observations.{ReachesEntry, entry_observation
 ghost use Rattle.replay_spec.specs.Known.{entry_of, entries_after};
 ghost use Rattle.hook_spec.specs.Hooks.{on, original};
 ghost use Rattle.recorder.specs.Known.{TellsOfTables};
-ghost use Rattle.recorder.specs.Recordings.{order_after, IsTaken};
+ghost use Rattle.recorder.specs.Recordings.{order_after, recording_of, IsTaken};
 
 use crate::memory::notice;
 use crate::recording::Recording;
@@ -48,9 +48,9 @@ impl<S: EventSink> Recording<S> {
     /// A value is told.
     #[inline]
     pub(crate) fn arg(&mut self, args: &[Val], _view: &View) -> Result<bool, NoMemory>
-        ensures ok { IfOk result (λ may. IsTaken S.has_taken self.old
-            (record { kind = hooks.Arg; args = args.now; view = _view.now }) may self.new) }
-        ensures err { OnErr result (IsSome (order_after self.old
+        ensures ok { IfOk result (λ may. IsTaken S.has_taken (recording_of self.old)
+            (record { kind = hooks.Arg; args = args.now; view = _view.now }) may (recording_of self.new)) }
+        ensures err { OnErr result (IsSome (order_after (recording_of self.old)
             (record { kind = hooks.Arg; args = args.now; view = _view.now }))) }
     {
         let Some(value) = self.order.value(args) else {
@@ -63,9 +63,9 @@ impl<S: EventSink> Recording<S> {
     /// A function is entered.
     #[inline]
     pub(crate) fn enter(&mut self, args: &[Val], view: &View) -> Result<bool, NoMemory>
-        ensures ok { IfOk result (λ may. IsTaken S.has_taken self.old
-            (record { kind = hooks.Enter; args = args.now; view = view.now }) may self.new) }
-        ensures err { OnErr result (IsSome (order_after self.old
+        ensures ok { IfOk result (λ may. IsTaken S.has_taken (recording_of self.old)
+            (record { kind = hooks.Enter; args = args.now; view = view.now }) may (recording_of self.new)) }
+        ensures err { OnErr result (IsSome (order_after (recording_of self.old)
             (record { kind = hooks.Enter; args = args.now; view = view.now }))) }
     {
         let Some(func) = self.order.entered(args) else {
@@ -80,9 +80,9 @@ impl<S: EventSink> Recording<S> {
     /// A function is left.
     #[inline]
     pub(crate) fn leave(&mut self, args: &[Val], _view: &View) -> Result<bool, NoMemory>
-        ensures ok { IfOk result (λ may. IsTaken S.has_taken self.old
-            (record { kind = hooks.Leave; args = args.now; view = _view.now }) may self.new) }
-        ensures err { OnErr result (IsSome (order_after self.old
+        ensures ok { IfOk result (λ may. IsTaken S.has_taken (recording_of self.old)
+            (record { kind = hooks.Leave; args = args.now; view = _view.now }) may (recording_of self.new)) }
+        ensures err { OnErr result (IsSome (order_after (recording_of self.old)
             (record { kind = hooks.Leave; args = args.now; view = _view.now }))) }
     {
         let Some(func) = self.order.left(args) else {
@@ -96,9 +96,9 @@ impl<S: EventSink> Recording<S> {
     /// A call by a function's index begins.
     #[inline]
     pub(crate) fn pre(&mut self, args: &[Val], _view: &View) -> Result<bool, NoMemory>
-        ensures ok { IfOk result (λ may. IsTaken S.has_taken self.old
-            (record { kind = hooks.Pre; args = args.now; view = _view.now }) may self.new) }
-        ensures err { OnErr result (IsSome (order_after self.old
+        ensures ok { IfOk result (λ may. IsTaken S.has_taken (recording_of self.old)
+            (record { kind = hooks.Pre; args = args.now; view = _view.now }) may (recording_of self.new)) }
+        ensures err { OnErr result (IsSome (order_after (recording_of self.old)
             (record { kind = hooks.Pre; args = args.now; view = _view.now }))) }
     {
         let Some(func) = self.order.called(args) else {
@@ -112,9 +112,9 @@ impl<S: EventSink> Recording<S> {
     /// It ends.
     #[inline]
     pub(crate) fn post(&mut self, args: &[Val], view: &View) -> Result<bool, NoMemory>
-        ensures ok { IfOk result (λ may. IsTaken S.has_taken self.old
-            (record { kind = hooks.Post; args = args.now; view = view.now }) may self.new) }
-        ensures err { OnErr result (IsSome (order_after self.old
+        ensures ok { IfOk result (λ may. IsTaken S.has_taken (recording_of self.old)
+            (record { kind = hooks.Post; args = args.now; view = view.now }) may (recording_of self.new)) }
+        ensures err { OnErr result (IsSome (order_after (recording_of self.old)
             (record { kind = hooks.Post; args = args.now; view = view.now }))) }
     {
         if !self.order.ends(args) {
@@ -129,9 +129,9 @@ impl<S: EventSink> Recording<S> {
     /// A call by the table begins.
     #[inline]
     pub(crate) fn ipre(&mut self, args: &[Val], view: &View) -> Result<bool, NoMemory>
-        ensures ok { IfOk result (λ may. IsTaken S.has_taken self.old
-            (record { kind = hooks.Ipre; args = args.now; view = view.now }) may self.new) }
-        ensures err { OnErr result (IsSome (order_after self.old
+        ensures ok { IfOk result (λ may. IsTaken S.has_taken (recording_of self.old)
+            (record { kind = hooks.Ipre; args = args.now; view = view.now }) may (recording_of self.new)) }
+        ensures err { OnErr result (IsSome (order_after (recording_of self.old)
             (record { kind = hooks.Ipre; args = args.now; view = view.now }))) }
     {
         let Some(call) = self
@@ -151,9 +151,9 @@ impl<S: EventSink> Recording<S> {
     /// It ends.
     #[inline]
     pub(crate) fn ipost(&mut self, args: &[Val], view: &View) -> Result<bool, NoMemory>
-        ensures ok { IfOk result (λ may. IsTaken S.has_taken self.old
-            (record { kind = hooks.Ipost; args = args.now; view = view.now }) may self.new) }
-        ensures err { OnErr result (IsSome (order_after self.old
+        ensures ok { IfOk result (λ may. IsTaken S.has_taken (recording_of self.old)
+            (record { kind = hooks.Ipost; args = args.now; view = view.now }) may (recording_of self.new)) }
+        ensures err { OnErr result (IsSome (order_after (recording_of self.old)
             (record { kind = hooks.Ipost; args = args.now; view = view.now }))) }
     {
         if !self.order.ends_by_table(args) {

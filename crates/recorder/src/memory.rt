@@ -104,6 +104,14 @@ fn address_of(access: Access) -> u128
     u128::from(access.base) + u128::from(access.offset)
 }
 
+/// The address after the last of so many bytes.
+#[inline]
+fn end_of(start: u64, count: u64) -> u128
+    ensures { result ≡ start + count }
+{
+    u128::from(start) + u128::from(count)
+}
+
 /// A load.
 ///
 /// # Errors
@@ -200,18 +208,8 @@ pub(crate) fn copy<S: EventSink>(
         return Ok(());
     }
     let (to, from, count) = told;
-    reach(
-        memory,
-        sink,
-        u128::from(from) + u128::from(count),
-        view.pages(),
-    )?;
-    reach(
-        memory,
-        sink,
-        u128::from(to) + u128::from(count),
-        view.pages(),
-    )?;
+    reach(memory, sink, end_of(from, count), view.pages())?;
+    reach(memory, sink, end_of(to, count), view.pages())?;
     copy_bytes(alloc, memory, sink, told, view.bytes())
 }
 
@@ -262,12 +260,7 @@ pub(crate) fn fill<S: EventSink>(
         return Ok(());
     }
     let (to, value, count) = told;
-    reach(
-        memory,
-        sink,
-        u128::from(to) + u128::from(count),
-        view.pages(),
-    )?;
+    reach(memory, sink, end_of(to, count), view.pages())?;
     let Some(_there) = range(view.bytes(), u128::from(to), count) else {
         return Ok(());
     };

@@ -34,10 +34,15 @@ pub struct Recorder<S> {
 
 impl<S> Model for Recorder<S> {
     ghost use Rattle.recorder.specs.Recorders as recorders;
+    ghost use Rattle.recorder.specs.Recordings as recordings;
 
     ghost Value = { recorders.Recorded S };
 
-    ghost view = { λ r. record { recording = r.recording; calls = r.calls; broken = r.broken } };
+    ghost view = { λ r. record {
+      recording = recordings.recording_of r.recording;
+      calls = r.calls;
+      broken = r.broken;
+    } };
 }
 
 impl<S: EventSink + Drop> Recorder<S> {

@@ -1,7 +1,6 @@
 // Hook calls one after another: each is looked at by the order, and what it observes is told.
 
-ghost use Rattle.std.specs.Prelude.{IfOk, IsSome, OnErr};
-ghost use Rattle.recorder.specs.Recordings.{order_after, IsTaken};
+ghost use Rattle.recorder.specs.Known.{HaveTypes};
 
 use hook_names::{Hook, View};
 use hook_order::Order;
@@ -9,7 +8,6 @@ use no_memory::NoMemory;
 use shadow_memory::ShadowMemory;
 use shadow_tables::ShadowTables;
 use std::alloc::Global;
-use std::marker::Model;
 use trace_model::EventSink;
 use wasm_syntax::Val;
 
@@ -21,27 +19,21 @@ pub(crate) struct Recording<S> {
     pub(crate) tables: ShadowTables,
     pub(crate) sink: S,
     pub(crate) alloc: Global,
-}
-
-impl<S> Model for Recording<S> {
-    ghost use Rattle.recorder.specs.Recordings as recordings;
-
-    ghost Value = { recordings.Recording S };
-
-    ghost view = { λ r. record { order = r.order; memory = r.memory; tables = r.tables; sink = r.sink } };
-
-    ghost invariant = { λ r. recordings.HaveTypes r.order.shape.globals r.tables.globals };
+    ghost typed: { HaveTypes order.shape.globals tables.globals },
 }
 
 impl<S: EventSink> Recording<S> {
+    ghost use Rattle.std.specs.Prelude.{IfOk, IsSome, OnErr};
+    ghost use Rattle.recorder.specs.Recordings.{order_after, recording_of, IsTaken};
+
     /// Takes a call. Answers whether it is in order; nothing changes where it is not.
     ///
     /// # Errors
     /// Where an allocation failed.
     pub(crate) fn take(&mut self, kind: Hook, args: &[Val], view: &View) -> Result<bool, NoMemory>
-        ensures ok { IfOk result (λ may. IsTaken S.has_taken self.old
-            (record { kind = kind; args = args.now; view = view.now }) may self.new) }
-        ensures err { OnErr result (IsSome (order_after self.old
+        ensures ok { IfOk result (λ may. IsTaken S.has_taken (recording_of self.old)
+            (record { kind = kind; args = args.now; view = view.now }) may (recording_of self.new)) }
+        ensures err { OnErr result (IsSome (order_after (recording_of self.old)
             (record { kind = kind; args = args.now; view = view.now }))) }
     {
         match kind {

@@ -5,4 +5,4 @@ use Rattle.recorder.proofs.tables.find_global.Goals as goal
 pub returns-in_ok-event-clause-globals : goal.returns-in_ok-event-clause-globals
 returns-in_ok-event-clause-globals g c =
     ap (λ t. map (λ known. known.ty) t.globals) c.take_global.ensures
-    ∙ types_stay g.S.EventSink.has_taken 0 c.args.tables.now c.args.global c.args.value c.requires
+    ∙ types_stay c.args.tables.now.globals c.args.global c.args.value c.requires

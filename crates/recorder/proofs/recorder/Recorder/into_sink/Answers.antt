@@ -3,7 +3,7 @@ use Rattle.history_spec.specs.Instantiation.{instantiate, table_length}
 use Rattle.hook_spec.specs.Order.{order_start, shape_of}
 use Rattle.hook_spec.specs.Logs.{log_start}
 use Rattle.hook_order.specs.Shapes.{parts_of}
-use Rattle.recorder.specs.Recordings.{HaveTypes}
+use Rattle.recorder.specs.Known.{HaveTypes}
 use Rattle.recorder.specs.Recorders.{StandsAt}
 use Rattle.recorder.proofs.Arms.{is_ok}
 use Rattle.recorder.proofs.Openings.{stands_at_start, types_at_start}
@@ -12,10 +12,14 @@ use Rattle.recorder.proofs.recorder.Recorder.into_sink.Goals as goal
 pub invariant_of-result : goal.invariant_of-result
 invariant_of-result g c =
     let opened = is_ok (instantiate c.args.checked.now c.args.supply.now) c.requires.links in
-    subst (λ order. HaveTypes order.shape.globals c.in_ok-tables.tables.globals) (sym c.new.ensures)
-    (types_at_start opened.0 c.in_ok-memory.memory c.in_ok-tables.tables (c.in_ok-memory.ensures opened.0 opened.1)
-    (c.in_ok-tables.ensures opened.0 opened.1) c.args.imports c.args.checked.now c.in_ok-shape.shape
-    (c.in_ok-shape.ensures ∙ ap (parts_of c.args.imports) c.module.ensures.same) (c.requires.typed opened.0 opened.1))
+    record {
+      typed =
+          subst (λ order. HaveTypes order.shape.globals c.in_ok-tables.tables.globals) (sym c.new.ensures)
+          (types_at_start opened.0 c.in_ok-memory.memory c.in_ok-tables.tables (c.in_ok-memory.ensures opened.0 opened.1)
+          (c.in_ok-tables.ensures opened.0 opened.1) c.args.imports c.args.checked.now c.in_ok-shape.shape
+          (c.in_ok-shape.ensures ∙ ap (parts_of c.args.imports) c.module.ensures.same)
+          (c.requires.typed opened.0 opened.1));
+    }
 
 pub returns-clause-stands : goal.returns-clause-stands
 returns-clause-stands g c store is =

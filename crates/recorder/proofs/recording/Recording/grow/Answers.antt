@@ -1,38 +1,18 @@
-use Rattle.std.proofs.Common.{◌≡◌, length, None, refl, subst}
-use Rattle.hook_spec.specs.declared.hooks.Hook.TheVariants.{Grow}
-use Rattle.recorder.specs.Recordings.{order_after, Takes}
+use Rattle.std.proofs.Common.{refl}
+use Rattle.history_spec.specs.Store.{pages}
+use Rattle.history_spec.specs.Instruction.{bits_at}
+use Rattle.hook_spec.specs.Logs.{found_by_growth}
 use Rattle.recorder.proofs.Arms.{err_led}
-use Rattle.recorder.proofs.Steps.{take_grow}
+use Rattle.recorder.proofs.Steps.{take_memory}
 use Rattle.recorder.proofs.recording.Recording.grow.Goals as goal
 
 pub returns-then-not-grows-clause-ok : goal.returns-then-not-grows-clause-ok
-returns-then-not-grows-clause-ok g c = (
-  subst (λ r. order_after r (record { kind = Grow; args = c.args.args.now; view = c.args.view.now }) ≡ None) c.self.view_is
-      (c.if-not-grows.ensures.not refl (length c.self.inside.tables.entries) c.args.view.now),
-  refl,
-)
+returns-then-not-grows-clause-ok g c = (c.if-not-grows.ensures.not refl _ c.args.view.now, refl)
 
 pub returns-in_err-resize-clause-err : goal.returns-in_err-resize-clause-err
-returns-in_err-resize-clause-err g c =
-    err_led c.from_residual.result c.args.self.now (record { kind = Grow; args = c.args.args.now; view = c.args.view.now }) (record {
-      order = c.self.inside.order;
-      memory = c.self.inside.memory;
-      tables = c.self.inside.tables;
-      sink = c.self.inside.sink;
-    }) c.self.view_is _
-    ((c.if-not-grows.ensures.may refl) (length c.self.inside.tables.entries) c.args.view.now)
+returns-in_err-resize-clause-err g c = err_led c.from_residual.result (c.if-not-grows.ensures.may refl _ c.args.view.now)
 
 pub returns-clause-ok : goal.returns-clause-ok
 returns-clause-ok g c =
-    subst (λ r. Takes g.S.EventSink.has_taken r (record { kind = Grow; args = c.args.args.now; view = c.args.view.now }) (record {
-      order = c.self.inside.order;
-      memory = c.resize.new.memory;
-      tables = c.self.inside.tables;
-      sink = c.resize.new.sink;
-    })) c.self.view_is
-    (take_grow g.S.EventSink.has_taken (record {
-      order = c.self.inside.order;
-      memory = c.self.inside.memory;
-      tables = c.self.inside.tables;
-      sink = c.self.inside.sink;
-    }) c.args.args.now c.args.view.now c.resize.new.memory c.resize.new.sink (c.if-not-grows.ensures.may refl) c.in_ok-resize.ensures)
+    take_memory (c.if-not-grows.ensures.may refl) refl refl refl
+    (c.in_ok-resize.ensures (λ there. found_by_growth (bits_at c.args.args.now 0) (pages there)))

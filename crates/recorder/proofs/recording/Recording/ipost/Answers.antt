@@ -1,50 +1,18 @@
-use Rattle.std.proofs.Common.{◌≡◌, [], ◌∷◌, length, None, slice_get, refl, subst}
-use Rattle.trace_model.specs.declared.events.Event.TheVariants as events
-use Rattle.trace_model.specs.Sink.{TookAlso}
-use Rattle.hook_spec.specs.declared.hooks.Hook.TheVariants.{Ipost}
-use Rattle.recorder.specs.Recordings.{order_after, Takes}
+use Rattle.std.proofs.Common.{refl}
 use Rattle.recorder.proofs.Arms.{err_led}
-use Rattle.recorder.proofs.Steps.{take_ipost}
+use Rattle.recorder.proofs.Steps.{take_end}
 use Rattle.recorder.proofs.recording.Recording.ipost.Goals as goal
 
 pub returns-then-not-ends_by_table-clause-ok : goal.returns-then-not-ends_by_table-clause-ok
-returns-then-not-ends_by_table-clause-ok g c = (
-  subst (λ r. order_after r (record { kind = Ipost; args = c.args.args.now; view = c.args.view.now }) ≡ None) c.self.view_is
-      (c.if-not-ends_by_table.ensures.not refl (length c.self.inside.tables.entries) c.args.view.now),
-  refl,
-)
+returns-then-not-ends_by_table-clause-ok g c = (c.if-not-ends_by_table.ensures.not refl _ c.args.view.now, refl)
 
 pub returns-in_err-tell_post-clause-err : goal.returns-in_err-tell_post-clause-err
-returns-in_err-tell_post-clause-err g c =
-    err_led c.from_residual.result c.args.self.now (record { kind = Ipost; args = c.args.args.now; view = c.args.view.now }) (record {
-      order = c.self.inside.order;
-      memory = c.self.inside.memory;
-      tables = c.self.inside.tables;
-      sink = c.self.inside.sink;
-    }) c.self.view_is _
-    ((c.if-not-ends_by_table.ensures.may refl) (length c.self.inside.tables.entries) c.args.view.now)
+returns-in_err-tell_post-clause-err g c = err_led c.from_residual.result (c.if-not-ends_by_table.ensures.may refl _ c.args.view.now)
 
 pub returns-in_err-notice-clause-err : goal.returns-in_err-notice-clause-err
-returns-in_err-notice-clause-err g c =
-    err_led c.from_residual-in_err-notice.result c.args.self.now (record { kind = Ipost; args = c.args.args.now; view = c.args.view.now }) (record {
-      order = c.self.inside.order;
-      memory = c.self.inside.memory;
-      tables = c.self.inside.tables;
-      sink = c.self.inside.sink;
-    }) c.self.view_is _
-    ((c.if-not-ends_by_table.ensures.may refl) (length c.self.inside.tables.entries) c.args.view.now)
+returns-in_err-notice-clause-err g c = err_led c.from_residual-in_err-notice.result (c.if-not-ends_by_table.ensures.may refl _ c.args.view.now)
 
 pub returns-clause-ok : goal.returns-clause-ok
 returns-clause-ok g c =
-    subst (λ r. Takes g.S.EventSink.has_taken r (record { kind = Ipost; args = c.args.args.now; view = c.args.view.now }) (record {
-      order = c.close.new.self;
-      memory = c.notice.new.memory;
-      tables = c.self.inside.tables;
-      sink = c.notice.new.sink;
-    })) c.self.view_is
-    (take_ipost g.S.EventSink.has_taken (record {
-      order = c.self.inside.order;
-      memory = c.self.inside.memory;
-      tables = c.self.inside.tables;
-      sink = c.self.inside.sink;
-    }) c.args.args.now c.args.view.now c.close.new.self c.notice.new.memory c.tell_post.new.sink c.notice.new.sink (c.if-not-ends_by_table.ensures.may refl) (subst (λ p. TookAlso g.S.EventSink.has_taken c.self.inside.sink c.tell_post.new.sink (events.Post (slice_get p 0) ∷ [])) c.pending.ensures c.in_ok-tell_post.ensures) c.in_ok-notice.ensures.noticed c.in_ok-notice.ensures.told c.close.ensures)
+    take_end c.tell_post.new.sink (c.if-not-ends_by_table.ensures.may refl) refl refl refl c.pending.ensures c.in_ok-tell_post.ensures
+    c.in_ok-notice.ensures.noticed c.in_ok-notice.ensures.told c.close.ensures
