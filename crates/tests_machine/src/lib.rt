@@ -8,3 +8,5 @@ mod both_ways;
 mod core_2_rows;
 #[cfg(test)]
 mod rows;
+#[cfg(test)]
+mod table_rows;
