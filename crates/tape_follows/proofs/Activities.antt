@@ -12,7 +12,7 @@ use Rattle.wasm_syntax.specs.declared.limits.TheConstants.{PAGE_SIZE}
 use Rattle.wasm_syntax.specs.declared.values.Val.{Val}
 use Rattle.trace_model.specs.declared.tapes.Effect.{Effect}
 use Rattle.trace_model.specs.declared.tapes.Effect.TheVariants.{Grow, Table as GrowTable, Bytes, Entry, Global}
-use Rattle.trace_model.specs.Effects.{is_before, are_ordered_after}
+use Rattle.trace_model.specs.Effects.{is_before, are_ordered_after, are_ordered}
 use Rattle.history_spec.specs.Store.{Store, Memory, Table, pages}
 use Rattle.history_spec.specs.Instantiation.{memory_length, table_length}
 use Rattle.replay_spec.specs.Observations.{Observation}
@@ -20,10 +20,11 @@ use Rattle.replay_spec.specs.Known.{Known, byte_of, entry_of, pages_of, last_som
 use Rattle.replay_spec.specs.Windows.{first_byte, first_entry, first_global, found_pages, found_entries}
 use Rattle.replay_spec.specs.Alike.{same_option, same_value}
 use Rattle.replay_spec.specs.Needed.{needed, needed_byte, needed_entry, needed_global, effect_byte, effect_entry, effect_global, effect_pages, effect_entries, AreNeeded}
+use Rattle.replay_spec.proofs.Alike.{option_same, value_same}
 use Rattle.observed_steps.specs.StoreAnswers.{allows_pages, allows_entries}
 use Rattle.tape_follows.proofs.Stores.{Maxima, maxima}
 use Rattle.tape_follows.proofs.Relation.{IsKnownOf, IsSize, Seen, Unseen, IsReadOf, Holds}
-use Rattle.tape_follows.proofs.Same.{same_option_is, same_number, same_value_is}
+use Rattle.tape_follows.proofs.Same.{same_number}
 use Rattle.tape_follows.proofs.Effects.{bytes_left, AreDone, AreChanges, IsChange}
 
 -- a store's sizes are whole pages, and allowed
@@ -71,21 +72,50 @@ changes_after effect (next ∷ effects) small h =
           (and_right (is_before effect next) (are_ordered_after next effects) h),
     )
 
+-- ---- effects in order
+
+pages_before : (effect next : Effect) → is_before effect next ≡ true → effect_pages next ≡ None
+pages_before (Grow a) (Grow b) h = cc
+pages_before (GrowTable a) (Grow b) h = cc
+pages_before (Bytes a c) (Grow b) h = cc
+pages_before (Entry a c) (Grow b) h = cc
+pages_before (Global a c) (Grow b) h = cc
+pages_before effect next h = refl
+
+-- no effect grows the memory after another effect
+pub pages_after : (effect : Effect) (effects : List Effect) → are_ordered_after effect effects ≡ true
+    → last_some effect_pages effects ≡ None
+pages_after effect [] h = refl
+pages_after effect (next ∷ effects) h =
+    let later = pages_after next effects (and_right (is_before effect next) (are_ordered_after next effects) h) in
+    let here = pages_before effect next (and_left (is_before effect next) (are_ordered_after next effects) h) in
+    (λ i. option_or (later i) (here i))
+
+pub ordered_rest : (effect : Effect) (effects : List Effect) → are_ordered_after effect effects ≡ true
+    → are_ordered effects ≡ true
+ordered_rest effect [] h = refl
+ordered_rest effect (next ∷ effects) h = and_right (is_before effect next) (are_ordered_after next effects) h
+
+-- what no change gives, changes do not give
+none_given : {X : Type 0} (part : Effect → Option X) → ((effect : Effect) → IsChange effect → part effect ≡ None)
+    → (effects : List Effect) → AreChanges effects → last_some part effects ≡ None
+none_given part none [] are = refl
+none_given part none (effect ∷ effects) are =
+    (λ i. option_or (none_given part none effects are.1 i) (none effect are.0 i))
+
 pub no_growth : (effects : List Effect) → AreChanges effects → last_some effect_pages effects ≡ None
-no_growth [] are = refl
-no_growth (Grow size ∷ effects) are = absurd are.0
-no_growth (GrowTable size ∷ effects) are = absurd are.0
-no_growth (Bytes address bytes ∷ effects) are = ap (λ o. option_or o None) (no_growth effects are.1)
-no_growth (Entry index func ∷ effects) are = ap (λ o. option_or o None) (no_growth effects are.1)
-no_growth (Global global value ∷ effects) are = ap (λ o. option_or o None) (no_growth effects are.1)
+no_growth = none_given effect_pages none
+  where
+    none : (effect : Effect) → IsChange effect → effect_pages effect ≡ None
+    none (Grow size) h = absurd h
+    none effect h = refl
 
 pub no_table_growth : (effects : List Effect) → AreChanges effects → last_some effect_entries effects ≡ None
-no_table_growth [] are = refl
-no_table_growth (Grow size ∷ effects) are = absurd are.0
-no_table_growth (GrowTable size ∷ effects) are = absurd are.0
-no_table_growth (Bytes address bytes ∷ effects) are = ap (λ o. option_or o None) (no_table_growth effects are.1)
-no_table_growth (Entry index func ∷ effects) are = ap (λ o. option_or o None) (no_table_growth effects are.1)
-no_table_growth (Global global value ∷ effects) are = ap (λ o. option_or o None) (no_table_growth effects are.1)
+no_table_growth = none_given effect_entries none
+  where
+    none : (effect : Effect) → IsChange effect → effect_entries effect ≡ None
+    none (GrowTable size) h = absurd h
+    none effect h = refl
 
 -- ---- a value that is needed
 
@@ -106,6 +136,18 @@ needed_else same is known (Some y) = go (same known y) refl
     go : (b : Bool) → same known y ≡ b → unwrap_or (cond (same known y) None (Some y)) known ≡ y
     go true p = ap (λ b. unwrap_or (cond b None (Some y)) known) p ∙ is known y p
     go false p = ap (λ b. unwrap_or (cond b None (Some y)) known) p
+
+-- with the pages that are found where they are needed, so many bytes are there
+pub found_bytes : (known found : ℕ)
+    → bytes_left (cond (nat_eq known found) None (Some found)) (known * PAGE_SIZE) ≡ found * PAGE_SIZE
+found_bytes known found = go (nat_eq known found) refl
+  where
+    go : (b : Bool) → nat_eq known found ≡ b
+        → bytes_left (cond (nat_eq known found) None (Some found)) (known * PAGE_SIZE) ≡ found * PAGE_SIZE
+    go true p =
+        ap (λ b. bytes_left (cond b None (Some found)) (known * PAGE_SIZE)) p
+        ∙ ap (λ n. n * PAGE_SIZE) (same_number known found p)
+    go false p = ap (λ b. bytes_left (cond b None (Some found)) (known * PAGE_SIZE)) p
 
 module _ (known : Known) (window : List Observation) (store : Store) (sizes : HasSizes store)
     (k : IsKnownOf known store) (real : IsReadOf known window store) where
@@ -239,26 +281,19 @@ module _ (known : Known) (window : List Observation) (store : Store) (sizes : Ha
                 are.entry at
                 ∙ ap (unwrap_or (last_some (effect_entry at) effects)) (holds.entry at)
                 ∙ ap (λ o. unwrap_or o (known.entry at)) (need.entry at)
-                ∙ needed_else (same_option nat_eq) (same_option_is nat_eq same_number) (known.entry at)
+                ∙ needed_else (same_option nat_eq) (option_same nat_eq same_number) (known.entry at)
                 (first_entry window at);
             global = λ at.
                 are.global at
                 ∙ ap (unwrap_or (last_some (effect_global at) effects)) (holds.global at)
                 ∙ ap (λ o. unwrap_or o (known.global at)) (need.global at)
-                ∙ needed_else (same_option same_value) (same_option_is same_value same_value_is) (known.global at)
+                ∙ needed_else (same_option same_value) (option_same same_value value_same) (known.global at)
                 (first_global window at);
           }
         where
           size : bytes_left (last_some effect_pages effects) (known.pages * PAGE_SIZE) ≡ pages_held * PAGE_SIZE
-          size = ap (λ o. bytes_left o (known.pages * PAGE_SIZE)) need.pages ∙ go (nat_eq known.pages pages_held) refl
-            where
-              go : (b : Bool) → nat_eq known.pages pages_held ≡ b
-                  → bytes_left (cond (nat_eq known.pages pages_held) None (Some pages_held)) (known.pages * PAGE_SIZE)
-                  ≡ pages_held * PAGE_SIZE
-              go true p =
-                  ap (λ b. bytes_left (cond b None (Some pages_held)) (known.pages * PAGE_SIZE)) p
-                  ∙ ap (λ n. n * PAGE_SIZE) (same_number known.pages pages_held p)
-              go false p = ap (λ b. bytes_left (cond b None (Some pages_held)) (known.pages * PAGE_SIZE)) p
+          size =
+              ap (λ o. bytes_left o (known.pages * PAGE_SIZE)) need.pages ∙ found_bytes known.pages pages_held
 
           count : unwrap_or (last_some effect_entries effects) known.entries ≡ entries_held
           count =

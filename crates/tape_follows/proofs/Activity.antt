@@ -10,8 +10,8 @@ use Rattle.list_laws.proofs.Options.{cond_none_some}
 use Rattle.wasm_syntax.specs.declared.limits.TheConstants.{MOST_ENTRIES, MOST_PAGES, PAGE_SIZE}
 use Rattle.host_script.specs.Supply.{is_within}
 use Rattle.trace_model.specs.declared.tapes.Effect.{Effect}
-use Rattle.trace_model.specs.declared.tapes.Effect.TheVariants.{Grow, Table as GrowTable, Bytes, Entry, Global}
-use Rattle.trace_model.specs.Effects.{are_ordered_after, are_ordered}
+use Rattle.trace_model.specs.declared.tapes.Effect.TheVariants.{Grow, Table as GrowTable}
+use Rattle.trace_model.specs.Effects.{are_ordered}
 use Rattle.history_spec.specs.Store.{Store, Memory, Table, pages}
 use Rattle.history_spec.specs.Instantiation.{memory_length, table_length}
 use Rattle.replay_spec.specs.Observations.{Observation, Resizes, ResizesTable}
@@ -28,7 +28,7 @@ use Rattle.tape_follows.proofs.Held.{whole_pages}
 use Rattle.tape_follows.proofs.Same.{same_number}
 use Rattle.tape_follows.proofs.StepItems.{there_too}
 use Rattle.tape_follows.proofs.Effects.{AreDone, more_done, grow_done, grow_table_done, AreChanges, changes_done}
-use Rattle.tape_follows.proofs.Activities.{HasSizes, changes_after, no_growth, no_table_growth, size_between, byte_there, entry_there, global_there, holds_needed}
+use Rattle.tape_follows.proofs.Activities.{HasSizes, changes_after, no_growth, no_table_growth, size_between, byte_there, entry_there, global_there, holds_needed, pages_after, ordered_rest}
 
 -- ---- sizes that are allowed
 
@@ -79,21 +79,21 @@ table_has None at below = absurd (omega (arith, below))
 table_has (Some t) at below = (t, refl)
 
 -- a size that differs from the known one is one of what is there
-pub memory_seen : (o : Option Memory) (known found : ℕ) → known ≤ found → found ≤ pages_of o
-    → nat_eq known found ≡ false → IsThere o
-memory_seen None known found more low differs =
-    let same : known ≡ found = omega (arith, more, low) in
+size_seen : {X : Type 0} (size : Option X → ℕ) → size None ≡ 0 → (o : Option X) (known found : ℕ) → known ≤ found
+    → found ≤ size o → nat_eq known found ≡ false → IsThere o
+size_seen size none None known found more low differs =
+    let same : known ≡ found = omega (arith, more, low, none) in
     let yes : nat_eq known found ≡ true = grind (arith, nat_tests, same) in
     cc
-memory_seen (Some m) known found more low differs = (m, refl)
+size_seen size none (Some x) known found more low differs = (x, refl)
+
+pub memory_seen : (o : Option Memory) (known found : ℕ) → known ≤ found → found ≤ pages_of o
+    → nat_eq known found ≡ false → IsThere o
+memory_seen = size_seen pages_of refl
 
 pub table_seen : (o : Option Table) (known found : ℕ) → known ≤ found → found ≤ table_length o
     → nat_eq known found ≡ false → IsThere o
-table_seen None known found more low differs =
-    let same : known ≡ found = omega (arith, more, low) in
-    let yes : nat_eq known found ≡ true = grind (arith, nat_tests, same) in
-    cc
-table_seen (Some t) known found more low differs = (t, refl)
+table_seen = size_seen table_length refl
 
 pub or_nothing : {X : Type 0} (o : Option X) → option_or o None ≡ o
 or_nothing None = refl
@@ -223,7 +223,7 @@ module _ (known : Known) (window : List Observation) (store : Store) (sizes : Ha
       → last_some effect_entries effects ≡ needed_entries known window → AreThose effects
       → (after : Store) × AreDone other effects after
   with_pages (Grow size ∷ effects) order grown count those =
-      let none = rest_grows effects order in
+      let none = pages_after (Grow size) effects order in
       let size_is = size_needed known.pages held_pages size
       (sym (ap (λ o. option_or o (Some size)) none) ∙ grown) in
       let there = there_too (λ m. m.max) store.memory other.memory (ap (λ (m : Maxima). m.pages) alike)
@@ -247,7 +247,7 @@ module _ (known : Known) (window : List Observation) (store : Store) (sizes : Ha
         memory = if_bytes next.memory (held_pages * PAGE_SIZE) (one.long ∙ ap (λ n. n * PAGE_SIZE) e);
         count = one.count;
       })
-      holds.entries effects none (rest_ordered effects order)
+      holds.entries effects none (ordered_rest (Grow size) effects order)
       (sym (or_nothing (last_some effect_entries effects)) ∙ count)
       (record {
         filled = and_right true (list_all has_bytes effects) those.filled;
@@ -256,30 +256,10 @@ module _ (known : Known) (window : List Observation) (store : Store) (sizes : Ha
         global = λ at. sym (or_nothing (last_some (effect_global at) effects)) ∙ those.global at;
       }) in
       (rest.0, more_done other next rest.0 (Grow size) effects one rest.1)
-    where
-      rest_grows : (effects : List Effect) → are_ordered_after (Grow size) effects ≡ true
-          → last_some effect_pages effects ≡ None
-      rest_grows [] h = refl
-      rest_grows (Grow new ∷ effects) h = cc
-      rest_grows (GrowTable new ∷ effects) h =
-          ap (λ o. option_or o None) (no_growth effects (changes_after (GrowTable new) effects tt h))
-      rest_grows (Bytes address bytes ∷ effects) h =
-          ap (λ o. option_or o None) (no_growth effects (changes_after (Bytes address bytes) effects tt h))
-      rest_grows (Entry index func ∷ effects) h =
-          ap (λ o. option_or o None) (no_growth effects (changes_after (Entry index func) effects tt h))
-      rest_grows (Global global value ∷ effects) h =
-          ap (λ o. option_or o None) (no_growth effects (changes_after (Global global value) effects tt h))
-
-      rest_ordered : (effects : List Effect) → are_ordered_after (Grow size) effects ≡ true
-          → are_ordered effects ≡ true
-      rest_ordered [] h = refl
-      rest_ordered (Grow new ∷ effects) h = cc
-      rest_ordered (effect ∷ effects) h = h
   with_pages [] order grown count those = no_pages [] refl order grown count those
   with_pages (GrowTable new ∷ effects) order grown count those =
       no_pages (GrowTable new ∷ effects)
-      (ap (λ o. option_or o None) (no_growth effects (changes_after (GrowTable new) effects tt order))) order grown
-      count those
+      (ap (λ o. option_or o None) (pages_after (GrowTable new) effects order)) order grown count those
   with_pages (effect ∷ effects) order grown count those =
       no_pages (effect ∷ effects) (no_growth (effect ∷ effects) (tt, changes_after effect effects tt order)) order grown
       count those

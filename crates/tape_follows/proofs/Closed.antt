@@ -43,14 +43,16 @@ pub record IsBeforeInstruction (m : Module) (heights : Heights) (known : Known) 
   pub seen : AreSeen known store (observed store frame)
 
 -- the tape's run at a configuration
-abbrev pub tape_at : List Activation → List ℕ → Origin → Store → List Segment → TapeResult
-tape_at stack counts came store segments =
-    tape_result []
-    (Plays (record {
+abbrev pub tape_place : List Activation → List ℕ → Origin → Store → List Segment → TapeConfig
+tape_place stack counts came store segments =
+    record {
       config = record { store = store; stack = stack; counts = counts };
       left = segments;
       came = came;
-    }))
+    }
+
+abbrev pub tape_at : List Activation → List ℕ → Origin → Store → List Segment → TapeResult
+tape_at stack counts came store segments = tape_result [] (Plays (tape_place stack counts came store segments))
 
 -- more entries are left where observations are
 pub data IsMore (left : List Observation) (history : List Entry) : Type 0 where
@@ -68,30 +70,31 @@ module _ (claim : Claim) (m : Module) (heights : Heights) where
       (other : Store) (segments : List Segment) → maxima other ≡ maxima store → claim.ready known left other segments
       → claim.comes code (tape other segments) history outcome
 
-  -- where a claim holds after an entry, a segment of the host or an instruction, it holds before
-  pub record IsClosed : Type 0 where
-    pub entry : (t : TapeResult) (history : List Entry) (outcome : Outcome) (entry : Entry)
-        → claim.comes code t history outcome
-        → claim.comes code (tape_after (entry ∷ []) t) (entry ∷ history) outcome
-    pub over : (known : Known) (other : Store) (segments : List Segment) (entries : List Entry) (outcome : Outcome)
-        → claim.ready known [] other segments
-        → claim.comes code (tape_result entries (Over outcome)) (entries ++ []) outcome
-    pub segment : (known : Known) (store : Store) (came : Origin) (next : Next) (left : List Observation)
-        (history : List Entry) (outcome : Outcome) (stack : List Activation) (counts : List ℕ)
-        → ((t : TapeConfig) → tape_step_of code stack t ≡ after_segment code t.config t.left t.came)
-        → IsStore m store → IsKnownOf known store → IsReadOf known (window left) store → IsMore left history
-        → Goes known store left (λ other segments. after_next code other counts stack segments came next) history
-        outcome
-        → Goes known store (Begins came ∷ Ends next ∷ left) (tape_at stack counts came) history outcome
-    pub trap : (known : Known) (store : Store) (frame : Frame) (below : List Activation) (counts : List ℕ)
-        (came : Origin) (kind : TrapKind) (operands : List Val) (found : Option ℕ)
-        → IsBeforeInstruction m heights known store frame → execute code store frame ≡ Traps kind operands found
+  -- a claim on the tape's run after a segment of the host holds before it
+  abbrev pub HoldsBeforeSegment : Type 0
+  HoldsBeforeSegment =
+      (known : Known) (store : Store) (came : Origin) (next : Next) (left : List Observation) (history : List Entry)
+      (outcome : Outcome) (stack : List Activation) (counts : List ℕ)
+      → ((t : TapeConfig) → tape_step_of code stack t ≡ after_segment code t.config t.left t.came)
+      → IsStore m store → IsKnownOf known store → IsReadOf known (window left) store → IsMore left history
+      → Goes known store left (λ other segments. after_next code other counts stack segments came next) history outcome
+      → Goes known store (Begins came ∷ Ends next ∷ left) (tape_at stack counts came) history outcome
+
+  module _ (known : Known) (store : Store) (frame : Frame) (below : List Activation) (counts : List ℕ)
+      (came : Origin) where
+    -- before an instruction that traps
+    abbrev pub HoldsBeforeTrap : Type 0
+    HoldsBeforeTrap =
+        (kind : TrapKind) (operands : List Val) (found : Option ℕ)
+        → execute code store frame ≡ Traps kind operands found
         → Goes known store (observed store frame ++ []) (tape_at (InModule frame ∷ below) counts came)
         (Trap frame.func frame.at.number kind operands found ∷ []) Trapped
-    pub step : (known : Known) (store : Store) (frame : Frame) (below : List Activation) (counts : List ℕ)
-        (came : Origin) (operands results : List Val) (found : Option ℕ) (control : Control)
-        (later : List Observation) (history : List Entry) (outcome : Outcome)
-        → IsBeforeInstruction m heights known store frame
+
+    -- before an instruction that is done, where it holds after it
+    abbrev pub HoldsBeforeStep : Type 0
+    HoldsBeforeStep =
+        (operands results : List Val) (found : Option ℕ) (control : Control) (later : List Observation)
+        (history : List Entry) (outcome : Outcome)
         → execute code store frame ≡ Did operands results found control
         → IsReadOf (known_after_all known (observed store frame)) (window later)
         (with_changes store (observed store frame))
@@ -104,3 +107,19 @@ module _ (claim : Claim) (m : Module) (heights : Heights) where
         (Step frame.func frame.at.number operands results found ∷ history) outcome
         → Goes known store (observed store frame ++ later) (tape_at (InModule frame ∷ below) counts came)
         (Step frame.func frame.at.number operands results found ∷ history) outcome
+
+  -- where a claim holds after an entry, a segment of the host or an instruction, it holds before
+  pub record IsClosed : Type 0 where
+    pub entry : (t : TapeResult) (history : List Entry) (outcome : Outcome) (entry : Entry)
+        → claim.comes code t history outcome
+        → claim.comes code (tape_after (entry ∷ []) t) (entry ∷ history) outcome
+    pub over : (known : Known) (other : Store) (segments : List Segment) (entries : List Entry) (outcome : Outcome)
+        → claim.ready known [] other segments
+        → claim.comes code (tape_result entries (Over outcome)) (entries ++ []) outcome
+    pub segment : HoldsBeforeSegment
+    pub trap : (known : Known) (store : Store) (frame : Frame) (below : List Activation) (counts : List ℕ)
+        (came : Origin) → IsBeforeInstruction m heights known store frame
+        → HoldsBeforeTrap known store frame below counts came
+    pub step : (known : Known) (store : Store) (frame : Frame) (below : List Activation) (counts : List ℕ)
+        (came : Origin) → IsBeforeInstruction m heights known store frame
+        → HoldsBeforeStep known store frame below counts came

@@ -12,13 +12,14 @@ use Rattle.replay_spec.specs.Known.{Known, byte_of, entry_of, pages_of, last_som
 use Rattle.replay_spec.specs.Windows.{first_byte, first_entry, first_global, found_pages, found_entries}
 use Rattle.replay_spec.specs.Needed.{needed, effect_byte, effect_entry, effect_global, effect_pages, effect_entries, AreNeeded}
 use Rattle.replay_spec.proofs.OneList.{effects_same}
+use Rattle.replay_spec.proofs.Alike.{option_same, value_same}
 use Rattle.shown_steps.specs.Unshown.{first_copied}
 use Rattle.tape_follows.specs.Dropped.{resizes_table, IsLeft, AreLeft}
 use Rattle.tape_follows.proofs.Stores.{Maxima, maxima}
 use Rattle.tape_follows.proofs.Relation.{IsKnownOf, IsReadOf, Holds}
-use Rattle.tape_follows.proofs.Same.{same_option_is, same_number, same_value_is, own_number, own_option, own_value}
+use Rattle.tape_follows.proofs.Same.{same_number, own_number, own_option, own_value}
 use Rattle.tape_follows.proofs.Effects.{bytes_left, AreDone}
-use Rattle.tape_follows.proofs.Activities.{HasSizes, needed_else, size_between}
+use Rattle.tape_follows.proofs.Activities.{HasSizes, found_bytes, needed_else, size_between}
 use Rattle.tape_follows.proofs.DroppedPlaces.{MayLack}
 use Rattle.tape_follows.proofs.DroppedStores.{HoldsLess}
 
@@ -134,21 +135,13 @@ module _ (known : Known) (window : List Observation) (store : Store) (sizes : Ha
       length_is : memory_length after.memory ≡ bytes_left (last_some effect_pages left) (known.pages * PAGE_SIZE)
       length_is = done.long ∙ ap (bytes_left (last_some effect_pages left)) known_length
 
-      size : (b : Bool) → nat_eq known.pages pages_found ≡ b
-          → bytes_left (cond (nat_eq known.pages pages_found) None (Some pages_found)) (known.pages * PAGE_SIZE)
-          ≡ pages_found * PAGE_SIZE
-      size true p =
-          ap (λ b. bytes_left (cond b None (Some pages_found)) (known.pages * PAGE_SIZE)) p
-          ∙ ap (λ n. n * PAGE_SIZE) (same_number known.pages pages_found p)
-      size false p = ap (λ b. bytes_left (cond b None (Some pages_found)) (known.pages * PAGE_SIZE)) p
-
       go : IsLeft (last_some effect_pages effects) (last_some effect_pages left)
           → (memory_length after.memory ≡ pages_found * PAGE_SIZE)
           ⊎ (memory_length after.memory ≡ known.pages * PAGE_SIZE)
       go (inl e) =
           inl
           (length_is ∙ ap (λ o. bytes_left o (known.pages * PAGE_SIZE)) (e ∙ need.pages)
-          ∙ size (nat_eq known.pages pages_found) refl)
+          ∙ found_bytes known.pages pages_found)
       go (inr e) = inr (length_is ∙ ap (λ o. bytes_left o (known.pages * PAGE_SIZE)) e)
 
   counts_after : MayLack (Some entries_found) known.entries (table_length after.table)
@@ -175,12 +168,12 @@ module _ (known : Known) (window : List Observation) (store : Store) (sizes : Ha
             (last_some (effect_byte at) effects) (last_some (effect_byte at) left) (byte_of after.memory at)
             (need.byte at) (byte_done at) (first_copied window at ≡ None) (are.byte at) (may_byte at);
         entry = λ at.
-            left_place (same_option nat_eq) (same_option_is nat_eq same_number) (own_option nat_eq own_number)
+            left_place (same_option nat_eq) (option_same nat_eq same_number) (own_option nat_eq own_number)
             (known.entry at) (first_entry window at) (last_some (effect_entry at) effects)
             (last_some (effect_entry at) left) (entry_of after.table at) (need.entry at) (entry_is_done at) (Unit {0})
             (are.entry at) (inl tt);
         global = λ at.
-            left_place (same_option same_value) (same_option_is same_value same_value_is)
+            left_place (same_option same_value) (option_same same_value value_same)
             (own_option same_value own_value) (known.global at) (first_global window at)
             (last_some (effect_global at) effects) (last_some (effect_global at) left) (slice_get after.globals at)
             (need.global at) (global_is_done at) (Unit {0}) (are.global at) (inl tt);
@@ -198,12 +191,12 @@ module _ (known : Known) (window : List Observation) (store : Store) (sizes : Ha
             (last_some (effect_byte at) effects) (last_some (effect_byte at) left) (byte_of after.memory at)
             (need.byte at) (byte_done at) (are.byte at) (held.byte at);
         entry = λ at.
-            left_all (same_option nat_eq) (same_option_is nat_eq same_number) (own_option nat_eq own_number)
+            left_all (same_option nat_eq) (option_same nat_eq same_number) (own_option nat_eq own_number)
             (known.entry at) (first_entry window at) (last_some (effect_entry at) effects)
             (last_some (effect_entry at) left) (entry_of after.table at) (need.entry at) (entry_is_done at)
             (are.entry at) (held.entry at);
         global = λ at.
-            left_all (same_option same_value) (same_option_is same_value same_value_is)
+            left_all (same_option same_value) (option_same same_value value_same)
             (own_option same_value own_value) (known.global at) (first_global window at)
             (last_some (effect_global at) effects) (last_some (effect_global at) left) (slice_get after.globals at)
             (need.global at) (global_is_done at) (are.global at) (held.global at);

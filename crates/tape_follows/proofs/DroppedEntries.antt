@@ -14,9 +14,10 @@ use Rattle.history_spec.specs.Step.{Program, after_control, after_instruction}
 use Rattle.replay_spec.specs.Alike.{same_option, same_values}
 use Rattle.replay_spec.proofs.Alike.{values_same}
 use Rattle.shown_steps.specs.Laws.{shown}
+use Rattle.replay_spec.proofs.Alike.{option_same}
 use Rattle.type_safety.specs.Frames.{Scope}
 use Rattle.type_safety.specs.Results.{HasRule}
-use Rattle.tape_follows.proofs.Same.{same_number, same_option_is, own_number, own_option, own_value}
+use Rattle.tape_follows.proofs.Same.{same_number, own_number, own_option, own_value}
 
 -- two are the same or apart
 abbrev IsDecided : {X : Type 0} → X → X → Type 0
@@ -42,7 +43,7 @@ values_decided = decided same_values values_same own_values
 
 found_decided : (a b : Option ℕ) → IsDecided a b
 found_decided =
-    decided (same_option nat_eq) (same_option_is nat_eq same_number) (own_option nat_eq own_number)
+    decided (same_option nat_eq) (option_same nat_eq same_number) (own_option nat_eq own_number)
 
 -- ---- kinds of traps, by number
 

@@ -4,32 +4,27 @@ use Rattle.std.specs.Prelude.{◌≢◌, ◌⊎◌, IfSome}
 use Rattle.std.specs.List.{list_any}
 use Rattle.std.proofs.lemmas.Option.{none-some}
 use Rattle.wasm_syntax.specs.declared.limits.TheConstants.{PAGE_SIZE}
-use Rattle.wasm_syntax.specs.declared.values.Val.{Val}
 use Rattle.wasm_syntax.specs.declared.modules.Module.{Module}
 use Rattle.wasm_syntax.specs.declared.signatures.Limits.{Limits}
 use Rattle.wasm_syntax.specs.Index.{all_memories}
 use Rattle.wasm_syntax.specs.Validity.{IsValid}
-use Rattle.run_outcomes.specs.declared.outcomes.Outcome.{Outcome}
-use Rattle.run_outcomes.specs.declared.outcomes.Outcome.TheVariants.{Trapped}
 use Rattle.trace_model.specs.declared.tapes.Origin.{Origin}
-use Rattle.trace_model.specs.declared.tapes.Next.{Next}
 use Rattle.trace_model.specs.declared.tapes.Segment.{Segment}
 use Rattle.history_spec.specs.declared.entries.Entry.{Entry}
 use Rattle.history_spec.specs.declared.entries.Entry.TheVariants.{Step, Trap}
-use Rattle.history_spec.specs.declared.entries.TrapKind.{TrapKind}
 use Rattle.history_spec.specs.Store.{Store, Memory}
 use Rattle.history_spec.specs.Instantiation.{memory_length, table_length}
 use Rattle.history_spec.specs.Code.{Code, code_of}
 use Rattle.history_spec.specs.Configuration.{Frame, Activation, InModule, Config}
 use Rattle.history_spec.specs.Instruction.{Control, Goes as GoesOn, Calls, Returns, Execution, Did, Traps, NoRule, execute}
-use Rattle.history_spec.specs.Step.{after_entries, after_control, after_instruction}
+use Rattle.history_spec.specs.Step.{after_entries, after_instruction}
 use Rattle.replay_spec.specs.Observations.{Observation, Begins, Ends}
-use Rattle.replay_spec.specs.Known.{Known, byte_of, entry_of, pages_of, known_after, known_after_all}
+use Rattle.replay_spec.specs.Known.{Known, byte_of, entry_of, pages_of, known_after}
 use Rattle.replay_spec.specs.Windows.{window, first_byte, first_entry, first_global, found_pages, found_entries}
 use Rattle.replay_spec.specs.Needed.{AreNeeded}
 use Rattle.replay_spec.specs.Alike.{same_origin}
 use Rattle.replay_spec.specs.Kept.{AreKeptSegments}
-use Rattle.replay_spec.specs.TapeRun.{program_awaiting, TapeConfig, Plays, Disagrees, TapeResult, tape_result, tape_after, tape_step, tape_steps, after_step, after_next, after_effects, after_segment_if, after_segment, tape_step_of, store_after_effects}
+use Rattle.replay_spec.specs.TapeRun.{program_awaiting, TapeConfig, Plays, Disagrees, TapeResult, tape_result, tape_after, tape_step, tape_steps, after_step, after_next, after_effects, after_segment_if, store_after_effects}
 use Rattle.observed_steps.specs.Changes.{with_change, with_changes}
 use Rattle.observed_steps.specs.Executions.{in_store, left_store, IsExecutedAlike, IsDoneAlike}
 use Rattle.observed_steps.specs.StoreAnswers.{SameKind, AnswersAll}
@@ -52,15 +47,15 @@ use Rattle.tape_follows.proofs.StepItems.{same_maxima_all, same_pages, same_entr
 use Rattle.tape_follows.proofs.LastWrites.{only_last_writes}
 use Rattle.tape_follows.proofs.HostStores.{sizes_of, whole_pages_of, types_same}
 use Rattle.tape_follows.proofs.Claims.{Claim}
-use Rattle.tape_follows.proofs.Closed.{IsBeforeInstruction, tape_at, IsMore, NoneLeft, OneMore, Goes, IsClosed}
+use Rattle.tape_follows.proofs.Closed.{IsBeforeInstruction, tape_at, IsMore, NoneLeft, OneMore, HoldsBeforeSegment, HoldsBeforeTrap, HoldsBeforeStep, IsClosed}
 use Rattle.tape_follows.proofs.Parts.{window_after, needed_after, own_origin, same_control}
-use Rattle.tape_follows.proofs.Replays.{own_shares}
 use Rattle.tape_follows.proofs.DroppedStores.{HoldsLess, answers_unshown}
 use Rattle.tape_follows.proofs.DroppedSteps.{less_after_all, answered_holds}
 use Rattle.tape_follows.proofs.DroppedEffects.{effects_done}
 use Rattle.tape_follows.proofs.DroppedActivity.{less_needed, none_left, all_left, pages_between, entries_between, known_length, known_count}
 use Rattle.tape_follows.proofs.DroppedTypes.{IsBetween, either_of, store_typed}
 use Rattle.tape_follows.proofs.DroppedEntries.{AreShown, Same, Apart, rules_shown, entry_first}
+use Rattle.tape_follows.proofs.Ready.{own_shares}
 
 -- ---- runs that are another
 
@@ -251,14 +246,7 @@ module _ (alike : ObservedStepsAreAlike) (answered : ShownStepsAreAnswered) (rul
           (less.global at))
           between
 
-  after_its_segment : (known : Known) (store : Store) (came : Origin) (next : Next) (left : List Observation)
-      (history : List Entry) (outcome : Outcome) (stack : List Activation) (counts : List ℕ)
-      → ((t : TapeConfig) → tape_step_of code stack t ≡ after_segment code t.config t.left t.came)
-      → IsStore m store → IsKnownOf known store → IsReadOf known (window left) store → IsMore left history
-      → Goes (lacks m) m heights known store left
-      (λ other segments. after_next code other counts stack segments came next) history outcome
-      → Goes (lacks m) m heights known store (Begins came ∷ Ends next ∷ left) (tape_at stack counts came) history
-      outcome
+  after_its_segment : HoldsBeforeSegment (lacks m) m heights
   after_its_segment known store came next left history outcome stack counts takes is of reads more goes other
       segments same ready =
       go ready.whole segments ready.needed ready.are_left ready.lacks
@@ -392,10 +380,7 @@ module _ (alike : ObservedStepsAreAlike) (answered : ShownStepsAreAnswered) (rul
           other_step code (record { config = now; left = segments; came = came }) history
           (HasAnother 0 [] entry own more (first.0 ++ []) is (ap (λ (l : List Entry). l ++ []) first.1) apart)
 
-    trap : (kind : TrapKind) (operands : List Val) (found : Option ℕ)
-        → execute code store frame ≡ Traps kind operands found
-        → Goes (lacks m) m heights known store (items ++ []) (tape_at (InModule frame ∷ below) counts came)
-        (Trap frame.func frame.at.number kind operands found ∷ []) Trapped
+    trap : HoldsBeforeTrap (lacks m) m heights known store frame below counts came
     trap kind operands found e other segments same ready =
         go (rules_shown frame here (execute code store frame) (execute code other frame) first_rule
         (second_rule other segments same [] ready))
@@ -424,19 +409,7 @@ module _ (alike : ObservedStepsAreAlike) (answered : ShownStepsAreAnswered) (rul
     typed_after other after (Calls waiting func args) is rule left = subst (IsStore m) left is
     typed_after other after (Returns results) is rule left = subst (IsStore m) left is
 
-    step : (operands results : List Val) (found : Option ℕ) (control : Control) (later : List Observation)
-        (history : List Entry) (outcome : Outcome)
-        → execute code store frame ≡ Did operands results found control
-        → IsReadOf (known_after_all known items) (window later) (with_changes store items)
-        → Goes (lacks m) m heights (known_after_all known items) (with_changes store items) later
-        (λ other segments. after_step segments came
-        (after_entries (Step frame.func frame.at.number operands results found ∷ [])
-        (after_control (program_awaiting code)
-        (record { store = other; stack = InModule frame ∷ below; counts = counts }) frame below
-        (in_store other control))))
-        (Step frame.func frame.at.number operands results found ∷ history) outcome
-        → Goes (lacks m) m heights known store (items ++ later) (tape_at (InModule frame ∷ below) counts came)
-        (Step frame.func frame.at.number operands results found ∷ history) outcome
+    step : HoldsBeforeStep (lacks m) m heights known store frame below counts came
     step operands results found control later history outcome e real goes other segments same ready =
         go (rules_shown frame here (execute code store frame) (execute code other frame) first_rule
         (second_rule other segments same later ready))
@@ -492,8 +465,6 @@ module _ (alike : ObservedStepsAreAlike) (answered : ShownStepsAreAnswered) (rul
         over = λ known other segments entries outcome ready.
             absurd (ready.lacks ready.are_left (holds_known known other ready.holds));
         segment = after_its_segment;
-        trap = λ known store frame below counts came kind operands found before.
-            trap known store frame below counts came before kind operands found;
-        step = λ known store frame below counts came operands results found control later history outcome before.
-            step known store frame below counts came before operands results found control later history outcome;
+        trap = trap;
+        step = step;
       }

@@ -19,7 +19,7 @@ use Rattle.tape_follows.proofs.Relation.{IsSize, IsReadOf, Holds, IsFound, IsSee
 use Rattle.tape_follows.proofs.Places.{IsTouched}
 use Rattle.tape_follows.proofs.Changes.{IsChangedBy, left_entries, left_bytes, changed_by}
 use Rattle.tape_follows.proofs.Items.{one_byte, one_entry, one_global, read_bytes, read_entries, read_globals, size_found, entries_there, bytes_there, touched_byte, touched_entry, touched_global}
-use Rattle.tape_follows.proofs.Held.{whole_pages}
+use Rattle.tape_follows.proofs.Held.{whole_pages, resized_found}
 use Rattle.tape_follows.proofs.StepItems.{there_too}
 use Rattle.tape_follows.proofs.DroppedPlaces.{MayLack, lack_after, none_before}
 
@@ -229,18 +229,8 @@ module _ (known : Known) (store : Store) (o : Observation) (seen : IsSeen known 
       let sum : found + (left - found) ≡ left = omega (arith, more) in
       inl (long ∙ ap (λ n. n + (left - found)) size ∙ sum ∙ sym same)
     where
-      real_is : table_length (with_change store (ResizesTable found left func)).table ≡ left
-      real_is =
-          let c = changed_by store (ResizesTable found left func) store_here store_answers can in
-          let p : table_length store.table ≡ found = entries_there store.table found store_here store_answers in
-          let q : table_length (with_change store (ResizesTable found left func)).table
-          ≡ table_length store.table + (left - found) = c.entries in
-          let more : found ≤ left = can in
-          omega (arith, p, q, more)
-
       same : found_entries left later ≡ left
-      same = size_found left (table_length (with_change store (ResizesTable found left func)).table)
-          (found_entries left later) _ (sym real_is) s
+      same = resized_found store found left func later _ store_here store_answers can s
   count_after (WritesEntry index func) answers here possible long is store_here store_answers can s (inl h) =
       inl (long ∙ h)
   count_after (WritesEntry index func) answers here possible long is store_here store_answers can s (inr h) =

@@ -12,6 +12,7 @@ use Rattle.tape_follows.proofs.HostStores.{sizes_of}
 use Rattle.tape_follows.proofs.AllSteps.{started}
 use Rattle.tape_follows.proofs.DroppedStores.{HoldsLess}
 use Rattle.tape_follows.proofs.DroppedRuns.{lacks, lacks_closed}
+use Rattle.tape_follows.proofs.SafeRuns.{safe_run}
 
 opening_holds_less : (store : Store) → HasSizes store → HoldsLess (opening_known store) [] store
 opening_holds_less store sizes =
@@ -26,15 +27,10 @@ opening_holds_less store sizes =
 pub nothing_can_be_dropped : LawsOfSteps → LawsOfRuns → ShownStepsAreAnswered → NothingCanBeDropped
 nothing_can_be_dropped laws safety answered m script supply store segments runnable fits links opens needed left are
     apart =
-    let h = safety.heights m runnable.valid in
-    let typed = safety.code m h.0 runnable.valid runnable.supported h.1 in
-    let is = safety.store m supply store runnable (safety.supplied m script supply fits links) opens in
-    let safe = safety.starts m h.0 (program_of m script) store script.main runnable.valid typed
-    (record { code = refl; answers = fits.imports }) is fits.main in
-    let closed = lacks_closed laws.alike answered laws.rules m h.0 runnable.valid typed in
-    let f = started laws m h.0 runnable.valid typed script.imports fits.imports (lacks m) closed needed.count
-    script.main
-    store is m.start safe in
+    let run = safe_run safety m script supply store runnable fits links opens in
+    let closed = lacks_closed laws.alike answered laws.rules m run.heights runnable.valid run.typed in
+    let f = started laws m run.heights runnable.valid run.typed script.imports fits.imports (lacks m) closed
+    needed.count script.main store run.is m.start run.safe in
     let kept = safety.kept (opening_known store)
     (run_observations (program_of m script) (start_in_store m script store) needed.count) segments in
     f.shows store left needed.outcome refl
@@ -42,8 +38,8 @@ nothing_can_be_dropped laws safety answered m script supply store segments runna
       whole = segments;
       needed = kept.0 needed.needed;
       are_left = are;
-      holds = opening_holds_less store (sizes_of m store is);
-      typed = is;
+      holds = opening_holds_less store (sizes_of m store run.is);
+      typed = run.is;
       lacks = λ same held. apart same;
     })
     needed.ends

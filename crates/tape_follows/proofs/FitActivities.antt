@@ -14,7 +14,6 @@ use Rattle.wasm_syntax.proofs.ValTypes.{types_own}
 use Rattle.host_script.specs.declared.scripts.Action.{Action}
 use Rattle.host_script.specs.declared.scripts.Answer.{Answer}
 use Rattle.host_script.specs.declared.scripts.Response.{Response}
-use Rattle.host_script.specs.declared.scripts.ResponseEnd.{ResponseEnd}
 use Rattle.host_script.specs.declared.scripts.ResponseEnd.TheVariants.{Return, Trap as EndsInTrap}
 use Rattle.host_script.specs.Fits.{FitsAction, FitsEnd, FitAnswers}
 use Rattle.run_outcomes.specs.declared.outcomes.Outcome.{Outcome}
@@ -50,6 +49,7 @@ use Rattle.tape_follows.proofs.KeptStores.{IsKept}
 use Rattle.tape_follows.proofs.KeptActions.{host_keeps}
 use Rattle.tape_follows.proofs.KeptSteps.{trap_seen, done_seen, done_keeps}
 use Rattle.tape_follows.proofs.FitSegments.{open_imports, Comes, Leaves, IsWindow, AreActivities, AreFromEnd, AreFrom, from_begin, after_seen}
+use Rattle.tape_follows.proofs.Follows.{AtEachStep}
 
 -- each call of an import ends as its type says
 abbrev pub FitEnds : Module → List Activation → Type 0
@@ -131,12 +131,8 @@ module _ (laws : LawsOfSteps) (reads : ReadsAreRealAfterSettling) (m : Module) (
       → AreFrom m known stack
       (observations program k (Running (record { store = store; stack = stack; counts = counts })))
 
-  pub record Makes (k : ℕ) : Type 0 where
-    pub runs : (frame : Frame) (below : List Activation) → GoesOn k (InModule frame ∷ below)
-    pub main : (action : Action) (actions : List Action) (below : List Activation)
-        → GoesOn k (InMain (action ∷ actions) ∷ below)
-    pub import : (number : ℕ) (args : List Val) (action : Action) (actions : List Action) (end : ResponseEnd)
-        (below : List Activation) → GoesOn k (InImport number args (action ∷ actions) end ∷ below)
+  abbrev pub Makes : ℕ → Type 0
+  Makes k = AtEachStep (GoesOn k)
 
   no_fault : (k : ℕ) (at : Progress) → HasOutcomeWithin k at → ((outcome : Outcome) → at ≡ Finished outcome → ⊥)
       → ((config : Config) → at ≡ Running config → ⊥) → ⊥

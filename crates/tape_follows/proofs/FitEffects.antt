@@ -18,7 +18,7 @@ use Rattle.wasm_syntax.proofs.ValTypes.{type_own}
 use Rattle.host_script.specs.Supply.{keeps_max, is_within}
 use Rattle.trace_model.specs.declared.tapes.Effect.{Effect}
 use Rattle.trace_model.specs.declared.tapes.Effect.TheVariants.{Grow, Table as GrowTable, Bytes, Entry, Global}
-use Rattle.trace_model.specs.Effects.{is_before, are_ordered_after, are_ordered}
+use Rattle.trace_model.specs.Effects.{are_ordered_after, are_ordered}
 use Rattle.trace_model.specs.Fitting.{is_within as is_size, grows_within, names_function, takes_value, effect_fits, effects_fit}
 use Rattle.history_spec.specs.Store.{Store, Memory, Table, pages}
 use Rattle.history_spec.specs.Instantiation.{memory_length, table_length}
@@ -31,10 +31,11 @@ use Rattle.type_safety.specs.Stores.{func_count, global_types, MayBeMemory, MayB
 use Rattle.tape_follows.specs.RealReads.{IsReadOf}
 use Rattle.tape_follows.proofs.Stores.{IsThere}
 use Rattle.tape_follows.proofs.Effects.{or_first, or_second, last_among, some_bytes}
-use Rattle.tape_follows.proofs.Activities.{HasSizes, changes_after, no_table_growth, needed_is, size_between, byte_there, entry_there}
+use Rattle.tape_follows.proofs.Activities.{HasSizes, changes_after, no_table_growth, needed_is, size_between, byte_there, entry_there, pages_after, ordered_rest}
 use Rattle.tape_follows.proofs.Activity.{size_needed, memory_seen, table_seen}
 use Rattle.tape_follows.proofs.HostStores.{sizes_of, type_at}
 use Rattle.tape_follows.proofs.KeptStores.{IsDeclared, IsKept}
+use Rattle.tape_follows.proofs.Same.{own_value}
 
 -- ---- sizes
 
@@ -103,33 +104,18 @@ entry_fits funcs m count (l ∷ more) (Some t) index func maybe below is =
 
 -- ---- the order of effects
 
-pages_before : (effect next : Effect) → is_before effect next ≡ true → effect_pages next ≡ None
-pages_before (Grow a) (Grow b) h = cc
-pages_before (GrowTable a) (Grow b) h = cc
-pages_before (Bytes a c) (Grow b) h = cc
-pages_before (Entry a c) (Grow b) h = cc
-pages_before (Global a c) (Grow b) h = cc
-pages_before effect next h = refl
+-- after a global only globals are set, of greater indices
+pub none_after_global : {X : Type 0} (part : Effect → Option X) → ((x : ℕ) (v : Val) → part (Global x v) ≡ None)
+    → (global : ℕ) (value : Val) (effects : List Effect) → are_ordered_after (Global global value) effects ≡ true
+    → last_some part effects ≡ None
+none_after_global part none global value [] h = refl
+none_after_global part none global value (Global x v ∷ effects) h =
+    let later = none_after_global part none x v effects
+    (and_right (nat_lt global x) (are_ordered_after (Global x v) effects) h) in
+    (λ i. option_or (later i) (none x v i))
+none_after_global part none global value (effect ∷ effects) h = cc
 
--- no effect grows the memory after another effect
-pages_after : (effect : Effect) (effects : List Effect) → are_ordered_after effect effects ≡ true
-    → last_some effect_pages effects ≡ None
-pages_after effect [] h = refl
-pages_after effect (next ∷ effects) h =
-    let later = pages_after next effects (and_right (is_before effect next) (are_ordered_after next effects) h) in
-    let here = pages_before effect next (and_left (is_before effect next) (are_ordered_after next effects) h) in
-    (λ i. option_or (later i) (here i))
-
--- after a global no entry is set, and only globals of greater indices
-entries_after_globals : (global : ℕ) (value : Val) (at : ℕ) (effects : List Effect)
-    → are_ordered_after (Global global value) effects ≡ true → last_some (effect_entry at) effects ≡ None
-entries_after_globals global value at [] h = refl
-entries_after_globals global value at (Global x v ∷ effects) h =
-    ap (λ o. option_or o None)
-    (entries_after_globals x v at effects (and_right (nat_lt global x) (are_ordered_after (Global x v) effects) h))
-entries_after_globals global value at (effect ∷ effects) h = cc
-
-globals_after : (global : ℕ) (value : Val) (at : ℕ) (effects : List Effect) → at ≤ global
+pub globals_after : (global : ℕ) (value : Val) (at : ℕ) (effects : List Effect) → at ≤ global
     → are_ordered_after (Global global value) effects ≡ true → last_some (effect_global at) effects ≡ None
 globals_after global value at [] low h = refl
 globals_after global value at (Global x v ∷ effects) low h =
@@ -142,7 +128,7 @@ globals_after global value at (Global x v ∷ effects) low h =
 globals_after global value at (effect ∷ effects) low h = cc
 
 -- after an entry only those of greater indices are set
-entries_after : (index : ℕ) (func : Option ℕ) (at : ℕ) (effects : List Effect) → at ≤ index
+pub entries_after : (index : ℕ) (func : Option ℕ) (at : ℕ) (effects : List Effect) → at ≤ index
     → are_ordered_after (Entry index func) effects ≡ true → last_some (effect_entry at) effects ≡ None
 entries_after index func at [] low h = refl
 entries_after index func at (Entry x f ∷ effects) low h =
@@ -153,16 +139,8 @@ entries_after index func at (Entry x f ∷ effects) low h =
     let differs : nat_eq x at ≡ false = grind (arith, nat_tests, low, less) in
     (λ i. option_or (later i) (cond (differs i) (Some f) None))
 entries_after index func at (Global x v ∷ effects) low h =
-    ap (λ o. option_or o None) (entries_after_globals x v at effects h)
+    ap (λ o. option_or o None) (none_after_global (effect_entry at) (λ x v. refl) x v effects h)
 entries_after index func at (effect ∷ effects) low h = cc
-
-ordered_rest : (effect : Effect) (effects : List Effect) → are_ordered_after effect effects ≡ true
-    → are_ordered effects ≡ true
-ordered_rest effect [] h = refl
-ordered_rest effect (next ∷ effects) h = and_right (is_before effect next) (are_ordered_after next effects) h
-
-own_value : (v : Val) → same_value v v ≡ true
-own_value v = and_true (same_type v.ty v.ty) (nat_eq v.bits v.bits) (type_own v.ty) (grind (arith, nat_tests))
 
 module _ (m : Module) (known : Known) (window : List Observation) (store : Store) (kept : IsKept m known store)
     (real : IsReadOf known window store) where

@@ -1,11 +1,14 @@
 -- What is left of a scripted run, beside a tape's run.
 use Rattle.std.specs.Prelude.{◌≡◌, ℕ, List, [], ◌∷◌, ◌++◌, map}
+use Rattle.wasm_syntax.specs.declared.values.Val.{Val}
+use Rattle.host_script.specs.declared.scripts.Action.{Action}
+use Rattle.host_script.specs.declared.scripts.ResponseEnd.{ResponseEnd}
 use Rattle.host_script.specs.declared.scripts.ResponseEnd.TheVariants.{Trap as EndsInTrap}
 use Rattle.run_outcomes.specs.declared.outcomes.Outcome.{Outcome}
 use Rattle.trace_model.specs.declared.tapes.Origin.{Origin}
 use Rattle.trace_model.specs.declared.tapes.Segment.{Segment}
 use Rattle.history_spec.specs.Store.{Store}
-use Rattle.history_spec.specs.Configuration.{Activation, InModule, InMain, InImport}
+use Rattle.history_spec.specs.Configuration.{Frame, Activation, InModule, InMain, InImport}
 use Rattle.history_spec.specs.Step.{Program, Finished, StepResult}
 use Rattle.history_spec.specs.Run.{all_one, steps}
 use Rattle.replay_spec.specs.Observations.{Observation, Begins}
@@ -25,6 +28,14 @@ paused (InImport import args actions end) = InImport import args (pause ∷ []) 
 
 abbrev pub all_paused : List Activation → List Activation
 all_paused stack = map paused stack
+
+-- a claim on the stacks from which a step is made: the module's, or an action of the host's
+pub record AtEachStep (claim : List Activation → Type 0) : Type 0 where
+  pub runs : (frame : Frame) (below : List Activation) → claim (InModule frame ∷ below)
+  pub main : (action : Action) (actions : List Action) (below : List Activation)
+      → claim (InMain (action ∷ actions) ∷ below)
+  pub import : (number : ℕ) (args : List Val) (action : Action) (actions : List Action) (end : ResponseEnd)
+      (below : List Activation) → claim (InImport number args (action ∷ actions) end ∷ below)
 
 -- the observations that are left, where the host's activity began if control is with the host
 abbrev pub pending : List Activation → Origin → List Observation → List Observation

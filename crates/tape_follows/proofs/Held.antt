@@ -24,6 +24,26 @@ whole_pages n k e =
     ∙ ap (λ n. n / PAGE_SIZE) (let z : k * 65536 ≡ k * 65536 + 0 = omega arith in z)
     ∙ div-mul-add k 65536 0 (omega arith)
 
+-- once the table is resized, the rest of the window finds its size
+pub resized_found : (store : Store) (found left : ℕ) (func : Option ℕ) (later : List Observation) (Within : Type 0)
+    → IsHere store (ResizesTable found left func) → Answers store (ResizesTable found left func)
+    → CanChange store (ResizesTable found left func)
+    → IsSize left (table_length (with_change store (ResizesTable found left func)).table) (found_entries left later)
+    Within
+    → found_entries left later ≡ left
+resized_found store found left func later Within here answers possible s =
+    size_found left (table_length (with_change store (ResizesTable found left func)).table) (found_entries left later)
+    Within (sym real_is) s
+  where
+    real_is : table_length (with_change store (ResizesTable found left func)).table ≡ left
+    real_is =
+        let c = changed_by store (ResizesTable found left func) here answers possible in
+        let p : table_length store.table ≡ found = entries_there store.table found here answers in
+        let q : table_length (with_change store (ResizesTable found left func)).table
+        ≡ table_length store.table + (left - found) = c.entries in
+        let more : found ≤ left = possible in
+        omega (arith, p, q, more)
+
 -- an access is within the size that is held as it was within the store's
 module _ (known found : ℕ) (more : known ≤ found) where
   reach : (end later n : ℕ) (b : Bool) → nat_le end (known * PAGE_SIZE) ≡ b → (b ≡ true → known ≤ later)
@@ -254,19 +274,8 @@ module _ (known : Known) (store : Store) (k : IsKnownOf known store) where
             sum : found + (left - found) ≡ left
             sum = let more : found ≤ left = possible in omega (arith, more)
 
-            real_is : table_length (with_change store (ResizesTable found left func)).table ≡ left
-            real_is =
-                let c = changed_by store (ResizesTable found left func) here answers possible in
-                let p : table_length store.table ≡ found = entries_there store.table found here answers in
-                let q : table_length (with_change store (ResizesTable found left func)).table
-                ≡ table_length store.table + (left - found) = c.entries in
-                let more : found ≤ left = possible in
-                omega (arith, p, q, more)
-
             same : found_entries left later ≡ left
-            same = size_found left (table_length (with_change store (ResizesTable found left func)).table)
-                (found_entries left later) _
-                (sym real_is) s
+            same = resized_found store found left func later _ here answers possible s
         count (WritesEntry index func) here is answers long possible there s h =
             if_entries (with_change other (WritesEntry index func)).table (found_entries known.entries later)
             (long ∙ entries_there other.table (found_entries known.entries later) there h)

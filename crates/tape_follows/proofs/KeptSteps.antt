@@ -25,7 +25,7 @@ use Rattle.tape_follows.proofs.HostStores.{sizes_of, whole_pages_of}
 use Rattle.tape_follows.proofs.KeptStores.{AreDeclared, immutable_after, IsKept}
 
 -- a value given to a global never traps
-global_never_traps : (code : Code) (store : Store) (frame : Frame) (x : ℕ) (rest : Nest) (kind : TrapKind)
+pub global_never_traps : (code : Code) (store : Store) (frame : Frame) (x : ℕ) (rest : Nest) (kind : TrapKind)
     (operands : List Val) (found : Option ℕ) → frame.at.rest ≡ Plain (GlobalSet x) rest
     → execute code store frame ≡ Traps kind operands found → ⊥
 global_never_traps code store frame x rest kind operands found is h =

@@ -14,13 +14,14 @@ pub mod Activity
 pub mod HostStores
 pub mod KeptStores
 pub mod KeptSteps
+pub mod SafeRuns
 pub mod Claims
 pub mod Closed
 pub mod Follows
 pub mod Parts
+pub mod Ready
 pub mod Replays
 pub mod Simulation
-pub mod ModuleSteps
 pub mod AllSteps
 pub mod Whole
 pub mod DroppedPlaces

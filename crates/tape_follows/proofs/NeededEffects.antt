@@ -4,11 +4,12 @@ use Rattle.std.specs.Prelude.{option_map}
 use Rattle.std.specs.Option.{option_or, option_flatten}
 use Rattle.std.specs.List.{list_all}
 use Rattle.std.proofs.lemmas.Option.{none-some, slice_get_within}
+use Rattle.list_laws.proofs.Booleans.{and_true}
 use Rattle.wasm_syntax.specs.declared.values.Val.{Val}
 use Rattle.wasm_syntax.specs.declared.modules.Module.{Module}
 use Rattle.trace_model.specs.declared.tapes.Effect.{Effect}
-use Rattle.trace_model.specs.declared.tapes.Effect.TheVariants.{Grow, Table as GrowTable, Bytes, Entry, Global}
-use Rattle.trace_model.specs.Effects.{are_ordered_after, are_ordered}
+use Rattle.trace_model.specs.declared.tapes.Effect.TheVariants.{Grow, Table as GrowTable, Entry, Global}
+use Rattle.trace_model.specs.Effects.{is_before, are_ordered_after, are_ordered}
 use Rattle.history_spec.specs.Store.{Store}
 use Rattle.history_spec.specs.Instantiation.{memory_length, table_length}
 use Rattle.replay_spec.specs.Observations.{Observation}
@@ -17,7 +18,7 @@ use Rattle.replay_spec.specs.Alike.{same_option, same_value}
 use Rattle.replay_spec.specs.Windows.{first_global}
 use Rattle.replay_spec.specs.Needed.{needed_byte, needed_entry, needed_global, needed_pages, needed_entries, effect_byte, effect_entry, effect_global, effect_pages, effect_entries, has_bytes, AreNeeded}
 use Rattle.tape_follows.specs.RealReads.{IsReadOf}
-use Rattle.tape_follows.proofs.Effects.{AreChanges}
+use Rattle.tape_follows.proofs.Effects.{IsChange, AreChanges}
 use Rattle.tape_follows.proofs.Activities.{HasSizes, no_growth, no_table_growth, needed_is, byte_there, entry_there}
 use Rattle.tape_follows.proofs.Activity.{or_nothing}
 use Rattle.tape_follows.proofs.HostStores.{sizes_of}
@@ -35,31 +36,30 @@ abbrev with_table_growth : Option ℕ → List Effect → List Effect
 with_table_growth None rest = rest
 with_table_growth (Some size) rest = GrowTable size ∷ rest
 
+-- a growth stands before changes
+memory_first : (pages : ℕ) (next : Effect) → IsChange next → is_before (Grow pages) next ≡ true
+memory_first pages (Grow n) h = absurd h
+memory_first pages next h = refl
+
+table_first : (size : ℕ) (next : Effect) → IsChange next → is_before (GrowTable size) next ≡ true
+table_first size (Grow n) h = absurd h
+table_first size (GrowTable n) h = absurd h
+table_first size next h = refl
+
+growth_before : (growth : Effect) → ((next : Effect) → IsChange next → is_before growth next ≡ true)
+    → (effects : List Effect) → AreChanges effects → are_ordered effects ≡ true
+    → are_ordered_after growth effects ≡ true
+growth_before growth first [] are order = refl
+growth_before growth first (next ∷ effects) are order =
+    and_true (is_before growth next) (are_ordered_after next effects) (first next are.0) order
+
 module _ (changes : List Effect) (are : AreChanges changes) (order : are_ordered changes ≡ true)
     (some : list_all has_bytes changes ≡ true) where
   table_before : (size : ℕ) → are_ordered_after (GrowTable size) changes ≡ true
-  table_before size = go changes are order
-    where
-      go : (effects : List Effect) → AreChanges effects → are_ordered effects ≡ true
-          → are_ordered_after (GrowTable size) effects ≡ true
-      go [] are order = refl
-      go (Grow n ∷ effects) are order = absurd are.0
-      go (GrowTable n ∷ effects) are order = absurd are.0
-      go (Bytes address bytes ∷ effects) are order = order
-      go (Entry index func ∷ effects) are order = order
-      go (Global global value ∷ effects) are order = order
+  table_before size = growth_before (GrowTable size) (table_first size) changes are order
 
   memory_before : (pages : ℕ) → are_ordered_after (Grow pages) changes ≡ true
-  memory_before pages = go changes are order
-    where
-      go : (effects : List Effect) → AreChanges effects → are_ordered effects ≡ true
-          → are_ordered_after (Grow pages) effects ≡ true
-      go [] are order = refl
-      go (Grow n ∷ effects) are order = absurd are.0
-      go (GrowTable n ∷ effects) are order = absurd are.0
-      go (Bytes address bytes ∷ effects) are order = order
-      go (Entry index func ∷ effects) are order = order
-      go (Global global value ∷ effects) are order = order
+  memory_before pages = growth_before (Grow pages) (memory_first pages) changes are order
 
   growths_ordered : (pages size : Option ℕ) → are_ordered (with_growth pages (with_table_growth size changes)) ≡ true
   growths_ordered None None = order

@@ -25,6 +25,7 @@ use Rattle.tape_follows.proofs.RealReads.{reads_are_real_after_settling}
 use Rattle.tape_follows.proofs.KeptStores.{new_declared, IsKept}
 use Rattle.tape_follows.proofs.FitSegments.{AreFromEnd, first_needed, first_fits}
 use Rattle.tape_follows.proofs.FitActivities.{from_start}
+use Rattle.tape_follows.proofs.SafeRuns.{safe_run}
 
 module _ (laws : LawsOfSteps) (safety : LawsOfRuns) (m : Module) (script : Script) (supply : Supply) (store : Store)
     (runnable : IsRunnable m) (fits : Fits m script) (links : supply_of m script ≡ Ok supply)
@@ -39,20 +40,16 @@ module _ (laws : LawsOfSteps) (safety : LawsOfRuns) (m : Module) (script : Scrip
   run_fits : (count : ℕ) (outcome : Outcome) → (run_from program all_one initial count).at ≡ Finished outcome
       → AreFromEnd m (opening_known store) [] (observed_from program count initial)
   run_fits count outcome ends =
-      let h = safety.heights m runnable.valid in
-      let typed = safety.code m h.0 runnable.valid runnable.supported h.1 in
-      let matches = safety.supplied m script supply fits links in
-      let is = safety.store m supply store runnable matches opens in
-      let safe = safety.starts m h.0 program store script.main runnable.valid typed
-      (record { code = refl; answers = fits.imports }) is fits.main in
+      let run = safe_run safety m script supply store runnable fits links opens in
       let kept : IsKept m (opening_known store) store = record {
-        is = is;
-        of = opening_is_known store (sizes_of m store is);
-        declared = new_declared m supply store matches opens;
+        is = run.is;
+        of = opening_is_known store (sizes_of m store run.is);
+        declared = new_declared m supply store (safety.supplied m script supply fits links) opens;
         immutable = λ at ty there fixed. refl;
       } in
-      from_start laws (reads_are_real_after_settling laws) m h.0 runnable.valid typed script.imports fits.imports count
-      script.main store (opening_known store) kept m.start runnable.valid.outside.start safe (outcome, ends)
+      from_start laws (reads_are_real_after_settling laws) m run.heights runnable.valid run.typed script.imports
+      fits.imports count script.main store (opening_known store) kept m.start runnable.valid.outside.start run.safe
+      (outcome, ends)
 
 pub needed_tapes_fit : LawsOfSteps → LawsOfRuns → NeededTapesFit
 needed_tapes_fit laws safety m script supply store segments runnable fits links opens needed =

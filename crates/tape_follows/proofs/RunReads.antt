@@ -34,6 +34,7 @@ use Rattle.tape_follows.proofs.HostStores.{sizes_of, host_change, known_of_chang
 use Rattle.tape_follows.proofs.KeptSteps.{done_known}
 use Rattle.tape_follows.proofs.AllSteps.{opening_is_known}
 use Rattle.tape_follows.proofs.RealReads.{reads_are_real}
+use Rattle.tape_follows.proofs.SafeRuns.{safe_run}
 
 -- ---- what is known after activities of the host
 
@@ -230,17 +231,13 @@ module _ (laws : LawsOfSteps) (m : Module) (heights : Heights) (valid : IsValid 
 
 pub runs_read_what_is_there : LawsOfSteps → LawsOfRuns → RunsReadWhatIsThere
 runs_read_what_is_there laws safety m script supply store so_far config runnable fits links opens at =
-    let h = safety.heights m runnable.valid in
-    let typed = safety.code m h.0 runnable.valid runnable.supported h.1 in
-    let is = safety.store m supply store runnable (safety.supplied m script supply fits links) opens in
+    let run = safe_run safety m script supply store runnable fits links opens in
     let program = program_of m script in
     let initial = start_in_store m script store in
-    let safe = safety.starts m h.0 program store script.main runnable.valid typed
-    (record { code = refl; answers = fits.imports }) is fits.main in
-    let begins = after_start laws m h.0 runnable.valid typed script.imports fits.imports script.main store
-    (opening_known store) (opening_is_known store (sizes_of m store is)) m.start in
-    let found = after_steps laws m h.0 runnable.valid typed script.imports fits.imports so_far (opening_known store)
-    initial.next config safe begins at in
+    let begins = after_start laws m run.heights runnable.valid run.typed script.imports fits.imports script.main store
+    (opening_known store) (opening_is_known store (sizes_of m store run.is)) m.start in
+    let found = after_steps laws m run.heights runnable.valid run.typed script.imports fits.imports so_far
+    (opening_known store) initial.next config run.safe begins at in
     let known_is =
     known_after_both (opening_known store) (activity_observations initial.entries)
     (observations program so_far initial.next)
@@ -249,6 +246,6 @@ runs_read_what_is_there laws safety m script supply store so_far config runnable
     let of = subst (λ known. IsKnownOf known config.store) (sym known_is) found.2 in (
       of,
       λ within k.
-          reads_are_real laws m h.0 program _ config k runnable.valid typed
+          reads_are_real laws m run.heights program _ config k runnable.valid run.typed
           (record { code = refl; answers = fits.imports }) found.0 found.1 within of,
     )

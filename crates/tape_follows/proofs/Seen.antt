@@ -1,5 +1,5 @@
 -- What an instruction observes of the run's store is there, possible, and within the sizes that are known then.
-use Rattle.std.proofs.Common.{◌≡◌, ℕ, zero, suc, ◌+◌, ◌-◌, ◌*◌, ◌/◌, ◌%◌, ◌<◌, ◌≤◌, List, [], ◌∷◌, length, take, drop, Option, Some, None, Bool, true, false, cond, ◌&&◌, nat_le, nat_lt, nat_eq, slice_get, refl, sym, ap, ◌∙◌, subst, arith, length-take-le, length-append}
+use Rattle.std.proofs.Common.{◌≡◌, ℕ, ◌+◌, ◌-◌, ◌*◌, ◌/◌, ◌%◌, ◌<◌, ◌≤◌, List, [], ◌∷◌, length, take, drop, Option, Some, None, Bool, true, false, cond, ◌&&◌, nat_le, nat_lt, nat_eq, slice_get, refl, sym, ap, ◌∙◌, subst, arith, length-take-le, length-append}
 use Rattle.std.specs.Prelude.{IfSome, unwrap_or, replicate}
 use Rattle.std.specs.Option.{option_or}
 use Rattle.std.proofs.Math.Nat.{add-mul-div_right}
@@ -14,13 +14,14 @@ use Rattle.wasm_syntax.specs.declared.instructions.Instr.{Instr}
 use Rattle.wasm_syntax.specs.declared.instructions.Instr.TheVariants.{CallIndirect, GlobalGet, GlobalSet, Load, Store as StoreTo, MemorySize, MemoryGrow, MemoryCopy, MemoryFill, TableSet, TableGrow, TableSize}
 use Rattle.wasm_syntax.specs.Nest.{Nest, Plain}
 use Rattle.wasm_syntax.specs.Opcodes.{load_of, store_of}
-use Rattle.history_spec.specs.Store.{Store, Memory, Table, pages, zeros, bytes_at, bytes_of, with_items_at, with_bytes_at, with_entry, grown_memory_if, grown_table_if}
+use Rattle.history_spec.specs.Store.{Store, Memory, Table, pages, zeros, bytes_at, with_items_at, with_bytes_at, with_entry, grown_memory_if, grown_table_if}
 use Rattle.history_spec.specs.Instantiation.{table_length}
 use Rattle.history_spec.specs.Instruction.{referent}
 use Rattle.replay_spec.specs.Known.{Known, byte_among, pages_of, carried_byte, carried_entry, known_after}
 use Rattle.replay_spec.specs.Observations.{Observation, Reads, Copies, Writes, Reaches, Resizes, ReadsEntry, WritesEntry, ReachesEntry, ResizesTable, ReadsGlobal, WritesGlobal, on, bits_from_top, size_observations, grow_observations, table_size_observations, table_grow_observations, load_observations, store_observations, copy_observations, entry_observations, set_observations, plain_observations, nest_observations}
 use Rattle.observed_steps.specs.StoreAnswers.{HasWholePages, Answers, AnswersAll}
 use Rattle.observed_steps.specs.Changes.{CanChange, CanChangeAll, with_pages}
+use Rattle.observed_steps.proofs.Memories.{bytes_of_length}
 use Rattle.tape_follows.proofs.Stores.{IsHere}
 use Rattle.tape_follows.proofs.Relation.{IsFound, IsSeen, AreSeen}
 
@@ -90,10 +91,6 @@ written_fits bytes address news all h =
     in
     grind (arith, nat_tests, t)
 
-bytes_of_length : (count number : ℕ) → length (bytes_of count number) ≡ count
-bytes_of_length zero number = refl
-bytes_of_length (suc count) number = ap suc (bytes_of_length count (number / 256))
-
 grown_more : (b : Bool) (memory : Memory) (by : ℕ)
     → pages memory ≤ pages (unwrap_or (grown_memory_if b memory by) memory)
 grown_more false memory by = omega arith
@@ -121,19 +118,28 @@ module _ (store : Store) where
   on_seen known None observe k answers = tt
   on_seen known (Some x) observe k answers = k x refl answers
 
-  -- an observation that carries no byte and no entry
-  carries_none : (known : Known) (o : Observation) → IsHere store o → IsFound store o → Answers store o
-      → CanChange store o → ((at : ℕ) → carried_byte at o ≡ None) → ((at : ℕ) → carried_entry at o ≡ None)
+  -- an observation that carries bytes and entries within what is known
+  carries : (known : Known) (o : Observation) → IsHere store o → IsFound store o → Answers store o → CanChange store o
+      → ((at x : ℕ) → carried_byte at o ≡ Some x → at < (known_after known o).pages * PAGE_SIZE)
+      → ((at : ℕ) (x : Option ℕ) → carried_entry at o ≡ Some x → at < (known_after known o).entries)
       → IsSeen known store o
-  carries_none known o here found answers possible no_byte no_entry =
+  carries known o here found answers possible bytes entries =
       record {
         here = here;
         found = found;
         answers = answers;
         possible = possible;
-        bytes = λ at x h. absurd (none-some x (sym (no_byte at) ∙ h));
-        entries = λ at x h. absurd (none-some x (sym (no_entry at) ∙ h));
+        bytes = bytes;
+        entries = entries;
       }
+
+  -- one that carries no byte and no entry
+  carries_none : (known : Known) (o : Observation) → IsHere store o → IsFound store o → Answers store o
+      → CanChange store o → ((at : ℕ) → carried_byte at o ≡ None) → ((at : ℕ) → carried_entry at o ≡ None)
+      → IsSeen known store o
+  carries_none known o here found answers possible no_byte no_entry =
+      carries known o here found answers possible (λ at x h. absurd (none-some x (sym (no_byte at) ∙ h)))
+      (λ at x h. absurd (none-some x (sym (no_entry at) ∙ h)))
 
   -- one that carries bytes, within the pages that are known
   carries_bytes : (known : Known) (o : Observation) (address : ℕ) (bytes : List ℕ) → IsHere store o → IsFound store o
@@ -142,15 +148,9 @@ module _ (store : Store) where
       → ((at : ℕ) → carried_entry at o ≡ None) → address + length bytes ≤ (known_after known o).pages * PAGE_SIZE
       → IsSeen known store o
   carries_bytes known o address bytes here found answers possible those no_entry fits =
-      record {
-        here = here;
-        found = found;
-        answers = answers;
-        possible = possible;
-        bytes = λ at x h.
-            among_within address bytes ((known_after known o).pages * PAGE_SIZE) at x fits (those at x h);
-        entries = λ at x h. absurd (none-some x (sym (no_entry at) ∙ h));
-      }
+      carries known o here found answers possible
+      (λ at x h. among_within address bytes ((known_after known o).pages * PAGE_SIZE) at x fits (those at x h))
+      (λ at x h. absurd (none-some x (sym (no_entry at) ∙ h)))
 
   -- one that carries an entry, below the number of those that are known
   carries_entry : (known : Known) (o : Observation) (index : ℕ) (func : Option ℕ) → IsHere store o → IsFound store o
@@ -158,15 +158,8 @@ module _ (store : Store) where
       → ((at : ℕ) (x : Option ℕ) → carried_entry at o ≡ Some x → cond (nat_eq index at) (Some func) None ≡ Some x)
       → index < (known_after known o).entries → IsSeen known store o
   carries_entry known o index func here found answers possible no_byte that below =
-      record {
-        here = here;
-        found = found;
-        answers = answers;
-        possible = possible;
-        bytes = λ at x h. absurd (none-some x (sym (no_byte at) ∙ h));
-        entries = λ at x h.
-            subst (λ n. n < (known_after known o).entries) (entry_is index func at x (that at x h)) below;
-      }
+      carries known o here found answers possible (λ at x h. absurd (none-some x (sym (no_byte at) ∙ h)))
+      (λ at x h. subst (λ n. n < (known_after known o).entries) (entry_is index func at x (that at x h)) below)
 
   module _ (memory : Memory) (is : store.memory ≡ Some memory) where
     seen_reach : (known : Known) (end : ℕ) → Answers store (Reaches end (pages memory))

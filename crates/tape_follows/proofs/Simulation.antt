@@ -11,7 +11,6 @@ use Rattle.wasm_syntax.specs.Validity.{IsValid}
 use Rattle.host_script.specs.declared.scripts.Action.{Action}
 use Rattle.host_script.specs.declared.scripts.Answer.{Answer}
 use Rattle.host_script.specs.declared.scripts.Response.{Response}
-use Rattle.host_script.specs.declared.scripts.ResponseEnd.{ResponseEnd}
 use Rattle.host_script.specs.declared.scripts.ResponseEnd.TheVariants.{Return, Trap as EndsInTrap}
 use Rattle.host_script.specs.Fits.{FitAnswers}
 use Rattle.run_outcomes.specs.declared.outcomes.Outcome.{Outcome}
@@ -32,7 +31,7 @@ use Rattle.history_spec.specs.Step.{Program, Running, Finished, Faulted, StepRes
 use Rattle.history_spec.specs.Run.{all_one, steps}
 use Rattle.replay_spec.specs.Observations.{Observation, Begins, Ends, observations}
 use Rattle.replay_spec.specs.Known.{Known}
-use Rattle.replay_spec.specs.TapeRun.{pause, awaiting_answer, program_awaiting, TapeConfig, TapeResult, tape_result, Plays, after_step, after_next, after_segment, tape_step_of}
+use Rattle.replay_spec.specs.TapeRun.{pause, awaiting_answer, program_awaiting, TapeConfig, TapeResult, after_step, after_next, after_segment, tape_step_of}
 use Rattle.observed_steps.specs.Executions.{left_store, in_store}
 use Rattle.type_safety.specs.Configurations.{IsConfig, IsSafe, IsTypedCode, scope}
 use Rattle.type_safety.specs.Heights.{Heights}
@@ -42,8 +41,8 @@ use Rattle.tape_follows.specs.Below.{LawsOfSteps}
 use Rattle.tape_follows.proofs.Stores.{maxima}
 use Rattle.tape_follows.proofs.Relation.{IsKnownOf}
 use Rattle.tape_follows.proofs.Claims.{Claim}
-use Rattle.tape_follows.proofs.Closed.{NoneLeft, OneMore, IsClosed}
-use Rattle.tape_follows.proofs.Follows.{all_paused, pending, observed_from, Follows, AreNested}
+use Rattle.tape_follows.proofs.Closed.{tape_at, NoneLeft, OneMore, IsClosed}
+use Rattle.tape_follows.proofs.Follows.{AtEachStep, all_paused, pending, observed_from, Follows, AreNested}
 use Rattle.tape_follows.proofs.HostStores.{host_change, known_of_change}
 use Rattle.tape_follows.proofs.Parts.{finished_observations, follows_fault, host_reads, follows_entry, follows_over, follows_segment}
 
@@ -75,13 +74,7 @@ module _ (laws : LawsOfSteps) (m : Module) (heights : Heights) (valid : IsValid 
 
   -- the tape's run at a configuration
   abbrev pub at_config : List Activation → List ℕ → Origin → Store → List Segment → TapeResult
-  at_config stack counts came other segments =
-      tape_result []
-      (Plays (record {
-        config = record { store = other; stack = all_paused stack; counts = counts };
-        left = segments;
-        came = came;
-      }))
+  at_config stack = tape_at (all_paused stack)
 
   -- a step is made from a configuration
   abbrev pub Goes_on : ℕ → List Activation → Type 0
@@ -94,12 +87,8 @@ module _ (laws : LawsOfSteps) (m : Module) (heights : Heights) (valid : IsValid 
       (step_result [] (Running (record { store = store; stack = stack; counts = counts })))
       (at_config stack counts came)
 
-  pub record Makes (k : ℕ) : Type 0 where
-    pub runs : (frame : Frame) (below : List Activation) → Goes_on k (InModule frame ∷ below)
-    pub main : (action : Action) (actions : List Action) (below : List Activation)
-        → Goes_on k (InMain (action ∷ actions) ∷ below)
-    pub import : (number : ℕ) (args : List Val) (action : Action) (actions : List Action) (end : ResponseEnd)
-        (below : List Activation) → Goes_on k (InImport number args (action ∷ actions) end ∷ below)
+  abbrev pub Makes : ℕ → Type 0
+  Makes k = AtEachStep (Goes_on k)
 
   -- ---- returns
 

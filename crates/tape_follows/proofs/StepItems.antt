@@ -48,6 +48,14 @@ there_too part o (Some x) e there = (x, refl)
 there_too part (Some y) None e there = cc
 there_too part None None e there = there
 
+-- what two that are there alike allow
+both_alike : {X : Type 0} (max : X → Option ℕ) (R : X → X → Type 0) → ((a b : X) → max b ≡ max a → R a b)
+    → (o p : Option X) → option_map max p ≡ option_map max o → BothOrNeither R o p
+both_alike max R alike None None e = tt
+both_alike max R alike None (Some b) e = cc
+both_alike max R alike (Some a) None e = cc
+both_alike max R alike (Some a) (Some b) e = alike a b (same_Some (max b) (max a) e)
+
 module _ (store other : Store) (same : maxima other ≡ maxima store) where
   memory_there : IsThere store.memory → IsThere other.memory
   memory_there = there_too (λ m. m.max) store.memory other.memory (ap (λ (m : Maxima). m.pages) same)
@@ -71,19 +79,15 @@ module _ (store other : Store) (same : maxima other ≡ maxima store) where
 
   pub same_pages : (o p : Option Memory) → option_map (λ m. m.max) p ≡ option_map (λ m. m.max) o
       → BothOrNeither AllowSamePages o p
-  same_pages None None e = tt
-  same_pages None (Some m) e = cc
-  same_pages (Some m) None e = cc
-  same_pages (Some m) (Some n) e =
-      λ size. ap (λ max. is_within size max && nat_le size MOST_PAGES) (same_Some n.max m.max e)
+  same_pages =
+      both_alike (λ m. m.max) AllowSamePages
+      (λ m n e size. ap (λ max. is_within size max && nat_le size MOST_PAGES) e)
 
   pub same_entries : (o p : Option Table) → option_map (λ t. t.max) p ≡ option_map (λ t. t.max) o
       → BothOrNeither AllowSameEntries o p
-  same_entries None None e = tt
-  same_entries None (Some t) e = cc
-  same_entries (Some t) None e = cc
-  same_entries (Some t) (Some u) e =
-      λ size. ap (λ max. is_within size max && nat_le size MOST_ENTRIES) (same_Some u.max t.max e)
+  same_entries =
+      both_alike (λ t. t.max) AllowSameEntries
+      (λ t u e size. ap (λ max. is_within size max && nat_le size MOST_ENTRIES) e)
 
   -- the stores are of one kind
   pub of_same_kind : (known : Known) (later : List Observation) → IsKnownOf known store → IsReadOf known later store

@@ -8,7 +8,7 @@ use Rattle.host_script.specs.Fits.{FitAnswers}
 use Rattle.run_outcomes.specs.declared.outcomes.Outcome.{Outcome}
 use Rattle.history_spec.specs.Code.{Code, code_of}
 use Rattle.history_spec.specs.Step.{Progress, Running, Finished, Program, StepResult, step}
-use Rattle.history_spec.specs.Run.{Run, all_one, program_of, start_in_store, weight, run_after, steps}
+use Rattle.history_spec.specs.Run.{Run, all_one, program_of, start_in_store, weight, run_after, steps, Meter}
 use Rattle.replay_spec.specs.Observations.{run_observations}
 use Rattle.replay_spec.specs.Known.{opening_known}
 use Rattle.replay_spec.specs.TapeRun.{TapeProgress, TapeResult, tape_result, Plays, Over, Disagrees, NoRule, tape_step, tape_steps, tape_start}
@@ -21,6 +21,7 @@ use Rattle.tape_follows.proofs.Replays.{Shows, replays, replays_closed}
 use Rattle.tape_follows.proofs.HostStores.{sizes_of}
 use Rattle.tape_follows.proofs.Simulation as sim
 use Rattle.tape_follows.proofs.AllSteps as all
+use Rattle.tape_follows.proofs.SafeRuns.{safe_run}
 
 -- a tape's run that comes to an outcome never disagrees
 pub never_disagrees : (code : Code) (n : ℕ) (at : TapeProgress) (outcome : Outcome)
@@ -49,18 +50,18 @@ module _ (laws : LawsOfSteps) (m : Module) (heights : Heights) (valid : IsValid 
   delivers = all.delivers laws m heights valid typed answers fits replays closed
 
 -- after its end a run stays as it is
-same_run : (program : Program) (k j : ℕ) (at : Progress) (a b : Outcome)
-    → (steps program all_one k at).at ≡ Finished a → (steps program all_one j at).at ≡ Finished b
-    → steps program all_one k at ≡ steps program all_one j at
-same_run program zero zero at a b h q = refl
-same_run program (suc k) (suc j) (Running config) a b h q =
-    ap (run_after (step program config).entries (weight all_one config))
-    (same_run program k j (step program config).next a b h q)
-same_run program zero (suc j) (Running config) a b h q = cc
-same_run program (suc k) zero (Running config) a b h q = cc
-same_run program zero (suc j) at a b h q = refl
-same_run program (suc k) zero at a b h q = refl
-same_run program (suc k) (suc j) at a b h q = refl
+pub same_steps : (program : Program) (meter : Meter) (k j : ℕ) (at : Progress) (a b : Outcome)
+    → (steps program meter k at).at ≡ Finished a → (steps program meter j at).at ≡ Finished b
+    → steps program meter k at ≡ steps program meter j at
+same_steps program meter zero zero at a b h q = refl
+same_steps program meter (suc k) (suc j) (Running config) a b h q =
+    ap (run_after (step program config).entries (weight meter config))
+    (same_steps program meter k j (step program config).next a b h q)
+same_steps program meter zero (suc j) (Running config) a b h q = cc
+same_steps program meter (suc k) zero (Running config) a b h q = cc
+same_steps program meter zero (suc j) at a b h q = refl
+same_steps program meter (suc k) zero at a b h q = refl
+same_steps program meter (suc k) (suc j) at a b h q = refl
 
 same_outcome : (a b : Outcome) → Finished a ≡ Finished b → a ≡ b
 same_outcome a b h = cc
@@ -89,18 +90,14 @@ needed_tape_replays laws safety m script supply store segments count outcome run
     initial = start_in_store m script store
 
     runs : steps program all_one needed.count initial.next ≡ steps program all_one count initial.next
-    runs = same_run program needed.count count initial.next needed.outcome outcome needed.ends ends
+    runs = same_steps program all_one needed.count count initial.next needed.outcome outcome needed.ends ends
 
     r : Shows (code_of m) (tape_result [] (tape_start (code_of m) store segments))
         (initial.entries ++ (steps program all_one needed.count initial.next).history) needed.outcome
     r =
-        let h = safety.heights m runnable.valid in
-        let typed = safety.code m h.0 runnable.valid runnable.supported h.1 in
-        let is = safety.store m supply store runnable (safety.supplied m script supply fits links) opens in
-        let safe = safety.starts m h.0 program store script.main runnable.valid typed
-        (record { code = refl; answers = fits.imports }) is fits.main in
-        let f = all.started laws m h.0 runnable.valid typed script.imports fits.imports replays
-        (replays_closed laws.alike m h.0) needed.count script.main store is m.start safe in
+        let run = safe_run safety m script supply store runnable fits links opens in
+        let f = all.started laws m run.heights runnable.valid run.typed script.imports fits.imports replays
+        (replays_closed laws.alike m run.heights) needed.count script.main store run.is m.start run.safe in
         let kept = safety.kept (opening_known store) (run_observations program initial needed.count) segments in
         f.shows store segments needed.outcome refl
-        (all.opening_holds store (sizes_of m store is), kept.0 needed.needed) needed.ends
+        (all.opening_holds store (sizes_of m store run.is), kept.0 needed.needed) needed.ends

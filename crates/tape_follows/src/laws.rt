@@ -12,7 +12,7 @@ use shown_steps::shown_steps;
 use type_safety::{rules_hold, safe_steps, typed_code, typed_store};
 
 /// A step does the same in stores that answer alike, and is safe: the laws of the crates below on steps.
-fn laws_of_steps()
+pub fn laws_of_steps()
     ensures { LawsOfSteps }
 {
     observed_steps();
@@ -23,7 +23,7 @@ fn laws_of_steps()
 }
 
 /// Modules that can be run are typed, and their runs safe: the laws of the crates below on runs.
-fn laws_of_runs()
+pub fn laws_of_runs()
     ensures { LawsOfRuns }
 {
     needed_segments_are_kept();

@@ -6,6 +6,6 @@
 pub mod laws;
 
 pub use laws::{
-    needed_tape_fits, needed_tape_replays, nothing_can_be_dropped, other_runs_differ,
-    reads_are_real, run_has_one_needed_tape, runs_read_what_is_there,
+    laws_of_runs, laws_of_steps, needed_tape_fits, needed_tape_replays, nothing_can_be_dropped,
+    other_runs_differ, reads_are_real, run_has_one_needed_tape, runs_read_what_is_there,
 };
