@@ -6,6 +6,7 @@ use Rattle.std.proofs.lemmas.Bool.Decides.{nat_tests}
 use Rattle.std.proofs.lemmas.List.Elements.{All-head, All-tail}
 use Rattle.std.proofs.lemmas.List.{append_assoc, append-nil, length-map}
 use Rattle.std.proofs.lemmas.Option.{slice_get-map}
+use Rattle.std.proofs.Math.Bool.{or-true}
 use Rattle.list_laws.proofs.Booleans.{and_true}
 use Rattle.wasm_syntax.specs.declared.values.ValType.{ValType}
 use Rattle.wasm_syntax.specs.declared.values.ValType.TheVariants.{I32, I64, F32, F64, FuncRef}
@@ -21,6 +22,7 @@ use Rattle.history_spec.specs.Code.{code_of, signature}
 use Rattle.history_spec.specs.Instantiation.{table_length}
 use Rattle.history_spec.specs.Store.{Store, Table}
 use Rattle.replay_spec.specs.Known.{entry_of, entries_after}
+use Rattle.tape_follows.proofs.Same.{own_number}
 use Rattle.hook_spec.specs.declared.hooks.Hook.TheVariants.{Enter as ToEnter, Leave, Pre, Ipre}
 use Rattle.replay_spec.specs.Observations.{ReachesEntry}
 use Rattle.type_safety.specs.Stores.{func_count}
@@ -49,49 +51,65 @@ same_entry n (Some table) index =
     go None = refl
     go (Some entry) = refl
 
-module _ (m : Module) (shape : HookedShape) (is : IsShapeOf m shape)
-    (counts : func_count m ≡ imported_funcs m + length m.funcs)
-    (numbers : (func : ℕ) (ty : FuncType) → signature (code_of m) func ≡ Some ty → IsFuncType ty)
-    (back : (n func : ℕ) → original n (renumber n func) ≡ Some func) where
-  abbrev n : ℕ
-  n = imported_funcs m
+-- a function of the module's own is none that is imported
+pub never_imported : (n func : ℕ) → n ≤ func → nat_lt func n ≡ false
+never_imported n func own = grind (arith, nat_tests, own)
 
-  pub or_right : (b : Bool) → (b || true) ≡ true
-  or_right true = refl
-  or_right false = refl
+-- a function that is called, and is not entered yet, may be entered
+pub callee_may : (imports func : ℕ) → (nat_lt func imports || (nat_eq func func && not false)) ≡ true
+callee_may imports func =
+    ap (λ b. nat_lt func imports || (b && true)) (own_number func) ∙ or-true (nat_lt func imports)
 
-  abbrev pub ren : List HookCall → List HookCall
-  ren calls = map (renumbered_call n) calls
+-- ---- a module and the shape of its instrumented module
 
-  -- the order with these functions and calls open, these values pending and so many entries known
-  abbrev pub state : List Level → List Val → ℕ → OrderState
-  state levels pending entries = record { frames = order_frames levels; pending = pending; entries = entries }
+-- what holds of the shape that the hook calls of a module are held against, and the laws of indices
+pub record IsHooked (m : Module) (shape : HookedShape) : Type 0 where
+  pub is : IsShapeOf m shape
+  pub counts : func_count m ≡ imported_funcs m + length m.funcs
+  pub numbers : (func : ℕ) (ty : FuncType) → signature (code_of m) func ≡ Some ty → IsFuncType ty
+  pub back : (n func : ℕ) → original n (renumber n func) ≡ Some func
 
-  -- ---- some calls in order
+-- ---- some calls in order
 
+-- calls as the instrumented module makes them
+abbrev pub renumbered : Module → List HookCall → List HookCall
+renumbered m calls = map (renumbered_call (imported_funcs m)) calls
+
+-- the order with these functions and calls open, these values pending and so many entries known
+abbrev pub state : List Level → List Val → ℕ → OrderState
+state levels pending entries = record { frames = order_frames levels; pending = pending; entries = entries }
+
+module _ (shape : HookedShape) where
   abbrev pub AreOrdered : OrderState → List HookCall → OrderState → Type 0
   AreOrdered order [] after = order ≡ after
   AreOrdered order (call ∷ calls) after =
       (next : OrderState) × (ordered_step shape order call ≡ Some next) × AreOrdered next calls after
 
-  pub both_ordered : (a b : List HookCall) (order middle after : OrderState) → AreOrdered order a middle
+  both_ordered : (a b : List HookCall) (order middle after : OrderState) → AreOrdered order a middle
       → AreOrdered middle b after → AreOrdered order (a ++ b) after
   both_ordered [] b order middle after h q = subst (λ o. AreOrdered o b after) (sym h) q
   both_ordered (call ∷ a) b order middle after h q = (h.0, h.1, both_ordered a b h.0 middle after h.2 q)
 
-  pub ren_both : (a b : List HookCall) → ren (a ++ b) ≡ ren a ++ ren b
-  ren_both [] b = refl
-  ren_both (call ∷ a) b = ap (λ l. renumbered_call n call ∷ l) (ren_both a b)
+module _ (m : Module) where
+  pub renumbered_both : (a b : List HookCall) → renumbered m (a ++ b) ≡ renumbered m a ++ renumbered m b
+  renumbered_both [] b = refl
+  renumbered_both (call ∷ a) b = ap (λ l. renumbered_call (imported_funcs m) call ∷ l) (renumbered_both a b)
 
-  pub told_both : (a b : List HookCall) (order middle after : OrderState) → AreOrdered order (ren a) middle
-      → AreOrdered middle (ren b) after → AreOrdered order (ren (a ++ b)) after
-  told_both a b order middle after h q =
-      subst (λ l. AreOrdered order l after) (sym (ren_both a b)) (both_ordered (ren a) (ren b) order middle after h q)
+  pub told_both : (shape : HookedShape) (a b : List HookCall) (order middle after : OrderState)
+      → AreOrdered shape order (renumbered m a) middle → AreOrdered shape middle (renumbered m b) after
+      → AreOrdered shape order (renumbered m (a ++ b)) after
+  told_both shape a b order middle after h q =
+      subst (λ l. AreOrdered shape order l after) (sym (renumbered_both a b))
+      (both_ordered shape (renumbered m a) (renumbered m b) order middle after h q)
+
+module _ (m : Module) (shape : HookedShape) (hooked : IsHooked m shape) where
+  abbrev n : ℕ
+  n = imported_funcs m
 
   -- ---- hooks that change no frames
 
   pub tellable_ordered : (calls : List HookCall) (order : OrderState) → may_tell order ≡ true
-      → AreTellable m shape calls → AreOrdered order (ren calls) order
+      → AreTellable m shape calls → AreOrdered shape order (renumbered m calls) order
   tellable_ordered [] order may h = refl
   tellable_ordered (call ∷ calls) order may h =
       (order, h.0.ordered order may, tellable_ordered calls order may h.1)
@@ -112,7 +130,7 @@ module _ (m : Module) (shape : HookedShape) (is : IsShapeOf m shape)
 
   pub values_ordered : (levels : List Level) (entries : ℕ) (view : Store) (types : List ValType) (values : List Val)
       (pending : List Val) → AreNumbers types → AreValues (func_count m) types values
-      → AreOrdered (state levels pending entries) (ren (told_values view values))
+      → AreOrdered shape (state levels pending entries) (renumbered m (told_values view values))
       (state levels (pending ++ values) entries)
   values_ordered levels entries view [] [] pending numbers are =
       ap (λ p. state levels p entries) (sym (append-nil pending))
@@ -126,7 +144,7 @@ module _ (m : Module) (shape : HookedShape) (is : IsShapeOf m shape)
       (subst (λ ty. v.bits < count_of (func_count m) ty) (sym are.0.typed) are.0.in_range) in (
         state levels (pending ++ v ∷ []) entries,
         ap (option_map (with_pending (state levels pending entries))) (value_is_told v number fits),
-        subst (λ p. AreOrdered (state levels (pending ++ v ∷ []) entries) (ren (told_values view values)) (state levels p entries))
+        subst (λ p. AreOrdered shape (state levels (pending ++ v ∷ []) entries) (renumbered m (told_values view values)) (state levels p entries))
             (append_assoc pending (v ∷ []) values)
             (values_ordered levels entries view types values (pending ++ v ∷ [])
             (All-tail (λ t. IsTrue (is_number t)) t types numbers) are.1),
@@ -137,7 +155,7 @@ module _ (m : Module) (shape : HookedShape) (is : IsShapeOf m shape)
       (typed : IsTypedFor m shape func part values)
       → pending_are (state levels values entries) part (shape.type_of func) ≡ true
   pending_typed func part values levels entries typed =
-      ap (pending_are (state levels values entries) part) (is.type_of func typed.ty typed.has_type)
+      ap (pending_are (state levels values entries) part) (hooked.is.type_of func typed.ty typed.has_type)
       ∙ ap (same_types (part typed.ty)) (types_values (func_count m) (part typed.ty) values typed.are)
       ∙ types_own (part typed.ty)
 
@@ -145,14 +163,15 @@ module _ (m : Module) (shape : HookedShape) (is : IsShapeOf m shape)
 
   function_there : (func : ℕ) → func < func_count m → is_function shape func ≡ true
   function_there func below =
-      let i = is.imports in
-      let d = is.defined in
-      let low : func < shape.imports + shape.defined = omega (arith, below, counts, i, d) in
+      let i = hooked.is.imports in
+      let d = hooked.is.defined in
+      let c = hooked.counts in
+      let low : func < shape.imports + shape.defined = omega (arith, below, c, i, d) in
       grind (arith, nat_tests, low)
 
   defined_there : (func : ℕ) → n ≤ func → func < func_count m → is_defined shape func ≡ true
   defined_there func own below =
-      let i = is.imports in
+      let i = hooked.is.imports in
       let from : shape.imports ≤ func = omega (arith, own, i) in
       let t : nat_le shape.imports func ≡ true = grind (arith, nat_tests, from) in
       and_true (nat_le shape.imports func) (is_function shape func) t (function_there func below)
@@ -161,7 +180,7 @@ module _ (m : Module) (shape : HookedShape) (is : IsShapeOf m shape)
   pub enter_step : (func : ℕ) (args : List Val) (levels : List Level) (entries : ℕ) (view : Store) → n ≤ func
       → func < func_count m → IsTypedFor m shape func (λ ty. ty.params) args
       → may_enter shape func (order_frames levels) ≡ true
-      → AreOrdered (state levels args entries) (ren (told_number ToEnter func view))
+      → AreOrdered shape (state levels args entries) (renumbered m (told_number ToEnter func view))
       (state (AtFunction func ∷ with_top_entered levels) [] entries)
   enter_step func args levels entries view own below typed may = (
     state (AtFunction func ∷ with_top_entered levels) [] entries,
@@ -192,18 +211,18 @@ module _ (m : Module) (shape : HookedShape) (is : IsShapeOf m shape)
   -- the arguments of a function
   pub params_ordered : (func : ℕ) (args : List Val) (levels : List Level) (entries : ℕ) (view : Store)
       → IsTypedFor m shape func (λ ty. ty.params) args
-      → AreOrdered (state levels [] entries) (ren (told_values view args)) (state levels args entries)
+      → AreOrdered shape (state levels [] entries) (renumbered m (told_values view args)) (state levels args entries)
   params_ordered func args levels entries view typed =
       values_ordered levels entries view typed.ty.params args []
-      (numbers func typed.ty typed.has_type).params typed.are
+      (hooked.numbers func typed.ty typed.has_type).params typed.are
 
   pub enter_ordered : (func : ℕ) (args : List Val) (levels : List Level) (entries : ℕ) (view : Store) → n ≤ func
       → func < func_count m → IsTypedFor m shape func (λ ty. ty.params) args
       → may_enter shape func (order_frames levels) ≡ true
-      → AreOrdered (state levels [] entries) (ren (told_enter func args view))
+      → AreOrdered shape (state levels [] entries) (renumbered m (told_enter func args view))
       (state (AtFunction func ∷ with_top_entered levels) [] entries)
   enter_ordered func args levels entries view own below typed may =
-      told_both (told_values view args) (told_number ToEnter func view) (state levels [] entries)
+      told_both m shape (told_values view args) (told_number ToEnter func view) (state levels [] entries)
       (state levels args entries) (state (AtFunction func ∷ with_top_entered levels) [] entries)
       (params_ordered func args levels entries view typed) (enter_step func args levels entries view own below typed may)
 
@@ -214,10 +233,10 @@ module _ (m : Module) (shape : HookedShape) (is : IsShapeOf m shape)
   host_may func (AtFunction f ∷ levels) host = cc
   host_may func (AtImport direct callee args ∷ levels) host = cc
   host_may func (AtCall direct callee entered args ∷ levels) host =
-      ap (λ b. b || (nat_eq callee func && not entered)) (ap (nat_lt callee) is.imports ∙ host)
+      ap (λ b. b || (nat_eq callee func && not entered)) (ap (nat_lt callee) hooked.is.imports ∙ host)
 
   pub leave_ordered : (func : ℕ) (levels : List Level) (entries : ℕ) (view : Store)
-      → AreOrdered (state (AtFunction func ∷ levels) [] entries) (ren (told_number Leave func view))
+      → AreOrdered shape (state (AtFunction func ∷ levels) [] entries) (renumbered m (told_number Leave func view))
       (state levels [] entries)
   leave_ordered func levels entries view =
       let same : nat_eq func func ≡ true = grind (arith, nat_tests) in
@@ -227,8 +246,8 @@ module _ (m : Module) (shape : HookedShape) (is : IsShapeOf m shape)
   pub over_step : (direct : Bool) (callee : ℕ) (entered : Bool) (args results : List Val) (levels : List Level)
       (entries : ℕ) (view : Store) → (nat_lt callee n || entered) ≡ true
       → IsTypedFor m shape callee (λ ty. ty.results) results
-      → AreOrdered (state (AtCall direct callee entered args ∷ levels) results entries)
-      (ren (told_over (cond direct (Some callee) None) view)) (state levels [] entries)
+      → AreOrdered shape (state (AtCall direct callee entered args ∷ levels) results entries)
+      (renumbered m (told_over (cond direct (Some callee) None) view)) (state levels [] entries)
   over_step direct callee entered args results levels entries view may typed = go direct
     where
       ends : (direct : Bool)
@@ -241,11 +260,11 @@ module _ (m : Module) (shape : HookedShape) (is : IsShapeOf m shape)
           (shape.type_of callee))
           (nat_lt callee shape.imports || entered)
           (pending_typed callee (λ ty. ty.results) results (AtCall direct callee entered args ∷ levels) entries typed)
-          (ap (λ i. nat_lt callee i || entered) is.imports ∙ may))
+          (ap (λ i. nat_lt callee i || entered) hooked.is.imports ∙ may))
 
       go : (direct : Bool)
-          → AreOrdered (state (AtCall direct callee entered args ∷ levels) results entries)
-          (ren (told_over (cond direct (Some callee) None) view)) (state levels [] entries)
+          → AreOrdered shape (state (AtCall direct callee entered args ∷ levels) results entries)
+          (renumbered m (told_over (cond direct (Some callee) None) view)) (state levels [] entries)
       go true =
           let same : nat_eq callee callee ≡ true = grind (arith, nat_tests) in (
             state levels [] entries,
@@ -261,18 +280,18 @@ module _ (m : Module) (shape : HookedShape) (is : IsShapeOf m shape)
   -- the results of a function
   pub results_ordered : (func : ℕ) (results : List Val) (levels : List Level) (entries : ℕ) (view : Store)
       → IsTypedFor m shape func (λ ty. ty.results) results
-      → AreOrdered (state levels [] entries) (ren (told_values view results)) (state levels results entries)
+      → AreOrdered shape (state levels [] entries) (renumbered m (told_values view results)) (state levels results entries)
   results_ordered func results levels entries view typed =
       values_ordered levels entries view typed.ty.results results []
-      (numbers func typed.ty typed.has_type).results typed.are
+      (hooked.numbers func typed.ty typed.has_type).results typed.are
 
   pub over_ordered : (direct : Bool) (callee : ℕ) (entered : Bool) (args results : List Val) (levels : List Level)
       (entries : ℕ) (view : Store) → (nat_lt callee n || entered) ≡ true
       → IsTypedFor m shape callee (λ ty. ty.results) results
-      → AreOrdered (state (AtCall direct callee entered args ∷ levels) [] entries)
-      (ren (told_values view results ++ told_over (cond direct (Some callee) None) view)) (state levels [] entries)
+      → AreOrdered shape (state (AtCall direct callee entered args ∷ levels) [] entries)
+      (renumbered m (told_values view results ++ told_over (cond direct (Some callee) None) view)) (state levels [] entries)
   over_ordered direct callee entered args results levels entries view may typed =
-      told_both (told_values view results) (told_over (cond direct (Some callee) None) view)
+      told_both m shape (told_values view results) (told_over (cond direct (Some callee) None) view)
       (state (AtCall direct callee entered args ∷ levels) [] entries)
       (state (AtCall direct callee entered args ∷ levels) results entries) (state levels [] entries)
       (results_ordered callee results (AtCall direct callee entered args ∷ levels) entries view typed)
@@ -282,7 +301,7 @@ module _ (m : Module) (shape : HookedShape) (is : IsShapeOf m shape)
 
   pub pre_ordered : (callee func : ℕ) (operands : List Val) (levels : List Level) (entries : ℕ) (view : Store)
       → callee < func_count m
-      → AreOrdered (state (AtFunction func ∷ levels) [] entries) (ren (told_number Pre callee view ++ []))
+      → AreOrdered shape (state (AtFunction func ∷ levels) [] entries) (renumbered m (told_number Pre callee view ++ []))
       (state (AtCall true callee false operands ∷ AtFunction func ∷ levels) [] entries)
   pre_ordered callee func operands levels entries view below = (
     state (AtCall true callee false operands ∷ AtFunction func ∷ levels) [] entries,
@@ -303,7 +322,7 @@ module _ (m : Module) (shape : HookedShape) (is : IsShapeOf m shape)
   pub ipre_ordered : (func index : ℕ) (levels : List Level) (entries : ℕ) (view : Store) (callee : Option ℕ)
       → entries ≤ table_length view.table → entry_of view.table index ≡ callee
       → IfSome callee (λ callee. callee < func_count m)
-      → AreOrdered (state (AtFunction func ∷ levels) [] entries) (ren (told_number Ipre index view))
+      → AreOrdered shape (state (AtFunction func ∷ levels) [] entries) (renumbered m (told_number Ipre index view))
       (after_index func index levels entries view callee)
   ipre_ordered func index levels entries view callee fits entry there = (
     after_index func index levels entries view callee,
@@ -338,6 +357,6 @@ module _ (m : Module) (shape : HookedShape) (is : IsShapeOf m shape)
           ≡ Some (after_index func index levels entries view callee)
       go None there = refl
       go (Some callee) there =
-          ap (λ i. begins_original shape seen (original i (renumber n callee))) is.imports
-          ∙ ap (begins_original shape seen) (back n callee)
+          ap (λ i. begins_original shape seen (original i (renumber n callee))) hooked.is.imports
+          ∙ ap (begins_original shape seen) (hooked.back n callee)
           ∙ ap (λ b. when b (after_index func index levels entries view (Some callee))) (function_there callee there)

@@ -1,5 +1,5 @@
 -- What an instruction of a well-typed activation observes and tells, as far as the order of hook calls asks.
-use Rattle.std.proofs.Common.{◌≡◌, ℕ, ◌+◌, ◌<◌, List, [], ◌∷◌, ◌++◌, length, Option, Some, None, Bool, true, false, slice_get, refl, sym, ap, ◌∙◌, subst}
+use Rattle.std.proofs.Common.{◌≡◌, ℕ, ◌+◌, ◌<◌, List, [], ◌∷◌, ◌++◌, length, Option, Some, None, Bool, true, false, slice_get, refl, sym, ap, ◌∙◌, subst, map, reverse}
 use Rattle.std.specs.Prelude.{IfSome, option_and_then}
 use Rattle.std.specs.List.{AllByRecursion}
 use Rattle.std.specs.Option.{option_flatten}
@@ -19,17 +19,21 @@ use Rattle.wasm_syntax.specs.Index.{func_indices, all_globals, all_memories}
 use Rattle.wasm_syntax.specs.Nest.{Nest, Plain}
 use Rattle.wasm_syntax.specs.Opcodes.{load_of, store_of}
 use Rattle.wasm_syntax.specs.Typing.{Moves, if_true, is_number, instr_type, set_of, Leads, IsTyped}
-use Rattle.history_spec.specs.Code.{Code, code_of, signature}
+use Rattle.history_spec.specs.Code.{Code, code_of, signature, Definition, definition, zero_of}
 use Rattle.history_spec.specs.Configuration.{place, Frame}
 use Rattle.history_spec.specs.Instantiation.{table_length}
 use Rattle.history_spec.specs.Instruction.{Execution, Did, Traps, NoRule, execute, execute_at}
 use Rattle.history_spec.specs.Store.{Store, Memory, Table, with_bytes_at, bytes_at, bytes_of}
+use Rattle.history_spec.specs.Step.{frame_of}
 use Rattle.replay_spec.specs.Observations as replay
-use Rattle.replay_spec.specs.Observations.{Observation, Reaches, ReachesEntry, ReadsEntry, WritesEntry, ResizesTable, bits_from_top, load_observations, store_observations, copy_observations, size_observations, grow_observations, entry_observations, plain_observations, nest_observations}
+use Rattle.replay_spec.specs.Observations.{Observation, Reaches, ReachesEntry, ReadsEntry, WritesEntry, ResizesTable, bits_from_top, entry_observations, plain_observations, nest_observations}
 use Rattle.replay_spec.specs.Known.{Known, entry_of, entries_after, known_after, known_after_all}
-use Rattle.type_safety.specs.Frames.{Scope, context, IsFrame}
+use Rattle.type_safety.specs.Frames.{Scope, context, IsFrame, IsAround, IsCode}
 use Rattle.type_safety.specs.Stores.{func_count, MayBeTable, IsStore}
 use Rattle.type_safety.specs.Values.{count_of, AreValues}
+use Rattle.type_safety.specs.Configurations.{scope}
+use Rattle.type_safety.specs.Heights.{Heights}
+use Rattle.type_safety.proofs.Values.{append_values, zero_values}
 use Rattle.hook_spec.specs.Hooks.{on}
 use Rattle.hook_spec.specs.Order.{HookedShape, bits_fit}
 use Rattle.hook_spec.specs.ToldCalls.{told_before, told_after, store_executed, next_of_nest, WaitingCall, waiting_after_step}
@@ -303,3 +307,26 @@ module _ (m : Module) (shape : HookedShape) (is : IsShapeOf m shape)
           i c.0 none (sets_mutable store frame.values s same f.labels i before typed.0 typed.1)).tells
       go nest n c none before after typed =
           silent_nest store nest refl (execute_at code store frame nest n)
+
+-- ---- a function that is entered
+
+-- its activation is well typed
+pub entered_frame : (m : Module) (heights : Heights) (func : ℕ) (ty : FuncType) (body : Definition) (args : List Val)
+    → signature (code_of m) func ≡ Some ty → definition (code_of m) func ≡ Some body
+    → AreValues (func_count m) ty.params args
+    → IsCode (scope m heights func ty body) [] (place body.body 0) 0 [] (reverse ty.results)
+    → IsFrame (scope m heights func ty body) [] (frame_of func ty body args)
+entered_frame m heights func ty body args has_type defined are code =
+    record { labels = []; given = reverse ty.results; types = []; around = around; values = tt; code = code }
+  where
+    around : IsAround (scope m heights func ty body) [] (reverse ty.results) (frame_of func ty body args)
+    around =
+        record {
+          scope = record { has_type = has_type; defined = defined };
+          func = refl;
+          arity = refl;
+          locals =
+              append_values (func_count m) ty.params body.locals args (map zero_of body.locals) are
+              (zero_values (func_count m) body.locals);
+          blocks = refl;
+        }

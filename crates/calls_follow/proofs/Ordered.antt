@@ -1,5 +1,5 @@
 -- No hook call of a run is out of order.
-use Rattle.std.proofs.Common.{◌≡◌, ℕ, ◌+◌, [], length, map, Some, slice_get, refl, ap, ◌∙◌, length-append}
+use Rattle.std.proofs.Common.{◌≡◌, ℕ, ◌+◌, [], length, map, Some, slice_get, refl, ap, ◌∙◌, length-append, List, Option}
 use Rattle.std.proofs.lemmas.List.{length-map}
 use Rattle.list_laws.proofs.Lists.{all_at}
 use Rattle.list_laws.proofs.Options.{and_then_some}
@@ -8,18 +8,25 @@ use Rattle.wasm_syntax.specs.declared.modules.Func.{Func}
 use Rattle.wasm_syntax.specs.declared.modules.Module.{Module}
 use Rattle.wasm_syntax.specs.Index.{imported_funcs, func_import, of_kind, func_indices}
 use Rattle.wasm_syntax.specs.Validity.{IsFuncType, IsValidOutside}
+use Rattle.run_outcomes.specs.declared.outcomes.Outcome.{Outcome}
 use Rattle.history_spec.specs.Code.{code_of, signature}
-use Rattle.history_spec.specs.Run.{start_in_store}
+use Rattle.history_spec.specs.Run.{start_in_store, all_one, program_of, run_from}
+use Rattle.replay_spec.specs.Observations.{Observation}
+use Rattle.replay_spec.specs.Known.{opening_known}
 use Rattle.type_safety.specs.Stores.{func_count}
+use Rattle.tape_follows.specs.Below.{LawsOfSteps, LawsOfRuns}
+use Rattle.tape_follows.specs.RealReads.{observed_from}
+use Rattle.tape_follows.proofs.SafeRuns.{safe_run}
 use Rattle.hook_spec.specs.Laws.{IndicesAreRenumbered, InstrumentedKeepsIndices, InstrumentedKeepIndices}
 use Rattle.hook_spec.specs.Order.{is_some_there}
+use Rattle.hook_spec.specs.ToldCalls.{Moment, run_moments}
 use Rattle.calls_follow.specs.Laws.{OriginalRun, hooked_shape, HookCallsAreInOrder}
-use Rattle.calls_follow.proofs.RunCalls.{Safety}
 use Rattle.calls_follow.proofs.Tellable.{IsShapeOf}
 use Rattle.calls_follow.proofs.TrailOrder.{in_order}
 use Rattle.calls_follow.proofs.TrailRuns.{started}
-use Rattle.calls_follow.proofs.TrailSteps.{TrailLaws}
-use Rattle.calls_follow.proofs.TrailsOfRuns.{ending}
+use Rattle.calls_follow.proofs.TrailsOfRuns.{outcome_of}
+use Rattle.calls_follow.proofs.CallOrder.{IsHooked}
+use Rattle.calls_follow.proofs.Trails.{IsTrail}
 
 -- how many functions there are
 pub count_is : (m : Module) → func_count m ≡ imported_funcs m + length m.funcs
@@ -44,16 +51,41 @@ shape_is run kept =
       globals = kept.globals;
     }
 
-pub calls_in_order : TrailLaws → Safety → InstrumentedKeepIndices → IndicesAreRenumbered → HookCallsAreInOrder
-calls_in_order laws safety indices renumbered run count =
+-- what holds of a run's module and of the shape of its instrumented module
+pub hooked_run : InstrumentedKeepIndices → IndicesAreRenumbered → (run : OriginalRun) → IsHooked run.m (hooked_shape run)
+hooked_run indices renumbered run =
+    record {
+      is = shape_is run (indices run.m run.digest);
+      counts = count_is run.m;
+      numbers = types_are run.m run.runnable.valid.outside;
+      back = renumbered.of_renumbered;
+    }
+
+-- ---- a run's trail
+
+-- what a run observes after it has begun
+abbrev pub observed : OriginalRun → (count : ℕ) → List Observation
+observed run count = observed_from (program_of run.m run.script) count (start_in_store run.m run.script run.store)
+
+abbrev pub moments_of : OriginalRun → (count : ℕ) → List Moment
+moments_of run count =
+    run_moments (program_of run.m run.script) run.store (start_in_store run.m run.script run.store) count
+
+abbrev pub IsRunTrail : OriginalRun → (count : ℕ) → Option Outcome → Type 0
+IsRunTrail run count outcome =
+    IsTrail run.m (hooked_shape run) outcome (moments_of run count) [] (opening_known run.store) run.store
+    (observed run count)
+
+pub run_trail : LawsOfSteps → LawsOfRuns → InstrumentedKeepIndices → (run : OriginalRun) (count : ℕ)
+    → IsRunTrail run count
+    (outcome_of (run_from (program_of run.m run.script) all_one (start_in_store run.m run.script run.store) count).at)
+run_trail laws safety indices run count =
     let m = run.m in
-    let h = safety.heights m run.runnable.valid in
-    let typed = safety.code m h.0 run.runnable.valid run.runnable.supported h.1 in
-    let is = safety.store m run.supply run.store run.runnable
-    (safety.supplied m run.script run.supply run.fits run.supplied) run.opens in
-    let shape = shape_is run (indices m run.digest) in
-    let trail = started laws m h.0 run.runnable.valid typed run.core run.script.imports run.fits.imports
-    (hooked_shape run) shape count run.script.main run.store is run.fits.main m.start refl in
-    in_order m (hooked_shape run) shape (count_is m) (types_are m run.runnable.valid.outside) renumbered.of_renumbered
-    (ending m h.0 typed run.core run.script.imports run.fits.imports (hooked_shape run) count
-    (start_in_store m run.script run.store).next) _ [] _ run.store _ trail 0
+    let r = safe_run safety m run.script run.supply run.store run.runnable run.fits run.supplied run.opens in
+    started laws m r.heights run.runnable.valid r.typed run.core run.script.imports run.fits.imports (hooked_shape run)
+    (shape_is run (indices m run.digest)) count run.script.main run.store r.is run.fits.main m.start refl
+
+pub calls_in_order : LawsOfSteps → LawsOfRuns → InstrumentedKeepIndices → IndicesAreRenumbered → HookCallsAreInOrder
+calls_in_order laws safety indices renumbered run count =
+    in_order run.m (hooked_shape run) (hooked_run indices renumbered run) _ (moments_of run count) []
+    (opening_known run.store) run.store (observed run count) (run_trail laws safety indices run count) 0

@@ -29,15 +29,15 @@ use Rattle.history_spec.specs.Instruction.{Control, Goes, Calls, Returns, Execut
 use Rattle.history_spec.specs.Action.{ActionResult, Changes, Enters, Fails, Unfit, perform}
 use Rattle.history_spec.specs.Settle.{AtEnd, Within, Gives, TooFew, at_end, return_entry, return_from, deliver}
 use Rattle.history_spec.specs.Step.{Program, Progress, Running, Finished, Faulted, Stuck, StepResult, frame_of, enter_defined, enter_function, response_to, answer_call, call_function, after_control, after_instruction, after_action, step, start, start_with_call}
-use Rattle.history_spec.specs.Run.{program_of}
 use Rattle.replay_spec.specs.Observations.{Observation, nest_observations, activity_observations, end_observations, observations, run_observations}
 use Rattle.type_safety.specs.Configurations.{IsConfig, IsSafe, IsTypedCode, scope}
 use Rattle.type_safety.specs.Heights.{Heights}
 use Rattle.type_safety.specs.Frames.{Scope}
-use Rattle.type_safety.specs.Laws.{ValidCodeHasHeights, ValidCodeIsTyped, SuppliesMatch, NewStoresAreTyped, StartsAreSafe, InstructionsHaveRules, StepsAreSafe}
 use Rattle.type_safety.specs.Results.{HasRule}
 use Rattle.type_safety.specs.Stores.{func_count, MayBeMemory}
 use Rattle.type_safety.specs.Values.{AreValues}
+use Rattle.tape_follows.specs.Below.{LawsOfSteps, LawsOfRuns}
+use Rattle.tape_follows.proofs.SafeRuns.{safe_run}
 use Rattle.hook_spec.specs.Laws.{InstrumentedKeepIndices}
 use Rattle.hook_spec.specs.Hooks.{HookCall, on, renumbered_call}
 use Rattle.hook_spec.specs.ToldCalls.{Moment, next_of_nest, store_executed, store_after, moments, run_moments, WaitingCall, latest_args, told_before, told_after, told_values, told_number, told_over, told_return, told_at, told_calls, waiting_at}
@@ -338,20 +338,7 @@ module _ (shape : HookedShape) (n : ℕ) (globals : List GlobalType) (same_globa
 
 -- ---- runs
 
--- the laws of the crates below
-pub record StepLaws : Type 0 where
-  pub rules : InstructionsHaveRules
-  pub steps : StepsAreSafe
-
--- those that say that modules that can be run are typed, and their runs safe
-pub record Safety : Type 0 where
-  pub heights : ValidCodeHasHeights
-  pub code : ValidCodeIsTyped
-  pub supplied : SuppliesMatch
-  pub store : NewStoresAreTyped
-  pub starts : StartsAreSafe
-
-module _ (laws : StepLaws) (m : Module) (heights : Heights) (valid : IsValid m) (typed : IsTypedCode m heights)
+module _ (laws : LawsOfSteps) (m : Module) (heights : Heights) (valid : IsValid m) (typed : IsTypedCode m heights)
     (core : IsCoreModule m) (answers : List (Option Answer)) (fits : FitAnswers m answers) (shape : HookedShape)
     (same_globals : shape.globals ≡ all_globals m) where
   abbrev program : Program
@@ -448,14 +435,10 @@ module _ (laws : StepLaws) (m : Module) (heights : Heights) (valid : IsValid m) 
       (run_told k s.next safe (core_start m core program refl func store counts main))) []
 
 -- the law
-pub calls_observe : StepLaws → Safety → InstrumentedKeepIndices → HookCallsObserveRuns
+pub calls_observe : LawsOfSteps → LawsOfRuns → InstrumentedKeepIndices → HookCallsObserveRuns
 calls_observe laws safety indices run count =
     let m = run.m in
-    let h = safety.heights m run.runnable.valid in
-    let typed = safety.code m h.0 run.runnable.valid run.runnable.supported h.1 in
-    let is = safety.store m run.supply run.store run.runnable
-    (safety.supplied m run.script run.supply run.fits run.supplied) run.opens in
-    let safe = safety.starts m h.0 (program_of m run.script) run.store run.script.main run.runnable.valid typed
-    (record { code = refl; answers = run.fits.imports }) is run.fits.main in
-    start_told laws m h.0 run.runnable.valid typed run.core run.script.imports run.fits.imports (hooked_shape run)
-    (indices m run.digest).globals count m.start run.store (replicate (imported_funcs m) 0) run.script.main safe
+    let r = safe_run safety m run.script run.supply run.store run.runnable run.fits run.supplied run.opens in
+    start_told laws m r.heights run.runnable.valid r.typed run.core run.script.imports run.fits.imports
+    (hooked_shape run) (indices m run.digest).globals count m.start run.store (replicate (imported_funcs m) 0)
+    run.script.main r.safe

@@ -3,7 +3,7 @@ use Rattle.std.proofs.Common.{◌≡◌, ℕ, ◌-◌, ◌≤◌, List, [], ◌�
 use Rattle.std.specs.Prelude.{option_map, unwrap_or}
 use Rattle.std.specs.List.{slice_index_or}
 use Rattle.std.proofs.lemmas.Bool.Decides.{nat_tests}
-use Rattle.std.proofs.lemmas.List.{length-map}
+use Rattle.std.proofs.lemmas.List.{length-map, append-nil}
 use Rattle.std.proofs.lemmas.Option.{slice_get-map}
 use Rattle.wasm_syntax.specs.declared.limits.TheConstants.{MOST_PAGES}
 use Rattle.wasm_syntax.specs.declared.values.ValType.{ValType}
@@ -22,7 +22,7 @@ use Rattle.history_spec.specs.Configuration.{Place, Frame}
 use Rattle.history_spec.specs.Instruction.{Execution, Did, Traps, NoRule, Goes, Operands, on, pop, bits_at, calls_if, calls_entry, load_result, store_result, grow_result, execute_plain}
 use Rattle.history_spec.specs.Store.{Store, Memory, Table, pages, grown_memory}
 use Rattle.replay_spec.specs.Observations as replay
-use Rattle.replay_spec.specs.Observations.{Observation, ReadsEntry, ReachesEntry, ReadsGlobal, WritesGlobal, Resizes, bits_from_top, entry_observations, grow_observations, plain_observations, nest_observations}
+use Rattle.replay_spec.specs.Observations.{Observation, ReadsEntry, ReachesEntry, ReadsGlobal, WritesGlobal, Resizes, bits_from_top, entry_observations, grow_observations, plain_observations}
 use Rattle.observed_steps.proofs.Operands.{AreOperands, popped, bits_same, one_typed}
 use Rattle.hook_spec.specs.Hooks.{HookCall, renumber, renumbered_table}
 use Rattle.hook_spec.specs.ToldCalls.{told_global, told_before, told_after, store_executed}
@@ -32,10 +32,6 @@ use Rattle.hook_spec.specs.Logs.{value_of_global}
 use Rattle.hook_spec.specs.declared.hooks.Hook.TheVariants.{Gget, Gset}
 use Rattle.calls_follow.specs.ToldObservations.{is_mutable}
 use Rattle.calls_follow.proofs.CallObservations.{seen_by, as_told, load_calls, store_calls, copy_calls, fill_calls, size_calls}
-
-nil_after : {A : Type 0} (xs : List A) → xs ++ [] ≡ xs
-nil_after [] = refl
-nil_after (x ∷ xs) = ap (λ l. x ∷ l) (nil_after xs)
 
 -- a global's value, with the type that the global is declared with
 pub record IsTypedGlobal (globals : List GlobalType) (x : ℕ) (value : Val) : Type 0 where
@@ -118,7 +114,7 @@ module _ (shape : HookedShape) (n : ℕ) (globals : List GlobalType) (same_globa
     -- what is told before an instruction is all that it tells
     all_before : (calls : List HookCall) (items : List Observation) → seen calls ≡ told items
         → seen (calls ++ []) ≡ told items
-    all_before calls items h = ap seen (nil_after calls) ∙ h
+    all_before calls items h = ap seen (append-nil calls) ∙ h
 
     module _ (code : Code) (frame : Frame) (next : Place) where
       load_told : (at : MemArg) (memory : Memory) (access : Access) (p : Operands) → pop (I32 ∷ []) values ≡ Some p

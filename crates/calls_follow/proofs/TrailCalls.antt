@@ -1,5 +1,5 @@
 -- The moments of calls and of a step of the host are a trail.
-use Rattle.std.proofs.Common.{◌≡◌, ℕ, ◌+◌, ◌≤◌, List, [], ◌∷◌, length, reverse, map, Option, Some, None, Bool, true, false, nat_lt, slice_index, slice_set, refl, sym, ◌∙◌, subst, length-set, ltb-true, ltb-false}
+use Rattle.std.proofs.Common.{◌≡◌, ℕ, ◌+◌, ◌≤◌, List, [], ◌∷◌, length, Option, Some, None, Bool, true, false, nat_lt, slice_index, slice_set, refl, sym, ◌∙◌, subst, length-set, ltb-true, ltb-false}
 use Rattle.wasm_syntax.specs.declared.values.ValType.{ValType}
 use Rattle.wasm_syntax.specs.declared.values.Val.{Val}
 use Rattle.wasm_syntax.specs.declared.signatures.FuncType.{FuncType}
@@ -12,29 +12,29 @@ use Rattle.host_script.specs.declared.scripts.Answer.{Answer}
 use Rattle.host_script.specs.declared.scripts.Response.{Response}
 use Rattle.host_script.specs.Fits.{FitAnswers}
 use Rattle.history_spec.specs.Store.{Store}
-use Rattle.history_spec.specs.Code.{code_of, signature, definition, zero_of}
+use Rattle.history_spec.specs.Code.{code_of, signature, definition}
 use Rattle.history_spec.specs.Configuration.{Frame, Activation, InModule, InImport, Config}
 use Rattle.history_spec.specs.Action.{ActionResult, Changes, Enters, Fails, Unfit, perform}
 use Rattle.history_spec.specs.Settle.{deliver}
-use Rattle.history_spec.specs.Step.{Program, StepResult, after_settling, frame_of, enter_defined, enter_function, response_to, answer_call, call_function, after_action}
-use Rattle.replay_spec.specs.Observations.{Observation}
+use Rattle.history_spec.specs.Step.{Program, after_settling, frame_of, enter_defined, enter_function, response_to, answer_call, call_function, after_action}
 use Rattle.replay_spec.specs.Known.{Known}
-use Rattle.type_safety.specs.Configurations.{scope, Accept, IsTypedCode}
-use Rattle.type_safety.specs.Frames.{IsFrame}
+use Rattle.type_safety.specs.Configurations.{Accept, IsTypedCode}
 use Rattle.type_safety.specs.Heights.{Heights}
 use Rattle.type_safety.specs.Results.{IsActionResult}
 use Rattle.type_safety.specs.Stores.{func_count, IsStore}
 use Rattle.type_safety.specs.Values.{AreValues}
 use Rattle.type_safety.proofs.Responses.{response_fits}
-use Rattle.type_safety.proofs.Values.{append_values, zero_values}
 use Rattle.tape_follows.proofs.Relation.{IsKnownOf}
 use Rattle.tape_follows.proofs.HostStores.{host_change, known_of_change}
+use Rattle.tape_follows.specs.RealReads.{observed_from}
 use Rattle.hook_spec.specs.Order.{HookedShape}
 use Rattle.hook_spec.specs.ToldCalls.{store_performed}
 use Rattle.calls_follow.proofs.CoreFrames.{CoreStack, core_definition}
 use Rattle.calls_follow.proofs.Mirrors.{Mirrors, IsHost, host_on_top, any_callee, host_enters}
 use Rattle.calls_follow.proofs.Trails.{Level, AtFunction, AtImport, AtCall, call_level, with_top_entered}
 use Rattle.calls_follow.proofs.TrailsOfRuns as trails
+use Rattle.calls_follow.proofs.TrailsOfRuns.{Told, Delivers}
+use Rattle.calls_follow.proofs.ModuleFacts.{entered_frame}
 
 module _ (m : Module) (heights : Heights) (typed : IsTypedCode m heights) (core : IsCoreModule m)
     (answers : List (Option Answer)) (fits : FitAnswers m answers) (shape : HookedShape) where
@@ -44,55 +44,27 @@ module _ (m : Module) (heights : Heights) (typed : IsTypedCode m heights) (core 
   abbrev n : ℕ
   n = imported_funcs m
 
-  abbrev Told : ℕ → Option Instr → (before after : Store) → StepResult → List Level → Known → Type 0
-  Told = trails.Told m heights typed core answers fits shape
-
-  abbrev left_from : ℕ → StepResult → List Observation
-  left_from = trails.left_from m heights typed core answers fits shape
-
-  abbrev Delivers : ℕ → Type 0
-  Delivers = trails.Delivers m heights typed core answers fits shape
-
-  abbrev Makes : ℕ → Type 0
-  Makes = trails.Makes m heights typed core answers fits shape
-
-  module _ (k : ℕ) (delivers : Delivers k) where
+  module _ (k : ℕ) (delivers : Delivers m heights answers shape k) where
     -- control enters a defined function
     pub entered : (func : ℕ) (ty : FuncType) (args : List Val) (stack : List Activation) (store : Store) (counts : List ℕ)
         (levels : List Level) (known : Known) (instr : Option Instr) (before : Store)
         → signature (code_of m) func ≡ Some ty → n ≤ func → AreValues (func_count m) ty.params args → IsStore m store
         → IsKnownOf known store → length counts ≡ n → Accept m heights stack ty.results → CoreStack stack
         → Mirrors n (Some func) stack levels
-        → Told k instr before store (enter_function (code_of m) store counts func args stack)
+        → Told m heights answers shape k instr before store (enter_function (code_of m) store counts func args stack)
         (AtFunction func ∷ levels) known
     entered func ty args stack store counts levels known instr before has_type own p is of count a c mirrors =
         let b = typed.bodies func ty own has_type in
-        let frame = frame_of func ty b.0 args in
-        let f : IsFrame (scope m heights func ty b.0) [] frame = record {
-          labels = [];
-          given = reverse ty.results;
-          types = [];
-          around = record {
-            scope = record { has_type = has_type; defined = b.1 };
-            func = refl;
-            arity = refl;
-            locals = append_values (func_count m) ty.params b.0.locals args (map zero_of b.0.locals) p
-                (zero_values (func_count m) b.0.locals);
-            blocks = refl;
-          };
-          values = tt;
-          code = b.2;
-        } in
         subst
-        (λ o. Told k instr before store (enter_defined o (definition (code_of m) func) store counts func args stack)
+        (λ o. Told m heights answers shape k instr before store (enter_defined o (definition (code_of m) func) store counts func args stack)
         (AtFunction func ∷ levels) known)
         (sym has_type)
         (subst
-        (λ o. Told k instr before store (enter_defined (Some ty) o store counts func args stack)
+        (λ o. Told m heights answers shape k instr before store (enter_defined (Some ty) o store counts func args stack)
         (AtFunction func ∷ levels) known)
         (sym b.1)
-        (delivers (InModule frame ∷ stack) [] [] store counts (AtFunction func ∷ levels) known instr before
-        (ty, b.0, f, a) tt is of count (record { rest = core_definition m core func b.0 b.1; labels = tt }, c)
+        (delivers (InModule (frame_of func ty b.0 args) ∷ stack) [] [] store counts (AtFunction func ∷ levels) known instr
+        before (ty, b.0, entered_frame m heights func ty b.0 args has_type b.1 p b.2, a) tt is of count (record { rest = core_definition m core func b.0 b.1; labels = tt }, c)
         (record { below = levels; stands = refl; mirrors = mirrors })))
 
     -- the module calls a function
@@ -102,7 +74,7 @@ module _ (m : Module) (heights : Heights) (typed : IsTypedCode m heights) (core 
         → IsKnownOf known store → length counts ≡ n → Accept m heights (InModule waiting ∷ below) ty.results
         → CoreStack (InModule waiting ∷ below) → Mirrors n (Some waiting.func) below lower
         → (b : Bool) → nat_lt func n ≡ b
-        → Told k instr before store (call_function program b store counts func args (InModule waiting ∷ below))
+        → Told m heights answers shape k instr before store (call_function program b store counts func args (InModule waiting ∷ below))
         (call_level b direct func args ∷ AtFunction waiting.func ∷ lower) known
     called func ty args direct waiting below store counts lower known instr before has_type p is of count a c mirrors
         false e =
@@ -139,8 +111,8 @@ module _ (m : Module) (heights : Heights) (typed : IsTypedCode m heights) (core 
         stack = InModule waiting ∷ below
 
         go : (o : Option Response) → response_to answers func (slice_index counts func) ≡ o
-            → Told k instr before store (answer_call o store counts func args stack) levels known
-        go None r = trails.fault_trail m heights typed core answers fits shape k levels known store _
+            → Told m heights answers shape k instr before store (answer_call o store counts func args stack) levels known
+        go None r = trails.fault_trail m heights answers shape k levels known store _
         go (Some response) r =
             let fit = response_fits m answers func (slice_index counts func) ty response fits has_type r in
             let now = slice_set counts func (slice_index counts func + 1) in
@@ -152,7 +124,7 @@ module _ (m : Module) (heights : Heights) (typed : IsTypedCode m heights) (core 
               below = AtFunction waiting.func ∷ lower;
               stands = refl;
               imported = e;
-              later = left_from k (after_settling store now (deliver top []));
+              later = observed_from program k (after_settling store now (deliver top []));
               observed = refl;
               follows =
                   delivers top [] [] store now (AtCall direct func false args ∷ AtFunction waiting.func ∷ lower) known instr before
@@ -179,7 +151,7 @@ module _ (m : Module) (heights : Heights) (typed : IsTypedCode m heights) (core 
         → IsHost stack → ((types : List ValType) → Accept m heights stack types) → IsStore m store
         → IsKnownOf known store → length counts ≡ n → CoreStack stack → Mirrors n None stack levels
         → (r : ActionResult) → perform (code_of m) store args action ≡ r → IsActionResult m r
-        → Told k instr before (store_performed store r)
+        → Told m heights answers shape k instr before (store_performed store r)
         (after_action program (record { store = store; stack = config.stack; counts = counts }) stack r) levels known
     acted stack store counts levels known instr before args action config s t host a is of count c mirrors
         (Changes after) e fine =
@@ -193,7 +165,7 @@ module _ (m : Module) (heights : Heights) (typed : IsTypedCode m heights) (core 
           host = host_on_top n None stack levels host mirrors;
           defined = fine.2;
           typed = record { ty = fine.0; has_type = fine.1; are = fine.3 };
-          later = left_from k (enter_function (code_of m) store counts func given stack);
+          later = observed_from program k (enter_function (code_of m) store counts func given stack);
           observed = refl;
           follows =
               entered func fine.0 given stack store counts (with_top_entered levels) known instr before fine.1 fine.2
@@ -203,7 +175,7 @@ module _ (m : Module) (heights : Heights) (typed : IsTypedCode m heights) (core 
         }
     acted stack store counts levels known instr before args action config s t host a is of count c mirrors
         (Fails kind) e fine =
-        trails.fault_trail m heights typed core answers fits shape k levels known store kind
+        trails.fault_trail m heights answers shape k levels known store kind
     acted stack store counts levels known instr before args action config s t host a is of count c mirrors Unfit e
         fine =
         absurd fine

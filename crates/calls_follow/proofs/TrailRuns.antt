@@ -42,6 +42,8 @@ use Rattle.type_safety.specs.Values.{AreValues}
 use Rattle.tape_follows.proofs.AllSteps.{opening_is_known}
 use Rattle.tape_follows.proofs.HostStores.{sizes_of}
 use Rattle.tape_follows.proofs.Relation.{IsKnownOf}
+use Rattle.tape_follows.specs.Below.{LawsOfSteps}
+use Rattle.tape_follows.specs.RealReads.{observed_from}
 use Rattle.hook_spec.specs.Order.{HookedShape}
 use Rattle.hook_spec.specs.ToldCalls.{Moment, store_performed}
 use Rattle.calls_follow.proofs.Mirrors.{Mirrors, host_on_top}
@@ -51,7 +53,7 @@ use Rattle.calls_follow.proofs.HostGlobals.{action_keeps}
 use Rattle.calls_follow.proofs.TrailsOfRuns as trails
 use Rattle.calls_follow.proofs.TrailCalls as trail_calls
 use Rattle.calls_follow.proofs.TrailSteps as trail_steps
-use Rattle.calls_follow.proofs.TrailSteps.{TrailLaws}
+use Rattle.calls_follow.proofs.TrailsOfRuns.{Told, Delivers, Makes}
 
 -- ---- globals are numbers
 
@@ -153,7 +155,7 @@ any_store m shape outcome (moment ∷ left) levels known store other observed ho
 
 -- ---- all steps
 
-module _ (laws : TrailLaws) (m : Module) (heights : Heights) (valid : IsValid m) (typed : IsTypedCode m heights)
+module _ (laws : LawsOfSteps) (m : Module) (heights : Heights) (valid : IsValid m) (typed : IsTypedCode m heights)
     (core : IsCoreModule m) (answers : List (Option Answer)) (fits : FitAnswers m answers) (shape : HookedShape)
     (is_shape : IsShapeOf m shape) where
   abbrev program : Program
@@ -162,16 +164,10 @@ module _ (laws : TrailLaws) (m : Module) (heights : Heights) (valid : IsValid m)
   abbrev n : ℕ
   n = imported_funcs m
 
-  abbrev Delivers : ℕ → Type 0
-  Delivers = trails.Delivers m heights typed core answers fits shape
-
-  abbrev Makes : ℕ → Type 0
-  Makes = trails.Makes m heights typed core answers fits shape
-
   number : (x : ℕ) (g : GlobalType) → slice_get (all_globals m) x ≡ Some g → is_number g.ty ≡ true
   number = globals_are_numbers m valid.outside
 
-  made_next : (k : ℕ) → Delivers k → Makes (suc k)
+  made_next : (k : ℕ) → Delivers m heights answers shape k → Makes m heights answers shape (suc k)
   made_next k delivers =
       record {
         runs = λ frame below store counts levels known fine of c mirrors.
@@ -218,7 +214,7 @@ module _ (laws : TrailLaws) (m : Module) (heights : Heights) (valid : IsValid m)
       same_import import args action actions end (InMain more ∷ below) levels h = absurd h
       same_import import args action actions end (InImport i a more e ∷ below) levels h = absurd h
 
-  made_none : Makes zero
+  made_none : Makes m heights answers shape zero
   made_none =
       record {
         runs = λ frame below store counts levels known fine of c mirrors. refl;
@@ -226,9 +222,9 @@ module _ (laws : TrailLaws) (m : Module) (heights : Heights) (valid : IsValid m)
         import = λ import args action actions end below store counts levels known fine of c mirrors. refl;
       }
 
-  delivers : (k : ℕ) → Delivers k
-  delivers zero = trails.deliver_from m heights typed core answers fits shape zero made_none
-  delivers (suc k) = trails.deliver_from m heights typed core answers fits shape (suc k) (made_next k (delivers k))
+  delivers : (k : ℕ) → Delivers m heights answers shape k
+  delivers zero = trails.deliver_from m heights answers shape zero made_none
+  delivers (suc k) = trails.deliver_from m heights answers shape (suc k) (made_next k (delivers k))
 
   -- ---- the start
 
@@ -237,7 +233,7 @@ module _ (laws : TrailLaws) (m : Module) (heights : Heights) (valid : IsValid m)
     counts = replicate n 0
 
     abbrev Started : StepResult → Type 0
-    Started s = trails.Told m heights typed core answers fits shape k None store store s [] (opening_known store)
+    Started s = Told m heights answers shape k None store store s [] (opening_known store)
 
     of : IsKnownOf (opening_known store) store
     of = opening_is_known store (sizes_of m store is)
@@ -257,7 +253,7 @@ module _ (laws : TrailLaws) (m : Module) (heights : Heights) (valid : IsValid m)
           host = refl;
           defined = ltb-false func n e;
           typed = record { ty = start.ty; has_type = start.has_type; are = given };
-          later = trails.left_from m heights typed core answers fits shape k
+          later = observed_from program k
               (enter_function (code_of m) store counts func [] (InMain main ∷ []));
           observed = refl;
           follows =

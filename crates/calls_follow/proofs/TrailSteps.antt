@@ -8,11 +8,9 @@ use Rattle.wasm_syntax.specs.declared.signatures.FuncType.{FuncType}
 use Rattle.wasm_syntax.specs.declared.signatures.GlobalType.{GlobalType}
 use Rattle.wasm_syntax.specs.declared.instructions.Instr.{Instr}
 use Rattle.wasm_syntax.specs.declared.instructions.Instr.TheVariants as instrs
-use Rattle.wasm_syntax.specs.declared.instructions.Instr.TheVariants.{GlobalSet}
 use Rattle.wasm_syntax.specs.declared.modules.Module.{Module}
 use Rattle.wasm_syntax.specs.Encoding.Forms.{IsCoreModule}
 use Rattle.wasm_syntax.specs.Index.{all_memories, imported_funcs, all_globals, all_tables}
-use Rattle.wasm_syntax.specs.Nest.{Nest, Plain}
 use Rattle.wasm_syntax.specs.Typing.{is_number}
 use Rattle.wasm_syntax.specs.Validity.{IsValid}
 use Rattle.host_script.specs.declared.scripts.Answer.{Answer}
@@ -25,23 +23,21 @@ use Rattle.history_spec.specs.Code.{Definition, code_of}
 use Rattle.history_spec.specs.Configuration.{Frame, Activation, InModule, Config}
 use Rattle.history_spec.specs.Instruction.{Control, Goes, Calls, Returns, Execution, Did, Traps, NoRule, bits_at, execute}
 use Rattle.history_spec.specs.Instantiation.{table_length}
-use Rattle.history_spec.specs.Step.{Program, Finished, StepResult, call_function, after_control, after_instruction}
-use Rattle.replay_spec.specs.Observations.{Observation, observations, nest_observations, plain_observations, ReachesEntry}
+use Rattle.history_spec.specs.Step.{Program, Finished, call_function, after_control, after_instruction}
+use Rattle.replay_spec.specs.Observations.{Observation, observations, ReachesEntry}
 use Rattle.replay_spec.specs.Known.{Known, entries_after, known_after_all}
-use Rattle.observed_steps.specs.Changes.{CanChangeAll}
-use Rattle.observed_steps.specs.Executions.{left_store, IsDoneAlike, IsExecutedAlike}
-use Rattle.observed_steps.specs.StoreAnswers.{HasWholePages}
-use Rattle.observed_steps.specs.Laws.{observed, StoresAnswerThemselves, StepsChangeAsObserved}
+use Rattle.observed_steps.specs.Changes.{with_changes}
+use Rattle.observed_steps.specs.Executions.{left_store}
+use Rattle.observed_steps.specs.Laws.{observed}
 use Rattle.type_safety.specs.Configurations.{scope, IsConfig, IsTypedCode}
 use Rattle.type_safety.specs.Frames.{IsFrame}
 use Rattle.type_safety.specs.Heights.{Heights}
-use Rattle.type_safety.specs.Laws.{InstructionsHaveRules, FittingActionsHaveResults}
 use Rattle.type_safety.specs.Results.{HasRule, IsControl}
 use Rattle.type_safety.specs.Stores.{func_count}
 use Rattle.tape_follows.proofs.Relation.{IsKnownOf, AreSeen}
-use Rattle.tape_follows.proofs.HostStores.{sizes_of, whole_pages_of}
-use Rattle.tape_follows.proofs.Seen.{step_seen}
-use Rattle.tape_follows.proofs.StepItems.{known_of_all}
+use Rattle.tape_follows.specs.Below.{LawsOfSteps}
+use Rattle.tape_follows.proofs.KeptSteps.{trap_seen, done_seen, done_known, left_is}
+use Rattle.tape_follows.specs.RealReads.{observed_from}
 use Rattle.hook_spec.specs.Order.{HookedShape}
 use Rattle.hook_spec.specs.ToldCalls.{told_by_step, told_by_trap, Moment, moments, next_of_nest, store_executed}
 use Rattle.calls_follow.proofs.CoreFrames.{CoreFrame, CoreStack, IsNoCall, CallsAs, KeepsCore, Keeps, execute_keeps}
@@ -51,18 +47,12 @@ use Rattle.calls_follow.proofs.RunCalls.{moments_at, RuleHolds, IsToldOfNest, ne
 use Rattle.calls_follow.proofs.CallObservations.{seen_by, as_told}
 use Rattle.calls_follow.proofs.Tellable.{IsShapeOf}
 use Rattle.calls_follow.proofs.Trails.{call_level, Level, AtFunction, IsOfCore, Leads, Stays, Direct, Indirect, TellsTrap, Quiet, AtEntry, IsTrail}
-use Rattle.calls_follow.proofs.NextInstructions.{global_never_traps, trap_kind, call_silent, indirect_nest, table_there}
+use Rattle.calls_follow.proofs.NextInstructions.{trap_kind, call_silent, indirect_nest, table_there}
 use Rattle.calls_follow.proofs.TrailCalls as trail_calls
 use Rattle.calls_follow.proofs.TrailsOfRuns as trails
+use Rattle.calls_follow.proofs.TrailsOfRuns.{Told, Delivers}
 
--- the laws of the crates below
-pub record TrailLaws : Type 0 where
-  pub own : StepsChangeAsObserved
-  pub answers : StoresAnswerThemselves
-  pub rules : InstructionsHaveRules
-  pub actions : FittingActionsHaveResults
-
-module _ (laws : TrailLaws) (m : Module) (heights : Heights) (valid : IsValid m) (typed : IsTypedCode m heights)
+module _ (laws : LawsOfSteps) (m : Module) (heights : Heights) (valid : IsValid m) (typed : IsTypedCode m heights)
     (core : IsCoreModule m) (answers : List (Option Answer)) (fits : FitAnswers m answers) (shape : HookedShape)
     (is_shape : IsShapeOf m shape)
     (number : (x : ℕ) (g : GlobalType) → slice_get (all_globals m) x ≡ Some g → is_number g.ty ≡ true) where
@@ -72,19 +62,7 @@ module _ (laws : TrailLaws) (m : Module) (heights : Heights) (valid : IsValid m)
   abbrev n : ℕ
   n = imported_funcs m
 
-  abbrev Told : ℕ → Option Instr → (before after : Store) → StepResult → List Level → Known → Type 0
-  Told = trails.Told m heights typed core answers fits shape
-
-  abbrev left_from : ℕ → StepResult → List Observation
-  left_from = trails.left_from m heights typed core answers fits shape
-
-  abbrev Delivers : ℕ → Type 0
-  Delivers = trails.Delivers m heights typed core answers fits shape
-
-  abbrev Makes : ℕ → Type 0
-  Makes = trails.Makes m heights typed core answers fits shape
-
-  module _ (k : ℕ) (delivers : Delivers k) where
+  module _ (k : ℕ) (delivers : Delivers m heights answers shape k) where
     -- ---- a step of the module
 
     module _ (frame : Frame) (below : List Activation) (store : Store) (counts : List ℕ) (levels : List Level)
@@ -107,15 +85,6 @@ module _ (laws : TrailLaws) (m : Module) (heights : Heights) (valid : IsValid m)
       abbrev body : Definition
       body = fine.stack.1
 
-      whole : HasWholePages store
-      whole = whole_pages_of store (sizes_of m store fine.store)
-
-      seen : ((x : ℕ) (rest : Nest) → frame.at.rest ≡ Plain (GlobalSet x) rest
-          → CanChangeAll store (plain_observations store frame.values (GlobalSet x))) → AreSeen known store items
-      seen sets =
-          step_seen known store whole frame.values frame.at.rest sets
-          (laws.answers store frame.values frame.at.rest whole)
-
       kept : Keeps store frame.values instr (execute (code_of m) store frame)
       kept = execute_keeps (code_of m) store frame c.0
 
@@ -137,11 +106,11 @@ module _ (laws : TrailLaws) (m : Module) (heights : Heights) (valid : IsValid m)
       -- what follows is a trail from the store before the step on
       abbrev Follows : Execution → Type 0
       Follows e =
-          IsTrail m shape (trails.ending m heights typed core answers fits shape k
+          IsTrail m shape (trails.ending m heights answers shape k
           (after_instruction program config frame below e).next)
           (moments_at instr store (store_executed store e) (after_instruction program config frame below e).entries
           ++ moments program k (after_instruction program config frame below e).next) levels known store
-          (items ++ left_from k (after_instruction program config frame below e))
+          (items ++ observed_from program k (after_instruction program config frame below e))
 
       trapped : (kind : TrapKind) (operands : List Val) (found : Option ℕ)
           → execute (code_of m) store frame ≡ Traps kind operands found → Follows (Traps kind operands found)
@@ -158,8 +127,7 @@ module _ (laws : TrailLaws) (m : Module) (heights : Heights) (valid : IsValid m)
           are : AreSeen known store (items ++ [])
           are =
               subst (AreSeen known store) (sym (append-nil items))
-              (seen (λ x rest at.
-              absurd (global_never_traps (code_of m) store frame x rest kind operands found at e)))
+              (trap_seen laws.own laws.answers m (code_of m) store fine.store frame known kind operands found e)
 
           of_core : AllByRecursion IsOfCore (items ++ [])
           of_core =
@@ -186,36 +154,27 @@ module _ (laws : TrailLaws) (m : Module) (heights : Heights) (valid : IsValid m)
               go (inr none) =
                   Quiet (subst (AreNestToldWell m shape is_shape number store frame.at.rest) e (well none))
 
+          last : IsTrail m shape (Some Trapped) (moment ∷ []) levels known store (items ++ [])
+          last =
+              record {
+                begins = refl;
+                below = mirrors.below;
+                stands = mirrors.stands;
+                of = of;
+                are = are;
+                core = of_core;
+                observes = told_as;
+                tells = tells;
+                last = refl;
+                over = refl;
+              }
+
           by : (j : ℕ)
-              → IsTrail m shape (trails.ending m heights typed core answers fits shape j (Finished Trapped))
+              → IsTrail m shape (trails.ending m heights answers shape j (Finished Trapped))
               (moment ∷ moments program j (Finished Trapped)) levels known store
               (items ++ observations program j (Finished Trapped))
-          by zero =
-              record {
-                begins = refl;
-                below = mirrors.below;
-                stands = mirrors.stands;
-                of = of;
-                are = are;
-                core = of_core;
-                observes = told_as;
-                tells = tells;
-                last = refl;
-                over = refl;
-              }
-          by (suc j) =
-              record {
-                begins = refl;
-                below = mirrors.below;
-                stands = mirrors.stands;
-                of = of;
-                are = are;
-                core = of_core;
-                observes = told_as;
-                tells = tells;
-                last = refl;
-                over = refl;
-              }
+          by zero = last
+          by (suc j) = last
 
       -- an instruction is executed
       module _ (operands results : List Val) (found : Option ℕ) (control : Control)
@@ -223,22 +182,20 @@ module _ (laws : TrailLaws) (m : Module) (heights : Heights) (valid : IsValid m)
         abbrev did : Execution
         did = Did operands results found control
 
-        own : IsDoneAlike (code_of m) store store items frame operands results found control
-            (execute (code_of m) store frame)
-        own = subst
-            (λ first. IsExecutedAlike (code_of m) store store items frame first (execute (code_of m) store frame)) e
-            (laws.own (code_of m) store frame whole)
-
         are : AreSeen known store items
-        are = seen (λ x rest at.
-            subst (λ nest. CanChangeAll store (nest_observations store frame.values nest)) at own.first_store.possible)
+        are =
+            done_seen laws.own laws.answers m (code_of m) store fine.store frame known operands results found control e
+
+        left : left_store store control ≡ with_changes store items
+        left = left_is laws.own laws.answers m (code_of m) store fine.store frame known operands results found control e
 
         abbrev known_next : Known
         known_next = known_after_all known items
 
-        of_next : (after : Store) → left_store store control ≡ after → IsKnownOf known_next after
-        of_next after left =
-            subst (IsKnownOf known_next) (sym own.first_store.changed ∙ left) (known_of_all known store items are of)
+        of_next : IsKnownOf known_next (left_store store control)
+        of_next =
+            done_known laws.own laws.answers m (code_of m) store fine.store frame known operands results found control e
+            of
 
         abbrev moment : Moment
         moment = record {
@@ -263,6 +220,35 @@ module _ (laws : TrailLaws) (m : Module) (heights : Heights) (valid : IsValid m)
         kept_did : KeepsCore store frame.values instr did
         kept_did = subst (KeepsCore store frame.values instr) e kept.kept
 
+        -- the step stands in a trail before what follows it
+        stepped : (after : List Level) → Leads m shape levels after known items moment operands results
+            → Told m heights answers shape k instr store (store_executed store did) (after_control program config frame below control) after
+            known_next
+            → Follows did
+        stepped after leads follows =
+            record {
+              begins = refl;
+              below = mirrors.below;
+              stands = mirrors.stands;
+              items = items;
+              later = observed_from program k (after_control program config frame below control);
+              observed = refl;
+              of = of;
+              are = are;
+              core = nest_of_core store frame.values frame.at.rest c.0.rest;
+              observes = told_did;
+              changed = after_is control ∙ left;
+              after = after;
+              leads = leads;
+              follows = follows;
+            }
+          where
+            after_is : (control : Control)
+                → store_executed store (Did operands results found control) ≡ left_store store control
+            after_is (Goes next_store next) = refl
+            after_is (Calls waiting func args) = refl
+            after_is (Returns given) = refl
+
       going : (operands results : List Val) (found : Option ℕ) (control : Control)
           → execute (code_of m) store frame ≡ Did operands results found control
           → IsControl (scope m heights frame.func fine.stack.0 fine.stack.1) control
@@ -270,28 +256,12 @@ module _ (laws : TrailLaws) (m : Module) (heights : Heights) (valid : IsValid m)
       going operands results found (Goes next_store next) e rule =
           let control = Goes next_store next in
           let kept = kept_did operands results found control e in
-          record {
-            begins = refl;
-            below = mirrors.below;
-            stands = mirrors.stands;
-            items = items;
-            later = left_from k (after_control program config frame below control);
-            observed = refl;
-            of = of;
-            are = are operands results found control e;
-            core = nest_of_core store frame.values frame.at.rest c.0.rest;
-            observes = told_did operands results found control e;
-            changed = (own operands results found control e).first_store.changed;
-            after = levels;
-            leads = stays operands results found control e kept.1;
-            follows =
-                delivers (InModule next ∷ below) [] [] next_store counts levels
-                (known_next operands results found control e) instr store
-                (fine.stack.0, fine.stack.1, same_frame rule.1, fine.stack.3) tt rule.0
-                (of_next operands results found control e next_store refl) fine.counts (kept.0, c.1)
-                (subst (λ func. OpenFunction func levels (Mirrors n (Some func) below)) (sym rule.1.around.func)
-                mirrors);
-          }
+          stepped operands results found control e levels (stays operands results found control e kept.1)
+          (delivers (InModule next ∷ below) [] [] next_store counts levels
+          (known_next operands results found control e) instr store
+          (fine.stack.0, fine.stack.1, same_frame rule.1, fine.stack.3) tt rule.0
+          (of_next operands results found control e) fine.counts (kept.0, c.1)
+          (subst (λ func. OpenFunction func levels (Mirrors n (Some func) below)) (sym rule.1.around.func) mirrors))
         where
           same_frame : IsFrame (scope m heights frame.func fine.stack.0 fine.stack.1) [] next
               → IsFrame (scope m heights next.func fine.stack.0 fine.stack.1) [] next
@@ -300,31 +270,15 @@ module _ (laws : TrailLaws) (m : Module) (heights : Heights) (valid : IsValid m)
       going operands results found (Returns given) e rule =
           let control = Returns given in
           let f = fine.stack.2 in
-          record {
-            begins = refl;
-            below = mirrors.below;
-            stands = mirrors.stands;
-            items = items;
-            later = left_from k (after_control program config frame below control);
-            observed = refl;
-            of = of;
-            are = are operands results found control e;
-            core = nest_of_core store frame.values frame.at.rest c.0.rest;
-            observes = told_did operands results found control e;
-            changed = (own operands results found control e).first_store.changed;
-            after = levels;
-            leads = stays operands results found control e (kept_did operands results found control e);
-            follows =
-                trails.returned m heights typed core answers fits shape k frame.func given below store counts levels
-                mirrors.below (known_next operands results found control e) instr store
-                (trails.is_defined m heights typed core answers fits shape frame.func fine.stack.1
-                f.around.scope.defined)
-                (record { ty = fine.stack.0; has_type = f.around.scope.has_type; are = rule }) mirrors.stands
-                mirrors.mirrors
-                (λ levels mirrors. delivers below fine.stack.0.results given store counts levels
-                (known_next operands results found control e) instr store fine.stack.3 rule fine.store
-                (of_next operands results found control e store refl) fine.counts c.1 mirrors);
-          }
+          stepped operands results found control e levels
+          (stays operands results found control e (kept_did operands results found control e))
+          (trails.returned m heights answers shape k frame.func given below store counts levels
+          mirrors.below (known_next operands results found control e) instr store
+          (trails.is_defined m heights answers shape frame.func fine.stack.1 f.around.scope.defined)
+          (record { ty = fine.stack.0; has_type = f.around.scope.has_type; are = rule }) mirrors.stands mirrors.mirrors
+          (λ levels mirrors. delivers below fine.stack.0.results given store counts levels
+          (known_next operands results found control e) instr store fine.stack.3 rule fine.store
+          (of_next operands results found control e) fine.counts c.1 mirrors))
       going operands results found (Calls waiting func args) e rule =
           by instr refl kept.1
         where
@@ -344,33 +298,18 @@ module _ (laws : TrailLaws) (m : Module) (heights : Heights) (valid : IsValid m)
               (moment operands results found control e) operands results
               → Follows (Did operands results found (Calls waiting func args))
           made direct leads =
-              record {
-                begins = refl;
-                below = mirrors.below;
-                stands = mirrors.stands;
-                items = items;
-                later = left_from k (after_control program config frame below control);
-                observed = refl;
-                of = of;
-                are = are operands results found control e;
-                core = nest_of_core store frame.values frame.at.rest c.0.rest;
-                observes = told_did operands results found control e;
-                changed = (own operands results found control e).first_store.changed;
-                after = call_level (nat_lt func n) direct func args ∷ levels;
-                leads = leads;
-                follows =
-                    subst
-                    (λ l. Told k instr store store
-                    (call_function program (nat_lt func n) store counts func args (InModule waiting ∷ below))
-                    (call_level (nat_lt func n) direct func args ∷ l) (known_next operands results found control e))
-                    (ap (λ g. AtFunction g ∷ mirrors.below) rule.2.around.func ∙ sym mirrors.stands)
-                    (trail_calls.called m heights typed core answers fits shape k delivers func rule.0 args direct waiting below store counts mirrors.below
-                    (known_next operands results found control e) instr store rule.1 rule.3 fine.store
-                    (of_next operands results found control e store refl) fine.counts
-                    (fine.stack.0, fine.stack.1, f, fine.stack.3) (kept.0, c.1)
-                    (subst (λ g. Mirrors n (Some g) below mirrors.below) (sym rule.2.around.func) mirrors.mirrors)
-                    (nat_lt func n) refl);
-              }
+              stepped operands results found control e (call_level (nat_lt func n) direct func args ∷ levels) leads
+              (subst
+              (λ l. Told m heights answers shape k instr store store
+              (call_function program (nat_lt func n) store counts func args (InModule waiting ∷ below))
+              (call_level (nat_lt func n) direct func args ∷ l) (known_next operands results found control e))
+              (ap (λ g. AtFunction g ∷ mirrors.below) rule.2.around.func ∙ sym mirrors.stands)
+              (trail_calls.called m heights typed core answers fits shape k delivers func rule.0 args direct waiting below
+              store counts mirrors.below (known_next operands results found control e) instr store rule.1 rule.3
+              fine.store (of_next operands results found control e) fine.counts
+              (fine.stack.0, fine.stack.1, f, fine.stack.3) (kept.0, c.1)
+              (subst (λ g. Mirrors n (Some g) below mirrors.below) (sym rule.2.around.func) mirrors.mirrors)
+              (nat_lt func n) refl))
 
           by : (o : Option Instr) → instr ≡ o → CallsAs store frame.values o operands func args
               → Follows (Did operands results found (Calls waiting func args))

@@ -6,26 +6,22 @@ use Rattle.wasm_syntax.specs.declared.values.ValType.{ValType}
 use Rattle.wasm_syntax.specs.declared.values.Val.{Val}
 use Rattle.wasm_syntax.specs.declared.instructions.Instr.{Instr}
 use Rattle.wasm_syntax.specs.declared.modules.Module.{Module}
-use Rattle.wasm_syntax.specs.Encoding.Forms.{IsCoreModule}
 use Rattle.wasm_syntax.specs.Index.{imported_funcs}
-use Rattle.host_script.specs.declared.scripts.Action.{Action}
 use Rattle.host_script.specs.declared.scripts.Answer.{Answer}
-use Rattle.host_script.specs.declared.scripts.ResponseEnd.{ResponseEnd}
 use Rattle.host_script.specs.declared.scripts.ResponseEnd.TheVariants.{Return, Trap as EndsInTrap}
-use Rattle.host_script.specs.Fits.{FitAnswers}
 use Rattle.run_outcomes.specs.declared.outcomes.Outcome.{Outcome}
 use Rattle.run_outcomes.specs.declared.outcomes.Outcome.TheVariants.{Ended, HostTrapped}
 use Rattle.trace_model.specs.declared.tapes.Next.TheVariants.{Trap as ByTrap}
 use Rattle.history_spec.specs.declared.entries.FaultKind.{FaultKind}
 use Rattle.history_spec.specs.Store.{Store}
 use Rattle.history_spec.specs.Code.{Definition, code_of, definition}
-use Rattle.history_spec.specs.Configuration.{Frame, Activation, InModule, InMain, InImport, topmost, with_results}
+use Rattle.history_spec.specs.Configuration.{Frame, Activation, InModule, InMain, InImport, with_results}
 use Rattle.history_spec.specs.Settle.{AtEnd, Within, Gives, TooFew, at_end, return_entry, return_from, deliver}
 use Rattle.history_spec.specs.Step.{Program, Progress, Running, Finished, Faulted, StepResult, step_result, after_settling}
 use Rattle.history_spec.specs.Run.{all_one, steps}
-use Rattle.replay_spec.specs.Observations.{Observation, Ends, activity_observations, observations}
+use Rattle.replay_spec.specs.Observations.{Observation, Ends, observations}
 use Rattle.replay_spec.specs.Known.{Known}
-use Rattle.type_safety.specs.Configurations.{scope, Accept, IsConfig, IsTypedCode}
+use Rattle.type_safety.specs.Configurations.{scope, Accept, IsConfig}
 use Rattle.type_safety.specs.Frames.{Scope, IsFrame}
 use Rattle.type_safety.specs.Heights.{Heights}
 use Rattle.type_safety.specs.Stores.{func_count, IsStore}
@@ -33,6 +29,8 @@ use Rattle.type_safety.specs.Values.{AreValues}
 use Rattle.type_safety.proofs.Constants.{fit_values}
 use Rattle.type_safety.proofs.SettleEnds.{results_frame, IsEnd, results_end}
 use Rattle.tape_follows.proofs.Relation.{IsKnownOf}
+use Rattle.tape_follows.proofs.Follows.{AtEachStep}
+use Rattle.tape_follows.specs.RealReads.{observed_from}
 use Rattle.hook_spec.specs.Order.{HookedShape}
 use Rattle.hook_spec.specs.ToldCalls.{moments}
 use Rattle.calls_follow.proofs.CoreFrames.{CoreStack, core_results}
@@ -45,8 +43,7 @@ abbrev pub outcome_of : Progress → Option Outcome
 outcome_of (Finished outcome) = Some outcome
 outcome_of at = None
 
-module _ (m : Module) (heights : Heights) (typed : IsTypedCode m heights) (core : IsCoreModule m)
-    (answers : List (Option Answer)) (fits : FitAnswers m answers) (shape : HookedShape) where
+module _ (m : Module) (heights : Heights) (answers : List (Option Answer)) (shape : HookedShape) where
   abbrev pub program : Program
   program = record { code = code_of m; answers = answers }
 
@@ -67,11 +64,8 @@ module _ (m : Module) (heights : Heights) (typed : IsTypedCode m heights) (core 
       IsTrail m shape (ending k s.next) (moments_at instr before after s.entries ++ moments program k s.next) levels
       known after left
 
-  abbrev pub left_from : ℕ → StepResult → List Observation
-  left_from k s = activity_observations s.entries ++ observations program k s.next
-
   abbrev pub Told : ℕ → Option Instr → (before after : Store) → StepResult → List Level → Known → Type 0
-  Told k instr before after s levels known = IsTrailFrom k instr before after s levels known (left_from k s)
+  Told k instr before after s levels known = IsTrailFrom k instr before after s levels known (observed_from program k s)
 
   -- ---- the statements, by the number of steps that are left
 
@@ -94,12 +88,8 @@ module _ (m : Module) (heights : Heights) (typed : IsTypedCode m heights) (core 
       (moments program k (Running (record { store = store; stack = stack; counts = counts }))) levels known store
       (observations program k (Running (record { store = store; stack = stack; counts = counts })))
 
-  pub record Makes (k : ℕ) : Type 0 where
-    pub runs : (frame : Frame) (below : List Activation) → GoesOn k (InModule frame ∷ below)
-    pub main : (action : Action) (actions : List Action) (below : List Activation)
-        → GoesOn k (InMain (action ∷ actions) ∷ below)
-    pub import : (number : ℕ) (args : List Val) (action : Action) (actions : List Action) (end : ResponseEnd)
-        (below : List Activation) → GoesOn k (InImport number args (action ∷ actions) end ∷ below)
+  abbrev pub Makes : ℕ → Type 0
+  Makes k = AtEachStep (GoesOn k)
 
   -- ---- where the run is over
 
@@ -162,7 +152,7 @@ module _ (m : Module) (heights : Heights) (typed : IsTypedCode m heights) (core 
         below = lower;
         stands = stands;
         host = host_on_top n (Some func) (InMain actions ∷ below) lower tt mirrors;
-        later = left_from k (after_settling store counts (deliver (InMain actions ∷ below) given));
+        later = observed_from program k (after_settling store counts (deliver (InMain actions ∷ below) given));
         observed = refl;
         follows = next lower (any_callee n (Some func) None (InMain actions ∷ below) lower tt mirrors);
       }
@@ -173,7 +163,7 @@ module _ (m : Module) (heights : Heights) (typed : IsTypedCode m heights) (core 
         below = lower;
         stands = stands;
         host = host_on_top n (Some func) (InImport import args actions «end» ∷ below) lower tt mirrors;
-        later = left_from k (after_settling store counts (deliver (InImport import args actions «end» ∷ below) given));
+        later = observed_from program k (after_settling store counts (deliver (InImport import args actions «end» ∷ below) given));
         observed = refl;
         follows =
             next lower (any_callee n (Some func) None (InImport import args actions «end» ∷ below) lower tt mirrors);
@@ -248,7 +238,7 @@ module _ (m : Module) (heights : Heights) (typed : IsTypedCode m heights) (core 
             are = fit_values (func_count m) a.0.results (option_to_list value) a.4;
           };
           within = tt;
-          later = left_from k
+          later = observed_from program k
               (after_settling store counts (deliver (InModule frame ∷ below) (option_to_list value)));
           observed = refl;
           follows =

@@ -3,17 +3,14 @@
 ghost use Rattle.calls_follow.specs.Laws.{HookCallsAreInOrder, HookCallsObserveRuns};
 
 use hook_spec::{indices_are_renumbered, instrumented_keep_indices};
-use observed_steps::{own_answers, own_steps};
-use type_safety::{rules_hold, safe_steps, typed_code, typed_store};
+use tape_follows::{laws_of_runs, laws_of_steps};
 
 /// What the hook calls of a run observe is what the run observes, as hooks are told of it.
 pub fn hook_calls_observe_runs()
     ensures { HookCallsObserveRuns }
 {
-    typed_code();
-    typed_store();
-    rules_hold();
-    safe_steps();
+    laws_of_steps();
+    laws_of_runs();
     instrumented_keep_indices();
 }
 
@@ -21,12 +18,8 @@ pub fn hook_calls_observe_runs()
 pub fn hook_calls_are_in_order()
     ensures { HookCallsAreInOrder }
 {
-    typed_code();
-    typed_store();
-    rules_hold();
-    safe_steps();
-    own_answers();
-    own_steps();
+    laws_of_steps();
+    laws_of_runs();
     indices_are_renumbered();
     instrumented_keep_indices();
 }

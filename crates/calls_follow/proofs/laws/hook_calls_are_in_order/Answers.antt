@@ -1,23 +1,7 @@
 use Rattle.calls_follow.proofs.Ordered.{calls_in_order}
-use Rattle.calls_follow.proofs.RunCalls.{Safety}
-use Rattle.calls_follow.proofs.TrailSteps.{TrailLaws}
 use Rattle.calls_follow.proofs.laws.hook_calls_are_in_order.Goals as goal
 
 pub returns : goal.returns
 returns c =
-    let laws : TrailLaws =
-    record {
-      own = c.own_steps.ensures;
-      answers = c.own_answers.ensures.answers;
-      rules = c.rules_hold.ensures.instructions;
-      actions = c.rules_hold.ensures.actions;
-    } in
-    let safety : Safety =
-    record {
-      heights = c.typed_code.ensures.heights;
-      code = c.typed_code.ensures.code;
-      supplied = c.typed_store.ensures.supplied;
-      store = c.typed_store.ensures.store;
-      starts = c.safe_steps.ensures.starts;
-    } in
-    calls_in_order laws safety c.instrumented_keep_indices.ensures c.indices_are_renumbered.ensures
+    calls_in_order c.laws_of_steps.ensures c.laws_of_runs.ensures c.instrumented_keep_indices.ensures
+    c.indices_are_renumbered.ensures
