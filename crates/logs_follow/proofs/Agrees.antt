@@ -15,6 +15,7 @@ use Rattle.replay_spec.specs.Alike.{same_option, same_value}
 use Rattle.replay_spec.specs.Windows.{window, unless_some, first_byte, first_entry, first_global, found_pages, found_entries}
 use Rattle.replay_spec.specs.Needed.{needed, needed_byte, needed_entry, needed_global, needed_pages, needed_entries, effect_byte, effect_entry, effect_global, effect_pages, effect_entries}
 use Rattle.replay_spec.specs.Kept.{AreKeptSegments}
+use Rattle.tape_follows.proofs.Activity.{or_nothing}
 use Rattle.hook_spec.specs.LogTapes.{Mark, Finds, Begins as BeginsMark, Ends as EndsMark, window_finds, first_some, AreLogSegments}
 
 -- ---- the relation
@@ -86,17 +87,13 @@ pub record IsSettled (known : Known) (o : Observation) (window : List Observatio
 
 -- ---- one place, and a size
 
-or_none : {X : Type 0} (o : Option X) → option_or o None ≡ o
-or_none None = refl
-or_none (Some x) = refl
-
 -- what is found of an observation and of the window after it
 in_front : {X : Type 0} (same : X → X → Bool) (known : X) (read written later : Option X)
     → ((x : X) → option_or read written ≡ Some x → needed same x later ≡ None)
     → option_or (needed same known read) (needed same (unwrap_or (option_or read written) known) later)
     ≡ needed same known (option_or read (unless_some written later))
 in_front same known (Some x) written later settled =
-    ap (option_or (needed same known (Some x))) (settled x refl) ∙ or_none (needed same known (Some x))
+    ap (option_or (needed same known (Some x))) (settled x refl) ∙ or_nothing (needed same known (Some x))
 in_front same known None (Some z) later settled = settled z refl
 in_front same known None None later settled = refl
 
@@ -108,12 +105,12 @@ size_in_front : (b : Bool) (known found : ℕ) (size : ℕ → ℕ)
     ≡ needed nat_eq known (Some (cond b (size known) found))
 size_in_front true known found size settled = refl
 size_in_front false known found size settled =
-    ap (option_or (needed nat_eq known (Some found))) (settled refl) ∙ or_none (needed nat_eq known (Some found))
+    ap (option_or (needed nat_eq known (Some found))) (settled refl) ∙ or_nothing (needed nat_eq known (Some found))
 
 resized_in_front : (known found left size : ℕ) → needed nat_eq left (Some size) ≡ None
     → option_or (needed nat_eq known (Some found)) (needed nat_eq left (Some size)) ≡ needed nat_eq known (Some found)
 resized_in_front known found left size settled =
-    ap (option_or (needed nat_eq known (Some found))) settled ∙ or_none (needed nat_eq known (Some found))
+    ap (option_or (needed nat_eq known (Some found))) settled ∙ or_nothing (needed nat_eq known (Some found))
 
 pages_in_front : (known : ℕ) (o : Observation) (window : List Observation)
     → (SeesPages known o

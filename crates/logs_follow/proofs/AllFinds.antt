@@ -1,24 +1,23 @@
 -- The events of what is told of one observation find just what that observation needs.
 use Rattle.std.proofs.Common.{◌≡◌, ℕ, ◌*◌, List, [], ◌∷◌, ◌++◌, Option, Some, None, Bool, true, false, cond, nat_eq, nat_le, nat_lt, refl, sym, ap, ◌∙◌, subst}
 use Rattle.std.specs.Prelude.{option_map}
-use Rattle.std.specs.Option.{option_or}
+use Rattle.std.proofs.lemmas.List.{append-nil}
 use Rattle.wasm_syntax.specs.declared.limits.TheConstants.{PAGE_SIZE}
 use Rattle.wasm_syntax.specs.declared.values.Val.{Val}
 use Rattle.trace_model.specs.declared.events.Event.TheVariants.{Seen, Table, Entry}
+use Rattle.trace_model.specs.declared.tapes.Effect.{Effect}
+use Rattle.trace_model.specs.declared.events.Event.{Event}
 use Rattle.replay_spec.specs.Observations.{Reads, Copies, Writes, Reaches, Resizes, ReadsEntry, ReachesEntry, WritesGlobal}
 use Rattle.replay_spec.specs.Known.{Known, byte_among}
 use Rattle.replay_spec.specs.Alike.{same_option}
-use Rattle.replay_spec.specs.Needed.{needed, effect_entry, effect_global, effect_pages, effect_entries}
+use Rattle.replay_spec.specs.Needed.{needed, effect_entry, effect_global, effect_pages, effect_entries, effect_byte}
+use Rattle.tape_follows.proofs.Activity.{or_nothing}
 use Rattle.hook_spec.specs.Hooks.{renumber, original}
 use Rattle.hook_spec.specs.Logs.{LogState, differing_runs, unless, same_entry, all_observed_events}
 use Rattle.hook_spec.specs.LogTapes.{first_some}
 use Rattle.logs_follow.proofs.Agrees.{AreFindsOf}
 use Rattle.logs_follow.proofs.FirstBytes.{finds_of, first_differing}
 use Rattle.logs_follow.proofs.ObservedFinds.{IsToldKnown, IsNoticed, none_differing, found_size, found_entries_number, same_told_entry, original_entry, found_place}
-
-nil_after : {A : Type 0} (xs : List A) → xs ++ [] ≡ xs
-nil_after [] = refl
-nil_after (x ∷ xs) = ap (λ l. x ∷ l) (nil_after xs)
 
 module _ (n size : ℕ) (known : Known) (state : LogState) (told : IsToldKnown n known state.known) where
   -- bytes that are read, by a load or as the source of a copy
@@ -38,7 +37,7 @@ module _ (n size : ℕ) (known : Known) (state : LogState) (told : IsToldKnown n
       → AreFindsOf known (Reads address bytes) (finds_of size (all_observed_events n state (Reads address bytes ∷ [])))
   reads_found address bytes =
       subst (λ events. AreFindsOf known (Reads address bytes) (finds_of size events))
-      (sym (nil_after (differing_runs state.known.byte address bytes))) (bytes_found address bytes)
+      (sym (append-nil (differing_runs state.known.byte address bytes))) (bytes_found address bytes)
 
   pub copies_found : (address : ℕ) (bytes : List ℕ)
       → AreFindsOf known (Copies address bytes)
@@ -46,8 +45,15 @@ module _ (n size : ℕ) (known : Known) (state : LogState) (told : IsToldKnown n
   copies_found address bytes =
       let f = bytes_found address bytes in
       subst (λ events. AreFindsOf known (Copies address bytes) (finds_of size events))
-      (sym (nil_after (differing_runs state.known.byte address bytes)))
+      (sym (append-nil (differing_runs state.known.byte address bytes)))
       (record { pages = f.pages; entries = f.entries; byte = f.byte; entry = f.entry; global = f.global })
+
+  -- what an event does not give is not found, whether the event is told or not
+  none_told : {X : Type 0} (part : Effect → Option X) (event : Event)
+      → first_some part (finds_of size (event ∷ [])) ≡ None → (untold : Bool)
+      → first_some part (finds_of size (unless untold event)) ≡ None
+  none_told part event none true = refl
+  none_told part event none false = none
 
   -- an access, and the size
   pub reaches_found : («end» found : ℕ) → IsNoticed state.noticed size known.pages found
@@ -60,13 +66,15 @@ module _ (n size : ℕ) (known : Known) (state : LogState) (told : IsToldKnown n
       ((cond (cond (nat_le «end» (pages * PAGE_SIZE)) false true) (unless (nat_eq pages state.noticed) Seen) [] ++ [])
       ++ [])))
       (sym told.pages)
-      (go (nat_le «end» (known.pages * PAGE_SIZE)) refl (nat_eq known.pages state.noticed) refl)
+      (go (nat_le «end» (known.pages * PAGE_SIZE)) refl)
     where
+      seen : Bool
+      seen = nat_eq known.pages state.noticed
+
       go : (b : Bool) → nat_le «end» (known.pages * PAGE_SIZE) ≡ b
-          → (c : Bool) → nat_eq known.pages state.noticed ≡ c
           → AreFindsOf known (Reaches «end» found)
-          (finds_of size ((cond (cond b false true) (unless c Seen) [] ++ []) ++ []))
-      go true p c q =
+          (finds_of size ((cond (cond b false true) (unless seen Seen) [] ++ []) ++ []))
+      go true p =
           record {
             pages = sym (ap (λ b. cond b None (needed nat_eq known.pages (Some found))) p);
             entries = refl;
@@ -74,26 +82,17 @@ module _ (n size : ℕ) (known : Known) (state : LogState) (told : IsToldKnown n
             entry = λ at. refl;
             global = λ at. refl;
           }
-      go false p true q =
-          record {
-            pages = ap (λ c. first_some effect_pages (finds_of size (unless c Seen))) (sym q)
-                ∙ found_size known.pages found state.noticed size noticed
+      go false p =
+          subst (λ events. AreFindsOf known (Reaches «end» found) (finds_of size events))
+          (sym (append-nil (unless seen Seen ++ []) ∙ append-nil (unless seen Seen)))
+          (record {
+            pages = found_size known.pages found state.noticed size noticed
                 ∙ sym (ap (λ b. cond b None (needed nat_eq known.pages (Some found))) p);
-            entries = refl;
-            byte = λ at. refl;
-            entry = λ at. refl;
-            global = λ at. refl;
-          }
-      go false p false q =
-          record {
-            pages = ap (λ c. first_some effect_pages (finds_of size (unless c Seen))) (sym q)
-                ∙ found_size known.pages found state.noticed size noticed
-                ∙ sym (ap (λ b. cond b None (needed nat_eq known.pages (Some found))) p);
-            entries = refl;
-            byte = λ at. refl;
-            entry = λ at. refl;
-            global = λ at. refl;
-          }
+            entries = none_told effect_entries Seen refl seen;
+            byte = λ at. none_told (effect_byte at) Seen refl seen;
+            entry = λ at. none_told (effect_entry at) Seen refl seen;
+            global = λ at. none_told (effect_global at) Seen refl seen;
+          })
 
   pub resizes_found : (found left : ℕ) → IsNoticed state.noticed size known.pages found
       → AreFindsOf known (Resizes found left)
@@ -103,28 +102,18 @@ module _ (n size : ℕ) (known : Known) (state : LogState) (told : IsToldKnown n
       (λ pages. AreFindsOf known (Resizes found left)
       (finds_of size ((unless (nat_eq pages state.noticed) Seen ++ []) ++ [])))
       (sym told.pages)
-      (go (nat_eq known.pages state.noticed) refl)
+      (subst (λ events. AreFindsOf known (Resizes found left) (finds_of size events))
+      (sym (append-nil (unless seen Seen ++ []) ∙ append-nil (unless seen Seen)))
+      (record {
+        pages = found_size known.pages found state.noticed size noticed;
+        entries = none_told effect_entries Seen refl seen;
+        byte = λ at. none_told (effect_byte at) Seen refl seen;
+        entry = λ at. none_told (effect_entry at) Seen refl seen;
+        global = λ at. none_told (effect_global at) Seen refl seen;
+      }))
     where
-      go : (c : Bool) → nat_eq known.pages state.noticed ≡ c
-          → AreFindsOf known (Resizes found left) (finds_of size ((unless c Seen ++ []) ++ []))
-      go true q =
-          record {
-            pages = ap (λ c. first_some effect_pages (finds_of size (unless c Seen))) (sym q)
-                ∙ found_size known.pages found state.noticed size noticed;
-            entries = refl;
-            byte = λ at. refl;
-            entry = λ at. refl;
-            global = λ at. refl;
-          }
-      go false q =
-          record {
-            pages = ap (λ c. first_some effect_pages (finds_of size (unless c Seen))) (sym q)
-                ∙ found_size known.pages found state.noticed size noticed;
-            entries = refl;
-            byte = λ at. refl;
-            entry = λ at. refl;
-            global = λ at. refl;
-          }
+      seen : Bool
+      seen = nat_eq known.pages state.noticed
 
   -- an access of the table
   pub reaches_entry_found : (index found : ℕ)
@@ -135,12 +124,15 @@ module _ (n size : ℕ) (known : Known) (state : LogState) (told : IsToldKnown n
       (λ entries. AreFindsOf known (ReachesEntry index found)
       (finds_of size (cond (nat_lt index entries) [] (unless (nat_eq found entries) (Table found)) ++ [])))
       (sym told.entries)
-      (go (nat_lt index known.entries) refl (nat_eq found known.entries) refl)
+      (go (nat_lt index known.entries) refl)
     where
-      go : (b : Bool) → nat_lt index known.entries ≡ b → (c : Bool) → nat_eq found known.entries ≡ c
+      same : Bool
+      same = nat_eq found known.entries
+
+      go : (b : Bool) → nat_lt index known.entries ≡ b
           → AreFindsOf known (ReachesEntry index found)
-          (finds_of size (cond b [] (unless c (Table found)) ++ []))
-      go true p c q =
+          (finds_of size (cond b [] (unless same (Table found)) ++ []))
+      go true p =
           record {
             pages = refl;
             entries = sym (ap (λ b. cond b None (needed nat_eq known.entries (Some found))) p);
@@ -148,26 +140,17 @@ module _ (n size : ℕ) (known : Known) (state : LogState) (told : IsToldKnown n
             entry = λ at. refl;
             global = λ at. refl;
           }
-      go false p true q =
-          record {
-            pages = refl;
-            entries = ap (λ c. first_some effect_entries (finds_of size (unless c (Table found)))) (sym q)
-                ∙ found_entries_number known.entries found size
+      go false p =
+          subst (λ events. AreFindsOf known (ReachesEntry index found) (finds_of size events))
+          (sym (append-nil (unless same (Table found))))
+          (record {
+            pages = none_told effect_pages (Table found) refl same;
+            entries = found_entries_number known.entries found size
                 ∙ sym (ap (λ b. cond b None (needed nat_eq known.entries (Some found))) p);
-            byte = λ at. refl;
-            entry = λ at. refl;
-            global = λ at. refl;
-          }
-      go false p false q =
-          record {
-            pages = refl;
-            entries = ap (λ c. first_some effect_entries (finds_of size (unless c (Table found)))) (sym q)
-                ∙ found_entries_number known.entries found size
-                ∙ sym (ap (λ b. cond b None (needed nat_eq known.entries (Some found))) p);
-            byte = λ at. refl;
-            entry = λ at. refl;
-            global = λ at. refl;
-          }
+            byte = λ at. none_told (effect_byte at) (Table found) refl same;
+            entry = λ at. none_told (effect_entry at) (Table found) refl same;
+            global = λ at. none_told (effect_global at) (Table found) refl same;
+          })
 
   -- what is written
   pub writes_found : (address : ℕ) (bytes : List ℕ)
@@ -199,10 +182,6 @@ module _ (n size : ℕ) (known : Known) (state : LogState) (told : IsToldKnown n
       ∙ same_told_entry n (known.entry index) func))
       (go (same_option nat_eq (known.entry index) func) refl))
     where
-      or_none : {X : Type 0} (o : Option X) → option_or o None ≡ o
-      or_none None = refl
-      or_none (Some x) = refl
-
       go : (b : Bool) → same_option nat_eq (known.entry index) func ≡ b
           → AreFindsOf known (ReadsEntry index func) (finds_of size (unless b (Entry index func) ++ []))
       go true p =
@@ -219,7 +198,7 @@ module _ (n size : ℕ) (known : Known) (state : LogState) (told : IsToldKnown n
             pages = refl;
             entries = refl;
             byte = λ at. refl;
-            entry = λ at. or_none (cond (nat_eq index at) (Some func) None)
+            entry = λ at. or_nothing (cond (nat_eq index at) (Some func) None)
                 ∙ sym (ap (λ b. cond b None (cond (nat_eq index at) (Some func) None)) p)
                 ∙ found_place (same_option nat_eq) known.entry index at func;
             global = λ at. refl;

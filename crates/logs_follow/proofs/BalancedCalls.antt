@@ -1,37 +1,33 @@
 -- What a trail tells of functions and calls that begin and end is logged by events that are balanced.
-use Rattle.std.proofs.Common.{◌≡◌, ℕ, suc, ◌+◌, ◌≤◌, List, [], ◌∷◌, ◌++◌, length, Option, Some, None, Bool, true, false, cond, nat_eq, nat_le, nat_lt, slice_get, refl, sym, ap, ◌∙◌, subst, arith}
-use Rattle.std.specs.Prelude.{◌||◌, ◌&&◌, not, Ok}
+use Rattle.std.proofs.Common.{◌≡◌, ℕ, suc, ◌+◌, ◌≤◌, List, [], ◌∷◌, ◌++◌, Option, Some, None, Bool, true, false, cond, nat_eq, nat_le, nat_lt, slice_get, refl, sym, ap, ◌∙◌, subst, arith}
+use Rattle.std.specs.Prelude.{◌||◌, Ok}
 use Rattle.std.proofs.lemmas.Bool.Decides.{nat_tests}
+use Rattle.std.proofs.Math.Bool.{or-true}
 use Rattle.wasm_syntax.specs.declared.values.Val.{Val}
-use Rattle.wasm_syntax.specs.declared.signatures.FuncType.{FuncType}
 use Rattle.wasm_syntax.specs.declared.modules.Module.{Module}
 use Rattle.wasm_syntax.specs.Index.{imported_funcs, all_globals}
-use Rattle.wasm_syntax.specs.Validity.{IsFuncType}
 use Rattle.run_outcomes.specs.declared.outcomes.Outcome.{Outcome}
 use Rattle.trace_model.specs.declared.events.Event.{Event}
 use Rattle.trace_model.specs.declared.events.Event.TheVariants as events
 use Rattle.trace_model.specs.Balance.{enter_frames, calls_import}
 use Rattle.history_spec.specs.declared.entries.Entry.TheVariants.{HostCall, HostReturn, ImportCall, ImportReturn, Enter, Exit}
-use Rattle.history_spec.specs.Code.{code_of, signature}
 use Rattle.history_spec.specs.Store.{Store}
 use Rattle.replay_spec.specs.Known.{Known}
 use Rattle.replay_spec.specs.Observations.{Observation}
-use Rattle.type_safety.specs.Stores.{func_count}
 use Rattle.hook_spec.specs.declared.hooks.Hook.TheVariants.{Leave}
-use Rattle.hook_spec.specs.Hooks.{HookCall, renumber, original}
+use Rattle.hook_spec.specs.Hooks.{HookCall}
 use Rattle.hook_spec.specs.Logs.{LogState, grown_events, events_from}
-use Rattle.hook_spec.specs.Order.{HookedShape, OrderState}
+use Rattle.hook_spec.specs.Order.{HookedShape}
 use Rattle.hook_spec.specs.ToldCalls.{Moment, told_calls, told_enter, told_values, told_over, told_number}
 use Rattle.calls_follow.proofs.CallObservations.{seen_by}
 use Rattle.calls_follow.proofs.CallOrder as orders
 use Rattle.calls_follow.proofs.ModuleFacts.{func_there}
-use Rattle.calls_follow.proofs.Tellable.{IsShapeOf}
-use Rattle.calls_follow.proofs.TrailOrder.{same_waiting}
-use Rattle.calls_follow.proofs.Trails.{Level, AtFunction, AtImport, AtCall, call_level, waiting_calls, at_host, with_top_entered, IsWithin, IsHostCall, IsEntered, IsHostReturn, IsExit, IsImportCall, IsImportReturn, IsTrail}
+use Rattle.calls_follow.proofs.TrailOrder.{same_waiting, calls_at}
+use Rattle.calls_follow.proofs.Trails.{Level, AtFunction, AtImport, AtCall, call_level, at_host, with_top_entered, IsWithin, IsHostCall, IsEntered, IsHostReturn, IsExit, IsImportCall, IsImportReturn, IsTrail}
+use Rattle.calls_follow.proofs.CallOrder.{IsHooked, renumbered, state, callee_may, never_imported}
 use Rattle.logs_follow.proofs.BalancedEvents.{CanSee, Frames, AreLevels, host_enters, module_enters, AreBalanced, LeadsTo, both_lead, enter_leads, leave_leads, post_leads, grown_leads}
 use Rattle.logs_follow.proofs.CallLogs as logs
-use Rattle.logs_follow.proofs.CallLogs.{noticing}
-use Rattle.logs_follow.proofs.ItemEvents.{own_number}
+use Rattle.logs_follow.proofs.CallLogs.{noticing, Logged}
 use Rattle.logs_follow.proofs.HostTraps.{TrapsInside}
 use Rattle.logs_follow.proofs.TrailLogs as trail_logs
 
@@ -81,53 +77,39 @@ module _ (n : ℕ) where
 
 -- ---- a trail
 
-module _ (m : Module) (shape : HookedShape) (is : IsShapeOf m shape)
-    (counts : func_count m ≡ imported_funcs m + length m.funcs)
-    (numbers : (func : ℕ) (ty : FuncType) → signature (code_of m) func ≡ Some ty → IsFuncType ty)
-    (back : (n func : ℕ) → original n (renumber n func) ≡ Some func) (outcome : Outcome) where
-  abbrev n : ℕ
-  n = imported_funcs m
-
-  abbrev ren : List HookCall → List HookCall
-  ren = orders.ren m shape is counts numbers back
-
-  abbrev state : List Level → List Val → ℕ → OrderState
-  state = orders.state m shape is counts numbers back
-
-  abbrev Logged : OrderState → LogState → List HookCall → List Event → OrderState → LogState → Type 0
-  Logged = logs.Logged m shape is counts numbers back
-
-  abbrev seen : List HookCall → List Observation
-  seen calls = seen_by shape n (all_globals m) calls
-
+module _ (m : Module) (shape : HookedShape) (outcome : Outcome) where
   -- what calls tell is logged, and is balanced
   pub record Balances (levels : List Level) (entries : ℕ) (st : LogState) (calls : List HookCall) : Type 0 where
     pub found : List Event
     pub are : (at : ℕ) → events_from shape (state levels [] entries) st at calls ≡ Ok found
-    pub balanced : (grew : Bool) → CanSee grew st → AreBalanced n outcome levels grew found
-
-  abbrev calls_at : List Level → List Moment → List HookCall
-  calls_at levels later = told_calls (all_globals m) (waiting_calls levels) later
+    pub balanced : (grew : Bool) → CanSee grew st → AreBalanced (imported_funcs m) outcome levels grew found
 
   -- what moments tell
   abbrev pub Tells : List Level → ℕ → LogState → List Moment → Type 0
-  Tells levels entries st moments = Balances levels entries st (ren (calls_at levels moments))
+  Tells levels entries st moments = Balances levels entries st (renumbered m (calls_at m levels moments))
 
   abbrev pub Rest : List Moment → Type 0
   Rest later =
       (levels : List Level) (known : Known) (store : Store) (left : List Observation) (st : LogState)
-      → IsTrail m shape (Some outcome) later levels known store left → IsInside n levels left
+      → IsTrail m shape (Some outcome) later levels known store left → IsInside (imported_funcs m) levels left
       → Tells levels known.entries st later
+
+module _ (m : Module) (shape : HookedShape) (hooked : IsHooked m shape) (outcome : Outcome) where
+  abbrev n : ℕ
+  n = imported_funcs m
+
+  abbrev seen : List HookCall → List Observation
+  seen calls = seen_by shape n (all_globals m) calls
 
   -- calls whose events lead on, with what follows
   pub then_balances : (levels after : List Level) (entries next : ℕ) (st now : LogState) (calls rest : List HookCall)
-      (first : List Event) → Logged (state levels [] entries) st calls first (state after [] next) now
+      (first : List Event) → Logged m shape (state levels [] entries) st calls first (state after [] next) now
       → LeadsTo n outcome levels st first after now
-      → Balances after next now (ren rest) → Balances levels entries st (ren (calls ++ rest))
+      → Balances m shape outcome after next now (renumbered m rest) → Balances m shape outcome levels entries st (renumbered m (calls ++ rest))
   then_balances levels after entries next st now calls rest first logged leads r =
       record {
         found = first ++ r.found;
-        are = trail_logs.logged_then m shape is counts numbers back outcome (state levels [] entries) st calls first
+        are = trail_logs.logged_then m shape hooked outcome (state levels [] entries) st calls first
             (state after [] next) now rest r.found logged r.are;
         balanced = λ grew sees. leads grew sees r.found r.balanced;
       }
@@ -160,19 +142,19 @@ module _ (m : Module) (shape : HookedShape) (is : IsShapeOf m shape)
   pub host_call : (later : List Moment) (moment : Moment) (levels : List Level) (known : Known) (store : Store)
       (left : List Observation) (st : LogState) (func : ℕ) (args : List Val)
       → IsHostCall m shape levels known store left moment func args (IsTrail m shape (Some outcome) later)
-      → IsInside n levels left → Rest later
-      → Tells levels known.entries st (record moment { entry = HostCall func args } ∷ later)
+      → IsInside n levels left → Rest m shape outcome later
+      → Tells m shape outcome levels known.entries st (record moment { entry = HostCall func args } ∷ later)
   host_call later moment levels known store left st func args h inside rest =
       then_balances levels next known.entries known.entries st (noticing moment.after st)
-      (told_enter func args moment.after) (calls_at levels later)
+      (told_enter func args moment.after) (calls_at m levels later)
       (events.Enter func args ∷ grown_events st.noticed moment.after)
-      (logs.enter_logged m shape is counts numbers back func args levels known.entries moment.after st h.defined
+      (logs.enter_logged m shape hooked func args levels known.entries moment.after st h.defined
       (func_there m func h.typed.ty h.typed.has_type) h.typed
-      (orders.host_may m shape is counts numbers back func levels h.host))
+      (orders.host_may m shape hooked func levels h.host))
       (enter_grown func args levels (with_top_entered levels) st moment.after h.defined
       (λ frames are. host_enters n func levels frames h.host are))
       (subst
-      (λ w. Balances next known.entries (noticing moment.after st) (ren (told_calls (all_globals m) w later)))
+      (λ w. Balances m shape outcome next known.entries (noticing moment.after st) (renumbered m (told_calls (all_globals m) w later)))
       (same_waiting levels)
       (rest next known moment.after h.later (noticing moment.after st) h.follows
       (subst (λ d. TrapsInside false d h.later) (sym (same_imports n levels h.host)) left_inside)))
@@ -188,19 +170,19 @@ module _ (m : Module) (shape : HookedShape) (is : IsShapeOf m shape)
   pub entered : (later : List Moment) (moment : Moment) (levels : List Level) (known : Known) (store : Store)
       (left : List Observation) (st : LogState) (func : ℕ)
       → IsEntered m shape levels known store left moment func (IsTrail m shape (Some outcome) later)
-      → IsInside n levels left → Rest later
-      → Tells levels known.entries st (record moment { entry = Enter func } ∷ later)
+      → IsInside n levels left → Rest m shape outcome later
+      → Tells m shape outcome levels known.entries st (record moment { entry = Enter func } ∷ later)
   entered later moment levels known store left st func h inside rest =
-      subst (λ l. Tells l known.entries st (record moment { entry = Enter func } ∷ later)) (sym h.stands)
+      subst (λ l. Tells m shape outcome l known.entries st (record moment { entry = Enter func } ∷ later)) (sym h.stands)
       (then_balances top inner known.entries known.entries st (noticing moment.after st)
-      (told_enter func h.args moment.after) (calls_at top later)
+      (told_enter func h.args moment.after) (calls_at m top later)
       (events.Enter func h.args ∷ grown_events st.noticed moment.after)
-      (logs.enter_logged m shape is counts numbers back func h.args top known.entries moment.after st h.defined
-      (func_there m func h.typed.ty h.typed.has_type) h.typed may)
+      (logs.enter_logged m shape hooked func h.args top known.entries moment.after st h.defined
+      (func_there m func h.typed.ty h.typed.has_type) h.typed (callee_may shape.imports func))
       (enter_grown func h.args top (AtCall h.direct func true h.args ∷ h.below) st moment.after h.defined
       (module_enters n func h.direct h.args h.below))
       (rest inner known moment.after left (noticing moment.after st) h.follows
-      (subst (λ b. TrapsInside b (open_imports n top) left) defined
+      (subst (λ b. TrapsInside b (open_imports n top) left) (never_imported n func h.defined)
       (subst (λ l. IsInside n l left) h.stands inside))))
     where
       top : List Level
@@ -209,24 +191,16 @@ module _ (m : Module) (shape : HookedShape) (is : IsShapeOf m shape)
       inner : List Level
       inner = AtFunction func ∷ AtCall h.direct func true h.args ∷ h.below
 
-      defined : nat_lt func n ≡ false
-      defined = let d = h.defined in grind (arith, nat_tests, d)
-
-      may : (nat_lt func shape.imports || (nat_eq func func && not false)) ≡ true
-      may =
-          ap (λ b. nat_lt func shape.imports || (b && true)) (own_number func)
-          ∙ orders.or_right m shape is counts numbers back (nat_lt func shape.imports)
-
   pub host_return : (later : List Moment) (moment : Moment) (levels : List Level) (known : Known) (store : Store)
       (left : List Observation) (st : LogState) (func : ℕ) (results : List Val)
       → IsHostReturn m shape levels known store left moment func (IsTrail m shape (Some outcome) later)
-      → IsInside n levels left → Rest later
-      → Tells levels known.entries st (record moment { entry = HostReturn func results } ∷ later)
+      → IsInside n levels left → Rest m shape outcome later
+      → Tells m shape outcome levels known.entries st (record moment { entry = HostReturn func results } ∷ later)
   host_return later moment levels known store left st func results h inside rest =
-      subst (λ l. Tells l known.entries st (record moment { entry = HostReturn func results } ∷ later)) (sym h.stands)
+      subst (λ l. Tells m shape outcome l known.entries st (record moment { entry = HostReturn func results } ∷ later)) (sym h.stands)
       (then_balances (AtFunction func ∷ h.below) h.below known.entries known.entries st st
-      (told_number Leave func moment.after) (calls_at h.below later) (events.Leave func ∷ [])
-      (logs.leave_logged m shape is counts numbers back func h.below known.entries moment.after st)
+      (told_number Leave func moment.after) (calls_at m h.below later) (events.Leave func ∷ [])
+      (logs.leave_logged m shape hooked func h.below known.entries moment.after st)
       (leave_leads n outcome func h.below st)
       (rest h.below known moment.after h.later st h.follows
       (subst (λ b. TrapsInside b (open_imports n h.below) h.later) (sym h.host)
@@ -236,25 +210,25 @@ module _ (m : Module) (shape : HookedShape) (is : IsShapeOf m shape)
   pub exited : (later : List Moment) (moment : Moment) (levels : List Level) (known : Known) (store : Store)
       (left : List Observation) (st : LogState) (func : ℕ) (results : List Val)
       → IsExit m shape levels known store left moment func results (IsTrail m shape (Some outcome) later)
-      → IsInside n levels left → Rest later
-      → Tells levels known.entries st (record moment { entry = Exit func results } ∷ later)
+      → IsInside n levels left → Rest m shape outcome later
+      → Tells m shape outcome levels known.entries st (record moment { entry = Exit func results } ∷ later)
   exited later moment levels known store left st func results h inside rest =
-      subst (λ l. Tells l known.entries st (record moment { entry = Exit func results } ∷ later)) (sym h.stands)
+      subst (λ l. Tells m shape outcome l known.entries st (record moment { entry = Exit func results } ∷ later)) (sym h.stands)
       (then_balances (AtFunction func ∷ called) h.below known.entries known.entries st (noticing moment.after st)
-      (told_number Leave func moment.after ++ over) (calls_at h.below later)
+      (told_number Leave func moment.after ++ over) (calls_at m h.below later)
       (events.Leave func ∷ (events.Post (slice_get results 0) ∷ grown_events st.noticed moment.after))
-      (logs.both_logged m shape is counts numbers back (told_number Leave func moment.after) over
+      (logs.both_logged m shape hooked (told_number Leave func moment.after) over
       (events.Leave func ∷ []) (events.Post (slice_get results 0) ∷ grown_events st.noticed moment.after)
       (state (AtFunction func ∷ called) [] known.entries) (state called [] known.entries)
       (state h.below [] known.entries) st st (noticing moment.after st)
-      (logs.leave_logged m shape is counts numbers back func called known.entries moment.after st)
-      (logs.over_logged m shape is counts numbers back h.direct func true h.args results h.below known.entries
-      moment.after st (orders.or_right m shape is counts numbers back (nat_lt func n)) h.typed))
+      (logs.leave_logged m shape hooked func called known.entries moment.after st)
+      (logs.over_logged m shape hooked h.direct func true h.args results h.below known.entries
+      moment.after st (or-true (nat_lt func n)) h.typed))
       (both_lead n outcome (AtFunction func ∷ called) called h.below st st (noticing moment.after st)
       (events.Leave func ∷ []) (events.Post (slice_get results 0) ∷ grown_events st.noticed moment.after)
       (leave_leads n outcome func called st)
       (post_grown (slice_get results 0) h.direct func true h.args h.below st moment.after
-      (orders.or_right m shape is counts numbers back (nat_lt func n)) h.within))
+      (or-true (nat_lt func n)) h.within))
       (rest h.below known moment.after left (noticing moment.after st) h.follows
       (subst (λ b. TrapsInside b (open_imports n h.below) left) (sym (not_host n h.below h.within)) left_inside)))
     where
@@ -264,12 +238,9 @@ module _ (m : Module) (shape : HookedShape) (is : IsShapeOf m shape)
       over : List HookCall
       over = told_values moment.after results ++ told_over (cond h.direct (Some func) None) moment.after
 
-      defined : nat_lt func n ≡ false
-      defined = let d = h.defined in grind (arith, nat_tests, d)
-
       left_inside : TrapsInside false (open_imports n h.below) left
       left_inside =
-          subst (λ b. TrapsInside false (cond b (suc (open_imports n h.below)) (open_imports n h.below)) left) defined
+          subst (λ b. TrapsInside false (cond b (suc (open_imports n h.below)) (open_imports n h.below)) left) (never_imported n func h.defined)
           (subst (λ l. IsInside n l left) h.stands inside)
 
   -- ---- imports
@@ -277,10 +248,10 @@ module _ (m : Module) (shape : HookedShape) (is : IsShapeOf m shape)
   pub import_called : (later : List Moment) (moment : Moment) (levels : List Level) (known : Known) (store : Store)
       (left : List Observation) (st : LogState) (import : ℕ) (args : List Val)
       → IsImportCall m shape levels known store left moment import (IsTrail m shape (Some outcome) later)
-      → IsInside n levels left → Rest later
-      → Tells levels known.entries st (record moment { entry = ImportCall import args } ∷ later)
+      → IsInside n levels left → Rest m shape outcome later
+      → Tells m shape outcome levels known.entries st (record moment { entry = ImportCall import args } ∷ later)
   import_called later moment levels known store left st import args h inside rest =
-      subst (λ l. Tells l known.entries st (record moment { entry = ImportCall import args } ∷ later)) (sym h.stands)
+      subst (λ l. Tells m shape outcome l known.entries st (record moment { entry = ImportCall import args } ∷ later)) (sym h.stands)
       (record { found = r.found; are = r.are; balanced = r.balanced })
     where
       left_inside : TrapsInside true (suc (open_imports n h.below)) h.later
@@ -288,7 +259,7 @@ module _ (m : Module) (shape : HookedShape) (is : IsShapeOf m shape)
           subst (λ l. IsInside n (AtImport h.direct import h.args ∷ h.below) l) h.observed
           (subst (λ l. IsInside n l left) h.stands inside)
 
-      r : Tells (AtCall h.direct import false h.args ∷ h.below) known.entries st later
+      r : Tells m shape outcome (AtCall h.direct import false h.args ∷ h.below) known.entries st later
       r = rest (AtCall h.direct import false h.args ∷ h.below) known moment.after h.later st h.follows
           (subst (λ b. TrapsInside b (cond b (suc (open_imports n h.below)) (open_imports n h.below)) h.later)
           (sym h.imported) left_inside)
@@ -296,15 +267,15 @@ module _ (m : Module) (shape : HookedShape) (is : IsShapeOf m shape)
   pub import_return : (later : List Moment) (moment : Moment) (levels : List Level) (known : Known) (store : Store)
       (left : List Observation) (st : LogState) (import : ℕ) (results : List Val)
       → IsImportReturn m shape levels known store left moment import results (IsTrail m shape (Some outcome) later)
-      → IsInside n levels left → Rest later
-      → Tells levels known.entries st (record moment { entry = ImportReturn import results } ∷ later)
+      → IsInside n levels left → Rest m shape outcome later
+      → Tells m shape outcome levels known.entries st (record moment { entry = ImportReturn import results } ∷ later)
   import_return later moment levels known store left st import results h inside rest =
-      subst (λ l. Tells l known.entries st (record moment { entry = ImportReturn import results } ∷ later))
+      subst (λ l. Tells m shape outcome l known.entries st (record moment { entry = ImportReturn import results } ∷ later))
       (sym h.stands)
       (then_balances top h.below known.entries known.entries st (noticing moment.after st)
       (told_values moment.after results ++ told_over (cond h.direct (Some import) None) moment.after)
-      (calls_at h.below later) (events.Post (slice_get results 0) ∷ grown_events st.noticed moment.after)
-      (logs.over_logged m shape is counts numbers back h.direct import h.entered h.args results h.below known.entries
+      (calls_at m h.below later) (events.Post (slice_get results 0) ∷ grown_events st.noticed moment.after)
+      (logs.over_logged m shape hooked h.direct import h.entered h.args results h.below known.entries
       moment.after st (ap (λ b. b || h.entered) h.imported) h.typed)
       (post_grown (slice_get results 0) h.direct import h.entered h.args h.below st moment.after
       (ap (λ b. b || h.entered) h.imported) h.within)

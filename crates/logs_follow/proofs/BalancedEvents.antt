@@ -3,7 +3,6 @@ use Rattle.std.proofs.Common.{◌≡◌, ℕ, suc, ◌+◌, ◌*◌, List, [], �
 use Rattle.std.specs.Prelude.{◌⊎◌, ◌||◌, ◌&&◌, not}
 use Rattle.std.specs.List.{AllByRecursion}
 use Rattle.std.specs.Option.{option_map_or}
-use Rattle.std.proofs.Math.Bool.{or-true}
 use Rattle.std.proofs.lemmas.Bool.Decides.{nat_tests}
 use Rattle.std.proofs.lemmas.List.{append_assoc}
 use Rattle.list_laws.proofs.Lists.{joined_all}
@@ -17,10 +16,11 @@ use Rattle.trace_model.specs.Balance.{balance_start, is_function, enter_call, en
 use Rattle.history_spec.specs.Store.{Store}
 use Rattle.replay_spec.specs.Known.{pages_of, pages_after}
 use Rattle.replay_spec.specs.Observations.{Observation, Reads, Copies, Reaches, Resizes, ReadsEntry, ReachesEntry, ReadsGlobal}
+use Rattle.tape_follows.proofs.Same.{own_number}
 use Rattle.hook_spec.specs.Logs.{LogState, with_first_byte, differing_runs, unless, seen_events, sees_size, found_events, observed_events, log_after, log_after_all, all_observed_events, grown_events}
 use Rattle.calls_follow.proofs.Trails.{Level, AtFunction, AtImport, AtCall, at_host, with_top_entered, IsWithin}
+use Rattle.calls_follow.proofs.CallOrder.{callee_may}
 use Rattle.logs_follow.proofs.CallLogs.{noticing}
-use Rattle.logs_follow.proofs.ItemEvents.{own_number}
 
 -- a size may be seen: a growth was told, or the size that was noticed is known
 abbrev pub CanSee : Bool → LogState → Type 0
@@ -220,7 +220,7 @@ module _ (n : ℕ) where
       × AreLevels n (AtFunction func ∷ AtCall direct func true args ∷ levels) after
   module_enters func direct args levels frames are =
       enters_call func direct func false args levels frames
-      (ap (λ b. nat_lt func n || (b && true)) (own_number func) ∙ or-true (nat_lt func n)) are
+      (callee_may n func) are
 
   -- a function ends
   function_leaves : (func : ℕ) (levels : List Level) (frames : Frames)

@@ -4,79 +4,51 @@ use Rattle.std.specs.Prelude.{◌||◌}
 use Rattle.std.proofs.lemmas.List.{append-nil}
 use Rattle.std.proofs.lemmas.Option.{same_Some}
 use Rattle.wasm_syntax.specs.declared.values.Val.{Val}
-use Rattle.wasm_syntax.specs.declared.signatures.FuncType.{FuncType}
 use Rattle.wasm_syntax.specs.declared.modules.Module.{Module}
 use Rattle.wasm_syntax.specs.Index.{imported_funcs, all_globals}
-use Rattle.wasm_syntax.specs.Validity.{IsFuncType}
+use Rattle.wasm_syntax.specs.declared.instructions.Instr.{Instr}
 use Rattle.run_outcomes.specs.declared.outcomes.Outcome.{Outcome}
 use Rattle.run_outcomes.specs.declared.outcomes.Outcome.TheVariants.{Ended, Trapped, HostTrapped}
-use Rattle.trace_model.specs.declared.events.Event.{Event}
 use Rattle.trace_model.specs.declared.events.Event.TheVariants as events
 use Rattle.trace_model.specs.Balance.{ends_so}
 use Rattle.history_spec.specs.declared.entries.Entry.{Entry}
 use Rattle.history_spec.specs.declared.entries.Entry.TheVariants.{HostCall, HostReturn, ImportCall, ImportReturn, Enter, Exit, Step, Trap, HostTrap}
 use Rattle.history_spec.specs.declared.entries.TrapKind.{TrapKind}
-use Rattle.history_spec.specs.Code.{code_of, signature}
 use Rattle.history_spec.specs.Instantiation.{table_length}
 use Rattle.history_spec.specs.Instruction.{bits_at}
 use Rattle.history_spec.specs.Store.{Store}
 use Rattle.replay_spec.specs.Known.{Known, entry_of, entries_after, known_after_all}
 use Rattle.replay_spec.specs.Observations.{Observation, ReachesEntry}
-use Rattle.type_safety.specs.Stores.{func_count}
 use Rattle.hook_spec.specs.declared.hooks.Hook.TheVariants.{Pre, Ipre}
-use Rattle.hook_spec.specs.Hooks.{HookCall, renumber, original}
+use Rattle.hook_spec.specs.Hooks.{HookCall}
 use Rattle.hook_spec.specs.Logs.{LogState, log_after_all, all_observed_events, events_from}
-use Rattle.hook_spec.specs.Order.{HookedShape, OrderState}
+use Rattle.hook_spec.specs.Order.{HookedShape}
 use Rattle.hook_spec.specs.ToldCalls.{Moment, told_calls, told_number, told_by_step, told_by_trap, waiting_after_step}
 use Rattle.calls_follow.proofs.CallObservations.{seen_by}
 use Rattle.calls_follow.proofs.CallOrder as orders
-use Rattle.calls_follow.proofs.Tellable.{IsShapeOf}
 use Rattle.calls_follow.proofs.Trails.{Level, AtFunction, AtCall, call_level, waiting_calls, Leads, Stays, Direct, Indirect, IsStep, TellsTrap, Quiet, AtEntry, IsTrap, IsHostTrap, IsAtEntry, IsTrailEnd, IsTrail}
+use Rattle.calls_follow.proofs.CallOrder.{IsHooked, renumbered, state}
+use Rattle.calls_follow.proofs.TrailOrder.{calls_at}
 use Rattle.logs_follow.proofs.BalancedEvents.{on_function, AreBalanced, nothing_open, just_called, both_lead, pre_leads, observed_lead}
 use Rattle.logs_follow.proofs.CallLogs as logs
-use Rattle.logs_follow.proofs.CallLogs.{noticing}
 use Rattle.logs_follow.proofs.HostTraps.{TrapsInside, inside_after}
 use Rattle.logs_follow.proofs.TrailLogs as trail_logs
 use Rattle.logs_follow.proofs.BalancedCalls as balanced_calls
-use Rattle.logs_follow.proofs.BalancedCalls.{open_imports, IsInside, in_import, call_inside}
+use Rattle.logs_follow.proofs.BalancedCalls.{open_imports, IsInside, in_import, call_inside, Balances, Tells, Rest}
 
-module _ (m : Module) (shape : HookedShape) (is : IsShapeOf m shape)
-    (counts : func_count m ≡ imported_funcs m + length m.funcs)
-    (numbers : (func : ℕ) (ty : FuncType) → signature (code_of m) func ≡ Some ty → IsFuncType ty)
-    (back : (n func : ℕ) → original n (renumber n func) ≡ Some func) (outcome : Outcome) where
+module _ (m : Module) (shape : HookedShape) (hooked : IsHooked m shape) (outcome : Outcome) where
   abbrev n : ℕ
   n = imported_funcs m
 
-  abbrev ren : List HookCall → List HookCall
-  ren = orders.ren m shape is counts numbers back
-
-  abbrev state : List Level → List Val → ℕ → OrderState
-  state = orders.state m shape is counts numbers back
-
-  abbrev Logged : OrderState → LogState → List HookCall → List Event → OrderState → LogState → Type 0
-  Logged = logs.Logged m shape is counts numbers back
-
   abbrev seen : List HookCall → List Observation
   seen calls = seen_by shape n (all_globals m) calls
-
-  abbrev Balances : List Level → ℕ → LogState → List HookCall → Type 0
-  Balances = balanced_calls.Balances m shape is counts numbers back outcome
-
-  abbrev calls_at : List Level → List Moment → List HookCall
-  calls_at levels later = told_calls (all_globals m) (waiting_calls levels) later
-
-  abbrev pub Tells : List Level → ℕ → LogState → List Moment → Type 0
-  Tells = balanced_calls.Tells m shape is counts numbers back outcome
-
-  abbrev pub Rest : List Moment → Type 0
-  Rest = balanced_calls.Rest m shape is counts numbers back outcome
 
   -- ---- instructions
 
   -- a call that begins is balanced as one of any function
   as_call : (imported direct : Bool) (callee : ℕ) (args : List Val) (levels : List Level) (entries : ℕ) (st : LogState)
-      (later : List Moment) → Tells (call_level imported direct callee args ∷ levels) entries st later
-      → Tells (AtCall direct callee false args ∷ levels) entries st later
+      (later : List Moment) → Tells m shape outcome (call_level imported direct callee args ∷ levels) entries st later
+      → Tells m shape outcome (AtCall direct callee false args ∷ levels) entries st later
   as_call true direct callee args levels entries st later h =
       record { found = h.found; are = h.are; balanced = h.balanced }
   as_call false direct callee args levels entries st later h = h
@@ -84,10 +56,10 @@ module _ (m : Module) (shape : HookedShape) (is : IsShapeOf m shape)
   stepped : (later : List Moment) (moment : Moment) (levels : List Level) (known : Known) (store : Store)
       (left : List Observation) (st : LogState) (func number : ℕ) (operands results : List Val) (found : Option ℕ)
       → IsStep m shape levels known store left moment func operands results (IsTrail m shape (Some outcome) later)
-      → IsInside n levels left → Rest later
-      → Tells levels known.entries st (record moment { entry = Step func number operands results found } ∷ later)
+      → IsInside n levels left → Rest m shape outcome later
+      → Tells m shape outcome levels known.entries st (record moment { entry = Step func number operands results found } ∷ later)
   stepped later moment levels known store left st func number operands results found h inside rest =
-      subst (λ l. Tells l known.entries st now) (sym h.stands)
+      subst (λ l. Tells m shape outcome l known.entries st now) (sym h.stands)
       (go (subst (λ l. Leads m shape l h.after known h.items moment operands results) h.stands h.leads))
     where
       now : List Moment
@@ -111,50 +83,52 @@ module _ (m : Module) (shape : HookedShape) (is : IsShapeOf m shape)
       -- what follows, at the levels and entries that are there then
       follows_at : (st : LogState) (levels : List Level) (entries : ℕ) → h.after ≡ levels
           → (known_after_all known h.items).entries ≡ entries → IsInside n levels h.later
-          → Tells levels entries st later
+          → Tells m shape outcome levels entries st later
       follows_at st levels entries same e inside =
-          subst (λ e. Tells levels e st later) e
-          (subst (λ l. Tells l (known_after_all known h.items).entries st later) same
+          subst (λ e. Tells m shape outcome levels e st later) e
+          (subst (λ l. Tells m shape outcome l (known_after_all known h.items).entries st later) same
           (rest h.after (known_after_all known h.items) moment.after h.later st h.follows
           (subst (λ l. IsInside n l h.later) (sym same) inside)))
 
       called : (direct : Bool) (callee : ℕ) (args : List Val) (entries : ℕ) (st : LogState)
           → h.after ≡ call_level (nat_lt callee n) direct callee args ∷ AtFunction func ∷ h.below
           → (known_after_all known h.items).entries ≡ entries
-          → Tells (AtCall direct callee false args ∷ AtFunction func ∷ h.below) entries st later
+          → Tells m shape outcome (AtCall direct callee false args ∷ AtFunction func ∷ h.below) entries st later
       called direct callee args entries st same e =
           as_call (nat_lt callee n) direct callee args (AtFunction func ∷ h.below) entries st later
           (follows_at st (call_level (nat_lt callee n) direct callee args ∷ AtFunction func ∷ h.below) entries same e
           (call_inside n (nat_lt callee n) direct callee args (AtFunction func ∷ h.below) h.later refl left_inside))
 
+      -- what a step of this instruction tells, with what follows, is balanced
+      StepBalances : Option Instr → Type 0
+      StepBalances instr =
+          Balances m shape outcome top known.entries st
+          (renumbered m
+          (told_by_step (all_globals m) instr operands results moment
+          ++ told_calls (all_globals m) (waiting_after_step instr operands (waiting_calls top)) later))
+
       go : Leads m shape (AtFunction func ∷ h.below) h.after known h.items moment operands results
-          → Tells (AtFunction func ∷ h.below) known.entries st
+          → Tells m shape outcome (AtFunction func ∷ h.below) known.entries st
           (record moment { entry = Step func number operands results found } ∷ later)
       go (Stays same waits tellable entries) =
           let calls = told_by_step (all_globals m) moment.instr operands results moment in
-          balanced_calls.then_balances m shape is counts numbers back outcome top top known.entries known.entries st
+          balanced_calls.then_balances m shape hooked outcome top top known.entries known.entries st
           (log_after_all st (seen calls)) calls
           (told_calls (all_globals m) (waiting_after_step moment.instr operands (waiting_calls top)) later)
           (all_observed_events n st (seen calls))
-          (logs.tellable_logged m shape is counts numbers back calls (state top [] known.entries) st refl tellable)
+          (logs.tellable_logged m shape hooked calls (state top [] known.entries) st refl tellable)
           (observed_lead n outcome top st (seen calls) tt)
           (subst
-          (λ w. Balances top known.entries (log_after_all st (seen calls)) (ren (told_calls (all_globals m) w later)))
+          (λ w. Balances m shape outcome top known.entries (log_after_all st (seen calls)) (renumbered m (told_calls (all_globals m) w later)))
           (sym (waits (waiting_calls top)))
           (follows_at (log_after_all st (seen calls)) top known.entries same entries left_inside))
       go (Direct callee calls same there none) =
-          subst
-          (λ i. Balances (AtFunction func ∷ h.below) known.entries st
-          (ren
-          (told_by_step (all_globals m) i operands results moment
-          ++ told_calls (all_globals m) (waiting_after_step i operands (waiting_calls (AtFunction func ∷ h.below)))
-          later)))
-          (sym calls)
-          (balanced_calls.then_balances m shape is counts numbers back outcome top
+          subst StepBalances (sym calls)
+          (balanced_calls.then_balances m shape hooked outcome top
           (AtCall true callee false operands ∷ top) known.entries known.entries st st
-          (told_number Pre callee moment.before ++ []) (calls_at (AtCall true callee false operands ∷ top) later)
+          (told_number Pre callee moment.before ++ []) (calls_at m (AtCall true callee false operands ∷ top) later)
           (events.Pre (Some callee) ∷ [])
-          (logs.pre_logged m shape is counts numbers back callee func operands h.below known.entries moment.before st
+          (logs.pre_logged m shape hooked callee func operands h.below known.entries moment.before st
           there)
           (pre_leads n outcome true callee operands top st tt)
           (called true callee operands known.entries st same (ap (λ l. (known_after_all known l).entries) none)))
@@ -162,18 +136,12 @@ module _ (m : Module) (shape : HookedShape) (is : IsShapeOf m shape)
           let told = told_number Ipre index moment.before in
           let after = log_after_all st (seen told) in
           let seen_entries = entries_after known.entries (ReachesEntry index (table_length moment.before.table)) in
-          subst
-          (λ i. Balances (AtFunction func ∷ h.below) known.entries st
-          (ren
-          (told_by_step (all_globals m) i operands results moment
-          ++ told_calls (all_globals m) (waiting_after_step i operands (waiting_calls (AtFunction func ∷ h.below)))
-          later)))
-          (sym calls)
-          (balanced_calls.then_balances m shape is counts numbers back outcome top
+          subst StepBalances (sym calls)
+          (balanced_calls.then_balances m shape hooked outcome top
           (AtCall false callee false args ∷ top) known.entries seen_entries st after told
-          (calls_at (AtCall false callee false args ∷ top) later)
+          (calls_at m (AtCall false callee false args ∷ top) later)
           (all_observed_events n st (seen told) ++ events.Pre (Some callee) ∷ [])
-          (logs.ipre_logged m shape is counts numbers back func index h.below known.entries moment.before (Some callee)
+          (logs.ipre_logged m shape hooked func index h.below known.entries moment.before (Some callee)
           st h.of.entries entry there)
           (both_lead n outcome top top (AtCall false callee false args ∷ top) st after after
           (all_observed_events n st (seen told)) (events.Pre (Some callee) ∷ [])
@@ -186,10 +154,10 @@ module _ (m : Module) (shape : HookedShape) (is : IsShapeOf m shape)
       (left : List Observation) (st : LogState) (func number : ℕ) (kind : TrapKind) (operands : List Val)
       (found : Option ℕ)
       → IsTrap m shape levels known store left (Some outcome) later moment func operands
-      → Tells levels known.entries st (record moment { entry = Trap func number kind operands found } ∷ later)
+      → Tells m shape outcome levels known.entries st (record moment { entry = Trap func number kind operands found } ∷ later)
   trapped later moment levels known store left st func number kind operands found h =
-      subst (λ l. Tells l known.entries st (now later)) (sym h.stands)
-      (subst (λ l. Tells top known.entries st (now l)) (sym h.last) (go h.tells))
+      subst (λ l. Tells m shape outcome l known.entries st (now later)) (sym h.stands)
+      (subst (λ l. Tells m shape outcome top known.entries st (now l)) (sym h.last) (go h.tells))
     where
       top : List Level
       top = AtFunction func ∷ h.below
@@ -214,30 +182,30 @@ module _ (m : Module) (shape : HookedShape) (is : IsShapeOf m shape)
           ∙ ap (λ b. cond (b || called) None (Some at)) (on_function n top frames tt are)
 
       go : TellsTrap m shape moment operands
-          → Tells (AtFunction func ∷ h.below) known.entries st
+          → Tells m shape outcome (AtFunction func ∷ h.below) known.entries st
           (record moment { entry = Trap func number kind operands found } ∷ [])
       go (Quiet tellable) =
           let calls = told_by_trap moment.instr operands moment in
-          balanced_calls.then_balances m shape is counts numbers back outcome top top known.entries known.entries st
+          balanced_calls.then_balances m shape hooked outcome top top known.entries known.entries st
           (log_after_all st (seen calls)) calls []
           (all_observed_events n st (seen calls))
-          (logs.tellable_logged m shape is counts numbers back calls (state top [] known.entries) st refl tellable)
+          (logs.tellable_logged m shape hooked calls (state top [] known.entries) st refl tellable)
           (observed_lead n outcome top st (seen calls) tt)
           (record { found = []; are = λ at. refl; balanced = λ grew sees. in_function grew })
       go (AtEntry t calls entry) =
           let told = told_number Ipre index moment.before in
           subst
-          (λ i. Balances (AtFunction func ∷ h.below) known.entries st (ren (told_by_trap i operands moment ++ [])))
+          (λ i. Balances m shape outcome (AtFunction func ∷ h.below) known.entries st (renumbered m (told_by_trap i operands moment ++ [])))
           (sym calls)
           (record {
             found = (all_observed_events n st (seen told) ++ events.Pre callee ∷ []) ++ [];
             are =
-                trail_logs.logged_then m shape is counts numbers back outcome (state top [] known.entries) st told
+                trail_logs.logged_then m shape hooked outcome (state top [] known.entries) st told
                 (all_observed_events n st (seen told) ++ events.Pre callee ∷ [])
-                (orders.after_index m shape is counts numbers back func index h.below known.entries moment.before
+                (orders.after_index m shape hooked func index h.below known.entries moment.before
                 callee)
                 (log_after_all st (seen told)) [] []
-                (logs.ipre_logged m shape is counts numbers back func index h.below known.entries moment.before callee
+                (logs.ipre_logged m shape hooked func index h.below known.entries moment.before callee
                 st h.of.entries refl entry)
                 (λ at. refl);
             balanced = λ grew sees.
@@ -249,13 +217,13 @@ module _ (m : Module) (shape : HookedShape) (is : IsShapeOf m shape)
 
   host_trapped : (later : List Moment) (moment : Moment) (levels : List Level) (known : Known)
       (left : List Observation) (st : LogState) → IsHostTrap m shape levels left (Some outcome) later
-      → IsInside n levels left → Tells levels known.entries st (record moment { entry = HostTrap } ∷ later)
+      → IsInside n levels left → Tells m shape outcome levels known.entries st (record moment { entry = HostTrap } ∷ later)
   host_trapped later moment levels known left st h inside =
       record {
         found = [];
         are = λ at. ap
             (λ l. events_from shape (state levels [] known.entries) st at
-            (ren (told_calls (all_globals m) (waiting_calls levels) l))) h.last;
+            (renumbered m (told_calls (all_globals m) (waiting_calls levels) l))) h.last;
         balanced = λ grew sees frames are at called.
             ap (λ o. cond (ends_so n (record { frames = frames; grew = grew; called = called }) o) None (Some at))
             (same_Some outcome HostTrapped h.over)
@@ -269,28 +237,28 @@ module _ (m : Module) (shape : HookedShape) (is : IsShapeOf m shape)
 
   -- ---- all of a trail
 
-  at_entry : (later : List Moment) → Rest later → (moment : Moment) (entry : Entry) (levels : List Level)
+  at_entry : (later : List Moment) → Rest m shape outcome later → (moment : Moment) (entry : Entry) (levels : List Level)
       (known : Known) (store : Store) (left : List Observation) (st : LogState)
       → IsAtEntry m shape levels known store left (Some outcome) later moment entry
       (IsTrail m shape (Some outcome) later)
-      → IsInside n levels left → Tells levels known.entries st (record moment { entry = entry } ∷ later)
+      → IsInside n levels left → Tells m shape outcome levels known.entries st (record moment { entry = entry } ∷ later)
   at_entry later rest moment (HostCall func args) levels known store left st h inside =
-      balanced_calls.host_call m shape is counts numbers back outcome later moment levels known store left st func
+      balanced_calls.host_call m shape hooked outcome later moment levels known store left st func
       args h inside rest
   at_entry later rest moment (Enter func) levels known store left st h inside =
-      balanced_calls.entered m shape is counts numbers back outcome later moment levels known store left st func h
+      balanced_calls.entered m shape hooked outcome later moment levels known store left st func h
       inside rest
   at_entry later rest moment (HostReturn func results) levels known store left st h inside =
-      balanced_calls.host_return m shape is counts numbers back outcome later moment levels known store left st func
+      balanced_calls.host_return m shape hooked outcome later moment levels known store left st func
       results h inside rest
   at_entry later rest moment (Exit func results) levels known store left st h inside =
-      balanced_calls.exited m shape is counts numbers back outcome later moment levels known store left st func
+      balanced_calls.exited m shape hooked outcome later moment levels known store left st func
       results h inside rest
   at_entry later rest moment (ImportCall import args) levels known store left st h inside =
-      balanced_calls.import_called m shape is counts numbers back outcome later moment levels known store left st
+      balanced_calls.import_called m shape hooked outcome later moment levels known store left st
       import args h inside rest
   at_entry later rest moment (ImportReturn import results) levels known store left st h inside =
-      balanced_calls.import_return m shape is counts numbers back outcome later moment levels known store left st
+      balanced_calls.import_return m shape hooked outcome later moment levels known store left st
       import results h inside rest
   at_entry later rest moment (Step func number operands results found) levels known store left st h inside =
       stepped later moment levels known store left st func number operands results found h inside rest
@@ -300,14 +268,14 @@ module _ (m : Module) (shape : HookedShape) (is : IsShapeOf m shape)
       host_trapped later moment levels known left st h inside
 
   at_end : (o : Outcome) → outcome ≡ o → (levels : List Level) (known : Known) (left : List Observation)
-      (st : LogState) → IsTrailEnd m shape levels left (Some o) → Tells levels known.entries st []
+      (st : LogState) → IsTrailEnd m shape levels left (Some o) → Tells m shape outcome levels known.entries st []
   at_end Trapped over levels known left st h = absurd h
   at_end HostTrapped over levels known left st h = absurd h
   at_end Ended over levels known left st h =
-      subst (λ l. Tells l known.entries st []) (sym h.0)
+      subst (λ l. Tells m shape outcome l known.entries st []) (sym h.0)
       (record { found = []; are = λ at. refl; balanced = λ grew sees. nothing_open n outcome grew over })
 
-  pub tells : (moments : List Moment) → Rest moments
+  pub tells : (moments : List Moment) → Rest m shape outcome moments
   tells [] levels known store left st h inside = at_end outcome refl levels known left st h
   tells (moment ∷ later) levels known store left st h inside =
       at_entry later (tells later) moment moment.entry levels known store left st h inside

@@ -29,11 +29,15 @@ finds_of size (event ∷ events) = found_by size event ++ finds_of size events
 abbrev first_found : (size at : ℕ) → List Event → Option ℕ
 first_found size at events = first_some (effect_byte at) (finds_of size events)
 
+pub byte_in : (address k : ℕ) (bytes : List ℕ) → byte_among address bytes (address + k) ≡ slice_get bytes k
+byte_in address k bytes =
+    let within : nat_le address (address + k) ≡ true = grind (arith, nat_tests) in
+    let place : address + k - address ≡ k = omega arith in
+    ap (λ b. cond b (slice_get bytes (address + k - address)) None) within ∙ ap (slice_get bytes) place
+
 byte_first : (address byte : ℕ) (bytes : List ℕ) → byte_among address (byte ∷ bytes) address ≡ Some byte
 byte_first address byte bytes =
-    let p : nat_le address address ≡ true = grind (arith, nat_tests) in
-    let e : address - address ≡ 0 = omega arith in
-    ap (λ b. cond b (slice_get (byte ∷ bytes) (address - address)) None) p ∙ ap (slice_get (byte ∷ bytes)) e
+    subst (λ at. byte_among address (byte ∷ bytes) at ≡ Some byte) (omega arith) (byte_in address 0 (byte ∷ bytes))
 
 byte_before : (address : ℕ) (bytes : List ℕ) → byte_among (suc address) bytes address ≡ None
 byte_before address bytes =

@@ -1,9 +1,7 @@
 -- The events of what is told of a step's observations, and what the log knows after them.
-use Rattle.std.proofs.Common.{◌≡◌, ℕ, ◌+◌, List, [], ◌∷◌, ◌++◌, Option, Some, None, Bool, true, false, cond, ◌&&◌, nat_eq, nat_lt, slice_get, refl, sym, ap, ◌∙◌, subst, arith}
+use Rattle.std.proofs.Common.{◌≡◌, ℕ, ◌+◌, List, [], ◌∷◌, ◌++◌, Option, Some, None, Bool, true, false, cond, ◌&&◌, nat_eq, nat_lt, slice_get, refl, sym, ap, ◌∙◌, subst}
 use Rattle.std.specs.Prelude.{◌⊎◌, option_map}
 use Rattle.std.specs.List.{AllByRecursion}
-use Rattle.std.specs.Option.{option_or}
-use Rattle.std.proofs.lemmas.Bool.Decides.{nat_tests}
 use Rattle.std.proofs.lemmas.Option.{same_Some}
 use Rattle.list_laws.proofs.Lists.{joined_all}
 use Rattle.wasm_syntax.specs.declared.values.Val.{Val}
@@ -21,6 +19,8 @@ use Rattle.replay_spec.specs.Known.{Known, pages_of}
 use Rattle.replay_spec.specs.Alike.{same_option, same_value}
 use Rattle.tape_follows.proofs.Items.{pages_there}
 use Rattle.tape_follows.proofs.Relation.{IsKnownOf, IsSeen}
+use Rattle.tape_follows.proofs.Same.{own_number}
+use Rattle.tape_follows.proofs.Activity.{or_nothing}
 use Rattle.hook_spec.specs.Hooks.{renumber, original}
 use Rattle.hook_spec.specs.Logs.{LogState, with_first_byte, differing_runs, unless, same_bits, sees_size, seen_events, found_events, log_after, all_observed_events}
 use Rattle.hook_spec.specs.LogTapes.{Finds, LogFrame, is_trapped_call, event_marks, marks_from}
@@ -155,9 +155,6 @@ pub record Keeps (n : ℕ) (globals : List GlobalType) (known : Known) (store : 
   pub real : state.noticed ≡ pages_of store.memory
   pub size_told : (size ≡ state.noticed) ⊎ (known.pages ≡ state.noticed)
 
-pub own_number : (a : ℕ) → nat_eq a a ≡ true
-own_number a = grind (arith, nat_tests)
-
 -- a value that is read of a global is the known one by its bits just where it is the known one
 same_by_bits : (known : Option Val) (value : Val) → option_map (λ v. v.ty) known ≡ Some value.ty
     → same_bits known value ≡ same_option same_value known (Some value)
@@ -182,10 +179,6 @@ module _ (n : ℕ) (globals : List GlobalType) (back : (func : ℕ) → original
       (ap (λ k. same_bits k value) (told.global x) ∙ same_by_bits (known.global x) value typed))
       (go (same_option same_value (known.global x) (Some value)) refl)
     where
-      or_none : {X : Type 0} (o : Option X) → option_or o None ≡ o
-      or_none None = refl
-      or_none (Some x) = refl
-
       go : (b : Bool) → same_option same_value (known.global x) (Some value) ≡ b
           → AreFindsOf known (ReadsGlobal x value) (finds_of size (unless b (Global x value) ++ []))
       go true p =
@@ -203,7 +196,7 @@ module _ (n : ℕ) (globals : List GlobalType) (back : (func : ℕ) → original
             entries = refl;
             byte = λ at. refl;
             entry = λ at. refl;
-            global = λ at. or_none (cond (nat_eq x at) (Some (Some value)) None)
+            global = λ at. or_nothing (cond (nat_eq x at) (Some (Some value)) None)
                 ∙ sym (ap (λ b. cond b None (cond (nat_eq x at) (Some (Some value)) None)) p)
                 ∙ found_place (same_option same_value) known.global x at (Some value);
           }

@@ -3,10 +3,8 @@ use Rattle.std.proofs.Common.{◌≡◌, ℕ, ◌+◌, ◌-◌, List, [], ◌∷
 use Rattle.std.proofs.lemmas.List.{append-nil}
 use Rattle.std.proofs.lemmas.Option.{same_Some}
 use Rattle.wasm_syntax.specs.declared.values.Val.{Val}
-use Rattle.wasm_syntax.specs.declared.signatures.FuncType.{FuncType}
 use Rattle.wasm_syntax.specs.declared.modules.Module.{Module}
 use Rattle.wasm_syntax.specs.Index.{imported_funcs, all_globals}
-use Rattle.wasm_syntax.specs.Validity.{IsFuncType}
 use Rattle.run_outcomes.specs.declared.outcomes.Outcome.{Outcome}
 use Rattle.run_outcomes.specs.declared.outcomes.Outcome.TheVariants.{Ended, Trapped, HostTrapped}
 use Rattle.trace_model.specs.declared.events.Event.{Event}
@@ -16,7 +14,6 @@ use Rattle.trace_model.specs.declared.tapes.Next.TheVariants.{End, Trap as ByTra
 use Rattle.history_spec.specs.declared.entries.Entry.{Entry}
 use Rattle.history_spec.specs.declared.entries.Entry.TheVariants.{HostCall, HostReturn, ImportCall, ImportReturn, Enter, Exit, Step, Trap, HostTrap}
 use Rattle.history_spec.specs.declared.entries.TrapKind.{TrapKind}
-use Rattle.history_spec.specs.Code.{code_of, signature}
 use Rattle.history_spec.specs.Instruction.{bits_at}
 use Rattle.history_spec.specs.Store.{Store}
 use Rattle.replay_spec.specs.Known.{Known, entry_of, known_after_all}
@@ -25,51 +22,30 @@ use Rattle.replay_spec.specs.Windows.{window}
 use Rattle.observed_steps.specs.Changes.{with_changes}
 use Rattle.tape_follows.proofs.StepItems.{nothing_read}
 use Rattle.tape_follows.specs.RealReads.{IsReadOf}
-use Rattle.type_safety.specs.Stores.{func_count}
 use Rattle.hook_spec.specs.declared.hooks.Hook.TheVariants.{Ipre}
-use Rattle.hook_spec.specs.Hooks.{HookCall, renumber, original}
 use Rattle.hook_spec.specs.Logs.{LogState, log_after_all, all_observed_events, events_from}
 use Rattle.hook_spec.specs.LogTapes.{Begins as BeginsMark, InCall, is_trapped_call, outcome_marks, marks_from}
-use Rattle.hook_spec.specs.Order.{HookedShape, OrderState}
+use Rattle.hook_spec.specs.Order.{HookedShape}
 use Rattle.hook_spec.specs.ToldCalls.{Moment, told_calls, told_number, told_by_trap}
 use Rattle.calls_follow.proofs.CallObservations.{seen_by, as_told}
 use Rattle.calls_follow.proofs.CallOrder as orders
-use Rattle.calls_follow.proofs.Tellable.{IsShapeOf}
 use Rattle.calls_follow.proofs.Trails.{Level, AtFunction, AtCall, waiting_calls, TellsTrap, Quiet, AtEntry, IsTrap, IsHostTrap, IsImportCall, IsAtEntry, IsTrailEnd, IsTrail}
+use Rattle.calls_follow.proofs.CallOrder.{IsHooked, renumbered, state}
 use Rattle.logs_follow.proofs.Agrees.{Agrees, agrees_activity, agrees_over}
 use Rattle.logs_follow.proofs.CallLogs as logs
 use Rattle.logs_follow.proofs.ItemSteps.{agrees_all}
 use Rattle.logs_follow.proofs.TrailLogs as trail_logs
 use Rattle.logs_follow.proofs.LogMarks.{log_frames, IsSizeTold, ModuleAgrees, AgreesBy, agrees_host}
 use Rattle.logs_follow.proofs.TrailLogSteps as trail_steps
+use Rattle.logs_follow.proofs.CallLogs.{Logged}
+use Rattle.logs_follow.proofs.TrailLogs.{Stands, Tells_by, Tells, Rest}
 
-module _ (m : Module) (shape : HookedShape) (is : IsShapeOf m shape)
-    (counts : func_count m ≡ imported_funcs m + length m.funcs)
-    (numbers : (func : ℕ) (ty : FuncType) → signature (code_of m) func ≡ Some ty → IsFuncType ty)
-    (back : (n func : ℕ) → original n (renumber n func) ≡ Some func) (outcome : Outcome) where
+module _ (m : Module) (shape : HookedShape) (hooked : IsHooked m shape) (outcome : Outcome) where
   abbrev n : ℕ
   n = imported_funcs m
 
-  abbrev ren : List HookCall → List HookCall
-  ren = orders.ren m shape is counts numbers back
-
-  abbrev state : List Level → List Val → ℕ → OrderState
-  state = orders.state m shape is counts numbers back
-
-  abbrev Stands : List Level → Known → Store → LogState → Type 0
-  Stands = trail_logs.Stands m shape is counts numbers back outcome
-
-  abbrev Tells : List Level → Known → Store → List Observation → LogState → List Moment → Type 0
-  Tells = trail_logs.Tells m shape is counts numbers back outcome
-
-  abbrev Rest : List Moment → Type 0
-  Rest = trail_logs.Rest m shape is counts numbers back outcome
-
   abbrev told : List Observation → List Observation
   told items = as_told shape n (all_globals m) items
-
-  abbrev Logged : OrderState → LogState → List HookCall → List Event → OrderState → LogState → Type 0
-  Logged = logs.Logged m shape is counts numbers back
 
   -- ---- an instruction traps
 
@@ -77,13 +53,13 @@ module _ (m : Module) (shape : HookedShape) (is : IsShapeOf m shape)
       (left : List Observation) (st : LogState) (func number : ℕ) (kind : TrapKind) (operands : List Val)
       (found : Option ℕ)
       → IsTrap m shape levels known store left (Some outcome) later moment func operands
-      → Stands levels known store st
-      → Tells levels known store left st
+      → Stands m shape outcome levels known store st
+      → Tells m shape outcome levels known store left st
       (record moment { entry = Trap func number kind operands found } ∷ later)
   trapped later moment levels known store left st func number kind operands found h stands =
-      subst (λ s. Tells levels known s left st (now later)) h.begins
-      (subst (λ l. Tells l known moment.before left st (now later)) (sym h.stands)
-      (subst (λ l. Tells top known moment.before left st (now l)) (sym h.last) (go h.tells)))
+      subst (λ s. Tells m shape outcome levels known s left st (now later)) h.begins
+      (subst (λ l. Tells m shape outcome l known moment.before left st (now later)) (sym h.stands)
+      (subst (λ l. Tells m shape outcome top known moment.before left st (now l)) (sym h.last) (go h.tells)))
     where
       top : List Level
       top = AtFunction func ∷ h.below
@@ -91,10 +67,10 @@ module _ (m : Module) (shape : HookedShape) (is : IsShapeOf m shape)
       now : List Moment → List Moment
       now l = record moment { entry = Trap func number kind operands found } ∷ l
 
-      here : Stands (AtFunction func ∷ h.below) known moment.before st
+      here : Stands m shape outcome (AtFunction func ∷ h.below) known moment.before st
       here =
-          subst (λ l. Stands l known moment.before st) h.stands
-          (subst (λ s. Stands levels known s st) (sym h.begins) stands)
+          subst (λ l. Stands m shape outcome l known moment.before st) h.stands
+          (subst (λ s. Stands m shape outcome levels known s st) (sym h.begins) stands)
 
       over : outcome ≡ Trapped
       over = same_Some outcome Trapped h.over
@@ -106,7 +82,7 @@ module _ (m : Module) (shape : HookedShape) (is : IsShapeOf m shape)
           (marks_from n outcome (log_frames (AtFunction func ∷ h.below)) size
           (all_observed_events n st (told left) ++ more))
       agree size more size_told none =
-          let a = agrees_all n (all_globals m) (back n) size outcome (log_frames (AtFunction func ∷ h.below)) known
+          let a = agrees_all n (all_globals m) (hooked.back n) size outcome (log_frames (AtFunction func ∷ h.below)) known
           moment.before st left [] more
           (record {
             told = here.told;
@@ -126,22 +102,22 @@ module _ (m : Module) (shape : HookedShape) (is : IsShapeOf m shape)
           }
 
       go : TellsTrap m shape moment operands
-          → Tells (AtFunction func ∷ h.below) known moment.before left st
+          → Tells m shape outcome (AtFunction func ∷ h.below) known moment.before left st
           (record moment { entry = Trap func number kind operands found } ∷ [])
       go (Quiet tellable) =
           record {
             found = all_observed_events n st (told left) ++ [];
             are =
-                trail_logs.logged_then m shape is counts numbers back outcome
+                trail_logs.logged_then m shape hooked outcome
                 (state (AtFunction func ∷ h.below) [] known.entries) st (told_by_trap moment.instr operands moment)
                 (all_observed_events n st (told left)) (state (AtFunction func ∷ h.below) [] known.entries)
                 (log_after_all st (told left)) [] []
                 (subst
-                (λ l. Logged (state (AtFunction func ∷ h.below) [] known.entries) st
+                (λ l. Logged m shape (state (AtFunction func ∷ h.below) [] known.entries) st
                 (told_by_trap moment.instr operands moment) (all_observed_events n st l)
                 (state (AtFunction func ∷ h.below) [] known.entries) (log_after_all st l))
                 h.observes
-                (logs.tellable_logged m shape is counts numbers back (told_by_trap moment.instr operands moment)
+                (logs.tellable_logged m shape hooked (told_by_trap moment.instr operands moment)
                 (state (AtFunction func ∷ h.below) [] known.entries) st refl tellable))
                 (λ at. refl);
             agrees = λ size size_told. agree size [] size_told (ap outcome_marks over);
@@ -149,25 +125,25 @@ module _ (m : Module) (shape : HookedShape) (is : IsShapeOf m shape)
           }
       go (AtEntry t calls entry) =
           subst
-          (λ i. trail_logs.Tells_by m shape is counts numbers back outcome (AtFunction func ∷ h.below) known moment.before
-          left st (ren (told_by_trap i operands moment ++ [])))
+          (λ i. Tells_by m shape outcome (AtFunction func ∷ h.below) known moment.before
+          left st (renumbered m (told_by_trap i operands moment ++ [])))
           (sym calls)
           (record {
             found = (all_observed_events n st (told left) ++ events.Pre callee ∷ []) ++ [];
             are =
-                trail_logs.logged_then m shape is counts numbers back outcome
+                trail_logs.logged_then m shape hooked outcome
                 (state (AtFunction func ∷ h.below) [] known.entries) st (told_number Ipre index moment.before)
                 (all_observed_events n st (told left) ++ events.Pre callee ∷ [])
-                (orders.after_index m shape is counts numbers back func index h.below known.entries moment.before callee)
+                (orders.after_index m shape hooked func index h.below known.entries moment.before callee)
                 (log_after_all st (told left)) [] []
                 (subst
-                (λ l. Logged (state (AtFunction func ∷ h.below) [] known.entries) st
+                (λ l. Logged m shape (state (AtFunction func ∷ h.below) [] known.entries) st
                 (told_number Ipre index moment.before) (all_observed_events n st l ++ events.Pre callee ∷ [])
-                (orders.after_index m shape is counts numbers back func index h.below known.entries moment.before callee)
+                (orders.after_index m shape hooked func index h.below known.entries moment.before callee)
                 (log_after_all st l))
                 (subst
                 (λ i. seen_by shape n (all_globals m) (told_by_trap i operands moment) ≡ told left) calls h.observes)
-                (logs.ipre_logged m shape is counts numbers back func index h.below known.entries moment.before callee st
+                (logs.ipre_logged m shape hooked func index h.below known.entries moment.before callee st
                 h.of.entries refl entry))
                 (λ at. refl);
             agrees = λ size size_told.
@@ -192,10 +168,10 @@ module _ (m : Module) (shape : HookedShape) (is : IsShapeOf m shape)
   import_called : (later : List Moment) (moment : Moment) (levels : List Level) (known : Known) (store : Store)
       (left : List Observation) (st : LogState) (import : ℕ) (args : List Val)
       → IsImportCall m shape levels known store left moment import (IsTrail m shape (Some outcome) later)
-      → Stands levels known store st → Rest later
-      → Tells levels known store left st (record moment { entry = ImportCall import args } ∷ later)
+      → Stands m shape outcome levels known store st → Rest m shape outcome later
+      → Tells m shape outcome levels known store left st (record moment { entry = ImportCall import args } ∷ later)
   import_called later moment levels known store left st import args h stands rest =
-      subst (λ l. Tells l known store left st (record moment { entry = ImportCall import args } ∷ later)) (sym h.stands)
+      subst (λ l. Tells m shape outcome l known store left st (record moment { entry = ImportCall import args } ∷ later)) (sym h.stands)
       (record {
         found = r.found;
         are = r.are;
@@ -216,7 +192,7 @@ module _ (m : Module) (shape : HookedShape) (is : IsShapeOf m shape)
         not_last = λ c callee. r.not_last tt callee;
       })
     where
-      r : Tells (AtCall h.direct import false h.args ∷ h.below) known moment.after h.later st later
+      r : Tells m shape outcome (AtCall h.direct import false h.args ∷ h.below) known moment.after h.later st later
       r = rest (AtCall h.direct import false h.args ∷ h.below) known moment.after h.later st h.follows
           (record {
             told = stands.told;
@@ -226,13 +202,13 @@ module _ (m : Module) (shape : HookedShape) (is : IsShapeOf m shape)
 
   host_trapped : (later : List Moment) (moment : Moment) (levels : List Level) (known : Known) (store : Store)
       (left : List Observation) (st : LogState) → IsHostTrap m shape levels left (Some outcome) later
-      → Tells levels known store left st (record moment { entry = HostTrap } ∷ later)
+      → Tells m shape outcome levels known store left st (record moment { entry = HostTrap } ∷ later)
   host_trapped later moment levels known store left st h =
       record {
         found = [];
         are = λ at. ap
             (λ l. events_from shape (state levels [] known.entries) st at
-            (ren (told_calls (all_globals m) (waiting_calls levels) l))) h.last;
+            (renumbered m (told_calls (all_globals m) (waiting_calls levels) l))) h.last;
         agrees = λ size size_told.
             agrees_host n levels known store left (marks_from n outcome (log_frames levels) size []) h.host
             (λ origin.
@@ -249,28 +225,28 @@ module _ (m : Module) (shape : HookedShape) (is : IsShapeOf m shape)
 
   -- ---- all of a trail
 
-  at_entry : (later : List Moment) → Rest later → (moment : Moment) (entry : Entry) (levels : List Level) (known : Known)
+  at_entry : (later : List Moment) → Rest m shape outcome later → (moment : Moment) (entry : Entry) (levels : List Level) (known : Known)
       (store : Store) (left : List Observation) (st : LogState)
       → IsAtEntry m shape levels known store left (Some outcome) later moment entry (IsTrail m shape (Some outcome) later)
-      → Stands levels known store st → Tells levels known store left st (record moment { entry = entry } ∷ later)
+      → Stands m shape outcome levels known store st → Tells m shape outcome levels known store left st (record moment { entry = entry } ∷ later)
   at_entry later rest moment (HostCall func args) levels known store left st h stands =
-      trail_logs.host_call m shape is counts numbers back outcome later moment levels known store left st func args h
+      trail_logs.host_call m shape hooked outcome later moment levels known store left st func args h
       stands rest
   at_entry later rest moment (Enter func) levels known store left st h stands =
-      trail_logs.entered m shape is counts numbers back outcome later moment levels known store left st func h stands rest
+      trail_logs.entered m shape hooked outcome later moment levels known store left st func h stands rest
   at_entry later rest moment (HostReturn func results) levels known store left st h stands =
-      trail_logs.host_return m shape is counts numbers back outcome later moment levels known store left st func results
+      trail_logs.host_return m shape hooked outcome later moment levels known store left st func results
       h stands rest
   at_entry later rest moment (Exit func results) levels known store left st h stands =
-      trail_logs.exited m shape is counts numbers back outcome later moment levels known store left st func results h
+      trail_logs.exited m shape hooked outcome later moment levels known store left st func results h
       stands rest
   at_entry later rest moment (ImportCall import args) levels known store left st h stands =
       import_called later moment levels known store left st import args h stands rest
   at_entry later rest moment (ImportReturn import results) levels known store left st h stands =
-      trail_logs.import_return m shape is counts numbers back outcome later moment levels known store left st import
+      trail_logs.import_return m shape hooked outcome later moment levels known store left st import
       results h stands rest
   at_entry later rest moment (Step func number operands results found) levels known store left st h stands =
-      trail_steps.stepped m shape is counts numbers back outcome later moment levels known store left st func number operands results found h stands rest
+      trail_steps.stepped m shape hooked outcome later moment levels known store left st func number operands results found h stands rest
   at_entry later rest moment (Trap func number kind operands found) levels known store left st h stands =
       trapped later moment levels known store left st func number kind operands found h stands
   at_entry later rest moment HostTrap levels known store left st h stands =
@@ -278,11 +254,11 @@ module _ (m : Module) (shape : HookedShape) (is : IsShapeOf m shape)
 
   at_end : (o : Outcome) → outcome ≡ o → (levels : List Level) (known : Known) (store : Store)
       (left : List Observation) (st : LogState) → IsTrailEnd m shape levels left (Some o)
-      → Tells levels known store left st []
+      → Tells m shape outcome levels known store left st []
   at_end Trapped over levels known store left st h = absurd h
   at_end HostTrapped over levels known store left st h = absurd h
   at_end Ended over levels known store left st h =
-      subst (λ l. Tells l known store left st []) (sym h.0)
+      subst (λ l. Tells m shape outcome l known store left st []) (sym h.0)
       (record {
         found = [];
         are = λ at. refl;
@@ -293,7 +269,7 @@ module _ (m : Module) (shape : HookedShape) (is : IsShapeOf m shape)
         not_last = λ c callee. absurd c;
       })
 
-  pub tells : (moments : List Moment) → Rest moments
+  pub tells : (moments : List Moment) → Rest m shape outcome moments
   tells [] levels known store left st h stands = at_end outcome refl levels known store left st h
   tells (moment ∷ later) levels known store left st h stands =
       at_entry later (tells later) moment moment.entry levels known store left st h stands

@@ -2,12 +2,7 @@
 use Rattle.std.proofs.Common.{◌≡◌, ℕ, ◌+◌, ◌-◌, ◌≤◌, List, [], ◌∷◌, Option, Some, None, Bool, true, cond, nat_eq, slice_get, refl, sym, ap, ◌∙◌, subst, arith, inl, inr}
 use Rattle.std.specs.Prelude.{◌⊎◌, unwrap_or}
 use Rattle.std.specs.Option.{option_or}
-use Rattle.std.proofs.lemmas.Bool.Decides.{nat_tests}
 use Rattle.std.proofs.lemmas.Option.{none-some, same_Some}
-use Rattle.list_laws.proofs.Booleans.{and_true}
-use Rattle.wasm_syntax.specs.declared.values.Val.{Val}
-use Rattle.wasm_syntax.specs.Alike.{same_type}
-use Rattle.wasm_syntax.proofs.ValTypes.{type_own}
 use Rattle.history_spec.specs.Store.{Store}
 use Rattle.history_spec.specs.Instantiation.{table_length}
 use Rattle.replay_spec.specs.Observations.{Observation, Reaches, Resizes, ReachesEntry, ResizesTable}
@@ -20,20 +15,8 @@ use Rattle.tape_follows.proofs.Relation.{IsSize, IsReadOf, IsSeen}
 use Rattle.tape_follows.proofs.Changes.{IsChangedBy, left_pages, left_entries, changed_by}
 use Rattle.tape_follows.proofs.Items.{one_byte, one_entry, one_global, size_found, pages_there, entries_there}
 use Rattle.tape_follows.proofs.StepItems.{read_of_all}
+use Rattle.tape_follows.proofs.Same.{own_number, own_option, own_value}
 use Rattle.logs_follow.proofs.Agrees.{SeesPages, SeesEntries, IsSettled}
-
--- ---- a value is like itself
-
-own_number : (a : ℕ) → nat_eq a a ≡ true
-own_number a = grind (arith, nat_tests)
-
-own_value : (a : Val) → same_value a a ≡ true
-own_value a = and_true (same_type a.ty a.ty) (nat_eq a.bits a.bits) (type_own a.ty) (own_number a.bits)
-
-own_option : {X : Type 0} (same : X → X → Bool) → ((a : X) → same a a ≡ true) → (o : Option X)
-    → same_option same o o ≡ true
-own_option same own None = refl
-own_option same own (Some a) = own a
 
 -- ---- one place
 

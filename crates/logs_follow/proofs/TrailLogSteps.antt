@@ -4,17 +4,15 @@ use Rattle.std.specs.Prelude.{Ok}
 use Rattle.std.specs.List.{AllByRecursion}
 use Rattle.std.proofs.lemmas.List.{append_assoc}
 use Rattle.wasm_syntax.specs.declared.values.Val.{Val}
-use Rattle.wasm_syntax.specs.declared.signatures.FuncType.{FuncType}
 use Rattle.wasm_syntax.specs.declared.modules.Module.{Module}
 use Rattle.wasm_syntax.specs.Index.{imported_funcs, all_globals}
-use Rattle.wasm_syntax.specs.Validity.{IsFuncType}
+use Rattle.wasm_syntax.specs.declared.instructions.Instr.{Instr}
 use Rattle.run_outcomes.specs.declared.outcomes.Outcome.{Outcome}
 use Rattle.trace_model.specs.declared.events.Event.{Event}
 use Rattle.trace_model.specs.declared.events.Event.TheVariants as events
 use Rattle.trace_model.specs.declared.tapes.Origin.TheVariants.{Import}
 use Rattle.history_spec.specs.declared.entries.Entry.{Entry}
 use Rattle.history_spec.specs.declared.entries.Entry.TheVariants.{Step}
-use Rattle.history_spec.specs.Code.{code_of, signature}
 use Rattle.history_spec.specs.Instantiation.{table_length}
 use Rattle.history_spec.specs.Instruction.{bits_at}
 use Rattle.history_spec.specs.Store.{Store}
@@ -24,61 +22,41 @@ use Rattle.replay_spec.specs.Windows.{window}
 use Rattle.observed_steps.specs.Changes.{with_changes}
 use Rattle.tape_follows.proofs.Relation.{AreSeen}
 use Rattle.tape_follows.specs.RealReads.{IsKnownOf, IsReadOf}
-use Rattle.type_safety.specs.Stores.{func_count}
 use Rattle.hook_spec.specs.declared.hooks.Hook.TheVariants.{Pre, Ipre}
-use Rattle.hook_spec.specs.Hooks.{HookCall, renumber, original}
+use Rattle.hook_spec.specs.Hooks.{HookCall}
 use Rattle.hook_spec.specs.Logs.{LogState, log_after_all, all_observed_events, events_from}
 use Rattle.hook_spec.specs.LogTapes.{Begins as BeginsMark, InCall, mark_if, is_trapped_call, marks_from}
-use Rattle.hook_spec.specs.Order.{HookedShape, OrderState}
+use Rattle.hook_spec.specs.Order.{HookedShape}
 use Rattle.hook_spec.specs.ToldCalls.{Moment, WaitingCall, told_calls, told_number, told_by_step, waiting_after_step}
 use Rattle.calls_follow.proofs.CallObservations.{seen_by, as_told}
 use Rattle.calls_follow.proofs.CallOrder as orders
-use Rattle.calls_follow.proofs.Tellable.{IsShapeOf}
 use Rattle.calls_follow.proofs.Trails.{Level, AtFunction, AtCall, call_level, waiting_calls, IsOfCore, Leads, Stays, Direct, Indirect, IsStep, IsTrail}
+use Rattle.calls_follow.proofs.CallOrder.{IsHooked, renumbered, state}
 use Rattle.logs_follow.proofs.CallLogs as logs
 use Rattle.logs_follow.proofs.ItemEvents.{Keeps}
 use Rattle.logs_follow.proofs.ItemSteps.{keeps_after_all, agrees_all}
 use Rattle.logs_follow.proofs.TrailLogs as trail_logs
 use Rattle.logs_follow.proofs.LogMarks.{log_frames, CallOnTop, IsSizeTold, ModuleAgrees, AgreesBy, AgreesAt}
+use Rattle.logs_follow.proofs.CallLogs.{Logged}
+use Rattle.logs_follow.proofs.TrailLogs.{Stands, Tells_by, Tells, Rest}
 
-module _ (m : Module) (shape : HookedShape) (is : IsShapeOf m shape)
-    (counts : func_count m ≡ imported_funcs m + length m.funcs)
-    (numbers : (func : ℕ) (ty : FuncType) → signature (code_of m) func ≡ Some ty → IsFuncType ty)
-    (back : (n func : ℕ) → original n (renumber n func) ≡ Some func) (outcome : Outcome) where
+module _ (m : Module) (shape : HookedShape) (hooked : IsHooked m shape) (outcome : Outcome) where
   abbrev n : ℕ
   n = imported_funcs m
 
-  abbrev ren : List HookCall → List HookCall
-  ren = orders.ren m shape is counts numbers back
-
-  abbrev state : List Level → List Val → ℕ → OrderState
-  state = orders.state m shape is counts numbers back
-
-  abbrev Stands : List Level → Known → Store → LogState → Type 0
-  Stands = trail_logs.Stands m shape is counts numbers back outcome
-
-  abbrev Tells : List Level → Known → Store → List Observation → LogState → List Moment → Type 0
-  Tells = trail_logs.Tells m shape is counts numbers back outcome
-
-  abbrev Rest : List Moment → Type 0
-  Rest = trail_logs.Rest m shape is counts numbers back outcome
-
   abbrev told : List Observation → List Observation
   told items = as_told shape n (all_globals m) items
-
-  abbrev Logged : OrderState → LogState → List HookCall → List Event → OrderState → LogState → Type 0
-  Logged = logs.Logged m shape is counts numbers back
 
   -- a call that begins is logged as one of any function
   as_call : (imported direct : Bool) (callee : ℕ) (args : List Val) (levels : List Level) (entries : ℕ) (st : LogState)
       (later : List Moment) (found : List Event)
       → ((at : ℕ)
       → events_from shape (state (call_level imported direct callee args ∷ levels) [] entries) st at
-      (ren (told_calls (all_globals m) (waiting_calls (call_level imported direct callee args ∷ levels)) later))
+      (renumbered m (told_calls (all_globals m) (waiting_calls (call_level imported direct callee args ∷ levels)) later))
       ≡ Ok found)
       → (at : ℕ)
       → events_from shape (state (AtCall direct callee false args ∷ levels) [] entries) st at
-      (ren (told_calls (all_globals m) (waiting_calls (AtCall direct callee false args ∷ levels)) later))
+      (renumbered m (told_calls (all_globals m) (waiting_calls (AtCall direct callee false args ∷ levels)) later))
       ≡ Ok found
   as_call true direct callee args levels entries st later found h = h
   as_call false direct callee args levels entries st later found h = h
@@ -89,6 +67,20 @@ module _ (m : Module) (shape : HookedShape) (is : IsShapeOf m shape)
   call_on_top false direct callee args levels = tt
 
   -- the marks of a call, and of what follows it
+  pre_marks : (callee : ℕ) (levels : List Level) (size : ℕ) (found : List Event) (imported : Bool)
+      → nat_lt callee n ≡ imported → is_trapped_call outcome (events.Pre (Some callee)) found ≡ false
+      → marks_from n outcome (log_frames levels) size (events.Pre (Some callee) ∷ found)
+      ≡ mark_if imported (BeginsMark (Import callee))
+      ++ marks_from n outcome (InCall (Some callee) ∷ log_frames levels) size found
+  pre_marks callee levels size found imported e not =
+      ap
+      (λ b. cond b [] (mark_if (nat_lt callee n) (BeginsMark (Import callee)))
+      ++ marks_from n outcome (InCall (Some callee) ∷ log_frames levels) size found) not
+      ∙ ap
+      (λ b. mark_if b (BeginsMark (Import callee))
+      ++ marks_from n outcome (InCall (Some callee) ∷ log_frames levels) size found) e
+
+  -- they agree with what is observed
   pre_agrees : (imported direct : Bool) (callee : ℕ) (args : List Val) (levels : List Level) (known : Known)
       (store : Store) (left : List Observation) (size : ℕ) (found : List Event) → nat_lt callee n ≡ imported
       → is_trapped_call outcome (events.Pre (Some callee)) found ≡ false
@@ -97,24 +89,9 @@ module _ (m : Module) (shape : HookedShape) (is : IsShapeOf m shape)
       → ModuleAgrees known store left
       (marks_from n outcome (log_frames levels) size (events.Pre (Some callee) ∷ found))
   pre_agrees true direct callee args levels known store left size found e not h =
-      subst (ModuleAgrees known store left)
-      (sym
-      (ap
-      (λ b. cond b [] (mark_if (nat_lt callee n) (BeginsMark (Import callee)))
-      ++ marks_from n outcome (InCall (Some callee) ∷ log_frames levels) size found) not
-      ∙ ap
-      (λ b. mark_if b (BeginsMark (Import callee))
-      ++ marks_from n outcome (InCall (Some callee) ∷ log_frames levels) size found) e))
-      h
+      subst (ModuleAgrees known store left) (sym (pre_marks callee levels size found true e not)) h
   pre_agrees false direct callee args levels known store left size found e not h =
-      subst (ModuleAgrees known store left)
-      (sym
-      (ap
-      (λ b. cond b [] (mark_if (nat_lt callee n) (BeginsMark (Import callee)))
-      ++ marks_from n outcome (InCall (Some callee) ∷ log_frames levels) size found) not
-      ∙ ap
-      (λ b. mark_if b (BeginsMark (Import callee))
-      ++ marks_from n outcome (InCall (Some callee) ∷ log_frames levels) size found) e))
+      subst (ModuleAgrees known store left) (sym (pre_marks callee levels size found false e not))
       (subst
       (λ b. AgreesBy b known store left
       (marks_from n outcome (InCall (Some callee) ∷ log_frames levels) size found)) e h)
@@ -125,7 +102,7 @@ module _ (m : Module) (shape : HookedShape) (is : IsShapeOf m shape)
       (st : LogState) (items obs : List Observation) (of : IsKnownOf known moment.before)
       (are : AreSeen known moment.before items) (core : AllByRecursion IsOfCore items)
       (changed : moment.after ≡ with_changes moment.before items)
-      (stands : Stands (AtFunction func ∷ below) known moment.before st) (rest : Rest later)
+      (stands : Stands m shape outcome (AtFunction func ∷ below) known moment.before st) (rest : Rest m shape outcome later)
       (follows : IsTrail m shape (Some outcome) later after (known_after_all known items) moment.after obs) where
     abbrev top : List Level
     top = AtFunction func ∷ below
@@ -148,9 +125,9 @@ module _ (m : Module) (shape : HookedShape) (is : IsShapeOf m shape)
     kept_next : (size : ℕ) → IsSizeTold size known st
         → Keeps n (all_globals m) known_next (with_changes moment.before items) st_next size
     kept_next size size_told =
-        keeps_after_all n (all_globals m) (back n) size known moment.before st items (kept_at size size_told) are core
+        keeps_after_all n (all_globals m) (hooked.back n) size known moment.before st items (kept_at size size_told) are core
 
-    stands_next : Stands after known_next moment.after st_next
+    stands_next : Stands m shape outcome after known_next moment.after st_next
     stands_next =
         let k = kept_next st.noticed (inl refl) in
         record {
@@ -159,7 +136,7 @@ module _ (m : Module) (shape : HookedShape) (is : IsShapeOf m shape)
           real = λ w. k.real ∙ sym (ap (λ (s : Store). pages_of s.memory) changed);
         }
 
-    r : Tells after known_next moment.after obs st_next later
+    r : Tells m shape outcome after known_next moment.after obs st_next later
     r = rest after known_next moment.after obs st_next follows stands_next
 
     -- what follows agrees, and so does all
@@ -168,7 +145,7 @@ module _ (m : Module) (shape : HookedShape) (is : IsShapeOf m shape)
         → ModuleAgrees known moment.before (items ++ obs)
         (marks_from n outcome (log_frames top) size (all_observed_events n st (told items) ++ more))
     all_agree size more size_told h =
-        let a = agrees_all n (all_globals m) (back n) size outcome (log_frames top) known moment.before st items obs more
+        let a = agrees_all n (all_globals m) (hooked.back n) size outcome (log_frames top) known moment.before st items obs more
         (kept_at size size_told) of are core (subst (λ s. IsReadOf known_next (window obs) s) changed h.reads) h.agrees
         in
         record { agrees = a.0; reads = a.1 }
@@ -176,32 +153,32 @@ module _ (m : Module) (shape : HookedShape) (is : IsShapeOf m shape)
     -- it stays in its function
     stayed : (operands results : List Val) (entry : Entry) → after ≡ top
         → ((waiting : List WaitingCall) → waiting_after_step moment.instr operands waiting ≡ waiting)
-        → Logged (state top [] known.entries) st (told_by_step (all_globals m) moment.instr operands results moment)
+        → Logged m shape (state top [] known.entries) st (told_by_step (all_globals m) moment.instr operands results moment)
         (all_observed_events n st (told items)) (state top [] known.entries) st_next
         → known_next.entries ≡ known.entries
         → (number : ℕ) (found : Option ℕ)
-        → Tells top known moment.before (items ++ obs) st
+        → Tells m shape outcome top known moment.before (items ++ obs) st
         (record moment { entry = Step func number operands results found } ∷ later)
     stayed operands results entry same waits logged entries number found =
-        let t : Tells top known_next moment.after obs st_next later =
-        subst (λ l. Tells l known_next moment.after obs st_next later) same r in
+        let t : Tells m shape outcome top known_next moment.after obs st_next later =
+        subst (λ l. Tells m shape outcome l known_next moment.after obs st_next later) same r in
         record {
           found = all_observed_events n st (told items) ++ t.found;
           are =
-              trail_logs.logged_then m shape is counts numbers back outcome (state top [] known.entries) st
+              trail_logs.logged_then m shape hooked outcome (state top [] known.entries) st
               (told_by_step (all_globals m) moment.instr operands results moment)
               (all_observed_events n st (told items)) (state top [] known.entries) st_next
               (told_calls (all_globals m) (waiting_after_step moment.instr operands (waiting_calls top)) later) t.found
               logged
               (subst
               (λ w. (at : ℕ)
-              → events_from shape (state top [] known.entries) st_next at (ren (told_calls (all_globals m) w later))
+              → events_from shape (state top [] known.entries) st_next at (renumbered m (told_calls (all_globals m) w later))
               ≡ Ok t.found)
               (sym (waits (waiting_calls top)))
               (subst
               (λ e. (at : ℕ)
               → events_from shape (state top [] e) st_next at
-              (ren (told_calls (all_globals m) (waiting_calls top) later))
+              (renumbered m (told_calls (all_globals m) (waiting_calls top) later))
               ≡ Ok t.found) entries t.are));
           agrees = λ size size_told.
               all_agree size t.found size_told (t.agrees size (kept_next size size_told).size_told);
@@ -211,19 +188,19 @@ module _ (m : Module) (shape : HookedShape) (is : IsShapeOf m shape)
     -- it calls
     called : (direct : Bool) (callee : ℕ) (args : List Val) (calls : List HookCall) (seen_entries : ℕ)
         → after ≡ call_level (nat_lt callee n) direct callee args ∷ top
-        → Logged (state top [] known.entries) st calls
+        → Logged m shape (state top [] known.entries) st calls
         (all_observed_events n st (told items) ++ events.Pre (Some callee) ∷ [])
         (state (AtCall direct callee false args ∷ top) [] seen_entries) st_next
         → known_next.entries ≡ seen_entries
-        → trail_logs.Tells_by m shape is counts numbers back outcome top known moment.before (items ++ obs) st
-        (ren (calls ++ told_calls (all_globals m) (waiting_calls (AtCall direct callee false args ∷ top)) later))
+        → Tells_by m shape outcome top known moment.before (items ++ obs) st
+        (renumbered m (calls ++ told_calls (all_globals m) (waiting_calls (AtCall direct callee false args ∷ top)) later))
     called direct callee args calls seen_entries same logged entries =
-        let t : Tells (call_level (nat_lt callee n) direct callee args ∷ top) known_next moment.after obs st_next later =
-        subst (λ l. Tells l known_next moment.after obs st_next later) same r in
+        let t : Tells m shape outcome (call_level (nat_lt callee n) direct callee args ∷ top) known_next moment.after obs st_next later =
+        subst (λ l. Tells m shape outcome l known_next moment.after obs st_next later) same r in
         record {
           found = all_observed_events n st (told items) ++ (events.Pre (Some callee) ∷ t.found);
           are = λ at.
-              trail_logs.logged_then m shape is counts numbers back outcome (state top [] known.entries) st calls
+              trail_logs.logged_then m shape hooked outcome (state top [] known.entries) st calls
               (all_observed_events n st (told items) ++ events.Pre (Some callee) ∷ [])
               (state (AtCall direct callee false args ∷ top) [] seen_entries) st_next
               (told_calls (all_globals m) (waiting_calls (AtCall direct callee false args ∷ top)) later) t.found logged
@@ -231,7 +208,7 @@ module _ (m : Module) (shape : HookedShape) (is : IsShapeOf m shape)
               (subst
               (λ e. (at : ℕ)
               → events_from shape (state (call_level (nat_lt callee n) direct callee args ∷ top) [] e) st_next at
-              (ren
+              (renumbered m
               (told_calls (all_globals m) (waiting_calls (call_level (nat_lt callee n) direct callee args ∷ top)) later))
               ≡ Ok t.found) entries t.are))
               at
@@ -248,68 +225,63 @@ module _ (m : Module) (shape : HookedShape) (is : IsShapeOf m shape)
   pub stepped : (later : List Moment) (moment : Moment) (levels : List Level) (known : Known) (store : Store)
       (left : List Observation) (st : LogState) (func number : ℕ) (operands results : List Val) (found : Option ℕ)
       → IsStep m shape levels known store left moment func operands results (IsTrail m shape (Some outcome) later)
-      → Stands levels known store st → Rest later
-      → Tells levels known store left st
+      → Stands m shape outcome levels known store st → Rest m shape outcome later
+      → Tells m shape outcome levels known store left st
       (record moment { entry = Step func number operands results found } ∷ later)
   stepped later moment levels known store left st func number operands results found h stands rest =
-      subst (λ s. Tells levels known s left st now) h.begins
-      (subst (λ l. Tells levels known moment.before l st now) (sym h.observed)
-      (subst (λ l. Tells l known moment.before (h.items ++ h.later) st now) (sym h.stands)
+      subst (λ s. Tells m shape outcome levels known s left st now) h.begins
+      (subst (λ l. Tells m shape outcome levels known moment.before l st now) (sym h.observed)
+      (subst (λ l. Tells m shape outcome l known moment.before (h.items ++ h.later) st now) (sym h.stands)
       (go (subst (λ l. Leads m shape l h.after known h.items moment operands results) h.stands h.leads))))
     where
       now : List Moment
       now = record moment { entry = Step func number operands results found } ∷ later
 
-      here : Stands (AtFunction func ∷ h.below) known moment.before st
+      here : Stands m shape outcome (AtFunction func ∷ h.below) known moment.before st
       here =
-          subst (λ l. Stands l known moment.before st) h.stands
-          (subst (λ s. Stands levels known s st) (sym h.begins) stands)
+          subst (λ l. Stands m shape outcome l known moment.before st) h.stands
+          (subst (λ s. Stands m shape outcome levels known s st) (sym h.begins) stands)
+
+      -- what a step of this instruction tells, with what follows, is told
+      StepTells : Option Instr → Type 0
+      StepTells instr =
+          Tells_by m shape outcome (AtFunction func ∷ h.below) known moment.before (h.items ++ h.later) st
+          (renumbered m
+          (told_by_step (all_globals m) instr operands results moment
+          ++ told_calls (all_globals m) (waiting_after_step instr operands (waiting_calls (AtFunction func ∷ h.below)))
+          later))
 
       go : Leads m shape (AtFunction func ∷ h.below) h.after known h.items moment operands results
-          → Tells (AtFunction func ∷ h.below) known moment.before (h.items ++ h.later) st
+          → Tells m shape outcome (AtFunction func ∷ h.below) known moment.before (h.items ++ h.later) st
           (record moment { entry = Step func number operands results found } ∷ later)
       go (Stays same waits tellable entries) =
           stayed later moment func h.below h.after known st h.items h.later h.of h.are h.core h.changed here rest h.follows
           operands results (Step func number operands results found) same waits
           (subst
-          (λ l. Logged (state (AtFunction func ∷ h.below) [] known.entries) st
+          (λ l. Logged m shape (state (AtFunction func ∷ h.below) [] known.entries) st
           (told_by_step (all_globals m) moment.instr operands results moment) (all_observed_events n st l)
           (state (AtFunction func ∷ h.below) [] known.entries) (log_after_all st l))
           h.observes
-          (logs.tellable_logged m shape is counts numbers back
+          (logs.tellable_logged m shape hooked
           (told_by_step (all_globals m) moment.instr operands results moment)
           (state (AtFunction func ∷ h.below) [] known.entries) st refl tellable))
           entries number found
       go (Direct callee calls same there none) =
-          subst
-          (λ i. trail_logs.Tells_by m shape is counts numbers back outcome (AtFunction func ∷ h.below) known moment.before
-          (h.items ++ h.later) st
-          (ren
-          (told_by_step (all_globals m) i operands results moment
-          ++ told_calls (all_globals m) (waiting_after_step i operands (waiting_calls (AtFunction func ∷ h.below)))
-          later)))
-          (sym calls)
+          subst StepTells (sym calls)
           (called later moment func h.below h.after known st h.items h.later h.of h.are h.core h.changed here rest
           h.follows true callee operands (told_number Pre callee moment.before ++ []) known.entries same
           (subst
-          (λ l. Logged (state (AtFunction func ∷ h.below) [] known.entries) st
+          (λ l. Logged m shape (state (AtFunction func ∷ h.below) [] known.entries) st
           (told_number Pre callee moment.before ++ [])
           (all_observed_events n st (told l) ++ events.Pre (Some callee) ∷ [])
           (state (AtCall true callee false operands ∷ AtFunction func ∷ h.below) [] known.entries)
           (log_after_all st (told l)))
           (sym none)
-          (logs.pre_logged m shape is counts numbers back callee func operands h.below known.entries moment.before st
+          (logs.pre_logged m shape hooked callee func operands h.below known.entries moment.before st
           there))
           (ap (λ l. (known_after_all known l).entries) none))
       go (Indirect t callee calls same there entry entries) =
-          subst
-          (λ i. trail_logs.Tells_by m shape is counts numbers back outcome (AtFunction func ∷ h.below) known moment.before
-          (h.items ++ h.later) st
-          (ren
-          (told_by_step (all_globals m) i operands results moment
-          ++ told_calls (all_globals m) (waiting_after_step i operands (waiting_calls (AtFunction func ∷ h.below)))
-          later)))
-          (sym calls)
+          subst StepTells (sym calls)
           (called later moment func h.below h.after known st h.items h.later h.of h.are h.core h.changed here rest
           h.follows false callee (take (length operands - 1) operands)
           (told_number Ipre (bits_at operands (length operands - 1)) moment.before)
@@ -317,15 +289,15 @@ module _ (m : Module) (shape : HookedShape) (is : IsShapeOf m shape)
           (ReachesEntry (bits_at operands (length operands - 1)) (table_length moment.before.table)))
           same
           (subst
-          (λ l. Logged (state (AtFunction func ∷ h.below) [] known.entries) st
+          (λ l. Logged m shape (state (AtFunction func ∷ h.below) [] known.entries) st
           (told_number Ipre (bits_at operands (length operands - 1)) moment.before)
           (all_observed_events n st l ++ events.Pre (Some callee) ∷ [])
-          (orders.after_index m shape is counts numbers back func (bits_at operands (length operands - 1)) h.below
+          (orders.after_index m shape hooked func (bits_at operands (length operands - 1)) h.below
           known.entries moment.before (Some callee))
           (log_after_all st l))
           (subst
           (λ i. seen_by shape n (all_globals m) (told_by_step (all_globals m) i operands results moment) ≡ told h.items)
           calls h.observes)
-          (logs.ipre_logged m shape is counts numbers back func (bits_at operands (length operands - 1)) h.below
+          (logs.ipre_logged m shape hooked func (bits_at operands (length operands - 1)) h.below
           known.entries moment.before (Some callee) st h.of.entries entry there))
           entries)

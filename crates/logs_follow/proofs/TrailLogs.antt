@@ -1,27 +1,23 @@
 -- What a trail tells is logged, and the marks of its events agree with its observations.
-use Rattle.std.proofs.Common.{◌≡◌, ℕ, ◌+◌, List, [], ◌∷◌, ◌++◌, length, Option, Some, None, true, false, cond, nat_eq, nat_lt, slice_get, refl, sym, ap, ◌∙◌, subst, arith}
-use Rattle.std.specs.Prelude.{◌||◌, ◌&&◌, not, Ok}
-use Rattle.std.proofs.lemmas.Bool.Decides.{nat_tests}
+use Rattle.std.proofs.Common.{◌≡◌, ℕ, ◌+◌, List, [], ◌∷◌, ◌++◌, Option, Some, None, true, false, cond, nat_lt, slice_get, refl, sym, ap, ◌∙◌, subst}
+use Rattle.std.specs.Prelude.{◌||◌, Ok}
+use Rattle.std.proofs.Math.Bool.{or-true}
 use Rattle.wasm_syntax.specs.declared.values.Val.{Val}
-use Rattle.wasm_syntax.specs.declared.signatures.FuncType.{FuncType}
 use Rattle.wasm_syntax.specs.declared.modules.Module.{Module}
 use Rattle.wasm_syntax.specs.Index.{imported_funcs, all_globals}
-use Rattle.wasm_syntax.specs.Validity.{IsFuncType}
 use Rattle.run_outcomes.specs.declared.outcomes.Outcome.{Outcome}
 use Rattle.trace_model.specs.declared.events.Event.{Event}
 use Rattle.trace_model.specs.declared.events.Event.TheVariants as events
 use Rattle.trace_model.specs.declared.tapes.Origin.TheVariants.{Back}
 use Rattle.trace_model.specs.declared.tapes.Next.TheVariants.{Call, Return}
 use Rattle.history_spec.specs.declared.entries.Entry.TheVariants.{HostCall, HostReturn, ImportReturn, Enter, Exit}
-use Rattle.history_spec.specs.Code.{code_of, signature}
 use Rattle.history_spec.specs.Store.{Store}
 use Rattle.replay_spec.specs.Known.{Known, pages_of}
 use Rattle.replay_spec.specs.Observations.{Observation, Begins, Ends}
 use Rattle.replay_spec.specs.Windows.{window}
 use Rattle.tape_follows.proofs.StepItems.{nothing_read}
 use Rattle.tape_follows.specs.RealReads.{IsReadOf}
-use Rattle.type_safety.specs.Stores.{func_count}
-use Rattle.hook_spec.specs.Hooks.{HookCall, renumber, original}
+use Rattle.hook_spec.specs.Hooks.{HookCall}
 use Rattle.hook_spec.specs.Logs.{LogState, grown_events, after_events, events_from}
 use Rattle.hook_spec.specs.LogTapes.{Mark, Begins as BeginsMark, Ends as EndsMark, InFunction, InCall, is_at_host, mark_if, is_trapped_call, marks_from}
 use Rattle.hook_spec.specs.Order.{HookedShape, OrderState}
@@ -30,33 +26,21 @@ use Rattle.hook_spec.specs.declared.hooks.Hook.TheVariants.{Leave}
 use Rattle.calls_follow.specs.ToldObservations.{is_mutable}
 use Rattle.calls_follow.proofs.CallOrder as orders
 use Rattle.calls_follow.proofs.ModuleFacts.{func_there}
-use Rattle.calls_follow.proofs.Tellable.{IsShapeOf}
-use Rattle.calls_follow.proofs.TrailOrder.{same_waiting}
-use Rattle.calls_follow.proofs.Trails.{IsHostCall, IsEntered, IsHostReturn, IsExit, IsImportReturn, Level, AtFunction, AtImport, AtCall, waiting_calls, at_host, with_top_entered, IsWithin, KeepsImmutables, IsTrail}
+use Rattle.calls_follow.proofs.TrailOrder.{same_waiting, calls_at}
+use Rattle.calls_follow.proofs.Trails.{IsHostCall, IsEntered, IsHostReturn, IsExit, IsImportReturn, Level, AtFunction, AtImport, AtCall, at_host, with_top_entered, IsWithin, KeepsImmutables, IsTrail}
+use Rattle.calls_follow.proofs.CallOrder.{IsHooked, renumbered, state, callee_may, never_imported}
 use Rattle.logs_follow.proofs.Agrees.{Agrees, agrees_activity}
 use Rattle.logs_follow.proofs.CallLogs as logs
-use Rattle.logs_follow.proofs.CallLogs.{noticing}
+use Rattle.logs_follow.proofs.CallLogs.{noticing, Logged}
 use Rattle.logs_follow.proofs.ObservedFinds.{IsToldKnown}
 use Rattle.logs_follow.proofs.LogMarks.{log_frames, same_frames, frames_at_host, CallOnTop, not_pre, not_trapped_enter, not_trapped_leave, not_trapped_post, IsSizeTold, noticed_after, ModuleAgrees, AgreesBy, AgreesAt, host_agrees, agrees_host, within_agrees}
 
 -- ---- a trail
 
-module _ (m : Module) (shape : HookedShape) (is : IsShapeOf m shape)
-    (counts : func_count m ≡ imported_funcs m + length m.funcs)
-    (numbers : (func : ℕ) (ty : FuncType) → signature (code_of m) func ≡ Some ty → IsFuncType ty)
-    (back : (n func : ℕ) → original n (renumber n func) ≡ Some func) (outcome : Outcome) where
-  abbrev n : ℕ
-  n = imported_funcs m
-
-  abbrev ren : List HookCall → List HookCall
-  ren = orders.ren m shape is counts numbers back
-
-  abbrev state : List Level → List Val → ℕ → OrderState
-  state = orders.state m shape is counts numbers back
-
+module _ (m : Module) (shape : HookedShape) (outcome : Outcome) where
   -- what the log knows at a point
   pub record Stands (levels : List Level) (known : Known) (store : Store) (st : LogState) : Type 0 where
-    pub told : IsToldKnown n known st.known
+    pub told : IsToldKnown (imported_funcs m) known st.known
     pub immutable : (at : ℕ) → is_mutable (slice_get (all_globals m) at) ≡ false
         → known.global at ≡ slice_get store.globals at
     pub real : IsWithin levels → st.noticed ≡ pages_of store.memory
@@ -67,31 +51,15 @@ module _ (m : Module) (shape : HookedShape) (is : IsShapeOf m shape)
     pub found : List Event
     pub are : (at : ℕ) → events_from shape (state levels [] known.entries) st at calls ≡ Ok found
     pub agrees : (size : ℕ) → IsSizeTold size known st
-        → AgreesAt n levels known store left (marks_from n outcome (log_frames levels) size found)
+        → AgreesAt (imported_funcs m) levels known store left
+        (marks_from (imported_funcs m) outcome (log_frames levels) size found)
     pub not_last : CallOnTop levels → (callee : Option ℕ)
         → is_trapped_call outcome (events.Pre callee) found ≡ false
 
   -- what moments tell
   abbrev pub Tells : List Level → Known → Store → List Observation → LogState → List Moment → Type 0
   Tells levels known store left st moments =
-      Tells_by levels known store left st (ren (told_calls (all_globals m) (waiting_calls levels) moments))
-
-  -- calls that are logged, with what follows
-  pub logged_then : (order : OrderState) (st : LogState) (calls : List HookCall) (first : List Event)
-      (next_order : OrderState) (next_st : LogState) (rest : List HookCall) (later : List Event)
-      → logs.Logged m shape is counts numbers back order st calls first next_order next_st
-      → ((at : ℕ) → events_from shape next_order next_st at (ren rest) ≡ Ok later)
-      → (at : ℕ) → events_from shape order st at (ren (calls ++ rest)) ≡ Ok (first ++ later)
-  logged_then order st calls first next_order next_st rest later logged are at =
-      let p = logged.logged at (ren rest) in
-      ap (events_from shape order st at) (orders.ren_both m shape is counts numbers back calls rest)
-      ∙ p.1 ∙ ap (after_events first) (are p.0)
-
-  abbrev calls_at : List Level → List Moment → List HookCall
-  calls_at levels later = told_calls (all_globals m) (waiting_calls levels) later
-
-  abbrev marks_at : List Level → ℕ → List Event → List Mark
-  marks_at levels size events = marks_from n outcome (log_frames levels) size events
+      Tells_by levels known store left st (renumbered m (calls_at m levels moments))
 
   -- what follows a moment is told
   abbrev pub Rest : List Moment → Type 0
@@ -100,9 +68,27 @@ module _ (m : Module) (shape : HookedShape) (is : IsShapeOf m shape)
       → IsTrail m shape (Some outcome) later levels known store left → Stands levels known store st
       → Tells levels known store left st later
 
+module _ (m : Module) (shape : HookedShape) (hooked : IsHooked m shape) (outcome : Outcome) where
+  abbrev n : ℕ
+  n = imported_funcs m
+
+  -- calls that are logged, with what follows
+  pub logged_then : (order : OrderState) (st : LogState) (calls : List HookCall) (first : List Event)
+      (next_order : OrderState) (next_st : LogState) (rest : List HookCall) (later : List Event)
+      → Logged m shape order st calls first next_order next_st
+      → ((at : ℕ) → events_from shape next_order next_st at (renumbered m rest) ≡ Ok later)
+      → (at : ℕ) → events_from shape order st at (renumbered m (calls ++ rest)) ≡ Ok (first ++ later)
+  logged_then order st calls first next_order next_st rest later logged are at =
+      let p = logged.logged at (renumbered m rest) in
+      ap (events_from shape order st at) (orders.renumbered_both m calls rest)
+      ∙ p.1 ∙ ap (after_events first) (are p.0)
+
+  abbrev marks_at : List Level → ℕ → List Event → List Mark
+  marks_at levels size events = marks_from n outcome (log_frames levels) size events
+
   noticed_stands : (levels next : List Level) (known : Known) (store view : Store) (st : LogState)
-      → KeepsImmutables (all_globals m) store view → Stands levels known store st
-      → Stands next known view (noticing view st)
+      → KeepsImmutables (all_globals m) store view → Stands m shape outcome levels known store st
+      → Stands m shape outcome next known view (noticing view st)
   noticed_stands levels next known store view st keeps h =
       record { told = h.told; immutable = λ at i. h.immutable at i ∙ sym (keeps at i); real = λ w. refl }
 
@@ -111,8 +97,8 @@ module _ (m : Module) (shape : HookedShape) (is : IsShapeOf m shape)
   pub host_call : (later : List Moment) (moment : Moment) (levels : List Level) (known : Known) (store : Store)
       (left : List Observation) (st : LogState) (func : ℕ) (args : List Val)
       → IsHostCall m shape levels known store left moment func args (IsTrail m shape (Some outcome) later)
-      → Stands levels known store st → Rest later
-      → Tells levels known store left st (record moment { entry = HostCall func args } ∷ later)
+      → Stands m shape outcome levels known store st → Rest m shape outcome later
+      → Tells m shape outcome levels known store left st (record moment { entry = HostCall func args } ∷ later)
   host_call later moment levels known store left st func args h stands rest =
       record {
         found = own;
@@ -120,14 +106,14 @@ module _ (m : Module) (shape : HookedShape) (is : IsShapeOf m shape)
             logged_then (state levels [] known.entries) st (told_enter func args moment.after)
             (events.Enter func args ∷ grown_events st.noticed moment.after)
             (state (AtFunction func ∷ with_top_entered levels) [] known.entries) (noticing moment.after st)
-            (calls_at levels later) r.found
-            (logs.enter_logged m shape is counts numbers back func args levels known.entries moment.after st h.defined
+            (calls_at m levels later) r.found
+            (logs.enter_logged m shape hooked func args levels known.entries moment.after st h.defined
             (func_there m func h.typed.ty h.typed.has_type) h.typed
-            (orders.host_may m shape is counts numbers back func levels h.host))
+            (orders.host_may m shape hooked func levels h.host))
             (subst
             (λ w. (at : ℕ)
             → events_from shape (state (AtFunction func ∷ with_top_entered levels) [] known.entries)
-            (noticing moment.after st) at (ren (told_calls (all_globals m) w later)) ≡ Ok r.found)
+            (noticing moment.after st) at (renumbered m (told_calls (all_globals m) w later)) ≡ Ok r.found)
             (same_waiting levels) r.are);
         agrees = λ size told.
             let p = noticed_after n outcome (log_frames (AtFunction func ∷ with_top_entered levels)) size known st
@@ -144,7 +130,7 @@ module _ (m : Module) (shape : HookedShape) (is : IsShapeOf m shape)
         not_last = λ top callee. not_pre outcome callee (events.Enter func args) (grown_events st.noticed moment.after ++ r.found);
       }
     where
-      r : Tells (AtFunction func ∷ with_top_entered levels) known moment.after h.later (noticing moment.after st) later
+      r : Tells m shape outcome (AtFunction func ∷ with_top_entered levels) known moment.after h.later (noticing moment.after st) later
       r = rest (AtFunction func ∷ with_top_entered levels) known moment.after h.later (noticing moment.after st) h.follows
           (noticed_stands levels (AtFunction func ∷ with_top_entered levels) known store moment.after st h.keeps stands)
 
@@ -179,10 +165,10 @@ module _ (m : Module) (shape : HookedShape) (is : IsShapeOf m shape)
   pub import_return : (later : List Moment) (moment : Moment) (levels : List Level) (known : Known) (store : Store)
       (left : List Observation) (st : LogState) (import : ℕ) (results : List Val)
       → IsImportReturn m shape levels known store left moment import results (IsTrail m shape (Some outcome) later)
-      → Stands levels known store st → Rest later
-      → Tells levels known store left st (record moment { entry = ImportReturn import results } ∷ later)
+      → Stands m shape outcome levels known store st → Rest m shape outcome later
+      → Tells m shape outcome levels known store left st (record moment { entry = ImportReturn import results } ∷ later)
   import_return later moment levels known store left st import results h stands rest =
-      subst (λ l. Tells l known store left st (record moment { entry = ImportReturn import results } ∷ later))
+      subst (λ l. Tells m shape outcome l known store left st (record moment { entry = ImportReturn import results } ∷ later))
       (sym h.stands)
       (record {
         found = own;
@@ -190,8 +176,8 @@ module _ (m : Module) (shape : HookedShape) (is : IsShapeOf m shape)
             logged_then (state top [] known.entries) st
             (told_values moment.after results ++ told_over (cond h.direct (Some import) None) moment.after)
             (events.Post (slice_get results 0) ∷ grown_events st.noticed moment.after) (state h.below [] known.entries)
-            (noticing moment.after st) (calls_at h.below later) r.found
-            (logs.over_logged m shape is counts numbers back h.direct import h.entered h.args results h.below
+            (noticing moment.after st) (calls_at m h.below later) r.found
+            (logs.over_logged m shape hooked h.direct import h.entered h.args results h.below
             known.entries moment.after st (ap (λ b. b || h.entered) h.imported) h.typed) r.are;
         agrees = λ size told.
             let p = noticed_after n outcome (log_frames h.below) size known st moment.after r.found told in
@@ -211,7 +197,7 @@ module _ (m : Module) (shape : HookedShape) (is : IsShapeOf m shape)
       top : List Level
       top = AtCall h.direct import h.entered h.args ∷ h.below
 
-      r : Tells h.below known moment.after h.later (noticing moment.after st) later
+      r : Tells m shape outcome h.below known moment.after h.later (noticing moment.after st) later
       r = rest h.below known moment.after h.later (noticing moment.after st) h.follows
           (noticed_stands levels h.below known store moment.after st h.keeps stands)
 
@@ -239,22 +225,22 @@ module _ (m : Module) (shape : HookedShape) (is : IsShapeOf m shape)
   pub entered : (later : List Moment) (moment : Moment) (levels : List Level) (known : Known) (store : Store)
       (left : List Observation) (st : LogState) (func : ℕ)
       → IsEntered m shape levels known store left moment func (IsTrail m shape (Some outcome) later)
-      → Stands levels known store st → Rest later
-      → Tells levels known store left st (record moment { entry = Enter func } ∷ later)
+      → Stands m shape outcome levels known store st → Rest m shape outcome later
+      → Tells m shape outcome levels known store left st (record moment { entry = Enter func } ∷ later)
   entered later moment levels known store left st func h stands rest =
-      subst (λ l. Tells l known store left st (record moment { entry = Enter func } ∷ later)) (sym h.stands)
+      subst (λ l. Tells m shape outcome l known store left st (record moment { entry = Enter func } ∷ later)) (sym h.stands)
       (record {
         found = own;
         are =
             logged_then (state top [] known.entries) st (told_enter func h.args moment.after)
             (events.Enter func h.args ∷ grown_events st.noticed moment.after) (state inner [] known.entries)
-            (noticing moment.after st) (calls_at top later) r.found
-            (logs.enter_logged m shape is counts numbers back func h.args top known.entries moment.after st h.defined
-            (func_there m func h.typed.ty h.typed.has_type) h.typed may) r.are;
+            (noticing moment.after st) (calls_at m top later) r.found
+            (logs.enter_logged m shape hooked func h.args top known.entries moment.after st h.defined
+            (func_there m func h.typed.ty h.typed.has_type) h.typed (callee_may shape.imports func)) r.are;
         agrees = λ size told.
             let p = noticed_after n outcome (log_frames inner) size known st moment.after r.found told in
             let q = r.agrees p.now p.size_told in
-            subst (λ b. AgreesBy b known store left (marks_at top size own)) (sym defined)
+            subst (λ b. AgreesBy b known store left (marks_at top size own)) (sym (never_imported n func h.defined))
             (record {
               agrees = subst (Agrees known left) (sym (marks_are size p.now p.marks)) q.agrees;
               reads = subst (λ s. IsReadOf known (window left) s) h.same q.reads;
@@ -268,16 +254,7 @@ module _ (m : Module) (shape : HookedShape) (is : IsShapeOf m shape)
       inner : List Level
       inner = AtFunction func ∷ AtCall h.direct func true h.args ∷ h.below
 
-      defined : nat_lt func n ≡ false
-      defined = let d = h.defined in grind (arith, nat_tests, d)
-
-      may : (nat_lt func shape.imports || (nat_eq func func && not false)) ≡ true
-      may =
-          let same : nat_eq func func ≡ true = grind (arith, nat_tests) in
-          ap (λ b. nat_lt func shape.imports || (b && true)) same
-          ∙ orders.or_right m shape is counts numbers back (nat_lt func shape.imports)
-
-      r : Tells (AtFunction func ∷ AtCall h.direct func true h.args ∷ h.below) known moment.after left
+      r : Tells m shape outcome (AtFunction func ∷ AtCall h.direct func true h.args ∷ h.below) known moment.after left
           (noticing moment.after st) later
       r = rest (AtFunction func ∷ AtCall h.direct func true h.args ∷ h.below) known moment.after left
           (noticing moment.after st) h.follows
@@ -303,7 +280,7 @@ module _ (m : Module) (shape : HookedShape) (is : IsShapeOf m shape)
           (λ b. mark_if b (EndsMark (Call func h.args))
           ++ marks_from n outcome (InFunction ∷ InCall (Some func) ∷ log_frames h.below) size
           (grown_events st.noticed moment.after ++ r.found))
-          defined
+          (never_imported n func h.defined)
           ∙ e
 
   -- ---- returns
@@ -311,16 +288,16 @@ module _ (m : Module) (shape : HookedShape) (is : IsShapeOf m shape)
   pub host_return : (later : List Moment) (moment : Moment) (levels : List Level) (known : Known) (store : Store)
       (left : List Observation) (st : LogState) (func : ℕ) (results : List Val)
       → IsHostReturn m shape levels known store left moment func (IsTrail m shape (Some outcome) later)
-      → Stands levels known store st → Rest later
-      → Tells levels known store left st (record moment { entry = HostReturn func results } ∷ later)
+      → Stands m shape outcome levels known store st → Rest m shape outcome later
+      → Tells m shape outcome levels known store left st (record moment { entry = HostReturn func results } ∷ later)
   host_return later moment levels known store left st func results h stands rest =
-      subst (λ l. Tells l known store left st (record moment { entry = HostReturn func results } ∷ later)) (sym h.stands)
+      subst (λ l. Tells m shape outcome l known store left st (record moment { entry = HostReturn func results } ∷ later)) (sym h.stands)
       (record {
         found = events.Leave func ∷ r.found;
         are =
             logged_then (state (AtFunction func ∷ h.below) [] known.entries) st (told_number Leave func moment.after)
-            (events.Leave func ∷ []) (state h.below [] known.entries) st (calls_at h.below later) r.found
-            (logs.leave_logged m shape is counts numbers back func h.below known.entries moment.after st) r.are;
+            (events.Leave func ∷ []) (state h.below [] known.entries) st (calls_at m h.below later) r.found
+            (logs.leave_logged m shape hooked func h.below known.entries moment.after st) r.are;
         agrees = λ size told.
             subst
             (λ l. ModuleAgrees known store l (marks_at (AtFunction func ∷ h.below) size (events.Leave func ∷ r.found)))
@@ -341,7 +318,7 @@ module _ (m : Module) (shape : HookedShape) (is : IsShapeOf m shape)
       outside (AtImport direct callee args ∷ l) host w = w
       outside (AtCall direct callee e args ∷ l) host w = w
 
-      r : Tells h.below known moment.after h.later st later
+      r : Tells m shape outcome h.below known moment.after h.later st later
       r = rest h.below known moment.after h.later st h.follows
           (record {
             told = stands.told;
@@ -363,10 +340,10 @@ module _ (m : Module) (shape : HookedShape) (is : IsShapeOf m shape)
   pub exited : (later : List Moment) (moment : Moment) (levels : List Level) (known : Known) (store : Store)
       (left : List Observation) (st : LogState) (func : ℕ) (results : List Val)
       → IsExit m shape levels known store left moment func results (IsTrail m shape (Some outcome) later)
-      → Stands levels known store st → Rest later
-      → Tells levels known store left st (record moment { entry = Exit func results } ∷ later)
+      → Stands m shape outcome levels known store st → Rest m shape outcome later
+      → Tells m shape outcome levels known store left st (record moment { entry = Exit func results } ∷ later)
   exited later moment levels known store left st func results h stands rest =
-      subst (λ l. Tells l known store left st (record moment { entry = Exit func results } ∷ later)) (sym h.stands)
+      subst (λ l. Tells m shape outcome l known store left st (record moment { entry = Exit func results } ∷ later)) (sym h.stands)
       (record {
         found = own;
         are =
@@ -374,17 +351,17 @@ module _ (m : Module) (shape : HookedShape) (is : IsShapeOf m shape)
             (told_number Leave func moment.after
             ++ (told_values moment.after results ++ told_over (cond h.direct (Some func) None) moment.after))
             (events.Leave func ∷ (events.Post (slice_get results 0) ∷ grown_events st.noticed moment.after))
-            (state h.below [] known.entries) (noticing moment.after st) (calls_at h.below later) r.found
-            (logs.both_logged m shape is counts numbers back (told_number Leave func moment.after)
+            (state h.below [] known.entries) (noticing moment.after st) (calls_at m h.below later) r.found
+            (logs.both_logged m shape hooked (told_number Leave func moment.after)
             (told_values moment.after results ++ told_over (cond h.direct (Some func) None) moment.after)
             (events.Leave func ∷ []) (events.Post (slice_get results 0) ∷ grown_events st.noticed moment.after)
             (state top [] known.entries)
             (state (AtCall h.direct func true h.args ∷ h.below) [] known.entries) (state h.below [] known.entries) st st
             (noticing moment.after st)
-            (logs.leave_logged m shape is counts numbers back func (AtCall h.direct func true h.args ∷ h.below)
+            (logs.leave_logged m shape hooked func (AtCall h.direct func true h.args ∷ h.below)
             known.entries moment.after st)
-            (logs.over_logged m shape is counts numbers back h.direct func true h.args results h.below known.entries
-            moment.after st (orders.or_right m shape is counts numbers back (nat_lt func n)) h.typed))
+            (logs.over_logged m shape hooked h.direct func true h.args results h.below known.entries
+            moment.after st (or-true (nat_lt func n)) h.typed))
             r.are;
         agrees = λ size told.
             let p = noticed_after n outcome (log_frames h.below) size known st moment.after r.found told in
@@ -400,7 +377,7 @@ module _ (m : Module) (shape : HookedShape) (is : IsShapeOf m shape)
       top : List Level
       top = AtFunction func ∷ AtCall h.direct func true h.args ∷ h.below
 
-      r : Tells h.below known moment.after left (noticing moment.after st) later
+      r : Tells m shape outcome h.below known moment.after left (noticing moment.after st) later
       r = rest h.below known moment.after left (noticing moment.after st) h.follows
           (noticed_stands levels h.below known store moment.after st
           (λ at i. ap (λ (s : Store). slice_get s.globals at) h.same) stands)
@@ -408,9 +385,6 @@ module _ (m : Module) (shape : HookedShape) (is : IsShapeOf m shape)
       own : List Event
       own =
           events.Leave func ∷ (events.Post (slice_get results 0) ∷ (grown_events st.noticed moment.after ++ r.found))
-
-      defined : nat_lt func n ≡ false
-      defined = let d = h.defined in grind (arith, nat_tests, d)
 
       marks_are : (size now : ℕ)
           → marks_from n outcome (log_frames h.below) size (grown_events st.noticed moment.after ++ r.found)
@@ -428,7 +402,7 @@ module _ (m : Module) (shape : HookedShape) (is : IsShapeOf m shape)
           (λ b. mark_if b (BeginsMark Back)
           ++ marks_from n outcome (InCall (Some func) ∷ log_frames h.below) size
           (events.Post (slice_get results 0) ∷ more))
-          defined
+          (never_imported n func h.defined)
           ∙ ap
           (λ b. cond b [] (mark_if (nat_lt func n) (EndsMark (Return (slice_get results 0))))
           ++ marks_from n outcome (log_frames h.below) size more)
@@ -436,5 +410,5 @@ module _ (m : Module) (shape : HookedShape) (is : IsShapeOf m shape)
           ∙ ap
           (λ b. mark_if b (EndsMark (Return (slice_get results 0)))
           ++ marks_from n outcome (log_frames h.below) size more)
-          defined
+          (never_imported n func h.defined)
           ∙ e

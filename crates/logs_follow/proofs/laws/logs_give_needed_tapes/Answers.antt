@@ -1,24 +1,7 @@
-use Rattle.calls_follow.proofs.RunCalls.{Safety}
-use Rattle.calls_follow.proofs.TrailSteps.{TrailLaws}
 use Rattle.logs_follow.proofs.Whole.{logs_give}
 use Rattle.logs_follow.proofs.laws.logs_give_needed_tapes.Goals as goal
 
 pub returns : goal.returns
 returns c =
-    let laws : TrailLaws =
-    record {
-      own = c.own_steps.ensures;
-      answers = c.own_answers.ensures.answers;
-      rules = c.rules_hold.ensures.instructions;
-      actions = c.rules_hold.ensures.actions;
-    } in
-    let safety : Safety =
-    record {
-      heights = c.typed_code.ensures.heights;
-      code = c.typed_code.ensures.code;
-      supplied = c.typed_store.ensures.supplied;
-      store = c.typed_store.ensures.store;
-      starts = c.safe_steps.ensures.starts;
-    } in
-    logs_give laws safety c.instrumented_keep_indices.ensures c.indices_are_renumbered.ensures
-    c.needed_segments_are_kept.ensures
+    logs_give c.laws_of_steps.ensures c.laws_of_runs.ensures c.instrumented_keep_indices.ensures
+    c.indices_are_renumbered.ensures
