@@ -39,14 +39,14 @@ use Rattle.replay_spec.specs.TapeRun.{pause}
 use Rattle.outside_spec.specs.Items.{Item, Makes, Changes, Steps, change_at, changes_of, entries_in, is_block, target_of}
 use Rattle.outside_spec.specs.Steps.{StepCount}
 use Rattle.generated_steps.specs.Leads.{Watched, Place, Leads, IsOutside, InPlace, Behind, Standing, standing}
+use Rattle.generated_steps.proofs.Along.{entries_over}
 use Rattle.single_steps.specs.Single.{outside_step}
-use Rattle.generated_steps.specs.Laws.{DispatchesReachArms, ReachesArm, SelectorsCount, LeadsRunAlong, selector}
-use Rattle.single_steps.specs.Laws.{StepsLead}
+use Rattle.generated_steps.specs.Laws.{ReachesArm, selector}
 use Rattle.generated_steps.proofs.One.{did}
 use Rattle.generated_effects.specs.Counts.{changes_in, steps_in}
 use Rattle.binary_follows.proofs.Bounded.{most_before}
 use Rattle.binary_follows.proofs.DispatchSteps.{dispatch_items, dispatch_counted}
-use Rattle.generated_effects.proofs.Items.{entries_of_both, changes_of_both}
+use Rattle.generated_effects.proofs.Items.{changes_of_both}
 use Rattle.generated_effects.proofs.Effects.{set_there}
 use Rattle.module_merge.specs.Merge.{layout_of}
 use Rattle.replay_codes.specs.Stores.{counters, with_own}
@@ -57,13 +57,7 @@ use Rattle.binary_follows.proofs.Sound.{IsSound}
 use Rattle.binary_follows.proofs.Counted.{counted, counter_moved, counter_there, counts_call}
 use Rattle.replay_codes.proofs.Functions.{first_group_past}
 use Rattle.binary_follows.proofs.Groups.{call_there, group_at, group_there, group_within, range_there, segments_some}
-
--- the laws of steps
-pub record StepLaws : Type 0 where
-  pub along : LeadsRunAlong
-  pub leads : StepsLead
-  pub arms : DispatchesReachArms
-  pub selectors : SelectorsCount
+use Rattle.binary_follows.specs.Below.{StepLaws}
 
 -- control comes from a place to an activation of the host that has these segments to play; on the way nothing is shown
 -- or changed
@@ -89,7 +83,7 @@ pub record AreSteps (items : List Item) : Type 0 where
 pub both_steps : (first second : List Item) → AreSteps first → AreSteps second → AreSteps (first ++ second)
 both_steps first second f s =
     record {
-      silent = entries_of_both first second ∙ ap (λ l. l ++ entries_in second) f.silent ∙ s.silent;
+      silent = entries_over first second ∙ ap (λ l. l ++ entries_in second) f.silent ∙ s.silent;
       unchanged = changes_of_both first second ∙ ap (λ l. l ++ changes_in second) f.unchanged ∙ s.unchanged;
     }
 

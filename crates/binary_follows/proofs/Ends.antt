@@ -32,14 +32,15 @@ use Rattle.generated_steps.specs.Leads.{Place, Leads, InPlace, Behind, Standing,
 use Rattle.single_steps.specs.Ends.{Ends}
 use Rattle.module_merge.specs.Merge.{layout_of}
 use Rattle.replay_codes.specs.Stores.{counters, with_own}
-use Rattle.binary_follows.proofs.Relation.{AreBeside, Runs, imports_in, returning_frame, watched}
+use Rattle.binary_follows.proofs.Relation.{AreBeside, Runs, imports_in, returning_frame, watched, host_standing}
 use Rattle.binary_follows.proofs.Sides.{appended_side, below_start, import_side, original_side}
 use Rattle.binary_follows.proofs.Settled.{delivered, returned, settled}
 use Rattle.binary_follows.proofs.Codes.{topmost_pushed}
 use Rattle.binary_follows.proofs.Answered.{step_alone, unchanged_by}
 use Rattle.binary_follows.proofs.Together.{Ending, none_first, IsPlayed, IsEnded, Follows}
 use Rattle.binary_follows.proofs.Bounded.{bounded_before, bounded_return, made_bounded, none_bounded}
-use Rattle.binary_follows.proofs.Parts.{RunLaws, follows_after, follows_settled}
+use Rattle.binary_follows.proofs.Parts.{follows_after, follows_settled}
+use Rattle.binary_follows.specs.Below.{RunLaws}
 
 module _ (laws : RunLaws) (m : Module) (plan : Plan) (code : Code) (store : Store) (counts : List ℕ) where
   abbrev beside : Store
@@ -240,7 +241,7 @@ module _ (laws : RunLaws) (m : Module) (plan : Plan) (code : Code) (store : Stor
   pub work_ends : (segments : List Segment) (premise : Type 0) (base : Frame) (labels : List Label) (number : ℕ)
       → start_index m ≤ base.func → base.arity ≡ 0
       → IsEnded m code premise (Ending m plan 7 segments)
-      (standing (record { frame = base; below = InMain [] ∷ []; counts = []; inside = base.func ∷ [] }) beside [] labels
+      (standing (host_standing base (InMain [] ∷ []) []) beside [] labels
       (Plain Return Empty) number) [] Ended
   work_ends segments premise base labels number past arity =
       record {
@@ -274,7 +275,7 @@ module _ (laws : RunLaws) (m : Module) (plan : Plan) (code : Code) (store : Stor
 
       here : Place
       here =
-          standing (record { frame = base; below = InMain [] ∷ []; counts = []; inside = base.func ∷ [] }) beside []
+          standing (host_standing base (InMain [] ∷ []) []) beside []
           labels
           (Plain Return Empty) number
 

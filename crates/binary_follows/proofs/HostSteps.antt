@@ -38,7 +38,7 @@ use Rattle.binary_follows.specs.Playable.{WritesBytes}
 use Rattle.binary_follows.specs.Laws.{AreEffectsOfFirst}
 use Rattle.replay_codes.specs.Stores.{counters, with_own}
 use Rattle.replay_codes.specs.Codes.{IsReplayCode}
-use Rattle.binary_follows.proofs.Relation.{AreBeside, Works, Runs, Answers, AreLeft, imports_in, own_place, waiting_frame, returning_frame, watched}
+use Rattle.binary_follows.proofs.Relation.{AreBeside, Works, Runs, Answers, AreLeft, imports_in, own_place, waiting_frame, returning_frame, watched, host_standing}
 use Rattle.binary_follows.proofs.Sides.{appended_side}
 use Rattle.binary_follows.proofs.Sound.{IsSound, effects_writable, grow_beside}
 use Rattle.binary_follows.proofs.EffectStores.{effects_beside}
@@ -47,10 +47,11 @@ use Rattle.binary_follows.proofs.Answered.{same_steps}
 use Rattle.binary_follows.proofs.Together.{AreWithin, MakesFirst, Playing, WithinBy, AreFit, IsHostOn, IsPlayed, Follows}
 use Rattle.binary_follows.proofs.Settled.{HasOneResult}
 use Rattle.binary_follows.proofs.Bounded.{bounded_before, segment_steps, steps_counted, with_next}
-use Rattle.binary_follows.proofs.Parts.{silent_stretches, steps_stretches, RunLaws, follows_after, nothing_shown}
+use Rattle.binary_follows.proofs.Parts.{silent_stretches, steps_stretches, follows_after, nothing_shown}
 use Rattle.binary_follows.proofs.Fitting.{IsFit, leaves_call, leaves_return}
 use Rattle.binary_follows.proofs.Plays.{ArePushed, calls_original, pushes}
 use Rattle.binary_follows.proofs.Ends.{returns_result, traps, work_ends}
+use Rattle.binary_follows.specs.Below.{RunLaws}
 
 -- equal numbers are no less than each other
 at_least : {a b : ℕ} → a ≡ b → b ≤ a
@@ -215,12 +216,7 @@ module _ (laws : RunLaws) (effects_law : EffectsAreMade) (m : Module) (plan : Pl
       number)
       (after_next (code_of m) after counts stack later came (Calls func args))
   calls_follow base below inside labels number stack func args ty past typed past_imports given again fit =
-      let s : Standing = record {
-        frame = base;
-        below = below;
-        counts = [];
-        inside = base.func ∷ inside;
-      } in
+      let s = host_standing base below inside in
       let outside : IsOutside (layout_of m) base.func = Behind (appended_side m base.func past) in
       let r = after_next (code_of m) after counts stack later came (Calls func args) in
       let rest = sequence (replicate (length ty.results) Drop ++ segments_code m (innermost begun)) Empty in
@@ -275,12 +271,9 @@ module _ (laws : RunLaws) (effects_law : EffectsAreMade) (m : Module) (plan : Pl
       let count : length (option_to_list result) ≡ length ty.results =
       sym (length-map (option_to_list result) (λ (v : Val). v.ty)) ∙ ap length l.2
       ∙ ap (λ (t : FuncType). length t.results) same in
-      let s : Standing = record {
-        frame = base;
-        below = InModule (returning_frame behind behind_labels behind_number) ∷ own;
-        counts = [];
-        inside = base.func ∷ behind.func ∷ inside;
-      } in
+      let s =
+      host_standing base (InModule (returning_frame behind behind_labels behind_number) ∷ own) (behind.func ∷ inside)
+      in
       let outside : IsOutside (layout_of m) base.func = Behind (appended_side m base.func (omega (arith, past))) in
       let r =
       after_next (code_of m) after counts
@@ -295,13 +288,7 @@ module _ (laws : RunLaws) (effects_law : EffectsAreMade) (m : Module) (plan : Pl
       (AllGrowSizes store effects) result below past arity index behind_arity count under
       (played (imports_in stack) (subst (λ o. AreFit m o later) (sym l.3) fit.rest)) labels place'))
   host_follows Ends _ _ _ at before fit opened host (Works base labels number index arity) =
-      let s : Standing = record {
-        frame = base;
-        below = InMain [] ∷ [];
-        counts = [];
-        inside = base.func ∷ [];
-      } in
-      after_effects_follows s (Behind (appended_side m base.func (at_least index))) labels number Ends []
+      after_effects_follows (host_standing base (InMain [] ∷ []) []) (Behind (appended_side m base.func (at_least index))) labels number Ends []
       (after_next (code_of m) after counts (InMain (pause ∷ []) ∷ []) later came Ends)
       (λ place. work_ends laws m plan code after counts later (AllGrowSizes store effects) base labels place
       (at_least index) arity)
@@ -314,12 +301,9 @@ module _ (laws : RunLaws) (effects_law : EffectsAreMade) (m : Module) (plan : Pl
   host_follows Traps _ _ _ at before fit opened host
       (Answers stack own inside import given ty caller base behind labels behind_labels number behind_number typed below
       past arity index behind_arity under) =
-      let s : Standing = record {
-        frame = base;
-        below = InModule (returning_frame behind behind_labels behind_number) ∷ own;
-        counts = [];
-        inside = base.func ∷ behind.func ∷ inside;
-      } in
+      let s =
+      host_standing base (InModule (returning_frame behind behind_labels behind_number) ∷ own) (behind.func ∷ inside)
+      in
       after_effects_follows s (Behind (appended_side m base.func (omega (arith, past)))) labels number Traps []
       (after_next (code_of m) after counts
       (InImport import given (pause ∷ []) EndsInTrap ∷ InModule caller ∷ stack) later

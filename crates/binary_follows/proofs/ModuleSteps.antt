@@ -20,12 +20,12 @@ use Rattle.history_spec.specs.Configuration.{Config, Frame, Activation, InModule
 use Rattle.history_spec.specs.Instruction.{Execution, Did, Traps, NoRule, Goes, Calls, Returns, execute}
 use Rattle.history_spec.specs.Settle.{NoRule as NoneHolds, SettleResult, after_entry, return_entry, settle_result, deliver}
 use Rattle.history_spec.specs.Step.{after_entries, after_instruction, after_settling, answer_call, call_function, enter_defined, enter_function, frame_of, response_of, response_to, step}
-use Rattle.history_spec.specs.Projection.{Side, Original, side, call_args, shown_call, shown_step, shown_trap, trapped_on}
+use Rattle.history_spec.specs.Projection.{Side, Original, side, call_args, shown_call, shown_step, shown_trap, trapped_on, Import}
 use Rattle.replay_plan.specs.declared.plans.Plan.{Plan}
 use Rattle.replay_plan.specs.Plans.{left_of}
 use Rattle.replay_spec.specs.TapeRun.{pause, awaiting_answer, program_awaiting, after_step}
 use Rattle.observed_steps.specs.Executions.{IsCallOf, IsSameActivation}
-use Rattle.observed_steps.specs.Laws.{observed, ObservedStepsAreAlike, StoresAnswerThemselves}
+use Rattle.observed_steps.specs.Laws.{observed}
 use Rattle.outside_spec.specs.Items.{Makes}
 use Rattle.generated_steps.specs.Leads.{Place}
 use Rattle.module_merge.specs.Merge.{layout_of}
@@ -38,12 +38,8 @@ use Rattle.binary_follows.proofs.Sound.{IsSound, changes_sound}
 use Rattle.binary_follows.proofs.Settled.{returned, settled}
 use Rattle.binary_follows.proofs.Together.{Within, none_first, AtCall, IsPlayed, IsEnded, Follows, at_call}
 use Rattle.binary_follows.proofs.Bounded.{made_bounded, none_bounded}
-use Rattle.binary_follows.proofs.Parts.{MakesStep, RunLaws, follows_settled, nothing_shown, shown_made}
-
--- the laws of instructions
-pub record InstructionLaws : Type 0 where
-  pub answer : StoresAnswerThemselves
-  pub alike : ObservedStepsAreAlike
+use Rattle.binary_follows.proofs.Parts.{MakesStep, follows_settled, nothing_shown, shown_made}
+use Rattle.binary_follows.specs.Below.{RunLaws, InstructionLaws}
 
 repeated_there : {X : Type 0} (count i : ℕ) (x : X) → i < count → slice_get (replicate count x) i ≡ Some x
 repeated_there zero i x below = absurd (omega (arith, below))
@@ -159,6 +155,37 @@ module _ (laws : RunLaws) (instructions : InstructionLaws) (m : Module) (plan : 
     abbrev callee : FuncType
     callee = call.arguments.ty
 
+    -- the function is entered with this body
+    makes_call : (d : Option Definition) → signature code func ≡ Some callee → definition code func ≡ d
+        → after_instruction (watched m code).program here.config frame own
+        (execute code (with_own (counters counts) store) frame)
+        ≡ after_entries call_entries
+        (enter_defined (Some callee) d (with_own (counters counts) store) [] func args (InModule waiting ∷ own))
+    makes_call d has_type defined =
+        ap (after_instruction (watched m code).program here.config frame own) e
+        ∙ ap (λ b. after_entries (step_entry operands results found ∷ [])
+        (call_function (watched m code).program b (with_own (counters counts) store) [] func args
+        (InModule waiting ∷ own))) (never_imported func)
+        ∙ ap (λ o. after_entries call_entries
+        (enter_defined o (definition code func) (with_own (counters counts) store) [] func args
+        (InModule waiting ∷ own))) has_type
+        ∙ ap (λ o. after_entries call_entries
+        (enter_defined (Some callee) o (with_own (counters counts) store) [] func args (InModule waiting ∷ own))) defined
+
+    -- what is shown of the call, by where the function stands
+    shows_call : (callee_side : Side) → side (layout_of m) func ≡ callee_side
+        → shown_step (side (layout_of m) frame.func) (step_entry operands results found)
+        ++ (shown_call (side (layout_of m) frame.func) (side (layout_of m) func) func (call_args operands found) ++ [])
+        ≡ step_entry operands results found ∷ (shown_call Original callee_side func (call_args operands found) ++ [])
+    shows_call callee_side is_side =
+        ap (λ (d : Side). shown_step d (step_entry operands results found)
+        ++ (shown_call (side (layout_of m) frame.func) (side (layout_of m) func) func
+        (call_args operands found) ++ [])) own_side
+        ∙ ap (λ d. step_entry operands results found ∷
+        (shown_call d (side (layout_of m) func) func (call_args operands found) ++ [])) own_side
+        ∙ ap (λ d. step_entry operands results found ∷
+        (shown_call Original d func (call_args operands found) ++ [])) is_side
+
     enters : (stays : imported_funcs m ≤ func) (d : Option Definition) (own_result : SettleResult)
         → definition (code_of m) func ≡ d
         → enter_defined (Some callee) d (with_own (counters counts) store) [] func args (InModule waiting ∷ own)
@@ -170,27 +197,11 @@ module _ (laws : RunLaws) (instructions : InstructionLaws) (m : Module) (plan : 
         record {
           stands = refl;
           makes =
-              ap (after_instruction (watched m code).program here.config frame own) e
-              ∙ ap (λ b. after_entries (step_entry operands results found ∷ [])
-              (call_function (watched m code).program b (with_own (counters counts) store) [] func args
-              (InModule waiting ∷ own))) (never_imported func)
-              ∙ ap (λ o. after_entries call_entries
-              (enter_defined o (definition code func) (with_own (counters counts) store) [] func args
-              (InModule waiting ∷ own))) (is.shares.signatures func callee call.arguments.has_type)
-              ∙ ap (λ o. after_entries call_entries
-              (enter_defined (Some callee) o (with_own (counters counts) store) [] func args
-              (InModule waiting ∷ own)))
+              makes_call d (is.shares.signatures func callee call.arguments.has_type)
               (is.originals func stays (below_start m func callee call.arguments.has_type) ∙ defined)
               ∙ ap (after_entries call_entries) entered;
           shows = λ given.
-              ap (λ (d : Side). shown_step d (step_entry operands results found)
-              ++ (shown_call (side (layout_of m) frame.func) (side (layout_of m) func) func
-              (call_args operands found) ++ [])) own_side
-              ∙ ap (λ d. step_entry operands results found ∷
-              (shown_call d (side (layout_of m) func) func (call_args operands found) ++ [])) own_side
-              ∙ ap (λ d. step_entry operands results found ∷
-              (shown_call Original d func (call_args operands found) ++ []))
-              (original_side m func stays (below_start m func callee call.arguments.has_type));
+              shows_call Original (original_side m func stays (below_start m func callee call.arguments.has_type));
           control = ap (λ f. func ∷ f ∷ inside) (sym same.func);
           known = inr own_side;
           quiet = λ outside. absurd (never_outside m frame.func own_side outside);
@@ -283,25 +294,9 @@ module _ (laws : RunLaws) (instructions : InstructionLaws) (m : Module) (plan : 
               (laws.leads (watched m code) here frame own call_entries shown end
               (record {
                 stands = refl;
-                makes =
-                    ap (after_instruction (watched m code).program here.config frame own) e
-                    ∙ ap (λ b. after_entries (step_entry operands results found ∷ [])
-                    (call_function (watched m code).program b (with_own (counters counts) store) [] func args
-                    (InModule waiting ∷ own))) (never_imported func)
-                    ∙ ap (λ o. after_entries call_entries
-                    (enter_defined o (definition code func) (with_own (counters counts) store) [] func args
-                    (InModule waiting ∷ own))) body.has_type
-                    ∙ ap (λ o. after_entries call_entries
-                    (enter_defined (Some callee) o (with_own (counters counts) store) [] func args
-                    (InModule waiting ∷ own))) body.is;
+                makes = makes_call _ body.has_type body.is;
                 shows = λ given.
-                    ap (λ (d : Side). shown_step d (step_entry operands results found)
-                    ++ (shown_call (side (layout_of m) frame.func) (side (layout_of m) func) func
-                    (call_args operands found) ++ [])) own_side
-                    ∙ ap (λ d. step_entry operands results found ∷
-                    (shown_call d (side (layout_of m) func) func (call_args operands found) ++ [])) own_side
-                    ∙ ap (λ d. step_entry operands results found ∷
-                    (shown_call Original d func (call_args operands found) ++ [])) (import_side m func below)
+                    shows_call Import (import_side m func below)
                     ∙ ap (λ l. step_entry operands results found ∷ ImportCall func l ∷ []) (sym call.given);
                 control = ap (λ f. func ∷ f ∷ inside) (sym same.func);
               })).1 own_side;
@@ -330,26 +325,16 @@ module _ (laws : RunLaws) (instructions : InstructionLaws) (m : Module) (plan : 
         (Did operands results found (Calls waiting func args))))
     calls_follow = go (nat_lt func (imported_funcs m)) refl
       where
-        go : (b : Bool) → nat_lt func (imported_funcs m) ≡ b
-            → Follows m plan code (Unit {0}) (Within m plan segments) here
+        FollowsCall : Bool → Type 0
+        FollowsCall imported =
+            Follows m plan code (Unit {0}) (Within m plan segments) here
             (after_step segments came
             (after_entries (step_entry operands results found ∷ [])
-            (call_function (program_awaiting (code_of m)) (nat_lt func (imported_funcs m)) store counts func args
-            (InModule waiting ∷ stack))))
-        go true b =
-            subst
-            (λ b. Follows m plan code (Unit {0}) (Within m plan segments) here
-            (after_step segments came
-            (after_entries (step_entry operands results found ∷ [])
-            (call_function (program_awaiting (code_of m)) b store counts func args (InModule waiting ∷ stack)))))
-            (sym b) (calls_import (grind (arith, nat_tests, b)))
-        go false b =
-            subst
-            (λ b. Follows m plan code (Unit {0}) (Within m plan segments) here
-            (after_step segments came
-            (after_entries (step_entry operands results found ∷ [])
-            (call_function (program_awaiting (code_of m)) b store counts func args (InModule waiting ∷ stack)))))
-            (sym b) (calls_own (grind (arith, nat_tests, b)))
+            (call_function (program_awaiting (code_of m)) imported store counts func args (InModule waiting ∷ stack))))
+
+        go : (b : Bool) → nat_lt func (imported_funcs m) ≡ b → FollowsCall (nat_lt func (imported_funcs m))
+        go true b = subst FollowsCall (sym b) (calls_import (grind (arith, nat_tests, b)))
+        go false b = subst FollowsCall (sym b) (calls_own (grind (arith, nat_tests, b)))
 
   -- ---- a trap
 

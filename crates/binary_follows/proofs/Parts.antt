@@ -16,7 +16,7 @@ use Rattle.history_spec.specs.Store.{Store}
 use Rattle.history_spec.specs.Configuration.{Frame, Activation, InModule, InMain, InImport}
 use Rattle.history_spec.specs.Instruction.{execute}
 use Rattle.history_spec.specs.Settle.{SettleEnd, Continues, Finishes, NoRule as NoneHolds, SettleResult}
-use Rattle.history_spec.specs.Step.{Running, Stuck, step_result, after_entries, after_settling, progress_of, step}
+use Rattle.history_spec.specs.Step.{Stuck, step_result, after_entries, after_settling, progress_of, step}
 use Rattle.history_spec.specs.Projection.{Original, side, shown_entries}
 use Rattle.replay_plan.specs.declared.plans.Plan.{Plan}
 use Rattle.replay_plan.specs.Plans.{left_of}
@@ -24,14 +24,11 @@ use Rattle.replay_spec.specs.TapeRun.{TapeConfig, TapeProgress, tape_progress, P
 use Rattle.outside_spec.specs.Inside.{inside_after, inside_after_all, args_after_all}
 use Rattle.outside_spec.specs.Items.{Item, Makes, Changes, changes_of, is_block, Steps, entries_in}
 use Rattle.outside_spec.specs.Stretches.{Stretches, at_entry, stretches_from}
-use Rattle.outside_spec.specs.Laws.{ProjectionsRunAlong}
 use Rattle.generated_steps.specs.Leads.{Place, Leads, IsOutside}
+use Rattle.generated_steps.proofs.Along.{entries_over}
 use Rattle.single_steps.specs.Ends.{Shows}
 use Rattle.single_steps.specs.Single.{IsSingle, outside_step}
-use Rattle.generated_steps.specs.Laws.{LeadsRunAlong}
-use Rattle.single_steps.specs.Laws.{LeadsEnd, LeadsShow, StepsLead, StepsEnd, StepsShow}
 use Rattle.generated_effects.specs.Counts.{changes_in}
-use Rattle.generated_effects.proofs.Items.{entries_of_both}
 use Rattle.module_merge.specs.Merge.{layout_of}
 use Rattle.binary_follows.specs.Laws.{AreEffectsOfFirst}
 use Rattle.replay_codes.specs.Stores.{counters, with_own}
@@ -39,16 +36,7 @@ use Rattle.binary_follows.proofs.Relation.{own_place, watched}
 use Rattle.binary_follows.proofs.Settled.{ArePlaced, AreReturned, AreSettled, Settles, IsTurn, at_entries}
 use Rattle.binary_follows.proofs.Together.{AreFit, IsHostOn, AreTogether, InOriginal, AtReturn, IsPlayed, IsMoved, HasShown, Follows, FollowsTo, tape_config, Claim, claim_at, AreBounded, AreWithin, AtHost, MakesFirst, Within, WithinBy}
 use Rattle.binary_follows.proofs.Bounded.{AreWithinCalls}
-
--- the laws of steps and of what is shown
-pub record RunLaws : Type 0 where
-  pub projections : ProjectionsRunAlong
-  pub along : LeadsRunAlong
-  pub end_after : LeadsEnd
-  pub show_after : LeadsShow
-  pub leads : StepsLead
-  pub ends : StepsEnd
-  pub shows : StepsShow
+use Rattle.binary_follows.specs.Below.{RunLaws}
 
 -- ---- lists of entries
 
@@ -119,7 +107,7 @@ module _ (laws : RunLaws) (m : Module) (plan : Plan) (code : Code) where
         next = f.next;
         items = items ++ f.items;
         leads = laws.along (watched m code) a b f.next items f.items ab f.leads;
-        shown = entries_of_both items f.items ∙ ap (λ l. l ++ entries_in f.items) silent ∙ f.shown;
+        shown = entries_over items f.items ∙ ap (λ l. l ++ entries_in f.items) silent ∙ f.shown;
         together = f.together;
         claimed = λ pr rest c.
             subst before.effects (sym (append_assoc items f.items rest))
@@ -131,7 +119,7 @@ module _ (laws : RunLaws) (m : Module) (plan : Plan) (code : Code) where
       record {
         items = items ++ f.items;
         ends = laws.end_after (watched m code) a b items f.items outcome ab f.ends;
-        shown = entries_of_both items f.items ∙ ap (λ l. l ++ entries_in f.items) silent ∙ f.shown;
+        shown = entries_over items f.items ∙ ap (λ l. l ++ entries_in f.items) silent ∙ f.shown;
         claimed = λ pr. claimed pr f.items (f.claimed pr);
         bounded = bounded f.items f.bounded;
       }
@@ -139,13 +127,13 @@ module _ (laws : RunLaws) (m : Module) (plan : Plan) (code : Code) where
       record {
         items = items ++ f.items;
         shows = laws.show_after (watched m code) a b items f.items ab f.shows;
-        shown = entries_of_both items f.items ∙ ap (λ l. l ++ entries_in f.items) silent ∙ f.shown;
+        shown = entries_over items f.items ∙ ap (λ l. l ++ entries_in f.items) silent ∙ f.shown;
       }
   follows_after premise claim before a b items ab silent claimed bounded entries NoRule f =
       record {
         items = items ++ f.items;
         shows = laws.show_after (watched m code) a b items f.items ab f.shows;
-        shown = entries_of_both items f.items ∙ ap (λ l. l ++ entries_in f.items) silent ∙ f.shown;
+        shown = entries_over items f.items ∙ ap (λ l. l ++ entries_in f.items) silent ∙ f.shown;
       }
 
   -- nothing is to be shown
@@ -246,15 +234,11 @@ module _ (laws : RunLaws) (m : Module) (plan : Plan) (code : Code) where
         subst (AreWithin segments) (sym (at_both first tape.entries s ∙ ap (at_entries first) (turn s)))
         (kept.0, subst (AreEffectsOfFirst segments) (sym kept.1) c)
 
-    -- it goes on
-    moved : (own_stack : List Activation) → own.next ≡ Continues own_stack
-        → (t : TapeConfig)
-        → AreTogether m plan code t (own_place store counts own_stack (inside_after_all inside own.entries))
-        → Closes t → ClosesBound t → IsMoved m plan code premise (WithinBy m plan extra begun segments) p entries t
-    moved own_stack is t together closes closes_bound =
-        let end : Place = own_place store counts own_stack (inside_after_all inside own.entries) in
-        let single : IsSingle (watched m code) p frame below (own_first ++ own.entries) entries
-        (Running end.config) end.inside =
+    -- the step is a single one of the replay module, by how the run goes on
+    single : (next : SettleEnd) → own.next ≡ next
+        → IsSingle (watched m code) p frame below (own_first ++ own.entries) entries
+        (progress_of (with_own (counters counts) store) [] next) (inside_after_all inside own.entries)
+    single next is =
         record {
           stands = made.stands;
           makes =
@@ -263,8 +247,18 @@ module _ (laws : RunLaws) (m : Module) (plan : Plan) (code : Code) where
               (progress_of (with_own (counters counts) store) [] n)) is;
           shows = shows_all;
           control = control_all;
-        } in
-        let lead = laws.leads (watched m code) p frame below (own_first ++ own.entries) entries end single in
+        }
+
+    -- it goes on
+    moved : (own_stack : List Activation) → own.next ≡ Continues own_stack
+        → (t : TapeConfig)
+        → AreTogether m plan code t (own_place store counts own_stack (inside_after_all inside own.entries))
+        → Closes t → ClosesBound t → IsMoved m plan code premise (WithinBy m plan extra begun segments) p entries t
+    moved own_stack is t together closes closes_bound =
+        let end : Place = own_place store counts own_stack (inside_after_all inside own.entries) in
+        let lead =
+        laws.leads (watched m code) p frame below (own_first ++ own.entries) entries end
+        (single (Continues own_stack) is) in
         go end lead made.known made.bounded together
       where
         go : (end : Place)
@@ -307,16 +301,7 @@ module _ (laws : RunLaws) (m : Module) (plan : Plan) (code : Code) where
     stuck is =
         let shows =
         laws.shows (watched m code) p frame below (own_first ++ own.entries) entries Stuck
-        (inside_after_all inside own.entries)
-        (record {
-          stands = made.stands;
-          makes =
-              made.makes
-              ∙ ap (λ n. step_result (own_first ++ own.entries)
-              (progress_of (with_own (counters counts) store) [] n)) is;
-          shows = shows_all;
-          control = control_all;
-        }) in
+        (inside_after_all inside own.entries) (single NoneHolds is) in
         go shows made.known
       where
         go : (IsOutside (layout_of m) frame.func

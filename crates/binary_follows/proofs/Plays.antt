@@ -19,7 +19,7 @@ use Rattle.history_spec.specs.Store.{Store}
 use Rattle.history_spec.specs.Configuration.{place, Config, Label, Frame, Activation, InModule, point, at_point}
 use Rattle.history_spec.specs.Instruction.{Operands, on, takes, calls, execute}
 use Rattle.history_spec.specs.Settle.{NoRule as NoneHolds, SettleResult, settle_result, deliver}
-use Rattle.history_spec.specs.Step.{after_entries, after_instruction, after_settling, call_function, enter_defined, frame_of}
+use Rattle.history_spec.specs.Step.{after_entries, after_instruction, after_settling, call_function, enter_defined, frame_of, enter_function, StepResult}
 use Rattle.history_spec.specs.Projection.{Side, Original, Appended, side, shown_call, shown_step}
 use Rattle.replay_plan.specs.declared.plans.Plan.{Plan}
 use Rattle.replay_plan.specs.Plans.{innermost, left_of}
@@ -39,7 +39,8 @@ use Rattle.binary_follows.proofs.Answered.{unchanged_by}
 use Rattle.binary_follows.proofs.Codes.{does_consts, pops_pushed}
 use Rattle.binary_follows.proofs.Together.{WithinBy, IsPlayed, Follows}
 use Rattle.binary_follows.proofs.Bounded.{bounded_before, made_bounded}
-use Rattle.binary_follows.proofs.Parts.{MakesStep, RunLaws, follows_settled}
+use Rattle.binary_follows.proofs.Parts.{MakesStep, follows_settled}
+use Rattle.binary_follows.specs.Below.{RunLaws}
 
 module _ (laws : RunLaws) (m : Module) (plan : Plan) (code : Code) (is : IsReplayCode m plan code)
     (store : Store) (counts : List ℕ) where
@@ -162,15 +163,23 @@ module _ (laws : RunLaws) (m : Module) (plan : Plan) (code : Code) (is : IsRepla
         (after_next (code_of m) store counts stack segments came (Calls func args))
     calls_original labels number = go (definition (code_of m) func) refl
       where
-        go : (d : Option Definition) → definition (code_of m) func ≡ d
-            → Follows m plan code premise (WithinBy m plan 2 begun segments) (call_place labels number)
-            (after_next (code_of m) store counts stack segments came (Calls func args))
-        go None e =
-            subst
-            (λ r. Follows m plan code premise (WithinBy m plan 2 begun segments) (call_place labels number)
-            (after_step segments came (after_entries (HostCall func args ∷ []) r)))
+        Called : StepResult → Type 0
+        Called r =
+            Follows m plan code premise (WithinBy m plan 2 begun segments) (call_place labels number)
+            (after_step segments came (after_entries (HostCall func args ∷ []) r))
+
+        to : (d : Option Definition) → definition (code_of m) func ≡ d
+            → Called (enter_defined (Some ty) d store counts func args stack)
+            → Called (enter_function (code_of m) store counts func args stack)
+        to d e =
+            subst Called
             (sym (ap (λ o. enter_defined o (definition (code_of m) func) store counts func args stack) typed
             ∙ ap (λ o. enter_defined (Some ty) o store counts func args stack) e))
+
+        go : (d : Option Definition) → definition (code_of m) func ≡ d
+            → Called (enter_function (code_of m) store counts func args stack)
+        go None e =
+            to None e
             (follows_settled laws m plan code (call_place labels number) _ below store counts
             (func ∷ base.func ∷ inside)
             (HostCall func args ∷ []) (first_entries number) (settle_result [] NoneHolds) (settle_result [] NoneHolds)
@@ -185,11 +194,7 @@ module _ (laws : RunLaws) (m : Module) (plan : Plan) (code : Code) (is : IsRepla
             }) played)
         go (Some d) e =
             let entered = frame_of func ty d args in
-            subst
-            (λ r. Follows m plan code premise (WithinBy m plan 2 begun segments) (call_place labels number)
-            (after_step segments came (after_entries (HostCall func args ∷ []) r)))
-            (sym (ap (λ o. enter_defined o (definition (code_of m) func) store counts func args stack) typed
-            ∙ ap (λ o. enter_defined (Some ty) o store counts func args stack) e))
+            to (Some d) e
             (follows_settled laws m plan code (call_place labels number) _ below store counts
             (func ∷ base.func ∷ inside)
             (HostCall func args ∷ []) (first_entries number) (deliver (InModule entered ∷ stack) [])

@@ -22,7 +22,7 @@ use Rattle.trace_model.specs.declared.tapes.Segment.{Segment}
 use Rattle.history_spec.specs.declared.entries.Entry.TheVariants.{HostCall}
 use Rattle.history_spec.specs.Code.{Code, code_of, definition, signature, types_of}
 use Rattle.history_spec.specs.Store.{Store}
-use Rattle.history_spec.specs.Configuration.{place, Frame, Activation, InModule, InMain, InImport}
+use Rattle.history_spec.specs.Configuration.{place, Frame, Activation, InModule, InMain, InImport, Label}
 use Rattle.history_spec.specs.Settle.{deliver}
 use Rattle.history_spec.specs.Step.{Running, StepResult, step_result, after_entries, after_settling, enter_defined, frame_of, step}
 use Rattle.history_spec.specs.Projection.{Appended, side, shown_call}
@@ -35,13 +35,13 @@ use Rattle.replay_gen.specs.Fragments.{start_index}
 use Rattle.replay_spec.specs.TapeRun.{pause}
 use Rattle.outside_spec.specs.Items.{Makes, Steps, entries_in, shown_items}
 use Rattle.outside_spec.specs.Inside.{inside_after_all}
-use Rattle.generated_steps.specs.Leads.{Place, Leads, IsOutside, Behind, Standing, standing, items_from}
+use Rattle.generated_steps.specs.Leads.{Place, Leads, Behind, standing, items_from}
 use Rattle.generated_steps.proofs.One.{begins}
 use Rattle.generated_effects.proofs.Does.{sequence_over}
 use Rattle.module_merge.specs.Merge.{layout_of}
 use Rattle.replay_codes.specs.Stores.{with_own, counters}
 use Rattle.replay_codes.specs.Codes.{IsReplayCode}
-use Rattle.binary_follows.proofs.Relation.{AreBeside, Works, Runs, Answers, AreLeft, own_place, waiting_frame, returning_frame, watched, with_values}
+use Rattle.binary_follows.proofs.Relation.{AreBeside, Works, Runs, Answers, AreLeft, own_place, waiting_frame, returning_frame, watched, with_values, host_standing}
 use Rattle.binary_follows.proofs.Sides.{appended_side}
 use Rattle.binary_follows.proofs.Sound.{IsSound}
 use Rattle.binary_follows.proofs.Settled.{AreReturned, delivered, segments_going}
@@ -50,8 +50,9 @@ use Rattle.binary_follows.proofs.Counted.{counted}
 use Rattle.binary_follows.proofs.Bounded.{most_before, steps_counted}
 use Rattle.binary_follows.proofs.CallsLeft.{set_is, set_other}
 use Rattle.binary_follows.proofs.Groups.{segments_some}
-use Rattle.binary_follows.proofs.Answered.{IsReached, StepLaws, answers_call, same_steps}
+use Rattle.binary_follows.proofs.Answered.{IsReached, answers_call, same_steps}
 use Rattle.binary_follows.proofs.Together.{IsHostOn, at_call}
+use Rattle.binary_follows.specs.Below.{StepLaws}
 
 -- a segment that is next, with what its activation plays after it
 pub begun_parts : (segment : Segment) (next : Next) (begun : List (List Segment))
@@ -130,63 +131,23 @@ module _ (laws : StepLaws) (m : Module) (plan : Plan) (code : Code) (is : IsRepl
       (most_before plan Back)) (sym r.is)
       (go r.awaited r.waiting stack inside r.as_many r.few r.beside on)
     where
-      go : (awaited : List ValType) (waiting stack : List Activation) (inside : List ℕ)
-          → length r.results ≡ length awaited → length awaited ≤ 1 → AreBeside m awaited stack begun waiting inside
-          → IsHostOn stack
+      -- the host's part drops them, above these activations
+      dropped : (awaited : List ValType) → length r.results ≡ length awaited → length awaited ≤ 1 → (base : Frame)
+          (labels : List Label) (number : ℕ) (others : List Activation) (inside : List ℕ)
+          → side (layout_of m) base.func ≡ Appended → (stack : List Activation)
+          → ((at : ℕ) → AreBeside m [] stack begun
+          (InModule (waiting_frame m [] (innermost begun) base labels at) ∷ others) (base.func ∷ inside))
           → IsReached m code
-          (own_place store counts (with_values (reverse r.results) waiting) inside) store counts stack
-          begun (most_before plan Back)
-      go awaited _ _ _ many one (Works base labels number func arity) host =
-          let s : Standing = record {
-            frame = base;
-            below = InMain [] ∷ [];
-            counts = [];
-            inside = base.func ∷ [];
-          } in
-          let outside : IsOutside (layout_of m) base.func =
-          Behind (ap (side (layout_of m)) func ∙ appended_side m (start_index m) (omega arith)) in
+          (own_place store counts
+          (with_values (reverse r.results)
+          (InModule (waiting_frame m awaited (innermost begun) base labels number) ∷ others)) (base.func ∷ inside))
+          store counts stack begun (most_before plan Back)
+      dropped awaited many one base labels number others inside own_side stack beside =
+          let s = host_standing base others inside in
           let done =
-          does_drops (watched m code) s outside (with_own (counters counts) store) (reverse r.results) (length awaited)
-          (length-reverse r.results ∙ many) labels (sequence (segments_code m (innermost begun)) Empty) number
-          (nest_begins m (innermost begun)) in
-          let steps = same_steps (length awaited) false in
-          let counted = steps_counted (length awaited) in
-          let count = counted.0 in
-          let none = counted.1 in
-          record {
-            items = replicate (length awaited) (Steps false);
-            own = InModule (waiting_frame m [] (innermost begun) base labels done.at) ∷ InMain [] ∷ [];
-            inside = base.func ∷ [];
-            leads = subst
-                (λ nest. Leads (watched m code)
-                (standing s (with_own (counters counts) store) (reverse r.results) labels nest number)
-                (replicate (length awaited) (Steps false))
-                (standing s (with_own (counters counts) store) [] labels
-                (sequence (segments_code m (innermost begun)) Empty) done.at))
-                (sym (sequence_over (replicate (length awaited) Drop) (segments_code m (innermost begun)) Empty))
-                done.leads;
-            beside = Works base labels done.at func arity;
-            silent = steps.silent;
-            unchanged = steps.unchanged;
-            few = omega (arith, count, one);
-            few_blocks = omega (arith, none);
-          }
-      go awaited _ _ _ many one
-          (Answers stack own inside import args ty caller base behind labels behind_labels number behind_number typed
-          below past arity func behind_arity under) host =
-          let others : List Activation = InModule (returning_frame behind behind_labels behind_number) ∷ own in
-          let s : Standing = record {
-            frame = base;
-            below = others;
-            counts = [];
-            inside = base.func ∷ behind.func ∷ inside;
-          } in
-          let outside : IsOutside (layout_of m) base.func =
-          Behind (appended_side m base.func (omega (arith, past))) in
-          let done =
-          does_drops (watched m code) s outside (with_own (counters counts) store) (reverse r.results) (length awaited)
-          (length-reverse r.results ∙ many) labels (sequence (segments_code m (innermost begun)) Empty) number
-          (nest_begins m (innermost begun)) in
+          does_drops (watched m code) s (Behind own_side) (with_own (counters counts) store) (reverse r.results)
+          (length awaited) (length-reverse r.results ∙ many) labels
+          (sequence (segments_code m (innermost begun)) Empty) number (nest_begins m (innermost begun)) in
           let steps = same_steps (length awaited) false in
           let counted = steps_counted (length awaited) in
           let count = counted.0 in
@@ -194,7 +155,7 @@ module _ (laws : StepLaws) (m : Module) (plan : Plan) (code : Code) (is : IsRepl
           record {
             items = replicate (length awaited) (Steps false);
             own = InModule (waiting_frame m [] (innermost begun) base labels done.at) ∷ others;
-            inside = base.func ∷ behind.func ∷ inside;
+            inside = base.func ∷ inside;
             leads = subst
                 (λ nest. Leads (watched m code)
                 (standing s (with_own (counters counts) store) (reverse r.results) labels nest number)
@@ -203,14 +164,33 @@ module _ (laws : StepLaws) (m : Module) (plan : Plan) (code : Code) (is : IsRepl
                 (sequence (segments_code m (innermost begun)) Empty) done.at))
                 (sym (sequence_over (replicate (length awaited) Drop) (segments_code m (innermost begun)) Empty))
                 done.leads;
-            beside =
-                Answers stack own inside import args ty caller base behind labels behind_labels done.at behind_number
-                typed below past arity func behind_arity under;
+            beside = beside done.at;
             silent = steps.silent;
             unchanged = steps.unchanged;
             few = omega (arith, count, one);
             few_blocks = omega (arith, none);
           }
+
+      go : (awaited : List ValType) (waiting stack : List Activation) (inside : List ℕ)
+          → length r.results ≡ length awaited → length awaited ≤ 1 → AreBeside m awaited stack begun waiting inside
+          → IsHostOn stack
+          → IsReached m code
+          (own_place store counts (with_values (reverse r.results) waiting) inside) store counts stack
+          begun (most_before plan Back)
+      go awaited _ _ _ many one (Works base labels number func arity) host =
+          dropped awaited many one base labels number (InMain [] ∷ []) []
+          (ap (side (layout_of m)) func ∙ appended_side m (start_index m) (omega arith)) (InMain (pause ∷ []) ∷ [])
+          (λ at. Works base labels at func arity)
+      go awaited _ _ _ many one
+          (Answers stack own inside import args ty caller base behind labels behind_labels number behind_number typed
+          below past arity func behind_arity under) host =
+          dropped awaited many one base labels number
+          (InModule (returning_frame behind behind_labels behind_number) ∷ own) (behind.func ∷ inside)
+          (appended_side m base.func (omega (arith, past)))
+          (InImport import args (pause ∷ []) EndsInTrap ∷ InModule caller ∷ stack)
+          (λ at.
+          Answers stack own inside import args ty caller base behind labels behind_labels at behind_number typed below
+          past arity func behind_arity under)
       go awaited _ _ _ many one (Runs stack own inside frame ty typed arity past under) host = absurd host
 
   -- the exported function begins

@@ -18,7 +18,7 @@ use Rattle.replay_plan.specs.Plans.{innermost, around_innermost}
 use Rattle.replay_gen.specs.Dispatch.{sequence}
 use Rattle.replay_gen.specs.Segments.{segments_code}
 use Rattle.replay_gen.specs.Fragments.{start_index}
-use Rattle.generated_steps.specs.Leads.{Place, Watched}
+use Rattle.generated_steps.specs.Leads.{Place, Standing, Watched}
 use Rattle.module_merge.specs.Merge.{layout_of}
 use Rattle.replay_codes.specs.Stores.{counters, with_own}
 
@@ -82,6 +82,10 @@ AreLeft whole counts left =
     (import : ℕ) → drop (slice_index counts import) (slice_index_or whole import []) ≡ slice_index_or left import []
 
 -- a place of the replay module's run, which calls no import, beside a store of the original with so many calls made
+-- an activation of a function that plays the host, above others
+abbrev pub host_standing : Frame → (below : List Activation) → (inside : List ℕ) → Standing
+host_standing base below inside = record { frame = base; below = below; counts = []; inside = base.func ∷ inside }
+
 abbrev pub own_place : Store → (counts : List ℕ) → List Activation → (inside : List ℕ) → Place
 own_place store counts own inside =
     record {

@@ -21,8 +21,8 @@ use Rattle.replay_spec.specs.TapeRun.{pause, store_after_effects, TapeConfig, Ta
 use Rattle.outside_spec.specs.Items.{entries_in}
 use Rattle.outside_spec.specs.Stretches.{Stretches}
 use Rattle.generated_steps.specs.Leads.{Place}
-use Rattle.generated_effects.specs.Laws.{AllGrowSizes, EffectsAreMade}
-use Rattle.generated_effects.proofs.Items.{entries_of_both}
+use Rattle.generated_steps.proofs.Along.{entries_over}
+use Rattle.generated_effects.specs.Laws.{AllGrowSizes}
 use Rattle.host_script.specs.declared.scripts.Action.TheVariants.{Call}
 use Rattle.replay_gen.specs.Fragments.{start_index}
 use Rattle.binary_follows.specs.Laws.{AreEffectsOfFirst}
@@ -32,23 +32,17 @@ use Rattle.binary_follows.proofs.Relation.{own_place, AreBeside, Runs, AreLeft, 
 use Rattle.binary_follows.proofs.Sound.{IsSound}
 use Rattle.binary_follows.proofs.Settled.{AreReturned}
 use Rattle.binary_follows.proofs.Counted.{counted}
-use Rattle.binary_follows.proofs.Answered.{IsReached, StepLaws}
+use Rattle.binary_follows.proofs.Answered.{IsReached}
 use Rattle.binary_follows.proofs.Together.{Claim, claim_at, Playing, AtHost, tape_config, AreFit, AreTogether, InOriginal, AtBegin, AtReturn, AtCall, IsHostOn, HasShown, at_call, IsEnded, Follows, FollowsTo}
-use Rattle.binary_follows.proofs.Parts.{steps_stretches, RunLaws, follows_after, nothing_shown}
+use Rattle.binary_follows.proofs.Parts.{steps_stretches, follows_after, nothing_shown}
 use Rattle.binary_follows.proofs.Reached.{begun_parts, reached_back, reached_begin, reached_call}
 use Rattle.binary_follows.proofs.Settled.{HasOneResult}
 use Rattle.binary_follows.proofs.Bounded.{arrives, most_before}
 use Rattle.binary_follows.proofs.CallsLeft.{many_left, set_length}
 use Rattle.binary_follows.proofs.Fitting.{came_back, came_begin, came_call, first_fits}
 use Rattle.binary_follows.proofs.HostSteps.{host_follows}
-use Rattle.binary_follows.proofs.ModuleSteps.{InstructionLaws, module_follows}
-
--- all laws
-pub record FollowLaws : Type 0 where
-  pub run : RunLaws
-  pub steps : StepLaws
-  pub instructions : InstructionLaws
-  pub effects : EffectsAreMade
+use Rattle.binary_follows.proofs.ModuleSteps.{module_follows}
+use Rattle.binary_follows.specs.Below.{FollowLaws}
 
 -- the premise of the host's next segment
 abbrev AsHost : Store → List Segment → Type 0
@@ -265,7 +259,7 @@ module _ (laws : FollowLaws) (m : Module) (plan : Plan) (code : Code) (is : IsRe
                 items = f.items ++ r.shown.items;
                 shows = laws.run.show_after (watched m code) p f.next f.items r.shown.items f.leads r.shown.shows;
                 shown =
-                    entries_of_both f.items r.shown.items
+                    entries_over f.items r.shown.items
                     ∙ ap (λ l. l ++ entries_in r.shown.items) f.shown
                     ∙ ap (λ l. entries ++ l) r.shown.shown;
               };
@@ -275,7 +269,7 @@ module _ (laws : FollowLaws) (m : Module) (plan : Plan) (code : Code) (is : IsRe
                 items = f.items ++ o.items;
                 ends = laws.run.end_after (watched m code) p f.next f.items o.items outcome f.leads o.ends;
                 shown =
-                    entries_of_both f.items o.items
+                    entries_over f.items o.items
                     ∙ ap (λ l. l ++ entries_in o.items) f.shown ∙ ap (λ l. entries ++ l) o.shown;
                 claimed = λ pr. f.claimed (begins pr) o.items (o.claimed (onward t refl pr));
                 bounded = f.bounded o.items o.bounded;

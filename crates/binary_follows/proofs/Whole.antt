@@ -37,7 +37,6 @@ use Rattle.outside_spec.specs.Stretches.{stretches}
 use Rattle.outside_spec.specs.Laws.{ItemsHoldHistories, ItemsShowProjections}
 use Rattle.outside_spec.specs.Steps.{AreWithinBound, call_steps}
 use Rattle.generated_steps.specs.Leads.{Place, items_from}
-use Rattle.type_safety.specs.Laws.{NewStoresAreTyped}
 use Rattle.type_safety.specs.Stores.{IsStore, MayBeMemory, func_count, global_types}
 use Rattle.type_safety.specs.Values.{AreValues}
 use Rattle.module_merge.specs.Merge.{layout_of}
@@ -51,9 +50,10 @@ use Rattle.binary_follows.proofs.Bounded.{next_weighs}
 use Rattle.binary_follows.proofs.Settled.{HasOneResult}
 use Rattle.list_laws.proofs.Lists.{all_at}
 use Rattle.list_laws.proofs.Options.{and_then_some}
-use Rattle.replay_codes.specs.Laws.{ReplayModulesBegin, ReplayModulesHaveCode}
+use Rattle.replay_codes.specs.Laws.{ReplayModulesBegin}
 use Rattle.generated_steps.proofs.Along.{items_over}
-use Rattle.binary_follows.proofs.Simulation.{FollowLaws, PlaysOut, run_follows}
+use Rattle.binary_follows.proofs.Simulation.{PlaysOut, run_follows}
+use Rattle.binary_follows.specs.Below.{FollowLaws, StartLaws, LawsOfReplays}
 
 -- ---- how many calls there are
 
@@ -152,12 +152,6 @@ one_result : (m : Module) → IsValid m → HasOneResult m
 one_result m valid func ty typed =
     let index = and_then_some (slice_get (func_indices m) func) (λ t. slice_get m.types t) ty typed in
     (all_at IsFuncType m.types index.0 ty valid.outside.types index.2).one_result
-
--- the laws of stores and of code that a run begins with
-pub record StartLaws : Type 0 where
-  pub typed : NewStoresAreTyped
-  pub code : ReplayModulesHaveCode
-  pub begins : ReplayModulesBegin
 
 module _ (laws : FollowLaws) (start : StartLaws) (m : Module) (supply : Supply) (store : Store) (tape : Tape)
     (can : IsPlayable m supply store tape) where
@@ -345,36 +339,37 @@ replays_begin begins m supply store tape can = (
       (begins m supply (plan_of (imported_funcs m) tape) store can.supplied can.begins),
 )
 
-pub replays_show : FollowLaws → StartLaws → ItemsHoldHistories → ItemsShowProjections → ReplaysShowHistories
-replays_show laws start hold show m supply store tape initial k can begins =
-    let same : first_result laws start m supply store tape can ≡ initial =
-    (let e : Ok (first_result laws start m supply store tape can) ≡ Ok initial =
-    sym (starts laws start m supply store tape can) ∙ begins in cc) in
-    subst (λ s. ShowsHistory m (replay_of m supply tape) s (tape_run (code_of m) store tape.segments k).entries) same
-    (history_shown laws start m supply store tape can hold show k)
+-- the start of the run is the one that is known of it
+first_is : (laws : LawsOfReplays) (m : Module) (supply : Supply) (store : Store) (tape : Tape) (initial : StepResult)
+    (can : IsPlayable m supply store tape) → run_start_alone (replay_of m supply tape) (start_index m) ≡ Ok initial
+    → first_result laws.follow laws.start m supply store tape can ≡ initial
+first_is laws m supply store tape initial can begins =
+    let e : Ok (first_result laws.follow laws.start m supply store tape can) ≡ Ok initial =
+    sym (starts laws.follow laws.start m supply store tape can) ∙ begins in cc
 
-pub replays_show_outcomes : FollowLaws → StartLaws → ItemsHoldHistories → ItemsShowProjections
-    → ReplaysShowOutcomes
-replays_show_outcomes laws start hold show m supply store tape k outcome can over =
-    outcome_shown laws start m supply store tape can hold show k outcome over
+pub replays_show : LawsOfReplays → ReplaysShowHistories
+replays_show laws m supply store tape initial k can begins =
+    subst (λ s. ShowsHistory m (replay_of m supply tape) s (tape_run (code_of m) store tape.segments k).entries)
+    (first_is laws m supply store tape initial can begins)
+    (history_shown laws.follow laws.start m supply store tape can laws.held laws.shown k)
 
-pub replays_make : FollowLaws → StartLaws → ItemsHoldHistories → ItemsShowProjections → ReplaysMakeEffects
-replays_make laws start hold show m supply store tape initial count can grows both =
-    let same : first_result laws start m supply store tape can ≡ initial =
-    (let e : Ok (first_result laws start m supply store tape can) ≡ Ok initial =
-    sym (starts laws start m supply store tape can) ∙ both.starts in cc) in
+pub replays_show_outcomes : LawsOfReplays → ReplaysShowOutcomes
+replays_show_outcomes laws m supply store tape k outcome can over =
+    outcome_shown laws.follow laws.start m supply store tape can laws.held laws.shown k outcome over
+
+pub replays_make : LawsOfReplays → ReplaysMakeEffects
+replays_make laws m supply store tape initial count can grows both =
     subst
     (λ s. AreBothOver m supply store tape s count
-    → AreEffectsOfFirst tape.segments (stretches (shown_run m (replay_of m supply tape) s count))) same
-    (effects_made laws start m supply store tape can hold show grows count) both
+    → AreEffectsOfFirst tape.segments (stretches (shown_run m (replay_of m supply tape) s count)))
+    (first_is laws m supply store tape initial can both.starts)
+    (effects_made laws.follow laws.start m supply store tape can laws.held laws.shown grows count) both
 
-pub replays_within : FollowLaws → StartLaws → ItemsHoldHistories → ItemsShowProjections → ReplaysAreWithinBound
-replays_within laws start hold show m supply store tape initial count can both =
-    let same : first_result laws start m supply store tape can ≡ initial =
-    (let e : Ok (first_result laws start m supply store tape can) ≡ Ok initial =
-    sym (starts laws start m supply store tape can) ∙ both.starts in cc) in
+pub replays_within : LawsOfReplays → ReplaysAreWithinBound
+replays_within laws m supply store tape initial count can both =
     subst
     (λ s. AreBothOver m supply store tape s count
     → AreWithinBound (plan_of (imported_funcs m) tape).imports
-    (call_steps (imported_funcs m) (shown_run m (replay_of m supply tape) s count))) same
-    (steps_within laws start m supply store tape can hold show count) both
+    (call_steps (imported_funcs m) (shown_run m (replay_of m supply tape) s count)))
+    (first_is laws m supply store tape initial can both.starts)
+    (steps_within laws.follow laws.start m supply store tape can laws.held laws.shown count) both

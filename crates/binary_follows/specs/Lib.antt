@@ -1,2 +1,3 @@
 pub mod Playable
+pub mod Below
 pub mod Laws

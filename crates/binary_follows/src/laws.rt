@@ -1,5 +1,6 @@
 // The laws of replay modules.
 
+ghost use Rattle.binary_follows.specs.Below.{LawsOfReplays};
 ghost use Rattle.binary_follows.specs.Laws.{ReplaysAreWithinBound, ReplaysBegin, ReplaysMakeEffects, ReplaysShowHistories, ReplaysShowOutcomes};
 
 use generated_effects::effects_are_made;
@@ -9,6 +10,23 @@ use outside_spec::{items_show_projections, projections_run_along};
 use replay_codes::replay_modules_have_code;
 use single_steps::{leads_go_on, steps_lead_on};
 use type_safety::typed_store;
+
+/// The laws of the crates below on steps, effects and starts that the laws of replay modules stand on.
+fn laws_of_replays()
+    ensures { LawsOfReplays }
+{
+    dispatches_reach_arms();
+    effects_are_made();
+    items_show_projections();
+    leads_go_on();
+    leads_run_along();
+    observed_steps();
+    own_answers();
+    projections_run_along();
+    replay_modules_have_code();
+    steps_lead_on();
+    typed_store();
+}
 
 /// The replay module of a tape that fits is instantiated without a fault.
 pub fn replays_begin()
@@ -26,17 +44,7 @@ pub fn replays_show_runs()
     ensures outcomes { ReplaysShowOutcomes }
     ensures effects { ReplaysMakeEffects }
 {
-    dispatches_reach_arms();
-    effects_are_made();
-    items_show_projections();
-    leads_go_on();
-    leads_run_along();
-    observed_steps();
-    own_answers();
-    projections_run_along();
-    replay_modules_have_code();
-    steps_lead_on();
-    typed_store();
+    laws_of_replays();
 }
 
 /// Where both runs are over, the functions in the place of an import and of its groups have made in each call of that
@@ -45,15 +53,5 @@ pub fn replays_show_runs()
 pub fn replays_are_within_bound()
     ensures { ReplaysAreWithinBound }
 {
-    dispatches_reach_arms();
-    effects_are_made();
-    items_show_projections();
-    leads_go_on();
-    leads_run_along();
-    observed_steps();
-    own_answers();
-    projections_run_along();
-    replay_modules_have_code();
-    steps_lead_on();
-    typed_store();
+    laws_of_replays();
 }

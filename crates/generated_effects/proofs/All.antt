@@ -13,10 +13,11 @@ use Rattle.replay_gen.specs.Segments.{effects_code}
 use Rattle.outside_spec.specs.Items.{Item, entries_in}
 use Rattle.outside_spec.specs.Stretches.{AreSameChanges}
 use Rattle.generated_steps.specs.Leads.{Watched, IsOutside, Standing}
+use Rattle.generated_steps.proofs.Along.{entries_over}
 use Rattle.generated_effects.specs.Counts.{changes_in, steps_in}
 use Rattle.generated_effects.specs.Laws.{AreWritable, AllGrowSizes, EffectsAreMade}
 use Rattle.generated_effects.proofs.Does.{Does, does_nothing, does_both}
-use Rattle.generated_effects.proofs.Items.{entries_of_both, changes_of_both, steps_of_both, blocks_of_both}
+use Rattle.generated_effects.proofs.Items.{changes_of_both, steps_of_both, blocks_of_both}
 use Rattle.generated_effects.proofs.Same.{same_both, same_is}
 use Rattle.generated_effects.proofs.Each.{effect_made}
 
@@ -54,7 +55,7 @@ module _ (w : Watched) (s : Standing) (outside : IsOutside w.layout s.frame.func
             does_both w s store next after [] [] [] (effect_code effect) (effects_code effects) one.items more.items
             one.does more.does;
         silent =
-            entries_of_both one.items more.items
+            entries_over one.items more.items
             ∙ ap (λ l. l ++ entries_in more.items) one.silent ∙ more.silent;
         changes = λ grows.
             subst (λ l. AreSameChanges l (effect ∷ effects)) (sym (changes_of_both one.items more.items))

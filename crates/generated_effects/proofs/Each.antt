@@ -1,9 +1,9 @@
 -- The code of each effect does it.
-use Rattle.std.proofs.Common.{◌≡◌, ℕ, ◌+◌, ◌-◌, ◌*◌, ◌/◌, ◌<◌, ◌≤◌, ◌^◌, List, [], ◌∷◌, ◌++◌, length, take, drop, Option, Some, None, Bool, true, false, cond, nat_lt, nat_le, slice_get, slice_set, refl, sym, ap, ◌∙◌, subst, arith, length-append, length-take-le, option_map, option_and_then}
+use Rattle.std.proofs.Common.{◌≡◌, ℕ, ◌+◌, ◌-◌, ◌*◌, ◌/◌, ◌<◌, ◌≤◌, ◌^◌, List, [], ◌∷◌, ◌++◌, length, take, drop, Option, Some, None, Bool, true, false, cond, nat_lt, nat_le, slice_get, slice_set, refl, sym, ap, ◌∙◌, subst, arith, length-append, option_map, option_and_then}
 use Rattle.std.specs.Prelude.{map, replicate, IfSome}
 use Rattle.std.specs.Option.{option_flatten}
 use Rattle.std.proofs.lemmas.Bool.Decides.{nat_tests}
-use Rattle.std.proofs.lemmas.List.{append-nil, length-drop, length-replicate, take-append-drop}
+use Rattle.std.proofs.lemmas.List.{append-nil, length-replicate}
 use Rattle.std.proofs.lemmas.Option.{none-some}
 use Rattle.list_laws.proofs.Lists.{item_there}
 use Rattle.list_laws.proofs.Options.{map_some, cond_some}
@@ -24,7 +24,7 @@ use Rattle.generated_effects.specs.Counts.{changes_in, steps_in}
 use Rattle.generated_effects.specs.Laws.{IsWritable, GrowsSize}
 use Rattle.generated_effects.proofs.Does.{Does}
 use Rattle.generated_effects.proofs.Stored.{memory_with_bytes, stores_items}
-use Rattle.generated_effects.proofs.Runs.{counts_of, counts_of_all, stores_run}
+use Rattle.generated_effects.proofs.Runs.{counts_of, counts_of_all, stores_run, split}
 use Rattle.generated_effects.proofs.Effects.{does_global, does_entry, set_there}
 use Rattle.generated_effects.proofs.Growth.{does_growth}
 use Rattle.generated_effects.proofs.TableGrowth.{does_table_growth}
@@ -119,17 +119,12 @@ stores_same (width ∷ widths) address bytes long =
     let count = byte_count width in
     let first = take count bytes in
     let more = drop count bytes in
-    let sum : counts_of (width ∷ widths) ≡ byte_count width + counts_of widths = refl in
-    let enough : count ≤ length bytes = omega (arith, long, sum) in
-    let size : length first ≡ count = length-take-le count bytes enough in
-    let left : length more ≡ counts_of widths =
-    (let l = length-drop count bytes in omega (arith, l, long, sum)) in
-    let parts : first ++ more ≡ bytes = take-append-drop count bytes in
-    let later = stores_same widths (address + count) more left in
+    let are_split = split width widths bytes long in
+    let later = stores_same widths (address + count) more are_split.left in
     subst (λ all. AreSameChanges (changes_in (stores_items (width ∷ widths) address bytes))
-    (Bytes address all ∷ [])) parts
+    (Bytes address all ∷ [])) are_split.parts
     (bytes_apart address (address + count) first more (changes_in (stores_items widths (address + count) more))
-    (ap (λ n. address + n) size) later)
+    (ap (λ n. address + n) are_split.size) later)
 
 -- ---- each
 

@@ -7,12 +7,6 @@ use Rattle.generated_effects.specs.Counts.{changes_in, steps_in}
 
 -- ---- two parts
 
-pub entries_of_both : (first second : List Item) → entries_in (first ++ second) ≡ entries_in first ++ entries_in second
-entries_of_both [] second = refl
-entries_of_both (Makes entry ∷ first) second = ap (λ l. entry ∷ l) (entries_of_both first second)
-entries_of_both (Changes change ∷ first) second = entries_of_both first second
-entries_of_both (Steps block ∷ first) second = entries_of_both first second
-
 pub changes_of_both : (first second : List Item) → changes_in (first ++ second) ≡ changes_in first ++ changes_in second
 changes_of_both [] second = refl
 changes_of_both (Makes entry ∷ first) second = changes_of_both first second

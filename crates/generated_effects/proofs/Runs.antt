@@ -45,6 +45,25 @@ counts_of_all count =
     let o : counts_of ones ≡ count % 2 * 1 = counts_of_same One (count % 2) in
     omega (arith, all, later, last, e, f, t, o)
 
+-- bytes for stores of these widths: as many as the first writes, and the others
+pub record AreSplit (width : Width) (widths : List Width) (bytes : List ℕ) : Type 0 where
+  pub enough : byte_count width ≤ length bytes
+  pub size : length (take (byte_count width) bytes) ≡ byte_count width
+  pub left : length (drop (byte_count width) bytes) ≡ counts_of widths
+  pub parts : take (byte_count width) bytes ++ drop (byte_count width) bytes ≡ bytes
+
+pub split : (width : Width) (widths : List Width) (bytes : List ℕ) → length bytes ≡ counts_of (width ∷ widths)
+    → AreSplit width widths bytes
+split width widths bytes long =
+    let sum : counts_of (width ∷ widths) ≡ byte_count width + counts_of widths = refl in
+    let enough : byte_count width ≤ length bytes = omega (arith, long, sum) in
+    record {
+      enough = enough;
+      size = length-take-le (byte_count width) bytes enough;
+      left = (let l = length-drop (byte_count width) bytes in omega (arith, l, long, sum));
+      parts = take-append-drop (byte_count width) bytes;
+    }
+
 module _ (w : Watched) (s : Standing) (outside : IsOutside w.layout s.frame.func) where
   pub stores_run : (store : Store) (memory : Memory) (widths : List Width) (address : ℕ) (bytes : List ℕ)
       → store.memory ≡ Some memory → length bytes ≡ counts_of widths → AreBytes bytes
@@ -61,12 +80,9 @@ module _ (w : Watched) (s : Standing) (outside : IsOutside w.layout s.frame.func
       let count = byte_count width in
       let first = take count bytes in
       let more = drop count bytes in
-      let sum : counts_of (width ∷ widths) ≡ byte_count width + counts_of widths = refl in
-      let enough : count ≤ length bytes = omega (arith, long, sum) in
-      let size : length first ≡ count = length-take-le count bytes enough in
-      let left : length more ≡ counts_of widths =
-      (let l = length-drop count bytes in omega (arith, l, long, sum)) in
-      let parts : first ++ more ≡ bytes = take-append-drop count bytes in
+      let are_split = split width widths bytes long in
+      let size = are_split.size in
+      let enough = are_split.enough in
       let fits : address + length first ≤ length memory.bytes = omega (arith, size, enough, within) in
       let memory' = memory_with_bytes memory address first in
       let kept : length memory'.bytes ≡ length memory.bytes = written_length memory.bytes first address fits in
@@ -75,7 +91,7 @@ module _ (w : Watched) (s : Standing) (outside : IsOutside w.layout s.frame.func
       let twice : memory_with_bytes memory' (address + count) more ≡ memory_with_bytes memory address bytes =
       ap (λ n. memory_with_bytes memory' (address + n) more) (sym size)
       ∙ ap (λ own. record memory { bytes = own }) (written_twice memory.bytes first more address fits)
-      ∙ ap (memory_with_bytes memory address) parts in
+      ∙ ap (memory_with_bytes memory address) are_split.parts in
       subst (λ m. Does w s store (with_memory store m) [] [] (stores_code (width ∷ widths) address bytes)
       (stores_items (width ∷ widths) address bytes)) twice
       (does_both w s store (with_memory store memory')
@@ -83,5 +99,5 @@ module _ (w : Watched) (s : Standing) (outside : IsOutside w.layout s.frame.func
       (store_code width address (number_of first)) (stores_code widths (address + count) more)
       (store_items address first) (stores_items widths (address + count) more)
       (stores_bytes w s outside store memory width address first is size (first_bytes count bytes are) fits)
-      (stores_run (with_memory store memory') memory' widths (address + count) more refl left
+      (stores_run (with_memory store memory') memory' widths (address + count) more refl are_split.left
       (last_bytes count bytes are) later))
