@@ -1,24 +1,25 @@
 -- The effects of a needed tape are constants, where what the run reads is.
-use Rattle.std.proofs.Common.{◌≡◌, ℕ, ◌^◌, ◌<◌, ◌≤◌, List, [], ◌∷◌, ◌++◌, Option, Some, None, true, false, cond, nat_eq, nat_lt, refl, sym, ap, ◌∙◌, subst, arith}
+use Rattle.std.proofs.Common.{◌≡◌, ℕ, ◌^◌, ◌<◌, List, [], ◌∷◌, ◌++◌, Option, Some, None, true, cond, nat_eq, sym, ap, ◌∙◌, subst, arith}
 use Rattle.std.specs.Prelude.{All, IfSome}
 use Rattle.std.specs.List.{AllByRecursion}
 use Rattle.std.specs.Option.{option_or}
 use Rattle.std.proofs.lemmas.Bool.Decides.{nat_tests}
 use Rattle.std.proofs.lemmas.List.Elements.{recursion_from_All}
-use Rattle.list_laws.proofs.Booleans.{and_left, and_right}
 use Rattle.list_laws.proofs.Options.{cond_some}
 use Rattle.wasm_syntax.specs.declared.values.Val.{Val}
 use Rattle.wasm_syntax.specs.Typing.{is_constant}
 use Rattle.trace_model.specs.declared.tapes.Effect.{Effect}
 use Rattle.trace_model.specs.declared.tapes.Effect.TheVariants.{Grow, Table, Bytes, Entry, Global}
 use Rattle.trace_model.specs.declared.tapes.Segment.{Segment}
-use Rattle.trace_model.specs.Effects.{is_before, are_ordered_after, are_ordered}
+use Rattle.trace_model.specs.Effects.{are_ordered_after, are_ordered}
 use Rattle.replay_spec.specs.Alike.{same_option, same_value}
 use Rattle.replay_spec.specs.Observations.{Observation, Begins, Ends, ReadsEntry, ReadsGlobal}
 use Rattle.replay_spec.specs.Known.{Known, read_entry, read_global, written_entry, written_global, last_some}
 use Rattle.replay_spec.specs.Windows.{window, unless_some, first_entry, first_global}
 use Rattle.replay_spec.specs.Needed.{effect_entry, effect_global, AreNeeded, AreNeededSegments}
-use Rattle.tape_follows.proofs.Activities.{needed_is}
+use Rattle.tape_follows.proofs.Activities.{needed_is, ordered_rest}
+use Rattle.tape_follows.proofs.FitEffects.{globals_after, entries_after}
+use Rattle.tape_follows.proofs.Same.{own_number}
 use Rattle.binary_follows.specs.Playable.{WritesBytes, AllWriteBytes}
 use Rattle.replay_modules.specs.Written.{IsConstantEffect, IsConstantNext, IsConstantSegment}
 use Rattle.needed_constants.proofs.ConstantRuns.{AreConstantSeen, IsConstantSeen}
@@ -71,49 +72,11 @@ first_globals (o ∷ seen) all at x is =
 
 -- ---- effects in order
 
--- after a global no entry is given, nor the same global; after an entry not the same entry
-entries_after_global : (global : ℕ) (value : Val) (at : ℕ) (effects : List Effect)
-    → are_ordered_after (Global global value) effects ≡ true → last_some (effect_entry at) effects ≡ None
-entries_after_global global value at [] h = refl
-entries_after_global global value at (Global x v ∷ effects) h =
-    ap (λ o. option_or o None)
-    (entries_after_global x v at effects (and_right (nat_lt global x) (are_ordered_after (Global x v) effects) h))
-entries_after_global global value at (effect ∷ effects) h = cc
-
-globals_after : (global : ℕ) (value : Val) (at : ℕ) (effects : List Effect) → at ≤ global
-    → are_ordered_after (Global global value) effects ≡ true → last_some (effect_global at) effects ≡ None
-globals_after global value at [] low h = refl
-globals_after global value at (Global x v ∷ effects) low h =
-    let t = and_left (nat_lt global x) (are_ordered_after (Global x v) effects) h in
-    let less : global < x = grind (arith, nat_tests, t) in
-    let later = globals_after x v at effects (omega (arith, low, less))
-    (and_right (nat_lt global x) (are_ordered_after (Global x v) effects) h) in
-    let apart : nat_eq x at ≡ false = grind (arith, nat_tests, low, less) in
-    (λ i. option_or (later i) (cond (apart i) (Some (Some v)) None))
-globals_after global value at (effect ∷ effects) low h = cc
-
-entries_after : (index : ℕ) (func : Option ℕ) (at : ℕ) (effects : List Effect) → at ≤ index
-    → are_ordered_after (Entry index func) effects ≡ true → last_some (effect_entry at) effects ≡ None
-entries_after index func at [] low h = refl
-entries_after index func at (Entry x f ∷ effects) low h =
-    let t = and_left (nat_lt index x) (are_ordered_after (Entry x f) effects) h in
-    let less : index < x = grind (arith, nat_tests, t) in
-    let later = entries_after x f at effects (omega (arith, low, less))
-    (and_right (nat_lt index x) (are_ordered_after (Entry x f) effects) h) in
-    let apart : nat_eq x at ≡ false = grind (arith, nat_tests, low, less) in
-    (λ i. option_or (later i) (cond (apart i) (Some f) None))
-entries_after index func at (Global x v ∷ effects) low h =
-    ap (λ o. option_or o None) (entries_after_global x v at effects h)
-entries_after index func at (effect ∷ effects) low h = cc
-
 abbrev GiveEntries : List Effect → Type 0
 GiveEntries effects = (at : ℕ) (x : Option ℕ) → last_some (effect_entry at) effects ≡ Some x → at < 2 ^ 32
 
 abbrev GiveGlobals : List Effect → Type 0
 GiveGlobals effects = (at : ℕ) (x : Option Val) → last_some (effect_global at) effects ≡ Some x → IsConstantGlobal x
-
-own_place : (n : ℕ) → nat_eq n n ≡ true
-own_place n = grind (arith, nat_tests)
 
 one_constant : (effect : Effect) (effects : List Effect) → are_ordered_after effect effects ≡ true
     → GiveEntries (effect ∷ effects) → GiveGlobals (effect ∷ effects) → WritesBytes effect → IsConstantEffect effect
@@ -121,19 +84,14 @@ one_constant (Bytes addr bytes) effects order entries globals writes =
     recursion_from_All (λ byte. byte < 256) bytes writes
 one_constant (Entry index func) effects order entries globals writes =
     let none = entries_after index func index effects (omega arith) order in
-    let own = own_place index in
+    let own = own_number index in
     entries index func (λ i. option_or (none i) (cond (own i) (Some func) None))
 one_constant (Global global value) effects order entries globals writes =
     let none = globals_after global value global effects (omega arith) order in
-    let own = own_place global in
+    let own = own_number global in
     globals global (Some value) (λ i. option_or (none i) (cond (own i) (Some (Some value)) None))
 one_constant (Grow pages) effects order entries globals writes = tt
 one_constant (Table size) effects order entries globals writes = tt
-
-ordered_rest : (effect : Effect) (effects : List Effect) → are_ordered_after effect effects ≡ true
-    → are_ordered effects ≡ true
-ordered_rest effect [] h = refl
-ordered_rest effect (next ∷ effects) h = and_right (is_before effect next) (are_ordered_after next effects) h
 
 all_constant : (effects : List Effect) → are_ordered effects ≡ true → GiveEntries effects → GiveGlobals effects
     → AllByRecursion WritesBytes effects → AllByRecursion IsConstantEffect effects

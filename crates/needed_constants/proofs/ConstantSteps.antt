@@ -1,5 +1,5 @@
 -- What a run of a module under a script that fits it observes are constants, step by step.
-use Rattle.std.proofs.Common.{◌≡◌, ℕ, zero, suc, List, [], ◌∷◌, ◌++◌, Option, Some, None, Bool, true, false, nat_lt, slice_get, slice_index, refl, sym, subst, arith}
+use Rattle.std.proofs.Common.{◌≡◌, ℕ, List, [], ◌∷◌, Option, Some, None, Bool, true, false, nat_lt, slice_get, slice_index, refl, sym, subst, arith}
 use Rattle.std.specs.Prelude.{IsTrue}
 use Rattle.std.specs.Option.{option_to_list}
 use Rattle.std.proofs.lemmas.List.Elements.{recursion_from_All}
@@ -27,7 +27,7 @@ use Rattle.history_spec.specs.Configuration.{Frame, Activation, InModule, InMain
 use Rattle.history_spec.specs.Instruction.{Control, Goes, Calls, Returns, Execution, Did, Traps, NoRule, execute}
 use Rattle.history_spec.specs.Action.{ActionResult, Changes, Enters, Fails, Unfit, address_of, calls_defined, calls_entry, if_fits, on, or_fault, perform, with_new_bytes}
 use Rattle.history_spec.specs.Settle.{AtEnd, Within, Gives, TooFew, at_end, deliver, return_entry, return_from}
-use Rattle.history_spec.specs.Step.{Program, Progress, Running, Finished, Faulted, Stuck, StepResult, after_action, after_control, after_instruction, answer_call, call_function, enter_defined, enter_function, frame_of, response_to, start, start_with_call, step}
+use Rattle.history_spec.specs.Step.{Program, Progress, Finished, StepResult, after_action, after_control, after_instruction, answer_call, call_function, enter_defined, enter_function, frame_of, response_to, start, start_with_call, step}
 use Rattle.history_spec.specs.declared.entries.Entry.{Entry}
 use Rattle.replay_spec.specs.Observations.{activity_observations, end_observations, observations, run_observations, stack_observations}
 use Rattle.type_safety.specs.Configurations.{Accept, IsConfig, IsSafe, IsTypedCode, scope}
@@ -37,6 +37,7 @@ use Rattle.type_safety.specs.Results.{HasRule, IsControl}
 use Rattle.type_safety.specs.Stores.{IsStore}
 use Rattle.type_safety.proofs.Responses.{response_fits}
 use Rattle.replay_modules.specs.Written.{AreConstants}
+use Rattle.run_replays.proofs.ReadBytes.{each_observed}
 use Rattle.needed_constants.proofs.ConstantRuns.{AreConstantSeen, IsConstantSeen, observed_constant}
 
 -- ---- calls of imports that are open
@@ -306,21 +307,14 @@ module _ (laws : InstructionsHaveRules) (steps : StepsAreSafe) (m : Module) (hei
   progress_constant at = tt
 
   from_constant : (k : ℕ) (at : Progress) → IsSafe m heights at → AreConstantSeen (observations program k at)
-  from_constant (suc k) (Running config) safe =
-      joined_all IsConstantSeen (stack_observations config.store config.stack)
-      (activity_observations (step program config).entries ++ observations program k (step program config).next)
-      (stack_constant config.store config.stack safe.store)
-      (joined_all IsConstantSeen (activity_observations (step program config).entries)
-      (observations program k (step program config).next) (step_constant config.store config.stack config.counts safe)
-      (from_constant k (step program config).next
-      (steps m heights program config valid typed (record { code = refl; answers = fits }) safe)))
-  from_constant zero (Running config) safe = tt
-  from_constant zero (Finished outcome) safe = progress_constant (Finished outcome)
-  from_constant zero (Faulted kind) safe = tt
-  from_constant zero Stuck safe = tt
-  from_constant (suc k) (Finished outcome) safe = progress_constant (Finished outcome)
-  from_constant (suc k) (Faulted kind) safe = tt
-  from_constant (suc k) Stuck safe = tt
+  from_constant =
+      each_observed IsConstantSeen m heights program
+      (λ config safe. (
+        stack_constant config.store config.stack safe.store,
+        step_constant config.store config.stack config.counts safe,
+        steps m heights program config valid typed (record { code = refl; answers = fits }) safe,
+      ))
+      progress_constant
 
   -- ---- the start
 

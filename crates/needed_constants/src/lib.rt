@@ -5,16 +5,14 @@
 ghost use Rattle.needed_constants.specs.Laws.{NeededTapesAreConstant};
 
 use run_replays::needed_tapes_write_bytes;
-use type_safety::{rules_hold, safe_steps, typed_code, typed_store};
+use tape_follows::{laws_of_runs, laws_of_steps};
 
 /// The values of a needed tape can be written as constants: what a run reads of its globals, and what the host passes
 /// and returns, are values of number types, and what it reads of its table has an index of 32 bits.
 pub fn needed_tapes_are_constant()
     ensures { NeededTapesAreConstant }
 {
+    laws_of_steps();
+    laws_of_runs();
     needed_tapes_write_bytes();
-    rules_hold();
-    safe_steps();
-    typed_code();
-    typed_store();
 }

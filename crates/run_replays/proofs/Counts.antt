@@ -6,7 +6,6 @@ use Rattle.wasm_syntax.specs.declared.instructions.Instr.{Instr}
 use Rattle.wasm_syntax.specs.declared.instructions.Instr.TheVariants.{CallIndirect, GlobalGet, GlobalSet, Load, Store as StoreTo, MemorySize, MemoryGrow, MemoryCopy, MemoryFill, TableSet, TableGrow, TableSize}
 use Rattle.wasm_syntax.specs.Nest.{Nest, Plain}
 use Rattle.wasm_syntax.specs.Opcodes.{load_of, store_of}
-use Rattle.run_outcomes.specs.declared.outcomes.Outcome.{Outcome}
 use Rattle.run_outcomes.specs.declared.outcomes.Outcome.TheVariants.{Ended}
 use Rattle.trace_model.specs.declared.tapes.Segment.{Segment}
 use Rattle.history_spec.specs.declared.entries.Entry.{Entry}
@@ -15,7 +14,7 @@ use Rattle.history_spec.specs.Store.{Store, bytes_at, bytes_of, with_bytes_at, w
 use Rattle.history_spec.specs.Instruction.{referent}
 use Rattle.history_spec.specs.Configuration.{Activation, InModule}
 use Rattle.history_spec.specs.Step.{Program, Progress, Running, Finished, Faulted, Stuck, StepResult, step}
-use Rattle.history_spec.specs.Run.{Meter, all_one, weight, run_after, run_from, steps}
+use Rattle.history_spec.specs.Run.{all_one, run_from, steps}
 use Rattle.replay_spec.specs.Observations.{Observation, Begins, Ends, bits_from_top, on, plain_observations, nest_observations, stack_observations, activity_observations, end_observations, observations, run_observations}
 use Rattle.replay_spec.specs.Known.{Known}
 use Rattle.replay_spec.specs.Needed.{AreNeededSegments}
@@ -156,20 +155,6 @@ module _ (program : Program) where
       (activity_begins initial.entries (observations program k initial.next)
       ∙ ap (λ n. entered initial.entries + n) (steps_begin k initial.next)
       ∙ sym (entered_both initial.entries (steps program all_one k initial.next).history))
-
-  -- after its end a run stays as it is
-  pub same_steps : (meter : Meter) (k j : ℕ) (at : Progress) (a b : Outcome)
-      → (steps program meter k at).at ≡ Finished a → (steps program meter j at).at ≡ Finished b
-      → steps program meter k at ≡ steps program meter j at
-  same_steps meter zero zero at a b h q = refl
-  same_steps meter (suc k) (suc j) (Running config) a b h q =
-      ap (run_after (step program config).entries (weight meter config))
-      (same_steps meter k j (step program config).next a b h q)
-  same_steps meter zero (suc j) (Running config) a b h q = cc
-  same_steps meter (suc k) zero (Running config) a b h q = cc
-  same_steps meter zero (suc j) at a b h q = refl
-  same_steps meter (suc k) zero at a b h q = refl
-  same_steps meter (suc k) (suc j) at a b h q = refl
 
 -- ---- segments and stretches
 

@@ -1,5 +1,5 @@
 -- The effects that a window needs give no size that is there already.
-use Rattle.std.proofs.Common.{◌≡◌, ℕ, ◌*◌, ◌<◌, ◌≤◌, List, [], ◌∷◌, length, Option, Some, None, true, nat_eq, refl, sym, ap, ◌∙◌, arith}
+use Rattle.std.proofs.Common.{◌≡◌, ℕ, ◌*◌, ◌<◌, ◌≤◌, List, [], ◌∷◌, length, Option, Some, None, true, nat_eq, sym, ap, ◌∙◌, arith}
 use Rattle.std.specs.Prelude.{IfSome, option_and_then}
 use Rattle.std.specs.Option.{option_or}
 use Rattle.std.proofs.lemmas.Bool.Decides.{nat_tests}
@@ -20,8 +20,8 @@ use Rattle.generated_effects.specs.Laws.{AllGrowSizes}
 use Rattle.tape_follows.proofs.Relation.{IsKnownOf, IsReadOf, Holds}
 use Rattle.tape_follows.proofs.Held.{whole_pages}
 use Rattle.tape_follows.proofs.Effects.{AreChanges}
-use Rattle.tape_follows.proofs.Activities.{HasSizes, changes_after, no_growth, no_table_growth, size_between}
-use Rattle.tape_follows.proofs.Activity.{size_needed}
+use Rattle.tape_follows.proofs.Activities.{HasSizes, changes_after, no_table_growth, size_between, pages_after}
+use Rattle.tape_follows.proofs.Activity.{size_needed, or_nothing}
 
 -- changes of bytes, entries and globals give no size
 changes_grow : (effects : List Effect) (store : Store) → AreChanges effects → AllGrowSizes store effects
@@ -56,23 +56,6 @@ same_table : (store next : Store) (size : ℕ) → store_after_effect store (Gro
 same_table store next size is =
     let m = map_some (with_memory store) (option_and_then (memory_of_size size) store.memory) next is in
     ap (λ (s : Store). entry_count s.table) (sym m.2)
-
-no_growth_after : (size : ℕ) (effects : List Effect) → are_ordered_after (Grow size) effects ≡ true
-    → last_some effect_pages effects ≡ None
-no_growth_after size [] h = refl
-no_growth_after size (Grow new ∷ effects) h = cc
-no_growth_after size (GrowTable new ∷ effects) h =
-    ap (λ o. option_or o None) (no_growth effects (changes_after (GrowTable new) effects tt h))
-no_growth_after size (Bytes address bytes ∷ effects) h =
-    ap (λ o. option_or o None) (no_growth effects (changes_after (Bytes address bytes) effects tt h))
-no_growth_after size (Entry index func ∷ effects) h =
-    ap (λ o. option_or o None) (no_growth effects (changes_after (Entry index func) effects tt h))
-no_growth_after size (Global global value ∷ effects) h =
-    ap (λ o. option_or o None) (no_growth effects (changes_after (Global global value) effects tt h))
-
-or_none : (o : Option ℕ) → option_or o None ≡ o
-or_none None = refl
-or_none (Some x) = refl
 
 module _ (known : Known) (window : List Observation) (store : Store) (sizes : HasSizes store)
     (k : IsKnownOf known store) (real : IsReadOf known window store) where
@@ -128,14 +111,14 @@ module _ (known : Known) (window : List Observation) (store : Store) (sizes : Ha
       go [] order grown count = tt
       go (Grow size ∷ effects) order grown count =
           let more = pages_less size
-          (sym (ap (λ o. option_or o (Some size)) (no_growth_after size effects order)) ∙ grown) in
+          (sym (ap (λ o. option_or o (Some size)) (pages_after (Grow size) effects order)) ∙ grown) in
           let low = known_pages other.memory known.pages holds.pages in (
             omega (arith, low, more),
             λ next is.
                 let same = same_table other next size is in
                 let less = few in
                 rest_grows next size effects (omega (arith, same, less)) order
-                (sym (or_none (last_some effect_entries effects)) ∙ count),
+                (sym (or_nothing (last_some effect_entries effects)) ∙ count),
           )
       go (GrowTable size ∷ effects) order grown count = table_grows other size effects few order count
       go (Bytes address bytes ∷ effects) order grown count =

@@ -1,4 +1,4 @@
-mod ReadBytes
+pub mod ReadBytes
 mod WrittenBytes
 mod Growths
 mod GrowingRuns

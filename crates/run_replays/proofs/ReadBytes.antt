@@ -11,7 +11,7 @@ use Rattle.run_outcomes.specs.declared.outcomes.Outcome.TheVariants.{Ended}
 use Rattle.history_spec.specs.declared.entries.Entry.{Entry}
 use Rattle.history_spec.specs.declared.entries.Entry.TheVariants.{HostCall, HostReturn, ImportCall, ImportReturn, HostTrap}
 use Rattle.history_spec.specs.Store.{Store, Memory}
-use Rattle.history_spec.specs.Configuration.{Activation, InModule}
+use Rattle.history_spec.specs.Configuration.{Activation, InModule, Config}
 use Rattle.history_spec.specs.Step.{Program, Progress, Running, Finished, Faulted, Stuck, StepResult, step}
 use Rattle.replay_spec.specs.Observations.{Observation, Reads, Copies, stack_observations, activity_observations, end_observations, observations, run_observations}
 use Rattle.replay_spec.specs.Known.{byte_of, read_byte}
@@ -71,6 +71,29 @@ end_bytes at = tt
 
 -- ---- steps and runs
 
+-- what holds of what each step of a safe run observes, and of its end, holds of all that the run observes
+pub each_observed : (P : Observation → Type 0) (m : Module) (heights : Heights) (program : Program)
+    → ((config : Config) → IsSafe m heights (Running config)
+    → AllByRecursion P (stack_observations config.store config.stack)
+    × AllByRecursion P (activity_observations (step program config).entries)
+    × IsSafe m heights (step program config).next)
+    → ((at : Progress) → AllByRecursion P (end_observations at)) → (k : ℕ) (at : Progress) → IsSafe m heights at
+    → AllByRecursion P (observations program k at)
+each_observed P m heights program each ends (suc k) (Running config) safe =
+    let here = each config safe in
+    joined_all P (stack_observations config.store config.stack)
+    (activity_observations (step program config).entries ++ observations program k (step program config).next) here.0
+    (joined_all P (activity_observations (step program config).entries)
+    (observations program k (step program config).next) here.1
+    (each_observed P m heights program each ends k (step program config).next here.2))
+each_observed P m heights program each ends zero (Running config) safe = tt
+each_observed P m heights program each ends zero (Finished outcome) safe = ends (Finished outcome)
+each_observed P m heights program each ends zero (Faulted kind) safe = ends (Faulted kind)
+each_observed P m heights program each ends zero Stuck safe = ends Stuck
+each_observed P m heights program each ends (suc k) (Finished outcome) safe = ends (Finished outcome)
+each_observed P m heights program each ends (suc k) (Faulted kind) safe = ends (Faulted kind)
+each_observed P m heights program each ends (suc k) Stuck safe = ends Stuck
+
 module _ (own : StoresAnswerThemselves) (safe_steps : StepsAreSafe) (m : Module) (heights : Heights)
     (valid : IsValid m) (typed : IsTypedCode m heights) (program : Program) (fits : IsProgram m program) where
   stack_bytes : (store : Store) (stack : List Activation) → IsStore m store
@@ -82,20 +105,14 @@ module _ (own : StoresAnswerThemselves) (safe_steps : StepsAreSafe) (m : Module)
   stack_bytes store stack is = tt
 
   bytes_from : (k : ℕ) (at : Progress) → IsSafe m heights at → AllReadBytes (observations program k at)
-  bytes_from (suc k) (Running config) safe =
-      joined_all ReadsBytes (stack_observations config.store config.stack)
-      (activity_observations (step program config).entries ++ observations program k (step program config).next)
-      (stack_bytes config.store config.stack safe.store)
-      (joined_all ReadsBytes (activity_observations (step program config).entries)
-      (observations program k (step program config).next) (activity_bytes (step program config).entries)
-      (bytes_from k (step program config).next (safe_steps m heights program config valid typed fits safe)))
-  bytes_from zero (Running config) safe = tt
-  bytes_from zero (Finished outcome) safe = end_bytes (Finished outcome)
-  bytes_from zero (Faulted kind) safe = tt
-  bytes_from zero Stuck safe = tt
-  bytes_from (suc k) (Finished outcome) safe = end_bytes (Finished outcome)
-  bytes_from (suc k) (Faulted kind) safe = tt
-  bytes_from (suc k) Stuck safe = tt
+  bytes_from =
+      each_observed ReadsBytes m heights program
+      (λ config safe. (
+        stack_bytes config.store config.stack safe.store,
+        activity_bytes (step program config).entries,
+        safe_steps m heights program config valid typed fits safe,
+      ))
+      end_bytes
 
   pub run_bytes : (initial : StepResult) (k : ℕ) → IsSafe m heights initial.next
       → AllReadBytes (run_observations program initial k)

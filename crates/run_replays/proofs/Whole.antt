@@ -21,10 +21,11 @@ use Rattle.replay_spec.specs.Known.{opening_known}
 use Rattle.replay_spec.specs.Observations.{run_observations}
 use Rattle.replay_spec.specs.TapeRun.{TapeResult}
 use Rattle.replay_gen.specs.Fragments.{start_index}
-use Rattle.observed_steps.specs.Laws.{StoresAnswerThemselves}
-use Rattle.type_safety.specs.Laws.{ValidCodeHasHeights, ValidCodeIsTyped, SuppliesMatch, NewStoresAreTyped, StartsAreSafe, StepsAreSafe}
+use Rattle.type_safety.specs.Laws.{SuppliesMatch}
 use Rattle.tape_follows.specs.Below.{LawsOfSteps, LawsOfRuns}
 use Rattle.tape_follows.specs.NeededTape.{NeededTapesFit, RunsHaveOneNeededTape}
+use Rattle.tape_follows.proofs.Whole.{same_steps}
+use Rattle.tape_follows.proofs.SafeRuns.{safe_run}
 use Rattle.logs_follow.specs.Laws.{LogsGiveNeededTapes}
 use Rattle.binary_follows.specs.Laws.{AreEffectsOfFirst, ReplaysShowOutcomes, ReplaysMakeEffects}
 use Rattle.module_merge.specs.Merge.{layout_of}
@@ -33,23 +34,17 @@ use Rattle.tape_follows.proofs.HostStores.{sizes_of}
 use Rattle.tape_follows.proofs.AllSteps.{opening_holds, started}
 use Rattle.run_replays.specs.Laws.{NeededTapesWriteBytes, NeededTapesArePlayable, NeededTapesGrowSizes, RunsAreReplayed, RunsAreReplayedFromLogs}
 use Rattle.run_replays.proofs.ReadBytes.{run_bytes}
-use Rattle.run_replays.proofs.Counts.{entered, needed_count, same_steps, stretch_count}
+use Rattle.run_replays.proofs.Counts.{entered, needed_count, stretch_count}
 use Rattle.run_replays.proofs.GrowingRuns.{grows, grows_closed}
 use Rattle.run_replays.proofs.WrittenBytes.{needed_segments_write}
 
-pub needed_tapes_write_bytes : StoresAnswerThemselves → ValidCodeHasHeights → ValidCodeIsTyped → SuppliesMatch
-    → NewStoresAreTyped → StartsAreSafe → StepsAreSafe → NeededTapesWriteBytes
-needed_tapes_write_bytes own heights code supplied typed_store starts safe_steps m script supply store segments runnable
-    fits links opens needed =
-    let h = heights m runnable.valid in
-    let typed = code m h.0 runnable.valid runnable.supported h.1 in
-    let is = typed_store m supply store runnable (supplied m script supply fits links) opens in
-    let safe = starts m h.0 (program_of m script) store script.main runnable.valid typed
-    (record { code = refl; answers = fits.imports }) is fits.main in
+pub needed_tapes_write_bytes : LawsOfSteps → LawsOfRuns → NeededTapesWriteBytes
+needed_tapes_write_bytes laws safety m script supply store segments runnable fits links opens needed =
+    let run = safe_run safety m script supply store runnable fits links opens in
     needed_segments_write (opening_known store) []
     (run_observations (program_of m script) (start_in_store m script store) needed.count) segments needed.needed
-    (run_bytes own safe_steps m h.0 runnable.valid typed (program_of m script)
-    (record { code = refl; answers = fits.imports }) (start_in_store m script store) needed.count safe)
+    (run_bytes laws.answers laws.steps m run.heights runnable.valid run.typed (program_of m script)
+    (record { code = refl; answers = fits.imports }) (start_in_store m script store) needed.count run.safe)
 
 pub needed_tapes_are_playable : SuppliesMatch → NeededTapesFit → NeededTapesWriteBytes → NeededTapesArePlayable
 needed_tapes_are_playable supplied fit write m script supply store tape runnable fits links opens needed light =
@@ -64,16 +59,12 @@ needed_tapes_are_playable supplied fit write m script supply store tape runnable
 
 pub needed_tapes_grow_sizes : LawsOfSteps → LawsOfRuns → NeededTapesGrowSizes
 needed_tapes_grow_sizes laws safety m script supply store tape runnable fits links opens needed =
-    let h = safety.heights m runnable.valid in
-    let typed = safety.code m h.0 runnable.valid runnable.supported h.1 in
-    let is = safety.store m supply store runnable (safety.supplied m script supply fits links) opens in
-    let safe = safety.starts m h.0 (program_of m script) store script.main runnable.valid typed
-    (record { code = refl; answers = fits.imports }) is fits.main in
-    let f = started laws m h.0 runnable.valid typed script.imports fits.imports grows (grows_closed laws.alike m h.0)
-    needed.count script.main store is m.start safe in
+    let run = safe_run safety m script supply store runnable fits links opens in
+    let f = started laws m run.heights runnable.valid run.typed script.imports fits.imports grows
+    (grows_closed laws.alike m run.heights) needed.count script.main store run.is m.start run.safe in
     let kept = safety.kept (opening_known store)
     (run_observations (program_of m script) (start_in_store m script store) needed.count) tape.segments in
-    f.shows store tape.segments needed.outcome refl (opening_holds store (sizes_of m store is), kept.0 needed.needed)
+    f.shows store tape.segments needed.outcome refl (opening_holds store (sizes_of m store run.is), kept.0 needed.needed)
     needed.ends
 
 -- stretches make the effects of all segments, where there are as many

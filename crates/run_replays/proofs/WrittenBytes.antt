@@ -7,17 +7,18 @@ use Rattle.std.proofs.lemmas.List.Elements.{All-from_recursion}
 use Rattle.std.proofs.lemmas.Option.{get_or_from_slice_get}
 use Rattle.list_laws.proofs.Booleans.{and_left, and_right}
 use Rattle.list_laws.proofs.Lists.{item_there}
-use Rattle.wasm_syntax.specs.declared.values.Val.{Val}
 use Rattle.trace_model.specs.declared.tapes.Effect.{Effect}
 use Rattle.trace_model.specs.declared.tapes.Effect.TheVariants.{Bytes, Entry, Global}
 use Rattle.trace_model.specs.declared.tapes.Segment.{Segment}
-use Rattle.trace_model.specs.Effects.{is_before, are_ordered_after, are_ordered}
+use Rattle.trace_model.specs.Effects.{are_ordered_after, are_ordered}
 use Rattle.replay_spec.specs.Observations.{Observation, Begins, Ends}
-use Rattle.replay_spec.specs.Known.{Known, byte_among, read_byte, written_byte, last_some}
+use Rattle.replay_spec.specs.Known.{Known, read_byte, written_byte, last_some}
 use Rattle.replay_spec.specs.Windows.{window, unless_some, first_byte}
 use Rattle.replay_spec.specs.Needed.{effect_byte, AreNeeded, AreNeededSegments}
-use Rattle.tape_follows.proofs.Activities.{needed_is}
+use Rattle.tape_follows.proofs.Activities.{needed_is, ordered_rest}
+use Rattle.tape_follows.proofs.FitEffects.{none_after_global}
 use Rattle.binary_follows.specs.Playable.{WritesBytes, AllWriteBytes}
+use Rattle.logs_follow.proofs.FirstBytes.{byte_in}
 use Rattle.run_replays.proofs.ReadBytes.{AllReadBytes}
 
 -- ---- what a window reads first
@@ -40,15 +41,7 @@ first_bytes (o ∷ seen) all at x is =
 
 -- ---- effects in order
 
--- after a global, after an entry, no bytes are written; after bytes none at or below their end
-bytes_after_global : (global : ℕ) (value : Val) (at : ℕ) (effects : List Effect)
-    → are_ordered_after (Global global value) effects ≡ true → last_some (effect_byte at) effects ≡ None
-bytes_after_global global value at [] h = refl
-bytes_after_global global value at (Global x v ∷ effects) h =
-    ap (λ o. option_or o None)
-    (bytes_after_global x v at effects (and_right (nat_lt global x) (are_ordered_after (Global x v) effects) h))
-bytes_after_global global value at (effect ∷ effects) h = cc
-
+-- after an entry no bytes are written; after bytes none at or below their end
 bytes_after_entry : (index : ℕ) (func : Option ℕ) (at : ℕ) (effects : List Effect)
     → are_ordered_after (Entry index func) effects ≡ true → last_some (effect_byte at) effects ≡ None
 bytes_after_entry index func at [] h = refl
@@ -56,7 +49,7 @@ bytes_after_entry index func at (Entry x f ∷ effects) h =
     ap (λ o. option_or o None)
     (bytes_after_entry x f at effects (and_right (nat_lt index x) (are_ordered_after (Entry x f) effects) h))
 bytes_after_entry index func at (Global x v ∷ effects) h =
-    ap (λ o. option_or o None) (bytes_after_global x v at effects h)
+    ap (λ o. option_or o None) (none_after_global (effect_byte at) (λ x v. refl) x v effects h)
 bytes_after_entry index func at (effect ∷ effects) h = cc
 
 bytes_after : (address : ℕ) (bytes : List ℕ) (at : ℕ) (effects : List Effect) → at ≤ address + length bytes
@@ -74,14 +67,8 @@ bytes_after address bytes at (Bytes other more ∷ effects) low h =
 bytes_after address bytes at (Entry index func ∷ effects) low h =
     ap (λ o. option_or o None) (bytes_after_entry index func at effects h)
 bytes_after address bytes at (Global global value ∷ effects) low h =
-    ap (λ o. option_or o None) (bytes_after_global global value at effects h)
+    ap (λ o. option_or o None) (none_after_global (effect_byte at) (λ x v. refl) global value effects h)
 bytes_after address bytes at (effect ∷ effects) low h = cc
-
-byte_in : (address k : ℕ) (bytes : List ℕ) → byte_among address bytes (address + k) ≡ slice_get bytes k
-byte_in address k bytes =
-    let within : nat_le address (address + k) ≡ true = grind (arith, nat_tests) in
-    let place : address + k - address ≡ k = omega arith in
-    ap (λ b. cond b (slice_get bytes (address + k - address)) None) within ∙ ap (slice_get bytes) place
 
 abbrev GiveBytes : List Effect → Type 0
 GiveBytes effects = (at x : ℕ) → last_some (effect_byte at) effects ≡ Some x → x < 256
@@ -96,11 +83,6 @@ one_writes (Bytes address bytes) effects order give =
     subst (λ n. n < 256) (sym (get_or_from_slice_get bytes k item.0 d item.1))
     (give (address + k) item.0 (λ i. option_or (none i) (here i)))
 one_writes effect effects order give = tt
-
-ordered_rest : (effect : Effect) (effects : List Effect) → are_ordered_after effect effects ≡ true
-    → are_ordered effects ≡ true
-ordered_rest effect [] h = refl
-ordered_rest effect (next ∷ effects) h = and_right (is_before effect next) (are_ordered_after next effects) h
 
 all_write : (effects : List Effect) → are_ordered effects ≡ true → GiveBytes effects
     → AllByRecursion WritesBytes effects

@@ -4,20 +4,16 @@ ghost use Rattle.run_replays.specs.Laws.{NeededTapesArePlayable, NeededTapesGrow
 
 use binary_follows::replays_show_runs;
 use logs_follow::logs_give_needed_tapes;
-use observed_steps::{observed_steps, own_answers, own_steps};
 use outside_spec::items_show_projections;
-use replay_spec::needed_segments_are_kept;
-use tape_follows::{needed_tape_fits, run_has_one_needed_tape};
-use type_safety::{rules_hold, safe_steps, typed_code, typed_store};
+use tape_follows::{laws_of_runs, laws_of_steps, needed_tape_fits, run_has_one_needed_tape};
+use type_safety::typed_store;
 
 /// What the effects of a needed tape write are bytes: a byte that is needed is one that the run reads.
 pub fn needed_tapes_write_bytes()
     ensures { NeededTapesWriteBytes }
 {
-    own_answers();
-    typed_code();
-    typed_store();
-    safe_steps();
+    laws_of_steps();
+    laws_of_runs();
 }
 
 /// A needed tape that is no heavier than it may be is one that a replay module can be made of.
@@ -33,14 +29,8 @@ pub fn needed_tapes_are_playable()
 pub fn needed_tapes_grow_sizes()
     ensures { NeededTapesGrowSizes }
 {
-    needed_segments_are_kept();
-    observed_steps();
-    own_answers();
-    own_steps();
-    rules_hold();
-    safe_steps();
-    typed_code();
-    typed_store();
+    laws_of_steps();
+    laws_of_runs();
 }
 
 /// A run that has an outcome has just one needed tape; and where this is no heavier than it may be, the run of its
