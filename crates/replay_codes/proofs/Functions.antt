@@ -137,16 +137,16 @@ defined_at m func f ty locals nest none there typed local body is_nest =
     }
 
 -- results of a valid type have one of the types that are appended
-group_typed : (m : Module) (results : List ValType) → length results ≤ 1 → All (λ t. IsTrue (is_number t)) results
+pub group_type_there : (m : Module) (results : List ValType) → length results ≤ 1 → All (λ t. IsTrue (is_number t)) results
     → slice_get (m.types ++ appended_types) (length m.types + group_type_place results) ≡ Some (group_type results)
-group_typed m [] one numbers = get_after_by m.types appended_types (length m.types + 1) 1 refl
-group_typed m (I32 ∷ []) one numbers = get_after_by m.types appended_types (length m.types + 2) 2 refl
-group_typed m (I64 ∷ []) one numbers = get_after_by m.types appended_types (length m.types + 3) 3 refl
-group_typed m (F32 ∷ []) one numbers = get_after_by m.types appended_types (length m.types + 4) 4 refl
-group_typed m (F64 ∷ []) one numbers = get_after_by m.types appended_types (length m.types + 5) 5 refl
-group_typed m (FuncRef ∷ []) one numbers =
+group_type_there m [] one numbers = get_after_by m.types appended_types (length m.types + 1) 1 refl
+group_type_there m (I32 ∷ []) one numbers = get_after_by m.types appended_types (length m.types + 2) 2 refl
+group_type_there m (I64 ∷ []) one numbers = get_after_by m.types appended_types (length m.types + 3) 3 refl
+group_type_there m (F32 ∷ []) one numbers = get_after_by m.types appended_types (length m.types + 4) 4 refl
+group_type_there m (F64 ∷ []) one numbers = get_after_by m.types appended_types (length m.types + 5) 5 refl
+group_type_there m (FuncRef ∷ []) one numbers =
     let h : IsTrue false = All-head (λ t. IsTrue (is_number t)) FuncRef [] numbers in absurd (cc h)
-group_typed m (x ∷ y ∷ results) one numbers = absurd (omega (arith, one))
+group_type_there m (x ∷ y ∷ results) one numbers = absurd (omega (arith, one))
 
 -- ---- the replay module's code
 
@@ -155,28 +155,22 @@ module _ (m : Module) (supply : Supply) (plan : Plan) (valid : IsValid m)
   abbrev replay : Module
   replay = replay_module m supply (fragment_of m plan)
 
-  abbrev bodies : List Func
-  bodies = import_bodies m plan
-
-  abbrev helpers : List Func
-  helpers = helper_funcs m plan
-
   abbrev index_of : Func → ℕ
   index_of f = f.ty
 
-  bodies_types : map index_of bodies ≡ import_types m
+  bodies_types : map index_of (import_bodies m plan) ≡ import_types m
   bodies_types =
       import_funcs_types m (length (all_globals m)) (start_index m + 1) (import_types m) plan.imports many
 
-  bodies_length : length bodies ≡ imported_funcs m
-  bodies_length = sym (length-map bodies index_of) ∙ ap length bodies_types
+  bodies_length : length (import_bodies m plan) ≡ imported_funcs m
+  bodies_length = sym (length-map (import_bodies m plan) index_of) ∙ ap length bodies_types
 
-  all_indices : func_indices replay ≡ func_indices m ++ map index_of helpers
+  all_indices : func_indices replay ≡ func_indices m ++ map index_of (helper_funcs m plan)
   all_indices =
-      map-append index_of bodies (m.funcs ++ helpers)
-      ∙ ap (λ l. map index_of bodies ++ l) (map-append index_of m.funcs helpers)
-      ∙ ap (λ l. l ++ (map index_of m.funcs ++ map index_of helpers)) bodies_types
-      ∙ sym (append_assoc (import_types m) (map index_of m.funcs) (map index_of helpers))
+      map-append index_of (import_bodies m plan) (m.funcs ++ helper_funcs m plan)
+      ∙ ap (λ l. map index_of (import_bodies m plan) ++ l) (map-append index_of m.funcs (helper_funcs m plan))
+      ∙ ap (λ l. l ++ (map index_of m.funcs ++ map index_of (helper_funcs m plan))) bodies_types
+      ∙ sym (append_assoc (import_types m) (map index_of m.funcs) (map index_of (helper_funcs m plan)))
 
   shares_signatures : (func : ℕ) (ty : FuncType) → signature (code_of m) func ≡ Some ty
       → signature (code_of replay) func ≡ Some ty
@@ -184,7 +178,7 @@ module _ (m : Module) (supply : Supply) (plan : Plan) (valid : IsValid m)
       let b = and_then_some (slice_get (func_indices m) func) (λ t. slice_get m.types t) ty h in
       ap (λ l. option_and_then (λ t. slice_get replay.types t) (slice_get l func)) all_indices
       ∙ ap (option_and_then (λ t. slice_get replay.types t))
-      (get_front (func_indices m) (map index_of helpers) func (slice_get_within (func_indices m) func b.0 b.1) ∙ b.1)
+      (get_front (func_indices m) (map index_of (helper_funcs m plan)) func (slice_get_within (func_indices m) func b.0 b.1) ∙ b.1)
       ∙ get_front m.types appended_types b.0 (slice_get_within m.types b.0 ty b.2) ∙ b.2
 
   originals_same : (func : ℕ) → imported_funcs m ≤ func → func < start_index m
@@ -195,28 +189,28 @@ module _ (m : Module) (supply : Supply) (plan : Plan) (valid : IsValid m)
       let never : nat_lt func 0 ≡ false = grind (arith, nat_tests) in
       let place : func - 0 ≡ func = omega arith in
       let long = bodies_length in
-      let parts : func ≡ length bodies + (func - imported_funcs m) = omega (arith, past, long) in
+      let parts : func ≡ length (import_bodies m plan) + (func - imported_funcs m) = omega (arith, past, long) in
       let within : func - imported_funcs m < length m.funcs = omega (arith, e, past, below) in
       let look = λ (o : Option Func). option_and_then (λ d. d) (option_map definition_of o) in
       ap (λ b. cond b None (option_and_then (λ d. d) (slice_get (map definition_of replay.funcs) (func - 0)))) never
       ∙ ap (λ n. option_and_then (λ d. d) (slice_get (map definition_of replay.funcs) n)) place
       ∙ ap (option_and_then (λ d. d)) (slice_get-map definition_of replay.funcs func)
       ∙ ap look
-      (get_after_by bodies (m.funcs ++ helpers) func (func - imported_funcs m) parts
-      ∙ get_front m.funcs helpers (func - imported_funcs m) within)
+      (get_after_by (import_bodies m plan) (m.funcs ++ helper_funcs m plan) func (func - imported_funcs m) parts
+      ∙ get_front m.funcs (helper_funcs m plan) (func - imported_funcs m) within)
       ∙ ap (option_and_then (λ d. d)) (sym (slice_get-map definition_of m.funcs (func - imported_funcs m)))
       ∙ ap (λ b. cond b None
       (option_and_then (λ d. d) (slice_get (map definition_of m.funcs) (func - imported_funcs m))))
       (sym own)
 
   -- the helper at a place
-  helper_there : (place : ℕ) (f : Func) → slice_get helpers place ≡ Some f
+  helper_there : (place : ℕ) (f : Func) → slice_get (helper_funcs m plan) place ≡ Some f
       → slice_get replay.funcs (start_index m + place) ≡ Some f
   helper_there place f h =
       let e = functions m in
       let long = bodies_length in
-      get_after_by bodies (m.funcs ++ helpers) (start_index m + place) (length m.funcs + place) (omega (arith, e, long))
-      ∙ get_after_by m.funcs helpers (length m.funcs + place) place refl ∙ h
+      get_after_by (import_bodies m plan) (m.funcs ++ helper_funcs m plan) (start_index m + place) (length m.funcs + place) (omega (arith, e, long))
+      ∙ get_after_by m.funcs (helper_funcs m plan) (length m.funcs + place) place refl ∙ h
 
   start_defined : IsDefined (code_of replay) (start_index m) start_type [] (sequence (segments_code m plan.begin) Empty)
   start_defined =
@@ -260,7 +254,7 @@ module _ (m : Module) (supply : Supply) (plan : Plan) (valid : IsValid m)
               (import_nest (length (all_globals m) + import) (length t.params)
               (first_group (start_index m + 1) plan.imports import) (group_count (length own)))) type_is
               (defined_at replay import _ ty (I32 ∷ []) _ refl
-              (get_front bodies (m.funcs ++ helpers) import (omega (arith, long, below))
+              (get_front (import_bodies m plan) (m.funcs ++ helper_funcs m plan) import (omega (arith, long, below))
               ∙ import_func_there m (length (all_globals m)) (start_index m + 1) (import_types m) plan.imports import
               (length (all_globals m) + import) type_place.0 own index_there calls_there refl)
               (get_front m.types appended_types type_place.0 (slice_get_within m.types type_place.0 ty type_place.2)
@@ -281,7 +275,7 @@ module _ (m : Module) (supply : Supply) (plan : Plan) (valid : IsValid m)
               group index_there calls_there found sum))
               (ap (λ (t : FuncType). slice_get (m.types ++ appended_types)
               (length m.types + group_type_place t.results))
-              type_is ∙ group_typed m ty.results ty_valid.one_result ty_valid.results) refl refl
+              type_is ∙ group_type_there m ty.results ty_valid.one_result ty_valid.results) refl refl
               (group_is_nest m group);
         }
 

@@ -36,16 +36,10 @@ module _ (law : ReplayModulesHaveCode) (m : Module) (supply : Supply) (plan : Pl
   abbrev replay : Module
   replay = replay_module m supply (fragment_of m plan)
 
-  abbrev bodies : List Func
-  bodies = import_bodies m plan
-
-  abbrev helpers : List Func
-  helpers = helper_funcs m plan
-
   code : IsReplayCode m plan (code_of replay)
   code = law m supply plan valid many
 
-  bodies_length : length bodies ≡ imported_funcs m
+  bodies_length : length (import_bodies m plan) ≡ imported_funcs m
   bodies_length =
       import_funcs_length m (length (all_globals m)) (start_index m + 1) (import_types m) plan.imports many
 
@@ -56,8 +50,8 @@ module _ (law : ReplayModulesHaveCode) (m : Module) (supply : Supply) (plan : Pl
         signatures = code.shares.signatures;
         funcs = λ place func found.
             let long = bodies_length in
-            get_after_by bodies (m.funcs ++ helpers) (imported_funcs m + place) place (omega (arith, long))
-            ∙ get_front m.funcs helpers place (slice_get_within m.funcs place func found) ∙ found;
+            get_after_by (import_bodies m plan) (m.funcs ++ helper_funcs m plan) (imported_funcs m + place) place (omega (arith, long))
+            ∙ get_front m.funcs (helper_funcs m plan) place (slice_get_within m.funcs place func found) ∙ found;
       }
 
   entry_typed : func_type replay (start_index m) ≡ Some start_type
@@ -75,9 +69,9 @@ module _ (law : ReplayModulesHaveCode) (m : Module) (supply : Supply) (plan : Pl
   -- there are more functions than in the original
   pub functions_more : start_index m < length (func_indices replay)
   functions_more =
-      let index = length-map (bodies ++ (m.funcs ++ helpers)) (λ (f : Func). f.ty) in
-      let parts = length-append bodies (m.funcs ++ helpers) in
-      let rest = length-append m.funcs helpers in
+      let index = length-map (import_bodies m plan ++ (m.funcs ++ helper_funcs m plan)) (λ (f : Func). f.ty) in
+      let parts = length-append (import_bodies m plan) (m.funcs ++ helper_funcs m plan) in
+      let rest = length-append m.funcs (helper_funcs m plan) in
       let long = bodies_length in
       let all = functions m in
       omega (arith, index, parts, rest, long, all)

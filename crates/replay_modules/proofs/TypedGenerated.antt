@@ -1,16 +1,16 @@
 -- The generated functions have typings in the replay module of a plan that fits.
-use Rattle.std.proofs.Common.{◌≡◌, ℕ, zero, suc, ◌+◌, ◌-◌, ◌<◌, ◌≤◌, List, [], ◌∷◌, ◌++◌, length, Some, true, false, refl, sym, ap, ◌∙◌, subst, arith, option_and_then}
-use Rattle.std.specs.Prelude.{◌*◌, is_some, map, nat_lt, replicate, reverse, slice_get, IsTrue, All, take, drop}
+use Rattle.std.proofs.Common.{◌≡◌, ℕ, zero, suc, ◌+◌, ◌-◌, ◌<◌, ◌≤◌, List, [], ◌∷◌, ◌++◌, length, Some, true, refl, sym, ap, ◌∙◌, subst, arith, option_and_then}
+use Rattle.std.specs.Prelude.{◌*◌, is_some, map, nat_lt, replicate, reverse, slice_get, All, take, drop}
 use Rattle.std.specs.List.{AllByRecursion, range_with_len, slice_index_or}
 use Rattle.std.proofs.lemmas.Bool.Decides.{nat_tests}
 use Rattle.std.proofs.lemmas.List.{append-nil, append_assoc}
-use Rattle.std.proofs.lemmas.List.Elements.{All-append, All-drop, All-from_recursion, All-head, All-take, recursion_from_All}
+use Rattle.std.proofs.lemmas.List.Elements.{All-append, All-drop, All-from_recursion, All-take, recursion_from_All}
 use Rattle.std.proofs.lemmas.List.FromFn.{length-map-range_with_len}
 use Rattle.std.proofs.lemmas.Option.{get_or_from_slice_get, slice_get_within}
 use Rattle.list_laws.proofs.Booleans.{and_parts, and_true}
 use Rattle.list_laws.proofs.Lists.{all_at, get_after_by, get_front, item_there, joined_all}
 use Rattle.wasm_syntax.specs.declared.values.ValType.{ValType}
-use Rattle.wasm_syntax.specs.declared.values.ValType.TheVariants.{I32, I64, F32, F64, FuncRef}
+use Rattle.wasm_syntax.specs.declared.values.ValType.TheVariants.{I32}
 use Rattle.wasm_syntax.specs.declared.signatures.FuncType.{FuncType}
 use Rattle.wasm_syntax.specs.declared.instructions.Instr.{Instr}
 use Rattle.wasm_syntax.specs.declared.instructions.Instr.TheVariants.{End}
@@ -20,7 +20,7 @@ use Rattle.wasm_syntax.specs.declared.modules.Func.{Func}
 use Rattle.wasm_syntax.specs.declared.modules.Module.{Module}
 use Rattle.wasm_syntax.specs.Nest.{Nest, Empty, flat}
 use Rattle.wasm_syntax.specs.Index.{all_globals, all_memories, all_tables, func_indices, func_type, imported_funcs, type_at}
-use Rattle.wasm_syntax.specs.Typing.{Context, IsTyped, is_number}
+use Rattle.wasm_syntax.specs.Typing.{Context, IsTyped}
 use Rattle.wasm_syntax.specs.Validity.{IsFuncType, IsImport, IsTypedFunc, IsValid, body_context}
 use Rattle.host_script.specs.declared.scripts.Supply.{Supply}
 use Rattle.trace_model.specs.declared.tapes.Segment.{Segment}
@@ -30,11 +30,12 @@ use Rattle.replay_plan.specs.declared.plans.Plan.{Plan}
 use Rattle.replay_gen.specs.declared.groups.TheConstants.{GROUP_CALLS}
 use Rattle.replay_gen.specs.Dispatch.{body_of, sequence}
 use Rattle.replay_gen.specs.Segments.{segments_code}
-use Rattle.replay_gen.specs.Functions.{appended_types, group_count, group_func, group_funcs, group_nest, group_type, group_type_place, groups, import_func, import_funcs, import_nest, original_type, start_func, start_type}
+use Rattle.replay_gen.specs.Functions.{appended_types, group_count, group_func, group_funcs, group_nest, group_type, groups, import_func, import_funcs, import_nest, original_type, start_func, start_type}
 use Rattle.replay_gen.specs.Fragments.{counter, fragment_of, helper_funcs, import_bodies, import_types, referred_funcs, start_index}
 use Rattle.module_merge.specs.Merge.{replay_module}
 use Rattle.replay_codes.specs.Codes.{IsReplayCode, first_group}
 use Rattle.replay_codes.specs.Laws.{ReplayModulesHaveCode}
+use Rattle.replay_codes.proofs.Functions.{group_type_there}
 use Rattle.replay_modules.proofs.Wider.{both_parts}
 use Rattle.replay_modules.specs.Plans.{AreFit, CallsFit, PlanFits}
 use Rattle.replay_modules.proofs.Declarations.{IsReferred, in_range, range_end, refers_among}
@@ -60,18 +61,6 @@ same_there (suc count) (suc place) x below = same_there count place x (omega (ar
 last_there : (types : List ValType) → slice_get (types ++ I32 ∷ []) (length types) ≡ Some I32
 last_there types = get_after_by types (I32 ∷ []) (length types) 0 (omega arith)
 
--- a valid type's results have one of the appended types
-group_type_there : (m : Module) (results : List ValType) → length results ≤ 1 → All (λ t. IsTrue (is_number t)) results
-    → slice_get (m.types ++ appended_types) (length m.types + group_type_place results) ≡ Some (group_type results)
-group_type_there m [] one numbers = get_after_by m.types appended_types (length m.types + 1) 1 refl
-group_type_there m (I32 ∷ []) one numbers = get_after_by m.types appended_types (length m.types + 2) 2 refl
-group_type_there m (I64 ∷ []) one numbers = get_after_by m.types appended_types (length m.types + 3) 3 refl
-group_type_there m (F32 ∷ []) one numbers = get_after_by m.types appended_types (length m.types + 4) 4 refl
-group_type_there m (F64 ∷ []) one numbers = get_after_by m.types appended_types (length m.types + 5) 5 refl
-group_type_there m (FuncRef ∷ []) one numbers =
-    let h : IsTrue false = All-head (λ t. IsTrue (is_number t)) FuncRef [] numbers in absurd (cc h)
-group_type_there m (x ∷ y ∷ results) one numbers = absurd (omega (arith, one))
-
 each_group : (m : Module) (results : List ValType) (calls : List (List Segment)) (places : List ℕ)
     → All (AreFit m results) calls
     → AllByRecursion (AllByRecursion (AreFit m results))
@@ -95,12 +84,6 @@ module _ (law : ReplayModulesHaveCode) (m : Module) (supply : Supply) (plan : Pl
     (supplied : IsSupply m supply) (many : length plan.imports ≡ imported_funcs m) (fits : PlanFits m plan) where
   abbrev replay : Module
   replay = replay_module m supply (fragment_of m plan)
-
-  abbrev bodies : List Func
-  bodies = import_bodies m plan
-
-  abbrev helpers : List Func
-  helpers = helper_funcs m plan
 
   abbrev referred : List ℕ
   referred = referred_funcs replay.funcs
@@ -302,22 +285,22 @@ module _ (law : ReplayModulesHaveCode) (m : Module) (supply : Supply) (plan : Pl
   applied [] typed refers = tt
   applied (f ∷ funcs) typed refers = (typed.0 refers.0, applied funcs typed.1 refers.1)
 
-  helpers_refer : AllByRecursion (λ (f : Func). AllByRecursion (IsReferred referred) f.body) helpers
+  helpers_refer : AllByRecursion (λ (f : Func). AllByRecursion (IsReferred referred) f.body) (helper_funcs m plan)
   helpers_refer =
       subst
-      (λ l. AllByRecursion (λ (f : Func). AllByRecursion (IsReferred (referred_funcs l)) f.body) helpers)
-      (append_assoc bodies m.funcs (helpers ++ []) ∙ ap (λ l. bodies ++ (m.funcs ++ l)) (append-nil helpers))
-      (refers_among (bodies ++ m.funcs) helpers [])
+      (λ l. AllByRecursion (λ (f : Func). AllByRecursion (IsReferred (referred_funcs l)) f.body) (helper_funcs m plan))
+      (append_assoc (import_bodies m plan) m.funcs (helper_funcs m plan ++ []) ∙ ap (λ l. import_bodies m plan ++ (m.funcs ++ l)) (append-nil (helper_funcs m plan)))
+      (refers_among (import_bodies m plan ++ m.funcs) (helper_funcs m plan) [])
 
   pub all_typed : All (IsTypedFunc replay) replay.funcs
   all_typed =
-      All-append (IsTypedFunc replay) bodies (m.funcs ++ helpers)
-      (All-from_recursion (IsTypedFunc replay) bodies
-      (applied bodies
+      All-append (IsTypedFunc replay) (import_bodies m plan) (m.funcs ++ helper_funcs m plan)
+      (All-from_recursion (IsTypedFunc replay) (import_bodies m plan)
+      (applied (import_bodies m plan)
       (import_funcs_typed (length (all_globals m)) (start_index m + 1) (import_types m) plan.imports types_there
       group_there counter_there)
-      (refers_among [] bodies (m.funcs ++ helpers))))
-      (All-append (IsTypedFunc replay) m.funcs helpers (originals_typed law m supply plan valid supplied many)
-      (All-from_recursion (IsTypedFunc replay) helpers
-      (applied helpers
+      (refers_among [] (import_bodies m plan) (m.funcs ++ helper_funcs m plan))))
+      (All-append (IsTypedFunc replay) m.funcs (helper_funcs m plan) (originals_typed law m supply plan valid supplied many)
+      (All-from_recursion (IsTypedFunc replay) (helper_funcs m plan)
+      (applied (helper_funcs m plan)
       (start_typed, group_funcs_typed (import_types m) plan.imports types_there fits.imports) helpers_refer)))

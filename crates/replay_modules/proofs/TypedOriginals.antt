@@ -77,12 +77,6 @@ module _ (law : ReplayModulesHaveCode) (m : Module) (supply : Supply) (plan : Pl
   abbrev replay : Module
   replay = replay_module m supply (fragment_of m plan)
 
-  abbrev bodies : List Func
-  bodies = import_bodies m plan
-
-  abbrev helpers : List Func
-  helpers = helper_funcs m plan
-
   abbrev global_type : Global → GlobalType
   global_type g = g.ty
 
@@ -178,5 +172,5 @@ module _ (law : ReplayModulesHaveCode) (m : Module) (supply : Supply) (plan : Pl
   pub originals_typed : All (IsTypedFunc replay) m.funcs
   originals_typed =
       All-from_recursion (IsTypedFunc replay) m.funcs
-      (each_typed m.funcs (refers_among bodies m.funcs helpers)
+      (each_typed m.funcs (refers_among (import_bodies m plan) m.funcs (helper_funcs m plan))
       (recursion_from_All (IsTypedFunc m) m.funcs valid.bodies))

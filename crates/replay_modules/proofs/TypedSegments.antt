@@ -7,7 +7,7 @@ use Rattle.wasm_syntax.specs.declared.values.ValType.{ValType}
 use Rattle.wasm_syntax.specs.declared.signatures.FuncType.{FuncType}
 use Rattle.wasm_syntax.specs.declared.instructions.Instr.{Instr}
 use Rattle.wasm_syntax.specs.declared.instructions.Instr.TheVariants as instr
-use Rattle.wasm_syntax.specs.declared.instructions.Instr.TheVariants.{Const, Drop, Unreachable}
+use Rattle.wasm_syntax.specs.declared.instructions.Instr.TheVariants.{Drop, Unreachable}
 use Rattle.wasm_syntax.specs.declared.modules.Module.{Module}
 use Rattle.wasm_syntax.specs.Nest.{Empty, Plain}
 use Rattle.wasm_syntax.specs.Index.{func_type}

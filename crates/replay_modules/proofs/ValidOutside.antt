@@ -149,12 +149,6 @@ module _ (law : ReplayModulesHaveCode) (m : Module) (supply : Supply) (plan : Pl
   abbrev replay : Module
   replay = replay_module m supply (fragment_of m plan)
 
-  abbrev bodies : List Func
-  bodies = import_bodies m plan
-
-  abbrev helpers : List Func
-  helpers = helper_funcs m plan
-
   abbrev IsNumberGlobal : GlobalType → Type 0
   IsNumberGlobal g = IsTrue (is_number g.ty)
 
@@ -169,11 +163,11 @@ module _ (law : ReplayModulesHaveCode) (m : Module) (supply : Supply) (plan : Pl
 
   funcs_declared : All (IsDeclaredFunc replay) replay.funcs
   funcs_declared =
-      All-append (IsDeclaredFunc replay) bodies (m.funcs ++ helpers)
-      (All-from_recursion (IsDeclaredFunc replay) bodies
+      All-append (IsDeclaredFunc replay) (import_bodies m plan) (m.funcs ++ helper_funcs m plan)
+      (All-from_recursion (IsDeclaredFunc replay) (import_bodies m plan)
       (import_funcs_declared m replay refl (length (all_globals m)) (start_index m + 1) (import_types m) plan.imports
       (types_imported m m.imports imports_valid)))
-      (All-append (IsDeclaredFunc replay) m.funcs helpers
+      (All-append (IsDeclaredFunc replay) m.funcs (helper_funcs m plan)
       (All-weaker (IsDeclaredFunc m) (IsDeclaredFunc replay) (original_declared m replay refl) m.funcs
       valid.outside.funcs)
       (All-cons (IsDeclaredFunc replay) (start_func m plan.begin) (group_funcs m (import_types m) plan.imports)
@@ -231,7 +225,7 @@ module _ (law : ReplayModulesHaveCode) (m : Module) (supply : Supply) (plan : Pl
       (declaration_valid replay declared
       (λ k d below.
       let more = functions_more law m supply plan valid many in
-      let there = referred_below (start_index m) (bodies ++ (m.funcs ++ helpers)) k d below in
+      let there = referred_below (start_index m) (import_bodies m plan ++ (m.funcs ++ helper_funcs m plan)) k d below in
       omega (arith, more, there)))
 
   pub valid_outside : IsValidOutside replay
