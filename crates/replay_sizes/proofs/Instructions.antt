@@ -144,10 +144,10 @@ store_cost access = omega (
   u32_most access.offset,
 )
 
-labels_most : (labels : List ℕ) → items u32_bytes labels ≤ 5 * length labels
-labels_most [] = omega (arith, items_nil u32_bytes)
-labels_most (label ∷ labels) =
-    omega (arith, items_cons u32_bytes label labels, u32_most label, labels_most labels)
+pub indices_most : (indices : List ℕ) → items u32_bytes indices ≤ 5 * length indices
+indices_most [] = omega (arith, items_nil u32_bytes)
+indices_most (index ∷ indices) =
+    omega (arith, items_cons u32_bytes index indices, u32_most index, indices_most indices)
 
 pub br_table_cost : (labels : List ℕ) (default : ℕ) → cost (BrTable labels default) ≤ 11 + 5 * length labels
 unfolding cost instr_bytes
@@ -156,7 +156,7 @@ br_table_cost labels default = omega (
   length-append (vector_bytes u32_bytes labels) (u32_bytes default),
   vector_length u32_bytes labels,
   u32_most (length labels),
-  labels_most labels,
+  indices_most labels,
   u32_most default,
 )
 

@@ -37,7 +37,7 @@ use Rattle.history_spec.specs.Instantiation.{constant, global_value}
 use Rattle.replay_gen.specs.Functions.{appended_types}
 use Rattle.replay_gen.specs.Fragments.{counter}
 use Rattle.module_merge.specs.Merge.{constant_body, constant_data, constant_elem, constant_global, constant_offset, declaration, layout_section, supplied_global}
-use Rattle.replay_sizes.proofs.Instructions.{const_cost, cost_is, end_cost}
+use Rattle.replay_sizes.proofs.Instructions.{const_cost, cost_is, end_cost, indices_most}
 use Rattle.replay_sizes.proofs.Plans.{all_cost}
 use Rattle.replay_sizes.proofs.Segments.{segment_cost}
 use Rattle.replay_sizes.proofs.Bodies.{funcs_cost}
@@ -127,18 +127,31 @@ supplied_most (ty ∷ types) (value ∷ values) =
       supplied_most types values,
     )
 
-pub globals_most : (imported : List Val) (globals : List Global)
-    → items global_bytes (map (constant_global imported) globals) ≤ items global_bytes globals + 12 * length globals
-globals_most imported [] = omega (arith, items_nil global_bytes)
-globals_most imported (g ∷ globals) = omega (
+-- with a constant in the place of what each of some parts computes, each is at most 12 bytes longer
+constants_most : {A : Type 0} (write : A → List ℕ) (with_constant : A → A)
+    → ((x : A) → length (write (with_constant x)) ≤ length (write x) + 12) → (xs : List A)
+    → items write (map with_constant xs) ≤ items write xs + 12 * length xs
+constants_most write with_constant each [] = omega (arith, items_nil write)
+constants_most write with_constant each (x ∷ xs) = omega (
   arith,
-  items_cons global_bytes (constant_global imported g) (map (constant_global imported) globals),
-  items_cons global_bytes g globals,
+  items_cons write (with_constant x) (map with_constant xs),
+  items_cons write x xs,
+  each x,
+  constants_most write with_constant each xs,
+)
+
+global_most : (imported : List Val) (g : Global)
+    → length (global_bytes (constant_global imported g)) ≤ length (global_bytes g) + 12
+global_most imported g = omega (
+  arith,
   global_length (constant_global imported g),
   global_length g,
   constant_most (global_value imported g),
-  globals_most imported globals,
 )
+
+pub globals_most : (imported : List Val) (globals : List Global)
+    → items global_bytes (map (constant_global imported) globals) ≤ items global_bytes globals + 12 * length globals
+globals_most imported = constants_most global_bytes (constant_global imported) (global_most imported)
 
 pub counters_most : (count : ℕ) → items global_bytes (replicate count counter) ≤ 14 * count
 counters_most zero = omega (arith, items_nil global_bytes)
@@ -174,19 +187,7 @@ elem_most imported (Declared funcs) = omega arith
 
 pub elems_most : (imported : List Val) (elems : List ElemSeg)
     → items elem_bytes (map (constant_elem imported) elems) ≤ items elem_bytes elems + 12 * length elems
-elems_most imported [] = omega (arith, items_nil elem_bytes)
-elems_most imported (segment ∷ elems) = omega (
-  arith,
-  items_cons elem_bytes (constant_elem imported segment) (map (constant_elem imported) elems),
-  items_cons elem_bytes segment elems,
-  elem_most imported segment,
-  elems_most imported elems,
-)
-
-indices_most : (indices : List ℕ) → items u32_bytes indices ≤ 5 * length indices
-indices_most [] = omega (arith, items_nil u32_bytes)
-indices_most (index ∷ indices) =
-    omega (arith, items_cons u32_bytes index indices, u32_most index, indices_most indices)
+elems_most imported = constants_most elem_bytes (constant_elem imported) (elem_most imported)
 
 declared_most : (funcs : List ℕ) → length (elem_bytes (Declared funcs)) ≤ 11 + 5 * length funcs
 unfolding elem_bytes
@@ -218,18 +219,18 @@ data_length segment = omega (
   length-append (body_bytes segment.offset) (sized_bytes segment.bytes),
 )
 
-pub datas_most : (imported : List Val) (datas : List DataSeg)
-    → items data_bytes (map (constant_data imported) datas) ≤ items data_bytes datas + 12 * length datas
-datas_most imported [] = omega (arith, items_nil data_bytes)
-datas_most imported (segment ∷ datas) = omega (
+data_most : (imported : List Val) (segment : DataSeg)
+    → length (data_bytes (constant_data imported segment)) ≤ length (data_bytes segment) + 12
+data_most imported segment = omega (
   arith,
-  items_cons data_bytes (constant_data imported segment) (map (constant_data imported) datas),
-  items_cons data_bytes segment datas,
   data_length (constant_data imported segment),
   data_length segment,
   constant_most (constant imported (zero_of I32) segment.offset),
-  datas_most imported datas,
 )
+
+pub datas_most : (imported : List Val) (datas : List DataSeg)
+    → items data_bytes (map (constant_data imported) datas) ≤ items data_bytes datas + 12 * length datas
+datas_most imported = constants_most data_bytes (constant_data imported) (data_most imported)
 
 -- ---- functions
 

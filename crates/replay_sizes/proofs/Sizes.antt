@@ -10,9 +10,9 @@ use Rattle.wasm_syntax.specs.Index.{all_globals, imported_funcs, imported_global
 use Rattle.wasm_syntax.specs.Validity.{IsValid}
 use Rattle.wasm_syntax.specs.Encoding.Forms.{IsCoreModule}
 use Rattle.wasm_syntax.specs.Encoding.Modules.{code_of}
-use Rattle.wasm_syntax.specs.Encoding.Sections.{CodeSection, CustomSection, DataSection, ElementSection, ExportSection, FunctionSection, GlobalSection, ImportSection, MemorySection, StartSection, TableSection, TypeSection}
+use Rattle.wasm_syntax.specs.Encoding.Sections.{CodeSection, CustomSection, DataSection, ElementSection, ExportSection, FunctionSection, GlobalSection, ImportSection, MemorySection, StartSection, TableSection, TypeSection, Section}
 use Rattle.wasm_syntax.specs.Encoding.Shortest.{code_bytes, data_bytes, elem_bytes, encoding_of, export_bytes, func_type_bytes, global_bytes, import_bytes, limits_bytes, section_bytes, table_type_bytes, unless_empty}
-use Rattle.encoding_sizes.proofs.Items.{items, items_append, items_cons, items_nil, list_least, list_most, section_most}
+use Rattle.encoding_sizes.proofs.Items.{items, items_append, items_cons, items_nil, list_least, list_most, section_most, IsVectorOf}
 use Rattle.encoding_sizes.proofs.Sections.{codes_are, encoding_parts, exports_are, functions_are, globals_are, imports_are, part, part_is, types_are}
 use Rattle.trace_model.specs.declared.tapes.Tape.{Tape}
 use Rattle.trace_model.specs.Weight.{tape_weight}
@@ -34,6 +34,15 @@ use Rattle.replay_sizes.proofs.Modules.{all_most, appended_length, counters_most
 pub no_part : part [] ≡ 0
 no_part = omega (arith, part_is [], items_nil section_bytes)
 
+-- the section of a list takes its items' bytes at least, and few more
+part_least : {A : Type 0} (make : List A → Section) (write : A → List ℕ) → IsVectorOf make write → (xs : List A)
+    → items write xs ≤ part (unless_empty make xs)
+part_least make write is xs = omega (arith, part_is (unless_empty make xs), list_least make write is xs)
+
+part_most : {A : Type 0} (make : List A → Section) (write : A → List ℕ) → IsVectorOf make write → (xs : List A)
+    → part (unless_empty make xs) ≤ 11 + items write xs
+part_most make write is xs = omega (arith, part_is (unless_empty make xs), list_most make write is xs)
+
 -- a module without imports and start function has few bytes more than what stands in its sections
 encoding_upper : (r : Module) → r.imports ≡ [] → r.start ≡ None
     → length (encoding_of r)
@@ -50,24 +59,15 @@ encoding_upper r alone still =
       imports,
       start,
       no_part,
-      part_is (unless_empty TypeSection r.types),
-      list_most TypeSection func_type_bytes types_are r.types,
-      part_is (unless_empty FunctionSection (map (λ func. func.ty) r.funcs)),
-      list_most FunctionSection u32_bytes functions_are (map (λ func. func.ty) r.funcs),
-      part_is (unless_empty TableSection r.tables),
-      list_most TableSection table_type_bytes tables_are r.tables,
-      part_is (unless_empty MemorySection r.memories),
-      list_most MemorySection limits_bytes memories_are r.memories,
-      part_is (unless_empty GlobalSection r.globals),
-      list_most GlobalSection global_bytes globals_are r.globals,
-      part_is (unless_empty ExportSection r.exports),
-      list_most ExportSection export_bytes exports_are r.exports,
-      part_is (unless_empty ElementSection r.elems),
-      list_most ElementSection elem_bytes elems_are r.elems,
-      part_is (unless_empty CodeSection (map code_of r.funcs)),
-      list_most CodeSection code_bytes codes_are (map code_of r.funcs),
-      part_is (unless_empty DataSection r.datas),
-      list_most DataSection data_bytes datas_are r.datas,
+      part_most TypeSection func_type_bytes types_are r.types,
+      part_most FunctionSection u32_bytes functions_are (map (λ func. func.ty) r.funcs),
+      part_most TableSection table_type_bytes tables_are r.tables,
+      part_most MemorySection limits_bytes memories_are r.memories,
+      part_most GlobalSection global_bytes globals_are r.globals,
+      part_most ExportSection export_bytes exports_are r.exports,
+      part_most ElementSection elem_bytes elems_are r.elems,
+      part_most CodeSection code_bytes codes_are (map code_of r.funcs),
+      part_most DataSection data_bytes datas_are r.datas,
     )
 
 -- an encoding is no shorter than what stands in its sections
@@ -79,20 +79,13 @@ pub encoding_lower : (m : Module)
 encoding_lower m = omega (
   arith,
   encoding_parts m,
-  part_is (unless_empty TypeSection m.types),
-  list_least TypeSection func_type_bytes types_are m.types,
-  part_is (unless_empty ImportSection m.imports),
-  list_least ImportSection import_bytes imports_are m.imports,
-  part_is (unless_empty FunctionSection (map (λ func. func.ty) m.funcs)),
-  list_least FunctionSection u32_bytes functions_are (map (λ func. func.ty) m.funcs),
-  part_is (unless_empty GlobalSection m.globals),
-  list_least GlobalSection global_bytes globals_are m.globals,
-  part_is (unless_empty ElementSection m.elems),
-  list_least ElementSection elem_bytes elems_are m.elems,
-  part_is (unless_empty CodeSection (map code_of m.funcs)),
-  list_least CodeSection code_bytes codes_are (map code_of m.funcs),
-  part_is (unless_empty DataSection m.datas),
-  list_least DataSection data_bytes datas_are m.datas,
+  part_least TypeSection func_type_bytes types_are m.types,
+  part_least ImportSection import_bytes imports_are m.imports,
+  part_least FunctionSection u32_bytes functions_are (map (λ func. func.ty) m.funcs),
+  part_least GlobalSection global_bytes globals_are m.globals,
+  part_least ElementSection elem_bytes elems_are m.elems,
+  part_least CodeSection code_bytes codes_are (map code_of m.funcs),
+  part_least DataSection data_bytes datas_are m.datas,
 )
 
 layout_part : (m : Module) → part (map CustomSection (layout_section m ∷ [])) ≤ 30
