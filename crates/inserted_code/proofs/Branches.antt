@@ -109,48 +109,60 @@ module _ (meter : Meter) (s : Site) (ty : FuncType) (last : ℕ) (other : Frame)
           subst (λ k. AreWeights meter (renumber n s.func) (number + k) more) (weighed body)
           (later_weights meter (renumber n s.func) number (weights_of_nest s body) more h)
 
+      -- the number after a body that begins after this one
+      abbrev after_body : Nest → ℕ → ℕ
+      after_body body number = number + 1 + size (instrumented_nest s body)
+
+      -- the weights of a body, and of what is after it
+      module _ (body rest : Nest) (number : ℕ)
+          (h : AreWeights meter (renumber n s.func) (number + 1) (weights_of_nest s body ++ weights_of_nest s rest)) where
+        body_weights : AreWeights meter (renumber n s.func) (number + 1) (weights_of_nest s body)
+        body_weights =
+            first_weights meter (renumber n s.func) (number + 1) (weights_of_nest s body) (weights_of_nest s rest) h
+
+        rest_weights : AreWeights meter (renumber n s.func) (after_body body number) (weights_of_nest s rest)
+        rest_weights = after_nest body (number + 1) (weights_of_nest s rest) h
+
+      -- the second activation, with the labels beside those of the first
+      abbrev with_labels : Frame
+      with_labels = record other { labels = hooked_labels s ty frame.labels numbers last }
+
+      -- control goes into a nest in both
+      abbrev IsEntered : Nest → (at number : ℕ) → Type 0
+      IsEntered nest at number =
+          IsMoved (execute_at code store frame nest at)
+          (execute_at second (renumbered_view n store) with_labels (instrumented_nest s nest) number)
+
       -- a block or a loop
       pub enters_block : (block : Option ValType) (body rest : Nest) (at number : ℕ)
-          → IsWeighed meter s (InBlock block body rest) number
-          → IsMoved (execute_at code store frame (InBlock block body rest) at)
-          (execute_at second (renumbered_view n store)
-          (record other { labels = hooked_labels s ty frame.labels numbers last })
-          (instrumented_nest s (InBlock block body rest)) number)
+          → IsWeighed meter s (InBlock block body rest) number → IsEntered (InBlock block body rest) at number
       enters_block block body rest at number h =
-          let k = number + 1 + size (instrumented_nest s body) in
-          let after = after_nest body (number + 1) (weights_of_nest s rest) h.1 in
+          let k = after_body body number in
+          let after = rest_weights body rest number h.1 in
           record {
             numbers = (k, k) ∷ numbers;
             number = number + 1;
             labels = (after, after, labels);
-            at = first_weights meter (renumber n s.func) (number + 1) (weights_of_nest s body) (weights_of_nest s rest)
-                h.1;
+            at = body_weights body rest number h.1;
             is = ap
-                (λ values. enters (renumbered_view n store)
-                (record other { labels = hooked_labels s ty frame.labels numbers last }) [] values (block_arity block)
+                (λ values. enters (renumbered_view n store) with_labels [] values (block_arity block)
                 (place (instrumented_nest s body) (number + 1)) (place (instrumented_nest s rest) k)
                 (place (instrumented_nest s rest) k))
                 alike;
           }
 
       pub enters_loop : (block : Option ValType) (body rest : Nest) (at number : ℕ)
-          → IsWeighed meter s (InLoop block body rest) number
-          → IsMoved (execute_at code store frame (InLoop block body rest) at)
-          (execute_at second (renumbered_view n store)
-          (record other { labels = hooked_labels s ty frame.labels numbers last })
-          (instrumented_nest s (InLoop block body rest)) number)
+          → IsWeighed meter s (InLoop block body rest) number → IsEntered (InLoop block body rest) at number
       enters_loop block body rest at number h =
-          let k = number + 1 + size (instrumented_nest s body) in
-          let after = after_nest body (number + 1) (weights_of_nest s rest) h.1 in
+          let k = after_body body number in
+          let after = rest_weights body rest number h.1 in
           record {
             numbers = (number, k) ∷ numbers;
             number = number + 1;
             labels = (h, after, labels);
-            at = first_weights meter (renumber n s.func) (number + 1) (weights_of_nest s body) (weights_of_nest s rest)
-                h.1;
+            at = body_weights body rest number h.1;
             is = ap
-                (λ values. enters (renumbered_view n store)
-                (record other { labels = hooked_labels s ty frame.labels numbers last }) [] values 0
+                (λ values. enters (renumbered_view n store) with_labels [] values 0
                 (place (instrumented_nest s body) (number + 1))
                 (place (instrumented_nest s (InLoop block body rest)) number) (place (instrumented_nest s rest) k))
                 alike;
@@ -163,34 +175,28 @@ module _ (meter : Meter) (s : Site) (ty : FuncType) (last : ℕ) (other : Frame)
           (enters store frame operands values (block_arity block)
           (choice bits (place body (at + 1)) (place Empty (at + 1 + size body))) (place rest (at + 1 + size body))
           (place rest (at + 1 + size body)))
-          (enters (renumbered_view n store) (record other { labels = hooked_labels s ty frame.labels numbers last })
-          operands values (block_arity block)
+          (enters (renumbered_view n store) with_labels operands values (block_arity block)
           (choice bits (place (instrumented_nest s body) (number + 1))
-          (place Empty (number + 1 + size (instrumented_nest s body))))
-          (place (instrumented_nest s rest) (number + 1 + size (instrumented_nest s body)))
-          (place (instrumented_nest s rest) (number + 1 + size (instrumented_nest s body))))
+          (place Empty (after_body body number)))
+          (place (instrumented_nest s rest) (after_body body number))
+          (place (instrumented_nest s rest) (after_body body number)))
       if_chosen block body rest at number h operands values zero =
-          let k = number + 1 + size (instrumented_nest s body) in
-          let after = after_nest body (number + 1) (weights_of_nest s rest) h.1 in
+          let k = after_body body number in
+          let after = rest_weights body rest number h.1 in
           record { numbers = (k, k) ∷ numbers; number = k; labels = (after, after, labels); at = tt; is = refl }
       if_chosen block body rest at number h operands values (suc bits) =
-          let k = number + 1 + size (instrumented_nest s body) in
-          let after = after_nest body (number + 1) (weights_of_nest s rest) h.1 in
+          let k = after_body body number in
+          let after = rest_weights body rest number h.1 in
           record {
             numbers = (k, k) ∷ numbers;
             number = number + 1;
             labels = (after, after, labels);
-            at = first_weights meter (renumber n s.func) (number + 1) (weights_of_nest s body) (weights_of_nest s rest)
-                h.1;
+            at = body_weights body rest number h.1;
             is = refl;
           }
 
       pub enters_if : (block : Option ValType) (body rest : Nest) (at number : ℕ)
-          → IsWeighed meter s (InIf block body rest) number
-          → IsMoved (execute_at code store frame (InIf block body rest) at)
-          (execute_at second (renumbered_view n store)
-          (record other { labels = hooked_labels s ty frame.labels numbers last })
-          (instrumented_nest s (InIf block body rest)) number)
+          → IsWeighed meter s (InIf block body rest) number → IsEntered (InIf block body rest) at number
       enters_if block body rest at number h =
           subst
           (λ values. IsMoved (on (pop (I32 ∷ []) frame.values) first) (on (pop (I32 ∷ []) values) chosen))
@@ -204,12 +210,11 @@ module _ (meter : Meter) (s : Site) (ty : FuncType) (last : ℕ) (other : Frame)
 
           chosen : Operands → Execution
           chosen p =
-              enters (renumbered_view n store) (record other { labels = hooked_labels s ty frame.labels numbers last })
-              p.operands p.rest (block_arity block)
+              enters (renumbered_view n store) with_labels p.operands p.rest (block_arity block)
               (choice (bits_at p.operands 0) (place (instrumented_nest s body) (number + 1))
-              (place Empty (number + 1 + size (instrumented_nest s body))))
-              (place (instrumented_nest s rest) (number + 1 + size (instrumented_nest s body)))
-              (place (instrumented_nest s rest) (number + 1 + size (instrumented_nest s body)))
+              (place Empty (after_body body number)))
+              (place (instrumented_nest s rest) (after_body body number))
+              (place (instrumented_nest s rest) (after_body body number))
 
           go : (o : Option Operands) → IsMoved (on o first) (on o chosen)
           go None = tt

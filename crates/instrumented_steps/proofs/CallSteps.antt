@@ -14,15 +14,15 @@ use Rattle.host_script.specs.declared.scripts.Answer.{Answer}
 use Rattle.host_script.specs.Fits.{FitAnswers}
 use Rattle.history_spec.specs.Store.{Store}
 use Rattle.history_spec.specs.Code.{Definition, code_of}
-use Rattle.history_spec.specs.Configuration.{Place, place, Frame, Activation, InModule}
+use Rattle.history_spec.specs.Configuration.{place, Frame, Activation, InModule}
 use Rattle.history_spec.specs.Instruction.{Goes, Calls, Returns, Execution, Did, Traps, NoRule, execute_plain}
 use Rattle.history_spec.specs.Run.{Meter}
-use Rattle.history_spec.specs.Step.{Program, Progress, StepResult, call_function}
+use Rattle.history_spec.specs.Step.{Program, StepResult, call_function}
 use Rattle.type_safety.specs.Configurations.{scope, IsTypedCode}
 use Rattle.type_safety.specs.Heights.{Heights}
 use Rattle.type_safety.specs.Results.{HasRule, IsControl}
 use Rattle.hook_spec.specs.Hooks.{renumber, renumbered_view}
-use Rattle.hook_spec.specs.Insertions.{Site, inserted_before, inserted_after}
+use Rattle.hook_spec.specs.Insertions.{inserted_after}
 use Rattle.hook_spec.specs.Instrumented.{renumbered, weightless, weights_of_nest}
 use Rattle.hook_spec.specs.ToldCalls.{WaitingCall, told_before, told_after}
 use Rattle.calls_follow.proofs.CoreFrames.{CallsAs}
@@ -37,7 +37,7 @@ use Rattle.inserted_code.proofs.Leads as leads
 use Rattle.inserted_code.proofs.Pieces.{HasHooks}
 use Rattle.instrumented_steps.proofs.Ready as ready
 use Rattle.instrumented_steps.proofs.Ready.{IsReady}
-use Rattle.inserted_code.proofs.Relation.{Beside, type_of, site_at, frame_beside, awaited_piece, waiting_stack}
+use Rattle.inserted_code.proofs.Relation.{Beside, frame_beside, awaited_piece}
 use Rattle.inserted_code.proofs.Scratch.{scratch_values}
 use Rattle.instrumented_steps.proofs.Settled as settled
 use Rattle.instrumented_steps.proofs.ToldBefore as told_first
@@ -66,20 +66,7 @@ module _ (m : Module) (heights : Heights) (valid : IsValid m) (typed : IsTypedCo
     abbrev frame : Frame
     frame = record f { at = place (Plain i rest) number }
 
-    abbrev site : Site
-    site = site_at m f.func
-
-    abbrev ty : FuncType
-    ty = type_of m f.func
-
-    abbrev hooked : Frame
-    hooked = frame_beside m meter frame [] b
-
-    abbrev hooked_below : List Activation
-    hooked_below = waiting_stack m meter ty.results below waiting bs
-
-    abbrev start : Progress
-    start = leads.running n other meter (renumbered_view n store) second hooked_below hooked
+    open (ready.names m other meter store frame below waiting b bs second) use {site, ty, hooked, hooked_below, start}
 
     abbrev exec : Execution
     exec = execute_plain (code_of m) store frame (place rest (number + 1)) i
@@ -92,30 +79,12 @@ module _ (m : Module) (heights : Heights) (valid : IsValid m) (typed : IsTypedCo
 
     module _ (known : IsReady m heights meter store counts frame below waiting b bs second body) (is : IsCallInstr i)
         (core : IsCoreInstr i) (rule : IsRule exec) (long : length counts ≡ n) where
-      abbrev t : before.Tells site other meter has store hooked_below hooked f.locals known.beside.locals second
-          b.scratch
-          f.values (inserted_before site i) (told_before i (operands_of exec) store)
-      t = told_first.t m heights valid program other meter has pieces store counts f i rest number below waiting b bs
-          second body known (call_no_return i is) core rule
-
-      abbrev at_instr : Frame
-      at_instr =
-          told_first.at_instr m heights valid program other meter has pieces store counts f i rest number below waiting
-          b bs second body known (call_no_return i is) core rule (renumbered n i)
-
-      abbrev middle : Progress
-      middle = told_first.middle m heights valid program other meter has pieces store counts f i rest number below
-          waiting b bs second body known (call_no_return i is) core rule
-
-      abbrev next_there : Place
-      next_there = told_first.hooked_next m heights valid program other meter has pieces store counts f i rest number
-          below waiting b bs second body
+      -- what is inserted before it is told
+      open (told_first.names m heights valid program other meter has pieces store counts f i rest number below waiting b bs second body known (call_no_return i is) core rule) use {t, at_instr, middle, next_there, hooked_exec, to_instr, weighs, trapped}
 
       abbrev IsAlike : Execution → Type 0
       IsAlike x =
-          IsCalledAlike n hooked (scratch_values t.scratch) next_there x
-          (told_first.hooked_exec m heights valid program other meter has pieces store counts f i rest number below
-          waiting b bs second body known (call_no_return i is) core rule)
+          IsCalledAlike n hooked (scratch_values t.scratch) next_there x hooked_exec
 
       alike : IsAlike exec
       alike =
@@ -124,10 +93,6 @@ module _ (m : Module) (heights : Heights) (valid : IsValid m) (typed : IsTypedCo
           (Plain (renumbered n i) (executed.instr_rest m other meter has store second hooked_below f i rest number b))
           (executed.instr_number m other meter has store second hooked_below f i rest number b))
           next_there i is
-
-      weighs : meter.instruction at_instr.func at_instr.at.number ≡ 1
-      weighs = told_first.weighs m heights valid program other meter has pieces store counts f i rest number below
-          waiting b bs second body known (call_no_return i is) core rule
 
       -- it calls a function
       module _ (values : List Val) (func : ℕ) (args operands results : List Val) (found : Option ℕ) where
@@ -157,8 +122,7 @@ module _ (m : Module) (heights : Heights) (valid : IsValid m) (typed : IsTypedCo
             (settled.told_of m heights other meter has (Some i) store store waiting_now s.entries)
             (settled.waiting_of m heights other meter has (Some i) store store waiting_now s.entries) s.next start
             middle 0 1
-            (told_first.to_instr m heights valid program other meter has pieces store counts f i rest number below
-            waiting b bs second body known (call_no_return i is) core rule)
+            to_instr
             (follows.after_way m other meter []
             (settled.told_of m heights other meter has (Some i) store store waiting_now s.entries)
             (settled.waiting_of m heights other meter has (Some i) store store waiting_now s.entries) s.next middle
@@ -231,8 +195,7 @@ module _ (m : Module) (heights : Heights) (valid : IsValid m) (typed : IsTypedCo
       call_step NoRule e fine named = absurd fine
       call_step (Traps kind operands found) e fine named =
           let second_trap = subst IsAlike e alike in
-          told_first.trapped m heights valid program other meter has pieces store counts f i rest number below waiting b
-          bs second body known (call_no_return i is) core rule kind operands found second_trap.0 e second_trap.1
+          trapped kind operands found second_trap.0 e second_trap.1
       call_step (Did operands results found (Goes left next)) e fine named =
           absurd
           (subst (kept.IsCalledOn store frame (place rest (number + 1))) e

@@ -15,7 +15,7 @@ use Rattle.host_script.specs.declared.scripts.Response.{Response}
 use Rattle.host_script.specs.Fits.{FitAnswers}
 use Rattle.history_spec.specs.declared.entries.FaultKind.TheVariants.{NoResponse}
 use Rattle.history_spec.specs.Store.{Store}
-use Rattle.history_spec.specs.Code.{Definition, code_of, signature, definition, zero_of}
+use Rattle.history_spec.specs.Code.{Definition, code_of, signature, definition}
 use Rattle.history_spec.specs.Configuration.{place, Frame, Activation, InModule, InImport, with_results}
 use Rattle.history_spec.specs.Run.{Meter}
 use Rattle.history_spec.specs.Settle.{at_end, deliver, settle}
@@ -26,12 +26,12 @@ use Rattle.type_safety.specs.Heights.{Heights}
 use Rattle.type_safety.specs.Stores.{func_count}
 use Rattle.type_safety.specs.Values.{AreValues}
 use Rattle.type_safety.proofs.Responses.{response_fits}
-use Rattle.type_safety.proofs.Values.{append_values, zero_values}
 use Rattle.type_safety.proofs.SettleEnds.{IsEnd, results_end}
 use Rattle.hook_spec.specs.Hooks.{renumber, hook_count, renumbered_view}
 use Rattle.hook_spec.specs.HookedRuns.{renumbered_action, renumbered_response}
 use Rattle.hook_spec.specs.ToldCalls.{WaitingCall, told_enter, latest_args}
 use Rattle.calls_follow.proofs.Ordered.{types_are}
+use Rattle.calls_follow.proofs.ModuleFacts.{entered_frame}
 use Rattle.inserted_code.proofs.DefinedFunctions.{type_is}
 use Rattle.instrumented_steps.proofs.Delivers as delivers
 use Rattle.instrumented_steps.proofs.Delivers.{AreResults, results_good, none_good}
@@ -162,21 +162,7 @@ module _ (m : Module) (heights : Heights) (valid : IsValid m) (typed : IsTypedCo
         frame = frame_of func ty d.0 args
 
         fine : IsFrame (scope m heights func ty d.0) [] frame
-        fine = record {
-          labels = [];
-          given = reverse ty.results;
-          types = [];
-          around = record {
-            scope = record { has_type = has_type; defined = d.1 };
-            func = refl;
-            arity = refl;
-            locals = append_values (func_count m) ty.params d.0.locals args (map zero_of d.0.locals) p
-                (zero_values (func_count m) d.0.locals);
-            blocks = refl;
-          };
-          values = tt;
-          code = d.2;
-        }
+        fine = entered_frame m heights func ty d.0 args has_type d.1 p d.2
 
         e : facts.EntersBody m other meter store second func ty d.0 args hooked_stack
         e = pieces.enters_body store second func ty d.0 args hooked_stack has_type d.1 own

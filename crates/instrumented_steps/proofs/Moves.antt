@@ -3,7 +3,6 @@ use Rattle.std.proofs.Common.{◌≡◌, ℕ, List, [], ◌∷◌, ◌++◌, len
 use Rattle.std.proofs.lemmas.Bool.Decides.{nat_tests}
 use Rattle.std.proofs.lemmas.List.{append-nil, reverse-reverse, length-reverse, take_all}
 use Rattle.wasm_syntax.specs.declared.values.Val.{Val}
-use Rattle.wasm_syntax.specs.declared.signatures.FuncType.{FuncType}
 use Rattle.wasm_syntax.specs.declared.instructions.Instr.{Instr}
 use Rattle.wasm_syntax.specs.declared.modules.Module.{Module}
 use Rattle.wasm_syntax.specs.Index.{imported_funcs, all_globals}
@@ -27,7 +26,6 @@ use Rattle.type_safety.specs.Stores.{func_count}
 use Rattle.type_safety.specs.Values.{AreValues}
 use Rattle.type_safety.proofs.Values.{length_values}
 use Rattle.hook_spec.specs.Hooks.{renumber, renumbered_view}
-use Rattle.hook_spec.specs.Insertions.{Site}
 use Rattle.hook_spec.specs.Instrumented.{instrumented_nest}
 use Rattle.hook_spec.specs.ToldCalls.{WaitingCall, Moment, next_of_nest, told_by_step, told_by_trap, waiting_after_step}
 use Rattle.inserted_code.proofs.Branches as branches
@@ -38,7 +36,7 @@ use Rattle.inserted_code.proofs.Leads as leads
 use Rattle.inserted_code.proofs.Pieces.{HasHooks}
 use Rattle.instrumented_steps.proofs.Ready as ready
 use Rattle.instrumented_steps.proofs.Ready.{IsReady}
-use Rattle.inserted_code.proofs.Relation.{Beside, type_of, site_at, frame_beside, waiting_stack}
+use Rattle.inserted_code.proofs.Relation.{Beside, frame_beside}
 use Rattle.instrumented_steps.proofs.Settled as settled
 use Rattle.type_safety.proofs.SettleEnds.{results_end}
 use Rattle.inserted_code.proofs.PieceFacts.{HasPieces}
@@ -71,20 +69,7 @@ module _ (m : Module) (heights : Heights) (valid : IsValid m) (program other : P
     abbrev frame : Frame
     frame = record f { at = place nest number }
 
-    abbrev site : Site
-    site = site_at m f.func
-
-    abbrev ty : FuncType
-    ty = type_of m f.func
-
-    abbrev hooked : Frame
-    hooked = frame_beside m meter frame [] b
-
-    abbrev hooked_below : List Activation
-    hooked_below = waiting_stack m meter ty.results below waiting bs
-
-    abbrev start : Progress
-    start = leads.running n other meter (renumbered_view n store) second hooked_below hooked
+    open (ready.names m other meter store frame below waiting b bs second) use {site, ty, hooked, hooked_below, start}
 
     abbrev instr : Option Instr
     instr = next_of_nest nest

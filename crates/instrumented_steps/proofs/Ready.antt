@@ -5,6 +5,7 @@ use Rattle.wasm_syntax.specs.declared.instructions.Instr.{Instr}
 use Rattle.wasm_syntax.specs.declared.modules.Module.{Module}
 use Rattle.wasm_syntax.specs.Index.{imported_funcs}
 use Rattle.wasm_syntax.specs.Validity.{IsValid}
+use Rattle.wasm_syntax.specs.declared.signatures.FuncType.{FuncType}
 use Rattle.history_spec.specs.Store.{Store}
 use Rattle.history_spec.specs.Code.{Definition}
 use Rattle.history_spec.specs.Configuration.{Frame, Activation, InModule, Config}
@@ -15,10 +16,13 @@ use Rattle.type_safety.specs.Configurations.{scope, Accept}
 use Rattle.type_safety.specs.Frames.{IsFrame}
 use Rattle.type_safety.specs.Heights.{Heights}
 use Rattle.hook_spec.specs.ToldCalls.{WaitingCall, store_executed}
+use Rattle.hook_spec.specs.Hooks.{renumbered_view}
+use Rattle.hook_spec.specs.Insertions.{Site}
+use Rattle.inserted_code.proofs.Leads as leads
 use Rattle.instrumented_steps.proofs.Delivers as delivers
 use Rattle.instrumented_steps.proofs.Delivers.{AreResults}
 use Rattle.inserted_code.proofs.Pieces.{HasHooks}
-use Rattle.inserted_code.proofs.Relation.{Beside, type_of, IsBeside, AreWaiting, AreCounted}
+use Rattle.inserted_code.proofs.Relation.{Beside, type_of, IsBeside, AreWaiting, AreCounted, site_at, frame_beside, waiting_stack}
 use Rattle.instrumented_steps.proofs.Settled as settled
 use Rattle.inserted_code.proofs.PieceFacts.{HasPieces, HasGlobals}
 
@@ -33,6 +37,27 @@ pub record IsReady (m : Module) (heights : Heights) (meter : Meter) (store : Sto
   pub waits : AreWaiting m meter (type_of m frame.func).results below waiting bs
   pub counted : AreCounted (imported_funcs m) counts second
   pub globals : HasGlobals m store
+
+-- what stands in the run of the instrumented module beside an activation and those below it
+pub record Names : Type 0 where
+  pub site : Site
+  pub ty : FuncType
+  pub hooked : Frame
+  pub hooked_below : List Activation
+  pub start : Progress
+
+abbrev pub names : (m : Module) (other : Program) (meter : Meter) (store : Store) (frame : Frame)
+    (below : List Activation) → List WaitingCall → Beside → List Beside → (second : List ℕ) → Names
+names m other meter store frame below waiting b bs second =
+    record {
+      site = site_at m frame.func;
+      ty = type_of m frame.func;
+      hooked = frame_beside m meter frame [] b;
+      hooked_below = waiting_stack m meter (type_of m frame.func).results below waiting bs;
+      start =
+          leads.running (imported_funcs m) other meter (renumbered_view (imported_funcs m) store) second
+          (waiting_stack m meter (type_of m frame.func).results below waiting bs) (frame_beside m meter frame [] b);
+    }
 
 module _ (m : Module) (heights : Heights) (valid : IsValid m) (program other : Program) (meter : Meter)
     (has : HasHooks (imported_funcs m) other meter) (pieces : HasPieces m other meter has) where

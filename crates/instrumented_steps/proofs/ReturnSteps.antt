@@ -1,7 +1,6 @@
 -- A step by `return`, and the same in the instrumented run.
 use Rattle.std.proofs.Common.{◌≡◌, ℕ, List, [], ◌∷◌, ◌++◌, Option, Some, None, refl, sym, ap, subst}
 use Rattle.wasm_syntax.specs.declared.values.Val.{Val}
-use Rattle.wasm_syntax.specs.declared.signatures.FuncType.{FuncType}
 use Rattle.wasm_syntax.specs.declared.instructions.Instr.TheVariants as instrs
 use Rattle.wasm_syntax.specs.declared.modules.Module.{Module}
 use Rattle.wasm_syntax.specs.Index.{imported_funcs}
@@ -20,7 +19,7 @@ use Rattle.type_safety.specs.Heights.{Heights}
 use Rattle.type_safety.specs.Results.{HasRule}
 use Rattle.hook_spec.specs.declared.hooks.Hook.TheVariants.{Leave}
 use Rattle.hook_spec.specs.Hooks.{HookCall, renumbered_view}
-use Rattle.hook_spec.specs.Insertions.{Site, inserted_before}
+use Rattle.hook_spec.specs.Insertions.{inserted_before}
 use Rattle.hook_spec.specs.ToldCalls.{WaitingCall, told_number}
 use Rattle.inserted_code.proofs.Before as before
 use Rattle.instrumented_steps.proofs.Executed as executed
@@ -30,7 +29,7 @@ use Rattle.inserted_code.proofs.Leads as leads
 use Rattle.inserted_code.proofs.Pieces.{HasHooks}
 use Rattle.instrumented_steps.proofs.Ready as ready
 use Rattle.instrumented_steps.proofs.Ready.{IsReady}
-use Rattle.inserted_code.proofs.Relation.{Beside, type_of, site_at, frame_beside, waiting_stack}
+use Rattle.inserted_code.proofs.Relation.{Beside}
 use Rattle.instrumented_steps.proofs.Settled as settled
 use Rattle.inserted_code.proofs.PieceFacts.{HasPieces}
 
@@ -44,20 +43,7 @@ module _ (m : Module) (heights : Heights) (valid : IsValid m) (program other : P
     abbrev frame : Frame
     frame = record f { at = place (Plain instrs.Return rest) number }
 
-    abbrev site : Site
-    site = site_at m f.func
-
-    abbrev ty : FuncType
-    ty = type_of m f.func
-
-    abbrev hooked : Frame
-    hooked = frame_beside m meter frame [] b
-
-    abbrev hooked_below : List Activation
-    hooked_below = waiting_stack m meter ty.results below waiting bs
-
-    abbrev start : Progress
-    start = leads.running n other meter (renumbered_view n store) second hooked_below hooked
+    open (ready.names m other meter store frame below waiting b bs second) use {site, ty, hooked, hooked_below, start}
 
     abbrev exec : Execution
     exec = to_caller [] (topmost f.arity f.values)

@@ -1,7 +1,6 @@
 -- A step by an instruction that neither branches nor calls, and the same in the instrumented run.
 use Rattle.std.proofs.Common.{◌≡◌, ℕ, ◌+◌, List, [], ◌∷◌, ◌++◌, length, Option, Some, refl, sym, ap, ◌∙◌, subst, append_assoc}
 use Rattle.wasm_syntax.specs.declared.values.Val.{Val}
-use Rattle.wasm_syntax.specs.declared.signatures.FuncType.{FuncType}
 use Rattle.wasm_syntax.specs.declared.instructions.Instr.{Instr}
 use Rattle.wasm_syntax.specs.declared.modules.Module.{Module}
 use Rattle.wasm_syntax.specs.Encoding.Forms.{IsCoreInstr}
@@ -11,7 +10,7 @@ use Rattle.wasm_syntax.specs.Validity.{IsValid}
 use Rattle.history_spec.specs.declared.entries.Entry.{Entry}
 use Rattle.history_spec.specs.Store.{Store}
 use Rattle.history_spec.specs.Code.{Definition, code_of}
-use Rattle.history_spec.specs.Configuration.{Place, place, Frame, Activation, InModule}
+use Rattle.history_spec.specs.Configuration.{place, Frame, Activation, InModule}
 use Rattle.history_spec.specs.Instruction.{Goes, Calls, Returns, Execution, Did, Traps, NoRule, execute_plain}
 use Rattle.history_spec.specs.Run.{Meter}
 use Rattle.history_spec.specs.Settle.{settle}
@@ -23,8 +22,7 @@ use Rattle.type_safety.specs.Results.{HasRule}
 use Rattle.type_safety.specs.Stores.{func_count}
 use Rattle.type_safety.proofs.Values.{length_values}
 use Rattle.hook_spec.specs.Hooks.{HookCall, renumbered_view}
-use Rattle.hook_spec.specs.Insertions.{Site, inserted_before, inserted_after}
-use Rattle.hook_spec.specs.Instrumented.{renumbered}
+use Rattle.hook_spec.specs.Insertions.{inserted_after}
 use Rattle.hook_spec.specs.ToldCalls.{WaitingCall, told_before, told_after}
 use Rattle.calls_follow.proofs.ModuleFacts.{no_call_waits}
 use Rattle.inserted_code.proofs.Before as before
@@ -37,7 +35,7 @@ use Rattle.inserted_code.proofs.Leads as leads
 use Rattle.inserted_code.proofs.Pieces.{HasHooks}
 use Rattle.instrumented_steps.proofs.Ready as ready
 use Rattle.instrumented_steps.proofs.Ready.{IsReady}
-use Rattle.inserted_code.proofs.Relation.{Beside, type_of, site_at, frame_beside, IsBeside, waiting_stack, AreCounted}
+use Rattle.inserted_code.proofs.Relation.{Beside, frame_beside, IsBeside, AreCounted}
 use Rattle.inserted_code.proofs.Scratch.{scratch_values}
 use Rattle.instrumented_steps.proofs.Settled as settled
 use Rattle.instrumented_steps.proofs.ToldBefore as told_first
@@ -61,20 +59,7 @@ module _ (m : Module) (heights : Heights) (valid : IsValid m) (program other : P
     abbrev frame : Frame
     frame = record f { at = place (Plain i rest) number }
 
-    abbrev site : Site
-    site = site_at m f.func
-
-    abbrev ty : FuncType
-    ty = type_of m f.func
-
-    abbrev hooked : Frame
-    hooked = frame_beside m meter frame [] b
-
-    abbrev hooked_below : List Activation
-    hooked_below = waiting_stack m meter ty.results below waiting bs
-
-    abbrev start : Progress
-    start = leads.running n other meter (renumbered_view n store) second hooked_below hooked
+    open (ready.names m other meter store frame below waiting b bs second) use {site, ty, hooked, hooked_below, start}
 
     abbrev exec : Execution
     exec = execute_plain (code_of m) store frame (place rest (number + 1)) i
@@ -85,29 +70,7 @@ module _ (m : Module) (heights : Heights) (valid : IsValid m) (program other : P
       plainly = straight_plainly n i is
 
       -- what is inserted before it is told
-      abbrev t : before.Tells site other meter has store hooked_below hooked f.locals known.beside.locals second
-          b.scratch
-          f.values (inserted_before site i) (told_before i (operands_of exec) store)
-      t = told_first.t m heights valid program other meter has pieces store counts f i rest number below waiting b bs
-          second body known plainly.no_return core rule
-
-      abbrev at_instr : Frame
-      at_instr =
-          told_first.at_instr m heights valid program other meter has pieces store counts f i rest number below waiting
-          b bs second body known plainly.no_return core rule (renumbered n i)
-
-      abbrev middle : Progress
-      middle =
-          told_first.middle m heights valid program other meter has pieces store counts f i rest number below waiting b
-          bs second body known plainly.no_return core rule
-
-      abbrev next_there : Place
-      next_there = told_first.hooked_next m heights valid program other meter has pieces store counts f i rest number
-          below waiting b bs second body
-
-      abbrev hooked_exec : Execution
-      hooked_exec = told_first.hooked_exec m heights valid program other meter has pieces store counts f i rest number
-          below waiting b bs second body known plainly.no_return core rule
+      open (told_first.names m heights valid program other meter has pieces store counts f i rest number below waiting b bs second body known plainly.no_return core rule) use {t, at_instr, middle, next_there, hooked_exec, to_instr, weighs, trapped}
 
       alike : straight.IsAlike n hooked (scratch_values t.scratch) next_there exec hooked_exec
       alike =
@@ -123,10 +86,6 @@ module _ (m : Module) (heights : Heights) (valid : IsValid m) (program other : P
           (Plain i (executed.instr_rest m other meter has store second hooked_below f i rest number b))
           (executed.instr_number m other meter has store second hooked_below f i rest number b))
           next_there i is)
-
-      weighs : meter.instruction at_instr.func at_instr.at.number ≡ 1
-      weighs = told_first.weighs m heights valid program other meter has pieces store counts f i rest number below
-          waiting b bs second body known plainly.no_return core rule
 
       -- it goes on
       went : (left : Store) (locals values : List Val) (operands results : List Val) (found : Option ℕ)
@@ -240,8 +199,7 @@ module _ (m : Module) (heights : Heights) (valid : IsValid m) (program other : P
           all =
               follows.after_way m other meter (told_before i (operands_of exec) store)
               (told_after (all_globals m) i results left ++ told_later) waiting_later later start middle 0 1
-              (told_first.to_instr m heights valid program other meter has pieces store counts f i rest number below
-              waiting b bs second body known plainly.no_return core rule)
+              to_instr
               (follows.after_way m other meter [] (told_after (all_globals m) i results left ++ told_later)
               waiting_later
               later middle
@@ -261,8 +219,7 @@ module _ (m : Module) (heights : Heights) (valid : IsValid m) (program other : P
           → FollowsExecution (Some i) store counts frame below waiting e start 1
       straight_step NoRule e fine = absurd fine
       straight_step (Traps kind operands found) e fine =
-          told_first.trapped m heights valid program other meter has pieces store counts f i rest number below waiting b
-          bs second body known plainly.no_return core rule kind operands found found e
+          trapped kind operands found found e
           (subst (λ x. straight.IsAlike n hooked (scratch_values t.scratch) next_there x hooked_exec) e alike)
       straight_step (Did operands results found (Goes left next)) e fine =
           subst

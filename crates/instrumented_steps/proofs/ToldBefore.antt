@@ -19,7 +19,7 @@ use Rattle.history_spec.specs.Step.{Program, Progress, Finished}
 use Rattle.type_safety.specs.Heights.{Heights}
 use Rattle.type_safety.specs.Stores.{func_count}
 use Rattle.hook_spec.specs.Hooks.{renumbered_view, renumbered_call}
-use Rattle.hook_spec.specs.Insertions.{Site, inserted_before}
+use Rattle.hook_spec.specs.Insertions.{inserted_before}
 use Rattle.hook_spec.specs.Instrumented.{renumbered}
 use Rattle.hook_spec.specs.ToldCalls.{WaitingCall, told_before}
 use Rattle.inserted_code.proofs.Before as before
@@ -30,7 +30,7 @@ use Rattle.inserted_code.proofs.Leads as leads
 use Rattle.inserted_code.proofs.Pieces.{HasHooks}
 use Rattle.instrumented_steps.proofs.Ready as ready
 use Rattle.instrumented_steps.proofs.Ready.{IsReady}
-use Rattle.inserted_code.proofs.Relation.{Beside, type_of, site_at, frame_beside, waiting_stack}
+use Rattle.inserted_code.proofs.Relation.{Beside}
 use Rattle.instrumented_steps.proofs.Settled as settled
 use Rattle.inserted_code.proofs.PieceFacts.{HasPieces, IsNoReturn}
 
@@ -45,17 +45,7 @@ module _ (m : Module) (heights : Heights) (valid : IsValid m) (program other : P
     abbrev frame : Frame
     frame = record f { at = place (Plain i rest) number }
 
-    abbrev site : Site
-    site = site_at m f.func
-
-    abbrev hooked : Frame
-    hooked = frame_beside m meter frame [] b
-
-    abbrev hooked_below : List Activation
-    hooked_below = waiting_stack m meter (type_of m f.func).results below waiting bs
-
-    abbrev start : Progress
-    start = leads.running n other meter (renumbered_view n store) second hooked_below hooked
+    open (ready.names m other meter store frame below waiting b bs second) use {site, hooked, hooked_below, start}
 
     abbrev exec : Execution
     exec = execute_plain (code_of m) store frame (place rest (number + 1)) i
@@ -117,3 +107,31 @@ module _ (m : Module) (heights : Heights) (valid : IsValid m) (program other : P
                 (at_instr (renumbered n i)) weighs kind operands other_found traps;
             beside = refl;
           })))
+
+      -- these, as the files on kinds of instructions open them
+      pub record Names : Type 0 where
+        pub t : before.Tells site other meter has store hooked_below hooked f.locals known.beside.locals second
+            b.scratch f.values (inserted_before site i) (told_before i (operands_of exec) store)
+        pub at_instr : Frame
+        pub middle : Progress
+        pub next_there : Place
+        pub hooked_exec : Execution
+        pub to_instr : leads.Leads n other meter start middle 0
+            (map (renumbered_call n) (told_before i (operands_of exec) store))
+        pub weighs : meter.instruction at_instr.func at_instr.at.number ≡ 1
+        pub trapped : (kind : TrapKind) (operands : List Val) (found other_found : Option ℕ)
+            → exec ≡ Traps kind operands found → hooked_exec ≡ Traps kind operands other_found
+            → ready.FollowsExecution m heights valid program other meter has pieces (Some i) store counts frame below
+            waiting (Traps kind operands found) start 1
+
+      abbrev pub names : Names
+      names = record {
+        t = t;
+        at_instr = at_instr (renumbered n i);
+        middle = middle;
+        next_there = hooked_next;
+        hooked_exec = hooked_exec;
+        to_instr = to_instr;
+        weighs = weighs;
+        trapped = trapped;
+      }
