@@ -6,15 +6,13 @@ use Rattle.history_spec.specs.Budget.{RunsHaveOneResultAtMost, RunsHaveSomeResul
 use Rattle.history_spec.specs.Configuration.{Config}
 use Rattle.history_spec.specs.Run.{Meter, run_start, start_with_supply, start_or_fault}
 use Rattle.history_spec.specs.Step.{Program, Progress, Running, step}
-use Rattle.type_safety.specs.Configurations.{IsSafe, IsTypedCode}
-use Rattle.type_safety.specs.Heights.{Heights, AreHeights}
-use Rattle.type_safety.specs.Laws.{InstructionsHaveRules, FittingActionsHaveResults, StepsAreSafe}
-use Rattle.type_safety.specs.Stores.{IsStore}
+use Rattle.type_safety.specs.Configurations.{IsSafe}
+use Rattle.tape_follows.specs.Below.{LawsOfSteps, LawsOfRuns}
+use Rattle.tape_follows.proofs.SafeRuns.{IsSafeRun, safe_run}
 use Rattle.hook_spec.specs.Instrumented.{instrumented_meter}
 use Rattle.hook_spec.specs.Laws.{BodiesAreInstrumented, HooksAreAnswered, IndicesAreRenumbered, InstrumentedKeepIndices}
 use Rattle.calls_follow.specs.Laws.{OriginalRun, HookCallsAreInOrder}
 use Rattle.calls_follow.proofs.CoreFrames.{CoreProgress, core_step, core_start}
-use Rattle.calls_follow.proofs.RunCalls.{Safety}
 use Rattle.instrumented_valid.specs.Links.{script_with_hooks, renumbered_link, InstrumentedAreSupplied, InstrumentedAreInstantiated}
 use Rattle.instrumented_follows.specs.Laws.{original_program, original_start, instrumented_of, instrumented_program, instrumented_start, InstrumentedRunsFollow, IsFollowed}
 use Rattle.instrumented_follows.proofs.FollowedRuns.{is_followed}
@@ -28,10 +26,8 @@ use Rattle.inserted_code.proofs.PieceFacts.{HasPieces, HasProgram}
 
 -- the laws of the crates below
 pub record Below : Type 0 where
-  pub safety : Safety
-  pub rules : InstructionsHaveRules
-  pub actions : FittingActionsHaveResults
-  pub steps : StepsAreSafe
+  pub steps : LawsOfSteps
+  pub runs : LawsOfRuns
   pub renumbered : IndicesAreRenumbered
   pub answered : HooksAreAnswered
   pub bodies : BodiesAreInstrumented
@@ -67,31 +63,22 @@ module _ (laws : Below) (run : OriginalRun) where
   knows : HasProgram m run.script.imports other
   knows = record { own = facts.own; answered = facts.answers }
 
-  heights : (h : Heights) × AreHeights m h
-  heights = laws.safety.heights m run.runnable.valid
-
-  typed : IsTypedCode m heights.0
-  typed = laws.safety.code m heights.0 run.runnable.valid run.runnable.supported heights.1
-
-  store : IsStore m run.store
-  store =
-      laws.safety.store m run.supply run.store run.runnable
-      (laws.safety.supplied m run.script run.supply run.fits run.supplied) run.opens
+  safe : IsSafeRun m run.script run.store
+  safe = safe_run laws.runs m run.script run.supply run.store run.runnable run.fits run.supplied run.opens
 
   abbrev IsFine : Progress → Type 0
-  IsFine at = IsSafe m heights.0 at × CoreProgress at
+  IsFine at = IsSafe m safe.heights at × CoreProgress at
 
   keeps : (config : Config) → IsFine (Running config) → IsFine (step program config).next
   keeps config fine = (
-    laws.steps m heights.0 program config run.runnable.valid typed (record { code = refl; answers = run.fits.imports })
-        fine.0,
+    laws.steps.steps m safe.heights program config run.runnable.valid safe.typed
+        (record { code = refl; answers = run.fits.imports }) fine.0,
     core_step m run.core program refl config fine.1,
   )
 
   fine_start : IsFine (original_start run).next
   fine_start = (
-    laws.safety.starts m heights.0 program run.store run.script.main run.runnable.valid typed
-        (record { code = refl; answers = run.fits.imports }) store run.fits.main,
+    safe.safe,
     core_start m run.core program refl m.start run.store _ run.script.main,
   )
 
@@ -107,11 +94,11 @@ module _ (laws : Below) (run : OriginalRun) where
   followed =
       is_followed run _
       (λ count. from_start m program other meter IsFine keeps
-      (λ config waiting from fine beside. step_follows m heights.0 run.runnable.valid typed run.script.imports
-      run.fits.imports other meter has pieces knows refl laws.rules laws.actions config waiting from fine.0 fine.1
+      (λ config waiting from fine beside. step_follows m safe.heights run.runnable.valid safe.typed run.script.imports
+      run.fits.imports other meter has pieces knows refl laws.steps.rules laws.steps.actions config waiting from fine.0 fine.1
       beside)
       run.store (original_start run) (instrumented_start run).next fine_start
-      (start_follows m heights.0 run.runnable.valid typed run.script.imports run.fits.imports other meter has pieces
+      (start_follows m safe.heights run.runnable.valid safe.typed run.script.imports run.fits.imports other meter has pieces
       knows
       facts.imported run.store run.script.main run.fits.main m.start run.runnable.valid.outside.start)
       count)

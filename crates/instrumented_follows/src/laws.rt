@@ -8,7 +8,7 @@ use hook_spec::{
     bodies_are_instrumented, hooks_are_answered, indices_are_renumbered, instrumented_keep_indices,
 };
 use instrumented_valid::{instrumented_are_instantiated, instrumented_are_supplied};
-use type_safety::{rules_hold, safe_steps, typed_code, typed_store};
+use tape_follows::{laws_of_runs, laws_of_steps};
 
 /// The run of an instrumented module, which links with what the original links with, follows the original's: within
 /// each budget it comes to the same outcome or the same fault in the same number of turns, or the turns of both are
@@ -17,10 +17,8 @@ use type_safety::{rules_hold, safe_steps, typed_code, typed_store};
 pub fn instrumented_runs_follow()
     ensures { InstrumentedRunsFollow }
 {
-    typed_code();
-    typed_store();
-    rules_hold();
-    safe_steps();
+    laws_of_steps();
+    laws_of_runs();
     indices_are_renumbered();
     hooks_are_answered();
     bodies_are_instrumented();

@@ -1,23 +1,12 @@
-use Rattle.calls_follow.proofs.RunCalls.{Safety}
-use Rattle.instrumented_follows.proofs.Followed.{Below, runs_follow}
+use Rattle.instrumented_follows.proofs.Followed.{runs_follow}
 use Rattle.instrumented_follows.proofs.laws.instrumented_runs_follow.Goals as goal
 
 pub returns : goal.returns
 returns c =
-    let safety : Safety =
-    record {
-      heights = c.typed_code.ensures.heights;
-      code = c.typed_code.ensures.code;
-      supplied = c.typed_store.ensures.supplied;
-      store = c.typed_store.ensures.store;
-      starts = c.safe_steps.ensures.starts;
-    } in
-    let laws : Below =
-    record {
-      safety = safety;
-      rules = c.rules_hold.ensures.instructions;
-      actions = c.rules_hold.ensures.actions;
-      steps = c.safe_steps.ensures.steps;
+    runs_follow
+    (record {
+      steps = c.laws_of_steps.ensures;
+      runs = c.laws_of_runs.ensures;
       renumbered = c.indices_are_renumbered.ensures;
       answered = c.hooks_are_answered.ensures;
       bodies = c.bodies_are_instrumented.ensures;
@@ -27,5 +16,4 @@ returns c =
       opened = c.instrumented_are_instantiated.ensures;
       one_result = c.runs_have_one_result_at_most.ensures;
       some_result = c.runs_have_some_result.ensures;
-    } in
-    runs_follow laws
+    })
