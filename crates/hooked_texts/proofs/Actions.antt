@@ -25,7 +25,7 @@ use Rattle.script_text.specs.Values.{bytes_of, text_of, text_or_null, u32_of, va
 use Rattle.hook_spec.specs.Hooks.{renumber}
 use Rattle.hook_spec.specs.HookedRuns.{renumbered_action}
 use Rattle.hook_spec.specs.Instrumented.{instrumented_module, renumbered_kind}
-use Rattle.hook_spec.specs.Laws.{InstrumentedKeepIndices, InstrumentedKeepsIndices}
+use Rattle.hook_spec.specs.Laws.{InstrumentedKeepIndices}
 use Rattle.hooked_texts.proofs.Names.{exports_kept, func_renumbered, func_there, global_kept, globals_imported, imports_kept}
 use Rattle.hooked_texts.proofs.Steps.{bind_alike, bind_own, bind_same, list_alike, mapped, under_or_alike}
 
@@ -39,9 +39,6 @@ module _ (keep : InstrumentedKeepIndices) (m : Module) (digest : List ℕ) (vali
 
   abbrev n : ℕ
   n = imported_funcs m
-
-  keeps : InstrumentedKeepsIndices m digest
-  keeps = keep m digest
 
   abbrev acting : Action → Action
   acting = renumbered_action n
@@ -109,11 +106,11 @@ module _ (keep : InstrumentedKeepIndices) (m : Module) (digest : List ℕ) (vali
   settable_same : (global : ℕ) (name : List ℕ) (value : Val) → fits_global hooked global name value ≡ fits_global m global name value
   unfolding fits_global
   settable_same global name value =
-      ap (λ (list : List GlobalType). is_set_by (slice_get list global) name value) keeps.globals
+      ap (λ (list : List GlobalType). is_set_by (slice_get list global) name value) (keep m digest).globals
 
   below_renumbered : (func : ℕ) → nat_lt (renumber n func) (imported_funcs hooked) ≡ nat_lt func n
   below_renumbered func =
-      let more : imported_funcs hooked ≡ n + 15 = keeps.imports in
+      let more : imported_funcs hooked ≡ n + 15 = (keep m digest).imports in
       ap (nat_lt (renumber n func)) more ∙ go (nat_lt func n) refl
     where
       go : (b : Bool) → nat_lt func n ≡ b → nat_lt (cond b func (func + 15)) (n + 15) ≡ b
@@ -128,7 +125,7 @@ module _ (keep : InstrumentedKeepIndices) (m : Module) (digest : List ℕ) (vali
       → fits_params hooked (renumber n func) name args ≡ fits_params m func name args
   unfolding fits_params
   params_same func name args typed =
-      ap (λ (o : Option FuncType). are_arguments o name args) (keeps.type_of func typed.0 typed.1 ∙ sym typed.1)
+      ap (λ (o : Option FuncType). are_arguments o name args) ((keep m digest).type_of func typed.0 typed.1 ∙ sym typed.1)
 
   -- ---- actions
 
