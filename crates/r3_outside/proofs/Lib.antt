@@ -1,3 +1,4 @@
 pub mod ContentsLemmas
 pub mod TableLemmas
 pub mod GrowthLemmas
+pub mod CountLemmas

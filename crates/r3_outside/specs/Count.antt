@@ -1,5 +1,5 @@
 -- Counts that 64 bits keep: of the faults of files and of sinks, and of the bytes taken from files.
-use Rattle.std.specs.Prelude.{ℕ, ◌+◌, ◌-◌, ◌^◌, ◌≤◌, min}
+use Rattle.std.specs.Prelude.{ℕ, ◌+◌, ◌-◌, ◌^◌, ◌≤◌, List, min}
 
 -- the count rose between two moments, or stands at the greatest number of 64 bits
 abbrev pub Rose : ℕ → ℕ → Type 0
@@ -12,3 +12,7 @@ Took before now bytes = min (before + bytes) (2 ^ 64 - 1) ≤ now
 -- the count that stays at the greatest number of 64 bits once it is there
 abbrev pub saturating_add : ℕ → ℕ → ℕ
 saturating_add before more = min (before + more) (2 ^ 64 - 1)
+
+-- no name's count fell between two moments
+abbrev pub NoneFell : (before now : List ℕ → ℕ) → Type 0
+NoneFell before now = (name : List ℕ) → before name ≤ now name

@@ -1,41 +1,45 @@
 -- The files and sinks that are kept in memory, as values.
-use Rattle.std.specs.Prelude.{ℕ, ◌==◌, Bool, not, ◌||◌, List, map, refl, String, Vec, string_bytes}
+use Rattle.std.specs.Prelude.{ℕ, ◌==◌, Bool, not, ◌||◌, List, map, refl, String, string_bytes}
 use Rattle.std.specs.Coded.{Coded, code_by, coded×, coded_list, coded_ℕ}
 use Rattle.std.specs.List.{list_any}
+use Rattle.std.specs.Ordering.{nat_cmp}
+use Rattle.std.specs.Cmp.Lexicographic.{slice_cmp}
 use Rattle.std.specs.FinMap as files
 use Rattle.r3_outside.specs.Contents.{FileMap}
+use Rattle.r3_outside.specs.NameCounts.{NameCounts, name_counts_code}
 
 -- the code of what files hold
 abbrev pub file_map_code : Coded FileMap
 file_map_code = files.code (coded_list coded_ℕ) (coded_list coded_ℕ)
 
--- what the entries of a table of files hold
-abbrev pub file_map : {Y Z : Type 0} → List (String Y × Vec ℕ Z) → FileMap
-file_map entries = files.from_entries (map (λ entry. (string_bytes entry.0, entry.1.items)) entries)
+-- what entries hold, each as it is shown, by the bytes of their names
+abbrev pub by_name : {Y V X : Type 0} → (shown : V → X) → List (String Y × V) → files.FinMap (slice_cmp nat_cmp) X
+by_name shown entries = files.from_entries (map (λ entry. (string_bytes entry.0, shown entry.1)) entries)
 
--- files that never fail: what they hold, and how many bytes were taken
+-- files that never fail: what they hold, and how many bytes were taken from each
 pub record SureStore : Type 0 where
   pub files : FileMap
-  pub taken : ℕ
+  pub taken : NameCounts
 
 abbrev pub sure_store_code : Coded SureStore
 sure_store_code =
-    code_by (FileMap × ℕ) (coded× file_map_code coded_ℕ) (λ s. (s.files, s.taken))
+    code_by (FileMap × NameCounts) (coded× file_map_code name_counts_code) (λ s. (s.files, s.taken))
     (λ p. record { files = p.0; taken = p.1 }) (λ _. refl)
 
--- files some of whose calls fail: what they hold, the numbers of those calls, and the counts of calls,
--- of faults and of bytes taken
+-- files some of whose calls fail: what they hold, the numbers of those calls, the count of calls, and by name
+-- the counts of faults and of bytes taken
 pub record MemStore : Type 0 where
   pub files : FileMap
   pub failing : List ℕ
   pub calls : ℕ
-  pub faults : ℕ
-  pub taken : ℕ
+  pub faults : NameCounts
+  pub taken : NameCounts
 
 abbrev pub mem_store_code : Coded MemStore
 mem_store_code =
-    code_by (FileMap × (List ℕ × (ℕ × (ℕ × ℕ))))
-    (coded× file_map_code (coded× (coded_list coded_ℕ) (coded× coded_ℕ (coded× coded_ℕ coded_ℕ))))
+    code_by (FileMap × (List ℕ × (ℕ × (NameCounts × NameCounts))))
+    (coded× file_map_code
+    (coded× (coded_list coded_ℕ) (coded× coded_ℕ (coded× name_counts_code name_counts_code))))
     (λ s. (s.files, (s.failing, (s.calls, (s.faults, s.taken)))))
     (λ p. record { files = p.0; failing = p.1.0; calls = p.1.1.0; faults = p.1.1.1.0; taken = p.1.1.1.1 })
     (λ _. refl)
@@ -65,7 +69,12 @@ mem_output_code =
 abbrev pub is_failing_write : MemOutput → Bool
 is_failing_write s = list_any (λ n. n == s.calls) s.failing
 
--- files of which no more is known than how many calls failed and how many bytes were taken
-pub record Counts : Type 0 where
-  pub faults : ℕ
-  pub taken : ℕ
+-- files of which no more is known than, by name, how many calls failed and how many bytes were taken
+pub record DiskCounts : Type 0 where
+  pub faults : NameCounts
+  pub taken : NameCounts
+
+abbrev pub disk_counts_code : Coded DiskCounts
+disk_counts_code =
+    code_by (NameCounts × NameCounts) (coded× name_counts_code name_counts_code) (λ c. (c.faults, c.taken))
+    (λ p. record { faults = p.0; taken = p.1 }) (λ _. refl)

@@ -4,12 +4,13 @@
 
 ghost use Rattle.std.specs.Prelude.{◌≡◌, ℕ, ◌<◌, ◌≤◌, List, length, take, Option, OnErr, IfOk};
 ghost use Rattle.std.specs.Option.{ForSome};
-ghost use Rattle.r3_outside.specs.Count.{Rose, saturating_add};
+ghost use Rattle.r3_outside.specs.Count.{Rose, NoneFell, saturating_add};
 ghost use Rattle.r3_outside.specs.Contents.{FileMap, file_bytes, IsPiece};
 ghost use Rattle.r3_outside.specs.Growth.{Grew};
 
 use thiserror::Error;
 
+mod counts;
 mod memory;
 mod reading;
 mod sure;
@@ -26,7 +27,7 @@ pub use sure::{SureFiles, SureSink};
 pub use system::{DiskFiles, StdSink};
 pub use writing::{PutFault, put_all, put_parts};
 
-/// A call on the world outside failed. Its count of faults rose.
+/// A call on the world outside failed. The count of faults, for files that of the name, rose.
 #[derive(Clone, Copy, PartialEq, Eq, Debug, Error)]
 #[error("a read or a write failed")]
 pub struct Failed;
@@ -36,11 +37,11 @@ pub trait Files {
     // The bytes under each name, where these files tell them.
     ghost contents: { Self → Option FileMap };
 
-    // How many calls failed.
-    ghost faults: { Self → ℕ };
+    // How many calls on each name failed.
+    ghost faults: { Self → List ℕ → ℕ };
 
-    // How many bytes were taken.
-    ghost taken: { Self → ℕ };
+    // How many bytes were taken from the file of each name.
+    ghost taken: { Self → List ℕ → ℕ };
 
     /// Reads at most `into.len()` bytes of a file, from its byte `at` on (counted from 0), into the
     /// front of `into`, and answers how many. It reads none only where no byte stands at `at`.
@@ -53,12 +54,14 @@ pub trait Files {
 
         ensures contents_unchanged { contents self.new ≡ contents self.old }
 
-        ensures faults_never_fall { faults self.old ≤ faults self.new }
-        ensures failed { OnErr result (Rose (faults self.old) (faults self.new)) }
+        // Where there is no memory for a name, what is counted for it may count for others too.
+        ensures faults_never_fall { NoneFell (faults self.old) (faults self.new) }
+        ensures failed { OnErr result (Rose (faults self.old name.now) (faults self.new name.now)) }
 
-        ensures taken_never_falls { taken self.old ≤ taken self.new }
-        ensures took { IfOk result (λ k. taken self.new ≡ saturating_add (taken self.old) k) }
-        ensures took_none { OnErr result (taken self.new ≡ taken self.old) }
+        ensures taken_never_falls { NoneFell (taken self.old) (taken self.new) }
+        ensures took { IfOk result
+            (λ k. taken self.new name.now ≡ saturating_add (taken self.old name.now) k) }
+        ensures took_none { OnErr result ((other : List ℕ) → taken self.new other ≡ taken self.old other) }
 
         ensures within_buffer { IfOk result (λ k. k ≤ length into.new) }
         // A name that isn't there is read as an empty file, where it doesn't fail.

@@ -2,10 +2,12 @@
 
 ghost use Rattle.std.specs.Prelude.{◌≡◌, ℕ, ◌+◌, ◌<◌, ◌≤◌, List, [], ◌++◌, length, min, take, Some, OnOk, OnErr, IfOk, IsErr, IsTrue, ◌↔◌};
 ghost use Rattle.std.specs.FinMap as map;
-ghost use Rattle.r3_outside.specs.Count.{saturating_add};
+ghost use Rattle.r3_outside.specs.Count.{NoneFell, saturating_add};
 ghost use Rattle.r3_outside.specs.Contents.{FileMap, file_bytes, piece_length, IsPiece};
+ghost use Rattle.r3_outside.specs.NameCounts.{no_counts, count_of, IsCountedFor};
 ghost use Rattle.r3_outside.specs.Stores.{is_failing_read, is_failing_write};
 
+use crate::counts::Counts;
 use crate::table::{Table, copy_piece};
 use crate::{Failed, Files, NoMemory, Sink};
 use std::alloc::Global;
@@ -20,8 +22,8 @@ pub struct MemFiles {
     table: Table,
     failing: Vec<u64>,
     calls: u64,
-    faults: u64,
-    taken: u64,
+    faults: Counts,
+    taken: Counts,
 }
 
 impl Model for MemFiles {
@@ -47,16 +49,16 @@ impl MemFiles {
           files = map.empty;
           failing = failing.items;
           calls = 0;
-          faults = 0;
-          taken = 0;
+          faults = no_counts;
+          taken = no_counts;
         } }
     {
         MemFiles {
             table: Table::new(alloc),
             failing,
             calls: 0,
-            faults: 0,
-            taken: 0,
+            faults: Counts::new(alloc),
+            taken: Counts::new(alloc),
         }
     }
 
@@ -77,23 +79,29 @@ impl MemFiles {
 impl Files for MemFiles {
     ghost contents = { λ m. Some m.files };
 
-    ghost faults = { λ m. m.faults };
+    ghost faults = { λ m. count_of m.faults };
 
-    ghost taken = { λ m. m.taken };
+    ghost taken = { λ m. count_of m.taken };
 
     fn read_at(&mut self, name: &str, at: u64, into: &mut [u8]) -> Result<usize, Failed>
         requires { 0 < length into.old }
         ensures fails { IsErr result ↔ IsTrue (is_failing_read self.old name.now) }
         ensures failed { OnErr result (self.new ≡ record self.old {
           calls = saturating_add self.old.calls 1;
-          faults = saturating_add self.old.faults 1;
+          faults = self.new.faults;
         }) }
-        ensures took { IfOk result (λ k. self.new ≡ record self.old {
+        ensures fault_counted { OnErr result (IsCountedFor name.now 1 self.old.faults self.new.faults) }
+        ensures fault_count { OnErr result
+            (count_of self.new.faults name.now ≡ saturating_add (count_of self.old.faults name.now) 1) }
+        ensures took { OnOk result (self.new ≡ record self.old {
           calls = saturating_add self.old.calls 1;
-          taken = saturating_add self.old.taken k;
+          taken = self.new.taken;
         }) }
-        ensures faults_never_fall { self.old.faults ≤ self.new.faults }
-        ensures taken_never_falls { self.old.taken ≤ self.new.taken }
+        ensures bytes_counted { IfOk result (λ k. IsCountedFor name.now k self.old.taken self.new.taken) }
+        ensures byte_count { IfOk result
+            (λ k. count_of self.new.taken name.now ≡ saturating_add (count_of self.old.taken name.now) k) }
+        ensures faults_never_fall { NoneFell (count_of self.old.faults) (count_of self.new.faults) }
+        ensures taken_never_falls { NoneFell (count_of self.old.taken) (count_of self.new.taken) }
         ensures count { IfOk result
             (λ k. k ≡ piece_length (file_bytes self.old.files name.now) at (length into.new)) }
         ensures piece { IfOk result (λ k. IsPiece (file_bytes self.old.files name.now) at k into.new) }
@@ -103,11 +111,11 @@ impl Files for MemFiles {
         match self.table.get(name) {
             Some(bytes) if !is_failing => {
                 let count = copy_piece(bytes, at, into);
-                self.taken = self.taken.saturating_add(count as u64);
+                self.taken.add(name, count as u64);
                 Ok(count)
             }
             _ => {
-                self.faults = self.faults.saturating_add(1);
+                self.faults.add(name, 1);
                 Err(Failed)
             }
         }

@@ -2,7 +2,7 @@
 
 ghost use Rattle.std.specs.Prelude.{◌≡◌, ℕ, ◌+◌, ◌<◌, ◌≤◌, length, IfOk, IsErrOf, vec_len};
 ghost use Rattle.std.specs.Option.{ForSome};
-ghost use Rattle.r3_outside.specs.Count.{Rose, Took};
+ghost use Rattle.r3_outside.specs.Count.{Rose, Took, NoneFell};
 ghost use Rattle.r3_outside.specs.Contents.{file_bytes};
 ghost use Rattle.r3_outside.specs.declared.reading.LoadFault.TheVariants.{Failed as ReadFailed, Memory};
 
@@ -44,8 +44,8 @@ const PIECE: usize = 65_536;
 ///
 /// # Errors
 ///
-/// `Failed` where a read failed, `TooLong` where `limit + 1` bytes were taken, `Memory` where memory
-/// runs out.
+/// `Failed` where a read of this file failed, `TooLong` where `limit + 1` bytes were taken from it,
+/// `Memory` where memory runs out.
 pub fn load<F: Files>(
     alloc: Global,
     files: &mut F,
@@ -55,8 +55,8 @@ pub fn load<F: Files>(
     requires { limit ≤ 536870912 }
 
     ensures contents_unchanged { F.contents files.new ≡ F.contents files.old }
-    ensures faults_never_fall { F.faults files.old ≤ F.faults files.new }
-    ensures taken_never_falls { F.taken files.old ≤ F.taken files.new }
+    ensures faults_never_fall { NoneFell (F.faults files.old) (F.faults files.new) }
+    ensures taken_never_falls { NoneFell (F.taken files.old) (F.taken files.new) }
 
     ensures within_limit { IfOk result (λ bytes. vec_len bytes ≤ limit) }
     ensures loaded { IfOk result (λ bytes. ForSome (F.contents files.old)
@@ -64,10 +64,11 @@ pub fn load<F: Files>(
     ensures not_longer { IfOk result (λ _. ForSome (F.contents files.old)
         (λ told. length (file_bytes told name.now) ≤ limit)) }
 
-    ensures failed { IsErrOf result LoadFault.Failed → Rose (F.faults files.old) (F.faults files.new) }
+    ensures failed { IsErrOf result LoadFault.Failed →
+        Rose (F.faults files.old name.now) (F.faults files.new name.now) }
 
     ensures too_long { IsErrOf result LoadFault.TooLong →
-        Took (F.taken files.old) (F.taken files.new) (limit + 1) }
+        Took (F.taken files.old name.now) (F.taken files.new name.now) (limit + 1) }
     ensures longer { IsErrOf result LoadFault.TooLong → ForSome (F.contents files.old)
         (λ told. limit < length (file_bytes told name.now)) }
 {
@@ -95,8 +96,8 @@ fn load_by_pieces<F: Files>(
     requires some { 0 < length piece.old }
 
     ensures contents_unchanged { F.contents files.new ≡ F.contents files.old }
-    ensures faults_never_fall { F.faults files.old ≤ F.faults files.new }
-    ensures taken_never_falls { F.taken files.old ≤ F.taken files.new }
+    ensures faults_never_fall { NoneFell (F.faults files.old) (F.faults files.new) }
+    ensures taken_never_falls { NoneFell (F.taken files.old) (F.taken files.new) }
 
     ensures within_limit { IfOk result (λ bytes. vec_len bytes ≤ limit) }
     ensures loaded { IfOk result (λ bytes. ForSome (F.contents files.old)
@@ -104,10 +105,11 @@ fn load_by_pieces<F: Files>(
     ensures not_longer { IfOk result (λ _. ForSome (F.contents files.old)
         (λ told. length (file_bytes told name.now) ≤ limit)) }
 
-    ensures failed { IsErrOf result LoadFault.Failed → Rose (F.faults files.old) (F.faults files.new) }
+    ensures failed { IsErrOf result LoadFault.Failed →
+        Rose (F.faults files.old name.now) (F.faults files.new name.now) }
 
     ensures too_long { IsErrOf result LoadFault.TooLong →
-        Took (F.taken files.old) (F.taken files.new) (limit + 1) }
+        Took (F.taken files.old name.now) (F.taken files.new name.now) (limit + 1) }
     ensures longer { IsErrOf result LoadFault.TooLong → ForSome (F.contents files.old)
         (λ told. limit < length (file_bytes told name.now)) }
 {

@@ -3,10 +3,12 @@
 ghost use Rattle.std.specs.Prelude.{◌≡◌, ℕ, ◌<◌, ◌≤◌, List, [], ◌++◌, length, Option, Some, OnOk, OnErr, IfOk};
 ghost use Rattle.std.specs.Option.{option_copied};
 ghost use Rattle.std.specs.FinMap as map;
-ghost use Rattle.r3_outside.specs.Count.{saturating_add};
+ghost use Rattle.r3_outside.specs.Count.{NoneFell, saturating_add};
 ghost use Rattle.r3_outside.specs.Contents.{FileMap, file_bytes, piece_length, IsPiece};
 ghost use Rattle.r3_outside.specs.Growth.{Grew};
+ghost use Rattle.r3_outside.specs.NameCounts.{no_counts, count_of, IsCountedFor};
 
+use crate::counts::Counts;
 use crate::table::{Table, copy_piece};
 use crate::{Failed, Files, NoMemory, Sink};
 use std::alloc::Global;
@@ -16,7 +18,7 @@ use std::marker::Model;
 #[derive(Drop)]
 pub struct SureFiles {
     table: Table,
-    taken: u64,
+    taken: Counts,
 }
 
 impl Model for SureFiles {
@@ -32,11 +34,11 @@ impl Model for SureFiles {
 impl SureFiles {
     /// No files yet. Takes no memory.
     pub fn new(alloc: Global) -> SureFiles
-        ensures { result ≡ record { files = map.empty; taken = 0 } }
+        ensures { result ≡ record { files = map.empty; taken = no_counts } }
     {
         SureFiles {
             table: Table::new(alloc),
-            taken: 0,
+            taken: Counts::new(alloc),
         }
     }
 
@@ -57,21 +59,23 @@ impl SureFiles {
 impl Files for SureFiles {
     ghost contents = { λ s. Some s.files };
 
-    ghost faults = { λ _. 0 };
+    ghost faults = { λ _ _. 0 };
 
-    ghost taken = { λ s. s.taken };
+    ghost taken = { λ s. count_of s.taken };
 
     fn read_at(&mut self, name: &str, at: u64, into: &mut [u8]) -> Result<usize, Failed>
         requires { 0 < length into.old }
         ensures count { result ≡ Ok (piece_length (file_bytes self.old.files name.now) at (length into.new)) }
-        ensures took { IfOk result
-            (λ k. self.new ≡ record self.old { taken = saturating_add self.old.taken k }) }
-        ensures taken_never_falls { self.old.taken ≤ self.new.taken }
+        ensures bytes_counted { IfOk result (λ k. IsCountedFor name.now k self.old.taken self.new.taken) }
+        ensures byte_count { IfOk result
+            (λ k. count_of self.new.taken name.now ≡ saturating_add (count_of self.old.taken name.now) k) }
+        ensures contents_unchanged { self.new.files ≡ self.old.files }
+        ensures taken_never_falls { NoneFell (count_of self.old.taken) (count_of self.new.taken) }
         ensures piece { IfOk result (λ k. IsPiece (file_bytes self.old.files name.now) at k into.new) }
     {
         let bytes = self.table.get(name).unwrap_or(&[]);
         let count = copy_piece(bytes, at, into);
-        self.taken = self.taken.saturating_add(count as u64);
+        self.taken.add(name, count as u64);
         Ok(count)
     }
 }

@@ -1,7 +1,9 @@
 // The files and streams of the system.
 
 ghost use Rattle.std.specs.Prelude.{◌≡◌, ◌≤◌, length, None, IfOk};
+ghost use Rattle.r3_outside.specs.NameCounts.{no_counts, count_of};
 
+use crate::counts::Counts;
 use crate::{Failed, Files, Sink};
 use std::io::{Read, Seek, SeekFrom, Write};
 use std::marker::Model;
@@ -15,14 +17,16 @@ use std::{fs, io, rt};
 #[derive(Drop)]
 pub struct DiskFiles<R: rt::Files + AllocGlobal + Drop> {
     reader: Reader<R>,
-    faults: u64,
-    taken: u64,
+    faults: Counts,
+    taken: Counts,
 }
 
 impl<R: rt::Files + AllocGlobal + Drop> Model for DiskFiles<R> {
-    ghost use Rattle.r3_outside.specs.Stores.{Counts};
+    ghost use Rattle.r3_outside.specs.Stores.{DiskCounts, disk_counts_code};
 
-    ghost Value = { Counts };
+    ghost Value = { DiskCounts };
+
+    ghost coded = { disk_counts_code };
 
     ghost view = { λ files. record { faults = files.faults; taken = files.taken } };
 }
@@ -30,12 +34,13 @@ impl<R: rt::Files + AllocGlobal + Drop> Model for DiskFiles<R> {
 impl<R: rt::Files + AllocGlobal + Drop> DiskFiles<R> {
     /// The files that a runtime reaches. Takes no memory.
     pub fn new(rt: R) -> DiskFiles<R>
-        ensures { result ≡ record { faults = 0; taken = 0 } }
+        ensures { result ≡ record { faults = no_counts; taken = no_counts } }
     {
+        let alloc = rt.alloc();
         DiskFiles {
             reader: Reader { rt, last: None },
-            faults: 0,
-            taken: 0,
+            faults: Counts::new(alloc),
+            taken: Counts::new(alloc),
         }
     }
 }
@@ -43,18 +48,18 @@ impl<R: rt::Files + AllocGlobal + Drop> DiskFiles<R> {
 impl<R: rt::Files + AllocGlobal + Drop> Files for DiskFiles<R> {
     ghost contents = { λ _. None };
 
-    ghost faults = { λ files. files.faults };
+    ghost faults = { λ files. count_of files.faults };
 
-    ghost taken = { λ files. files.taken };
+    ghost taken = { λ files. count_of files.taken };
 
     fn read_at(&mut self, name: &str, at: u64, into: &mut [u8]) -> Result<usize, Failed> {
         match self.reader.read_at(name, at, into) {
             Ok(count) => {
-                self.taken = self.taken.saturating_add(count as u64);
+                self.taken.add(name, count as u64);
                 Ok(count)
             }
             Err(_) => {
-                self.faults = self.faults.saturating_add(1);
+                self.faults.add(name, 1);
                 Err(Failed)
             }
         }

@@ -19,13 +19,13 @@ pub(crate) struct Table {
 
 impl Model for Table {
     ghost use Rattle.r3_outside.specs.Contents.{FileMap};
-    ghost use Rattle.r3_outside.specs.Stores.{file_map_code, file_map};
+    ghost use Rattle.r3_outside.specs.Stores.{file_map_code, by_name};
 
     ghost Value = { FileMap };
 
     ghost coded = { file_map_code };
 
-    ghost view = { λ table. file_map table.files.entries };
+    ghost view = { λ table. by_name (λ bytes. bytes.items) table.files.entries };
 }
 
 impl Table {
