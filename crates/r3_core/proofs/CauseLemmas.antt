@@ -5,7 +5,7 @@ use Rattle.std.specs.Option.{option_or, ForSome}
 use Rattle.std.proofs.lemmas.List.{length-map, map-append, take_more}
 use Rattle.std.proofs.lemmas.List.Elements.{Contains-append_left, Contains-append_right}
 use Rattle.std.proofs.lemmas.List.Folds.{find-append}
-use Rattle.r3_outside.specs.Count.{Rose, Took}
+use Rattle.r3_outside.specs.Count.{Rose, Took, NoneFell}
 use Rattle.r3_outside.specs.Contents.{FileMap, file_bytes}
 use Rattle.r3_core.specs.Words.{texts}
 use Rattle.r3_core.specs.Causes.{Reading, reading_of, first_longer, IsLoadCause, AreBytesOf, AreWithin, all_bytes}
@@ -56,8 +56,8 @@ module _ {X : Type 0} (p : X → Bool) where
 
 -- a file was not loaded: it could not be read, or it is too long
 module _ (reading : Reading) (files : List (List ℕ × ℕ)) (P : Fault → Type 0)
-    (read : (name : List ℕ) → Contains (map (λ file. file.0) files) name → Rose reading.faults_before reading.faults_now → P (faults.Read name))
-    (too_long : (name : List ℕ) (limit : ℕ) → Contains files (name, limit) → Took reading.taken_before reading.taken_now (limit + 1) → ForSome reading.contents (λ told. first_longer told files ≡ Some (name, limit)) → P (faults.TooLong name limit)) where
+    (read : (name : List ℕ) → Contains (map (λ file. file.0) files) name → Rose (reading.faults_before name) (reading.faults_now name) → P (faults.Read name))
+    (too_long : (name : List ℕ) (limit : ℕ) → Contains files (name, limit) → Took (reading.taken_before name) (reading.taken_now name) (limit + 1) → ForSome reading.contents (λ told. first_longer told files ≡ Some (name, limit)) → P (faults.TooLong name limit)) where
   pub load-cases : (fault : Fault) → IsLoadCause reading files fault → P fault
   load-cases (faults.Read name) c = read name c.0 c.1
   load-cases (faults.TooLong name limit) c = too_long name limit c.0 c.1 c.2
@@ -95,8 +95,8 @@ module _ (reading : Reading) (files : List (List ℕ × ℕ)) (P : Fault → Typ
   load-cases faults.HookedLimit c = absurd c
 
 -- the cause of one file's fault, among files before it that are not too long
-module _ (told : Option FileMap) (fb fm fn tb tm tn : ℕ) (before : List (List ℕ × ℕ)) (file : List ℕ × ℕ)
-    (after : List (List ℕ × ℕ)) (f : fb ≤ fm) (t : tb ≤ tm)
+module _ (told : Option FileMap) (fb fm fn tb tm tn : List ℕ → ℕ) (before : List (List ℕ × ℕ)) (file : List ℕ × ℕ)
+    (after : List (List ℕ × ℕ)) (f : NoneFell fb fm) (t : NoneFell tb tm)
     (within : ForSome told (λ told. first_longer told before ≡ None)) where
   pub IsLoadCause-among : (fault : Fault) → IsLoadCause (reading_of told fm fn tm tn) (file ∷ []) fault
       → IsLoadCause (reading_of told fb fn tb tn) (before ++ file ∷ after) fault
@@ -107,19 +107,19 @@ module _ (told : Option FileMap) (fb fm fn tb tm tn : ℕ) (before : List (List 
         subst (λ names. Contains names name) (sym (map-append (λ file. file.0) before (file ∷ after)))
             (Contains-append_right (map (λ file. file.0) before) _ name
             (Contains-append_left (file.0 ∷ []) (map (λ file. file.0) after) name listed)),
-        omega (arith, rose, f),
+        omega (arith, rose, f name),
       ))
       (λ name limit listed took first. (
         Contains-append_right before _ (name, limit) (Contains-append_left (file ∷ []) after (name, limit) listed),
-        omega (arith, took, t),
+        omega (arith, took, t name),
         λ files e. find-after _ before file after (name, limit) (within files e) (first files e),
       ))
 
 module _ {Y : Type 0} (names : List (String Y)) (limits : List ℕ) where
   -- the cause of a fault of the file at `i`, where those before it are not too long
-  pub IsLoadCause-at : (i : ℕ) (d : String Y) (told told' : Option FileMap) (fb fm fn tb tm tn : ℕ) (name : List ℕ)
+  pub IsLoadCause-at : (i : ℕ) (d : String Y) (told told' : Option FileMap) (fb fm fn tb tm tn : List ℕ → ℕ) (name : List ℕ)
       → i < length names → length names ≡ length limits → name ≡ string_bytes (get_or names i d) → told' ≡ told
-      → fb ≤ fm → tb ≤ tm → ForSome told (λ told. first_longer told (take i (zip (texts names) limits)) ≡ None)
+      → NoneFell fb fm → NoneFell tb tm → ForSome told (λ told. first_longer told (take i (zip (texts names) limits)) ≡ None)
       → (fault : Fault) → IsLoadCause (reading_of told' fm fn tm tn) ((name, get_or limits i 0) ∷ []) fault
       → IsLoadCause (reading_of told fb fn tb tn) (zip (texts names) limits) fault
   IsLoadCause-at i d told told' fb fm fn tb tm tn name h same is_name same_told f t within fault cause =

@@ -22,17 +22,21 @@ use Rattle.r3_core.proofs.RefusalLemmas.{refusal-status}
 -- ---- a file that is not loaded
 
 module _ (reading : Reading) (files : List (List ℕ × ℕ)) where
-  -- a read fault: the count rose
-  pub load-status_read : (fault : Fault) → IsLoadCause reading files fault → status_of fault ≡ 3
-      → Rose reading.faults_before reading.faults_now
+  -- a read fault: the count of one of the files rose
+  abbrev pub HasFailedRead : Type 0
+  HasFailedRead =
+      (name : List ℕ) × Contains (map (λ file. file.0) files) name
+      × Rose (reading.faults_before name) (reading.faults_now name)
+
+  pub load-status_read : (fault : Fault) → IsLoadCause reading files fault → status_of fault ≡ 3 → HasFailedRead
   load-status_read =
-      load-cases reading files (λ fault. status_of fault ≡ 3 → Rose reading.faults_before reading.faults_now)
-      (λ name listed rose e. rose) (λ name limit listed took first e. absurd (omega (arith, e)))
+      load-cases reading files (λ fault. status_of fault ≡ 3 → HasFailedRead)
+      (λ name listed rose e. (name, listed, rose)) (λ name limit listed took first e. absurd (omega (arith, e)))
 
   -- too long: the first file that is
   abbrev pub HasLongFile : Type 0
   HasLongFile =
-      (file : List ℕ × ℕ) × Contains files file × Took reading.taken_before reading.taken_now (file.1 + 1)
+      (file : List ℕ × ℕ) × Contains files file × Took (reading.taken_before file.0) (reading.taken_now file.0) (file.1 + 1)
       × ForSome reading.contents (λ told. first_longer told files ≡ Some file)
 
   pub load-status_too_long : (fault : Fault) → IsLoadCause reading files fault → status_of fault ≡ 4 → HasLongFile
@@ -104,7 +108,7 @@ module _ (words : List (List ℕ)) (reading : Reading) (before now : ℕ) (fault
   listed-unless_usage (OutOfMemory is listed) = inr listed
 
   pub status-read : IsCause words reading before now fault → status_of fault ≡ 3
-      → Rose reading.faults_before reading.faults_now
+      → HasFailedRead reading (files_of words)
   status-read (Unlisted is unlisted) e = absurd (omega (arith, e, ap status_of is))
   status-read (Unloaded listed cause) e = load-status_read reading (files_of words) fault cause e
   status-read (Refused r) e = absurd ((refusal-status r.command r.loaded r.number fault r.refusal).1 e)

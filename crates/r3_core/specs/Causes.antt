@@ -28,15 +28,15 @@ use Rattle.r3_core.specs.Words.{form, IsListed, Says, files_of}
 abbrev pub first_longer : FileMap → List (List ℕ × ℕ) → Option (List ℕ × ℕ)
 first_longer told files = find (λ file. nat_lt file.1 (length (file_bytes told file.0))) files
 
--- what files told when a call began, and their counts then and now
+-- what files told when a call began, and their counts by name then and now
 pub record Reading : Type 0 where
   pub contents : Option FileMap
-  pub faults_before : ℕ
-  pub faults_now : ℕ
-  pub taken_before : ℕ
-  pub taken_now : ℕ
+  pub faults_before : List ℕ → ℕ
+  pub faults_now : List ℕ → ℕ
+  pub taken_before : List ℕ → ℕ
+  pub taken_now : List ℕ → ℕ
 
-abbrev pub reading_of : Option FileMap → (faults_before faults_now taken_before taken_now : ℕ) → Reading
+abbrev pub reading_of : Option FileMap → (faults_before faults_now taken_before taken_now : List ℕ → ℕ) → Reading
 reading_of contents faults_before faults_now taken_before taken_now = record {
   contents = contents;
   faults_before = faults_before;
@@ -45,12 +45,12 @@ reading_of contents faults_before faults_now taken_before taken_now = record {
   taken_now = taken_now;
 }
 
--- why one of these files, each with its limit, was not loaded
+-- why one of these files, each with its limit, was not loaded, by the counts of this very file
 abbrev pub IsLoadCause : Reading → List (List ℕ × ℕ) → Fault → Type 0
 IsLoadCause reading files (Read name) =
-    Contains (map (λ file. file.0) files) name × Rose reading.faults_before reading.faults_now
+    Contains (map (λ file. file.0) files) name × Rose (reading.faults_before name) (reading.faults_now name)
 IsLoadCause reading files (TooLong name limit) =
-    Contains files (name, limit) × Took reading.taken_before reading.taken_now (limit + 1)
+    Contains files (name, limit) × Took (reading.taken_before name) (reading.taken_now name) (limit + 1)
     × ForSome reading.contents (λ told. first_longer told files ≡ Some (name, limit))
 IsLoadCause reading files fault = ⊥
 

@@ -53,9 +53,11 @@ pub fn r3<F: Files, O: Sink, E: Sink>(
 
     // A file was not loaded: the first one, in the order of the words.
     ensures contents_unchanged { F.contents files.new ≡ F.contents files.old }
-    ensures read { result ≡ 3 → Rose (F.faults files.old) (F.faults files.new) }
+    ensures read { result ≡ 3 → (name : List ℕ)
+        × Contains (map (λ file. file.0) (files_of (texts words.now))) name
+        × Rose (F.faults files.old name) (F.faults files.new name) }
     ensures too_long { result ≡ 4 → (file : List ℕ × ℕ) × Contains (files_of (texts words.now)) file
-        × Took (F.taken files.old) (F.taken files.new) (file.1 + 1)
+        × Took (F.taken files.old file.0) (F.taken files.new file.0) (file.1 + 1)
         × ForSome (F.contents files.old)
         (λ told. first_longer told (files_of (texts words.now)) ≡ Some file) }
     ensures longer { IsListed (texts words.now) → ForSome (F.contents files.old)

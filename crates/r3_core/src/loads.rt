@@ -6,6 +6,7 @@ ghost use Rattle.r3_core.specs.Words.{texts};
 ghost use Rattle.r3_core.specs.Limits.{binary_bytes};
 ghost use Rattle.r3_core.specs.Causes.{reading_of, first_longer, AreBytesOf, AreWithin, IsLoadCause, all_bytes};
 ghost use Rattle.r3_outside.specs.Contents.{file_bytes};
+ghost use Rattle.r3_outside.specs.Count.{NoneFell};
 ghost use Rattle.r3_faults.specs.declared.faults.Fault.TheVariants.{Memory};
 
 use r3_faults::Fault;
@@ -24,8 +25,8 @@ pub(crate) fn load_files<F: Files>(
     requires small { All (λ limit. limit ≤ binary_bytes) limits.now }
 
     ensures contents_unchanged { F.contents files.new ≡ F.contents files.old }
-    ensures faults_never_fall { F.faults files.old ≤ F.faults files.new }
-    ensures taken_never_falls { F.taken files.old ≤ F.taken files.new }
+    ensures faults_never_fall { NoneFell (F.faults files.old) (F.faults files.new) }
+    ensures taken_never_falls { NoneFell (F.taken files.old) (F.taken files.new) }
 
     ensures unread { length names.now ≡ 0 → files.new ≡ files.old }
     ensures all { IfOk result (λ loaded. vec_len loaded ≡ length names.now) }
@@ -56,8 +57,8 @@ fn load_file<F: Files>(
     requires { limit ≤ binary_bytes }
 
     ensures contents_unchanged { F.contents files.new ≡ F.contents files.old }
-    ensures faults_never_fall { F.faults files.old ≤ F.faults files.new }
-    ensures taken_never_falls { F.taken files.old ≤ F.taken files.new }
+    ensures faults_never_fall { NoneFell (F.faults files.old) (F.faults files.new) }
+    ensures taken_never_falls { NoneFell (F.taken files.old) (F.taken files.new) }
 
     ensures bytes { IfOk result (λ bytes. ForSome (F.contents files.old)
         (λ told. bytes.items ≡ file_bytes told name.now)) }

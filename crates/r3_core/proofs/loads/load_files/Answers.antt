@@ -29,8 +29,10 @@ files-preserved g c =
           AreWithin-more c.args.names.now _ _ _ c.args.limits.now c.files.index c.in_ok-push.ensures.items (omega (arith, c.files.loaded.ok, c.files.invariant.all)) c.requires.each c.files-test.true c.files.invariant.within
           c.in_ok-load_file.ensures.short;
       contents_unchanged = c.in_ok-load_file.ensures.contents_unchanged ∙ c.files.invariant.contents_unchanged;
-      faults_never_fall = omega (arith, c.in_ok-load_file.ensures.faults_never_fall);
-      taken_never_falls = omega (arith, c.in_ok-load_file.ensures.taken_never_falls);
+      faults_never_fall = λ other.
+          omega (arith, c.files.invariant.faults_never_fall other, c.in_ok-load_file.ensures.faults_never_fall other);
+      taken_never_falls = λ other.
+          omega (arith, c.files.invariant.taken_never_falls other, c.in_ok-load_file.ensures.taken_never_falls other);
       within_limits = λ told e.
           first_longer-more c.args.names.now c.args.limits.now told c.files.index c.index-names-index.result _ c.files-test.true c.requires.each name (c.files.invariant.within_limits told e)
           (c.in_ok-load_file.ensures.within_limit told (c.files.invariant.contents_unchanged ∙ e));

@@ -22,14 +22,17 @@ done-or_memory x (suc (suc zero), h, e) read write = absurd (write (sym e))
 done-or_memory x (suc (suc (suc zero)), h, e) read write = inr (sym e)
 done-or_memory x (suc (suc (suc (suc k))), h, e) read write = absurd (omega arith)
 
+pub returns-clause-no_read_fault : goal.returns-clause-no_read_fault
+returns-clause-no_read_fault c = λ e. absurd (omega (arith, (c.r3.ensures.read e).2))
+
 pub returns-clause-longer : goal.returns-clause-longer
 returns-clause-longer c = λ built longer.
-    too_long-or_memory c.r3.result (c.r3.ensures.longer built _ refl longer) (λ e. absurd (omega (arith, c.r3.ensures.read e)))
+    too_long-or_memory c.r3.result (c.r3.ensures.longer built _ refl longer) (λ e. absurd (omega (arith, (c.r3.ensures.read e).2)))
 
 pub returns-clause-refused : goal.returns-clause-refused
 returns-clause-refused c = λ command names number fault says none refusal.
-    refusal-or_memory c.r3.result (status_of fault) (c.r3.ensures.refused command names number fault says _ refl none refusal) (λ e. absurd (omega (arith, c.r3.ensures.read e)))
+    refusal-or_memory c.r3.result (status_of fault) (c.r3.ensures.refused command names number fault says _ refl none refusal) (λ e. absurd (omega (arith, (c.r3.ensures.read e).2)))
 
 pub returns-clause-done : goal.returns-clause-done
 returns-clause-done c = λ command names number says none doable.
-    done-or_memory c.r3.result (c.r3.ensures.done command names number says _ refl none doable) (λ e. absurd (omega (arith, c.r3.ensures.read e))) (λ e. absurd (omega (arith, c.r3.ensures.write e)))
+    done-or_memory c.r3.result (c.r3.ensures.done command names number says _ refl none doable) (λ e. absurd (omega (arith, (c.r3.ensures.read e).2))) (λ e. absurd (omega (arith, c.r3.ensures.write e)))
