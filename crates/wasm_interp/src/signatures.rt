@@ -2,7 +2,7 @@
 
 ghost use Rattle.std.specs.Prelude.{◌≡◌, ◌<◌, length, slice_get};
 ghost use Rattle.wasm_syntax.specs.Alike as alike;
-ghost use Rattle.wasm_flat.specs.Slots.{params_of, type_in};
+ghost use Rattle.wasm_flat.specs.Slots.{type_in};
 ghost use Rattle.wasm_store.specs.Calls.{entry_at};
 ghost use Rattle.flat_steps.specs.FlatStep.{same_types_there, calls_entry};
 ghost use Rattle.wasm_interp.specs.Controls.{control_of};
@@ -49,17 +49,6 @@ fn same_signature(a: &FuncType, b: &FuncType) -> bool
 {
     same_types(a.params.as_slice(), b.params.as_slice())
         && same_types(a.results.as_slice(), b.results.as_slice())
-}
-
-/// How many parameters a function type has.
-#[inline(always)]
-pub(crate) fn param_count(flat: &Flat, ty: u32) -> usize
-    ensures { result ≡ length (params_of (slice_get flat.now.types ty)) }
-{
-    match flat.types.as_slice().get(ty as usize) {
-        Some(found) => found.params.as_slice().len(),
-        None => 0,
-    }
 }
 
 /// Whether a function has a type by its structure.
