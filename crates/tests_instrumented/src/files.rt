@@ -1,14 +1,12 @@
 // Files that are instrumented, or refused. The bytes of the first were worked out by hand.
 
 use r3_instrument::{Fault, hooked};
+use sample_inputs::examples::TWO_ANSWERS;
 use std::alloc::Global;
 use std::test::Fail;
 use wasm_syntax::limits::MOST_FILE_BYTES;
 
-const TWO_ANSWERS: &str =
-    "0061736d010000000105016000017f02070101680166000003020100070501016700010a09010700100010006a0b";
-
-/// What it is instrumented to, with the SHA-256 digest of its bytes.
+/// What `TWO_ANSWERS` is instrumented to, with the SHA-256 digest of its bytes.
 const INSTRUMENTED: &str =
     "0061736d01000000011e066000017f60027f7e0060017f0060000060037f7f7f0060047f7f7f7e00029f0110016801660000\
      02723303617267000102723305656e7465720002027233056c65617665000202723303707265000202723304706f73740002\
