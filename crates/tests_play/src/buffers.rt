@@ -15,16 +15,10 @@ use instrumented_encoding::instrumented_meters_fit;
 use instrumented_sizes::{encoded_have_words, instrumented_are_short};
 use instrumented_valid::instrumented_are_runnable;
 use r3_inputs::module_of;
+use sample_inputs::examples::C_BUFFERS;
 use std::alloc::Global;
 use std::test::Fail;
 use wasm_syntax::limits::MOST_FILE_BYTES;
-
-// examples/c_buffers.wat
-const BUFFERS: &str =
-    "0061736d0100000001110360037f7f7f017f60017f017f6000017f020c0103656e7604726561640000030302020104050170\
-     01020205030100020608017f01418080040b071002066d656d6f727902000372756e00010907010041010b01020a3a023001\
-     017f230041106b2200240020004104200041086a10001a200028020020002802086a4101110100200041106a24000b070020\
-     004101740b";
 
 // examples/c_buffers.json
 const SCRIPT: &str = "{\"imports\":{\"env\":{\"read\":{\"calls\":[{\"do\":[\
@@ -54,7 +48,7 @@ fn hooked_buffers(alloc: Global) -> Result<Hooked, Fail>
     ensures runnable { IfOk result (λ hooked. IsRunnable hooked.«module») }
     ensures meter { IfOk result (λ hooked. FitsMeter hooked.«module» hooked.meter) }
 {
-    let bytes = hex::decode(alloc, BUFFERS)?;
+    let bytes = hex::decode(alloc, C_BUFFERS)?;
     if bytes.len() > MOST_FILE_BYTES as usize {
         return Err(Fail::from("a long text"));
     }

@@ -4,25 +4,14 @@ use history_spec::Outcome;
 use hook_names::{Hooks, NoHooks};
 use host_play::PlayFault;
 use r3_inputs::{MOST_INSTRUMENTED_BYTES, ModuleFile, module_in};
+use sample_inputs::hooked::TWO_ANSWERS;
+use sample_inputs::scripts::ANSWERS;
 use std::alloc::Global;
 use std::test::Fail;
 use wasm_flat::Meter;
 
-// (module (import "h" "f" (func (result i32))) (func (export "g") (result i32) call 0 call 0 i32.add)), instrumented
-const TWO_ANSWERS: &str =
-    "0061736d01000000011e066000017f60027f7e0060017f0060000060037f7f7f0060047f7f7f7e00029f011001680166\
-    000002723303617267000102723305656e7465720002027233056c65617665000202723303707265000202723304706f\
-    73740002027233046970726500020272330569706f73740003027233046c6f616400040272330573746f726500050272\
-    330473697a6500030272330467726f770002027233046767657400010272330467736574000102723304636f70790004\
-    0272330466696c6c000403020100070501016700100a44014204027f017e017d017c41011002027f4100100410002101\
-    41ff002001ad1001410010052001410010041000210141ff002001ad10014100100520016a0b410110030b002c097233\
-    2e686f6f6b656407070707070707070707070707070707070707070707070707070707070707070101";
-
-const SCRIPT: &str = "{\"imports\":{\"h\":{\"f\":{\"calls\":[{\"return\":{\"i32\":5}},\
-    {\"return\":{\"i32\":7}}]}}},\"main\":[{\"call\":\"g\"}]}";
-
 // the same, with answers in the hooks' places, which are not looked at
-const ANSWERED: &str = "{\"imports\":{\"h\":{\"f\":{\"calls\":[{\"return\":{\"i32\":5}},\
+const HOOKS_ANSWERED: &str = "{\"imports\":{\"h\":{\"f\":{\"calls\":[{\"return\":{\"i32\":5}},\
     {\"return\":{\"i32\":7}}]}},\"r3\":{\"enter\":{\"rest\":{\"trap\":true}},\
     \"leave\":{\"rest\":{\"do\":[{\"call\":\"g\"}]}}}},\"main\":[{\"call\":\"g\"}]}";
 
@@ -45,7 +34,7 @@ fn run_of<H: Hooks>(
 
 #[test]
 fn runs_take_their_turns(rt: HostRuntime) -> Result<(), Fail> {
-    for script in [SCRIPT, ANSWERED] {
+    for script in [ANSWERS, HOOKS_ANSWERED] {
         if run_of(rt.alloc(), script, 29, &mut NoHooks)? != Ok(Outcome::Ended) {
             return Err(Fail::from("within 29 turns"));
         }
@@ -64,7 +53,7 @@ fn hooks_take_all_calls(rt: HostRuntime) -> Result<(), Fail> {
         arguments: 0,
         last: 0,
     };
-    if run_of(rt.alloc(), SCRIPT, 29, &mut hooks)? != Ok(Outcome::Ended) {
+    if run_of(rt.alloc(), ANSWERS, 29, &mut hooks)? != Ok(Outcome::Ended) {
         return Err(Fail::from("an outcome"));
     }
     // enter 1; for each call pre 0, arg 127 and the answer, post 0; leave 1
@@ -83,7 +72,7 @@ fn a_refused_call_ends_the_run(rt: HostRuntime) -> Result<(), Fail> {
             arguments: 0,
             last: 0,
         };
-        if run_of(rt.alloc(), SCRIPT, 29, &mut hooks)? != Err(PlayFault::Hook { number })
+        if run_of(rt.alloc(), ANSWERS, 29, &mut hooks)? != Err(PlayFault::Hook { number })
             || hooks.taken != number
         {
             return Err(Fail::from("the call"));
