@@ -3,6 +3,9 @@
 use r3_inputs::MOST_INSTRUMENTED_BYTES;
 use r3_outside::SureSink;
 use r3_record::log_run;
+use sample_inputs::examples;
+use sample_inputs::hooked::TWO_ANSWERS;
+use sample_inputs::scripts::ANSWERS;
 use std::alloc::Global;
 use std::test::Fail;
 
@@ -16,21 +19,7 @@ type Row = (
     Result<&'static str, &'static str>,
 );
 
-/// A function that calls an import twice and adds what it returns, instrumented.
-const TWO_ANSWERS: &str =
-    "0061736d01000000011e066000017f60027f7e0060017f0060000060037f7f7f0060047f7f7f7e00029f011001680166\
-     000002723303617267000102723305656e7465720002027233056c65617665000202723303707265000202723304706f\
-     73740002027233046970726500020272330569706f73740003027233046c6f616400040272330573746f726500050272\
-     330473697a6500030272330467726f770002027233046767657400010272330467736574000102723304636f70790004\
-     0272330466696c6c000403020100070501016700100a44014204027f017e017d017c41011002027f4100100410002101\
-     41ff002001ad1001410010052001410010041000210141ff002001ad10014100100520016a0b410110030b002c097233\
-     2e686f6f6b656407070707070707070707070707070707070707070707070707070707070707070101";
-
-/// The same, not instrumented.
-const ORIGINAL: &str =
-    "0061736d010000000105016000017f02070101680166000003020100070501016700010a09010700100010006a0b";
-
-/// The same, instrumented, but that the end of the function is told as if it were entered.
+/// `hooked::TWO_ANSWERS`, but that the end of the function is told as if it were entered.
 const ENTERED_AGAIN: &str =
     "0061736d01000000011e066000017f60027f7e0060017f0060000060037f7f7f0060047f7f7f7e00029f011001680166\
      000002723303617267000102723305656e7465720002027233056c65617665000202723303707265000202723304706f\
@@ -71,10 +60,6 @@ const TWO_BYTES_TOLD: &str =
      7f410010041000410010054108410121012200410041022001ad1009200020013b010041082200410041021008200028\
      02000b410110030b002c0972332e686f6f6b656407070707070707070707070707070707070707070707070707070707\
      070707070101";
-
-/// The host answers 5 and 7.
-const ANSWERS: &str =
-    r#"{"imports":{"h":{"f":{"calls":[{"return":{"i32":5}},{"return":{"i32":7}}]}}},"main":[{"call":"g"}]}"#;
 
 /// The host writes four bytes.
 const WRITES: &str =
@@ -134,14 +119,14 @@ const ROWS: &[Row] = &[
     ),
     (
         "a module that is not instrumented",
-        ORIGINAL,
+        examples::TWO_ANSWERS,
         ANSWERS,
         29,
         Err("not hooked\n"),
     ),
     (
         "not instrumented, before the script is read",
-        ORIGINAL,
+        examples::TWO_ANSWERS,
         "{",
         29,
         Err("not hooked\n"),
