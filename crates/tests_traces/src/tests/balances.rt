@@ -1,6 +1,7 @@
 //! Logs that are balanced, and the first event that is out of order.
 
-use crate::tests::files::{LOG, LOG_OF_TWO_ANSWERS, file};
+use crate::tests::files::file;
+use sample_inputs::traces::{LOG, LOG_OF_TWO_ANSWERS};
 use std::test::Fail;
 use trace_format::read_log;
 use trace_model::BalanceFault::{self, Event};

@@ -1,8 +1,7 @@
 //! Files that are refused: their version, or the place of their fault.
 
-use crate::tests::files::{
-    LOG_OF_TWO_ANSWERS, Row, TAPE_OF_TWO_ANSWERS, check_logs, check_tapes, file,
-};
+use crate::tests::files::{Row, check_logs, check_tapes, file};
+use sample_inputs::traces::{LOG_OF_TWO_ANSWERS, TAPE_OF_TWO_ANSWERS};
 use std::test::Fail;
 use trace_format::FormatFault::{Bad, Version};
 use trace_format::{lines_of_log, lines_of_tape};

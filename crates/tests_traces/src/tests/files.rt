@@ -1,26 +1,11 @@
 // Files in hexadecimal, and what is answered to them.
 
+use sample_inputs::traces::{DIGEST, LOG, TAPE};
 use std::alloc::Global;
 use std::test::Fail;
 use trace_format::{
     FormatFault, lines_of_log, lines_of_tape, read_log, read_tape, show_log, show_tape,
 };
-
-/// What a log's file begins with, and a tape's.
-pub const LOG: &str = "72336c67";
-
-pub const TAPE: &str = "72337470";
-
-/// A digest.
-pub const DIGEST: &str = "000102030405060708090a0b0c0d0e0f101112131415161718191a1b1c1d1e1f";
-
-/// The log and the tape of a run in which a function calls an import twice and gives the difference of
-/// its answers, 5 and 7: what stands after the digest.
-pub const LOG_OF_TWO_ANSWERS: &str = "01010100030100\
-    04017f0500000003010004017f07000000020110";
-
-pub const TAPE_OF_TWO_ANSWERS: &str = "0000200100\
-    01000021017f0500000001000021017f070000000200222f";
 
 /// A file: its name, its version, what stands after the digest; and its lines after the first, or why
 /// it is refused.

@@ -1,6 +1,8 @@
 //! Tapes that fit a module and what they weigh, and the first segment that does not fit.
 
-use crate::tests::files::{TAPE, TAPE_OF_TWO_ANSWERS, file};
+use crate::tests::files::file;
+use sample_inputs::module_without_parts;
+use sample_inputs::traces::{TAPE, TAPE_OF_TWO_ANSWERS};
 use std::alloc::Global;
 use std::test::Fail;
 use trace_format::read_tape;
@@ -217,14 +219,8 @@ fn module_of(alloc: Global, given: &[ValType], memories: &[Limits]) -> Result<Mo
         types: List::from_vec(types),
         imports: List::from_vec(imports),
         funcs: List::from_vec(funcs),
-        tables: List::new(alloc),
         memories: List::from_vec(Vec::from_slice(alloc, memories)?),
-        globals: List::new(alloc),
-        exports: List::new(alloc),
-        start: None,
-        elems: List::new(alloc),
-        datas: List::new(alloc),
-        customs: List::new(alloc),
+        ..module_without_parts(alloc)
     })
 }
 

@@ -1,6 +1,7 @@
 //! Every proper prefix of a log and of a tape is refused, at the end of what is whole of it.
 
-use crate::tests::files::{LOG, LOG_OF_TWO_ANSWERS, TAPE, TAPE_OF_TWO_ANSWERS, file};
+use crate::tests::files::file;
+use sample_inputs::traces::{LOG, LOG_OF_TWO_ANSWERS, TAPE, TAPE_OF_TWO_ANSWERS};
 use std::alloc::Global;
 use std::test::Fail;
 use trace_format::{FormatFault, read_log, read_tape};

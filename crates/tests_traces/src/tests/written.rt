@@ -1,19 +1,14 @@
 //! Files that are read and written again.
 
-use crate::tests::files::{LOG, LOG_OF_TWO_ANSWERS, TAPE, TAPE_OF_TWO_ANSWERS, file};
+use crate::tests::files::file;
+use sample_inputs::traces::{
+    EACH_EFFECT, EACH_EVENT, LOG, LOG_OF_TWO_ANSWERS, TAPE, TAPE_OF_TWO_ANSWERS,
+};
 use std::alloc::Global;
 use std::test::Fail;
 use trace_format::{
     FormatFault, log_files, read_log, read_tape, tape_files, write_log, write_tape,
 };
-
-/// What stands after the digest of a log with each kind of event, and of a tape with each of effect.
-const EACH_EVENT: &str = "010101027f050000007e06000000000000000201030100030004000401\
-    7d0000803f0502060a05070a02ccdd08000103080100\
-    09027c000000000000f03f11";
-
-const EACH_EFFECT: &str = "000505020a05070a02ccdd0800010309027f07000000210002010801002\
-    32f";
 
 /// The file of the log of a file.
 fn log_again(alloc: Global, bytes: &[u8]) -> Result<Vec<u8>, FormatFault> {
