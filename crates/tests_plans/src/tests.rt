@@ -1,6 +1,7 @@
 //! The plan of a tape with calls of an import within one another.
 
 use plan_maker::plan;
+use sample_inputs::module_without_parts;
 use std::alloc::{AllocError, Global as Heap};
 use std::test::Fail;
 use trace_model::{Effect, Next, Origin, Segment, Tape};
@@ -67,17 +68,8 @@ fn importer(alloc: Heap) -> Result<Module, AllocError> {
     imports.push(import(alloc)?)?;
     imports.push(import(alloc)?)?;
     Ok(Module {
-        types: List::new(alloc),
         imports: List::from_vec(imports),
-        funcs: List::new(alloc),
-        tables: List::new(alloc),
-        memories: List::new(alloc),
-        globals: List::new(alloc),
-        exports: List::new(alloc),
-        start: None,
-        elems: List::new(alloc),
-        datas: List::new(alloc),
-        customs: List::new(alloc),
+        ..module_without_parts(alloc)
     })
 }
 
