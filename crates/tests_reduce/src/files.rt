@@ -1,20 +1,11 @@
 //! Files of logs, and the files of tapes that they are reduced to.
 
 use r3_reduce::{Fault, reduce_log};
+use sample_inputs::traces::{DIGEST, LOG, LOG_OF_TWO_ANSWERS, TAPE, TAPE_OF_TWO_ANSWERS};
 use std::alloc::Global;
 use std::test::Fail;
 
-/// A digest.
-const DIGEST: &str = "000102030405060708090a0b0c0d0e0f101112131415161718191a1b1c1d1e1f";
-
-/// The log of a run in which an import answers twice, after the digest.
-const TWO_ANSWERS: &str = "0101010003010004017f0500000003010004017f07000000020110";
-
-/// Its tape.
-const TWO_ANSWERS_TAPE: &str = "00002001000100002101\
-    7f0500000001000021017f070000000200222f";
-
-/// Where an event of that log ends, or the header.
+/// Where an event of `LOG_OF_TWO_ANSWERS` ends, or the header.
 const ENDS: [u64; 7] = [38, 41, 44, 51, 54, 61, 63];
 
 /// A file that begins so, in a version, with the digest and what comes after it.
@@ -28,7 +19,7 @@ fn file(alloc: Global, magic: &str, version: u8, body: &str) -> Result<Vec<u8>, 
 
 /// The file of a log.
 fn log_file(alloc: Global, version: u8, body: &str) -> Result<Vec<u8>, Fail> {
-    file(alloc, "72336c67", version, body)
+    file(alloc, LOG, version, body)
 }
 
 /// Where the fault of a cut log is.
@@ -45,9 +36,9 @@ fn place(length: u64) -> u64 {
 #[test]
 fn logs_of_both_versions_are_reduced(rt: HostRuntime) -> Result<(), Fail> {
     let alloc = rt.alloc();
-    let tape = file(alloc, "72337470", 2, TWO_ANSWERS_TAPE)?;
+    let tape = file(alloc, TAPE, 2, TAPE_OF_TWO_ANSWERS)?;
     for version in [1, 2] {
-        let log = log_file(alloc, version, TWO_ANSWERS)?;
+        let log = log_file(alloc, version, LOG_OF_TWO_ANSWERS)?;
         match reduce_log(alloc, log.as_slice()) {
             Ok(bytes) => assert!(rt; bytes.as_slice() == tape.as_slice()),
             Err(_) => return Err(Fail::new(format_args!("version {version}"))),
@@ -59,7 +50,7 @@ fn logs_of_both_versions_are_reduced(rt: HostRuntime) -> Result<(), Fail> {
 #[test]
 fn a_cut_log_is_refused(rt: HostRuntime) -> Result<(), Fail> {
     let alloc = rt.alloc();
-    let log = log_file(alloc, 1, TWO_ANSWERS)?;
+    let log = log_file(alloc, 1, LOG_OF_TWO_ANSWERS)?;
     assert!(rt; log.len() == 64);
     for length in 0..64 {
         let Some(front) = log.get(..length) else {
@@ -76,7 +67,7 @@ fn a_cut_log_is_refused(rt: HostRuntime) -> Result<(), Fail> {
 #[test]
 fn another_version_is_refused(rt: HostRuntime) -> Result<(), Fail> {
     let alloc = rt.alloc();
-    let log = log_file(alloc, 3, TWO_ANSWERS)?;
+    let log = log_file(alloc, 3, LOG_OF_TWO_ANSWERS)?;
     match reduce_log(alloc, log.as_slice()) {
         Err(Fault::TraceVersion { found }) => assert!(rt; found == 3),
         _ => return Err(Fail::new(format_args!("taken"))),

@@ -1,6 +1,7 @@
 //! Logs, and the tapes that they are reduced to.
 
 use run_outcomes::Outcome;
+use sample_inputs::traces::{LINES_OF_NESTED_CALL, LOG_OF_TWO_ANSWERS, TAPE_LINES_OF_TWO_ANSWERS};
 use std::alloc::Global;
 use std::test::Fail;
 use trace_format::{Digest, read_log, show_tape};
@@ -19,11 +20,8 @@ const FIRST_LINE: &str = "tape 000102030405060708090a0b0c0d0e0f10111213141516171
 const ROWS: &[(&str, &str, Result<&str, ReduceFault>)] = &[
     (
         "two answers",
-        "0101010003010004017f0500000003010004017f07000000020110",
-        Ok(
-            "segment begin\ncall 1\nsegment import 0\nreturn i32:00000005\nsegment import 0\n\
-             return i32:00000007\nsegment back\nend\nclose\n",
-        ),
+        LOG_OF_TWO_ANSWERS,
+        Ok(TAPE_LINES_OF_TWO_ANSWERS),
     ),
     ("nothing", "0110", Ok("segment begin\nend\nclose\n")),
     (
@@ -116,11 +114,6 @@ const ROWS: &[(&str, &str, Result<&str, ReduceFault>)] = &[
     ),
 ];
 
-/// The tape of a call within an import, as lines.
-const NESTED: &str =
-    "segment begin\ncall 1\nsegment import 0\ncall 2\nsegment import 0\nreturn i32:00000002\n\
-    segment back\nbytes 0 04\nreturn i32:00000001\nsegment back\nend\nclose\n";
-
 /// A tape is the one that these lines show.
 fn is_shown(alloc: Global, digest: &Digest, tape: &Tape, text: &str) -> Result<bool, Fail> {
     let mut lines = Vec::new(alloc);
@@ -208,7 +201,7 @@ fn a_tape_may_weigh_the_most(rt: HostRuntime) -> Result<(), Fail> {
     let Some((_, digest)) = bytes.as_slice().split_last_chunk::<32>() else {
         return Err(Fail::new(format_args!("no digest")));
     };
-    assert!(rt; is_shown(alloc, &Digest::of(*digest), &tape, NESTED)?);
+    assert!(rt; is_shown(alloc, &Digest::of(*digest), &tape, LINES_OF_NESTED_CALL)?);
     Ok(())
 }
 
