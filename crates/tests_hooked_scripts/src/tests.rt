@@ -3,27 +3,12 @@
 use hooked_scripts::script_with_hooks;
 use host_script::Script;
 use r3_inputs::{module_of, script_of};
+use sample_inputs::importers::EVERY_KIND;
 use std::alloc::Global;
 use std::test::Fail;
 use wasm_syntax::limits::MOST_FILE_BYTES;
 
-/// Imports the functions 0 to 5, and exports function 6, of type `[i32 i64] -> [i32]`, as `run`, function 7, of type
-/// `[] -> []`, as `go`, and the first import as `own`.
-const MODULE: &str =
-    // (module (import "h" "f" (func (param i32 i64) (result i32))) (import "h" "v" (func))
-    //   (import "h" "g" (global (mut i32))) (import "h" "k" (global i64)) (import "a/b" "c~d" (global f32))
-    //   (import "h" "p" (func (param i64 i32))) (import "h" "p" (func (param i32 i32)))
-    //   (import "h" "r" (func (result i32))) (import "h" "r" (func (result i64))) (table (export "tab") 2 funcref)
-    //   (memory (export "mem") 1) (global (export "x") (mut f64) (f64.const 0))
-    //   (global (export "y") i32 (i32.const 0)) (func (export "run") (param i32 i64) (result i32) i32.const 0)
-    //   (func (export "go")) (export "own" (func 0)))
-    "0061736d01000000011c0660027f7e017f60000060027e7f0060027f7f006000017f6000017e\
-     023e0901680166000001680176000101680167037f010168016b037e0003612f6203637e64037d0001680170000201680170\
-     0003016801720004016801720005030302000104040170000205030100010612027c014400000000000000000b7f0041000b\
-     072607037461620100036d656d020001780303017903040372756e000602676f0007036f776e0000\
-     0a0902040041000b02000b";
-
-/// Its first import is answered alone.
+/// Of the imports, the functions 0 to 5, the first is answered alone.
 const SCRIPT: &str = r#"{"imports":{"h":{"f":{
     "calls":[{"do":[{"call":"go"},{"set_table":0,"func":"run"},{"set_table":1,"func":"own"}],"return":{"i32":9}}],
     "rest":{"do":[{"set_table":1,"func":null},{"call_table":1}],"trap":true}}}},
@@ -46,7 +31,7 @@ const HOOK: &str = "Some(Answer { calls: List { items: [] }, \
 
 /// The script for the instrumented module.
 fn hooked(alloc: Global) -> Result<Script, Fail> {
-    let bytes = hex::decode(alloc, MODULE)?;
+    let bytes = hex::decode(alloc, EVERY_KIND)?;
     if bytes.len() > MOST_FILE_BYTES as usize {
         return Err(Fail::from("a long text"));
     }
