@@ -1,6 +1,7 @@
 //! Each action, with its keys.
 
-use crate::tests::answers::{CLOSED, EVERY, IMPORTED, check_table};
+use crate::tests::answers::{CLOSED, IMPORTED, check_table};
+use sample_inputs::importers::EVERY_KIND;
 use std::test::Fail;
 
 const ROWS: &str = r#"
@@ -140,7 +141,7 @@ const IMPORTS: &str = r#"
 
 /// Scripts for modules that have a memory and a table in reach, out of reach, and imported; and how many they are.
 const TABLES: [(&str, &str, u64); 3] = [
-    (EVERY, ROWS, 89),
+    (EVERY_KIND, ROWS, 89),
     (CLOSED, OUT_OF_REACH, 19),
     (IMPORTED, IMPORTS, 7),
 ];

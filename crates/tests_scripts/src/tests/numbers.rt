@@ -1,6 +1,7 @@
 //! Numbers and values.
 
-use crate::tests::answers::{EVERY, check_table};
+use crate::tests::answers::check_table;
+use sample_inputs::importers::EVERY_KIND;
 use std::test::Fail;
 
 const ROWS: &str = r#"
@@ -66,6 +67,6 @@ const ROWS: &str = r#"
 
 #[test]
 fn numbers_and_values(rt: HostRuntime) -> Result<(), Fail> {
-    assert_eq!(rt; check_table(rt.alloc(), EVERY, ROWS)?, 55);
+    assert_eq!(rt; check_table(rt.alloc(), EVERY_KIND, ROWS)?, 55);
     Ok(())
 }

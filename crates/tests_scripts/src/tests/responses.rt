@@ -1,6 +1,7 @@
 //! Responses to calls, and addresses in them.
 
-use crate::tests::answers::{EVERY, check_table};
+use crate::tests::answers::check_table;
+use sample_inputs::importers::EVERY_KIND;
 use std::test::Fail;
 
 const ROWS: &str = r#"
@@ -87,6 +88,6 @@ const ROWS: &str = r#"
 
 #[test]
 fn responses_and_addresses(rt: HostRuntime) -> Result<(), Fail> {
-    assert_eq!(rt; check_table(rt.alloc(), EVERY, ROWS)?, 41);
+    assert_eq!(rt; check_table(rt.alloc(), EVERY_KIND, ROWS)?, 41);
     Ok(())
 }

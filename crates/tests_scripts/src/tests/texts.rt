@@ -1,6 +1,8 @@
 //! Texts, the keys of a script, names, and what stands under them.
 
-use crate::tests::answers::{EVERY, answer_to, check_rows, check_table, module};
+use crate::tests::answers::{answer_to, check_rows, check_table, module};
+use sample_inputs::examples::TWO_ANSWERS;
+use sample_inputs::importers::{EVERY_KIND, EXPORTED_IMPORT};
 use std::test::Fail;
 
 const ROWS: &str = r#"
@@ -85,8 +87,8 @@ const WITH_SPACES: &[(&str, &str, &str)] = &[
 
 #[test]
 fn texts_and_keys(rt: HostRuntime) -> Result<(), Fail> {
-    assert_eq!(rt; check_table(rt.alloc(), EVERY, ROWS)?, 57);
-    check_rows(rt.alloc(), EVERY, WITH_SPACES)
+    assert_eq!(rt; check_table(rt.alloc(), EVERY_KIND, ROWS)?, 57);
+    check_rows(rt.alloc(), EVERY_KIND, WITH_SPACES)
 }
 
 /// Scripts whose bytes are no UTF-8: a byte that begins nothing, a front of two bytes, a surrogate,
@@ -102,7 +104,7 @@ const OTHER_BYTES: &[&[u8]] = &[
 #[test]
 fn bytes_that_are_no_text(rt: HostRuntime) -> Result<(), Fail> {
     let alloc = rt.alloc();
-    let checked = module(alloc, EVERY)?;
+    let checked = module(alloc, EVERY_KIND)?;
     for &bytes in OTHER_BYTES {
         assert_eq!(rt;
             answer_to(alloc, &checked, bytes)?.as_str(),
@@ -112,11 +114,6 @@ fn bytes_that_are_no_text(rt: HostRuntime) -> Result<(), Fail> {
     Ok(())
 }
 
-/// A function that adds what two calls of its import give.
-const ADDING: &str =
-    // (module (import "h" "f" (func (result i32))) (func (export "g") (result i32) call 0 call 0 i32.add))
-    "0061736d010000000105016000017f02070101680166000003020100070501016700010a09010700100010006a0b";
-
 const ADDING_ROWS: &str = r#"
 - an open object | { => script: not json
 - another lead key | {"main":[{"jump":1}]} => script: shape /main/0
@@ -124,11 +121,6 @@ const ADDING_ROWS: &str = r#"
 - an argument too many | {"main":[{"call":"g","args":[{"i32":1}]}]} => script: type g
 - no memory | {"main":[{"write":0,"bytes":"00"}]} => script: no access memory
 "#;
-
-/// The same module with the import itself as the export `g`.
-const EXPORTED: &str =
-    // (module (import "h" "f" (func (result i32))) (func (result i32) call 0 call 0 i32.add) (export "g" (func 0)))
-    "0061736d010000000105016000017f02070101680166000003020100070501016700000a09010700100010006a0b";
 
 const EXPORTED_ROWS: &str = r#"
 - a call of the import |
@@ -138,7 +130,7 @@ const EXPORTED_ROWS: &str = r#"
 
 #[test]
 fn worked_faults(rt: HostRuntime) -> Result<(), Fail> {
-    assert_eq!(rt; check_table(rt.alloc(), ADDING, ADDING_ROWS)?, 5);
-    assert_eq!(rt; check_table(rt.alloc(), EXPORTED, EXPORTED_ROWS)?, 1);
+    assert_eq!(rt; check_table(rt.alloc(), TWO_ANSWERS, ADDING_ROWS)?, 5);
+    assert_eq!(rt; check_table(rt.alloc(), EXPORTED_IMPORT, EXPORTED_ROWS)?, 1);
     Ok(())
 }
