@@ -1,5 +1,10 @@
 //! The example modules and others whose numbers are all in their fewest bytes, and some that are not.
 
+use sample_inputs::examples::{
+    C_BUFFERS, EMPTY, FLOAT_BODY, FLOAT_GLOBAL, GROW_ACCESS, GROW_FAILED, IMPORTED_OFFSET,
+    NESTED_CALL, NESTED_TRAP, OVERWRITE, REPLAY_TWO_ANSWERS, TABLE_ENTRY, TABLE_ENTRY_IMPORT,
+    TWO_ANSWERS,
+};
 use std::alloc::Global;
 use std::test::Fail;
 use wasm_decode::decode;
@@ -14,86 +19,20 @@ fn again(alloc: Global, bytes: &[u8]) -> Result<Vec<u8>, Fail> {
 }
 
 const EXAMPLES: &[(&str, &str)] = &[
-    (
-        "c_buffers",
-        // examples/c_buffers.wat
-        "0061736d0100000001110360037f7f7f017f60017f017f6000017f020c0103656e7604726561640000030302020104050170\
-         01020205030100020608017f01418088040b071002066d656d6f727902000372756e00010907010041010b01020a3a023001\
-         017f230041106b2200240020004104200041086a10001a200028020020002802086a4101110100200041106a24000b070020\
-         004101740b",
-    ),
-    // examples/empty.wat
-    ("empty", "0061736d01000000"),
-    (
-        "float_body",
-        // examples/float_body.wat
-        "0061736d010000000104016000000304030000000a1f0302000b02000b170001440000000000000000440000000000000000a01a0b",
-    ),
-    (
-        "float_global",
-        // examples/float_global.wat
-        "0061736d010000000108026000006000017d020701016801660000030201010609017d0143000000000b0709020167000101\
-         7803000a08010600100023000b",
-    ),
-    (
-        "grow_access",
-        // examples/grow_access.wat
-        "0061736d0100000001040160000002070101680166000003020100050301000107090201670001016d02000a0f010d001000\
-         4180800441093a00000b",
-    ),
-    (
-        "grow_failed",
-        // examples/grow_failed.wat
-        "0061736d010000000108026000006000017f0207010168016600000302010105040101040a07090201670001016d02000a0a\
-         0108001000410340000b",
-    ),
-    (
-        "imported_offset",
-        // examples/imported_offset.wat
-        "0061736d010000000105016000017f02080101680162037f00030201000503010001070501016700000a0901070041102d00\
-         000b0b07010023000b0141",
-    ),
-    (
-        "nested_call",
-        // examples/nested_call.wat
-        "0061736d010000000105016000017f02070101680166000003030200000503010001070d030167000101650002016d02000a\
-         11020a00100041002d00006a0b040010000b",
-    ),
-    (
-        "nested_trap",
-        // examples/nested_trap.wat
-        "0061736d010000000105016000017f02070101680166000003030200000503010001070d030167000101650002016d02000a\
-         11020a00100041002d00006a0b0400006a0b",
-    ),
-    (
-        "overwrite",
-        // examples/overwrite.wat
-        "0061736d010000000108026000006000017f02070101680166000003020101050301000107090201670001016d02000a1201\
-         10001000410841013b010041082802000b",
-    ),
-    (
-        "replay_two_answers",
-        // examples/replay_two_answers.wat
-        "0061736d010000000108026000017f6000000304030000010606017f0141000b070a01065f737461727400020a2303130023\
-         00230041016a2400047f41070541050b0b0700100010006a0b050010011a0b000c0972332e6c61796f75740101",
-    ),
-    (
-        "table_entry",
-        // examples/table_entry.wat
-        "0061736d010000000108026000006000017f020701016801660000030403010100040401700002070d030167000101620003\
-         017401000907010041000b01020a13030900100041001101000b040041070b02000b",
-    ),
-    (
-        "table_entry_import",
-        // examples/table_entry_import.wat
-        "0061736d010000000108026000006000017f020701016801660000030403010100040401700002070d030167000101620000\
-         017401000907010041000b01020a13030900100041001101000b040041070b02000b",
-    ),
-    (
-        "two_answers",
-        // examples/two_answers.wat
-        "0061736d010000000105016000017f02070101680166000003020100070501016700010a09010700100010006a0b",
-    ),
+    ("c_buffers", C_BUFFERS),
+    ("empty", EMPTY),
+    ("float_body", FLOAT_BODY),
+    ("float_global", FLOAT_GLOBAL),
+    ("grow_access", GROW_ACCESS),
+    ("grow_failed", GROW_FAILED),
+    ("imported_offset", IMPORTED_OFFSET),
+    ("nested_call", NESTED_CALL),
+    ("nested_trap", NESTED_TRAP),
+    ("overwrite", OVERWRITE),
+    ("replay_two_answers", REPLAY_TWO_ANSWERS),
+    ("table_entry", TABLE_ENTRY),
+    ("table_entry_import", TABLE_ENTRY_IMPORT),
+    ("two_answers", TWO_ANSWERS),
 ];
 
 #[test]
@@ -110,9 +49,6 @@ fn examples_give_their_own_bytes(rt: HostRuntime) -> Result<(), Fail> {
 #[test]
 fn long_numbers_are_cut(rt: HostRuntime) -> Result<(), Fail> {
     let alloc = rt.alloc();
-    let two_answers =
-        // examples/two_answers.wat
-        "0061736d010000000105016000017f02070101680166000003020100070501016700010a09010700100010006a0b";
     let rows = [
         // (module (import "h" "f" (func (result i32))) (func (result i32) call 0 call 0 i32.add)
         // (export "g" (func 1))), with the index of the function's type in five bytes
@@ -121,7 +57,7 @@ fn long_numbers_are_cut(rt: HostRuntime) -> Result<(), Fail> {
         // (export "g" (func 1))), with the size of the code section in two bytes and an empty section of globals
         "0061736d010000000105016000017f02070101680166000003020100060100070501016700010a8900010700100010006a0b",
     ];
-    let bytes = hex::decode(alloc, two_answers)?;
+    let bytes = hex::decode(alloc, TWO_ANSWERS)?;
     for text in rows {
         let long = hex::decode(alloc, text)?;
         let encoded = again(alloc, long.as_slice())?;
