@@ -2,6 +2,5 @@
 
 mod builds;
 mod limits;
-mod modules;
 mod refusals;
 mod rows;

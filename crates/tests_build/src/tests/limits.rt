@@ -1,9 +1,9 @@
 //! The most that a tape may weigh.
 
 use crate::tests::builds::{module_bytes, refusal_of, tape_file};
-use crate::tests::modules::OVERWRITE;
 use r3_build::build;
 use r3_faults::Fault;
+use sample_inputs::examples::OVERWRITE;
 use std::alloc::Global;
 use std::test::Fail;
 

@@ -1,13 +1,11 @@
 //! Tapes that are refused, and what is looked for first.
 
 use crate::tests::builds::{answer_for, module_bytes, refusal_of, tape_file};
-use crate::tests::modules::{GROW_ACCESS, IMPORTED_OFFSET, OVERWRITE, TWO_ANSWERS};
 use r3_build::build;
+use sample_inputs::examples::{GROW_ACCESS, IMPORTED_OFFSET, OVERWRITE, TWO_ANSWERS};
+use sample_inputs::traces::TAPE_OF_TWO_ANSWERS;
 use std::alloc::Global;
 use std::test::Fail;
-
-/// The segments of a tape of two answers.
-const ANSWERS: &str = "000020010001000021017f0500000001000021017f070000000200222f";
 
 /// Modules, scripts, segments, and the status and the line of error. A tape begins with 37 bytes of a header.
 const REFUSED: &[(&str, &str, &str, &str, u8, &str)] = &[
@@ -130,7 +128,7 @@ fn a_tape_of_another_module(rt: HostRuntime) -> Result<(), Fail> {
     let mut tape = tape_file(
         alloc,
         module.as_slice(),
-        hex::decode(alloc, ANSWERS)?.as_slice(),
+        hex::decode(alloc, TAPE_OF_TWO_ANSWERS)?.as_slice(),
     )?;
     let given = digest_in(alloc, tape.as_slice())?;
     let Some(byte) = tape.get_mut(5) else {
@@ -158,7 +156,7 @@ fn every_proper_front_of_a_tape(rt: HostRuntime) -> Result<(), Fail> {
     let tape = tape_file(
         alloc,
         module.as_slice(),
-        hex::decode(alloc, ANSWERS)?.as_slice(),
+        hex::decode(alloc, TAPE_OF_TWO_ANSWERS)?.as_slice(),
     )?;
     assert_eq!(rt; tape.len(), 66);
     for length in 0..tape.len() {

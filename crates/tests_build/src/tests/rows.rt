@@ -1,10 +1,11 @@
 //! Replay modules of tapes whose runs were worked out by hand.
 
 use crate::tests::builds::{answer_for, lines_shown_by};
-use crate::tests::modules::{
+use sample_inputs::examples::{
     C_BUFFERS, EMPTY, FLOAT_GLOBAL, GROW_ACCESS, GROW_FAILED, IMPORTED_OFFSET, NESTED_CALL,
     NESTED_TRAP, OVERWRITE, TABLE_ENTRY, TABLE_GROWTH, TWO_ANSWERS,
 };
+use sample_inputs::traces::TAPE_OF_TWO_ANSWERS;
 use std::test::Fail;
 
 /// Modules, scripts, the segments of tapes with their end, and the lines that the runs of their replay modules show.
@@ -21,7 +22,7 @@ const ROWS: &[(&str, &str, &str, &str, &str)] = &[
         "two answers",
         TWO_ANSWERS,
         "{}",
-        "000020010001000021017f0500000001000021017f070000000200222f",
+        TAPE_OF_TWO_ANSWERS,
         "host-call 1\nstep 1 0 ->\nimport-call 0\nimport-return 0 i32:00000005\nstep 1 1 ->\n\
          import-call 0\nimport-return 0 i32:00000007\n\
          step 1 2 i32:00000005 i32:00000007 -> i32:0000000c\nhost-return 1 i32:0000000c\nended\n",
