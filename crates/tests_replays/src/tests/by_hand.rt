@@ -5,15 +5,14 @@
 //! `_start`, which is 2. The layout is one import and one defined function.
 
 use crate::tests::replays::{MOST_TURNS_REPLAYED, lines_shown_by, printed_by_replay};
+use sample_inputs::examples::REPLAY_TWO_ANSWERS;
 use std::test::Fail;
 
 /// Modules, and the lines that their runs show.
 const ROWS: &[(&str, &str, &str)] = &[
     (
         "it counts the calls and answers 5 and 7",
-        // examples/replay_two_answers.wat
-        "0061736d010000000108026000017f6000000304030000010606017f0141000b070a01065f73746172740002\
-         0a230313002300230041016a2400047f41070541050b0b0700100010006a0b050010011a0b000c0972332e6c61796f75740101",
+        REPLAY_TWO_ANSWERS,
         "host-call 1\nstep 1 0 ->\nimport-call 0\nimport-return 0 i32:00000005\nstep 1 1 ->\nimport-call 0\n\
          import-return 0 i32:00000007\nstep 1 2 i32:00000005 i32:00000007 -> i32:0000000c\n\
          host-return 1 i32:0000000c\nended\n",

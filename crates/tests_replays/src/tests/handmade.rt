@@ -55,12 +55,6 @@ pub const IMPORT_BY_TABLE: &str =
 // (module (func (export "_start") unreachable))
 pub const TRAP: &str = "0061736d0100000001040160000003020100070a01065f737461727400000a05010300000b";
 
-/// A function is imported.
-// (module (import "h" "f" (func (result i32))) (func (export "g") (result i32) call 0 call 0 i32.add))
-pub const IMPORTING: &str =
-    "0061736d010000000105016000017f02070101680166000003020100070501016700010a09010700\
-    100010006a0b";
-
 /// A memory is imported.
 // (module (import "h" "m" (memory 1)) (func (export "_start")))
 pub const IMPORTED_MEMORY: &str =

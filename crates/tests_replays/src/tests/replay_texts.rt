@@ -3,11 +3,12 @@
 
 use crate::tests::handmade::{
     BY_TABLE, DATA, DATA_AND_NO_EXPORT, ELEMENT, EMPTY, EXPORTED_MEMORY, FLOAT, IMPORT_BY_TABLE,
-    IMPORTED_MEMORY, IMPORTING, INVALID, MEMORY, NESTED, NO_EXPORT, NONE, ONE_AND_ONE,
-    ONE_AND_THREE, ONE_AND_TWO, ONE_DEFINED, OTHER_NAME, PARAMETER, REFERENCES, RESERVED, RESULT,
-    START, TRAP, TWO_ANSWERS, TWO_DEFINED, TWO_EXPORTS,
+    IMPORTED_MEMORY, INVALID, MEMORY, NESTED, NO_EXPORT, NONE, ONE_AND_ONE, ONE_AND_THREE,
+    ONE_AND_TWO, ONE_DEFINED, OTHER_NAME, PARAMETER, REFERENCES, RESERVED, RESULT, START, TRAP,
+    TWO_ANSWERS, TWO_DEFINED, TWO_EXPORTS,
 };
 use crate::tests::replays::printed_by_replay;
+use sample_inputs::examples;
 use std::test::Fail;
 
 /// Modules, what tells their layout, the turns, and what is printed: lines, or the line of error.
@@ -126,7 +127,7 @@ const ROWS: &[(&str, &str, &str, u64, &str)] = &[
     ("no layout", EMPTY, "", 9, "replay: layout\n"),
     (
         "no layout, and imports",
-        IMPORTING,
+        examples::TWO_ANSWERS,
         "",
         9,
         "replay: layout\n",
@@ -217,7 +218,7 @@ const ROWS: &[(&str, &str, &str, u64, &str)] = &[
     ),
     (
         "an imported function",
-        IMPORTING,
+        examples::TWO_ANSWERS,
         ONE_AND_ONE,
         9,
         "replay: imports\n",

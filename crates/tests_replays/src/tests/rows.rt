@@ -3,27 +3,16 @@
 use crate::tests::replays::{
     MOST_TURNS_REPLAYED, lines_of_history, lines_of_replay, printed_by_replay, replay_of_run,
 };
+use sample_inputs::examples::TWO_ANSWERS;
+use sample_inputs::importers::{DIVISION, IN_TURN};
+use sample_inputs::scripts::ANSWERS;
 use std::test::Fail;
-
-/// A function that adds what two calls of its import give.
-const TWO_ANSWERS: &str =
-    // (module (import "h" "f" (func (result i32))) (func (export "g") (result i32) call 0 call 0 i32.add))
-    "0061736d010000000105016000017f02070101680166000003020100070501016700010a09010700100010006a0b";
-
-/// It answers 5 and 7.
-const ANSWERS: &str =
-    r#"{"imports":{"h":{"f":{"calls":[{"return":{"i32":5}},{"return":{"i32":7}}]}}},"main":[{"call":"g"}]}"#;
 
 /// Two calls of the host, with four answers.
 const TWO_CALLS: &str = concat!(
     r#"{"imports":{"h":{"f":{"calls":[{"return":{"i32":5}},{"return":{"i32":7}},{"return":{"i32":-1}},"#,
     r#"{"return":{"i32":2}}]}}},"main":[{"call":"g"},{"call":"g"}]}"#
 );
-
-/// It divides 100 by what a call of its import gives.
-const TRAP: &str =
-    // (module (import "h" "f" (func (result i32))) (func (export "g") (result i32) i32.const 100 call 0 i32.div_u))
-    "0061736d010000000105016000017f02070101680166000003020100070501016700010a0a01080041e40010006e0b";
 
 /// A function that calls another one with an argument, which calls the import; then it calls the import itself.
 // (module (import "h" "f" (func (result i32))) (func (export "g") (result i32) i32.const 3 call 2 call 0 i32.add)
@@ -44,16 +33,6 @@ const BOTH: &str = "0061736d01000000\
     0303020000\
     07090201670001016b0002\
     0a0e020700100210026b0b040010000b";
-
-/// A function that calls two imports in turn.
-// (module (import "h" "f" (func (result i32))) (import "h" "g" (func (result i32)))
-//   (func (export "run") (result i32) call 0 call 1 call 0 call 1 i32.sub i32.sub i32.sub))
-const IN_TURN: &str = "0061736d01000000\
-    0105016000017f\
-    020d02016801660000016801670000\
-    03020100\
-    0707010372756e0002\
-    0a0f010d0010001001100010016b6b6b0b";
 
 /// Modules and scripts with the turns that their runs take, and the lines of these runs.
 const ROWS: &[(&str, &str, &str, u64, &str)] = &[
@@ -86,7 +65,7 @@ const ROWS: &[(&str, &str, &str, u64, &str)] = &[
     ),
     (
         "a trap",
-        TRAP,
+        DIVISION,
         r#"{"imports":{"h":{"f":{"calls":[{"return":{"i32":0}}]}}},"main":[{"call":"g"}]}"#,
         4,
         "host-call 1\nstep 1 0 -> i32:00000064\nstep 1 1 ->\nimport-call 0\nimport-return 0 i32:00000000\n\
