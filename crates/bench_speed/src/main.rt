@@ -9,14 +9,13 @@ mod calls;
 mod runs;
 
 use calls::call_of;
+use no_memory::NoMemory;
+use program_words::words_of_call;
 use r3_faults::Fault;
 use r3_outside::{DiskFiles, Files, LoadFault, Sink, StdSink, load, put_all};
 use runs::line_of_run;
 use std::alloc::Global;
-use std::io::ErrorKind;
 use std::process::ExitCode;
-use std::rt::Env;
-use std::{env, io};
 use wasm_syntax::Name;
 use wasm_syntax::limits::MOST_FILE_BYTES;
 
@@ -26,18 +25,9 @@ const MODULE: u64 = MOST_FILE_BYTES;
 fn main(rt: HostRuntime) -> ExitCode {
     let mut out = StdSink::new(rt.stdout());
     let mut err = StdSink::new(rt.stderr());
-    let words = match words(&rt) {
-        Ok(words) => words,
-        Err(fault) if fault.kind() == ErrorKind::OutOfMemory => {
-            let _ = Fault::Memory.put_line(&mut err);
-            return ExitCode::from(Fault::Memory.status());
-        }
-        // A word that is no text has no form.
-        Err(_) => Vec::new(rt.alloc()),
-    };
+    let words = words_of_call(&rt);
     let alloc = rt.alloc();
-    let mut files = DiskFiles::new(rt);
-    match run(alloc, &words, &mut files, &mut out) {
+    match run(alloc, words, &mut DiskFiles::new(rt), &mut out) {
         Ok(()) => ExitCode::from(0),
         Err(fault) => {
             let _ = fault.put_line(&mut err);
@@ -46,19 +36,15 @@ fn main(rt: HostRuntime) -> ExitCode {
     }
 }
 
-/// The words after the program's name.
-fn words<R: Env + AllocGlobal>(rt: &R) -> io::Result<Vec<String>> {
-    Ok(env::args(rt)?.skip(1).collect(rt.alloc())?)
-}
-
-/// Runs what the words say, and prints the line.
+/// Runs what the words say, where memory was left for them, and prints the line.
 fn run<F: Files, O: Sink>(
     alloc: Global,
-    words: &[String],
+    words: Result<Vec<String>, NoMemory>,
     files: &mut F,
     out: &mut O,
 ) -> Result<(), Fault> {
-    let call = call_of(words)?;
+    let words = words?;
+    let call = call_of(&words)?;
     let bytes = module_in(alloc, files, call.module)?;
     let line = line_of_run(alloc, &bytes, &call)?;
     put_all(out, line.as_bytes())?;
