@@ -5,7 +5,7 @@ use sample_inputs::module_without_parts;
 use std::alloc::{AllocError, Global as Heap};
 use std::test::Fail;
 use trace_model::{Effect, Next, Origin, Segment, Tape};
-use wasm_syntax::{Import, ImportKind, List, Module, Name, Val, ValType};
+use wasm_syntax::{Import, ImportKind, List, Module, Name};
 
 /// How control comes to the host in each segment, and whether it leaves it by a call of the module's function.
 const SEGMENTS: [(Origin, bool); 8] = [

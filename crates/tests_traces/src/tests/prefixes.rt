@@ -2,7 +2,6 @@
 
 use crate::tests::files::file;
 use sample_inputs::traces::{LOG, LOG_OF_TWO_ANSWERS, TAPE, TAPE_OF_TWO_ANSWERS};
-use std::alloc::Global;
 use std::test::Fail;
 use trace_format::{FormatFault, read_log, read_tape};
 
