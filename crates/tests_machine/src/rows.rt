@@ -1,6 +1,7 @@
 //! Calls with what they come to, worked out by hand from the standard, in both ways.
 
 use crate::both_ways::{Case, outcome_by_advance, outcome_by_turns, running_instance};
+use sample_inputs::examples::C_BUFFERS;
 use std::alloc::Global;
 use std::test::Fail;
 use wasm_flat::Meter;
@@ -64,15 +65,6 @@ const CONTROLS: &str =
     "0061736d01000000010e0360027f7e0060017f017f60000002070101680166000003050401010202\
      0a3d041a0002400240024020000e020001020b410a0f0b410b0f0b410c0b14002000047f200041016b100241016a0541000b\
      0b02000b08004105427f10000b";
-
-/// `examples/c_buffers.wasm`, in the manner of compiled C, with buffers on a stack in memory. Function 2
-/// gives twice its argument, by a shift.
-const BUFFERS: &str =
-    // examples/c_buffers.wat
-    "0061736d0100000001110360037f7f7f017f60017f017f6000017f020c0103656e76047265616400000303020201\
-     0405017001020205030100020608017f01418088040b071002066d656d6f727902000372756e00010907010041010b0102\
-     0a3a023001017f230041106b2200240020004104200041086a10001a200028020020002802086a4101110100200041106a24\
-     000b070020004101740b";
 
 const UNANSWERED: &str = r#"{"imports":{"h":{"f":{"calls":[]}}},"main":[]}"#;
 
@@ -317,7 +309,7 @@ const TABLES: &[(Case, &[Row])] = &[
     ),
     (
         Case {
-            module: BUFFERS,
+            module: C_BUFFERS,
             ..ACCESS
         },
         BUFFER_ROWS,
