@@ -6,7 +6,6 @@ mod edge_modules;
 mod edges;
 mod files;
 mod histories;
-mod history_modules;
 mod history_refusals;
 mod large;
 mod load_calls;

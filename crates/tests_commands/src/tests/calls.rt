@@ -2,17 +2,10 @@
 
 use r3_core::r3;
 use r3_outside::{MemFiles, MemSink};
+pub use sample_inputs::examples::TWO_ANSWERS;
+pub use sample_inputs::scripts::ANSWERS;
 use std::alloc::Global;
 use std::test::Fail;
-
-/// A function that adds what two calls of its import give.
-pub const TWO_ANSWERS: &str =
-    // (module (import "h" "f" (func (result i32))) (func (export "g") (result i32) call 0 call 0 i32.add))
-    "0061736d010000000105016000017f02070101680166000003020100070501016700010a09010700100010006a0b";
-
-/// It answers 5 and 7.
-pub const ANSWERS: &str =
-    r#"{"imports":{"h":{"f":{"calls":[{"return":{"i32":5}},{"return":{"i32":7}}]}}},"main":[{"call":"g"}]}"#;
 
 /// What a call answers, prints and writes as its line of error.
 #[derive(Drop)]

@@ -3,10 +3,10 @@
 use crate::tests::calls::{
     ANSWERS, TWO_ANSWERS, files_of, outcome_into, outcome_of, outcome_of_command, texts_of,
 };
-use crate::tests::history_modules::C_BUFFERS;
 use crate::tests::shows::place_within;
 use r3_core::r3;
 use r3_outside::{MemFiles, MemSink};
+use sample_inputs::examples::C_BUFFERS;
 use std::alloc::Global;
 use std::test::Fail;
 

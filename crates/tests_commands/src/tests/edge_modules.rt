@@ -59,12 +59,6 @@ pub const STARTS_WITH_IMPORT: &str =
     // (module (import "h" "f" (func)) (func (export "g") call 0) (start 0))
     "0061736d0100000001040160000002070101680166000003020100070501016700010801000a0601040010000b";
 
-pub const COUNTS: &str =
-    // (module (import "h" "f" (func (result i32))) (import "h" "g" (func (result i32)))
-    //   (func (export "run") (result i32) call 0 call 1 call 0 call 1 i32.sub i32.sub i32.sub))
-    "0061736d010000000105016000017f020d02016801660000016801670000030201000707010372756e0002\
-     0a0f010d0010001001100010016b6b6b0b";
-
 pub const COPIES: &str =
     // (module (import "h" "f" (func (param i32 i32))) (memory (export "m") 1 2)
     //   (func (export "run") (result i64) i32.const 4 i32.const 2 call 0

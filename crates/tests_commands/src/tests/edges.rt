@@ -3,9 +3,10 @@
 
 use crate::tests::calls::outcome_of_command;
 use crate::tests::edge_modules::{
-    ACCESSES, BRANCHES, CALLS, COPIES, COUNTS, DEEP, DIVISIONS, STARTS, STARTS_WITH_IMPORT,
+    ACCESSES, BRANCHES, CALLS, COPIES, DEEP, DIVISIONS, STARTS, STARTS_WITH_IMPORT,
 };
 use crate::tests::tables::check_tables;
+use sample_inputs::importers::IN_TURN;
 use std::test::Fail;
 
 /// Modules with their runs.
@@ -130,7 +131,7 @@ const RUNS: &[(&str, &str)] = &[
 "#,
     ),
     (
-        COUNTS,
+        IN_TURN,
         r#"
 - each import's calls are counted apart, and the rest is answered alike | 100 | 
   {"imports":{"h":{"f":{"calls":[{"return":{"i32":100}}],"rest":{"return":{"i32":20}}},

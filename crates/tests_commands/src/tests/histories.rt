@@ -1,12 +1,12 @@
 //! The lines of runs, as worked out by hand.
 
 use crate::tests::calls::TWO_ANSWERS;
-use crate::tests::history_modules::{
+use crate::tests::tables::check_tables;
+use sample_inputs::examples::{
     C_BUFFERS, COPY_LOAD, EMPTY, FILL_PAST, FLOAT_GLOBAL, GROW_ACCESS, GROW_FAILED,
     IMPORTED_OFFSET, NESTED_CALL, NESTED_TRAP, OVERWRITE, TABLE_ENTRY, TABLE_ENTRY_IMPORT,
     TABLE_GROWTH,
 };
-use crate::tests::tables::check_tables;
 use std::test::Fail;
 
 /// Modules with their runs.

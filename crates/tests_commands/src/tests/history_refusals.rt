@@ -1,10 +1,14 @@
 //! Calls of `history` that print nothing, as worked out by hand.
 
 use crate::tests::calls::{ANSWERS, TWO_ANSWERS, outcome_of_command};
-use crate::tests::history_modules::{
-    C_BUFFERS, COPY_LOAD, IMPORTED_OFFSET, NESTED_CALL, OVERWRITE, TABLE_GROWTH, TABLE_OF_TWO,
+use sample_inputs::examples::{
+    C_BUFFERS, COPY_LOAD, IMPORTED_OFFSET, NESTED_CALL, OVERWRITE, TABLE_GROWTH,
 };
 use std::test::Fail;
+
+/// A table of two entries or more.
+// (module (table (export "t") 1 2 funcref))
+const TABLE_OF_TWO: &str = "0061736d010000000405017001010207050101740100";
 
 /// Modules and scripts with their turns, statuses and lines of error.
 const REFUSED: &[(&str, &str, &str, &str, u8, &str)] = &[

@@ -3,7 +3,7 @@
 use crate::tests::calls::{
     ANSWERS, TWO_ANSWERS, files_of, outcome_of, outcome_of_command, takes_turns,
 };
-use crate::tests::replays::script_of_answers;
+use sample_inputs::scripts::script_of_answers;
 use std::test::Fail;
 
 /// A loop whose run takes 2,000,000 turns: the host's call, seven instructions before the loop, and six in

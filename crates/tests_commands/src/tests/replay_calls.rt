@@ -4,14 +4,9 @@ use crate::tests::calls::{
     ANSWERS, Outcome, TWO_ANSWERS, outcome_into, outcome_of, outcome_of_command,
 };
 use r3_outside::{MemFiles, MemSink};
+use sample_inputs::examples::REPLAY_TWO_ANSWERS;
 use std::alloc::Global;
 use std::test::Fail;
-
-/// A replay module of two answers.
-// examples/replay_two_answers.wat
-const REPLAY: &str =
-    "0061736d010000000108026000017f6000000304030000010606017f0141000b070a01065f737461727400020a230313\
-         002300230041016a2400047f41070541050b0b0700100010006a0b050010011a0b000c0972332e6c61796f75740101";
 
 /// What its run shows.
 const LINES: &str =
@@ -58,13 +53,7 @@ const REFUSED: &[(&str, &str, &str, u8, &str)] = &[
         8,
         "reserved: import 0\n",
     ),
-    (
-        "no layout",
-        "0061736d010000000105016000017f02070101680166000003020100070501016700010a09010700100010006a0b",
-        "100",
-        17,
-        "replay: layout\n",
-    ),
+    ("no layout", TWO_ANSWERS, "100", 17, "replay: layout\n"),
     (
         "imports",
         "0061736d010000000105016000017f02070101680166000003020100070501016700010a09010700100010006a0b000c\
@@ -88,7 +77,13 @@ const REFUSED: &[(&str, &str, &str, u8, &str)] = &[
         10,
         "link: segment 1\n",
     ),
-    ("a turn too few", REPLAY, "18", 12, "turns spent: 18\n"),
+    (
+        "a turn too few",
+        REPLAY_TWO_ANSWERS,
+        "18",
+        12,
+        "turns spent: 18\n",
+    ),
 ];
 
 /// The file of a module, in hexadecimal. Some reads fail.
@@ -108,7 +103,7 @@ fn outcome_of_replay(alloc: Global, binary: &str, turns: &str) -> Result<Outcome
 fn the_lines_of_a_replay(rt: HostRuntime) -> Result<(), Fail> {
     let alloc = rt.alloc();
     for turns in ["19", "20000000"] {
-        let answer = outcome_of_replay(alloc, REPLAY, turns)?;
+        let answer = outcome_of_replay(alloc, REPLAY_TWO_ANSWERS, turns)?;
         assert!(rt; answer.is_done());
         assert_eq!(rt; answer.printed.as_slice(), LINES.as_bytes());
     }
@@ -137,7 +132,7 @@ fn words_that_are_not_of_replay(rt: HostRuntime) -> Result<(), Fail> {
         &["replay", "r.wasm", "s.json", "19"],
     ];
     for words in calls {
-        let mut files = file_of(alloc, REPLAY, Vec::new(alloc))?;
+        let mut files = file_of(alloc, REPLAY_TWO_ANSWERS, Vec::new(alloc))?;
         let answer = outcome_of(alloc, words, &mut files)?;
         assert!(rt; answer.is_refused(2, "usage\n"));
     }
@@ -147,11 +142,11 @@ fn words_that_are_not_of_replay(rt: HostRuntime) -> Result<(), Fail> {
 #[test]
 fn a_file_and_a_sink_that_fail(rt: HostRuntime) -> Result<(), Fail> {
     let alloc = rt.alloc();
-    let mut files = file_of(alloc, REPLAY, vec![in alloc; 0u64]?)?;
+    let mut files = file_of(alloc, REPLAY_TWO_ANSWERS, vec![in alloc; 0u64]?)?;
     let unread = outcome_of(alloc, &["replay", "r.wasm", "19"], &mut files)?;
     assert!(rt; unread.is_refused(3, "read: r.wasm\n"));
 
-    let mut files = file_of(alloc, REPLAY, Vec::new(alloc))?;
+    let mut files = file_of(alloc, REPLAY_TWO_ANSWERS, Vec::new(alloc))?;
     let out = MemSink::new(alloc, 10, vec![in alloc; 1u64]?);
     let unwritten = outcome_into(alloc, &["replay", "r.wasm", "19"], &mut files, out)?;
     assert_eq!(rt; unwritten.status, 13);

@@ -5,6 +5,9 @@ use crate::tests::calls::{
     ANSWERS, Outcome, TWO_ANSWERS, outcome_of, outcome_of_command, takes_turns,
 };
 use r3_outside::MemFiles;
+use sample_inputs::examples::COLLATZ;
+use sample_inputs::importers::{DIVISION, LOOP};
+use sample_inputs::scripts::{COLLATZ_NUMBERS, script_of_answers};
 use std::alloc::Global;
 use std::test::Fail;
 use wasm_decode::decode;
@@ -33,51 +36,6 @@ const TWO_ANSWERS_REPLAYED: &str = "0061736d01000000\
      060010011a0f0b\
      1d000240024002402000418002700e020001020b41050f0b41070f0b000b\
      000c0972332e6c61796f75740101";
-
-/// A loop that adds what 200 calls of its import give.
-const LOOP: &str =
-    // (module (import "h" "f" (func (result i32)))
-    //   (func (export "g") (result i32) (local i32 i32) loop local.get 0 call 0 i32.add local.set 0
-    //     local.get 1 i32.const 1 i32.add local.tee 1 i32.const 200 i32.lt_u br_if 0 end local.get 0))
-    "0061736d010000000105016000017f0207010168016600000302010007050101670001\
-     0a1f011d01027f0340200010006a2100200141016a220141c801490d000b20000b";
-
-/// It divides 100 by what a call of its import gives.
-const TRAP: &str =
-    // (module (import "h" "f" (func (result i32))) (func (export "g") (result i32) i32.const 100 call 0 i32.div_u))
-    "0061736d010000000105016000017f02070101680166000003020100070501016700010a0a01080041e40010006e0b";
-
-/// A program compiled from C, `examples/collatz.c`.
-const COLLATZ: &str =
-    // examples/collatz.wat
-    "0061736d010000000105016000017f020d0104686f7374046e6578740000030201000707010372756e0001\
-     0a860101830102057f017e4100210041002101034002400240100022020d00200141ffff037120004110747221030c010b41\
-     002104024020024101460d002002ad2105410021040340200441016a21042005420188200542037e42017c2005420183501b\
-     22054201560d000b0b20042000200420004b1b2100200420016a21010b20020d000b20030b";
-
-/// The numbers whose Collatz sequences it follows, up to a 0.
-const NUMBERS: &str = concat!(
-    r#"{"imports":{"host":{"next":{"calls":[{"return":{"i32":7}},{"return":{"i32":6}},{"return":{"i32":1}},"#,
-    r#"{"return":{"i32":0}}]}}},"main":[{"call":"run"}]}"#
-);
-
-/// A script that answers the import's calls by these numbers and then by those from 0 to below `count`, and
-/// calls `g`.
-///
-/// # Errors
-///
-/// When memory runs out.
-pub fn script_of_answers(alloc: Global, first: &[u32], count: u32) -> Result<String, Fail> {
-    let mut script = String::from_str(alloc, r#"{"imports":{"h":{"f":{"calls":["#)?;
-    for (index, number) in first.iter().copied().chain(0..count).enumerate() {
-        if index > 0 {
-            script.push_str(",")?;
-        }
-        write!(script, "{{\"return\":{{\"i32\":{number}}}}}")?;
-    }
-    script.push_str(r#"]}}},"main":[{"call":"g"}]}"#)?;
-    Ok(script)
-}
 
 /// Whether the bytes encode a valid module in the form of replay modules.
 fn is_valid(alloc: Global, bytes: &[u8]) -> bool {
@@ -204,19 +162,19 @@ const TRAP_REPLAYED: &[u8] = b"host-call 2\n\
 fn a_trap_is_an_outcome(rt: HostRuntime) -> Result<(), Fail> {
     let alloc = rt.alloc();
     let script = script_of_answers(alloc, &[], 1)?;
-    let answer = outcome_of_command(alloc, "make", TRAP, script.as_str(), "4")?;
+    let answer = outcome_of_command(alloc, "make", DIVISION, script.as_str(), "4")?;
     assert_eq!(rt; answer.status, 0);
     let replay = run_of_replay(alloc, &answer.printed, "27")?;
     assert_eq!(rt; replay.printed.as_slice(), TRAP_REPLAYED);
-    assert!(rt; is_replay(alloc, TRAP, script.as_str(), "4", "26", "27")?);
+    assert!(rt; is_replay(alloc, DIVISION, script.as_str(), "4", "26", "27")?);
     Ok(())
 }
 
 #[test]
 fn a_program_compiled_from_c(rt: HostRuntime) -> Result<(), Fail> {
     let alloc = rt.alloc();
-    assert!(rt; takes_turns(alloc, COLLATZ, NUMBERS, "638", "639")?);
+    assert!(rt; takes_turns(alloc, COLLATZ, COLLATZ_NUMBERS, "638", "639")?);
     // 25 instructions for each of the four calls of the import, and three of `_start`
-    assert!(rt; is_replay(alloc, COLLATZ, NUMBERS, "639", "741", "742")?);
+    assert!(rt; is_replay(alloc, COLLATZ, COLLATZ_NUMBERS, "639", "741", "742")?);
     Ok(())
 }

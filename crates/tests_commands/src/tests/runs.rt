@@ -1,10 +1,10 @@
 //! Runs and their budgets.
 
 use crate::tests::calls::{ANSWERS, TWO_ANSWERS, files_of, outcome_of, outcome_of_command};
-use crate::tests::history_modules::{
+use r3_outside::MemFiles;
+use sample_inputs::examples::{
     COPY_LOAD, FLOAT_GLOBAL, NESTED_CALL, NESTED_TRAP, OVERWRITE, TABLE_GROWTH,
 };
-use r3_outside::MemFiles;
 use std::alloc::Global;
 use std::test::Fail;
 

@@ -1,13 +1,8 @@
 //! Scripts that are refused before the run.
 
 use crate::tests::calls::{ANSWERS, TWO_ANSWERS, outcome_of_command};
+use sample_inputs::importers::EXPORTED_IMPORT;
 use std::test::Fail;
-
-/// two_answers, whose export `g` is the import.
-const EXPORTED_IMPORT: &str =
-    // (module (import "h" "f" (func (result i32))) (func (result i32) call 0 call 0 i32.add)
-    //   (export "g" (func 0)))
-    "0061736d010000000105016000017f02070101680166000003020100070501016700000a09010700100010006a0b";
 
 /// Modules and scripts with their lines.
 const ROWS: &[(&str, &str, &str)] = &[

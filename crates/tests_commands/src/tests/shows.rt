@@ -3,24 +3,13 @@
 
 use crate::tests::calls::{Outcome, outcome_into, outcome_of};
 use r3_outside::{MemFiles, MemSink};
+use sample_inputs::traces::{
+    DIGEST, EACH_EFFECT, EACH_EVENT, LINES_OF_EACH_EFFECT, LINES_OF_EACH_EVENT, LOG,
+    LOG_LINES_OF_TWO_ANSWERS, LOG_OF_TWO_ANSWERS, TAPE, TAPE_LINES_OF_TWO_ANSWERS,
+    TAPE_OF_TWO_ANSWERS,
+};
 use std::alloc::Global;
 use std::test::Fail;
-
-/// What a log's file begins with, and a tape's.
-const LOG: &str = "72336c67";
-
-const TAPE: &str = "72337470";
-
-/// A digest.
-const DIGEST: &str = "000102030405060708090a0b0c0d0e0f101112131415161718191a1b1c1d1e1f";
-
-/// The log and the tape of a run in which a function calls an import twice and gives the sum of its
-/// answers, 5 and 7: what stands after the digest.
-const LOG_OF_TWO_ANSWERS: &str = "01010100030100\
-    04017f0500000003010004017f07000000020110";
-
-const TAPE_OF_TWO_ANSWERS: &str = "0000200100\
-    01000021017f0500000001000021017f070000000200222f";
 
 /// Files that are shown: a name, what the file begins with, its version, what stands after the digest, and the lines
 /// after the first.
@@ -30,49 +19,42 @@ const SHOWN: &[(&str, &str, &str, &str, &str)] = &[
         LOG,
         "02",
         LOG_OF_TWO_ANSWERS,
-        "enter 1\npre 0\npost i32:00000005\npre 0\npost i32:00000007\nleave 1\nended\n",
+        LOG_LINES_OF_TWO_ANSWERS,
     ),
     (
         "a log of the first version",
         LOG,
         "01",
         LOG_OF_TWO_ANSWERS,
-        "enter 1\npre 0\npost i32:00000005\npre 0\npost i32:00000007\nleave 1\nended\n",
+        LOG_LINES_OF_TWO_ANSWERS,
     ),
     (
         "each kind of event",
         LOG,
         "02",
-        "010101027f050000007e06000000000000000201030100030004000401\
-         7d0000803f0502060a05070a02ccdd08000103080100\
-         09027c000000000000f03f11",
-        "enter 1 i32:00000005 i64:0000000000000006\nleave 1\npre 0\npre none\npost\n\
-         post f32:3f800000\ngrow 2\nseen\ntable 5\nbytes 10 ccdd\nentry 0 3\nentry 1 none\n\
-         global 2 f64:3ff0000000000000\ntrapped\n",
+        EACH_EVENT,
+        LINES_OF_EACH_EVENT,
     ),
     (
         "a tape",
         TAPE,
         "02",
         TAPE_OF_TWO_ANSWERS,
-        "segment begin\ncall 1\nsegment import 0\nreturn i32:00000005\nsegment import 0\n\
-         return i32:00000007\nsegment back\nend\nclose\n",
+        TAPE_LINES_OF_TWO_ANSWERS,
     ),
     (
         "a tape of the first version",
         TAPE,
         "01",
         TAPE_OF_TWO_ANSWERS,
-        "segment begin\ncall 1\nsegment import 0\nreturn i32:00000005\nsegment import 0\n\
-         return i32:00000007\nsegment back\nend\nclose\n",
+        TAPE_LINES_OF_TWO_ANSWERS,
     ),
     (
         "each kind of effect",
         TAPE,
         "02",
-        "000505020a05070a02ccdd0800010309027f0700000021000201080100232f",
-        "segment begin\ngrow 2\ntable 5\nbytes 10 ccdd\nentry 0 3\nglobal 2 i32:00000007\n\
-         return\nsegment back\nentry 1 none\ntrap\nclose\n",
+        EACH_EFFECT,
+        LINES_OF_EACH_EFFECT,
     ),
 ];
 
