@@ -31,7 +31,7 @@ use Rattle.host_play.proofs.HookCalls.{IsOfCalls, hook_is_call, import_is_call, 
 use Rattle.host_play.proofs.ImportStores.{answered_instead, calling, hook_seen, hosts_in, imports_in, other}
 use Rattle.host_play.proofs.ModuleParts.{comes, ends_as, own_as}
 use Rattle.host_play.proofs.OtherAnswers.{active_callable, other_run, zeros}
-use Rattle.host_play.proofs.Reaches.{run_of}
+use Rattle.host_play.proofs.Joins.{run_of}
 
 host_is_call : IsOfCalls is_host_call
 host_is_call (ImportCall import args) none = refl

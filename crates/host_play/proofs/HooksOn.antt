@@ -52,7 +52,8 @@ use Rattle.host_play.proofs.HookedParts as hooked
 use Rattle.host_play.proofs.HookRuns.{runs_on}
 use Rattle.host_play.proofs.HostParts.{step_made}
 use Rattle.host_play.proofs.ModuleParts as parts
-use Rattle.host_play.proofs.Reaches.{begins, goes_free, goes_step, host_weight, over_within, run_of, spends, stepped, whole}
+use Rattle.host_play.proofs.Joins.{run_of}
+use Rattle.host_play.proofs.Reaches.{begins, goes_free, goes_step, host_weight, over_within, spends, stepped, whole}
 
 -- ---- the host calls no hook
 

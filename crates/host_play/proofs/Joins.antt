@@ -5,7 +5,10 @@ use Rattle.history_spec.specs.declared.entries.Entry.{Entry}
 use Rattle.history_spec.specs.declared.entries.FaultKind.{FaultKind}
 use Rattle.history_spec.specs.Step.{Program, Progress, Running, Finished, Faulted, Stuck, StepResult, step}
 use Rattle.history_spec.specs.Run.{Meter, Run, run_after, run_at, run_from, steps, weight}
-use Rattle.host_play.proofs.Reaches.{run_of}
+
+-- a run with its parts
+abbrev pub run_of : List Entry → ℕ → Progress → Run
+run_of history turns at = record { history = history; turns = turns; at = at }
 
 finished : (program : Program) (meter : Meter) (n : ℕ) (outcome : Outcome) → steps program meter n (Finished outcome) ≡ run_at (Finished outcome)
 finished program meter zero outcome = refl
@@ -44,22 +47,32 @@ joined program meter (suc k) n (Faulted kind) =
 joined program meter (suc k) n Stuck =
     ap (λ j. steps program meter j Stuck) (more_number k n) ∙ sym (ap (run_after [] 0) (stuck program meter n))
 
+-- a run goes on from where it has come to
+pub run_continued : (program : Program) (meter : Meter) (initial : StepResult) (k n : ℕ) (history entries : List Entry) (used taken : ℕ) (next last : Progress)
+    → run_from program meter initial k ≡ run_of history used next → steps program meter n next ≡ run_of entries taken last
+    → run_from program meter initial (k + n) ≡ run_of (history ++ entries) (used + taken) last
+run_continued program meter initial k n history entries used taken next last first second =
+    let inner : Run = steps program meter k initial.next in
+    let here : initial.entries ++ inner.history ≡ history = ap (λ (r : Run). r.history) first in
+    let spent : 0 + inner.turns ≡ used = ap (λ (r : Run). r.turns) first in
+    let at : inner.at ≡ next = ap (λ (r : Run). r.at) first in
+    ap (run_after initial.entries 0) (joined program meter k n initial.next ∙ ap (λ p. run_after inner.history inner.turns (steps program meter n p)) at ∙ ap (run_after inner.history inner.turns) second)
+    ∙ ap (λ es. run_of es (0 + (inner.turns + taken)) last) (sym (append_assoc initial.entries inner.history entries) ∙ ap (λ es. es ++ entries) here)
+    ∙ ap (λ t. run_of (history ++ entries) t last) (let sum : 0 + (inner.turns + taken) ≡ used + taken = omega (arith, spent) in sum)
+
 -- a run goes on as from where it has come to
 pub run_joined : (program : Program) (meter : Meter) (initial pending last : StepResult) (k n : ℕ) (history before : List Entry) (used taken : ℕ)
     → run_from program meter initial k ≡ run_of (history ++ pending.entries) used pending.next
     → run_from program meter pending n ≡ run_of (before ++ last.entries) taken last.next
     → run_from program meter initial (k + n) ≡ run_of ((history ++ before) ++ last.entries) (used + taken) last.next
 run_joined program meter initial pending last k n history before used taken first second =
-    let inner : Run = steps program meter k initial.next in
     let rest : Run = steps program meter n pending.next in
-    let here : initial.entries ++ inner.history ≡ history ++ pending.entries = ap (λ (r : Run). r.history) first in
-    let spent : 0 + inner.turns ≡ used = ap (λ (r : Run). r.turns) first in
-    let at : inner.at ≡ pending.next = ap (λ (r : Run). r.at) first in
     let there : pending.entries ++ rest.history ≡ before ++ last.entries = ap (λ (r : Run). r.history) second in
     let more : 0 + rest.turns ≡ taken = ap (λ (r : Run). r.turns) second in
     let over : rest.at ≡ last.next = ap (λ (r : Run). r.at) second in
-    ap (run_after initial.entries 0) (joined program meter k n initial.next ∙ ap (λ p. run_after inner.history inner.turns (steps program meter n p)) at)
-    ∙ ap (λ es. run_of es (0 + (inner.turns + rest.turns)) rest.at)
-    (sym (append_assoc initial.entries inner.history rest.history) ∙ ap (λ es. es ++ rest.history) here ∙ append_assoc history pending.entries rest.history ∙ ap (λ es. history ++ es) there ∙ sym (append_assoc history before last.entries))
-    ∙ ap (λ t. run_of ((history ++ before) ++ last.entries) t rest.at) (omega arith)
+    run_continued program meter initial k n (history ++ pending.entries) rest.history used rest.turns pending.next rest.at first refl
+    ∙ ap (λ es. run_of es (used + rest.turns) rest.at)
+    (append_assoc history pending.entries rest.history ∙ ap (λ es. history ++ es) there ∙ sym (append_assoc history before last.entries))
+    ∙ ap (λ t. run_of ((history ++ before) ++ last.entries) t rest.at)
+    (let sum : used + rest.turns ≡ used + taken = omega (arith, more) in sum)
     ∙ ap (λ p. run_of ((history ++ before) ++ last.entries) (used + taken) p) over

@@ -8,10 +8,10 @@ mod Turns
 mod NextActions
 mod ActionSteps
 mod Ends
+pub mod Joins
 mod Reaches
 mod ToldRuns
 mod HostParts
-mod Joins
 mod ModuleParts
 mod RunStarts
 mod Calls

@@ -19,11 +19,9 @@ use Rattle.host_play.specs.declared.play_state.Refusal.{Refusal}
 use Rattle.host_play.specs.declared.play_state.Refusal.TheVariants as unmade
 use Rattle.host_play.specs.declared.play_state.PlayState.{PlayState}
 use Rattle.host_play.specs.RunsSoFar.{ComesTo}
+use Rattle.host_play.proofs.Joins.{run_of}
 use Rattle.host_play.specs.Results.{Refuses, play_fault}
 use Rattle.host_play.specs.Stands.{Leads, LeadsBy, MakesStep, Stops}
-
-abbrev pub run_of : List Entry → ℕ → Progress → Run
-run_of history turns at = record { history = history; turns = turns; at = at }
 
 pub weight_one : (stack : List Activation) → weight_of all_one stack ≡ 1
 weight_one [] = refl

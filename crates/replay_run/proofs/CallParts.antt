@@ -20,7 +20,7 @@ use Rattle.type_safety.specs.Values.{AreValues}
 use Rattle.flat_steps.specs.Follows.{outside_of}
 use Rattle.outside_spec.specs.Inside.{args_after_all}
 use Rattle.outside_spec.specs.Laws.{ProjectionsRunAlong}
-use Rattle.replay_run.proofs.Joined.{run_of}
+use Rattle.host_play.proofs.Joins.{run_of}
 use Rattle.shown_lines.specs.ShownLines.{AreNoTraps, IsNoTrap, IsReturn, SetArguments, ShownLines, Shows}
 use Rattle.wasm_interp.specs.Calls.{Comes, Enters, InvokesRun, SettlesRun, TurnIsStep, WalksRun, config_of}
 use Rattle.wasm_interp.specs.Frames.{func_of}

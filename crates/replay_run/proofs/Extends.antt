@@ -18,7 +18,7 @@ use Rattle.wasm_interp.specs.State.{State}
 use Rattle.replay_run.specs.declared.calls.CallStand.{CallStand}
 use Rattle.replay_run.specs.declared.calls.CallStand.TheVariants as at
 use Rattle.replay_run.specs.RunsSoFar.{GoesOn, Leads, LeadsOn, MakesStep, ShowsSoFar, StandsAt, WalksOutside}
-use Rattle.replay_run.proofs.Joined.{run_joined, run_of}
+use Rattle.host_play.proofs.Joins.{run_continued, run_of}
 use Rattle.replay_run.proofs.Shown.{has_shown, trap_after}
 
 -- where a call stands, after what came before without a trap
@@ -41,7 +41,7 @@ module _ (law : ProjectionsRunAlong) (m : Module) (before actions : List Action)
         history = so.history ++ entries;
         used = so.used + used;
         next = next;
-        run = run_joined (program_alone m) instructions initial so.steps count so.history entries so.used used so.next next so.run run;
+        run = run_continued (program_alone m) instructions initial so.steps count so.history entries so.used used so.next next so.run run;
         all = omega (arith, spent, all);
         tells = has_shown law shown after_shown so.history entries so.tells leads.shows leads.sets;
         goes_on = after_history m so.heights actions after after_shown so.history entries after_machine next none leads.goes_on;

@@ -1,4 +1,3 @@
-mod Joined
 mod Shown
 mod NoTraps
 mod Arrivals

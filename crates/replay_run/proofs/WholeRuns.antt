@@ -15,7 +15,7 @@ use Rattle.history_spec.specs.Run.{steps}
 use Rattle.history_spec.specs.Step.{Finished, StepResult, start, start_with_call}
 use Rattle.type_safety.specs.Heights.{Heights}
 use Rattle.outside_spec.specs.Laws.{ProjectionsRunAlong}
-use Rattle.replay_run.proofs.Joined.{run_of}
+use Rattle.host_play.proofs.Joins.{run_of}
 use Rattle.shown_lines.specs.ShownLines.{HasShown, ShownLines}
 use Rattle.wasm_interp.specs.Laws.{HostsGoOn}
 use Rattle.wasm_interp.specs.State.{State}
