@@ -6,37 +6,8 @@ use Rattle.host_script.specs.declared.scripts.Script.{Script}
 use Rattle.script_text.specs.Texts.{script_of_text}
 use Rattle.r3_faults.specs.declared.faults.Fault.{Fault}
 use Rattle.r3_faults.specs.declared.faults.Fault.TheVariants.{Memory}
+use Rattle.r3_inputs.proofs.AnswerLemmas.{IsAnswer, answer-err, answer-passed, memory-err, passed, value-no, value-one}
 use Rattle.r3_inputs.specs.Inputs.{IsModuleOf, IsRefusedModule, IsRefusedScript, AreInputs, AreRefused, ByModule, ByScript}
-
--- the answer is this fault, or memory is out
-abbrev pub IsAnswer : {T : Type 0} → Result T Fault → Fault → Type 0
-IsAnswer r fault = (r ≡ Err fault) ⊎ (r ≡ Err Memory)
-
-ok-err : {T : Type 0} (x : T) (f : Fault) → Ok x ≡ Err f → ⊥
-ok-err x f e = cc e
-
-err-one : {T : Type 0} (r : Result T Fault) (f g : Fault) → r ≡ Err f → r ≡ Err g → f ≡ g
-err-one r f g e h = cc (sym e ∙ h)
-
-ok-one : {T : Type 0} (x y : T) (r : Result T Fault) → r ≡ Ok x → r ≡ Ok y → x ≡ y
-ok-one x y r e f = cc (sym e ∙ f)
-
--- what an answer that is a fault, or a value, says of another
-memory-err : {U : Type 0} (s : Result U Fault) (x : U) (fault : Fault) → s ≡ Err fault → (s ≡ Ok x) ⊎ (s ≡ Err Memory) → fault ≡ Memory
-memory-err s x fault is (inl ok) = absurd (ok-err x fault (sym ok ∙ is))
-memory-err s x fault is (inr memory) = err-one s fault Memory is memory
-
-answer-err : {U : Type 0} (s : Result U Fault) (fault wanted : Fault) → s ≡ Err fault → IsAnswer s wanted → (fault ≡ wanted) ⊎ (fault ≡ Memory)
-answer-err s fault wanted is (inl same) = inl (err-one s fault wanted is same)
-answer-err s fault wanted is (inr memory) = inr (err-one s fault Memory is memory)
-
-value-one : {U : Type 0} (s : Result U Fault) (x y : U) → s ≡ Ok x → (s ≡ Ok y) ⊎ (s ≡ Err Memory) → y ≡ x
-value-one s x y is (inl ok) = ok-one y x s ok is
-value-one s x y is (inr memory) = absurd (ok-err x Memory (sym is ∙ memory))
-
-value-no : {U : Type 0} (s : Result U Fault) (x : U) (fault : Fault) → s ≡ Ok x → IsAnswer s fault → ⊥
-value-no s x fault is (inl same) = ok-err x fault (sym is ∙ same)
-value-no s x fault is (inr memory) = ok-err x Memory (sym is ∙ memory)
 
 -- a module and a script
 abbrev pub both : Module → Script → Module × Script
@@ -97,16 +68,6 @@ module _ (module_bytes script_bytes : List ℕ) (q : Result Module Fault)
 abbrev pub IsWhy : (module_bytes script_bytes : List ℕ) → (Why : Module → Script → Fault → Type 0) → Fault → Type 0
 IsWhy module_bytes script_bytes Why fault =
     AreRefused module_bytes script_bytes fault ⊎ ((m : Module) × (script : Script) × AreInputs module_bytes script_bytes m script × Why m script fault)
-
--- what holds of the fault that is passed on
-pub passed : {T : Type 0} (r : Result T Fault) (fault : Fault) (P : Fault → Type 0) → IsErrAnd r (λ other. other ≡ fault) → P fault → IfErr r P
-passed (Ok x) fault P e p = tt
-passed (Err other) fault P e p = subst P (sym e) p
-
-answer-passed : {T : Type 0} (r : Result T Fault) (fault wanted : Fault) → IsErrAnd r (λ other. other ≡ fault) → (fault ≡ wanted) ⊎ (fault ≡ Memory) → IsAnswer r wanted
-answer-passed (Ok x) fault wanted e either = absurd e
-answer-passed (Err other) fault wanted e (inl same) = inl (ap Err (e ∙ same))
-answer-passed (Err other) fault wanted e (inr memory) = inr (ap Err (e ∙ memory))
 
 module _ (module_bytes script_bytes : List ℕ) (q : Result (Module × Script) Fault)
     (refused : (f : Fault) → AreRefused module_bytes script_bytes f → IsAnswer q f)

@@ -1,61 +1,27 @@
 -- What the answer for a module says of the answer of a call that begins with it.
-use Rattle.std.proofs.Common.{◌≡◌, ◌⊎◌, inl, inr, ℕ, List, Result, Ok, Err, IfErr, sym, ◌∙◌, ap, subst}
+use Rattle.std.proofs.Common.{◌≡◌, ◌⊎◌, inr, ℕ, List, Result, Ok, Err, subst}
 use Rattle.std.specs.Result.{IsErrAnd}
 use Rattle.wasm_syntax.specs.declared.modules.Module.{Module}
 use Rattle.r3_faults.specs.declared.faults.Fault.{Fault}
 use Rattle.r3_faults.specs.declared.faults.Fault.TheVariants.{Memory}
+use Rattle.r3_inputs.proofs.AnswerLemmas.{IsAnswer, answer-err, answer-passed, memory-err, value-no, value-one}
 use Rattle.r3_inputs.specs.declared.module_files.ModuleFile.TheVariants.{Replay}
 use Rattle.r3_inputs.specs.Inputs.{IsModuleIn, IsRefusedIn}
 use Rattle.r3_replay.specs.ReplayTexts.{HasNoReplayText, HasReplayText, IsReplayRefusal, OfModule, OfRun}
-
--- the answer to a refusal, where memory lasts
-abbrev pub IsAnswer : {T : Type 0} → Result T Fault → Fault → Type 0
-IsAnswer r fault = (r ≡ Err fault) ⊎ (r ≡ Err Memory)
-
-ok-err : (m : Module) (fault : Fault) (q : Result Module Fault) → q ≡ Ok m → q ≡ Err fault → ⊥
-ok-err m fault q e f = cc (sym e ∙ f)
-
-err-one : (f g : Fault) (q : Result Module Fault) → q ≡ Err f → q ≡ Err g → f ≡ g
-err-one f g q e h = cc (sym e ∙ h)
-
-ok-one : (m n : Module) (q : Result Module Fault) → q ≡ Ok m → q ≡ Ok n → m ≡ n
-ok-one m n q e f = cc (sym e ∙ f)
-
--- what holds of the fault that is passed on
-pub passed : {T : Type 0} (r : Result T Fault) (fault : Fault) (P : Fault → Type 0) → IsErrAnd r (λ other. other ≡ fault) → P fault → IfErr r P
-passed (Ok x) fault P e p = tt
-passed (Err other) fault P e p = subst P (sym e) p
-
-answer-passed : {T : Type 0} (r : Result T Fault) (err wanted : Fault) → IsErrAnd r (λ other. other ≡ err) → (err ≡ wanted) ⊎ (err ≡ Memory) → IsAnswer r wanted
-answer-passed (Ok x) err wanted e either = absurd e
-answer-passed (Err other) err wanted e (inl same) = inl (ap Err (e ∙ same))
-answer-passed (Err other) err wanted e (inr memory) = inr (ap Err (e ∙ memory))
 
 module _ (bytes : List ℕ) (q : Result Module Fault) (refused : (fault : Fault) → IsRefusedIn Replay bytes fault → IsAnswer q fault)
     (accepted : (m : Module) → IsModuleIn Replay bytes m → (q ≡ Ok m) ⊎ (q ≡ Err Memory)) where
   -- the module is not taken, and the call passes the fault on
   module _ (err : Fault) (is : q ≡ Err err) where
-    taken-memory : (m : Module) → IsModuleIn Replay bytes m → err ≡ Memory
-    taken-memory m taken = elim (accepted m taken) [ inl ok ↦ absurd (ok-err m err q ok is) | inr memory ↦ err-one err Memory q is memory ]
-
-    refused-one : (fault : Fault) → IsRefusedIn Replay bytes fault → (err ≡ fault) ⊎ (err ≡ Memory)
-    refused-one fault found = elim (refused fault found) [ inl same ↦ inl (err-one err fault q is same) | inr memory ↦ inr (err-one err Memory q is memory) ]
-
     pub refusal-answer : {T : Type 0} (r : Result T Fault) → IsErrAnd r (λ other. other ≡ err) → (turns : ℕ) (fault : Fault) → IsReplayRefusal bytes turns fault → IsAnswer r fault
-    refusal-answer r passes turns fault (OfModule found) = answer-passed r err fault passes (refused-one fault found)
-    refusal-answer r passes turns fault (OfRun m taken none) = answer-passed r err fault passes (inr (taken-memory m taken))
+    refusal-answer r passes turns fault (OfModule found) = answer-passed r err fault passes (answer-err q err fault is (refused fault found))
+    refusal-answer r passes turns fault (OfRun m taken none) = answer-passed r err fault passes (inr (memory-err q m err is (accepted m taken)))
 
   -- the module is taken
   module _ (checked : Module) (is : q ≡ Ok checked) where
-    same : (m : Module) → IsModuleIn Replay bytes m → m ≡ checked
-    same m taken = elim (accepted m taken) [ inl ok ↦ ok-one m checked q ok is | inr memory ↦ absurd (ok-err checked Memory q is memory) ]
-
-    not-refused : (fault : Fault) → IsRefusedIn Replay bytes fault → ⊥
-    not-refused fault found = elim (refused fault found) [ inl err ↦ ok-err checked fault q is err | inr memory ↦ ok-err checked Memory q is memory ]
-
     pub none-same : (turns : ℕ) (fault : Fault) → IsReplayRefusal bytes turns fault → HasNoReplayText checked turns fault
-    none-same turns fault (OfModule found) = absurd (not-refused fault found)
-    none-same turns fault (OfRun m taken none) = subst (λ m. HasNoReplayText m turns fault) (same m taken) none
+    none-same turns fault (OfModule found) = absurd (value-no q checked fault is (refused fault found))
+    none-same turns fault (OfRun m taken none) = subst (λ m. HasNoReplayText m turns fault) (value-one q checked m is (accepted m taken)) none
 
     pub text-same : (turns : ℕ) (text : List ℕ) (m : Module) → IsModuleIn Replay bytes m → HasReplayText m turns text → HasReplayText checked turns text
-    text-same turns text m taken shown = subst (λ m. HasReplayText m turns text) (same m taken) shown
+    text-same turns text m taken shown = subst (λ m. HasReplayText m turns text) (value-one q checked m is (accepted m taken)) shown

@@ -6,7 +6,8 @@ use Rattle.wasm_syntax.specs.declared.modules.Module.{Module}
 use Rattle.host_script.specs.declared.scripts.Script.{Script}
 use Rattle.r3_faults.specs.declared.faults.Fault.{Fault}
 use Rattle.r3_faults.specs.declared.faults.Fault.TheVariants.{Memory}
-use Rattle.accepted_runs.proofs.InputAnswers.{IsWhy, passed, inputs-answer, inputs-memory, inputs-same, inputs-why}
+use Rattle.accepted_runs.proofs.InputAnswers.{IsWhy, inputs-answer, inputs-memory, inputs-same, inputs-why}
+use Rattle.r3_inputs.proofs.AnswerLemmas.{passed}
 use Rattle.r3_build.specs.Printed.{IsBuilt, IsPrinted}
 use Rattle.r3_build.specs.Refusals.{IsBuildRefusal, IsUnbuilt, OfInputs, OfModule}
 use Rattle.r3_build.proofs.builds.build.Goals as goal

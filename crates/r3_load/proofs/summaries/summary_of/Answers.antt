@@ -4,7 +4,8 @@ use Rattle.wasm_syntax.specs.declared.modules.Module.{Module}
 use Rattle.host_script.specs.declared.scripts.Script.{Script}
 use Rattle.r3_faults.specs.declared.faults.Fault.{Fault}
 use Rattle.r3_faults.specs.declared.faults.Fault.TheVariants.{Memory}
-use Rattle.accepted_runs.proofs.InputAnswers.{IsWhy, passed, inputs-answer, inputs-memory, inputs-same, inputs-why}
+use Rattle.accepted_runs.proofs.InputAnswers.{IsWhy, inputs-answer, inputs-memory, inputs-same, inputs-why}
+use Rattle.r3_inputs.proofs.AnswerLemmas.{passed}
 use Rattle.r3_make.specs.Refusals.{IsMakeRefusal, OfInputs, OfModule, IsUnmade}
 use Rattle.r3_make.specs.Tapes.{NeedsLightTape}
 use Rattle.r3_load.specs.Summaries.{IsSummaryFor, IsSummaryOf}

@@ -2,7 +2,8 @@ use Rattle.std.proofs.Common.{◌≡◌, ◌⊎◌, inl, inr}
 use Rattle.std.proofs.lemmas.Result.{IfErr-weaker}
 use Rattle.r3_faults.specs.declared.faults.Fault.TheVariants.{Memory}
 use Rattle.r3_record.specs.LogFiles.{HasNoModuleLog, IsLogRefusal, OfModule, OfModuleLog}
-use Rattle.r3_record.proofs.ModuleAnswers.{log-same, none-same, passed, refusal-answer}
+use Rattle.r3_inputs.proofs.AnswerLemmas.{passed}
+use Rattle.r3_record.proofs.ModuleAnswers.{log-same, none-same, refusal-answer}
 use Rattle.r3_record.proofs.log_files.log_run.Goals as goal
 
 pub returns-in_err-checked-clause-cause : goal.returns-in_err-checked-clause-cause

@@ -4,7 +4,7 @@ use Rattle.hook_insert.specs.Forms.{form_of}
 use Rattle.r3_faults.specs.declared.faults.Fault.TheVariants.{Memory}
 use Rattle.r3_record.specs.LogFiles.{HasNoLogFile, OfRun}
 use Rattle.r3_record.proofs.Forms.{hooks_after}
-use Rattle.r3_record.proofs.ModuleAnswers.{passed}
+use Rattle.r3_inputs.proofs.AnswerLemmas.{passed}
 use Rattle.r3_record.proofs.run_logs.log_from.Goals as goal
 
 pub recorded_log-requires-clause-hooked : goal.recorded_log-requires-clause-hooked

@@ -2,7 +2,8 @@ use Rattle.std.proofs.Common.{◌≡◌, ◌⊎◌, inl, inr}
 use Rattle.std.proofs.lemmas.Result.{IfErr-weaker}
 use Rattle.r3_faults.specs.declared.faults.Fault.TheVariants.{Memory}
 use Rattle.r3_replay.specs.ReplayTexts.{HasNoReplayText, IsReplayRefusal, OfModule, OfRun}
-use Rattle.r3_replay.proofs.ModuleAnswers.{none-same, passed, refusal-answer, text-same}
+use Rattle.r3_inputs.proofs.AnswerLemmas.{passed}
+use Rattle.r3_replay.proofs.ModuleAnswers.{none-same, refusal-answer, text-same}
 use Rattle.r3_replay.proofs.replays.replay_text.Goals as goal
 
 pub returns-in_err-checked-clause-cause : goal.returns-in_err-checked-clause-cause
