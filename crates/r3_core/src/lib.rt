@@ -51,7 +51,7 @@ pub fn r3<F: Files, O: Sink, E: Sink>(
     ensures listed { result ≢ 2 → IsListed (texts words.now) }
     ensures unread { (result ≡ 2) ⊎ (files_of (texts words.now) ≡ []) → files.new ≡ files.old }
 
-    // A file was not loaded: the first one, in the order of the words.
+    // A file was not loaded: one of those that the words name; one that is too long is the first such one.
     ensures contents_unchanged { F.contents files.new ≡ F.contents files.old }
     ensures read { result ≡ 3 → (name : List ℕ)
         × Contains (map (λ file. file.0) (files_of (texts words.now))) name
