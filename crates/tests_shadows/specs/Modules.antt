@@ -2,24 +2,17 @@
 use Rattle.std.specs.Prelude.{ℕ, List, [], ◌∷◌, None}
 use Rattle.wasm_syntax.specs.declared.values.ValType.TheVariants.{I32}
 use Rattle.wasm_syntax.specs.declared.instructions.Instr.TheVariants.{Const, End}
+use Rattle.wasm_syntax.specs.EmptyModule.{empty_module}
 use Rattle.wasm_syntax.specs.declared.modules.Module.{Module}
 use Rattle.host_script.specs.declared.scripts.Supply.{Supply}
 
 -- a memory of so many pages in which bytes stand from an offset on, and a table of so many empty entries
 abbrev pub module_with : (pages entries offset : ℕ) → List ℕ → Module
 module_with pages entries offset bytes =
-    record {
-      types = [];
-      imports = [];
-      funcs = [];
+    record empty_module {
       tables = record { min = entries; max = None } ∷ [];
       memories = record { min = pages; max = None } ∷ [];
-      globals = [];
-      exports = [];
-      start = None;
-      elems = [];
       datas = record { memory = 0; offset = Const (record { ty = I32; bits = offset }) ∷ End ∷ []; bytes = bytes } ∷ [];
-      customs = [];
     }
 
 -- nothing is supplied

@@ -4,6 +4,7 @@ ghost use Rattle.std.specs.Prelude.{◌≡◌, [], ◌∷◌, IfOk};
 ghost use Rattle.tests_shadows.specs.Modules.{module_with, nothing};
 
 use host_script::Supply;
+use sample_inputs::module_without_parts;
 use std::alloc::{AllocError, Global};
 use std::test::Fail;
 use wasm_syntax::{DataSeg, Instr, Limits, List, Module, Val, ValType};
@@ -35,17 +36,10 @@ fn module_of_segment(alloc: Global, segment: DataSeg) -> Result<Module, AllocErr
     let memories = Vec::from_array(alloc, [memory])?;
     let datas = Vec::from_array(alloc, [segment])?;
     Ok(Module {
-        types: List::new(alloc),
-        imports: List::new(alloc),
-        funcs: List::new(alloc),
         tables: List::from_vec(tables),
         memories: List::from_vec(memories),
-        globals: List::new(alloc),
-        exports: List::new(alloc),
-        start: None,
-        elems: List::new(alloc),
         datas: List::from_vec(datas),
-        customs: List::new(alloc),
+        ..module_without_parts(alloc)
     })
 }
 
