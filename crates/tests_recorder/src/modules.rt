@@ -3,6 +3,7 @@
 ghost use Rattle.std.specs.Prelude.{IfOk};
 ghost use Rattle.tests_recorder.specs.Modules.{IsBare};
 
+use sample_inputs::module_without_parts;
 use std::alloc::{AllocError, Global};
 use wasm_syntax::{Func, FuncType, Instr, Limits, List, Module, Val, ValType};
 
@@ -60,15 +61,9 @@ fn module_with(alloc: Global, types: Vec<FuncType>, funcs: Vec<Func>) -> Result<
     let memories = Vec::from_array(alloc, [memory])?;
     Ok(Module {
         types: List::from_vec(types),
-        imports: List::new(alloc),
         funcs: List::from_vec(funcs),
         tables: List::from_vec(tables),
         memories: List::from_vec(memories),
-        globals: List::new(alloc),
-        exports: List::new(alloc),
-        start: None,
-        elems: List::new(alloc),
-        datas: List::new(alloc),
-        customs: List::new(alloc),
+        ..module_without_parts(alloc)
     })
 }
