@@ -1,5 +1,6 @@
 pub mod Left
 pub mod Fit
 pub mod Runs
+pub mod EachRun
 pub mod Dropped
 pub mod Replayed

@@ -1,25 +1,14 @@
 -- The tapes that the runs of the example modules need replay them.
-use Rattle.std.specs.Prelude.{List, [], ◌∷◌, Some}
+use Rattle.std.specs.Prelude.{List}
 use Rattle.wasm_syntax.specs.declared.modules.Module.{Module}
-use Rattle.wasm_syntax.specs.declared.values.ValType.TheVariants.{F32}
-use Rattle.host_script.specs.declared.scripts.Address.TheVariants.{Fixed}
-use Rattle.host_script.specs.declared.scripts.Action.TheVariants.{Write, SetTable, SetGlobal, Grow as GrowBy, GrowTable}
 use Rattle.host_script.specs.declared.scripts.Script.{Script}
 use Rattle.run_outcomes.specs.declared.outcomes.Outcome.{Outcome}
-use Rattle.run_outcomes.specs.declared.outcomes.Outcome.TheVariants.{Ended, Trapped, HostTrapped}
-use Rattle.trace_model.specs.declared.tapes.Origin.TheVariants.{Begin, Import, Back}
-use Rattle.trace_model.specs.declared.tapes.Next.TheVariants.{Call, Return, End, Trap}
-use Rattle.trace_model.specs.declared.tapes.Effect.TheVariants.{Grow, Table, Bytes, Entry, Global}
 use Rattle.trace_model.specs.declared.tapes.Segment.{Segment}
 use Rattle.history_spec.specs.Code.{code_of}
 use Rattle.replay_spec.specs.Needed.{opening_store}
 use Rattle.tape_follows.specs.Laws.{IsReplayed}
-use Rattle.worked_histories.specs.Build.{value, i32}
-use Rattle.worked_histories.specs.Modules.{two_answers, overwrite, grow_access, copy_load, fill_past, nested_call, table_entry, table_growth, float_global, c_buffers}
-use Rattle.worked_histories.specs.Scripts.{five_seven, host_traps, does, does_all, calls_back, reads_hi}
-use Rattle.worked_tapes.specs.NeededTapes.{two_answers_tape, needed_bytes, nested_tape}
-use Rattle.worked_tapes.specs.TapeBuild.{segment, changes, changes_then_traps, IfOpened, scripted_run}
-use Rattle.worked_tape_laws.specs.Dropped.{writes_four, writes_copied}
+use Rattle.worked_tapes.specs.TapeBuild.{IfOpened, scripted_run}
+use Rattle.worked_tape_laws.specs.Runs.{OfEachRun}
 
 -- the run of the segments comes to the scripted run's outcome with its history, and disagrees at no number of steps
 abbrev pub Replays : Module → Script → List Segment → Outcome → Type 0
@@ -27,29 +16,6 @@ Replays m script segments outcome =
     IfOpened (opening_store m script) (λ store.
     IsReplayed (code_of m) store segments (scripted_run m script store).history outcome)
 
--- the host traps
-abbrev pub trapped_tape : List Segment
-trapped_tape = segment Begin [] (Call 1 []) ∷ segment (Import 0) [] Trap ∷ []
-
--- buffers on a C stack
-abbrev pub buffers_tape : List Segment
-buffers_tape =
-    segment Begin [] (Call 1 [])
-    ∷ segment (Import 0) (Bytes 66544 (0x68 ∷ 0x69 ∷ 0x0A ∷ []) ∷ Bytes 66552 (3 ∷ []) ∷ []) (Return (Some (i32 0)))
-    ∷ segment Back [] End ∷ []
-
-pub record WorkedReplays : Type 0 where
-  pub answers : Replays two_answers five_seven two_answers_tape Ended
-  pub host_trap : Replays two_answers host_traps trapped_tape HostTrapped
-  pub bytes : Replays overwrite writes_four needed_bytes Ended
-  pub unread : Replays overwrite (does (Write (Fixed 100) (0xFF ∷ []))) (changes []) Ended
-  pub growth : Replays grow_access (does (GrowBy 1)) (changes (Grow 2 ∷ [])) Ended
-  pub filled : Replays fill_past (does (GrowBy 1)) (changes (Grow 2 ∷ [])) Ended
-  pub copied : Replays copy_load writes_copied (changes (Bytes 8 (0x85 ∷ []) ∷ Bytes 11 (0x01 ∷ []) ∷ [])) Ended
-  pub nested : Replays nested_call calls_back nested_tape Ended
-  pub entry : Replays table_entry (does (SetTable 0 (Some 3))) (changes_then_traps (Entry 0 (Some 3) ∷ [])) Trapped
-  pub size : Replays table_growth (does_all (GrowTable 4 ∷ SetTable 5 (Some 3) ∷ []))
-      (changes_then_traps (Table 6 ∷ Entry 5 (Some 3) ∷ [])) Trapped
-  pub global : Replays float_global (does (SetGlobal 0 (value F32 0x7FA00001)))
-      (changes (Global 0 (value F32 0x7FA00001) ∷ [])) Ended
-  pub buffers : Replays c_buffers reads_hi buffers_tape Ended
+-- each of the runs is replayed
+abbrev pub WorkedReplays : Type 0
+WorkedReplays = OfEachRun Replays
