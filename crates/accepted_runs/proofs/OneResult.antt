@@ -21,13 +21,13 @@ use Rattle.accepted_runs.specs.Runs.{HasOutcome, HasNoOutcome, IsFaultyFor, IsSp
 
 -- ---- values that differ, and that are the same
 
-same-run : (a b : Run) → budget.Over a ≡ budget.Over b → a ≡ b
+pub same-run : (a b : Run) → budget.Over a ≡ budget.Over b → a ≡ b
 same-run a b e = cc e
 
-over-spent : (a : Run) → budget.Over a ≡ budget.Spent → ⊥
+pub over-spent : (a : Run) → budget.Over a ≡ budget.Spent → ⊥
 over-spent a e = cc e
 
-same-outcome : (at : Progress) (a b : Outcome) → at ≡ Finished a → at ≡ Finished b → a ≡ b
+pub same-outcome : (at : Progress) (a b : Outcome) → at ≡ Finished a → at ≡ Finished b → a ≡ b
 same-outcome at a b e f = cc (sym e ∙ f)
 
 same-kind : (at : Progress) (a b : FaultKind) → at ≡ Faulted a → at ≡ Faulted b → a ≡ b

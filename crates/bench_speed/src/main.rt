@@ -57,13 +57,19 @@ fn module_in<F: Files>(alloc: Global, files: &mut F, name: &str) -> Result<Vec<u
 {
     match load(alloc, files, name, MODULE) {
         Ok(bytes) => Ok(bytes),
-        Err(LoadFault::Failed) => Err(Fault::Read {
-            name: Name::from_string(String::from_str(alloc, name)?),
-        }),
-        Err(LoadFault::TooLong) => Err(Fault::TooLong {
-            name: Name::from_string(String::from_str(alloc, name)?),
-            limit: MODULE,
-        }),
-        Err(LoadFault::Memory) => Err(Fault::Memory),
+        Err(fault) => Err(fault_of_load(alloc, fault, name)?),
     }
+}
+
+/// Why a module's file is not read.
+fn fault_of_load(alloc: Global, fault: LoadFault, name: &str) -> Result<Fault, Fault> {
+    let name = Name::from_string(String::from_str(alloc, name)?);
+    Ok(match fault {
+        LoadFault::Failed => Fault::Read { name },
+        LoadFault::TooLong => Fault::TooLong {
+            name,
+            limit: MODULE,
+        },
+        LoadFault::Memory => Fault::Memory,
+    })
 }

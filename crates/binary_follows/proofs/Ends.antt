@@ -86,7 +86,7 @@ module _ (laws : RunLaws) (m : Module) (plan : Plan) (code : Code) (store : Stor
     group_returns labels number =
         subst (λ items. Leads (watched m code) here items behind_place)
         (step_alone (watched m code) here frame Return Empty [] refl (λ operands. refl))
-        ((laws.leads (watched m code) here frame others entries [] behind_place
+        ((laws.single.leads (watched m code) here frame others entries [] behind_place
         (record {
           stands = refl;
           makes =
@@ -207,14 +207,14 @@ module _ (laws : RunLaws) (m : Module) (plan : Plan) (code : Code) (store : Stor
           items = Steps false ∷ Makes HostTrap ∷ [];
           ends = subst (λ items. Ends (watched m code) here items HostTrapped)
               (step_alone (watched m code) here frame Unreachable Empty (HostTrap ∷ []) refl (λ operands. refl))
-              ((laws.ends (watched m code) here frame below entries (HostTrap ∷ []) Trapped HostTrapped
+              ((laws.single.ends (watched m code) here frame below entries (HostTrap ∷ []) Trapped HostTrapped
               (base.func ∷ inside)
               (record {
                 stands = refl;
                 makes = refl;
-                shows = λ given. ap (λ d. shown_trap d (Trap base.func number ByUnreachable [] None) ∷ []) own_side;
+                shows = λ given. ap (λ d. shown_trap d (Trap base.func number ByUnreachable [] None) ∷ []) (appended_side m base.func past);
                 control = refl;
-              }) (ap trapped_on own_side)).0 (Behind own_side));
+              }) (ap trapped_on (appended_side m base.func past))).0 (Behind (appended_side m base.func past)));
           shown = refl;
           claimed = λ pr. (refl, none_first segments);
           bounded =
@@ -225,9 +225,6 @@ module _ (laws : RunLaws) (m : Module) (plan : Plan) (code : Code) (store : Stor
               (left_of (imported_funcs m) segments).calls (imported_funcs m));
         }
       where
-        own_side : side (layout_of m) base.func ≡ Appended
-        own_side = appended_side m base.func past
-
         here : Place
         here = standing top beside [] labels (Plain Unreachable Empty) number
 
@@ -248,7 +245,7 @@ module _ (laws : RunLaws) (m : Module) (plan : Plan) (code : Code) (store : Stor
         items = Steps false ∷ [];
         ends = subst (λ items. Ends (watched m code) here items Ended)
             (step_alone (watched m code) here frame Return Empty [] refl (λ operands. refl))
-            ((laws.ends (watched m code) here frame (InMain [] ∷ []) entries [] Ended Ended []
+            ((laws.single.ends (watched m code) here frame (InMain [] ∷ []) entries [] Ended Ended []
             (record {
               stands = refl;
               makes =
@@ -256,10 +253,10 @@ module _ (laws : RunLaws) (m : Module) (plan : Plan) (code : Code) (store : Stor
                   (to_caller [] (topmost n []))) arity;
               shows = λ given.
                   ap (λ (d : Side). shown_step d (Step base.func number [] [] None)
-                  ++ (shown_return Appended (side (layout_of m) base.func) base.func [] ++ [])) own_side
-                  ∙ ap (λ d. shown_return Appended d base.func [] ++ []) own_side;
+                  ++ (shown_return Appended (side (layout_of m) base.func) base.func [] ++ [])) (appended_side m base.func past)
+                  ∙ ap (λ d. shown_return Appended d base.func [] ++ []) (appended_side m base.func past);
               control = refl;
-            }) refl).0 (Behind own_side));
+            }) refl).0 (Behind (appended_side m base.func past)));
         shown = refl;
         claimed = λ pr. (refl, none_first segments);
         bounded =
@@ -270,9 +267,6 @@ module _ (laws : RunLaws) (m : Module) (plan : Plan) (code : Code) (store : Stor
             (left_of (imported_funcs m) segments).calls (imported_funcs m));
       }
     where
-      own_side : side (layout_of m) base.func ≡ Appended
-      own_side = appended_side m base.func past
-
       here : Place
       here =
           standing (host_standing base (InMain [] ∷ []) []) beside []

@@ -1,6 +1,6 @@
 -- A step of the host in the tape's run: its effects are done, and control leaves it.
 use Rattle.std.proofs.Common.{◌≡◌, ℕ, ◌+◌, ◌*◌, ◌≤◌, Option, None, List, [], ◌∷◌, ◌++◌, length, reverse, Some, true, false, replicate, sym, ap, ◌∙◌, subst, arith, option_to_list}
-use Rattle.std.specs.Prelude.{map, sum_by}
+use Rattle.std.specs.Prelude.{map}
 use Rattle.std.specs.List.{All, list_all}
 use Rattle.std.proofs.lemmas.List.{append-nil, length-map}
 use Rattle.wasm_syntax.specs.declared.values.Val.{Val}
@@ -17,7 +17,7 @@ use Rattle.trace_model.specs.declared.tapes.Next.TheVariants.{Call as Calls, Ret
 use Rattle.trace_model.specs.declared.tapes.Origin.{Origin}
 use Rattle.trace_model.specs.declared.tapes.Segment.{Segment}
 use Rattle.trace_model.specs.Fitting.{effect_fits, left}
-use Rattle.trace_model.specs.Weight.{effect_weight, next_weight}
+use Rattle.trace_model.specs.Weight.{next_weight}
 use Rattle.history_spec.specs.Code.{Code, code_of, types_of}
 use Rattle.history_spec.specs.Store.{Store}
 use Rattle.history_spec.specs.Configuration.{Label, Frame, Activation, InModule, InMain, InImport}
@@ -30,8 +30,8 @@ use Rattle.replay_spec.specs.TapeRun.{TapeResult, pause, store_after_effects, af
 use Rattle.outside_spec.specs.Items.{Item, Steps, entries_in}
 use Rattle.outside_spec.specs.Stretches.{AreSameChanges, Stretches, stretches_from}
 use Rattle.generated_steps.specs.Leads.{Leads, IsOutside, Behind, Standing, standing}
-use Rattle.generated_effects.specs.Laws.{AllGrowSizes, EffectsAreMade}
-use Rattle.generated_effects.specs.Counts.{changes_in, steps_in}
+use Rattle.generated_effects.specs.Laws.{AllGrowSizes, AreItemsOf, EffectsAreMade}
+use Rattle.generated_effects.specs.Counts.{changes_in}
 use Rattle.generated_effects.proofs.Does.{sequence_over}
 use Rattle.module_merge.specs.Merge.{layout_of}
 use Rattle.binary_follows.specs.Playable.{WritesBytes}
@@ -81,10 +81,7 @@ module _ (laws : RunLaws) (effects_law : EffectsAreMade) (m : Module) (plan : Pl
       pub leads : Leads (watched m code)
           (standing s (with_own (counters counts) store) [] labels (sequence (effects_code effects ++ leaving) Empty)
           number) items (standing s (with_own (counters counts) after) [] labels (sequence leaving Empty) at)
-      pub silent : entries_in items ≡ []
-      pub changes : AllGrowSizes store effects → AreSameChanges (changes_in items) effects
-      pub steps : (steps_in items).steps ≤ 8 * sum_by effect_weight effects
-      pub blocks : (steps_in items).blocks ≡ 0
+      pub told : AreItemsOf store effects items
 
     to_next : ComesToNext
     to_next =
@@ -106,10 +103,12 @@ module _ (laws : RunLaws) (effects_law : EffectsAreMade) (m : Module) (plan : Pl
               (standing s (with_own own store) [] labels (sequence (effects_code effects) nest) number) r.items
               (standing s (with_own own after) [] labels nest r.at))
               (ap (λ code. sequence code Empty) (sym some.is)) r.leads);
-          silent = r.silent;
-          changes = λ grows. r.changes (grow_beside own store after effects done grows);
-          steps = r.steps;
-          blocks = r.blocks;
+          told = record {
+            silent = r.told.silent;
+            changes = λ grows. r.told.changes (grow_beside own store after effects done grows);
+            steps = r.told.steps;
+            blocks = r.told.blocks;
+          };
         }
 
     -- the segment
@@ -145,11 +144,12 @@ module _ (laws : RunLaws) (effects_law : EffectsAreMade) (m : Module) (plan : Pl
         let t = to_next in
         follows_after laws m plan code (AllGrowSizes store effects)
         (WithinBy m plan (7 * next_weight next) (with_next next begun) later) (Playing m plan segment later) _ _ t.items
-        t.leads t.silent (λ grows rest c. claimed_before t.items t.silent (t.changes grows) rest c)
+        t.leads t.told.silent (λ grows rest c. claimed_before t.items t.told.silent (t.told.changes grows) rest c)
         (λ rest c.
-        let few = t.steps in
+        let few = t.told.steps in
         bounded_before plan (with_next next begun) (left_of (imported_funcs m) later).calls (imported_funcs m)
-        (7 * next_weight next) (segment_steps segment) t.items rest t.silent (omega (arith, few)) t.blocks c)
+        (7 * next_weight next) (segment_steps segment) t.items rest t.told.silent (omega (arith, few)) t.told.blocks
+        c)
         r.entries r.next
         (f t.at)
 

@@ -35,7 +35,7 @@ use Rattle.binary_follows.proofs.Relation.{AreBeside, Runs, imports_in, own_plac
 use Rattle.binary_follows.proofs.Shared.{IsBeside, executed_beside}
 use Rattle.binary_follows.proofs.Sides.{below_start, import_side, never_outside, original_side}
 use Rattle.binary_follows.proofs.Sound.{IsSound, changes_sound}
-use Rattle.binary_follows.proofs.Settled.{returned, settled}
+use Rattle.binary_follows.proofs.Settled.{none_settles, returned, settled}
 use Rattle.binary_follows.proofs.Together.{Within, none_first, AtCall, IsPlayed, IsEnded, Follows, at_call}
 use Rattle.binary_follows.proofs.Bounded.{made_bounded, none_bounded}
 use Rattle.binary_follows.proofs.Parts.{MakesStep, follows_settled, nothing_shown, shown_made}
@@ -84,6 +84,27 @@ module _ (laws : RunLaws) (instructions : InstructionLaws) (m : Module) (plan : 
 
   -- ---- control goes on in the activation, or leaves it
 
+  -- a step of the original, by where it leads before that settles
+  one_step : (operands results : List Val) (found : Option ℕ) (after : Store) (now : List ℕ) (to : SettleResult)
+      → step (watched m code).program here.config
+      ≡ after_entries (step_entry operands results found ∷ []) (after_settling (with_own (counters counts) after) [] to)
+      → frame.func ∷ inside ≡ now
+      → MakesStep laws m plan code here frame own after counts now (step_entry operands results found ∷ [])
+      (step_entry operands results found ∷ []) to segments 0 begun
+  one_step operands results found after now to makes control =
+      record {
+        stands = refl;
+        makes = makes;
+        shows = λ args. ap (λ d. shown_step d (step_entry operands results found) ++ []) own_side;
+        control = control;
+        known = inr own_side;
+        quiet = λ outside. absurd (never_outside m frame.func own_side outside);
+        stretch = λ s here. (here, refl);
+        bounded = λ later keeps rest c.
+            made_bounded plan 0 (imported_funcs m) begun (left_of (imported_funcs m) segments).calls
+            (step_entry operands results found ∷ []) later rest keeps c;
+      }
+
   goes_on : (operands results : List Val) (found : Option ℕ) (after : Store) (next : Frame)
       → execute code (with_own (counters counts) store) frame
       ≡ Did operands results found (Goes (with_own (counters counts) after) next)
@@ -97,18 +118,8 @@ module _ (laws : RunLaws) (instructions : InstructionLaws) (m : Module) (plan : 
       (step_entry operands results found ∷ []) (step_entry operands results found ∷ [])
       (deliver (InModule next ∷ stack) []) (deliver (InModule next ∷ own) []) (imports_in stack) segments came
       (Unit {0}) 0 begun
-      (record {
-        stands = refl;
-        makes = ap (after_instruction (watched m code).program here.config frame own) e;
-        shows = λ args. ap (λ d. shown_step d (step_entry operands results found) ++ []) own_side;
-        control = ap (λ f. f ∷ inside) (sym same.func);
-        known = inr own_side;
-        quiet = λ outside. absurd (never_outside m frame.func own_side outside);
-        stretch = λ s here. (here, refl);
-        bounded = λ later keeps rest c.
-            made_bounded plan 0 (imported_funcs m) begun (left_of (imported_funcs m) segments).calls
-            (step_entry operands results found ∷ []) later rest keeps c;
-      })
+      (one_step operands results found after (next.func ∷ inside) (deliver (InModule next ∷ own) [])
+      (ap (after_instruction (watched m code).program here.config frame own) e) (ap (λ f. f ∷ inside) (sym same.func)))
       (settled m begun stack own inside next ty [] (same_typed next same) (same.arity ∙ arity)
       (same_past next same) under
       (λ given count. returned m played.one begun ty.results (played.one frame.func ty typed) stack own inside
@@ -129,18 +140,8 @@ module _ (laws : RunLaws) (instructions : InstructionLaws) (m : Module) (plan : 
       (after_entry (return_entry frame.func given stack) (deliver stack given))
       (after_entry (return_entry frame.func given own) (deliver own given)) (imports_in stack) segments came
       (Unit {0}) 0 begun
-      (record {
-        stands = refl;
-        makes = ap (after_instruction (watched m code).program here.config frame own) e;
-        shows = λ args. ap (λ d. shown_step d (step_entry operands results found) ++ []) own_side;
-        control = refl;
-        known = inr own_side;
-        quiet = λ outside. absurd (never_outside m frame.func own_side outside);
-        stretch = λ s here. (here, refl);
-        bounded = λ later keeps rest c.
-            made_bounded plan 0 (imported_funcs m) begun (left_of (imported_funcs m) segments).calls
-            (step_entry operands results found ∷ []) later rest keeps c;
-      })
+      (one_step operands results found store (frame.func ∷ inside) (after_entry (return_entry frame.func given own) (deliver own given))
+      (ap (after_instruction (watched m code).program here.config frame own) e) refl)
       (returned m played.one begun ty.results (played.one frame.func ty typed) stack own inside under
       frame.func given own_side (count ∙ arity)) played
 
@@ -241,13 +242,7 @@ module _ (laws : RunLaws) (instructions : InstructionLaws) (m : Module) (plan : 
             (follows_settled laws m plan code here frame own store counts (func ∷ waiting.func ∷ inside) call_entries
             call_entries (settle_result [] NoneHolds) (settle_result [] NoneHolds) (imports_in stack) segments came
             (Unit {0}) 0 begun (enters stays None (settle_result [] NoneHolds) q refl)
-            (record {
-              shows = λ any. refl;
-              ends = tt;
-              still = λ other h. absurd (cc h);
-              turn = tt;
-              keeps = λ left. refl;
-            }) played)
+            (none_settles m begun (imports_in stack) (func ∷ waiting.func ∷ inside)) played)
         go (Some d) q =
             let entered = frame_of func callee d args in
             let waits_here = waits waiting same in
@@ -291,7 +286,7 @@ module _ (laws : RunLaws) (instructions : InstructionLaws) (m : Module) (plan : 
           next = end;
           items = map Makes shown;
           leads =
-              (laws.leads (watched m code) here frame own call_entries shown end
+              (laws.single.leads (watched m code) here frame own call_entries shown end
               (record {
                 stands = refl;
                 makes = makes_call _ body.has_type body.is;
@@ -347,7 +342,7 @@ module _ (laws : RunLaws) (instructions : InstructionLaws) (m : Module) (plan : 
       record {
         items = Makes entry ∷ [];
         ends =
-            (laws.ends (watched m code) here frame own (entry ∷ []) (entry ∷ []) Trapped Trapped (frame.func ∷ inside)
+            (laws.single.ends (watched m code) here frame own (entry ∷ []) (entry ∷ []) Trapped Trapped (frame.func ∷ inside)
             (record {
               stands = refl;
               makes = ap (after_instruction (watched m code).program here.config frame own) e;

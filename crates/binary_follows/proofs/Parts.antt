@@ -257,7 +257,7 @@ module _ (laws : RunLaws) (m : Module) (plan : Plan) (code : Code) where
     moved own_stack is t together closes closes_bound =
         let end : Place = own_place store counts own_stack (inside_after_all inside own.entries) in
         let lead =
-        laws.leads (watched m code) p frame below (own_first ++ own.entries) entries end
+        laws.single.leads (watched m code) p frame below (own_first ++ own.entries) entries end
         (single (Continues own_stack) is) in
         go end lead made.known made.bounded together
       where
@@ -300,7 +300,7 @@ module _ (laws : RunLaws) (m : Module) (plan : Plan) (code : Code) where
     stuck : own.next ≡ NoneHolds → HasShown m code p entries
     stuck is =
         let shows =
-        laws.shows (watched m code) p frame below (own_first ++ own.entries) entries Stuck
+        laws.single.shows (watched m code) p frame below (own_first ++ own.entries) entries Stuck
         (inside_after_all inside own.entries) (single NoneHolds is) in
         go shows made.known
       where

@@ -34,7 +34,7 @@ use Rattle.replay_codes.specs.Stores.{counters, with_own}
 use Rattle.replay_codes.specs.Codes.{IsReplayCode}
 use Rattle.binary_follows.proofs.Relation.{AreBeside, imports_in, waiting_frame, watched}
 use Rattle.binary_follows.proofs.Sides.{appended_side, below_start, original_side}
-use Rattle.binary_follows.proofs.Settled.{returned, settled}
+use Rattle.binary_follows.proofs.Settled.{none_settles, returned, settled}
 use Rattle.binary_follows.proofs.Answered.{unchanged_by}
 use Rattle.binary_follows.proofs.Codes.{does_consts, pops_pushed}
 use Rattle.binary_follows.proofs.Together.{WithinBy, IsPlayed, Follows}
@@ -185,13 +185,7 @@ module _ (laws : RunLaws) (m : Module) (plan : Plan) (code : Code) (is : IsRepla
             (HostCall func args ∷ []) (first_entries number) (settle_result [] NoneHolds) (settle_result [] NoneHolds)
             (imports_in stack) segments came premise 2 begun
             (enters labels number None (settle_result [] NoneHolds) e refl)
-            (record {
-              shows = λ any. refl;
-              ends = tt;
-              still = λ other q. absurd (cc q);
-              turn = tt;
-              keeps = λ left. refl;
-            }) played)
+            (none_settles m begun (imports_in stack) (func ∷ base.func ∷ inside)) played)
         go (Some d) e =
             let entered = frame_of func ty d args in
             to (Some d) e

@@ -20,7 +20,7 @@ use Rattle.history_spec.specs.declared.entries.Entry.TheVariants.{Exit, HostRetu
 use Rattle.history_spec.specs.Code.{code_of, signature}
 use Rattle.history_spec.specs.Configuration.{Label, Frame, Activation, InModule, InMain, InImport, point, at_point, topmost, with_results}
 use Rattle.history_spec.specs.Settle.{SettleEnd, Continues, Finishes, NoRule, SettleResult, settle_result, after_entry, AtEnd, Within, Gives, TooFew, at_end, at_end_of, end_results, return_entry, return_from, deliver}
-use Rattle.history_spec.specs.Projection.{Original, Appended, side, caller_side, shown_entries, shown_return}
+use Rattle.history_spec.specs.Projection.{Side, Original, Appended, side, caller_side, shown_entries, shown_return}
 use Rattle.replay_spec.specs.TapeRun.{pause, origin_after}
 use Rattle.replay_plan.specs.Plans.{innermost}
 use Rattle.replay_gen.specs.Dispatch.{sequence}
@@ -95,6 +95,12 @@ pub record Settles (m : Module) (begun : List (List Segment)) (opened : List ℕ
   pub still : (stack : List Activation) → tape.next ≡ Continues stack → imports_in stack ≡ opened
   pub turn : IsTurn tape.next tape.entries
   pub keeps : AreWithinCalls tape.entries
+
+-- where no rule holds
+pub none_settles : (m : Module) (begun : List (List Segment)) (opened : List ℕ) (inside : List ℕ)
+    → Settles m begun opened inside (settle_result [] NoRule) (settle_result [] NoRule)
+none_settles m begun opened inside =
+    record { shows = λ any. refl; ends = tt; still = λ other h. absurd (cc h); turn = tt; keeps = λ left. refl }
 
 -- ---- entries
 
@@ -241,21 +247,23 @@ module _ (m : Module) where
 
   -- ---- returns
 
-  return_to_import : (inside : List ℕ) (func : ℕ) (results : List Val) → side (layout_of m) func ≡ Original
-      → caller_side (layout_of m) inside ≡ Appended
-      → shown_return (caller_side (layout_of m) inside) (side (layout_of m) func) func results
-      ≡ HostReturn func results ∷ []
-  return_to_import inside func results original outside =
-      ap (λ caller. shown_return caller (side (layout_of m) func) func results) outside
-      ∙ ap (λ callee. shown_return Appended callee func results) original
+  -- a return shows an entry, by the sides of its caller and its callee
+  abbrev ReturnShows : (caller callee : Side) → ((func : ℕ) → List Val → List Entry) → Type 0
+  ReturnShows caller callee shown =
+      (inside : List ℕ) (func : ℕ) (results : List Val) → side (layout_of m) func ≡ callee
+      → caller_side (layout_of m) inside ≡ caller
+      → shown_return (caller_side (layout_of m) inside) (side (layout_of m) func) func results ≡ shown func results
 
-  return_within : (inside : List ℕ) (func : ℕ) (results : List Val) → side (layout_of m) func ≡ Original
-      → caller_side (layout_of m) inside ≡ Original
-      → shown_return (caller_side (layout_of m) inside) (side (layout_of m) func) func results
-      ≡ Exit func results ∷ []
-  return_within inside func results original own =
-      ap (λ caller. shown_return caller (side (layout_of m) func) func results) own
-      ∙ ap (λ callee. shown_return Original callee func results) original
+  return_shows : (caller callee : Side) → ReturnShows caller callee (shown_return caller callee)
+  return_shows caller callee inside func results of from =
+      ap (λ d. shown_return d (side (layout_of m) func) func results) from
+      ∙ ap (λ d. shown_return caller d func results) of
+
+  return_to_import : ReturnShows Appended Original (λ func results. HostReturn func results ∷ [])
+  return_to_import = return_shows Appended Original
+
+  return_within : ReturnShows Original Original (λ func results. Exit func results ∷ [])
+  return_within = return_shows Original Original
 
   abbrev imports_of : SettleEnd → List ℕ
   imports_of (Continues stack) = imports_in stack

@@ -22,7 +22,7 @@ use Rattle.wasm_syntax.proofs.ValTypes.{type_same}
 use Rattle.trace_model.specs.declared.tapes.Effect.{Effect}
 use Rattle.trace_model.specs.declared.tapes.Effect.TheVariants.{Grow, Table as GrowTable, Bytes, Entry as SetEntry, Global}
 use Rattle.trace_model.specs.Fitting.{effect_fits, grows_within, is_within as is_within_limit, takes_value}
-use Rattle.history_spec.specs.Store.{Store, Memory, pages, zeros, grown_memory, grown_memory_if, with_bytes_at, with_items_at, with_memory, with_table, with_global}
+use Rattle.history_spec.specs.Store.{Store, Memory, pages, zeros, grown_memory, grown_memory_if, with_memory, with_table, with_global}
 use Rattle.history_spec.specs.Code.{types_of}
 use Rattle.replay_spec.specs.Observations.{Observation, Writes, Resizes, WritesGlobal}
 use Rattle.replay_spec.specs.TapeRun.{memory_of_size, table_of_size, memory_with, table_with, store_after_effect, store_after_effects}
@@ -31,7 +31,7 @@ use Rattle.observed_steps.specs.Changes.{CanChange, CanChangeAll, with_bytes, wi
 use Rattle.type_safety.specs.Stores.{global_types}
 use Rattle.outside_spec.specs.Items.{page_count}
 use Rattle.generated_effects.specs.Laws.{AllGrowSizes, AreWritable, GrowsSize, IsWritable}
-use Rattle.generated_effects.proofs.Written.{written_length}
+use Rattle.generated_effects.proofs.Written.{written_length, bytes_placed}
 use Rattle.binary_follows.specs.Playable.{WritesBytes}
 use Rattle.replay_codes.specs.Stores.{memory_cut, with_own}
 use Rattle.binary_follows.proofs.EffectStores.{effect_beside}
@@ -171,19 +171,11 @@ module _ (m : Module) where
       go None whole h = absurd (none-some next h)
       go (Some memory) whole h =
           let a = map_some (with_memory store) (memory_with address bytes memory) next h in
-          let b =
-          map_some (λ (all : List ℕ). record memory { bytes = all })
-          (with_bytes_at memory.bytes address bytes) a.0 a.1 in
-          let c =
-          cond_some (nat_le (address + length bytes) (length memory.bytes))
-          (Some (with_items_at memory.bytes address bytes)) b.0 b.1 in
-          let d = c.0 in
-          let e : with_items_at memory.bytes address bytes ≡ b.0 = (let q = c.1 in cc) in
+          let placed = bytes_placed memory a.0 address bytes a.1 in
           subst (IsSound m) a.2
           (record {
             whole =
-                subst IsWhole (ap (λ all. record memory { bytes = all }) e ∙ b.2)
-                (written_whole memory address bytes (grind (arith, nat_tests, d)) whole);
+                subst IsWhole placed.1 (written_whole memory address bytes placed.0 whole);
             types = s.types;
           })
   effect_sound store next (GrowTable size) fits s h =

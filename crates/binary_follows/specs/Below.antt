@@ -1,7 +1,7 @@
 -- The laws of the crates below that the laws of replay modules stand on.
 use Rattle.outside_spec.specs.Laws.{ProjectionsRunAlong, ItemsHoldHistories, ItemsShowProjections}
 use Rattle.generated_steps.specs.Laws.{LeadsRunAlong, DispatchesReachArms, SelectorsCount}
-use Rattle.single_steps.specs.Laws.{LeadsEnd, LeadsShow, StepsLead, StepsEnd, StepsShow}
+use Rattle.single_steps.specs.Laws.{LeadsEnd, LeadsShow, StepsLead, StepsLeadOn}
 use Rattle.generated_effects.specs.Laws.{EffectsAreMade}
 use Rattle.observed_steps.specs.Laws.{ObservedStepsAreAlike, StoresAnswerThemselves}
 use Rattle.type_safety.specs.Laws.{NewStoresAreTyped}
@@ -13,9 +13,7 @@ pub record RunLaws : Type 0 where
   pub along : LeadsRunAlong
   pub end_after : LeadsEnd
   pub show_after : LeadsShow
-  pub leads : StepsLead
-  pub ends : StepsEnd
-  pub shows : StepsShow
+  pub single : StepsLeadOn
 
 -- the laws of steps
 pub record StepLaws : Type 0 where

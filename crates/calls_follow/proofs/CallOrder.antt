@@ -208,10 +208,15 @@ module _ (m : Module) (shape : HookedShape) (hooked : IsHooked m shape) where
       top (AtImport direct callee args ∷ levels) = refl
       top (AtCall direct callee entered args ∷ levels) = refl
 
+  -- values of a part of a function's type
+  abbrev TypedOrdered : (FuncType → List ValType) → Type 0
+  TypedOrdered part =
+      (func : ℕ) (values : List Val) (levels : List Level) (entries : ℕ) (view : Store)
+      → IsTypedFor m shape func part values
+      → AreOrdered shape (state levels [] entries) (renumbered m (told_values view values)) (state levels values entries)
+
   -- the arguments of a function
-  pub params_ordered : (func : ℕ) (args : List Val) (levels : List Level) (entries : ℕ) (view : Store)
-      → IsTypedFor m shape func (λ ty. ty.params) args
-      → AreOrdered shape (state levels [] entries) (renumbered m (told_values view args)) (state levels args entries)
+  pub params_ordered : TypedOrdered (λ ty. ty.params)
   params_ordered func args levels entries view typed =
       values_ordered levels entries view typed.ty.params args []
       (hooked.numbers func typed.ty typed.has_type).params typed.are
@@ -278,9 +283,7 @@ module _ (m : Module) (shape : HookedShape) (hooked : IsHooked m shape) where
       go false = (state levels [] entries, ends false, refl)
 
   -- the results of a function
-  pub results_ordered : (func : ℕ) (results : List Val) (levels : List Level) (entries : ℕ) (view : Store)
-      → IsTypedFor m shape func (λ ty. ty.results) results
-      → AreOrdered shape (state levels [] entries) (renumbered m (told_values view results)) (state levels results entries)
+  pub results_ordered : TypedOrdered (λ ty. ty.results)
   results_ordered func results levels entries view typed =
       values_ordered levels entries view typed.ty.results results []
       (hooked.numbers func typed.ty typed.has_type).results typed.are

@@ -3,7 +3,6 @@ use Rattle.std.proofs.Common.{◌≡◌, ℕ, zero, suc, ◌+◌, ◌-◌, List,
 use Rattle.std.specs.Prelude.{option_map, option_and_then}
 use Rattle.std.specs.Option.{option_flatten}
 use Rattle.std.specs.List.{AllByRecursion, slice_index_or}
-use Rattle.std.proofs.lemmas.List.{append_assoc}
 use Rattle.std.proofs.lemmas.Option.{none-some, same_Some}
 use Rattle.wasm_syntax.specs.declared.values.Val.{Val}
 use Rattle.wasm_syntax.specs.declared.values.ValType.{ValType}
@@ -11,11 +10,12 @@ use Rattle.wasm_syntax.specs.declared.values.ValType.TheVariants.{I32}
 use Rattle.wasm_syntax.specs.declared.signatures.FuncType.{FuncType}
 use Rattle.wasm_syntax.specs.declared.instructions.Instr.{Instr}
 use Rattle.wasm_syntax.specs.declared.instructions.Instr.TheVariants as instrs
-use Rattle.wasm_syntax.specs.declared.instructions.Instr.TheVariants.{Else, End}
 use Rattle.wasm_syntax.specs.declared.modules.Func.{Func}
 use Rattle.wasm_syntax.specs.declared.modules.Module.{Module}
 use Rattle.wasm_syntax.specs.Encoding.Forms.{IsCoreInstr, AreCoreInstrs, IsCoreModule}
-use Rattle.wasm_syntax.specs.Nest.{Nest, Empty, Plain, InBlock, InLoop, InIf, InIfElse, flat, nest_of}
+use Rattle.wasm_syntax.specs.Nest.{Nest, Empty, Plain, InBlock, InLoop, InIf, InIfElse, nest_of}
+use Rattle.type_safety.specs.Frames.{AllPlain}
+use Rattle.type_safety.proofs.Bodies.{all_in_body}
 use Rattle.wasm_syntax.specs.Alike.{same_signature}
 use Rattle.wasm_syntax.specs.Opcodes.{Access, load_of, store_of, numeric_shape}
 use Rattle.wasm_syntax.proofs.Nests.{body_of_nest}
@@ -38,44 +38,10 @@ use Rattle.history_spec.specs.Step.{Program, Progress, Running, progress_of, aft
 -- ---- bodies
 
 abbrev pub CoreNest : Nest → Type 0
-CoreNest Empty = Unit {0}
-CoreNest (Plain i rest) = IsCoreInstr i × CoreNest rest
-CoreNest (InBlock ty body rest) = CoreNest body × CoreNest rest
-CoreNest (InLoop ty body rest) = CoreNest body × CoreNest rest
-CoreNest (InIf ty body rest) = CoreNest body × CoreNest rest
-CoreNest (InIfElse ty body other rest) = CoreNest body × CoreNest other × CoreNest rest
-
-core_in_nest : (t : Nest) (more : List Instr) → AreCoreInstrs (flat t ++ more) → CoreNest t × AreCoreInstrs more
-core_in_nest Empty more h = (tt, h)
-core_in_nest (Plain i rest) more h =
-    let p = core_in_nest rest more h.1 in
-    ((h.0, p.0), p.1)
-core_in_nest (InBlock ty body rest) more h =
-    let p = core_in_nest body (End ∷ (flat rest ++ more))
-    (subst AreCoreInstrs (append_assoc (flat body) (End ∷ flat rest) more) h.1) in
-    let q = core_in_nest rest more p.1.1 in
-    ((p.0, q.0), q.1)
-core_in_nest (InLoop ty body rest) more h =
-    let p = core_in_nest body (End ∷ (flat rest ++ more))
-    (subst AreCoreInstrs (append_assoc (flat body) (End ∷ flat rest) more) h.1) in
-    let q = core_in_nest rest more p.1.1 in
-    ((p.0, q.0), q.1)
-core_in_nest (InIf ty body rest) more h =
-    let p = core_in_nest body (End ∷ (flat rest ++ more))
-    (subst AreCoreInstrs (append_assoc (flat body) (End ∷ flat rest) more) h.1) in
-    let q = core_in_nest rest more p.1.1 in
-    ((p.0, q.0), q.1)
-core_in_nest (InIfElse ty body other rest) more h =
-    let p = core_in_nest body (Else ∷ ((flat other ++ End ∷ flat rest) ++ more))
-    (subst AreCoreInstrs (append_assoc (flat body) (Else ∷ (flat other ++ End ∷ flat rest)) more) h.1) in
-    let o = core_in_nest other (End ∷ (flat rest ++ more))
-    (subst AreCoreInstrs (append_assoc (flat other) (End ∷ flat rest) more) p.1.1) in
-    let q = core_in_nest rest more o.1.1 in
-    ((p.0, o.0, q.0), q.1)
+CoreNest = AllPlain IsCoreInstr
 
 core_body : (body : List Instr) → AreCoreInstrs body → (nest : Nest) → nest_of body ≡ Some nest → CoreNest nest
-core_body body core nest h =
-    (core_in_nest nest (End ∷ []) (subst AreCoreInstrs (sym (body_of_nest nest body h).written) core)).0
+core_body body core nest h = all_in_body IsCoreInstr nest body core (body_of_nest nest body h)
 
 core_nest : (o : Option Nest) (f : Nest → Definition) (d : Definition) → ((nest : Nest) → (f nest).body ≡ nest)
     → ((nest : Nest) → o ≡ Some nest → CoreNest nest) → option_map f o ≡ Some d → CoreNest d.body

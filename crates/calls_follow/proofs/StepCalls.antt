@@ -241,6 +241,20 @@ module _ (shape : HookedShape) (n : ℕ) (globals : List GlobalType) (same_globa
       popped_is : (types : List ValType) (p : Operands) → pop types frame.values ≡ Some p → pop types values ≡ Some p
       popped_is types p h = ap (pop types) (sym same_values) ∙ h
 
+      -- a range of bytes is written, by three operands
+      range_told : (i : Instr) (written : Memory → Operands → Option (List ℕ))
+          → ((p : Operands) → pop (I32 ∷ I32 ∷ I32 ∷ []) values ≡ Some p
+          → seen (told_before i p.operands store) ≡ told (plain_observations store values i))
+          → ((view : Store) → told_after globals i [] view ≡ [])
+          → IsTold i
+          (on store.memory (λ memory. on (pop (I32 ∷ I32 ∷ I32 ∷ []) frame.values)
+          (λ p. store_result store frame next memory p.operands p.rest (written memory p))))
+      range_told i written before after =
+          on_told i store.memory _ (λ memory is.
+          on_told i (pop (I32 ∷ I32 ∷ I32 ∷ []) frame.values) _ (λ p e.
+          store_told code frame next i memory p.operands p.rest (before p (popped_is (I32 ∷ I32 ∷ I32 ∷ []) p e)) after
+          (written memory p)))
+
       pub plain_told : (i : Instr) → IsCoreInstr i → IsTold i (execute_plain code store frame next i)
       plain_told (instrs.Call func) h = called (execute_plain code store frame next (instrs.Call func))
         where
@@ -267,17 +281,11 @@ module _ (shape : HookedShape) (n : ℕ) (globals : List GlobalType) (same_globa
           (store_calls shape n globals store values p.operands access.ty at (popped (I32 ∷ access.ty ∷ []) values p (popped_is (I32 ∷ access.ty ∷ []) p e)))
           (λ view. refl) _)))
       plain_told instrs.MemoryCopy h =
-          on_told instrs.MemoryCopy store.memory _ (λ memory is.
-          on_told instrs.MemoryCopy (pop (I32 ∷ I32 ∷ I32 ∷ []) frame.values) _ (λ p e.
-          store_told code frame next instrs.MemoryCopy memory p.operands p.rest
-          (copy_calls shape n globals store values p.operands (popped (I32 ∷ I32 ∷ I32 ∷ []) values p (popped_is (I32 ∷ I32 ∷ I32 ∷ []) p e)))
-          (λ view. refl) _))
+          range_told instrs.MemoryCopy _ (λ p e. copy_calls shape n globals store values p.operands
+          (popped (I32 ∷ I32 ∷ I32 ∷ []) values p e)) (λ view. refl)
       plain_told instrs.MemoryFill h =
-          on_told instrs.MemoryFill store.memory _ (λ memory is.
-          on_told instrs.MemoryFill (pop (I32 ∷ I32 ∷ I32 ∷ []) frame.values) _ (λ p e.
-          store_told code frame next instrs.MemoryFill memory p.operands p.rest
-          (fill_calls shape n globals store values p.operands (popped (I32 ∷ I32 ∷ I32 ∷ []) values p (popped_is (I32 ∷ I32 ∷ I32 ∷ []) p e)))
-          (λ view. refl) _))
+          range_told instrs.MemoryFill _ (λ p e. fill_calls shape n globals store values p.operands
+          (popped (I32 ∷ I32 ∷ I32 ∷ []) values p e)) (λ view. refl)
       plain_told instrs.MemorySize h =
           on_told instrs.MemorySize store.memory _ (λ memory is. record { told = size_calls shape n globals store values })
       plain_told instrs.MemoryGrow h =

@@ -231,23 +231,27 @@ module _ (m : Module) (shape : HookedShape) (is : IsShapeOf m shape) where
           ap (λ o. fits_global o bits) (ap (λ gs. slice_get gs x) is.globals ∙ there)
           ∙ and_true g.mutable (bits_fit g.ty bits) mutable fits
 
-      get_tells : (x bits : ℕ) (view : Store) → fits_global (slice_get shape.globals x) bits ≡ true
-          → AreTellable m shape (told_global Gget x bits view)
-      get_tells x bits view fits = (
-        tellable Gget (i32_value x ∷ record { ty = I64; bits = bits } ∷ []) view refl
-            (λ order may. stays_here order (fits_global (slice_get shape.globals x) bits) may fits)
-            (λ n pending now. refl) refl,
-        tt,
-      )
+      -- to tell of a global whose bits fit
+      abbrev TellsGlobal : Hook → Type 0
+      TellsGlobal kind =
+          (x bits : ℕ) (view : Store) → fits_global (slice_get shape.globals x) bits ≡ true
+          → AreTellable m shape (told_global kind x bits view)
 
-      set_tells : (x bits : ℕ) (view : Store) → fits_global (slice_get shape.globals x) bits ≡ true
-          → AreTellable m shape (told_global Gset x bits view)
-      set_tells x bits view fits = (
-        tellable Gset (i32_value x ∷ record { ty = I64; bits = bits } ∷ []) view refl
-            (λ order may. stays_here order (fits_global (slice_get shape.globals x) bits) may fits)
-            (λ n pending now. refl) refl,
-        tt,
-      )
+      abbrev global_args : (x bits : ℕ) → List Val
+      global_args x bits = i32_value x ∷ record { ty = I64; bits = bits } ∷ []
+
+      -- what the order asks of one
+      global_stays : (x bits : ℕ) → fits_global (slice_get shape.globals x) bits ≡ true → (order : OrderState)
+          → may_tell order ≡ true → stays order (fits_global (slice_get shape.globals x) bits) ≡ Some order
+      global_stays x bits fits order may = stays_here order (fits_global (slice_get shape.globals x) bits) may fits
+
+      get_tells : TellsGlobal Gget
+      get_tells x bits view fits =
+          (tellable Gget (global_args x bits) view refl (global_stays x bits fits) (λ n pending now. refl) refl, tt)
+
+      set_tells : TellsGlobal Gset
+      set_tells x bits view fits =
+          (tellable Gset (global_args x bits) view refl (global_stays x bits fits) (λ n pending now. refl) refl, tt)
 
     -- ---- any instruction but calls
 
@@ -308,6 +312,21 @@ module _ (m : Module) (shape : HookedShape) (is : IsShapeOf m shape) where
                 (ap (λ ty. bits_fit ty value.bits) (sym typed) ∙ fits)));
           }
 
+      -- one that writes a range of the memory, which three operands tell
+      range_well : (i : Instr) (written : Memory → Operands → Option (List ℕ))
+          → ((memory : Memory) → store.memory ≡ Some memory → (operands : List Val)
+          → types_of operands ≡ I32 ∷ I32 ∷ I32 ∷ [] → AreTellable m shape (told_before i operands store))
+          → ((view : Store) → told_after (all_globals m) i [] view ≡ [])
+          → TellsWell i
+          (on store.memory (λ memory. on (pop (I32 ∷ I32 ∷ I32 ∷ []) frame.values)
+          (λ p. store_result store frame next memory p.operands p.rest (written memory p))))
+      range_well i written before after =
+          on_well i store.memory _ (λ memory here.
+          on_well i (pop (I32 ∷ I32 ∷ I32 ∷ []) frame.values) _ (λ p e.
+          store_well code frame next i memory p.operands p.rest
+          (before memory here p.operands (popped (I32 ∷ I32 ∷ I32 ∷ []) frame.values p e).typed) after
+          (written memory p)))
+
       pub plain_well : (i : Instr) → IsCoreInstr i → IsNoCall (Some i) → SetsMutable i
           → TellsWell i (execute_plain code store frame next i)
       plain_well (instrs.Call func) h none sets = absurd none
@@ -343,21 +362,15 @@ module _ (m : Module) (shape : HookedShape) (is : IsShapeOf m shape) where
           ))
           (λ view. refl) _)))
       plain_well instrs.MemoryCopy h none sets =
-          on_well instrs.MemoryCopy store.memory _ (λ memory here.
-          on_well instrs.MemoryCopy (pop (I32 ∷ I32 ∷ I32 ∷ []) frame.values) _ (λ p e.
-          store_well code frame next instrs.MemoryCopy memory p.operands p.rest (
-            copy_tells code frame next (memory_here memory here) p.operands store
-                (popped (I32 ∷ I32 ∷ I32 ∷ []) frame.values p e).typed,
+          range_well instrs.MemoryCopy _ (λ memory here operands t. (
+            copy_tells code frame next (memory_here memory here) operands store t,
             tt,
-          ) (λ view. refl) _))
+          )) (λ view. refl)
       plain_well instrs.MemoryFill h none sets =
-          on_well instrs.MemoryFill store.memory _ (λ memory here.
-          on_well instrs.MemoryFill (pop (I32 ∷ I32 ∷ I32 ∷ []) frame.values) _ (λ p e.
-          store_well code frame next instrs.MemoryFill memory p.operands p.rest (
-            fill_tells code frame next (memory_here memory here) p.operands store
-                (popped (I32 ∷ I32 ∷ I32 ∷ []) frame.values p e).typed,
+          range_well instrs.MemoryFill _ (λ memory here operands t. (
+            fill_tells code frame next (memory_here memory here) operands store t,
             tt,
-          ) (λ view. refl) _))
+          )) (λ view. refl)
       plain_well instrs.MemorySize h none sets =
           on_well instrs.MemorySize store.memory _ (λ memory here.
           record { tells = (size_tells code frame next (memory_here memory here) store, tt) })

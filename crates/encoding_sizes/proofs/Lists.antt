@@ -5,7 +5,6 @@ use Rattle.std.proofs.lemmas.List.{length-append, length-map, get_or-map}
 use Rattle.leb_bytes.specs.Unsigned.{u32_bytes}
 use Rattle.wasm_syntax.specs.declared.forms.Form.{Form}
 use Rattle.wasm_syntax.specs.declared.signatures.FuncType.{FuncType}
-use Rattle.wasm_syntax.specs.declared.instructions.Instr.TheVariants as instr
 use Rattle.wasm_syntax.specs.declared.modules.Import.{Import}
 use Rattle.wasm_syntax.specs.declared.modules.Func.{Func}
 use Rattle.wasm_syntax.specs.declared.modules.Module.{Module}

@@ -6,8 +6,8 @@ use Rattle.leb_bytes.specs.Unsigned.{u32_bytes}
 use Rattle.wasm_syntax.specs.declared.modules.Module.{Module}
 use Rattle.wasm_syntax.specs.Encoding.Sections.{Section, CustomSection, TypeSection, ImportSection, FunctionSection, TableSection, MemorySection, GlobalSection, ExportSection, StartSection, ElementSection, CodeSection, DataSection}
 use Rattle.wasm_syntax.specs.Encoding.Modules.{preamble, code_of}
-use Rattle.wasm_syntax.specs.Encoding.Shortest.{func_type_bytes, import_bytes, global_bytes, export_bytes, code_bytes, content_bytes, section_bytes, unless_empty, sections_of, encoding_of}
-use Rattle.encoding_sizes.proofs.Items.{items, items_append, list_least, IsVectorOf}
+use Rattle.wasm_syntax.specs.Encoding.Shortest.{func_type_bytes, import_bytes, table_type_bytes, limits_bytes, global_bytes, export_bytes, elem_bytes, code_bytes, data_bytes, content_bytes, section_bytes, unless_empty, sections_of, encoding_of}
+use Rattle.encoding_sizes.proofs.Items.{items, items_append, list_least, list_most, IsVectorOf}
 
 -- ---- all of them
 
@@ -69,44 +69,57 @@ encoding_parts m =
 
 -- ---- the sections that are vectors
 
-pub types_are : IsVectorOf TypeSection func_type_bytes
-unfolding content_bytes
-types_are xs = refl
+-- how the items of each such section are written
+pub record AreVectors : Type 0 where
+  pub types : IsVectorOf TypeSection func_type_bytes
+  pub imports : IsVectorOf ImportSection import_bytes
+  pub functions : IsVectorOf FunctionSection u32_bytes
+  pub tables : IsVectorOf TableSection table_type_bytes
+  pub memories : IsVectorOf MemorySection limits_bytes
+  pub globals : IsVectorOf GlobalSection global_bytes
+  pub exports : IsVectorOf ExportSection export_bytes
+  pub elems : IsVectorOf ElementSection elem_bytes
+  pub codes : IsVectorOf CodeSection code_bytes
+  pub datas : IsVectorOf DataSection data_bytes
 
-pub imports_are : IsVectorOf ImportSection import_bytes
+pub vectors : AreVectors
 unfolding content_bytes
-imports_are xs = refl
+vectors = record {
+  types = λ xs. refl;
+  imports = λ xs. refl;
+  functions = λ xs. refl;
+  tables = λ xs. refl;
+  memories = λ xs. refl;
+  globals = λ xs. refl;
+  exports = λ xs. refl;
+  elems = λ xs. refl;
+  codes = λ xs. refl;
+  datas = λ xs. refl;
+}
 
-pub functions_are : IsVectorOf FunctionSection u32_bytes
-unfolding content_bytes
-functions_are xs = refl
+-- the section of a list takes its items' bytes at least, and few more
+part_least : {A : Type 0} (make : List A → Section) (write : A → List ℕ) → IsVectorOf make write → (xs : List A)
+    → items write xs ≤ part (unless_empty make xs)
+part_least make write is xs = omega (arith, part_is (unless_empty make xs), list_least make write is xs)
 
-pub globals_are : IsVectorOf GlobalSection global_bytes
-unfolding content_bytes
-globals_are xs = refl
+pub part_most : {A : Type 0} (make : List A → Section) (write : A → List ℕ) → IsVectorOf make write → (xs : List A)
+    → part (unless_empty make xs) ≤ 11 + items write xs
+part_most make write is xs = omega (arith, part_is (unless_empty make xs), list_most make write is xs)
 
-pub exports_are : IsVectorOf ExportSection export_bytes
-unfolding content_bytes
-exports_are xs = refl
-
-pub codes_are : IsVectorOf CodeSection code_bytes
-unfolding content_bytes
-codes_are xs = refl
-
--- an encoding is no shorter than the items of types, imports, functions and code
+-- an encoding is no shorter than what stands in its sections
 pub encoding_least : (m : Module)
     → 8 + items func_type_bytes m.types + items import_bytes m.imports
-    + items u32_bytes (map (λ func. func.ty) m.funcs) + items code_bytes (map code_of m.funcs)
+    + items u32_bytes (map (λ func. func.ty) m.funcs) + items global_bytes m.globals + items elem_bytes m.elems
+    + items code_bytes (map code_of m.funcs) + items data_bytes m.datas
     ≤ length (encoding_of m)
 encoding_least m = omega (
   arith,
   encoding_parts m,
-  part_is (unless_empty TypeSection m.types),
-  list_least TypeSection func_type_bytes types_are m.types,
-  part_is (unless_empty ImportSection m.imports),
-  list_least ImportSection import_bytes imports_are m.imports,
-  part_is (unless_empty FunctionSection (map (λ func. func.ty) m.funcs)),
-  list_least FunctionSection u32_bytes functions_are (map (λ func. func.ty) m.funcs),
-  part_is (unless_empty CodeSection (map code_of m.funcs)),
-  list_least CodeSection code_bytes codes_are (map code_of m.funcs),
+  part_least TypeSection func_type_bytes vectors.types m.types,
+  part_least ImportSection import_bytes vectors.imports m.imports,
+  part_least FunctionSection u32_bytes vectors.functions (map (λ func. func.ty) m.funcs),
+  part_least GlobalSection global_bytes vectors.globals m.globals,
+  part_least ElementSection elem_bytes vectors.elems m.elems,
+  part_least CodeSection code_bytes vectors.codes (map code_of m.funcs),
+  part_least DataSection data_bytes vectors.datas m.datas,
 )

@@ -1,6 +1,6 @@
 -- The functions that generated code refers to are functions of the original.
 use Rattle.std.proofs.Common.{◌≡◌, ℕ, zero, suc, ◌+◌, ◌*◌, ◌<◌, List, [], ◌∷◌, ◌++◌, length, map, Option, Some, None, true, arith}
-use Rattle.std.specs.Prelude.{drop, filter_map, nat_lt, replicate, take}
+use Rattle.std.specs.Prelude.{drop, filter_map, nat_lt, take}
 use Rattle.std.specs.Option.{option_to_list}
 use Rattle.std.specs.List.{AllByRecursion, cons_option, list_all, range_with_len}
 use Rattle.std.proofs.lemmas.Bool.Decides.{nat_tests}
@@ -9,9 +9,8 @@ use Rattle.list_laws.proofs.Lists.{joined_all}
 use Rattle.wasm_opcodes.specs.declared.TheConstants.{I32_DIV_U, I32_REM_U}
 use Rattle.wasm_syntax.specs.declared.values.Val.{Val}
 use Rattle.wasm_syntax.specs.declared.values.ValType.{ValType}
-use Rattle.wasm_syntax.specs.declared.signatures.FuncType.{FuncType}
 use Rattle.wasm_syntax.specs.declared.instructions.Instr.{Instr}
-use Rattle.wasm_syntax.specs.declared.instructions.Instr.TheVariants.{Call, Const, Drop, LocalGet, Numeric, RefFunc, Return}
+use Rattle.wasm_syntax.specs.declared.instructions.Instr.TheVariants.{Call, Const, LocalGet, Numeric, RefFunc, Return}
 use Rattle.wasm_syntax.specs.declared.modules.Func.{Func}
 use Rattle.wasm_syntax.specs.declared.modules.Module.{Module}
 use Rattle.wasm_syntax.specs.Encoding.Forms.{AreCoreInstrs, IsCoreInstr, IsCoreModule}
@@ -31,7 +30,7 @@ use Rattle.replay_gen.specs.Fragments.{helper_funcs, import_bodies, import_types
 use Rattle.replay_gen.specs.Segments.{drops, effects_code, next_code, segments_code}
 use Rattle.replay_plan.specs.declared.plans.Plan.{Plan}
 use Rattle.replay_modules.specs.Plans.{AreFit, CallsFit, PlanFits}
-use Rattle.replay_sizes.proofs.Arms.{body_all, dispatch_all, sequence_all}
+use Rattle.replay_sizes.proofs.Arms.{body_all, dispatch_all, sequence_all, dropped_all}
 use Rattle.replay_sizes.proofs.FittingCode.{parts_all}
 
 module _ (below : ℕ) where
@@ -64,14 +63,6 @@ module _ (below : ℕ) where
   constants_refer : (values : List Val) → AllRefer (map Const values)
   constants_refer [] = tt
   constants_refer (value ∷ values) = (tt, constants_refer values)
-
-  drops_refer : (count : ℕ) → AllRefer (replicate count Drop)
-  drops_refer zero = tt
-  drops_refer (suc count) = (tt, drops_refer count)
-
-  dropped_refer : (ty : Option FuncType) → AllRefer (drops ty)
-  dropped_refer None = tt
-  dropped_refer (Some ty) = drops_refer (length ty.results)
 
   stores_refer : (widths : List Width) (address : ℕ) (bytes : List ℕ) → AllRefer (stores_code widths address bytes)
   stores_refer [] address bytes = tt
@@ -108,7 +99,7 @@ module _ (m : Module) where
       (constants_refer (start_index m) args) (
         tt,
         joined_all (RefersBelow (start_index m)) (drops (func_type m func)) after
-            (dropped_refer (start_index m) (func_type m func)) later,
+            (dropped_all (RefersBelow (start_index m)) tt (func_type m func)) later,
       )
   next_refers (Returns result) after later =
       joined_all (RefersBelow (start_index m)) (map Const (option_to_list result)) (Return ∷ [])

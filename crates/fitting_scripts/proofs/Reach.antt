@@ -15,10 +15,13 @@ use Rattle.wasm_syntax.specs.declared.modules.ExportKind.TheVariants.{Func, Tabl
 use Rattle.wasm_syntax.specs.Alike.{same_type}
 use Rattle.wasm_syntax.specs.Index.{of_kind, memory_import, table_import, func_indices, all_globals}
 use Rattle.wasm_syntax.specs.Typing.{is_constant}
+use Rattle.wasm_syntax.specs.declared.signatures.Limits.{Limits}
 use Rattle.wasm_syntax.specs.Validity.{IsThere, IsValid}
 use Rattle.host_script.specs.Fits.{HasMemory, HasTable, IsSettable}
 use Rattle.script_text.specs.declared.faults.ScriptFault.TheVariants.{NoAccess, WrongType}
-use Rattle.module_names.specs.Names.{is_kind, imports_some, exports_some, func_export, memory_export, table_export, exported_func, reaches_memory, reaches_table}
+use Rattle.module_names.specs.Names.{is_kind, imports_some, exports_some, index_in, exported_func, reaches_memory, reaches_table}
+use Rattle.module_names.specs.declared.index_spaces.Space.{Space}
+use Rattle.module_names.specs.declared.index_spaces.Space.TheVariants.{Funcs, Memories, Tables}
 use Rattle.script_text.specs.Actions.{memory_access, table_access, index_or_unknown, func_named, is_set_by, fits_global}
 use Rattle.fitting_scripts.proofs.Steps.{ok_one, some_one, passed}
 use Rattle.wasm_syntax.proofs.ValTypes.{type_same}
@@ -39,24 +42,24 @@ some_imported {K} pick (x ∷ xs) h = by (pick x.kind) h (some_imported pick xs)
     by (Some k) h later = omega arith
 
 -- something of a kind is exported, and is there
-some_exported : (P : Type 0) (pick : ExportKind → Option ℕ) (m : Module)
-    → ((kind : ExportKind) (x : ℕ) → pick kind ≡ Some x → IsThere m kind → P)
-    → (exports : List Export) → All (λ e. IsThere m e.kind) exports → list_any (λ e. is_some (pick e.kind)) exports ≡ true → P
-some_exported P pick m holds [] there h = cc h
-some_exported P pick m holds (e ∷ es) there h = by (pick e.kind) refl h (some_exported P pick m holds es (All-tail (λ e. IsThere m e.kind) e es there))
+some_exported : (P : Type 0) (space : Space) (m : Module)
+    → ((kind : ExportKind) (x : ℕ) → index_in space kind ≡ Some x → IsThere m kind → P)
+    → (exports : List Export) → All (λ e. IsThere m e.kind) exports → list_any (λ e. is_some (index_in space e.kind)) exports ≡ true → P
+some_exported P space m holds [] there h = cc h
+some_exported P space m holds (e ∷ es) there h = by (index_in space e.kind) refl h (some_exported P space m holds es (All-tail (λ e. IsThere m e.kind) e es there))
   where
-    by : (o : Option ℕ) → pick e.kind ≡ o → (is_some o || list_any (λ e. is_some (pick e.kind)) es) ≡ true
-        → (list_any (λ e. is_some (pick e.kind)) es ≡ true → P) → P
+    by : (o : Option ℕ) → index_in space e.kind ≡ o → (is_some o || list_any (λ e. is_some (index_in space e.kind)) es) ≡ true
+        → (list_any (λ e. is_some (index_in space e.kind)) es ≡ true → P) → P
     by None is h later = later h
     by (Some x) is h later = holds e.kind x is (All-head (λ e. IsThere m e.kind) e es there)
 
-memory_there : (m : Module) (kind : ExportKind) (x : ℕ) → memory_export kind ≡ Some x → IsThere m kind → HasMemory m
+memory_there : (m : Module) (kind : ExportKind) (x : ℕ) → index_in Memories kind ≡ Some x → IsThere m kind → HasMemory m
 memory_there m (Func i) x is there = cc is
 memory_there m (Table i) x is there = cc is
 memory_there m (Memory i) x is there = omega (arith, there)
 memory_there m (Global i) x is there = cc is
 
-table_there : (m : Module) (kind : ExportKind) (x : ℕ) → table_export kind ≡ Some x → IsThere m kind → HasTable m
+table_there : (m : Module) (kind : ExportKind) (x : ℕ) → index_in Tables kind ≡ Some x → IsThere m kind → HasTable m
 table_there m (Func i) x is there = cc is
 table_there m (Table i) x is there = omega (arith, there)
 table_there m (Memory i) x is there = cc is
@@ -66,19 +69,22 @@ some_first : {A : Type 0} (xs ys : List A) → 0 < length xs → 0 < length (xs 
 some_first (x ∷ xs) ys h = omega arith
 some_first [] ys h = absurd (omega (arith, h))
 
+-- a memory, or a table, that is imported or exported is there
+reached : (m : Module) (pick : ImportKind → Option Limits) (space : Space) (own : List Limits) → IsValid m
+    → ((kind : ExportKind) (x : ℕ) → index_in space kind ≡ Some x → IsThere m kind → 0 < length (of_kind pick m.imports ++ own))
+    → (imports_some pick m || exports_some space m) ≡ true → 0 < length (of_kind pick m.imports ++ own)
+reached m pick space own valid there h =
+    ⊎_elim (λ i. some_first (of_kind pick m.imports) own (some_imported pick m.imports i))
+    (λ e. some_exported (0 < length (of_kind pick m.imports ++ own)) space m there m.exports valid.outside.exports e)
+    (or_cases (imports_some pick m) (exports_some space m) h)
+
 pub has_memory : (m : Module) (t : ⊤) → IsValid m → memory_access m ≡ Ok t → HasMemory m
 unfolding memory_access
-has_memory m t valid h =
-    ⊎_elim (λ i. some_first (of_kind memory_import m.imports) m.memories (some_imported memory_import m.imports i))
-    (λ e. some_exported (HasMemory m) memory_export m (memory_there m) m.exports valid.outside.exports e)
-    (or_cases (imports_some memory_import m) (exports_some memory_export m) (passed (reaches_memory m) (Ok tt) _ t h).0)
+has_memory m t valid h = reached m memory_import Memories m.memories valid (memory_there m) (passed (reaches_memory m) (Ok tt) _ t h).0
 
 pub has_table : (m : Module) (t : ⊤) → IsValid m → table_access m ≡ Ok t → HasTable m
 unfolding table_access
-has_table m t valid h =
-    ⊎_elim (λ i. some_first (of_kind table_import m.imports) m.tables (some_imported table_import m.imports i))
-    (λ e. some_exported (HasTable m) table_export m (table_there m) m.exports valid.outside.exports e)
-    (or_cases (imports_some table_import m) (exports_some table_export m) (passed (reaches_table m) (Ok tt) _ t h).0)
+has_table m t valid h = reached m table_import Tables m.tables valid (table_there m) (passed (reaches_table m) (Ok tt) _ t h).0
 
 -- ---- functions
 
@@ -91,7 +97,7 @@ found_holds P test (x ∷ xs) a all h = by (test x) h (found_holds P test xs a (
     by true h later = subst P (some_one x a h) (All-head P x xs all)
     by false h later = later h
 
-func_there : (m : Module) (kind : ExportKind) (f : ℕ) → IsThere m kind → func_export kind ≡ Some f
+func_there : (m : Module) (kind : ExportKind) (f : ℕ) → IsThere m kind → index_in Funcs kind ≡ Some f
     → f < length (func_indices m)
 func_there m (Func x) f there h = subst (λ f. f < length (func_indices m)) (some_one x f h) there
 func_there m (Table x) f there h = cc h
@@ -103,7 +109,7 @@ pub exported_there : (m : Module) (name : List ℕ) (f : ℕ) → IsValid m → 
 exported_there m name f valid h = by (find (λ e. bytes_eq e.name name) m.exports) refl h
   where
     by : (o : Option Export) → find (λ e. bytes_eq e.name name) m.exports ≡ o
-        → option_and_then func_export (option_map (λ e. e.kind) o) ≡ Some f → f < length (func_indices m)
+        → option_and_then (index_in Funcs) (option_map (λ e. e.kind) o) ≡ Some f → f < length (func_indices m)
     by None is h = cc h
     by (Some e) is h = func_there m e.kind f (found_holds (λ e. IsThere m e.kind) (λ e. bytes_eq e.name name) m.exports e valid.outside.exports is) h
 

@@ -1,6 +1,5 @@
 -- The code of effects does them, one after the other.
-use Rattle.std.proofs.Common.{◌≡◌, ◌*◌, ◌≤◌, List, [], ◌∷◌, ◌++◌, Some, refl, sym, ap, ◌∙◌, subst, arith}
-use Rattle.std.specs.Prelude.{sum_by}
+use Rattle.std.proofs.Common.{◌≡◌, List, [], ◌∷◌, ◌++◌, Some, refl, sym, ap, ◌∙◌, subst, arith}
 use Rattle.std.proofs.lemmas.List.Sums.{sum_by-cons}
 use Rattle.list_laws.proofs.Options.{and_then_some}
 use Rattle.wasm_syntax.specs.Nest.{Plain}
@@ -14,8 +13,8 @@ use Rattle.outside_spec.specs.Items.{Item, entries_in}
 use Rattle.outside_spec.specs.Stretches.{AreSameChanges}
 use Rattle.generated_steps.specs.Leads.{Watched, IsOutside, Standing}
 use Rattle.generated_steps.proofs.Along.{entries_over}
-use Rattle.generated_effects.specs.Counts.{changes_in, steps_in}
-use Rattle.generated_effects.specs.Laws.{AreWritable, AllGrowSizes, EffectsAreMade}
+use Rattle.generated_effects.specs.Counts.{changes_in}
+use Rattle.generated_effects.specs.Laws.{AreItemsOf, AreWritable, EffectsAreMade}
 use Rattle.generated_effects.proofs.Does.{Does, does_nothing, does_both}
 use Rattle.generated_effects.proofs.Items.{changes_of_both, steps_of_both, blocks_of_both}
 use Rattle.generated_effects.proofs.Same.{same_both, same_is}
@@ -25,10 +24,7 @@ use Rattle.generated_effects.proofs.Each.{effect_made}
 record AreMade (w : Watched) (s : Standing) (store after : Store) (effects : List Effect) : Type 0 where
   pub items : List Item
   pub does : Does w s store after [] [] (effects_code effects) items
-  pub silent : entries_in items ≡ []
-  pub changes : AllGrowSizes store effects → AreSameChanges (changes_in items) effects
-  pub steps : (steps_in items).steps ≤ 8 * sum_by effect_weight effects
-  pub blocks : (steps_in items).blocks ≡ 0
+  pub told : AreItemsOf store effects items
 
 module _ (w : Watched) (s : Standing) (outside : IsOutside w.layout s.frame.func) where
   are_made : (store after : Store) (effects : List Effect) → AreWritable w.globals store effects
@@ -39,10 +35,7 @@ module _ (w : Watched) (s : Standing) (outside : IsOutside w.layout s.frame.func
       (record {
         items = [];
         does = does_nothing w s store [];
-        silent = refl;
-        changes = λ any. same_is [] [] refl;
-        steps = omega arith;
-        blocks = refl;
+        told = record { silent = refl; changes = λ any. same_is [] [] refl; steps = omega arith; blocks = refl };
       })
   are_made store after (effect ∷ effects) can h =
       let b = and_then_some (store_after_effect store effect) (store_after_effects effects) after h in
@@ -54,36 +47,30 @@ module _ (w : Watched) (s : Standing) (outside : IsOutside w.layout s.frame.func
         does =
             does_both w s store next after [] [] [] (effect_code effect) (effects_code effects) one.items more.items
             one.does more.does;
-        silent =
-            entries_over one.items more.items
-            ∙ ap (λ l. l ++ entries_in more.items) one.silent ∙ more.silent;
-        changes = λ grows.
-            subst (λ l. AreSameChanges l (effect ∷ effects)) (sym (changes_of_both one.items more.items))
-            (same_both (effect ∷ []) effects (changes_in one.items) (changes_in more.items) (one.changes grows.0)
-            (more.changes (grows.1 next b.1)));
-        steps =
-            let sum = steps_of_both one.items more.items in
-            let first = one.steps in
-            let second = more.steps in
-            let all = sum_by-cons effect_weight effect effects in
-            omega (arith, sum, first, second, all);
-        blocks =
-            let sum = blocks_of_both one.items more.items in
-            let first = one.blocks in
-            let second = more.blocks in
-            omega (arith, sum, first, second);
+        told = record {
+          silent =
+              entries_over one.items more.items
+              ∙ ap (λ l. l ++ entries_in more.items) one.silent ∙ more.told.silent;
+          changes = λ grows.
+              subst (λ l. AreSameChanges l (effect ∷ effects)) (sym (changes_of_both one.items more.items))
+              (same_both (effect ∷ []) effects (changes_in one.items) (changes_in more.items) (one.changes grows.0)
+              (more.told.changes (grows.1 next b.1)));
+          steps =
+              let sum = steps_of_both one.items more.items in
+              let first = one.steps in
+              let second = more.told.steps in
+              let all = sum_by-cons effect_weight effect effects in
+              omega (arith, sum, first, second, all);
+          blocks =
+              let sum = blocks_of_both one.items more.items in
+              let first = one.blocks in
+              let second = more.told.blocks in
+              omega (arith, sum, first, second);
+        };
       }
 
 pub effects_made : EffectsAreMade
 effects_made w s store after effects labels i rest number outside can h =
     let all = are_made w s outside store after effects can h in
     let here = all.does labels (Plain i rest) number refl in
-    record {
-      items = all.items;
-      at = here.at;
-      leads = here.leads;
-      silent = all.silent;
-      changes = all.changes;
-      steps = all.steps;
-      blocks = all.blocks;
-    }
+    record { items = all.items; at = here.at; leads = here.leads; told = all.told }

@@ -12,19 +12,21 @@ use Rattle.wasm_syntax.specs.declared.values.Val.{Val}
 use Rattle.trace_model.specs.declared.tapes.Effect.{Effect}
 use Rattle.trace_model.specs.declared.tapes.Effect.TheVariants.{Grow, Table as GrowTable, Bytes, Entry as SetEntry, Global}
 use Rattle.trace_model.specs.Weight.{effect_weight}
-use Rattle.history_spec.specs.Store.{Store, Memory, Table, pages, zeros, grown_memory, grown_memory_if, grown_table, grown_table_if, with_bytes_at, with_items_at, with_entry, with_memory, with_table, with_global}
+use Rattle.history_spec.specs.Store.{Store, Memory, Table, pages, zeros, grown_memory, grown_memory_if, grown_table, grown_table_if, with_entry, with_memory, with_table, with_global}
 use Rattle.replay_spec.specs.TapeRun.{memory_of_size, table_of_size, memory_with, table_with, store_after_effect}
 use Rattle.replay_gen.specs.Effects.{Width, Eight, Four, Two, One, byte_count, store_widths, effect_code}
 use Rattle.outside_spec.specs.Items.{Item, Changes, Steps, change_at, entries_in, global_change, page_count, entry_count, MemorySize as OfMemory, TableSize as OfTable}
 use Rattle.outside_spec.specs.Stretches.{AreSameChanges}
 use Rattle.outside_spec.specs.Steps.{StepCount}
+use Rattle.replay_gen.proofs.Widths.{counts_of, counts_of_all}
 use Rattle.generated_steps.specs.Leads.{Watched, IsOutside, Standing}
 use Rattle.generated_effects.specs.Bytes.{AreBytes}
 use Rattle.generated_effects.specs.Counts.{changes_in, steps_in}
 use Rattle.generated_effects.specs.Laws.{IsWritable, GrowsSize}
 use Rattle.generated_effects.proofs.Does.{Does}
 use Rattle.generated_effects.proofs.Stored.{memory_with_bytes, stores_items}
-use Rattle.generated_effects.proofs.Runs.{counts_of, counts_of_all, stores_run, split}
+use Rattle.generated_effects.proofs.Written.{bytes_placed}
+use Rattle.generated_effects.proofs.Runs.{stores_run, split}
 use Rattle.generated_effects.proofs.Effects.{does_global, does_entry, set_there}
 use Rattle.generated_effects.proofs.Growth.{does_growth}
 use Rattle.generated_effects.proofs.TableGrowth.{does_table_growth}
@@ -104,11 +106,11 @@ stores_same : (widths : List Width) (address : ℕ) (bytes : List ℕ) → lengt
     → AreSameChanges (changes_in (stores_items widths address bytes)) (Bytes address bytes ∷ [])
 stores_same [] address [] long =
     record {
-      bytes = λ at. nothing at (nat_le address at);
-      entries = λ at. refl;
-      globals = λ at. refl;
       pages = refl;
-      size = refl;
+      entries = refl;
+      byte = λ at. nothing at (nat_le address at);
+      entry = λ at. refl;
+      global = λ at. refl;
     }
   where
     nothing : (at : ℕ) (b : Bool) → ◌≡◌ {A = Option ℕ} None (cond b (slice_get [] (at - address)) None)
@@ -128,163 +130,155 @@ stores_same (width ∷ widths) address bytes long =
 
 -- ---- each
 
+-- a part of a store that an effect changes: what was there, and what is there after
+record PartChanged (X : Type 0) (put : X → Store) (change : X → Option X) (o : Option X) (after : Store) : Type 0 where
+  part : X
+  there : o ≡ Some part
+  changed : X
+  is : change part ≡ Some changed
+  left : put changed ≡ after
+
+part_changed : {X : Type 0} (put : X → Store) (change : X → Option X) (o : Option X) (after : Store)
+    → option_map put (option_and_then change o) ≡ Some after → PartChanged X put change o after
+part_changed put change None after h = absurd (none-some after h)
+part_changed put change (Some part) after h =
+    let m = map_some put (change part) after h in
+    record { part = part; there = refl; changed = m.0; is = m.1; left = m.2 }
+
+-- changes, and the step after them
+record AreGrowth (cs : List Effect) : Type 0 where
+  silent : entries_in (map Changes cs ++ Steps false ∷ []) ≡ []
+  changes : changes_in (map Changes cs ++ Steps false ∷ []) ≡ cs
+  steps : (steps_in (map Changes cs ++ Steps false ∷ [])).steps ≡ 1
+  blocks : (steps_in (map Changes cs ++ Steps false ∷ [])).blocks ≡ 0
+
+are_growth : (cs : List Effect) → AreGrowth cs
+are_growth cs = record {
+  silent = changes_silent cs (Steps false ∷ []);
+  changes = changes_there cs (Steps false ∷ []) ∙ append-nil cs;
+  steps = ap (λ (c : StepCount). c.steps) (changes_still cs (Steps false ∷ []));
+  blocks = ap (λ (c : StepCount). c.blocks) (changes_still cs (Steps false ∷ []));
+}
+
 module _ (w : Watched) (s : Standing) (outside : IsOutside w.layout s.frame.func) (store after : Store) where
-  grow_made : (size : ℕ) → size < 2 ^ 32 → store_after_effect store (Grow size) ≡ Some after
-      → IsMade w s store after (Grow size)
-  grow_made size small h = go store.memory refl h
-    where
-      go : (o : Option Memory) → store.memory ≡ o
-          → option_map (with_memory store) (option_and_then (memory_of_size size) o) ≡ Some after
-          → IsMade w s store after (Grow size)
-      go None e h = absurd (none-some after h)
-      go (Some memory) e h =
-          let m = map_some (with_memory store) (memory_of_size size memory) after h in
-          let larger = m.0 in
-          let c = cond_some (nat_le (pages memory) size) (grown_memory memory (size - pages memory)) larger m.1 in
-          let less : pages memory ≤ size = grind (arith, nat_tests, c.0) in
-          let grown = pages_grown memory larger (size - pages memory) c.1 in
-          let is : pages larger ≡ size = omega (arith, grown, less) in
-          let cs = change_at w.globals store (with_memory store larger) (Some OfMemory) in
-          subst (λ st. IsMade w s store st (Grow size)) m.2
-          (record {
-            items =
-                Steps false ∷ Steps false ∷ Steps false ∷ Steps false ∷ (map Changes cs ++ Steps false ∷ []);
-            does = does_growth w s outside store memory e size less small larger c.1;
-            silent = changes_silent cs (Steps false ∷ []);
-            changes = λ greater.
-                same_is (changes_in (map Changes cs ++ Steps false ∷ [])) (Grow size ∷ [])
-                (changes_there cs (Steps false ∷ []) ∙ append-nil cs ∙ changed memory larger e is greater);
-            steps =
-                let still : (steps_in (map Changes cs ++ Steps false ∷ [])).steps ≡ 1 =
-                ap (λ (c : StepCount). c.steps) (changes_still cs (Steps false ∷ [])) in
-                omega (arith, still);
-            blocks =
-                ap (λ (c : StepCount). c.blocks) (changes_still cs (Steps false ∷ []));
-          })
-        where
-          changed : (memory larger : Memory) → store.memory ≡ Some memory → pages larger ≡ size
-              → page_count store.memory < size
-              → change_at w.globals store (with_memory store larger) (Some OfMemory) ≡ Grow size ∷ []
-          changed memory larger e is greater =
-              let more : nat_lt (page_count store.memory) (pages larger) ≡ true =
-              grind (arith, nat_tests, is, greater) in
-              ap (λ b. cond b (Grow (pages larger) ∷ []) []) more ∙ ap (λ n. Grow n ∷ []) is
+  abbrev MakesIt : Effect → Type 0
+  MakesIt effect = store_after_effect store effect ≡ Some after → IsMade w s store after effect
 
-  grow_table_made : (size : ℕ) → size < 2 ^ 32 → store_after_effect store (GrowTable size) ≡ Some after
-      → IsMade w s store after (GrowTable size)
-  grow_table_made size small h = go store.table refl h
+  grow_made : (size : ℕ) → size < 2 ^ 32 → MakesIt (Grow size)
+  grow_made size small h =
+      let p = part_changed (with_memory store) (memory_of_size size) store.memory after h in
+      let memory = p.part in
+      let larger = p.changed in
+      let c = cond_some (nat_le (pages memory) size) (grown_memory memory (size - pages memory)) larger p.is in
+      let less : pages memory ≤ size = grind (arith, nat_tests, c.0) in
+      let grown = pages_grown memory larger (size - pages memory) c.1 in
+      let is : pages larger ≡ size = omega (arith, grown, less) in
+      let cs = change_at w.globals store (with_memory store larger) (Some OfMemory) in
+      let own = are_growth cs in
+      subst (λ st. IsMade w s store st (Grow size)) p.left
+      (record {
+        items = Steps false ∷ Steps false ∷ Steps false ∷ Steps false ∷ (map Changes cs ++ Steps false ∷ []);
+        does = does_growth w s outside store memory p.there size less small larger c.1;
+        silent = own.silent;
+        changes = λ greater.
+            same_is (changes_in (map Changes cs ++ Steps false ∷ [])) (Grow size ∷ [])
+            (own.changes ∙ changed memory larger p.there is greater);
+        steps = (let one = own.steps in omega (arith, one));
+        blocks = own.blocks;
+      })
     where
-      go : (o : Option Table) → store.table ≡ o
-          → option_map (with_table store) (option_and_then (table_of_size size) o) ≡ Some after
-          → IsMade w s store after (GrowTable size)
-      go None e h = absurd (none-some after h)
-      go (Some table) e h =
-          let m = map_some (with_table store) (table_of_size size table) after h in
-          let larger = m.0 in
-          let c =
-          cond_some (nat_le (length table.entries) size)
-          (grown_table table (size - length table.entries) None) larger m.1
-          in
-          let less : length table.entries ≤ size = grind (arith, nat_tests, c.0) in
-          let grown = entries_grown table larger (size - length table.entries) c.1 in
-          let is : length larger.entries ≡ size = omega (arith, grown, less) in
-          let cs = change_at w.globals store (with_table store larger) (Some OfTable) in
-          subst (λ st. IsMade w s store st (GrowTable size)) m.2
-          (record {
-            items =
-                Steps false
-                ∷ Steps false ∷ Steps false ∷ Steps false ∷ Steps false ∷ (map Changes cs ++ Steps false ∷ []);
-            does = does_table_growth w s outside store table e size less small larger c.1;
-            silent = changes_silent cs (Steps false ∷ []);
-            changes = λ greater.
-                same_is (changes_in (map Changes cs ++ Steps false ∷ [])) (GrowTable size ∷ [])
-                (changes_there cs (Steps false ∷ []) ∙ append-nil cs ∙ changed larger is greater);
-            steps =
-                let still : (steps_in (map Changes cs ++ Steps false ∷ [])).steps ≡ 1 =
-                ap (λ (c : StepCount). c.steps) (changes_still cs (Steps false ∷ [])) in
-                omega (arith, still);
-            blocks =
-                ap (λ (c : StepCount). c.blocks) (changes_still cs (Steps false ∷ []));
-          })
-        where
-          changed : (larger : Table) → length larger.entries ≡ size → entry_count store.table < size
-              → change_at w.globals store (with_table store larger) (Some OfTable) ≡ GrowTable size ∷ []
-          changed larger is greater =
-              let more : nat_lt (entry_count store.table) (length larger.entries) ≡ true =
-              grind (arith, nat_tests, is, greater) in
-              ap (λ b. cond b (GrowTable (length larger.entries) ∷ []) []) more ∙ ap (λ n. GrowTable n ∷ []) is
+      changed : (memory larger : Memory) → store.memory ≡ Some memory → pages larger ≡ size
+          → page_count store.memory < size
+          → change_at w.globals store (with_memory store larger) (Some OfMemory) ≡ Grow size ∷ []
+      changed memory larger e is greater =
+          let more : nat_lt (page_count store.memory) (pages larger) ≡ true =
+          grind (arith, nat_tests, is, greater) in
+          ap (λ b. cond b (Grow (pages larger) ∷ []) []) more ∙ ap (λ n. Grow n ∷ []) is
 
-  bytes_made : (address : ℕ) (bytes : List ℕ) → AreBytes bytes → store_after_effect store (Bytes address bytes)
-      ≡ Some after
-      → IsMade w s store after (Bytes address bytes)
-  bytes_made address bytes are h = go store.memory refl h
+  grow_table_made : (size : ℕ) → size < 2 ^ 32 → MakesIt (GrowTable size)
+  grow_table_made size small h =
+      let p = part_changed (with_table store) (table_of_size size) store.table after h in
+      let table = p.part in
+      let larger = p.changed in
+      let c =
+      cond_some (nat_le (length table.entries) size) (grown_table table (size - length table.entries) None) larger p.is
+      in
+      let less : length table.entries ≤ size = grind (arith, nat_tests, c.0) in
+      let grown = entries_grown table larger (size - length table.entries) c.1 in
+      let is : length larger.entries ≡ size = omega (arith, grown, less) in
+      let cs = change_at w.globals store (with_table store larger) (Some OfTable) in
+      let own = are_growth cs in
+      subst (λ st. IsMade w s store st (GrowTable size)) p.left
+      (record {
+        items =
+            Steps false
+            ∷ Steps false ∷ Steps false ∷ Steps false ∷ Steps false ∷ (map Changes cs ++ Steps false ∷ []);
+        does = does_table_growth w s outside store table p.there size less small larger c.1;
+        silent = own.silent;
+        changes = λ greater.
+            same_is (changes_in (map Changes cs ++ Steps false ∷ [])) (GrowTable size ∷ [])
+            (own.changes ∙ changed larger is greater);
+        steps = (let one = own.steps in omega (arith, one));
+        blocks = own.blocks;
+      })
     where
-      go : (o : Option Memory) → store.memory ≡ o
-          → option_map (with_memory store) (option_and_then (memory_with address bytes) o) ≡ Some after
-          → IsMade w s store after (Bytes address bytes)
-      go None e h = absurd (none-some after h)
-      go (Some memory) e h =
-          let m = map_some (with_memory store) (memory_with address bytes memory) after h in
-          let n =
-          map_some (λ (all : List ℕ). record memory { bytes = all })
-          (with_bytes_at memory.bytes address bytes) m.0 m.1 in
-          let c =
-          cond_some (nat_le (address + length bytes) (length memory.bytes))
-          (Some (with_items_at memory.bytes address bytes)) n.0 n.1 in
-          let within : address + length bytes ≤ length memory.bytes = grind (arith, nat_tests, c.0) in
-          let is : with_items_at memory.bytes address bytes ≡ n.0 = (let q = c.1 in cc) in
-          let long : length bytes ≡ counts_of (store_widths (length bytes)) = sym (counts_of_all (length bytes)) in
-          let left : with_memory store (memory_with_bytes memory address bytes) ≡ after =
-          ap (λ all. with_memory store (record memory { bytes = all })) is ∙ ap (with_memory store) n.2 ∙ m.2 in
-          let widths = store_widths (length bytes) in
-          subst (λ st. IsMade w s store st (Bytes address bytes)) left
-          (record {
-            items = stores_items widths address bytes;
-            does = stores_run w s outside store memory widths address bytes e long are within;
-            silent = stores_silent widths address bytes;
-            changes = λ any. stores_same widths address bytes long;
-            steps = (let most = stores_steps widths address bytes in omega (arith, most, long));
-            blocks = stores_blocks widths address bytes;
-          })
+      changed : (larger : Table) → length larger.entries ≡ size → entry_count store.table < size
+          → change_at w.globals store (with_table store larger) (Some OfTable) ≡ GrowTable size ∷ []
+      changed larger is greater =
+          let more : nat_lt (entry_count store.table) (length larger.entries) ≡ true =
+          grind (arith, nat_tests, is, greater) in
+          ap (λ b. cond b (GrowTable (length larger.entries) ∷ []) []) more ∙ ap (λ n. GrowTable n ∷ []) is
 
-  entry_made : (index : ℕ) (func : Option ℕ) → store_after_effect store (SetEntry index func) ≡ Some after
-      → IsMade w s store after (SetEntry index func)
-  entry_made index func h = go store.table refl h
-    where
-      go : (o : Option Table) → store.table ≡ o
-          → option_map (with_table store) (option_and_then (table_with index func) o) ≡ Some after
-          → IsMade w s store after (SetEntry index func)
-      go None e h = absurd (none-some after h)
-      go (Some table) e h =
-          let m = map_some (with_table store) (table_with index func table) after h in
-          let n =
-          map_some (λ (all : List (Option ℕ)). record table { entries = all }) (with_entry table.entries index func) m.0
-          m.1 in
-          let c =
-          cond_some (nat_lt index (length table.entries)) (Some (slice_set table.entries index func)) n.0 n.1 in
-          let within : index < length table.entries = grind (arith, nat_tests, c.0) in
-          let is : slice_set table.entries index func ≡ n.0 = (let q = c.1 in cc) in
-          let old = item_there table.entries index within in
-          let there : slice_get n.0 index ≡ Some func =
-          ap (λ l. slice_get l index) (sym is) ∙ set_there table.entries index old.0 func old.1 in
-          let left : with_table store (record table { entries = n.0 }) ≡ after =
-          ap (with_table store) n.2 ∙ m.2 in
-          subst (λ st. IsMade w s store st (SetEntry index func)) left
-          (record {
-            items =
-                Steps false ∷ Steps false ∷ Steps false ∷ Changes
-                (SetEntry index (option_flatten (slice_get n.0 index))) ∷ [];
-            does = does_entry w s outside store table e index n.0 func n.1;
-            silent = refl;
-            changes = λ any.
-                same_is (SetEntry index (option_flatten (slice_get n.0 index)) ∷ []) (SetEntry index func ∷ [])
-                (ap (λ o. SetEntry index (option_flatten o) ∷ []) there);
-            steps = omega arith;
-            blocks = refl;
-          })
+  bytes_made : (address : ℕ) (bytes : List ℕ) → AreBytes bytes → MakesIt (Bytes address bytes)
+  bytes_made address bytes are h =
+      let p = part_changed (with_memory store) (memory_with address bytes) store.memory after h in
+      let placed = bytes_placed p.part p.changed address bytes p.is in
+      let long : length bytes ≡ counts_of (store_widths (length bytes)) = sym (counts_of_all (length bytes)) in
+      let left : with_memory store (memory_with_bytes p.part address bytes) ≡ after =
+      ap (with_memory store) placed.1 ∙ p.left in
+      let widths = store_widths (length bytes) in
+      subst (λ st. IsMade w s store st (Bytes address bytes)) left
+      (record {
+        items = stores_items widths address bytes;
+        does = stores_run w s outside store p.part widths address bytes p.there long are placed.0;
+        silent = stores_silent widths address bytes;
+        changes = λ any. stores_same widths address bytes long;
+        steps = (let most = stores_steps widths address bytes in omega (arith, most, long));
+        blocks = stores_blocks widths address bytes;
+      })
+
+  entry_made : (index : ℕ) (func : Option ℕ) → MakesIt (SetEntry index func)
+  entry_made index func h =
+      let p = part_changed (with_table store) (table_with index func) store.table after h in
+      let table = p.part in
+      let n =
+      map_some (λ (all : List (Option ℕ)). record table { entries = all }) (with_entry table.entries index func)
+      p.changed p.is in
+      let c =
+      cond_some (nat_lt index (length table.entries)) (Some (slice_set table.entries index func)) n.0 n.1 in
+      let within : index < length table.entries = grind (arith, nat_tests, c.0) in
+      let is : slice_set table.entries index func ≡ n.0 = (let q = c.1 in cc) in
+      let old = item_there table.entries index within in
+      let there : slice_get n.0 index ≡ Some func =
+      ap (λ l. slice_get l index) (sym is) ∙ set_there table.entries index old.0 func old.1 in
+      let left : with_table store (record table { entries = n.0 }) ≡ after =
+      ap (with_table store) n.2 ∙ p.left in
+      subst (λ st. IsMade w s store st (SetEntry index func)) left
+      (record {
+        items =
+            Steps false ∷ Steps false ∷ Steps false ∷ Changes
+            (SetEntry index (option_flatten (slice_get n.0 index))) ∷ [];
+        does = does_entry w s outside store table p.there index n.0 func n.1;
+        silent = refl;
+        changes = λ any.
+            same_is (SetEntry index (option_flatten (slice_get n.0 index)) ∷ []) (SetEntry index func ∷ [])
+            (ap (λ o. SetEntry index (option_flatten o) ∷ []) there);
+        steps = omega arith;
+        blocks = refl;
+      })
 
   global_made : (global : ℕ) (value : Val) → IsWritable w.globals store (Global global value)
-      → store_after_effect store (Global global value) ≡ Some after → IsMade w s store after (Global global value)
+      → MakesIt (Global global value)
   global_made global value can h = go (slice_get store.globals global) refl can.1 h
     where
       go : (o : Option Val) → slice_get store.globals global ≡ o → IfSome o (λ (old : Val). old.ty ≡ value.ty)

@@ -13,29 +13,32 @@ changes_of_both (Makes entry ∷ first) second = changes_of_both first second
 changes_of_both (Changes change ∷ first) second = ap (λ l. change ∷ l) (changes_of_both first second)
 changes_of_both (Steps block ∷ first) second = changes_of_both first second
 
+counts_of_both : (first second : List Item)
+    → ((steps_in (first ++ second)).steps ≡ (steps_in first).steps + (steps_in second).steps)
+    × ((steps_in (first ++ second)).blocks ≡ (steps_in first).blocks + (steps_in second).blocks)
+counts_of_both [] second = (omega arith, omega arith)
+counts_of_both (Makes entry ∷ first) second = counts_of_both first second
+counts_of_both (Changes change ∷ first) second = counts_of_both first second
+counts_of_both (Steps true ∷ first) second =
+    let later = counts_of_both first second in
+    let blocks = later.1 in
+    let all : 1 + (steps_in (first ++ second)).blocks ≡ 1 + (steps_in first).blocks + (steps_in second).blocks =
+    omega (arith, blocks) in
+    (later.0, all)
+counts_of_both (Steps false ∷ first) second =
+    let later = counts_of_both first second in
+    let steps = later.0 in
+    let all : 1 + (steps_in (first ++ second)).steps ≡ 1 + (steps_in first).steps + (steps_in second).steps =
+    omega (arith, steps) in
+    (all, later.1)
+
 pub steps_of_both : (first second : List Item)
     → (steps_in (first ++ second)).steps ≡ (steps_in first).steps + (steps_in second).steps
-steps_of_both [] second = omega arith
-steps_of_both (Makes entry ∷ first) second = steps_of_both first second
-steps_of_both (Changes change ∷ first) second = steps_of_both first second
-steps_of_both (Steps true ∷ first) second = steps_of_both first second
-steps_of_both (Steps false ∷ first) second =
-    let later = steps_of_both first second in
-    let all : 1 + (steps_in (first ++ second)).steps ≡ 1 + (steps_in first).steps + (steps_in second).steps =
-    omega (arith, later) in
-    all
+steps_of_both first second = (counts_of_both first second).0
 
 pub blocks_of_both : (first second : List Item)
     → (steps_in (first ++ second)).blocks ≡ (steps_in first).blocks + (steps_in second).blocks
-blocks_of_both [] second = omega arith
-blocks_of_both (Makes entry ∷ first) second = blocks_of_both first second
-blocks_of_both (Changes change ∷ first) second = blocks_of_both first second
-blocks_of_both (Steps true ∷ first) second =
-    let later = blocks_of_both first second in
-    let all : 1 + (steps_in (first ++ second)).blocks ≡ 1 + (steps_in first).blocks + (steps_in second).blocks =
-    omega (arith, later) in
-    all
-blocks_of_both (Steps false ∷ first) second = blocks_of_both first second
+blocks_of_both first second = (counts_of_both first second).1
 
 -- ---- changes first
 

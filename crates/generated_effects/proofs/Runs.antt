@@ -1,49 +1,15 @@
 -- Stores of several widths, one after the other, write a run of bytes.
-use Rattle.std.proofs.Common.{◌≡◌, ℕ, zero, suc, ◌+◌, ◌*◌, ◌/◌, ◌%◌, ◌≤◌, List, [], ◌∷◌, ◌++◌, length, take, drop, Some, refl, sym, ap, ◌∙◌, subst, arith, length-take-le}
-use Rattle.std.specs.Prelude.{replicate}
+use Rattle.std.proofs.Common.{◌≡◌, ℕ, ◌+◌, ◌≤◌, List, [], ◌∷◌, ◌++◌, length, take, drop, Some, refl, sym, ap, ◌∙◌, subst, arith, length-take-le}
 use Rattle.std.proofs.lemmas.List.{length-drop, take-append-drop}
 use Rattle.history_spec.specs.Store.{Store, Memory, with_memory, number_of}
-use Rattle.replay_gen.specs.Effects.{Width, Eight, Four, Two, One, byte_count, store_widths, store_code, stores_code}
+use Rattle.replay_gen.specs.Effects.{Width, byte_count, store_code, stores_code}
+use Rattle.replay_gen.proofs.Widths.{counts_of}
 use Rattle.generated_steps.specs.Leads.{Watched, IsOutside, Standing}
 use Rattle.generated_effects.specs.Bytes.{AreBytes}
 use Rattle.generated_effects.proofs.Bytes.{first_bytes, last_bytes}
 use Rattle.generated_effects.proofs.Does.{Does, does_nothing, does_both}
 use Rattle.generated_effects.proofs.Written.{written_length, written_twice, written_nothing}
 use Rattle.generated_effects.proofs.Stored.{memory_with_bytes, store_items, stores_items, stores_bytes}
-
--- how many bytes stores of these widths write
-abbrev pub counts_of : List Width → ℕ
-counts_of [] = 0
-counts_of (width ∷ widths) = byte_count width + counts_of widths
-
-counts_of_same : (width : Width) (number : ℕ) → counts_of (replicate number width) ≡ number * byte_count width
-counts_of_same width zero = omega arith
-counts_of_same width (suc number) =
-    ap (λ n. byte_count width + n) (counts_of_same width number) ∙ grind arith
-
-counts_of_both : (first second : List Width) → counts_of (first ++ second) ≡ counts_of first + counts_of second
-counts_of_both [] second = omega arith
-counts_of_both (width ∷ first) second =
-    let r = counts_of_both first second in
-    let all : byte_count width + counts_of (first ++ second)
-    ≡ byte_count width + counts_of first + counts_of second = omega (arith, r) in
-    all
-
--- the stores of so many bytes write as many
-pub counts_of_all : (count : ℕ) → counts_of (store_widths count) ≡ count
-counts_of_all count =
-    let eights = replicate (count / 8) Eight in
-    let fours = replicate (count / 4 % 2) Four in
-    let twos = replicate (count / 2 % 2) Two in
-    let ones = replicate (count % 2) One in
-    let all = counts_of_both eights (fours ++ (twos ++ ones)) in
-    let later = counts_of_both fours (twos ++ ones) in
-    let last = counts_of_both twos ones in
-    let e : counts_of eights ≡ count / 8 * 8 = counts_of_same Eight (count / 8) in
-    let f : counts_of fours ≡ count / 4 % 2 * 4 = counts_of_same Four (count / 4 % 2) in
-    let t : counts_of twos ≡ count / 2 % 2 * 2 = counts_of_same Two (count / 2 % 2) in
-    let o : counts_of ones ≡ count % 2 * 1 = counts_of_same One (count % 2) in
-    omega (arith, all, later, last, e, f, t, o)
 
 -- bytes for stores of these widths: as many as the first writes, and the others
 pub record AreSplit (width : Width) (widths : List Width) (bytes : List ℕ) : Type 0 where

@@ -1,7 +1,10 @@
 -- Lists with items written in place of others.
-use Rattle.std.proofs.Common.{◌≡◌, ℕ, zero, suc, ◌+◌, ◌≤◌, List, [], ◌∷◌, ◌++◌, length, take, drop, refl, sym, ap, ◌∙◌, arith, length-append, length-take-le}
+use Rattle.std.proofs.Common.{◌≡◌, ℕ, zero, suc, ◌+◌, ◌≤◌, List, [], ◌∷◌, ◌++◌, length, take, drop, Some, nat_le, refl, sym, ap, ◌∙◌, arith, length-append, length-take-le}
+use Rattle.std.proofs.lemmas.Bool.Decides.{nat_tests}
 use Rattle.std.proofs.lemmas.List.{append_assoc, length-drop, take-append-drop}
-use Rattle.history_spec.specs.Store.{with_items_at}
+use Rattle.list_laws.proofs.Options.{map_some, cond_some}
+use Rattle.history_spec.specs.Store.{Memory, with_bytes_at, with_items_at}
+use Rattle.replay_spec.specs.TapeRun.{memory_with}
 
 module _ {X : Type 0} where
   pub take_front : (front more : List X) (count : ℕ) → count ≡ length front → take count (front ++ more) ≡ front
@@ -74,3 +77,22 @@ module _ {X : Type 0} where
   written_nothing items at =
       let same : at + 0 ≡ at = omega arith in
       ap (λ n. take at items ++ drop n items) same ∙ take-append-drop at items
+
+-- ---- bytes of a memory
+
+-- a memory with bytes put into it has them where they are within it
+pub bytes_placed : (memory larger : Memory) (address : ℕ) (bytes : List ℕ)
+    → memory_with address bytes memory ≡ Some larger
+    → (address + length bytes ≤ length memory.bytes)
+    × (record memory { bytes = with_items_at memory.bytes address bytes } ≡ larger)
+bytes_placed memory larger address bytes h =
+    let n =
+    map_some (λ (all : List ℕ). record memory { bytes = all }) (with_bytes_at memory.bytes address bytes) larger h
+    in
+    let c =
+    cond_some (nat_le (address + length bytes) (length memory.bytes))
+    (Some (with_items_at memory.bytes address bytes)) n.0 n.1
+    in
+    let within : address + length bytes ≤ length memory.bytes = (let t = c.0 in grind (arith, nat_tests, t)) in
+    let is : with_items_at memory.bytes address bytes ≡ n.0 = (let q = c.1 in cc) in
+    (within, ap (λ all. record memory { bytes = all }) is ∙ n.2)

@@ -47,18 +47,22 @@ AllGrowSizes store (effect ∷ effects) =
     GrowsSize store effect
     × ((next : Store) → store_after_effect store effect ≡ Some next → AllGrowSizes next effects)
 
--- The code of effects comes past its end with these in the store. It shows no entry, changes what the effects say,
--- where these change each size that they give, and makes no more than 8 steps for each unit of their weight.
+-- items that show no entry, change what effects say, where these change each size that they give, and hold no more
+-- than 8 steps for each unit of the weight of the effects
+pub record AreItemsOf (store : Store) (effects : List Effect) (items : List Item) : Type 0 where
+  pub silent : entries_in items ≡ []
+  pub changes : AllGrowSizes store effects → AreSameChanges (changes_in items) effects
+  pub steps : (steps_in items).steps ≤ 8 * sum_by effect_weight effects
+  pub blocks : (steps_in items).blocks ≡ 0
+
+-- the code of effects comes past its end with these in the store, by items of these effects
 pub record MakesEffects (w : Watched) (s : Standing) (store after : Store) (effects : List Effect) (labels : List Label)
     (rest : Nest) (number : ℕ) : Type 0 where
   pub items : List Item
   pub at : ℕ
   pub leads : Leads w (standing s store [] labels (sequence (effects_code effects) rest) number) items
       (standing s after [] labels rest at)
-  pub silent : entries_in items ≡ []
-  pub changes : AllGrowSizes store effects → AreSameChanges (changes_in items) effects
-  pub steps : (steps_in items).steps ≤ 8 * sum_by effect_weight effects
-  pub blocks : (steps_in items).blocks ≡ 0
+  pub told : AreItemsOf store effects items
 
 -- effects that code can do, and that can be done to a store, are done to it by their code
 abbrev pub EffectsAreMade : Type 0

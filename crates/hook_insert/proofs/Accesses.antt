@@ -26,6 +26,21 @@ pub on_ok : {X E P Q : Type 0} (r : Result X E) → (P → Q) → OnOk r P → O
 on_ok (Ok x) leads holds = leads holds
 on_ok (Err e) leads holds = holds
 
+-- a piece that was appended for each sign of an access is that of the access
+pub told_on_ok : {X E : Type 0} (r : Result X E) (before : List Instr) (found : Option Access)
+    (looked : Option Transfer) (transfer : Transfer) (make : Access → List Instr) (after : List Instr)
+    → looked ≡ Some transfer → option_map reach_of_transfer looked ≡ option_map reach_of found
+    → OnOk r ((signed : Bool) → after ≡ before ++ make (access transfer.ty transfer.width signed))
+    → OnOk r (after ≡ before ++ on found make)
+told_on_ok r before found looked transfer make after is same given =
+    on_ok r (told before found looked transfer make after is same) given
+
+-- two things that hold after success
+pub if_ok_both : {X E : Type 0} {P Q R : X → Type 0} (r : Result X E) → ((x : X) → P x → Q x → R x)
+    → IfOk r P → IfOk r Q → IfOk r R
+if_ok_both (Ok x) leads first second = leads x first second
+if_ok_both (Err e) leads first second = first
+
 pub if_ok : {X E : Type 0} {P Q : X → Type 0} (r : Result X E) → ((x : X) → P x → Q x) → IfOk r P → IfOk r Q
 if_ok (Ok x) leads holds = leads x holds
 if_ok (Err e) leads holds = holds

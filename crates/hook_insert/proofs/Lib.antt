@@ -5,7 +5,6 @@ pub mod Weightless
 pub mod Calls
 pub mod Few
 pub mod Low
-pub mod Counts
 pub mod FlatFunctions
 pub mod SameTypes
 pub mod FormImports

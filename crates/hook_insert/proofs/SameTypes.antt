@@ -1,17 +1,14 @@
 -- Types that are compared one by one.
-use Rattle.std.proofs.Common.{◌≡◌, ℕ, suc, ◌+◌, ◌<◌, ◌≤◌, List, [], ◌∷◌, length, drop, get_or, Bool, true, false, ◌&&◌, refl, sym, ap, ap₂, ◌∙◌}
+use Rattle.std.proofs.Common.{◌≡◌, ℕ, ◌+◌, ◌<◌, ◌≤◌, List, length, drop, get_or, Bool, true, false, ◌&&◌, sym, ap, ap₂, ◌∙◌}
+use Rattle.std.proofs.lemmas.Bool.{false_from_ne_true}
 use Rattle.std.proofs.lemmas.List.{drop_more, drop_all}
-use Rattle.list_laws.proofs.Booleans.{and_false}
 use Rattle.wasm_syntax.specs.declared.values.ValType.{ValType}
 use Rattle.wasm_syntax.specs.declared.values.ValType.TheVariants.{I32}
 use Rattle.wasm_syntax.specs.Alike.{same_type, same_types}
+use Rattle.wasm_syntax.proofs.ValTypes.{types_same}
 
 pub of_other_length : (a b : List ValType) → (length a ≡ length b → ⊥) → false ≡ same_types a b
-of_other_length [] [] h = absurd (h refl)
-of_other_length [] (y ∷ ys) h = refl
-of_other_length (x ∷ xs) [] h = refl
-of_other_length (x ∷ xs) (y ∷ ys) h =
-    sym (ap (λ t. same_type x y && t) (sym (of_other_length xs ys (λ e. h (ap suc e)))) ∙ and_false (same_type x y))
+of_other_length a b h = sym (false_from_ne_true (same_types a b) (λ same. h (ap length (types_same a b same))))
 
 pub one_more : (a b : List ValType) (i : ℕ) (same : Bool) → i < length a → i < length b
     → same ≡ same_type (get_or a i I32) (get_or b i I32)

@@ -1,12 +1,14 @@
 -- Functions into whose bodies calls of hooks fit.
-use Rattle.std.specs.Prelude.{ℕ, ◌+◌, ◌^◌, ◌<◌, ◌≤◌, List, sum_by, All}
+use Rattle.std.specs.Prelude.{◌≡◌, ℕ, ◌+◌, ◌^◌, ◌<◌, ◌≤◌, List, sum_by, All}
 use Rattle.wasm_syntax.specs.declared.limits.TheConstants.{MOST_LOCALS_HOOKED}
 use Rattle.wasm_syntax.specs.declared.modules.Run.{Run}
 use Rattle.wasm_syntax.specs.declared.modules.Func.{Func}
 use Rattle.wasm_syntax.specs.declared.modules.Module.{Module}
+use Rattle.wasm_syntax.specs.Index.{type_at}
+use Rattle.wasm_syntax.specs.Nest.{nest_of}
 use Rattle.wasm_syntax.specs.Validity.{IsTypedFunc}
 use Rattle.wasm_syntax.specs.declared.signatures.FuncType.{FuncType}
-use Rattle.hook_spec.specs.Instrumented.{site_of, with_added_locals}
+use Rattle.hook_spec.specs.Instrumented.{instrumented_func, site_of, weights_of_func, with_added_locals}
 use Rattle.hook_insert.specs.Rounds.{AreCallsWithin, code_weights, instrumented_code}
 use Rattle.wasm_flat.specs.Sizes.{list_limit}
 
@@ -32,3 +34,8 @@ func_of_rounds m index ty f =
 -- its weights
 abbrev pub weights_of_rounds : Module → (index : ℕ) → FuncType → Func → List ℕ
 weights_of_rounds m index ty f = code_weights (site_of m index ty f) ty f.body
+
+-- the function of this index, instrumented, and its weights
+pub record IsInstrumented (m : Module) (index : ℕ) (f : Func) (made : Func × List ℕ) : Type 0 where
+  pub func : made.0 ≡ instrumented_func m index f (type_at m f.ty) (nest_of f.body)
+  pub weights : made.1 ≡ weights_of_func m index f (type_at m f.ty) (nest_of f.body)

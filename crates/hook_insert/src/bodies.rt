@@ -12,7 +12,7 @@ ghost use Rattle.wasm_flat.specs.Sizes.{list_limit};
 use crate::sites::BodySite;
 use hook_spec::Hook;
 use no_memory::NoMemory;
-use wasm_syntax::{FuncType, Instr, ValType};
+use wasm_syntax::{FuncType, Instr, Item, ValType};
 
 impl<'a> BodySite<'a> {
     /// The body of a function of this type.
@@ -123,7 +123,7 @@ impl<'a> BodySite<'a> {
     {
         match instr {
             Instr::Call(func) => Ok(Instr::Call(self.renumbered(*func))),
-            other => other.clone(),
+            other => other.copy(),
         }
     }
 

@@ -1,21 +1,9 @@
 -- A log has one tape at most.
 use Rattle.std.proofs.Common.{◌≡◌, List, [], ◌∷◌, sym, ◌∙◌, refl}
-use Rattle.trace_model.specs.declared.tapes.Effect.{Effect}
 use Rattle.trace_model.specs.declared.tapes.Segment.{Segment}
-use Rattle.replay_spec.proofs.OneList.{effects_same}
-use Rattle.hook_spec.specs.LogTapes.{Mark, Begins, Ends, window_finds, log_marks, AreFirstFinds, AreLogSegments}
+use Rattle.replay_spec.proofs.OneList.{just_one}
+use Rattle.hook_spec.specs.LogTapes.{Mark, Begins, Ends, window_finds, first_given, log_marks, AreLogSegments}
 use Rattle.hook_spec.specs.Laws.{LogTapeIsOne}
-
-changes_same : (finds es fs : List Effect) → AreFirstFinds finds es → AreFirstFinds finds fs → es ≡ fs
-changes_same finds es fs a b =
-    effects_same es fs a.ordered b.ordered a.nonempty b.nonempty
-    (record {
-      pages = a.pages ∙ sym b.pages;
-      entries = a.entries ∙ sym b.entries;
-      byte = λ at. a.byte at ∙ sym (b.byte at);
-      entry = λ at. a.entry at ∙ sym (b.entry at);
-      global = λ at. a.global at ∙ sym (b.global at);
-    })
 
 segments_same : (marks : List Mark) (segments others : List Segment)
     → AreLogSegments marks segments → AreLogSegments marks others → segments ≡ others
@@ -25,7 +13,7 @@ segments_same [] (segment ∷ segments) others a b = absurd a
 segments_same (Begins origin ∷ Ends next ∷ later) (segment ∷ segments) (other ∷ others) a b =
     let origins = a.0.begins ∙ sym b.0.begins in
     let nexts = a.0.leaves ∙ sym b.0.leaves in
-    let changes = changes_same (window_finds later) segment.effects other.effects a.0.changes b.0.changes in
+    let changes = just_one (first_given (window_finds later)) segment.effects other.effects a.0.changes b.0.changes in
     let rest = segments_same later segments others a.1 b.1 in
     (λ i. record { origin = origins i; effects = changes i; next = nexts i } ∷ rest i)
 segments_same (Begins origin ∷ Ends next ∷ later) [] others a b = absurd a

@@ -1,6 +1,5 @@
 -- The tape of a log: what the host did, as the events tell it.
 use Rattle.std.specs.Prelude.{◌≡◌, ℕ, List, [], ◌∷◌, ◌++◌, drop, Option, Some, None, Bool, true, false, cond, nat_lt}
-use Rattle.std.specs.List.{list_all}
 use Rattle.std.specs.Option.{option_or}
 use Rattle.run_outcomes.specs.declared.outcomes.Outcome.{Outcome}
 use Rattle.run_outcomes.specs.declared.outcomes.Outcome.TheVariants.{Ended, Trapped, HostTrapped}
@@ -15,9 +14,7 @@ use Rattle.trace_model.specs.declared.tapes.Effect.{Effect}
 use Rattle.trace_model.specs.declared.tapes.Effect.TheVariants as effects
 use Rattle.trace_model.specs.declared.tapes.Segment.{Segment}
 use Rattle.trace_model.specs.declared.tapes.Tape.{Tape}
-use Rattle.trace_model.specs.Effects.{AreOrdered}
-use Rattle.replay_spec.specs.Known.{last_some}
-use Rattle.replay_spec.specs.Needed.{effect_byte, effect_entry, effect_global, effect_pages, effect_entries, has_bytes}
+use Rattle.replay_spec.specs.Needed.{Given, GiveJust, given_of}
 
 -- ---- marks
 
@@ -109,15 +106,13 @@ abbrev pub first_some : {A X : Type 0} → (A → Option X) → List A → Optio
 first_some part [] = None
 first_some part (item ∷ later) = option_or (part item) (first_some part later)
 
+-- what is found first, everywhere
+abbrev pub first_given : List Effect → Given
+first_given finds = given_of (λ X part. first_some part) finds
+
 -- the effects of what a window finds: in order, bytes in longest runs, and everywhere what is found there first
-pub record AreFirstFinds (finds changes : List Effect) : Type 0 where
-  pub ordered : AreOrdered changes
-  pub nonempty : list_all has_bytes changes ≡ true
-  pub pages : last_some effect_pages changes ≡ first_some effect_pages finds
-  pub entries : last_some effect_entries changes ≡ first_some effect_entries finds
-  pub byte : (at : ℕ) → last_some (effect_byte at) changes ≡ first_some (effect_byte at) finds
-  pub entry : (at : ℕ) → last_some (effect_entry at) changes ≡ first_some (effect_entry at) finds
-  pub global : (at : ℕ) → last_some (effect_global at) changes ≡ first_some (effect_global at) finds
+abbrev pub AreFirstFinds : (finds changes : List Effect) → Type 0
+AreFirstFinds finds changes = GiveJust (first_given finds) changes
 
 -- the segment of an activity, by its begin, its end, and what the window after it finds
 pub record IsLogSegment (origin : Origin) (next : Next) (finds : List Effect) (segment : Segment) : Type 0 where

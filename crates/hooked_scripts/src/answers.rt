@@ -67,8 +67,16 @@ fn renumbered_answer(alloc: Global, imports: u32, answer: Answer) -> Result<Answ
 {
     let Answer { calls, rest } = answer;
     let calls = renumbered_responses(alloc, imports, calls)?;
-    let rest = renumbered_rest(alloc, imports, rest)?;
-    Ok(Answer { calls, rest })
+    match rest {
+        Some(response) => {
+            let response = renumbered_response(alloc, imports, response)?;
+            Ok(Answer {
+                calls,
+                rest: Some(response),
+            })
+        }
+        None => Ok(Answer { calls, rest: None }),
+    }
 }
 
 /// The responses to the first calls, renumbered.
@@ -86,21 +94,6 @@ fn renumbered_responses(
         list.push(renumbered_response(alloc, imports, response)?)?;
     }
     Ok(List::from_vec(list))
-}
-
-/// The response to all other calls, renumbered, where there is one.
-fn renumbered_rest(
-    alloc: Global,
-    imports: u32,
-    rest: Option<Response>,
-) -> Result<Option<Response>, NoMemory>
-    requires { IfSome rest IsLowResponse }
-    ensures { IfOk result (λ made. made ≡ option_map (renumbered_response imports) rest) }
-{
-    match rest {
-        Some(response) => Ok(Some(renumbered_response(alloc, imports, response)?)),
-        None => Ok(None),
-    }
 }
 
 /// A response, renumbered.

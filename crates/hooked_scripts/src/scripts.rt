@@ -37,20 +37,11 @@ fn hooked_script(alloc: Global, imports: u32, script: Script) -> Result<Script, 
     requires low { IsLowScript script }
     ensures { IfOk result (λ hooked. hooked ≡ hooked_script imports (renumbered_script imports script)) }
 {
-    let Script {
-        memory,
-        table,
-        globals,
-        imports: answers,
-        main,
-    } = script;
-    let main = renumbered_actions(alloc, imports, main)?;
-    let imports = hooked_answers(alloc, imports, answers)?;
+    let main = renumbered_actions(alloc, imports, script.main)?;
+    let imports = hooked_answers(alloc, imports, script.imports)?;
     Ok(Script {
-        memory,
-        table,
-        globals,
         imports,
         main,
+        ..script
     })
 }

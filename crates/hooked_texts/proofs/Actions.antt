@@ -1,19 +1,18 @@
 -- An action's text for a module and for its instrumented module.
 use Rattle.std.proofs.Common.{◌≡◌, ℕ, ◌+◌, List, [], ◌∷◌, map, codes, Option, Some, None, option_map, slice_get, Result, Ok, Err, Bool, true, false, cond, nat_lt, ◌||◌, refl, sym, ap, ◌∙◌, arith}
-use Rattle.std.specs.Prelude.{is_some, ⊤}
+use Rattle.std.specs.Prelude.{⊤}
 use Rattle.std.proofs.lemmas.Bool.Decides.{nat_tests}
 use Rattle.wasm_syntax.specs.declared.values.Val.{Val}
 use Rattle.wasm_syntax.specs.declared.signatures.FuncType.{FuncType}
 use Rattle.wasm_syntax.specs.declared.signatures.GlobalType.{GlobalType}
-use Rattle.wasm_syntax.specs.declared.modules.ExportKind.{ExportKind}
-use Rattle.wasm_syntax.specs.declared.modules.ExportKind.TheVariants as exports
 use Rattle.wasm_syntax.specs.declared.modules.Import.{Import}
 use Rattle.wasm_syntax.specs.declared.modules.Module.{Module}
 use Rattle.wasm_syntax.specs.Index.{func_type, imported_funcs, memory_import, table_import}
 use Rattle.wasm_syntax.specs.Validity.{IsValid}
 use Rattle.host_script.specs.declared.scripts.Action.{Action}
 use Rattle.serde_json.specs.Data.{Data}
-use Rattle.module_names.specs.Names.{exported_func, first_named, is_from, memory_export, reaches_memory, reaches_table, table_export}
+use Rattle.module_names.specs.Names.{exported_func, first_named, is_from, reaches_memory, reaches_table}
+use Rattle.module_names.specs.declared.index_spaces.Space.TheVariants.{Memories, Tables}
 use Rattle.std.specs.List.{list_any}
 use Rattle.script_text.specs.declared.faults.ScriptFault.{ScriptFault}
 use Rattle.script_text.specs.declared.faults.ScriptFault.TheVariants.{CallsOwn}
@@ -24,7 +23,7 @@ use Rattle.script_text.specs.Walk.{list_of, only, under}
 use Rattle.script_text.specs.Values.{bytes_of, text_of, text_or_null, u32_of, value_of, values_under}
 use Rattle.hook_spec.specs.Hooks.{renumber}
 use Rattle.hook_spec.specs.HookedRuns.{renumbered_action}
-use Rattle.hook_spec.specs.Instrumented.{instrumented_module, renumbered_kind}
+use Rattle.hook_spec.specs.Instrumented.{instrumented_module}
 use Rattle.hook_spec.specs.Laws.{InstrumentedKeepIndices}
 use Rattle.hooked_texts.proofs.Names.{exports_kept, func_renumbered, func_there, global_kept, globals_imported, imports_kept}
 use Rattle.hooked_texts.proofs.Steps.{bind_alike, bind_own, bind_same, list_alike, mapped, under_or_alike}
@@ -46,20 +45,10 @@ module _ (keep : InstrumentedKeepIndices) (m : Module) (digest : List ℕ) (vali
   -- ---- access
 
   memory_kept : reaches_memory hooked ≡ reaches_memory m
-  memory_kept =
-      (λ i. imports_kept m digest memory_import refl i || exports_kept m digest memory_export same i)
-    where
-      same : (kind : ExportKind) → is_some (memory_export (renumbered_kind n kind)) ≡ is_some (memory_export kind)
-      same (exports.Func x) = refl
-      same kind = refl
+  memory_kept = (λ i. imports_kept m digest memory_import refl i || exports_kept m digest Memories i)
 
   table_kept : reaches_table hooked ≡ reaches_table m
-  table_kept =
-      (λ i. imports_kept m digest table_import refl i || exports_kept m digest table_export same i)
-    where
-      same : (kind : ExportKind) → is_some (table_export (renumbered_kind n kind)) ≡ is_some (table_export kind)
-      same (exports.Func x) = refl
-      same kind = refl
+  table_kept = (λ i. imports_kept m digest table_import refl i || exports_kept m digest Tables i)
 
   memory_same : memory_access hooked ≡ memory_access m
   unfolding memory_access

@@ -1,5 +1,5 @@
 -- What names stand for in an instrumented module.
-use Rattle.std.proofs.Common.{◌≡◌, ℕ, ◌+◌, ◌-◌, ◌<◌, List, [], ◌∷◌, ◌++◌, map, length, filter, filter_map, find, Option, Some, None, option_map, option_and_then, is_some, Bool, true, false, cond, ◌&&◌, ◌||◌, All, refl, sym, ap, ◌∙◌, subst}
+use Rattle.std.proofs.Common.{◌≡◌, ℕ, ◌<◌, List, [], ◌∷◌, ◌++◌, map, length, filter, filter_map, find, Option, Some, None, option_map, option_and_then, is_some, Bool, true, false, cond, ◌&&◌, ◌||◌, All, refl, sym, ap, ◌∙◌, subst}
 use Rattle.std.specs.List.{AllByRecursion, list_any, cons_option}
 use Rattle.std.specs.Str.{bytes_eq}
 use Rattle.std.proofs.lemmas.List.{append-nil}
@@ -17,7 +17,9 @@ use Rattle.wasm_syntax.specs.declared.modules.ImportKind.TheVariants as imports
 use Rattle.wasm_syntax.specs.declared.modules.Module.{Module}
 use Rattle.wasm_syntax.specs.Index.{func_import, func_indices, func_type, global_import, imported_funcs, of_kind, type_at}
 use Rattle.wasm_syntax.specs.Validity.{IsDeclaredFunc, IsImport, IsThere, IsValid}
-use Rattle.module_names.specs.Names.{export_of, exported_func, exported_global, exports_some, func_export, func_types_named, global_export, import_type, imports_from, imports_named, imports_some, imports_with, is_from, is_kind, is_named}
+use Rattle.module_names.specs.Names.{index_in, export_of, exported_func, exported_global, exports_some, func_types_named, import_type, imports_from, imports_named, imports_some, imports_with, is_from, is_kind, is_named}
+use Rattle.module_names.specs.declared.index_spaces.Space.{Space}
+use Rattle.module_names.specs.declared.index_spaces.Space.TheVariants.{Funcs, Tables, Memories, Globals}
 use Rattle.hook_spec.specs.declared.hooks.Hook.{Hook}
 use Rattle.hook_spec.specs.Hooks.{hook_module, hooks, renumber}
 use Rattle.hook_spec.specs.HookedForm.{is_from_hooks}
@@ -119,10 +121,10 @@ module _ (m : Module) (digest : List ℕ) where
       ∙ kind_of (find (λ (e : Export). bytes_eq e.name name) m.exports)
 
   pub func_renumbered : (name : List ℕ) → exported_func hooked name ≡ option_map (renumber n) (exported_func m name)
-  func_renumbered name = ap (option_and_then func_export) (export_renumbered name) ∙ go (export_of m name)
+  func_renumbered name = ap (option_and_then (index_in Funcs)) (export_renumbered name) ∙ go (export_of m name)
     where
-      go : (o : Option ExportKind) → option_and_then func_export (option_map (renumbered_kind n) o)
-          ≡ option_map (renumber n) (option_and_then func_export o)
+      go : (o : Option ExportKind) → option_and_then (index_in Funcs) (option_map (renumbered_kind n) o)
+          ≡ option_map (renumber n) (option_and_then (index_in Funcs) o)
       go None = refl
       go (Some (exports.Func x)) = refl
       go (Some (exports.Table x)) = refl
@@ -130,20 +132,28 @@ module _ (m : Module) (digest : List ℕ) where
       go (Some (exports.Global x)) = refl
 
   pub global_kept : (name : List ℕ) → exported_global hooked name ≡ exported_global m name
-  global_kept name = ap (option_and_then global_export) (export_renumbered name) ∙ go (export_of m name)
+  global_kept name = ap (option_and_then (index_in Globals)) (export_renumbered name) ∙ go (export_of m name)
     where
-      go : (o : Option ExportKind) → option_and_then global_export (option_map (renumbered_kind n) o)
-          ≡ option_and_then global_export o
+      go : (o : Option ExportKind) → option_and_then (index_in Globals) (option_map (renumbered_kind n) o)
+          ≡ option_and_then (index_in Globals) o
       go None = refl
       go (Some (exports.Func x)) = refl
       go (Some (exports.Table x)) = refl
       go (Some (exports.Memory x)) = refl
       go (Some (exports.Global x)) = refl
 
-  pub exports_kept : (pick : ExportKind → Option ℕ)
-      → ((kind : ExportKind) → is_some (pick (renumbered_kind n kind)) ≡ is_some (pick kind))
-      → exports_some pick hooked ≡ exports_some pick m
-  exports_kept pick same = some_exported n pick same m.exports
+  pub exports_kept : (space : Space) → exports_some space hooked ≡ exports_some space m
+  exports_kept space = some_exported n (index_in space) (same space) m.exports
+    where
+      same : (space : Space) (kind : ExportKind)
+          → is_some (index_in space (renumbered_kind n kind)) ≡ is_some (index_in space kind)
+      same Funcs (exports.Func x) = refl
+      same Tables (exports.Func x) = refl
+      same Memories (exports.Func x) = refl
+      same Globals (exports.Func x) = refl
+      same space (exports.Table x) = refl
+      same space (exports.Memory x) = refl
+      same space (exports.Global x) = refl
 
   -- a function that is exported has a type
   pub func_there : IsValid m → (name : List ℕ) (func : ℕ) → exported_func m name ≡ Some func
@@ -151,14 +161,14 @@ module _ (m : Module) (digest : List ℕ) where
   func_there valid name func is = typed (go (find (λ (e : Export). bytes_eq e.name name) m.exports) refl is)
     where
       go : (o : Option Export) → find (λ (e : Export). bytes_eq e.name name) m.exports ≡ o
-          → option_and_then func_export (option_map (λ (e : Export). e.kind) o) ≡ Some func
+          → option_and_then (index_in Funcs) (option_map (λ (e : Export). e.kind) o) ≡ Some func
           → func < length (func_indices m)
       go None found h = cc
       go (Some e) found h =
           by e.kind (find_holds (λ (x : Export). IsThere m x.kind) (λ (x : Export). bytes_eq x.name name) m.exports e
           (recursion_from_All (λ (x : Export). IsThere m x.kind) m.exports valid.outside.exports) found) h
         where
-          by : (kind : ExportKind) → IsThere m kind → func_export kind ≡ Some func → func < length (func_indices m)
+          by : (kind : ExportKind) → IsThere m kind → index_in Funcs kind ≡ Some func → func < length (func_indices m)
           by (exports.Func x) there h = let same : x ≡ func = cc h in subst (λ y. y < length (func_indices m)) same there
           by (exports.Table x) there h = cc
           by (exports.Memory x) there h = cc

@@ -1,5 +1,5 @@
 -- Memory and table are what is supplied, or else what is declared, and begin within the limits.
-use Rattle.std.proofs.Common.{◌≡◌, ℕ, ◌≤◌, List, [], ◌∷◌, ◌++◌, Option, Some, None, Ok, ◌&&◌, refl, subst, arith}
+use Rattle.std.proofs.Common.{◌≡◌, ℕ, ◌≤◌, List, [], ◌∷◌, ◌++◌, Option, Some, None, Ok, ◌&&◌, refl, sym, subst, arith}
 use Rattle.std.specs.Prelude.{All, nat_le}
 use Rattle.std.proofs.lemmas.Bool.{leb-true}
 use Rattle.std.proofs.lemmas.List.Elements.{All-head}
@@ -40,7 +40,7 @@ small_limits most (wanted ∷ imports) declared (Some limits) matches small =
     (and_right (nat_le wanted.min limits.min && keeps_max limits.max wanted.max && is_within limits.min limits.max)
     (nat_le limits.min most) matches)
 
-pub are_chosen : (m : Module) (script : Script) (supply : Supply) → IsSupported m → IsSupply m supply
+are_chosen : (m : Module) (script : Script) (supply : Supply) → IsSupported m → IsSupply m supply
     → supply_of m script ≡ Ok supply → HasLimits m supply
 are_chosen m script supply supported matches is =
     subst (λ s. IsSupply m s → HasLimits m s) (supply_is m script supply is)
@@ -52,3 +52,12 @@ are_chosen m script supply supported matches is =
       few_entries = small_limits MOST_ENTRIES (of_kind table_import m.imports) m.tables script.table given.table
           (small_tables m supported);
     }) matches
+
+-- what a script supplies for a module, which stands under another name, matches its imports and is chosen
+pub supplied_there : (checked it : Module) (script : Script) (supply : Supply) → it ≡ checked → IsSupported checked
+    → (supply_of checked script ≡ Ok supply → IsSupply checked supply) → supply_of it script ≡ Ok supply
+    → IsSupply checked supply × HasLimits it supply
+supplied_there checked it script supply same supported law is =
+    let own : supply_of checked script ≡ Ok supply = subst (λ m. supply_of m script ≡ Ok supply) same is in
+    let matches = law own in
+    (matches, subst (λ m. HasLimits m supply) (sym same) (are_chosen checked script supply supported matches own))

@@ -2,13 +2,13 @@
 use Rattle.std.proofs.Common.{◌≡◌, ℕ, ◌+◌, List, [], ◌∷◌, ◌++◌, length, Option, Some, None, Bool, true, false, IsTrue, map, refl, sym, ap, subst, ◌∙◌, arith}
 use Rattle.std.specs.Prelude.{All, option_map}
 use Rattle.std.proofs.lemmas.List.{length-map}
-use Rattle.std.proofs.lemmas.List.Elements.{All-nil, All-cons}
 use Rattle.wasm_syntax.specs.declared.values.Val.{Val}
 use Rattle.wasm_syntax.specs.declared.modules.Module.{Module}
 use Rattle.wasm_syntax.specs.declared.modules.ElemSeg.{ElemSeg}
 use Rattle.wasm_syntax.specs.declared.modules.DataSeg.{DataSeg}
 use Rattle.history_spec.specs.Store.{Store}
 use Rattle.history_spec.specs.Instantiation.{data_fits, elem_fits, first_false, first_unfit}
+use Rattle.instantiation_parts.proofs.Segments.{all_true}
 use Rattle.host_link.specs.Link.{with_elems_in}
 
 -- one among the first
@@ -37,17 +37,6 @@ first_later : (more at : ℕ) (ys : List Bool)
 first_later more at [] = refl
 first_later more at (true ∷ ys) = ap (λ k. first_false k ys) (omega arith) ∙ first_later more (at + 1) ys
 first_later more at (false ∷ ys) = refl
-
--- where none is false, it is true of all
-all_true : {X : Type 0} (p : X → Bool) (at : ℕ) (xs : List X) → first_false at (map p xs) ≡ None
-    → All (λ x. IsTrue (p x)) xs
-all_true p at [] is = All-nil (λ x. IsTrue (p x))
-all_true p at (x ∷ xs) is = by (p x) refl is (all_true p (at + 1) xs)
-  where
-    by : (b : Bool) → p x ≡ b → first_false at (b ∷ map p xs) ≡ None
-        → (first_false (at + 1) (map p xs) ≡ None → All (λ x. IsTrue (p x)) xs) → All (λ x. IsTrue (p x)) (x ∷ xs)
-    by true e i later = All-cons (λ x. IsTrue (p x)) x xs e (later i)
-    by false e i later = cc
 
 module _ (m : Module) (imported : List Val) (store : Store) (elems : List ElemSeg) (e : elems ≡ m.elems) where
   abbrev elem_tests : List Bool

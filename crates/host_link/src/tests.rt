@@ -1,6 +1,6 @@
 //! Modules that link and that do not, by the rules of the standard.
 
-ghost use Rattle.std.specs.Prelude.{◌≡◌, ◌<◌, ◌^◌, [], None, length};
+ghost use Rattle.std.specs.Prelude.{◌≡◌, ◌<◌, ◌^◌, [], ◌∷◌, IfOk, None, length};
 ghost use Rattle.wasm_syntax.specs.Index.{func_indices};
 ghost use Rattle.wasm_syntax.specs.Profile.{IsSupported};
 ghost use Rattle.host_script.specs.Fits.{Fits};
@@ -44,6 +44,16 @@ fn segments(alloc: Global, first: DataSeg, second: DataSeg) -> Result<List<DataS
         return Err(LinkFault::Memory);
     }
     Ok(List::from_vec(datas))
+}
+
+/// These limits alone.
+fn one_of(alloc: Global, limits: Limits) -> Result<List<Limits>, LinkFault>
+    ensures { IfOk result (λ list. list ≡ limits ∷ []) }
+{
+    match vec![in alloc; limits] {
+        Ok(list) => Ok(List::from_vec(list)),
+        Err(_) => Err(LinkFault::Memory),
+    }
 }
 
 /// A module of these parts alone.
@@ -111,11 +121,8 @@ fn linked(alloc: Global, module: Module, table: Option<Limits>) -> Result<Store,
 /// The last word of the memory of a module with a page and with two data segments, under a script
 /// that supplies nothing.
 fn last_word(alloc: Global, first: DataSeg, second: DataSeg) -> Result<u64, LinkFault> {
-    let Ok(memories) = vec![in alloc; Limits { min: 1, max: None }] else {
-        return Err(LinkFault::Memory);
-    };
+    let memories = one_of(alloc, Limits { min: 1, max: None })?;
     let datas = segments(alloc, first, second)?;
-    let memories = List::from_vec(memories);
     let module = module_of(alloc, List::new(alloc), List::new(alloc), memories, datas);
     let store = linked(alloc, module, None)?;
     match store.load_at(65_532, 4) {
@@ -155,10 +162,7 @@ fn declared_table(alloc: Global) -> Result<Store, LinkFault> {
         min: 2,
         max: Some(3),
     };
-    let Ok(tables) = vec![in alloc; limits] else {
-        return Err(LinkFault::Memory);
-    };
-    let tables = List::from_vec(tables);
+    let tables = one_of(alloc, limits)?;
     let none = List::new(alloc);
     let module = module_of(alloc, List::new(alloc), tables, none, List::new(alloc));
     linked(alloc, module, None)

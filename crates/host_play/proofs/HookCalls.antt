@@ -29,25 +29,11 @@ IsOfCalls test = (e : Entry) → is_call e ≡ false → test e ≡ false
 
 pub import_is_call : IsOfCalls is_import_call
 import_is_call (ImportCall import args) none = none
-import_is_call (HostCall func args) none = refl
-import_is_call (HostReturn func results) none = refl
-import_is_call (ImportReturn import results) none = refl
-import_is_call (Enter func) none = refl
-import_is_call (Exit func results) none = refl
-import_is_call (Step func number operands results found) none = refl
-import_is_call (Trap func number kind operands found) none = refl
-import_is_call HostTrap none = refl
+import_is_call entry none = refl
 
 pub hook_is_call : (n : ℕ) → IsOfCalls (is_hook_call n)
 hook_is_call n (ImportCall import args) none = cc
-hook_is_call n (HostCall func args) none = refl
-hook_is_call n (HostReturn func results) none = refl
-hook_is_call n (ImportReturn import results) none = refl
-hook_is_call n (Enter func) none = refl
-hook_is_call n (Exit func results) none = refl
-hook_is_call n (Step func number operands results found) none = refl
-hook_is_call n (Trap func number kind operands found) none = refl
-hook_is_call n HostTrap none = refl
+hook_is_call n entry none = refl
 
 pub none_called : (test : Entry → Bool) → IsOfCalls test → (es : List Entry) → all_calls es ≡ 0 → filter test es ≡ []
 none_called test only [] none = refl
@@ -72,14 +58,7 @@ none_stricter test strict only (e ∷ es) none = go (none_stricter test strict o
 
 hook_is_import : (n : ℕ) (e : Entry) → is_import_call e ≡ false → is_hook_call n e ≡ false
 hook_is_import n (ImportCall import args) none = cc
-hook_is_import n (HostCall func args) none = refl
-hook_is_import n (HostReturn func results) none = refl
-hook_is_import n (ImportReturn import results) none = refl
-hook_is_import n (Enter func) none = refl
-hook_is_import n (Exit func results) none = refl
-hook_is_import n (Step func number operands results found) none = refl
-hook_is_import n (Trap func number kind operands found) none = refl
-hook_is_import n HostTrap none = refl
+hook_is_import n entry none = refl
 
 pub no_hooks : (n : ℕ) (es : List Entry) → filter is_import_call es ≡ [] → filter (is_hook_call n) es ≡ []
 no_hooks n es none = none_stricter is_import_call (is_hook_call n) (hook_is_import n) es none

@@ -9,7 +9,7 @@ use Rattle.host_script.specs.declared.scripts.Response.{Response}
 use Rattle.host_script.specs.declared.scripts.ResponseEnd.TheVariants.{Trap}
 use Rattle.host_script.specs.declared.scripts.Script.{Script}
 use Rattle.history_spec.specs.declared.entries.Entry.{Entry}
-use Rattle.history_spec.specs.declared.entries.Entry.TheVariants.{HostCall, HostReturn, ImportCall, ImportReturn, Enter, Exit, Step, HostTrap}
+use Rattle.history_spec.specs.declared.entries.Entry.TheVariants.{HostCall, ImportCall}
 use Rattle.history_spec.specs.declared.entries.Entry.TheVariants as entry
 use Rattle.history_spec.specs.Code.{code_of}
 use Rattle.history_spec.specs.Configuration.{Activation, Config, InModule, InImport}
@@ -34,15 +34,8 @@ use Rattle.host_play.proofs.OtherAnswers.{active_callable, other_run, zeros}
 use Rattle.host_play.proofs.Joins.{run_of}
 
 host_is_call : IsOfCalls is_host_call
-host_is_call (ImportCall import args) none = refl
 host_is_call (HostCall func args) none = none
-host_is_call (HostReturn func results) none = refl
-host_is_call (ImportReturn import results) none = refl
-host_is_call (Enter func) none = refl
-host_is_call (Exit func results) none = refl
-host_is_call (Step func number operands results found) none = refl
-host_is_call (entry.Trap func number kind operands found) none = refl
-host_is_call HostTrap none = refl
+host_is_call e none = refl
 
 -- ---- steps after a start that calls nothing
 

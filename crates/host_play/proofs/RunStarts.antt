@@ -9,6 +9,7 @@ use Rattle.wasm_syntax.specs.declared.modules.Module.{Module}
 use Rattle.wasm_syntax.specs.Index.{imported_funcs}
 use Rattle.wasm_syntax.specs.Validity.{IsStart}
 use Rattle.host_script.specs.declared.scripts.Script.{Script}
+use Rattle.host_script.specs.Fits.{Fits}
 use Rattle.history_spec.specs.declared.entries.Entry.TheVariants.{HostCall}
 use Rattle.history_spec.specs.Code.{code_of, signature}
 use Rattle.history_spec.specs.Configuration.{InModule, InMain}
@@ -28,10 +29,23 @@ use Rattle.host_play.specs.declared.host_steps.HostStep.{HostStep}
 use Rattle.host_play.specs.declared.play_state.Host.TheVariants as host
 use Rattle.host_play.specs.declared.play_state.Stand.TheVariants as at
 use Rattle.host_play.specs.declared.play_state.PlayState.{PlayState}
-use Rattle.host_play.specs.Starts.{AtWork, Starts, StartsBy, CallsStart, CanStart, functions_in}
+use Rattle.host_play.specs.declared.plays.Play.{Play}
+use Rattle.host_play.specs.Starts.{AtWork, CanBegin, Starts, StartsBy, CallsStart, CanStart, functions_in}
 use Rattle.host_play.specs.HostSteps.{stand_after, entries_of}
 use Rattle.host_play.specs.Hosts.{Plays, kept}
 use Rattle.host_play.specs.Stands.{Leads}
+
+-- what is taken for granted, by another script that fits the module
+pub begins_with : (play : Play) {first script : Script} → CanBegin play first → Fits play.code.now script
+    → CanBegin play script
+begins_with play begins fits = record {
+  valid = begins.valid;
+  supported = begins.supported;
+  flat = begins.flat;
+  bound = begins.bound;
+  store = begins.store;
+  fits = fits;
+}
 
 -- what holds of a value holds of it for another reason
 pub if_ok : {T E : Type 0} (r : Result T E) (P Q : T → Type 0) → ((x : T) → P x → Q x) → IfOk r P → IfOk r Q

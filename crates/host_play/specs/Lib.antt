@@ -1,9 +1,9 @@
 pub mod ScriptedHosts
-pub mod Replies
 pub mod Arguments
 pub mod HostSteps
 pub mod Starts
 pub mod Hosts
+pub mod Replies
 pub mod ToldLines
 pub mod Stands
 pub mod HostParts

@@ -1,18 +1,34 @@
 -- The start of a run.
 use Rattle.std.specs.Prelude.{◌≡◌, ℕ, ◌≤◌, [], Option, Some, None, Bool, true, false, nat_lt}
 use Rattle.wasm_syntax.specs.declared.modules.Module.{Module}
+use Rattle.wasm_syntax.specs.Validity.{IsValid}
+use Rattle.wasm_syntax.specs.Profile.{IsSupported}
 use Rattle.host_script.specs.declared.scripts.Script.{Script}
+use Rattle.host_script.specs.Fits.{Fits}
 use Rattle.history_spec.specs.Store.{Store}
 use Rattle.history_spec.specs.Run.{start_in_store}
 use Rattle.host_actions.specs.declared.calls.Functions.{Functions}
+use Rattle.type_safety.specs.Stores.{IsStore}
 use Rattle.wasm_flat.specs.declared.code.Flat.{Flat}
+use Rattle.wasm_flat.specs.Bounds.{IsBound}
+use Rattle.wasm_flat.specs.FlatCode.{flat_of}
 use Rattle.wasm_interp.specs.Calls.{InvokesRun, IsCallable}
 use Rattle.wasm_interp.specs.State.{IsAtHost}
 use Rattle.host_play.specs.declared.host_steps.HostStep.{HostStep}
 use Rattle.host_play.specs.declared.host_steps.HostStep.TheVariants as host_step
 use Rattle.host_play.specs.declared.play_state.PlayState.{PlayState}
+use Rattle.host_play.specs.declared.plays.Play.{Play}
 use Rattle.host_play.specs.HostSteps.{entries_of, stand_after}
 use Rattle.host_play.specs.Stands.{Leads}
+
+-- what the run of a module under a script takes for granted, by its flat code and from the store that it starts with
+pub record CanBegin (play : Play) (script : Script) : Type 0 where
+  pub valid : IsValid play.code.now
+  pub supported : IsSupported play.code.now
+  pub flat : play.flat ≡ flat_of play.code.now
+  pub bound : IsBound play.flat
+  pub store : IsStore play.code.now play.store
+  pub fits : Fits play.code.now script
 
 -- a start function that the module defines can be called
 abbrev pub CanStart : PlayState → Option ℕ → Type 0

@@ -1,20 +1,14 @@
 // The run of a module in the hooked form, with hooks that take its calls.
 
-ghost use Rattle.std.specs.Prelude.{◌≡◌};
 ghost use Rattle.wasm_syntax.specs.declared.modules.Module as syntax;
-ghost use Rattle.wasm_syntax.specs.Validity.{IsValid};
-ghost use Rattle.wasm_syntax.specs.Profile.{IsSupported};
-ghost use Rattle.host_script.specs.Fits.{Fits};
 ghost use Rattle.history_spec.specs.Run.{start_in_store};
 ghost use Rattle.history_spec.specs.Step.{StepResult};
-ghost use Rattle.type_safety.specs.Stores.{IsStore};
-ghost use Rattle.wasm_flat.specs.Bounds.{IsBound};
-ghost use Rattle.wasm_flat.specs.FlatCode.{flat_of};
 ghost use Rattle.wasm_flat.specs.Meters.{FitsMeter};
 ghost use Rattle.host_play.specs.HookedResults.{HasHooksAfter, IsPlayedWithHooks, hooked_run};
 ghost use Rattle.host_play.specs.HooksSoFar.{CanPlay, run_in};
 ghost use Rattle.host_play.specs.HostSteps.{entries_of, stand_after};
 ghost use Rattle.host_play.specs.Stands.{Leads};
+ghost use Rattle.host_play.specs.Starts.{CanBegin};
 
 use crate::hooked_parts::play_parts;
 use crate::host_steps::HostStep;
@@ -26,9 +20,7 @@ use crate::starts::start;
 use history_spec::Outcome;
 use hook_names::Hooks;
 use std::alloc::Global;
-use wasm_flat::{Flat, Meter};
-use wasm_store::Store;
-use wasm_syntax::Module;
+use wasm_flat::Meter;
 
 /// The run of a module whose last imported functions are the hooks, under a script and a meter, within a number of
 /// turns. A number of imports stand before the hooks. Each call of a hook goes to `hooks` with its arguments and a view
@@ -48,54 +40,35 @@ pub fn play<H: Hooks>(
     imports: u32,
     hooks: &mut H,
 ) -> Result<Outcome, PlayFault>
-    requires valid { IsValid play.code.now }
-    requires supported { IsSupported play.code.now }
+    requires begins { CanBegin play play.script.now }
     requires hooked { HasHooksAfter play.code.now imports }
     requires meter { FitsMeter play.code.now meter.now }
-    requires fits { Fits play.code.now play.script.now }
-    requires flat { play.flat ≡ flat_of play.code.now }
-    requires bound { IsBound play.flat }
-    requires store { IsStore play.code.now play.store }
     ensures { IsPlayedWithHooks H.is_step
         (hooked_run play.entry.code.now play.entry.script.now play.entry.store meter.now imports turns)
         result hooks.old hooks.new }
 {
-    let Play {
-        code,
-        flat,
-        script,
-        store,
-    } = play;
-    let host = ScriptedHost::with_hooks(script, imports);
-    play_from(
-        alloc, code, flat, &host, store, meter, turns, imports, hooks,
-    )
+    let host = ScriptedHost::with_hooks(play.script, imports);
+    play_from(alloc, play, &host, meter, turns, imports, hooks)
 }
 
-/// The run of a module by its flat code and from the store that it starts with.
+/// The run of a module's instantiation under a script.
 fn play_from<H: Hooks>(
     alloc: Global,
-    module: &Module,
-    flat: Flat,
+    play: Play,
     script: &ScriptedHost<'_>,
-    store: Store,
     meter: &Meter,
     turns: u64,
     imports: u32,
     hooks: &mut H,
 ) -> Result<Outcome, PlayFault>
-    requires valid { IsValid «module».now }
-    requires supported { IsSupported «module».now }
-    requires flat { flat ≡ flat_of «module».now }
-    requires bound { IsBound flat }
-    requires store { IsStore «module».now store }
-    requires fits { Fits «module».now script.now }
-    requires hooked { CanPlay «module».now script.now meter.now imports }
+    requires begins { CanBegin play script.now }
+    requires hooked { CanPlay play.code.now script.now meter.now imports }
     ensures { IsPlayedWithHooks H.is_step
-        (run_in «module».now script.now meter.now imports (start_in_store «module».now script.now store) turns)
+        (run_in play.entry.code.now script.now meter.now imports
+        (start_in_store play.entry.code.now script.now play.entry.store) turns)
         result hooks.old hooks.new }
 {
-    let (playing, host_step) = start(alloc, module, flat, script, store)?;
+    let (playing, host_step) = start(alloc, play, script)?;
     play_start(
         script, alloc, hooks, imports, playing, meter, &host_step, turns,
     )

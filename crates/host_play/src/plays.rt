@@ -1,15 +1,10 @@
 // The run of the instantiation of a module.
 
 ghost use Rattle.std.specs.Prelude.{◌≡◌, Ok};
-ghost use Rattle.wasm_syntax.specs.Validity.{IsValid};
-ghost use Rattle.wasm_syntax.specs.Profile.{IsSupported};
-ghost use Rattle.host_script.specs.Fits.{Fits};
 ghost use Rattle.history_spec.specs.Run.{run_start, program_of, start_in_store};
 ghost use Rattle.history_spec.specs.Step.{StepResult};
-ghost use Rattle.type_safety.specs.Stores.{IsStore};
-ghost use Rattle.wasm_flat.specs.Bounds.{IsBound};
-ghost use Rattle.wasm_flat.specs.FlatCode.{flat_of};
 ghost use Rattle.host_play.specs.Results.{IsTold};
+ghost use Rattle.host_play.specs.Starts.{CanBegin};
 
 use crate::results::{PlayFault, Told};
 use crate::scripted_host::ScriptedHost;
@@ -38,22 +33,12 @@ pub struct Play<'a> {
 /// done, or of the call that has no response. `Spent` where the run needs more turns. `Memory` where
 /// memory is out.
 pub fn tell(alloc: Global, play: Play, turns: u64) -> Result<Told, PlayFault>
-    requires valid { IsValid play.code.now }
-    requires supported { IsSupported play.code.now }
-    requires fits { Fits play.code.now play.script.now }
-    requires flat { play.flat ≡ flat_of play.code.now }
-    requires bound { IsBound play.flat }
-    requires store { IsStore play.code.now play.store }
+    requires begins { CanBegin play play.script.now }
     requires opened { run_start play.code.now play.script.now
         ≡ Ok (start_in_store play.code.now play.script.now play.store) }
     ensures { (initial : StepResult) → run_start play.entry.code.now play.entry.script.now ≡ Ok initial
         → IsTold (program_of play.entry.code.now play.entry.script.now) initial turns result }
 {
-    let Play {
-        code,
-        flat,
-        script,
-        store,
-    } = play;
-    tell_from(alloc, code, flat, &ScriptedHost::of(script), store, turns)
+    let host = ScriptedHost::of(play.script);
+    tell_from(alloc, play, &host, turns)
 }

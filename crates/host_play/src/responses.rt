@@ -4,7 +4,7 @@ ghost use Rattle.std.specs.Prelude.{◌≡◌, ◌<◌, ◌≤◌, ◌^◌, None
 ghost use Rattle.hook_spec.specs.Hooks.{hook_count};
 ghost use Rattle.history_spec.specs.Step.{response_to};
 ghost use Rattle.host_play.specs.Hosts.{action_at, next_of, IsResponse};
-ghost use Rattle.host_play.specs.Replies.{nothing_done, response_in};
+ghost use Rattle.host_play.specs.Replies.{IsReply, nothing_done, response_in};
 
 use crate::play_state::Host;
 use crate::scripted_host::ScriptedHost;
@@ -41,12 +41,7 @@ pub(crate) fn response_to(script: &Script, import: u32, number: u64) -> Option<&
 
 /// What the host does at that call by the script.
 pub(crate) fn reply_of(script: &Script, import: u32, number: u64) -> Option<Reply<'_>>
-    ensures own { MatchOption result
-        (response_to script.now.imports import number ≡ None)
-        (λ reply. response_to script.now.imports import number ≡ Some (response_in reply)) }
-    ensures kept { MatchOption result
-        (IsResponse script.now import number None)
-        (λ reply. IsResponse script.now import number (Some (response_in reply))) }
+    ensures { IsReply script.now import number result }
 {
     match response_to(script, import, number) {
         Some(response) => Some(Reply {

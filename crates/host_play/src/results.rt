@@ -7,7 +7,6 @@ ghost use Rattle.host_play.specs.HookFaults.{fault_of_hook};
 use history_spec::{FaultKind, Outcome};
 use hook_names::HookFault;
 use no_memory::NoMemory;
-use std::alloc::AllocError;
 use thiserror::Error;
 use wasm_syntax::Bytes;
 
@@ -59,14 +58,6 @@ impl From<NoMemory> for PlayFault {
     ghost from_gives = { λ _ fault. fault ≡ Memory };
 
     fn from(_refused: NoMemory) -> PlayFault {
-        PlayFault::Memory
-    }
-}
-
-impl From<AllocError> for PlayFault {
-    ghost from_gives = { λ _ fault. fault ≡ Memory };
-
-    fn from(_refused: AllocError) -> PlayFault {
         PlayFault::Memory
     }
 }

@@ -1,10 +1,8 @@
 // The host that a script describes.
 
-ghost use Rattle.std.specs.Prelude.{◌≡◌, None, Some, MatchOption};
+ghost use Rattle.std.specs.Prelude.{◌≡◌};
 ghost use Rattle.hook_spec.specs.HookedRuns.{hooked_script};
-ghost use Rattle.history_spec.specs.Step.{response_to};
-ghost use Rattle.host_play.specs.Hosts.{IsResponse};
-ghost use Rattle.host_play.specs.Replies.{response_in};
+ghost use Rattle.host_play.specs.Replies.{IsReply};
 
 use crate::responses::{Reply, hook_reply, reply_of};
 use hook_spec::hooks_are_answered;
@@ -58,12 +56,7 @@ impl<'a> ScriptedHost<'a> {
 
     /// What it does at the call of this number, counted from 0, of an import.
     pub(crate) fn reply(&self, import: u32, number: u64) -> Option<Reply<'a>>
-        ensures own { MatchOption result
-            (response_to self.now.imports import number ≡ None)
-            (λ reply. response_to self.now.imports import number ≡ Some (response_in reply)) }
-        ensures kept { MatchOption result
-            (IsResponse self.now import number None)
-            (λ reply. IsResponse self.now import number (Some (response_in reply))) }
+        ensures { IsReply self.now import number result }
     {
         hooks_are_answered();
         match self.hooks_after {

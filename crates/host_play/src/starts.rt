@@ -1,19 +1,15 @@
 // The start of a run.
 
 ghost use Rattle.std.specs.Prelude.{◌≡◌, [], ◌∷◌, replicate, IfOk, false};
-ghost use Rattle.wasm_syntax.specs.Validity.{IsValid};
-ghost use Rattle.wasm_syntax.specs.Profile.{IsSupported};
-ghost use Rattle.host_script.specs.Fits.{Fits};
-ghost use Rattle.type_safety.specs.Stores.{IsStore};
 ghost use Rattle.wasm_flat.specs.Bounds.{IsBound};
-ghost use Rattle.wasm_flat.specs.FlatCode.{flat_of};
 ghost use Rattle.flat_steps.specs.Bounds.{FitsCode};
 ghost use Rattle.wasm_interp.specs.State.{state};
-ghost use Rattle.host_play.specs.Starts.{CanStart, LeadsFirst, Starts, functions_in};
+ghost use Rattle.host_play.specs.Starts.{CanBegin, CanStart, LeadsFirst, Starts, functions_in};
 
 use crate::actions::call;
 use crate::host_steps::HostStep;
 use crate::play_state::{Host, Hosts, PlayState};
+use crate::plays::Play;
 use crate::scripted_host::ScriptedHost;
 use flat_steps::stores_fit;
 use host_actions::Functions;
@@ -23,36 +19,31 @@ use type_safety::typed_code;
 use wasm_flat::Flat;
 use wasm_interp::{Machine, calls_are_ready, hosts_go_on};
 use wasm_store::Store;
-use wasm_syntax::{Indices, List, Module};
+use wasm_syntax::{Indices, List};
 
-/// A machine for a module's flat code with the host on top, and what the host does first, by the
-/// module and from the store that its run starts with.
+/// A machine for a module's flat code with the host on top, and what the host does first, from the store that the
+/// module's run starts with.
 ///
 /// # Errors
 ///
 /// Where memory is out.
 pub(crate) fn start(
     alloc: Global,
-    module: &Module,
-    flat: Flat,
+    play: Play,
     script: &ScriptedHost<'_>,
-    store: Store,
 ) -> Result<(PlayState, HostStep), NoMemory>
-    requires supported { IsSupported «module».now }
-    requires valid { IsValid «module».now }
-    requires flat { flat ≡ flat_of «module».now }
-    requires bound { IsBound flat }
-    requires store { IsStore «module».now store }
-    requires fits { Fits «module».now script.now }
-    ensures { IfOk result (λ started. LeadsFirst «module».now script.now store started.1 started.0) }
+    requires { CanBegin play script.now }
+    ensures { IfOk result (λ started. LeadsFirst play.entry.code.now script.now play.entry.store started.1 started.0) }
 {
     typed_code();
     stores_fit();
     hosts_go_on();
     calls_are_ready();
     let _script = script;
+    let first = play.code.start;
+    let Play { flat, store, .. } = play;
     let playing = new_play_state(alloc, flat, store)?;
-    with_first_step(alloc, playing, module.start)
+    with_first_step(alloc, playing, first)
 }
 
 /// A run under way with what the host does first.

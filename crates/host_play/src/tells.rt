@@ -1,18 +1,13 @@
 // A run, told.
 
 ghost use Rattle.std.specs.Prelude.{◌≡◌, ◌+◌, ◌*◌, ◌<◌, ◌≤◌, ◌++◌, IfOk, IfErr};
-ghost use Rattle.wasm_syntax.specs.Validity.{IsValid};
-ghost use Rattle.wasm_syntax.specs.Profile.{IsSupported};
 ghost use Rattle.wasm_syntax.specs.declared.modules.Module as syntax;
-ghost use Rattle.host_script.specs.Fits.{Fits};
 ghost use Rattle.history_spec.specs.Line.{line, outcome_text};
 ghost use Rattle.history_spec.specs.Run.{program_of, start_in_store};
 ghost use Rattle.history_spec.specs.Step.{StepResult};
-ghost use Rattle.type_safety.specs.Stores.{IsStore};
-ghost use Rattle.wasm_flat.specs.Bounds.{IsBound};
-ghost use Rattle.wasm_flat.specs.FlatCode.{flat_of};
 ghost use Rattle.host_play.specs.declared.results.PlayFault.TheVariants.{Memory};
 ghost use Rattle.host_play.specs.HostSteps.{entries_of, stand_after};
+ghost use Rattle.host_play.specs.Starts.{CanBegin};
 ghost use Rattle.host_play.specs.Stands.{IsPlayed, Leads, rest};
 ghost use Rattle.host_play.specs.RunsSoFar.{BeginsPart, IsOn, TellsOn, TellsSoFar, UpToEnd};
 ghost use Rattle.host_play.specs.Results.{IsTold};
@@ -20,6 +15,7 @@ ghost use Rattle.host_play.specs.ToldLines.{Tells};
 
 use crate::host_steps::HostStep;
 use crate::play_state::{PlayState, Stand};
+use crate::plays::Play;
 use crate::results::{PlayFault, RunEnd, Told};
 use crate::scripted_host::ScriptedHost;
 use crate::starts::start;
@@ -28,30 +24,21 @@ use crate::told_text::ToldText;
 use history_lines::print_outcome;
 use no_memory::NoMemory;
 use std::alloc::Global;
-use wasm_flat::Flat;
 use wasm_interp::TurnEntries;
-use wasm_store::Store;
-use wasm_syntax::{List, Module};
+use wasm_syntax::List;
 
-/// The run of a module under a script, within a number of turns, by its flat code and from the store
-/// that it starts with.
+/// The run of a module's instantiation under a script, within a number of turns.
 pub(crate) fn tell_from(
     alloc: Global,
-    module: &Module,
-    flat: Flat,
+    play: Play,
     script: &ScriptedHost<'_>,
-    store: Store,
     turns: u64,
 ) -> Result<Told, PlayFault>
-    requires supported { IsSupported «module».now }
-    requires valid { IsValid «module».now }
-    requires flat { flat ≡ flat_of «module».now }
-    requires bound { IsBound flat }
-    requires store { IsStore «module».now store }
-    requires fits { Fits «module».now script.now }
-    ensures { IsTold (program_of «module».now script.now) (start_in_store «module».now script.now store) turns result }
+    requires { CanBegin play script.now }
+    ensures { IsTold (program_of play.entry.code.now script.now)
+        (start_in_store play.entry.code.now script.now play.entry.store) turns result }
 {
-    let (mut playing, host_step) = start(alloc, module, flat, script, store)?;
+    let (mut playing, host_step) = start(alloc, play, script)?;
     tell_start(script, alloc, &mut playing, host_step, turns)
 }
 

@@ -5,4 +5,4 @@ mod matches;
 mod supply;
 
 pub use no_memory::NoMemory;
-pub use supply::supply_of;
+pub use supply::{imports_memory, imports_table, supply_of};

@@ -1,10 +1,10 @@
 // What a script supplies for a module's imports (Core 1.0, 4.5.2).
 
-ghost use Rattle.std.specs.Prelude.{◌≡◌, ◌≤◌, None, Some, Ok, Err, IfOk, IfErr, OnOk, option_and_then, slice_get, is_some};
+ghost use Rattle.std.specs.Prelude.{◌≡◌, ◌≤◌, None, Some, Ok, Err, IfOk, IfErr, OnOk, option_and_then, slice_get, cond, is_some};
 ghost use Rattle.std.specs.List.{list_any};
 ghost use Rattle.host_script.specs.declared.scripts.LinkFault.TheVariants.{Memory};
-ghost use Rattle.host_script.specs.Supply.{import_match, globals_in as global_count, fault_or, first_fault, given_values as values_given, if_imported, supply_of as supply_meant};
-ghost use Rattle.wasm_syntax.specs.Index.{of_kind, memory_import, table_import};
+ghost use Rattle.host_script.specs.Supply.{import_match, globals_in as global_count, fault_or, first_fault, given_values as values_given, supply_of as supply_meant};
+ghost use Rattle.wasm_syntax.specs.Index.{memory_import, table_import};
 
 use crate::matches::{limits_fault, value_fault};
 use host_script::{LinkFault, Script, Supply};
@@ -81,7 +81,7 @@ fn given_values(alloc: Global, given: &[Option<Val>]) -> Result<Vals, NoMemory>
 }
 
 /// Whether a memory is imported.
-fn imports_memory(imports: &[Import]) -> bool
+pub fn imports_memory(imports: &[Import]) -> bool
     ensures { result ≡ list_any (λ import. is_some (memory_import import.kind)) imports.now }
 {
     imports
@@ -90,7 +90,7 @@ fn imports_memory(imports: &[Import]) -> bool
 }
 
 /// Whether a table is imported.
-fn imports_table(imports: &[Import]) -> bool
+pub fn imports_table(imports: &[Import]) -> bool
     ensures { result ≡ list_any (λ import. is_some (table_import import.kind)) imports.now }
 {
     imports
@@ -98,28 +98,11 @@ fn imports_table(imports: &[Import]) -> bool
         .any(|import| matches!(import.kind, ImportKind::Table(_)))
 }
 
-/// The limits of the memory that a script supplies, where one is imported.
-#[tactic(auto, using(crate::proofs::Imported::imported_by_test))]
-fn supplied_memory(imports: &[Import], script: &Script) -> Option<Limits>
-    ensures { result ≡ if_imported (of_kind memory_import imports.now) script.now.memory }
+/// The limits that a script supplies, where something of their kind is imported.
+fn if_imported(is_imported: bool, limits: Option<Limits>) -> Option<Limits>
+    ensures { result ≡ cond is_imported limits None }
 {
-    if imports_memory(imports) {
-        script.memory
-    } else {
-        None
-    }
-}
-
-/// The limits of the table that a script supplies, where one is imported.
-#[tactic(auto, using(crate::proofs::Imported::imported_by_test))]
-fn supplied_table(imports: &[Import], script: &Script) -> Option<Limits>
-    ensures { result ≡ if_imported (of_kind table_import imports.now) script.now.table }
-{
-    if imports_table(imports) {
-        script.table
-    } else {
-        None
-    }
+    if is_imported { limits } else { None }
 }
 
 /// What a script supplies for the imports of a module (Core 1.0, 4.5.2). The script fits the module.
@@ -138,8 +121,8 @@ pub fn supply_of(alloc: Global, module: &Module, script: &Script) -> Result<Supp
         return Err(LinkFault::Memory);
     };
     Ok(Supply {
-        memory: supplied_memory(imports, script),
-        table: supplied_table(imports, script),
+        memory: if_imported(imports_memory(imports), script.memory),
+        table: if_imported(imports_table(imports), script.table),
         globals,
     })
 }

@@ -7,7 +7,6 @@ use Rattle.wasm_syntax.specs.declared.values.Val.{Val}
 use Rattle.wasm_syntax.specs.declared.limits.TheConstants.{MOST_ENTRIES}
 use Rattle.wasm_syntax.specs.declared.modules.Module.{Module}
 use Rattle.wasm_syntax.specs.Alike.{same_types}
-use Rattle.wasm_syntax.specs.Index.{imported_funcs}
 use Rattle.host_script.specs.Supply.{is_within}
 use Rattle.host_script.specs.declared.scripts.Action.{Action}
 use Rattle.host_script.specs.declared.scripts.Action.TheVariants.{Write, Copy, SetTable, SetGlobal, Grow, GrowTable, Call, CallTable}
@@ -15,11 +14,12 @@ use Rattle.host_script.specs.declared.scripts.Script.{Script}
 use Rattle.history_spec.specs.declared.entries.FaultKind.{FaultKind}
 use Rattle.history_spec.specs.declared.entries.FaultKind.TheVariants.{Outside, TableOutside, GrowRefused}
 use Rattle.history_spec.specs.Store.{Store, Memory, Table, bytes_at, with_bytes_at, with_entry, grown_memory, grown_table, grown_table_if}
-use Rattle.history_spec.specs.Code.{Code, code_of, signature, types_of}
+use Rattle.history_spec.specs.Code.{signature, types_of}
 use Rattle.history_spec.specs.Action.{ActionResult, Enters, on, or_fault, if_fits, address_of, with_new_bytes, calls_defined, calls_entry, perform}
 use Rattle.hook_spec.specs.Hooks.{renumber, renumbered_table, renumbered_view}
 use Rattle.hook_spec.specs.HookedRuns.{renumbered_action}
-use Rattle.inserted_code.proofs.HookedProgram.{hooked_program, HookedFacts}
+use Rattle.inserted_code.proofs.FoundAlike as found
+use Rattle.inserted_code.proofs.HookedProgram.{codes, HookedFacts}
 use Rattle.inserted_code.proofs.PieceFacts.{IsActedAlike}
 
 -- ---- entries with functions renumbered
@@ -70,14 +70,7 @@ module _ (n : ℕ) where
 
 module _ (m : Module) (digest : List ℕ) (script : Script) (facts : HookedFacts m digest script) (store : Store)
     (args : List Val) where
-  abbrev n : ℕ
-  n = imported_funcs m
-
-  abbrev code : Code
-  code = code_of m
-
-  abbrev hooked : Code
-  hooked = (hooked_program m digest script).code
+  open (codes m digest script) use {n, code, hooked}
 
   abbrev AreAlike : ActionResult → ActionResult → Type 0
   AreAlike = IsActedAlike n
@@ -86,9 +79,8 @@ module _ (m : Module) (digest : List ℕ) (script : Script) (facts : HookedFacts
   found_alike : {X Y : Type 0} (o : Option X) (other : Option Y) (f : X → Y) (go : X → ActionResult)
       (go_other : Y → ActionResult) → ((x : X) → o ≡ Some x → other ≡ Some (f x))
       → ((x : X) → AreAlike (go x) (go_other (f x))) → AreAlike (on o go) (on other go_other)
-  found_alike None other f go go_other there alike = tt
-  found_alike (Some x) other f go go_other there alike =
-      subst (λ o. AreAlike (go x) (on o go_other)) (sym (there x refl)) (alike x)
+  found_alike o other f go go_other there alike =
+      found.found_alike AreAlike (λ o. on o go) (λ o. on o go_other) f o other there tt alike
 
   same_alike : {X : Type 0} (o : Option X) (go go_other : X → ActionResult)
       → ((x : X) → AreAlike (go x) (go_other x)) → AreAlike (on o go) (on o go_other)

@@ -10,7 +10,7 @@ use Rattle.wasm_numeric.specs.Integer.{wrap}
 use Rattle.history_spec.specs.Store.{Store, Memory, with_bytes_copied, with_bytes_filled}
 use Rattle.history_spec.specs.Code.{Code, i32_value}
 use Rattle.history_spec.specs.Configuration.{Place, Frame, Activation}
-use Rattle.history_spec.specs.Instruction.{Execution, Operands, on, pop, bits_at, store_result, execute_plain}
+use Rattle.history_spec.specs.Instruction.{Execution, Operands, on, pop, takes, bits_at, store_result, execute_plain}
 use Rattle.history_spec.specs.Step.{Program}
 use Rattle.history_spec.specs.Run.{Meter}
 use Rattle.hook_spec.specs.declared.hooks.Hook.{Hook}
@@ -113,19 +113,29 @@ module _ (s : Site) (program : Program) (meter : Meter) (has : HasHooks (imports
         on_tells frame.values (instrs.GlobalSet global) (pop (old.ty ∷ []) frame.values) _ (λ p popped.
         record { tells = λ rule. global_told frame.values global old (are old is) p popped }))
 
+    -- a copy or a fill
+    before_range : (i : Instr) (changed : Memory → List Val → Option (List ℕ))
+        → ((p : Operands) → pop (I32 ∷ I32 ∷ I32 ∷ []) frame.values ≡ Some p
+        → Tells frame.values (inserted_before s i) (told_before i p.operands store))
+        → TellsBefore frame.values i
+        (on store.memory (λ memory. takes frame (I32 ∷ I32 ∷ I32 ∷ [])
+        (λ operands rest. store_result store frame next memory operands rest (changed memory operands))))
+    before_range i changed tells =
+        on_tells frame.values i store.memory _ (λ memory is.
+        on_tells frame.values i (pop (I32 ∷ I32 ∷ I32 ∷ []) frame.values) _ (λ p popped.
+        stored i memory p.operands p.rest (tells p popped) (changed memory p.operands)))
+
     module _ (words : (j : ℕ) (v : Val) → slice_get frame.values j ≡ Some v → v.ty ≡ I32 → v.bits < 2 ^ 32) where
       pub before_copy : TellsBefore frame.values instrs.MemoryCopy (execute_plain code store frame next
           instrs.MemoryCopy)
       before_copy =
-          on_tells frame.values instrs.MemoryCopy store.memory _ (λ memory is.
-          on_tells frame.values instrs.MemoryCopy (pop (I32 ∷ I32 ∷ I32 ∷ []) frame.values) _ (λ p popped.
-          stored instrs.MemoryCopy memory p.operands p.rest (range_told frame.values Copy refl words p popped)
-          (with_bytes_copied memory.bytes (bits_at p.operands 0) (bits_at p.operands 1) (bits_at p.operands 2))))
+          before_range instrs.MemoryCopy (λ memory operands.
+          with_bytes_copied memory.bytes (bits_at operands 0) (bits_at operands 1) (bits_at operands 2))
+          (range_told frame.values Copy refl words)
 
       pub before_fill : TellsBefore frame.values instrs.MemoryFill (execute_plain code store frame next
           instrs.MemoryFill)
       before_fill =
-          on_tells frame.values instrs.MemoryFill store.memory _ (λ memory is.
-          on_tells frame.values instrs.MemoryFill (pop (I32 ∷ I32 ∷ I32 ∷ []) frame.values) _ (λ p popped.
-          stored instrs.MemoryFill memory p.operands p.rest (range_told frame.values Fill refl words p popped)
-          (with_bytes_filled memory.bytes (bits_at p.operands 0) (bits_at p.operands 1 % 256) (bits_at p.operands 2))))
+          before_range instrs.MemoryFill (λ memory operands.
+          with_bytes_filled memory.bytes (bits_at operands 0) (bits_at operands 1 % 256) (bits_at operands 2))
+          (range_told frame.values Fill refl words)

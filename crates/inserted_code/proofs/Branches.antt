@@ -7,7 +7,7 @@ use Rattle.wasm_syntax.specs.declared.signatures.FuncType.{FuncType}
 use Rattle.wasm_syntax.specs.Nest.{Nest, Empty, InBlock, InLoop, InIf, size}
 use Rattle.history_spec.specs.Store.{Store}
 use Rattle.history_spec.specs.Code.{Code}
-use Rattle.history_spec.specs.Configuration.{place, Label, Frame, topmost, push_all}
+use Rattle.history_spec.specs.Configuration.{Place, place, Label, Frame, topmost, push_all}
 use Rattle.history_spec.specs.Instruction.{Goes, Calls, Returns, Execution, Did, Traps, NoRule, Operands, on, pop, bits_at, block_arity, choice, enters, to_label, to_caller, branch_to, execute_at}
 use Rattle.history_spec.specs.Run.{Meter}
 use Rattle.hook_spec.specs.Hooks.{renumber, renumbered_view}
@@ -56,6 +56,22 @@ module _ (meter : Meter) (s : Site) (ty : FuncType) (last : ℕ) (other : Frame)
   IsMoved (Did operands results found (Calls frame func args)) second = ⊥
   IsMoved (Did operands results found (Returns given)) second =
       (store : Store) × (second ≡ Did operands results found (Goes store (ending given)))
+
+  -- an operand is taken alike
+  pub taken : (values : List Val) → other.values ≡ values → (go go_other : List Val → List Val → Execution)
+      → ((operands rest : List Val) → IsMoved (go operands rest) (go_other operands rest))
+      → IsMoved (on (pop (I32 ∷ []) values) (λ p. go p.operands p.rest))
+      (on (pop (I32 ∷ []) other.values) (λ p. go_other p.operands p.rest))
+  taken values alike go go_other each =
+      subst
+      (λ vs. IsMoved (on (pop (I32 ∷ []) values) (λ p. go p.operands p.rest))
+      (on (pop (I32 ∷ []) vs) (λ p. go_other p.operands p.rest)))
+      (sym alike) (by (pop (I32 ∷ []) values))
+    where
+      by : (o : Option Operands)
+          → IsMoved (on o (λ p. go p.operands p.rest)) (on o (λ p. go_other p.operands p.rest))
+      by None = tt
+      by (Some p) = each p.operands p.rest
 
   module _ (store : Store) (frame : Frame) (arity : frame.arity ≡ block_arity (slice_get ty.results 0)) where
     -- ---- branches
@@ -109,23 +125,28 @@ module _ (meter : Meter) (s : Site) (ty : FuncType) (last : ℕ) (other : Frame)
           subst (λ k. AreWeights meter (renumber n s.func) (number + k) more) (weighed body)
           (later_weights meter (renumber n s.func) number (weights_of_nest s body) more h)
 
-      -- the number after a body that begins after this one
-      abbrev after_body : Nest → ℕ → ℕ
-      after_body body number = number + 1 + size (instrumented_nest s body)
-
-      -- the weights of a body, and of what is after it
-      module _ (body rest : Nest) (number : ℕ)
-          (h : AreWeights meter (renumber n s.func) (number + 1) (weights_of_nest s body ++ weights_of_nest s rest)) where
-        body_weights : AreWeights meter (renumber n s.func) (number + 1) (weights_of_nest s body)
-        body_weights =
-            first_weights meter (renumber n s.func) (number + 1) (weights_of_nest s body) (weights_of_nest s rest) h
-
-        rest_weights : AreWeights meter (renumber n s.func) (after_body body number) (weights_of_nest s rest)
-        rest_weights = after_nest body (number + 1) (weights_of_nest s rest) h
-
       -- the second activation, with the labels beside those of the first
       abbrev with_labels : Frame
       with_labels = record other { labels = hooked_labels s ty frame.labels numbers last }
+
+      -- both go in under a label whose places have their weights
+      pub under_label : (operands values others : List Val) → others ≡ values → (count : ℕ) (inside to after : Place)
+          (number : ℕ) (label : ℕ × ℕ) → IsWeighed meter s inside.rest number → IsWeighed meter s to.rest label.0
+          → IsWeighed meter s after.rest label.1
+          → IsMoved (enters store frame operands values count inside to after)
+          (enters (renumbered_view n store) with_labels operands others count (hooked_place s inside number)
+          (hooked_place s to label.0) (hooked_place s after label.1))
+      under_label operands values others same count inside to after number label at target beyond =
+          record {
+            numbers = label ∷ numbers;
+            number = number;
+            labels = (target, beyond, labels);
+            at = at;
+            is = ap
+                (λ vs. enters (renumbered_view n store) with_labels operands vs count (hooked_place s inside number)
+                (hooked_place s to label.0) (hooked_place s after label.1))
+                same;
+          }
 
       -- control goes into a nest in both
       abbrev IsEntered : Nest → (at number : ℕ) → Type 0
@@ -133,89 +154,51 @@ module _ (meter : Meter) (s : Site) (ty : FuncType) (last : ℕ) (other : Frame)
           IsMoved (execute_at code store frame nest at)
           (execute_at second (renumbered_view n store) with_labels (instrumented_nest s nest) number)
 
-      -- a block or a loop
-      pub enters_block : (block : Option ValType) (body rest : Nest) (at number : ℕ)
-          → IsWeighed meter s (InBlock block body rest) number → IsEntered (InBlock block body rest) at number
-      enters_block block body rest at number h =
-          let k = after_body body number in
-          let after = rest_weights body rest number h.1 in
-          record {
-            numbers = (k, k) ∷ numbers;
-            number = number + 1;
-            labels = (after, after, labels);
-            at = body_weights body rest number h.1;
-            is = ap
-                (λ values. enters (renumbered_view n store) with_labels [] values (block_arity block)
-                (place (instrumented_nest s body) (number + 1)) (place (instrumented_nest s rest) k)
-                (place (instrumented_nest s rest) k))
-                alike;
-          }
+      -- a block, a loop or an `if` of one part
+      module _ (block : Option ValType) (body rest : Nest) (at number : ℕ)
+          (h : IsWeighed meter s (InBlock block body rest) number) where
+        abbrev inside : Place
+        inside = place body (at + 1)
 
-      pub enters_loop : (block : Option ValType) (body rest : Nest) (at number : ℕ)
-          → IsWeighed meter s (InLoop block body rest) number → IsEntered (InLoop block body rest) at number
-      enters_loop block body rest at number h =
-          let k = after_body body number in
-          let after = rest_weights body rest number h.1 in
-          record {
-            numbers = (number, k) ∷ numbers;
-            number = number + 1;
-            labels = (h, after, labels);
-            at = body_weights body rest number h.1;
-            is = ap
-                (λ values. enters (renumbered_view n store) with_labels [] values 0
-                (place (instrumented_nest s body) (number + 1))
-                (place (instrumented_nest s (InLoop block body rest)) number) (place (instrumented_nest s rest) k))
-                alike;
-          }
+        abbrev after : Place
+        after = place rest (at + 1 + size body)
 
-      -- an `if`, by its test
-      if_chosen : (block : Option ValType) (body rest : Nest) (at number : ℕ)
-          → IsWeighed meter s (InIf block body rest) number → (operands values : List Val) (bits : ℕ)
-          → IsMoved
-          (enters store frame operands values (block_arity block)
-          (choice bits (place body (at + 1)) (place Empty (at + 1 + size body))) (place rest (at + 1 + size body))
-          (place rest (at + 1 + size body)))
-          (enters (renumbered_view n store) with_labels operands values (block_arity block)
-          (choice bits (place (instrumented_nest s body) (number + 1))
-          (place Empty (after_body body number)))
-          (place (instrumented_nest s rest) (after_body body number))
-          (place (instrumented_nest s rest) (after_body body number)))
-      if_chosen block body rest at number h operands values zero =
-          let k = after_body body number in
-          let after = rest_weights body rest number h.1 in
-          record { numbers = (k, k) ∷ numbers; number = k; labels = (after, after, labels); at = tt; is = refl }
-      if_chosen block body rest at number h operands values (suc bits) =
-          let k = after_body body number in
-          let after = rest_weights body rest number h.1 in
-          record {
-            numbers = (k, k) ∷ numbers;
-            number = number + 1;
-            labels = (after, after, labels);
-            at = body_weights body rest number h.1;
-            is = refl;
-          }
+        -- the number after the body
+        abbrev k : ℕ
+        k = number + 1 + size (instrumented_nest s body)
 
-      pub enters_if : (block : Option ValType) (body rest : Nest) (at number : ℕ)
-          → IsWeighed meter s (InIf block body rest) number → IsEntered (InIf block body rest) at number
-      enters_if block body rest at number h =
-          subst
-          (λ values. IsMoved (on (pop (I32 ∷ []) frame.values) first) (on (pop (I32 ∷ []) values) chosen))
-          (sym alike) (go (pop (I32 ∷ []) frame.values))
-        where
-          first : Operands → Execution
-          first p =
-              enters store frame p.operands p.rest (block_arity block)
-              (choice (bits_at p.operands 0) (place body (at + 1)) (place Empty (at + 1 + size body)))
-              (place rest (at + 1 + size body)) (place rest (at + 1 + size body))
+        body_weights : IsWeighed meter s body (number + 1)
+        body_weights =
+            first_weights meter (renumber n s.func) (number + 1) (weights_of_nest s body) (weights_of_nest s rest) h.1
 
-          chosen : Operands → Execution
-          chosen p =
-              enters (renumbered_view n store) with_labels p.operands p.rest (block_arity block)
-              (choice (bits_at p.operands 0) (place (instrumented_nest s body) (number + 1))
-              (place Empty (after_body body number)))
-              (place (instrumented_nest s rest) (after_body body number))
-              (place (instrumented_nest s rest) (after_body body number))
+        rest_weights : IsWeighed meter s rest k
+        rest_weights = after_nest body (number + 1) (weights_of_nest s rest) h.1
 
-          go : (o : Option Operands) → IsMoved (on o first) (on o chosen)
-          go None = tt
-          go (Some p) = if_chosen block body rest at number h p.operands p.rest (bits_at p.operands 0)
+        pub enters_block : IsEntered (InBlock block body rest) at number
+        enters_block =
+            under_label [] frame.values other.values alike (block_arity block) inside after after (number + 1) (k, k)
+            body_weights rest_weights rest_weights
+
+        pub enters_loop : IsEntered (InLoop block body rest) at number
+        enters_loop =
+            under_label [] frame.values other.values alike 0 inside (place (InLoop block body rest) at) after
+            (number + 1) (number, k) body_weights h rest_weights
+
+        -- an `if`, by its test
+        if_chosen : (operands values : List Val) (bits : ℕ)
+            → IsMoved
+            (enters store frame operands values (block_arity block) (choice bits inside (place Empty (at + 1 + size
+            body))) after after)
+            (enters (renumbered_view n store) with_labels operands values (block_arity block)
+            (choice bits (hooked_place s inside (number + 1)) (place Empty k)) (hooked_place s after k)
+            (hooked_place s after k))
+        if_chosen operands values zero =
+            under_label operands values values refl (block_arity block) (place Empty (at + 1 + size body)) after after
+            k (k, k) tt rest_weights rest_weights
+        if_chosen operands values (suc bits) =
+            under_label operands values values refl (block_arity block) inside after after (number + 1) (k, k)
+            body_weights rest_weights rest_weights
+
+        pub enters_if : IsEntered (InIf block body rest) at number
+        enters_if =
+            taken frame.values alike _ _ (λ operands values. if_chosen operands values (bits_at operands 0))

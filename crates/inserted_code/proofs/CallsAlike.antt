@@ -9,28 +9,21 @@ use Rattle.wasm_syntax.specs.declared.instructions.Instr.{Instr}
 use Rattle.wasm_syntax.specs.declared.instructions.Instr.TheVariants as instrs
 use Rattle.wasm_syntax.specs.declared.modules.Module.{Module}
 use Rattle.wasm_syntax.specs.Alike.{same_signature}
-use Rattle.wasm_syntax.specs.Index.{imported_funcs}
 use Rattle.host_script.specs.declared.scripts.Script.{Script}
 use Rattle.history_spec.specs.Store.{Store, Table}
-use Rattle.history_spec.specs.Code.{Code, code_of, signature}
+use Rattle.history_spec.specs.Code.{signature}
 use Rattle.history_spec.specs.Configuration.{Place, Frame}
 use Rattle.history_spec.specs.Instruction.{Execution, Operands, on, pop, bits_at, takes, calls, calls_if, calls_entry, execute_plain}
 use Rattle.hook_spec.specs.Hooks.{renumber, renumbered_table, renumbered_view}
 use Rattle.hook_spec.specs.Instrumented.{renumbered}
-use Rattle.inserted_code.proofs.HookedProgram.{hooked_program, HookedFacts}
+use Rattle.inserted_code.proofs.FoundAlike as found
+use Rattle.inserted_code.proofs.HookedProgram.{codes, HookedFacts}
 use Rattle.inserted_code.proofs.Straight as straight
 use Rattle.inserted_code.proofs.PieceFacts.{IsCallInstr, IsCalledAlike}
 
 module _ (m : Module) (digest : List ℕ) (script : Script) (facts : HookedFacts m digest script) (outer : Frame)
     (more : List Val) (store : Store) (frame : Frame) (next here after : Place) where
-  abbrev n : ℕ
-  n = imported_funcs m
-
-  abbrev code : Code
-  code = code_of m
-
-  abbrev hooked : Code
-  hooked = (hooked_program m digest script).code
+  open (codes m digest script) use {n, code, hooked}
 
   abbrev second : Frame
   second = straight.larger n outer more frame here
@@ -42,9 +35,8 @@ module _ (m : Module) (digest : List ℕ) (script : Script) (facts : HookedFacts
   found_alike : {X Y : Type 0} (o : Option X) (other : Option Y) (f : X → Y) (go : X → Execution)
       (go_other : Y → Execution) → ((x : X) → o ≡ Some x → other ≡ Some (f x))
       → ((x : X) → AreAlike (go x) (go_other (f x))) → AreAlike (on o go) (on other go_other)
-  found_alike None other f go go_other there alike = tt
-  found_alike (Some x) other f go go_other there alike =
-      subst (λ o. AreAlike (go x) (on o go_other)) (sym (there x refl)) (alike x)
+  found_alike o other f go go_other there alike =
+      found.found_alike AreAlike (λ o. on o go) (λ o. on o go_other) f o other there tt alike
 
   taken_alike : (types : List ValType) (go go_other : List Val → List Val → Execution)
       → ((operands rest : List Val) → AreAlike (go operands rest) (go_other operands rest))

@@ -1,9 +1,8 @@
 -- Blocks and branches of an instrumented body lead where the original's lead.
-use Rattle.std.proofs.Common.{◌≡◌, ℕ, zero, suc, ◌+◌, List, [], ◌∷◌, ◌++◌, length, Option, Some, None, slice_get, refl, sym, subst, arith}
+use Rattle.std.proofs.Common.{◌≡◌, ℕ, zero, suc, ◌+◌, List, [], ◌∷◌, ◌++◌, length, Option, slice_get, refl, sym, subst, arith}
 use Rattle.std.specs.List.{slice_index_or}
 use Rattle.std.proofs.lemmas.List.{length-append}
 use Rattle.wasm_syntax.specs.declared.values.ValType.{ValType}
-use Rattle.wasm_syntax.specs.declared.values.ValType.TheVariants.{I32}
 use Rattle.wasm_syntax.specs.declared.values.Val.{Val}
 use Rattle.wasm_syntax.specs.declared.signatures.FuncType.{FuncType}
 use Rattle.wasm_syntax.specs.declared.instructions.Instr.{Instr}
@@ -11,15 +10,15 @@ use Rattle.wasm_syntax.specs.declared.instructions.Instr.TheVariants as instrs
 use Rattle.wasm_syntax.specs.Nest.{Nest, Empty, Plain, InBlock, InLoop, InIf, InIfElse, size}
 use Rattle.history_spec.specs.Store.{Store}
 use Rattle.history_spec.specs.Code.{Code}
-use Rattle.history_spec.specs.Configuration.{place, Frame}
-use Rattle.history_spec.specs.Instruction.{Goes, Calls, Returns, Execution, Did, Traps, NoRule, Operands, on, pop, bits_at, block_arity, choice, enters, branch, gives, execute_at, execute_plain}
+use Rattle.history_spec.specs.Configuration.{Place, place, Frame}
+use Rattle.history_spec.specs.Instruction.{Goes, Calls, Returns, Execution, Did, Traps, NoRule, bits_at, block_arity, choice, enters, branch, gives, execute_at, execute_plain}
 use Rattle.history_spec.specs.Run.{Meter}
 use Rattle.hook_spec.specs.Hooks.{renumber, renumbered_view}
 use Rattle.hook_spec.specs.Insertions.{Site, imports_at}
 use Rattle.hook_spec.specs.Instrumented.{instrumented_nest, weights_of_nest}
 use Rattle.hook_spec.specs.Laws.{BodiesAreInstrumented}
 use Rattle.inserted_code.proofs.Branches as branches
-use Rattle.inserted_code.proofs.Relation.{hooked_labels, IsWeighed, AreWeighed}
+use Rattle.inserted_code.proofs.Relation.{hooked_place, hooked_labels, IsWeighed, AreWeighed}
 use Rattle.inserted_code.proofs.Weights.{AreWeights, first_weights}
 use Rattle.inserted_code.proofs.PieceFacts.{IsBlock, IsBranch}
 
@@ -51,75 +50,54 @@ module _ (meter : Meter) (s : Site) (ty : FuncType) (last : ℕ) (other frame : 
         → AreWeights meter (renumber n s.func) (number + size (instrumented_nest s body)) more
     after_nest = branches.after_nest meter s ty last other store frame arity code second numbers labels alike weighed
 
-    -- an `if` with two parts, by its test
-    either_chosen : (block : Option ValType) (body otherwise rest : Nest) (at number : ℕ)
-        → IsWeighed meter s (InIfElse block body otherwise rest) number → (operands values : List Val) (bits : ℕ)
-        → IsMoved
-        (enters store frame operands values (block_arity block)
-        (choice bits (place body (at + 1)) (place otherwise (at + 1 + size body)))
-        (place rest (at + 1 + size body + size otherwise)) (place rest (at + 1 + size body + size otherwise)))
-        (enters (renumbered_view n store) with_labels operands values (block_arity block)
-        (choice bits (place (instrumented_nest s body) (number + 1))
-        (place (instrumented_nest s otherwise) (number + 1 + size (instrumented_nest s body))))
-        (place (instrumented_nest s rest)
-        (number + 1 + size (instrumented_nest s body) + size (instrumented_nest s otherwise)))
-        (place (instrumented_nest s rest)
-        (number + 1 + size (instrumented_nest s body) + size (instrumented_nest s otherwise))))
-    either_chosen block body otherwise rest at number h operands values zero =
-        let k = number + 1 + size (instrumented_nest s body) in
-        let second = after_nest body (number + 1) (weights_of_nest s otherwise ++ weights_of_nest s rest) h.1 in
-        let after = after_nest otherwise k (weights_of_nest s rest) second in
-        let end = k + size (instrumented_nest s otherwise) in
-        record {
-          numbers = (end, end) ∷ numbers;
-          number = k;
-          labels = (after, after, labels);
-          at = first_weights meter (renumber n s.func) k (weights_of_nest s otherwise) (weights_of_nest s rest) second;
-          is = refl;
-        }
-    either_chosen block body otherwise rest at number h operands values (suc bits) =
-        let k = number + 1 + size (instrumented_nest s body) in
-        let second = after_nest body (number + 1) (weights_of_nest s otherwise ++ weights_of_nest s rest) h.1 in
-        let after = after_nest otherwise k (weights_of_nest s rest) second in
-        let end = k + size (instrumented_nest s otherwise) in
-        record {
-          numbers = (end, end) ∷ numbers;
-          number = number + 1;
-          labels = (after, after, labels);
-          at = first_weights meter (renumber n s.func) (number + 1) (weights_of_nest s body)
-              (weights_of_nest s otherwise ++ weights_of_nest s rest) h.1;
-          is = refl;
-        }
+    -- an `if` with two parts
+    module _ (block : Option ValType) (body otherwise rest : Nest) (at number : ℕ)
+        (h : IsWeighed meter s (InIfElse block body otherwise rest) number) where
+      abbrev after : Place
+      after = place rest (at + 1 + size body + size otherwise)
 
-    enters_either : (block : Option ValType) (body otherwise rest : Nest) (at number : ℕ)
-        → IsWeighed meter s (InIfElse block body otherwise rest) number
-        → IsMoved (execute_at code store frame (InIfElse block body otherwise rest) at)
-        (execute_at second (renumbered_view n store) with_labels
-        (instrumented_nest s (InIfElse block body otherwise rest)) number)
-    enters_either block body otherwise rest at number h =
-        subst (λ values. IsMoved (on (pop (I32 ∷ []) frame.values) first) (on (pop (I32 ∷ []) values) chosen))
-        (sym alike) (go (pop (I32 ∷ []) frame.values))
-      where
-        first : Operands → Execution
-        first p =
-            enters store frame p.operands p.rest (block_arity block)
-            (choice (bits_at p.operands 0) (place body (at + 1)) (place otherwise (at + 1 + size body)))
-            (place rest (at + 1 + size body + size otherwise)) (place rest (at + 1 + size body + size otherwise))
+      -- the number of the second part, and of what is after it
+      abbrev k : ℕ
+      k = number + 1 + size (instrumented_nest s body)
 
-        chosen : Operands → Execution
-        chosen p =
-            enters (renumbered_view n store) with_labels p.operands p.rest (block_arity block)
-            (choice (bits_at p.operands 0) (place (instrumented_nest s body) (number + 1))
-            (place (instrumented_nest s otherwise) (number + 1 + size (instrumented_nest s body))))
-            (place (instrumented_nest s rest)
-            (number + 1 + size (instrumented_nest s body) + size (instrumented_nest s otherwise)))
-            (place (instrumented_nest s rest)
-            (number + 1 + size (instrumented_nest s body) + size (instrumented_nest s otherwise)))
+      abbrev end : ℕ
+      end = k + size (instrumented_nest s otherwise)
 
-        go : (o : Option Operands) → IsMoved (on o first) (on o chosen)
-        go None = tt
-        go (Some p) =
-            either_chosen block body otherwise rest at number h p.operands p.rest (bits_at p.operands 0)
+      later : AreWeights meter (renumber n s.func) k (weights_of_nest s otherwise ++ weights_of_nest s rest)
+      later = after_nest body (number + 1) (weights_of_nest s otherwise ++ weights_of_nest s rest) h.1
+
+      into : (operands values : List Val) (inside : Place) (first : ℕ) → IsWeighed meter s inside.rest first
+          → IsMoved (enters store frame operands values (block_arity block) inside after after)
+          (enters (renumbered_view n store) with_labels operands values (block_arity block)
+          (hooked_place s inside first) (hooked_place s after end)
+          (hooked_place s after end))
+      into operands values inside first weighs =
+          let rest_weights = after_nest otherwise k (weights_of_nest s rest) later in
+          branches.under_label meter s ty last other store frame arity code second numbers labels alike weighed operands
+          values values refl (block_arity block) inside after after first (end, end) weighs rest_weights rest_weights
+
+      -- by its test
+      either_chosen : (operands values : List Val) (bits : ℕ)
+          → IsMoved
+          (enters store frame operands values (block_arity block)
+          (choice bits (place body (at + 1)) (place otherwise (at + 1 + size body))) after after)
+          (enters (renumbered_view n store) with_labels operands values (block_arity block)
+          (choice bits (place (instrumented_nest s body) (number + 1)) (place (instrumented_nest s otherwise) k))
+          (place (instrumented_nest s rest) end) (place (instrumented_nest s rest) end))
+      either_chosen operands values zero =
+          into operands values (place otherwise (at + 1 + size body)) k
+          (first_weights meter (renumber n s.func) k (weights_of_nest s otherwise) (weights_of_nest s rest) later)
+      either_chosen operands values (suc bits) =
+          into operands values (place body (at + 1)) (number + 1)
+          (first_weights meter (renumber n s.func) (number + 1) (weights_of_nest s body)
+          (weights_of_nest s otherwise ++ weights_of_nest s rest) h.1)
+
+      enters_either : IsMoved (execute_at code store frame (InIfElse block body otherwise rest) at)
+          (execute_at second (renumbered_view n store) with_labels
+          (instrumented_nest s (InIfElse block body otherwise rest)) number)
+      enters_either =
+          branches.taken meter s ty last other frame.values alike _ _
+          (λ operands values. either_chosen operands values (bits_at operands 0))
 
     pub moved_block : (nest : Nest) (at number : ℕ) → IsBlock nest → IsWeighed meter s nest number
         → IsMoved (execute_at code store frame nest at)
@@ -170,23 +148,6 @@ module _ (meter : Meter) (s : Site) (ty : FuncType) (last : ℕ) (other frame : 
         record { numbers = numbers; number = number + 1; labels = labels; at = weighed; is = refl }
     branched_if l operands values (suc bits) = branched operands values l
 
-    abbrev IsBranched : (go go_other : List Val → List Val → Execution) → Type 0
-    IsBranched go go_other = (operands values : List Val) → IsMoved (go operands values) (go_other operands values)
-
-    taken : (go go_other : List Val → List Val → Execution) → IsBranched go go_other
-        → IsMoved (on (pop (I32 ∷ []) frame.values) (λ p. go p.operands p.rest))
-        (on (pop (I32 ∷ []) other.values) (λ p. go_other p.operands p.rest))
-    taken go go_other each =
-        subst
-        (λ values. IsMoved (on (pop (I32 ∷ []) frame.values) (λ p. go p.operands p.rest))
-        (on (pop (I32 ∷ []) values) (λ p. go_other p.operands p.rest)))
-        (sym alike) (by (pop (I32 ∷ []) frame.values))
-      where
-        by : (o : Option Operands)
-            → IsMoved (on o (λ p. go p.operands p.rest)) (on o (λ p. go_other p.operands p.rest))
-        by None = tt
-        by (Some p) = each p.operands p.rest
-
     pub moved_branch : (i : Instr) → IsBranch i
         → IsMoved (execute_plain code store frame (place rest (at + 1)) i)
         (execute_plain second (renumbered_view n store) with_labels
@@ -197,7 +158,9 @@ module _ (meter : Meter) (s : Site) (ty : FuncType) (last : ℕ) (other frame : 
         (branch (renumbered_view n store) with_labels [] values l))
         (sym alike) (branched [] frame.values l)
     moved_branch (instrs.BrIf l) is =
-        taken _ _ (λ operands values. branched_if l operands values (bits_at operands 0))
+        branches.taken meter s ty last other frame.values alike _ _
+        (λ operands values. branched_if l operands values (bits_at operands 0))
     moved_branch (instrs.BrTable indices l) is =
-        taken _ _ (λ operands values. branched operands values (slice_index_or indices (bits_at operands 0) l))
+        branches.taken meter s ty last other frame.values alike _ _
+        (λ operands values. branched operands values (slice_index_or indices (bits_at operands 0) l))
     moved_branch i is = absurd is

@@ -8,7 +8,7 @@ use Rattle.wasm_syntax.specs.Index.{imported_funcs}
 use Rattle.host_script.specs.declared.scripts.Answer.{Answer}
 use Rattle.host_script.specs.declared.scripts.Response.{Response}
 use Rattle.host_script.specs.declared.scripts.Script.{Script}
-use Rattle.history_spec.specs.Code.{Definition, code_of, signature, definition}
+use Rattle.history_spec.specs.Code.{Code, Definition, code_of, signature, definition}
 use Rattle.history_spec.specs.Run.{Meter, program_of}
 use Rattle.history_spec.specs.Step.{Program, response_of, response_or, response_to}
 use Rattle.hook_spec.specs.declared.hooks.Hook.{Hook}
@@ -24,6 +24,16 @@ use Rattle.inserted_code.proofs.Straight.{get_more}
 
 abbrev pub hooked_program : Module → (digest : List ℕ) → Script → Program
 hooked_program m digest script = program_of (instrumented_module m digest) (script_with_hooks m script)
+
+-- the code of both, and the number of the original's imports, as the files on what is alike open them
+pub record Codes : Type 0 where
+  pub n : ℕ
+  pub code : Code
+  pub hooked : Code
+
+abbrev pub codes : (m : Module) (digest : List ℕ) → Script → Codes
+codes m digest script =
+    record { n = imported_funcs m; code = code_of m; hooked = (hooked_program m digest script).code }
 
 -- what is known of it: hooks are imports that the host answers by doing nothing; functions, types and answers are the
 -- original's, with functions renumbered

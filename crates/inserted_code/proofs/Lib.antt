@@ -19,6 +19,7 @@ pub mod ControlMoves
 pub mod DefinedFunctions
 pub mod FunctionWeights
 pub mod HookedProgram
+pub mod FoundAlike
 pub mod ActionsAlike
 pub mod CallsAlike
 pub mod FunctionEntries

@@ -123,25 +123,24 @@ module _ (n : ℕ) (program : Program) (meter : Meter) (store : Store) (below : 
       (typed old.ty bits ∷ values) (LocalTee x) rest number (typed old.ty bits ∷ []) (typed old.ty bits ∷ []) free
       (rw there (rw (pop_one (typed old.ty bits) values) refl))
 
-  pub extends : (counts : List ℕ) (locals values : List Val) (bits : ℕ) (rest : Nest) (number : ℕ) → IsFree number
-      → Leads (piece counts locals (typed I32 bits ∷ values) (Plain (Numeric I64_EXTEND_I32_U) rest) number)
-      (piece counts locals (typed I64 bits ∷ values) rest (number + 1)) 0 []
+  -- a numeric instruction gives the bits of its operand another type
+  abbrev Converts : (from to : ValType) → (op : ℕ) → Type 0
+  Converts from to op =
+      (counts : List ℕ) (locals values : List Val) (bits : ℕ) (rest : Nest) (number : ℕ) → IsFree number
+      → Leads (piece counts locals (typed from bits ∷ values) (Plain (Numeric op) rest) number)
+      (piece counts locals (typed to bits ∷ values) rest (number + 1)) 0 []
+
+  pub extends : Converts I32 I64 I64_EXTEND_I32_U
   extends counts locals values bits rest number free =
       does counts locals locals (typed I32 bits ∷ values) (typed I64 bits ∷ values) (Numeric I64_EXTEND_I32_U) rest
       number (typed I32 bits ∷ []) (typed I64 bits ∷ []) free (rw (pop_one (typed I32 bits) values) refl)
 
-  pub reads_float32 : (counts : List ℕ) (locals values : List Val) (bits : ℕ) (rest : Nest) (number : ℕ)
-      → IsFree number
-      → Leads (piece counts locals (typed F32 bits ∷ values) (Plain (Numeric I32_REINTERPRET_F32) rest) number)
-      (piece counts locals (typed I32 bits ∷ values) rest (number + 1)) 0 []
+  pub reads_float32 : Converts F32 I32 I32_REINTERPRET_F32
   reads_float32 counts locals values bits rest number free =
       does counts locals locals (typed F32 bits ∷ values) (typed I32 bits ∷ values) (Numeric I32_REINTERPRET_F32) rest
       number (typed F32 bits ∷ []) (typed I32 bits ∷ []) free (rw (pop_one (typed F32 bits) values) refl)
 
-  pub reads_float64 : (counts : List ℕ) (locals values : List Val) (bits : ℕ) (rest : Nest) (number : ℕ)
-      → IsFree number
-      → Leads (piece counts locals (typed F64 bits ∷ values) (Plain (Numeric I64_REINTERPRET_F64) rest) number)
-      (piece counts locals (typed I64 bits ∷ values) rest (number + 1)) 0 []
+  pub reads_float64 : Converts F64 I64 I64_REINTERPRET_F64
   reads_float64 counts locals values bits rest number free =
       does counts locals locals (typed F64 bits ∷ values) (typed I64 bits ∷ values) (Numeric I64_REINTERPRET_F64) rest
       number (typed F64 bits ∷ []) (typed I64 bits ∷ []) free (rw (pop_one (typed F64 bits) values) refl)

@@ -117,35 +117,39 @@ module _ (s : Site) (program : Program) (meter : Meter) (has : HasHooks (imports
             one.constant n program meter store below frame counts _ values (i32_value bits) rest at free.0;
       }
 
+  -- an instruction that changes a scratch local
+  sets_local : (counts : List ℕ) (x y : Scratch) (values left : List Val) (i : Instr) (locals : List Val)
+      → locals ≡ own ++ scratch_values y
+      → ((rest : Nest) (at : ℕ) → one.IsFree n program meter store below frame at
+      → leads.Leads n program meter (piece counts x values (Plain i rest) at)
+      (one.piece n program meter store below frame counts locals left rest (at + 1)) 0 [])
+      → Makes counts x values (i ∷ []) [] counts y left
+  sets_local counts x y values left i locals same led =
+      record {
+        leads = λ rest at free.
+            subst
+            (λ l. leads.Leads n program meter (piece counts x values (Plain i rest) at)
+            (one.piece n program meter store below frame counts l left rest (at + 1)) 0 [])
+            same (led rest at free.0);
+      }
+
   pub keeps_address : (counts : List ℕ) (x : Scratch) (values : List Val) (bits : ℕ)
       → Makes counts x (i32_value bits ∷ values) (LocalTee (address_local s) ∷ []) [] counts (with_address x bits)
       (i32_value bits ∷ values)
   keeps_address counts x values bits =
-      record {
-        leads = λ rest at free.
-            subst
-            (λ l. leads.Leads n program meter (piece counts x (i32_value bits ∷ values) (Plain (LocalTee (address_local
-            s)) rest) at)
-            (one.piece n program meter store below frame counts l (i32_value bits ∷ values) rest (at + 1)) 0 [])
-            (address_set s own whole x bits)
-            (one.tees n program meter store below frame counts (own ++ scratch_values x) values (address_local s)
-            (typed I32 x.address) bits rest at free.0 (address_there s own whole x));
-      }
+      sets_local counts x (with_address x bits) (i32_value bits ∷ values) (i32_value bits ∷ values) _ _
+      (address_set s own whole x bits) (λ rest at free.
+      one.tees n program meter store below frame counts (own ++ scratch_values x) values (address_local s)
+      (typed I32 x.address) bits rest at free (address_there s own whole x))
 
   pub sets_address : (counts : List ℕ) (x : Scratch) (values : List Val) (bits : ℕ)
       → Makes counts x (i32_value bits ∷ values) (LocalSet (address_local s) ∷ []) [] counts (with_address x bits)
       values
   sets_address counts x values bits =
-      record {
-        leads = λ rest at free.
-            subst
-            (λ l. leads.Leads n program meter (piece counts x (i32_value bits ∷ values) (Plain (LocalSet (address_local
-            s)) rest) at)
-            (one.piece n program meter store below frame counts l values rest (at + 1)) 0 [])
-            (address_set s own whole x bits)
-            (one.sets n program meter store below frame counts (own ++ scratch_values x) values (address_local s)
-            (typed I32 x.address) bits rest at free.0 (address_there s own whole x));
-      }
+      sets_local counts x (with_address x bits) (i32_value bits ∷ values) values _ _ (address_set s own whole x bits)
+      (λ rest at free.
+      one.sets n program meter store below frame counts (own ++ scratch_values x) values (address_local s)
+      (typed I32 x.address) bits rest at free (address_there s own whole x))
 
   pub gets_address : (counts : List ℕ) (x : Scratch) (values : List Val)
       → Makes counts x values (LocalGet (address_local s) ∷ []) [] counts x (i32_value x.address ∷ values)
@@ -160,16 +164,10 @@ module _ (s : Site) (program : Program) (meter : Meter) (has : HasHooks (imports
       → Makes counts x (typed ty bits ∷ values) (LocalSet (value_local s ty) ∷ []) [] counts (with_value ty x bits)
       values
   sets_value counts x values ty bits is =
-      record {
-        leads = λ rest at free.
-            subst
-            (λ l. leads.Leads n program meter (piece counts x (typed ty bits ∷ values) (Plain (LocalSet (value_local s
-            ty)) rest) at)
-            (one.piece n program meter store below frame counts l values rest (at + 1)) 0 [])
-            (value_set s own whole x ty bits is)
-            (one.sets n program meter store below frame counts (own ++ scratch_values x) values (value_local s ty)
-            (typed ty (value_in ty x)) bits rest at free.0 (value_there s own whole x ty is));
-      }
+      sets_local counts x (with_value ty x bits) (typed ty bits ∷ values) values _ _ (value_set s own whole x ty bits is)
+      (λ rest at free.
+      one.sets n program meter store below frame counts (own ++ scratch_values x) values (value_local s ty)
+      (typed ty (value_in ty x)) bits rest at free (value_there s own whole x ty is))
 
   pub gets_value : (counts : List ℕ) (x : Scratch) (values : List Val) (ty : ValType) → IsNumber ty
       → Makes counts x values (LocalGet (value_local s ty) ∷ []) [] counts x (typed ty (value_in ty x) ∷ values)

@@ -7,7 +7,7 @@ use Rattle.wasm_syntax.specs.Nest.{Nest, Empty}
 use Rattle.wasm_syntax.specs.declared.modules.Module.{Module}
 use Rattle.wasm_syntax.specs.Index.{imported_funcs}
 use Rattle.history_spec.specs.Code.{code_of, signature, definition}
-use Rattle.history_spec.specs.Configuration.{Place, place, Label, Frame, Activation, InModule, InMain, InImport, Config}
+use Rattle.history_spec.specs.Configuration.{Place, place, Point, Label, Frame, Activation, InModule, InMain, InImport, Config, at_point}
 use Rattle.history_spec.specs.Step.{Progress, Running, Finished, Faulted, Stuck}
 use Rattle.history_spec.specs.Instruction.{block_arity}
 use Rattle.history_spec.specs.Run.{Meter}
@@ -127,6 +127,16 @@ module _ (m : Module) (meter : Meter) where
         (weightless piece ++ weights_of_nest (site_at m frame.func) frame.at.rest)
     pub labels : AreWeighed meter (site_at m frame.func) frame.labels b.numbers
     pub last : AreWeights meter (renumber n frame.func) b.last (weightless (inserted_at_end (site_at m frame.func)))
+
+  -- so it is at another place, with other values and labels, before a piece
+  pub beside_at : (frame : Frame) (piece other : List Instr) (b : Beside) (p : Point) (number : ℕ)
+      (numbers : List (ℕ × ℕ)) → IsBeside frame piece b
+      → AreWeights meter (renumber n frame.func) number
+      (weightless other ++ weights_of_nest (site_at m frame.func) p.at.rest)
+      → AreWeighed meter (site_at m frame.func) p.labels numbers
+      → IsBeside (at_point frame p) other (record b { number = number; numbers = numbers })
+  beside_at frame piece other b p number numbers is weights labels =
+      record { arity = is.arity; locals = is.locals; weights = weights; labels = labels; last = is.last }
 
   -- the piece that an activation waits before, for the end of a call with these results
   abbrev pub awaited_piece : Frame → WaitingCall → (awaited : List ValType) → List Instr

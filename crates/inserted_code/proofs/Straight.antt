@@ -8,7 +8,7 @@ use Rattle.wasm_syntax.specs.declared.values.ValType.{ValType}
 use Rattle.wasm_syntax.specs.declared.values.ValType.TheVariants.{I32}
 use Rattle.wasm_syntax.specs.declared.values.Val.{Val}
 use Rattle.wasm_syntax.specs.declared.instructions.Instr.{Instr}
-use Rattle.wasm_syntax.specs.declared.instructions.Instr.TheVariants.{Unreachable, Nop, Drop, Select, LocalGet, LocalSet, LocalTee, GlobalGet, GlobalSet, Load, Store as StoreTo, MemorySize, MemoryGrow, MemoryCopy, MemoryFill, Const, Numeric}
+use Rattle.wasm_syntax.specs.declared.instructions.Instr.TheVariants.{Unreachable, Nop, Block, Loop, If, Else, End, Br, BrIf, BrTable, Return, Call, CallIndirect, Drop, Select, LocalGet, LocalSet, LocalTee, GlobalGet, GlobalSet, Load, Store as StoreTo, MemorySize, MemoryGrow, MemoryCopy, MemoryFill, Const, Numeric, RefNull, RefFunc, TableSet, TableGrow, TableSize}
 use Rattle.wasm_syntax.specs.Opcodes.{Access, numeric_shape, load_of, store_of}
 use Rattle.history_spec.specs.Store.{Store, Memory, grown_memory, bytes_at, with_bytes_at, with_bytes_copied, with_bytes_filled, bytes_of}
 use Rattle.history_spec.specs.Code.{Code}
@@ -17,26 +17,25 @@ use Rattle.history_spec.specs.Configuration.{Place, Frame, push_all}
 use Rattle.history_spec.specs.Instruction.{Goes, Calls, Returns, Execution, Did, Traps, NoRule, on, pop, takes, bits_at, load_result, store_result, grow_result, numeric_result, type_of_top, execute_plain}
 use Rattle.hook_spec.specs.Hooks.{renumbered_view}
 
--- one that neither branches nor calls, and touches no table
+-- one that is no part of control (blocks, branches, calls), and touches no table or reference
 abbrev pub IsStraight : Instr → Type 0
-IsStraight Unreachable = Unit {0}
-IsStraight Nop = Unit {0}
-IsStraight Drop = Unit {0}
-IsStraight Select = Unit {0}
-IsStraight (LocalGet x) = Unit {0}
-IsStraight (LocalSet x) = Unit {0}
-IsStraight (LocalTee x) = Unit {0}
-IsStraight (GlobalGet x) = Unit {0}
-IsStraight (GlobalSet x) = Unit {0}
-IsStraight (Load at) = Unit {0}
-IsStraight (StoreTo at) = Unit {0}
-IsStraight MemorySize = Unit {0}
-IsStraight MemoryGrow = Unit {0}
-IsStraight MemoryCopy = Unit {0}
-IsStraight MemoryFill = Unit {0}
-IsStraight (Const value) = Unit {0}
-IsStraight (Numeric op) = Unit {0}
-IsStraight i = ⊥
+IsStraight (Block ty) = ⊥
+IsStraight (Loop ty) = ⊥
+IsStraight (If ty) = ⊥
+IsStraight Else = ⊥
+IsStraight End = ⊥
+IsStraight (Br l) = ⊥
+IsStraight (BrIf l) = ⊥
+IsStraight (BrTable labels l) = ⊥
+IsStraight Return = ⊥
+IsStraight (Call func) = ⊥
+IsStraight (CallIndirect t) = ⊥
+IsStraight RefNull = ⊥
+IsStraight (RefFunc func) = ⊥
+IsStraight (TableSet t) = ⊥
+IsStraight (TableGrow t) = ⊥
+IsStraight (TableSize t) = ⊥
+IsStraight i = Unit {0}
 
 -- ---- lists with more items after them
 

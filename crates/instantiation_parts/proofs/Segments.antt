@@ -15,8 +15,8 @@ none_false at [] ys is = (refl, (at, is))
 none_false at (true ∷ xs) ys is = none_false (at + 1) xs ys is
 none_false at (false ∷ xs) ys is = cc
 
--- then a test holds of all
-all_true : {X : Type 0} (test : X → Bool) (at : ℕ) (xs : List X) → first_false at (map test xs) ≡ None
+-- where none is false, a test holds of all
+pub all_true : {X : Type 0} (test : X → Bool) (at : ℕ) (xs : List X) → first_false at (map test xs) ≡ None
     → All (λ x. IsTrue (test x)) xs
 all_true test at [] is = All-nil (λ x. IsTrue (test x))
 all_true test at (x ∷ xs) is = by (test x) refl is (all_true test (at + 1) xs)

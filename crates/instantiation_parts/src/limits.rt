@@ -1,31 +1,12 @@
 // Limits of the memory and of the table: those that are supplied where it is imported, else those that
 // are declared.
 
-ghost use Rattle.std.specs.Prelude.{◌≡◌, cond, is_some, slice_get};
-ghost use Rattle.std.specs.List.{list_any};
-ghost use Rattle.wasm_syntax.specs.Index.{memory_import, table_import};
+ghost use Rattle.std.specs.Prelude.{◌≡◌, cond, slice_get};
 ghost use Rattle.history_spec.specs.Instantiation as history;
 
 use host_script::Supply;
-use wasm_syntax::{Import, ImportKind, Limits, Module};
-
-/// Whether a memory is imported.
-fn imports_memory(imports: &[Import]) -> bool
-    ensures { result ≡ list_any (λ import. is_some (memory_import import.kind)) imports.now }
-{
-    imports
-        .iter()
-        .any(|import| matches!(import.kind, ImportKind::Memory(_)))
-}
-
-/// Whether a table is imported.
-fn imports_table(imports: &[Import]) -> bool
-    ensures { result ≡ list_any (λ import. is_some (table_import import.kind)) imports.now }
-{
-    imports
-        .iter()
-        .any(|import| matches!(import.kind, ImportKind::Table(_)))
-}
+use host_supply::{imports_memory, imports_table};
+use wasm_syntax::{Limits, Module};
 
 /// The limits that are supplied, where there is an import for them, or those that are declared first.
 fn chosen_limits(is_imported: bool, supplied: Option<Limits>, declared: &[Limits]) -> Option<Limits>

@@ -26,7 +26,7 @@ use Rattle.hook_spec.specs.Instrumented.{each_func, instrumented_body, instrumen
 use Rattle.hook_spec.specs.Laws.{BodiesAreInstrumented}
 use Rattle.hook_insert.specs.Functions.{AreRoomyRuns, IsInsertable, func_of_rounds}
 use Rattle.hook_insert.specs.Rounds.{instrumented_code, is_call_within, round}
-use Rattle.hook_insert.proofs.Counts.{locals_count}
+use Rattle.module_index.proofs.Counts.{locals_count}
 use Rattle.hook_insert.proofs.FlatFunctions.{func_is}
 use Rattle.hook_insert.proofs.Rounds.{code_of_body}
 use Rattle.instrumented_encoding.proofs.Inserted.{HasTold, HoldsOfKinds, each_after, each_at_end, each_at_enter, each_before}

@@ -13,7 +13,7 @@ use Rattle.wasm_syntax.specs.Validity.{each_local}
 use Rattle.hook_spec.specs.Instrumented.{locals_of, other_locals, with_added_locals}
 use Rattle.hook_spec.specs.Laws.{BodiesAreInstrumented}
 use Rattle.hook_insert.specs.Functions.{AreRoomyRuns}
-use Rattle.hook_insert.proofs.Counts.{locals_count}
+use Rattle.module_index.proofs.Counts.{locals_count}
 
 same_self : (t : ValType) → same_type t t ≡ true
 same_self I32 = refl

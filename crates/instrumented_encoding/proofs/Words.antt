@@ -14,7 +14,7 @@ use Rattle.wasm_syntax.specs.Index.{all_globals, global_import, imported_globals
 use Rattle.wasm_syntax.proofs.Encoding.NotEmpty.{global_bytes_some}
 use Rattle.encoding_sizes.specs.Within.{ListsAreWithinEncoding}
 use Rattle.encoding_sizes.proofs.Items.{items_some, list_least}
-use Rattle.encoding_sizes.proofs.Sections.{encoding_parts, globals_are, part, part_is}
+use Rattle.encoding_sizes.proofs.Sections.{encoding_parts, part, part_is, vectors}
 use Rattle.instrumented_valid.specs.Laws.{EncodableHaveWords}
 use Rattle.instrumented_encoding.specs.Laws.{FilesAreOfWords}
 
@@ -33,7 +33,7 @@ own_most m = omega (
   arith,
   encoding_parts m,
   part_is (unless_empty GlobalSection m.globals),
-  list_least GlobalSection global_bytes globals_are m.globals,
+  list_least GlobalSection global_bytes vectors.globals m.globals,
   items_some global_bytes global_bytes_some m.globals,
 )
 

@@ -14,7 +14,7 @@ use Rattle.wasm_syntax.specs.Index.{all_globals, global_import, imported_globals
 use Rattle.wasm_syntax.proofs.Encoding.NotEmpty.{global_bytes_some, import_bytes_some}
 use Rattle.encoding_sizes.specs.Within.{ListsAreWithinEncoding}
 use Rattle.encoding_sizes.proofs.Items.{items_some, list_least}
-use Rattle.encoding_sizes.proofs.Sections.{encoding_parts, globals_are, imports_are, part_is}
+use Rattle.encoding_sizes.proofs.Sections.{encoding_parts, part_is, vectors}
 use Rattle.instrumented_valid.specs.Laws.{EncodableHaveWords}
 use Rattle.instrumented_sizes.specs.Laws.{EncodedHaveWords}
 
@@ -37,10 +37,10 @@ globals_most m = omega (
   imported_most global_import m.imports,
   encoding_parts m,
   part_is (unless_empty ImportSection m.imports),
-  list_least ImportSection import_bytes imports_are m.imports,
+  list_least ImportSection import_bytes vectors.imports m.imports,
   items_some import_bytes import_bytes_some m.imports,
   part_is (unless_empty GlobalSection m.globals),
-  list_least GlobalSection global_bytes globals_are m.globals,
+  list_least GlobalSection global_bytes vectors.globals m.globals,
   items_some global_bytes global_bytes_some m.globals,
 )
 

@@ -15,7 +15,7 @@ use Rattle.host_script.specs.Fits.{FitAnswers}
 use Rattle.history_spec.specs.Store.{Store}
 use Rattle.history_spec.specs.Code.{Definition, code_of}
 use Rattle.history_spec.specs.Configuration.{place, Frame, Activation, InModule}
-use Rattle.history_spec.specs.Instruction.{Goes, Calls, Returns, Execution, Did, Traps, NoRule, execute_plain}
+use Rattle.history_spec.specs.Instruction.{Goes, Calls, Returns, Execution, Did, Traps, NoRule}
 use Rattle.history_spec.specs.Run.{Meter}
 use Rattle.history_spec.specs.Step.{Program, StepResult, call_function}
 use Rattle.type_safety.specs.Configurations.{scope, IsTypedCode}
@@ -26,7 +26,6 @@ use Rattle.hook_spec.specs.Insertions.{inserted_after}
 use Rattle.hook_spec.specs.Instrumented.{renumbered, weightless, weights_of_nest}
 use Rattle.hook_spec.specs.ToldCalls.{WaitingCall, told_before, told_after}
 use Rattle.calls_follow.proofs.CoreFrames.{CallsAs}
-use Rattle.inserted_code.proofs.Before as before
 use Rattle.inserted_code.proofs.Before.{operands_of, IsRule}
 use Rattle.instrumented_steps.proofs.CallInstrs.{IsCallOf, call_of}
 use Rattle.instrumented_steps.proofs.Calls as calls
@@ -54,22 +53,13 @@ module _ (m : Module) (heights : Heights) (valid : IsValid m) (typed : IsTypedCo
     (answers : List (Option Answer)) (fits : FitAnswers m answers) (other : Program) (meter : Meter)
     (has : HasHooks (imported_funcs m) other meter) (pieces : HasPieces m other meter has)
     (knows : HasProgram m answers other) where
-  abbrev n : ℕ
-  n = imported_funcs m
-
-  abbrev program : Program
-  program = record { code = code_of m; answers = answers }
+  open (calls.original m answers) use {n, program}
 
   module _ (store : Store) (counts : List ℕ) (f : Frame) (i : Instr) (rest : Nest) (number : ℕ)
       (below : List Activation) (waiting : List WaitingCall) (b : Beside) (bs : List Beside) (second : List ℕ)
       (body : Definition) where
-    abbrev frame : Frame
-    frame = record f { at = place (Plain i rest) number }
-
+    open (ready.instr_names m store f i rest number) use {frame, exec}
     open (ready.names m other meter store frame below waiting b bs second) use {site, ty, hooked, hooked_below, start}
-
-    abbrev exec : Execution
-    exec = execute_plain (code_of m) store frame (place rest (number + 1)) i
 
     abbrev FollowsExecution : Execution → Type 0
     FollowsExecution e =
@@ -175,13 +165,7 @@ module _ (m : Module) (heights : Heights) (valid : IsValid m) (typed : IsTypedCo
             second_call = subst IsAlike e alike
 
             beside_next : Beside
-            beside_next =
-                record {
-                  scratch = t.scratch;
-                  number = executed.instr_number m other meter has store second hooked_below f i rest number b + 1;
-                  numbers = b.numbers;
-                  last = b.last;
-                }
+            beside_next = executed.beside_after m other meter has store second hooked_below f i rest number b t.scratch
 
             hooked_result : List Instr → StepResult
             hooked_result piece =

@@ -88,15 +88,20 @@ counted_set n counts second import long less counted i within = go (nat_eq impor
         get_other second import i (slice_index second import + 1) differ ∙ counted i within
         ∙ sym (get_other counts import i (slice_index counts import + 1) differ)
 
+-- the original's run under the host's answers, and the number of its imports
+pub record Original : Type 0 where
+  pub n : ℕ
+  pub program : Program
+
+abbrev pub original : (m : Module) (answers : List (Option Answer)) → Original
+original m answers =
+    record { n = imported_funcs m; program = record { code = code_of m; answers = answers } }
+
 module _ (m : Module) (heights : Heights) (valid : IsValid m) (typed : IsTypedCode m heights)
     (answers : List (Option Answer)) (fits : FitAnswers m answers) (other : Program) (meter : Meter)
     (has : HasHooks (imported_funcs m) other meter) (pieces : HasPieces m other meter has)
     (knows : HasProgram m answers other) where
-  abbrev n : ℕ
-  n = imported_funcs m
-
-  abbrev program : Program
-  program = record { code = code_of m; answers = answers }
+  open (original m answers) use {n, program}
 
   module _ (instr : Option Instr) (earlier store : Store) (counts : List ℕ) where
     abbrev FollowsEntry : (func : ℕ) (ty : FuncType) (args : List Val) (stack : List Activation)

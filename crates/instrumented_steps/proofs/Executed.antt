@@ -109,6 +109,10 @@ module _ (m : Module) (other : Program) (meter : Meter) (has : HasHooks (importe
           at = place (Plain j instr_rest) instr_number;
         }
 
+    -- what stands beside the original after it
+    abbrev pub beside_after : Scratch → Beside
+    beside_after x = record { scratch = x; number = instr_number + 1; numbers = b.numbers; last = b.last }
+
     module _ (beside : IsBeside m meter frame [] b) where
       weights_there : AreWeights meter (renumber n f.func) instr_number
           (1 ∷ (weightless (inserted_after site i) ++ weights_of_nest site rest))

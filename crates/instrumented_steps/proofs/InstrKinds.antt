@@ -79,29 +79,24 @@ pub record IsBranchPlainly (s : Site) (i : Instr) : Type 0 where
   pub after : (globals : List GlobalType) (results : List Val) (view : Store) → told_after globals i results view ≡ []
   pub waits : (operands : List Val) (waiting : List WaitingCall) → waiting_after i operands waiting ≡ waiting
 
+plainly : {s : Site} {i : Instr}
+    → ((rest : Nest) → instrumented_nest s (Plain i rest) ≡ Plain i (instrumented_nest s rest))
+    → ((rest : Nest) → weights_of_nest s (Plain i rest) ≡ 1 ∷ weights_of_nest s rest)
+    → ((operands : List Val) (view : Store) → told_before i operands view ≡ [])
+    → ((globals : List GlobalType) (results : List Val) (view : Store) → told_after globals i results view ≡ [])
+    → ((operands : List Val) (waiting : List WaitingCall) → waiting_after i operands waiting ≡ waiting)
+    → IsBranchPlainly s i
+plainly nest weights before after waits =
+    record { nest = nest; weights = weights; before = before; after = after; waits = waits }
+
 pub branch_plainly : (s : Site) (i : Instr) → IsBranch i → IsBranchPlainly s i
 branch_plainly s (instrs.Br l) is =
-    record {
-      nest = λ rest. refl;
-      weights = λ rest. refl;
-      before = λ operands view. refl;
-      after = λ globals results view. refl;
-      waits = λ operands waiting. refl;
-    }
+    plainly (λ rest. refl) (λ rest. refl) (λ operands view. refl) (λ globals results view. refl)
+    (λ operands waiting. refl)
 branch_plainly s (instrs.BrIf l) is =
-    record {
-      nest = λ rest. refl;
-      weights = λ rest. refl;
-      before = λ operands view. refl;
-      after = λ globals results view. refl;
-      waits = λ operands waiting. refl;
-    }
+    plainly (λ rest. refl) (λ rest. refl) (λ operands view. refl) (λ globals results view. refl)
+    (λ operands waiting. refl)
 branch_plainly s (instrs.BrTable labels l) is =
-    record {
-      nest = λ rest. refl;
-      weights = λ rest. refl;
-      before = λ operands view. refl;
-      after = λ globals results view. refl;
-      waits = λ operands waiting. refl;
-    }
+    plainly (λ rest. refl) (λ rest. refl) (λ operands view. refl) (λ globals results view. refl)
+    (λ operands waiting. refl)
 branch_plainly s i is = absurd is

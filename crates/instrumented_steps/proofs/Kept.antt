@@ -93,6 +93,12 @@ module _ (store : Store) (frame : Frame) where
         → ((operands rest : List Val) → GoesOn next (go operands rest)) → GoesOn next (takes frame types go)
     takes_gone types go each = on_gone next (pop types frame.values) _ (λ p. each p.operands p.rest)
 
+    -- a value is taken of the type that one has
+    sets_gone : (o : Option Val) (go : Val → List Val → List Val → Execution)
+        → ((old : Val) (operands rest : List Val) → GoesOn next (go old operands rest))
+        → GoesOn next (on o (λ old. takes frame (old.ty ∷ []) (go old)))
+    sets_gone o go each = on_gone next o _ (λ old. takes_gone (old.ty ∷ []) _ (each old))
+
     pub straight_goes_on : (i : Instr) → IsStraight i → GoesOn next (execute_plain code store frame next i)
     straight_goes_on instrs.Unreachable is = record { gone = tt }
     straight_goes_on instrs.Nop is = record { gone = refl }
@@ -104,16 +110,13 @@ module _ (store : Store) (frame : Frame) where
     straight_goes_on (instrs.LocalGet x) is =
         on_gone next (slice_get frame.locals x) _ (λ v. record { gone = refl })
     straight_goes_on (instrs.LocalSet x) is =
-        on_gone next (slice_get frame.locals x) _
-        (λ old. takes_gone (old.ty ∷ []) _ (λ operands rest. record { gone = refl }))
+        sets_gone (slice_get frame.locals x) _ (λ old operands rest. record { gone = refl })
     straight_goes_on (instrs.LocalTee x) is =
-        on_gone next (slice_get frame.locals x) _
-        (λ old. takes_gone (old.ty ∷ []) _ (λ operands rest. record { gone = refl }))
+        sets_gone (slice_get frame.locals x) _ (λ old operands rest. record { gone = refl })
     straight_goes_on (instrs.GlobalGet x) is =
         on_gone next (slice_get store.globals x) _ (λ v. record { gone = refl })
     straight_goes_on (instrs.GlobalSet x) is =
-        on_gone next (slice_get store.globals x) _
-        (λ old. takes_gone (old.ty ∷ []) _ (λ operands rest. record { gone = refl }))
+        sets_gone (slice_get store.globals x) _ (λ old operands rest. record { gone = refl })
     straight_goes_on (instrs.Load at) is =
         on_gone next (load_of at.op) _ (λ access. on_gone next store.memory _ (λ memory. takes_gone (I32 ∷ []) _
         (λ operands rest. loaded memory access operands rest

@@ -92,15 +92,25 @@ module _ (m : Module) (heights : Heights) (valid : IsValid m) (program other : P
         (keeps : kept.MovesOn store frame exec) (hooked_keeps : kept.MovesOn (renumbered_view n store) hooked
         hooked_exec)
         (weighs : meter.instruction (renumber n f.func) b.number ≡ 1) where
-      went : (left : Store) (values : List Val) (labels : List Label) (at : Place) (operands results : List Val)
-          (found : Option ℕ)
-          → branches.GoesBeside meter site ty b.last hooked operands results found left
-          (record frame { values = values; labels = labels; at = at }) hooked_exec
-          → IsFrame (scope m heights f.func ty body) [] (record frame { values = values; labels = labels; at = at })
-          → FollowsExecution instr store counts frame below waiting
-          (Did operands results found (Goes left (record frame { values = values; labels = labels; at = at })))
-          start 1
-      went left values labels at operands results found g framed =
+      -- where the instruction tells nothing, what follows is told alone
+      quietly : (left : Store) (operands results : List Val) (found : Option ℕ) (entries : List Entry)
+          (later : Progress)
+          → settled.Follows m heights other meter has
+          (settled.told_of m heights other meter has instr store left waiting entries)
+          (settled.waiting_of m heights other meter has instr store left waiting entries) later start 1
+          → settled.Follows m heights other meter has
+          (told_by_step (all_globals m) instr operands results
+          (record {
+            entry = Step f.func number operands results found;
+            instr = instr;
+            before = store;
+            after = left;
+          })
+          ++ settled.told_of m heights other meter has instr store left (waiting_after_step instr operands waiting)
+          entries)
+          (settled.waiting_of m heights other meter has instr store left (waiting_after_step instr operands waiting)
+          entries) later start 1
+      quietly left operands results found entries later alone =
           subst
           (λ w. settled.Follows m heights other meter has
           (told_by_step (all_globals m) instr operands results moment
@@ -111,7 +121,26 @@ module _ (m : Module) (heights : Heights) (valid : IsValid m) (program other : P
           (λ told. settled.Follows m heights other meter has
           (told ++ settled.told_of m heights other meter has instr store left waiting entries)
           (settled.waiting_of m heights other meter has instr store left waiting entries) later start 1)
-          (sym (quiet.step operands results moment))
+          (sym (quiet.step operands results moment)) alone)
+        where
+          moment : Moment
+          moment = record {
+            entry = Step f.func number operands results found;
+            instr = instr;
+            before = store;
+            after = left;
+          }
+
+      went : (left : Store) (values : List Val) (labels : List Label) (at : Place) (operands results : List Val)
+          (found : Option ℕ)
+          → branches.GoesBeside meter site ty b.last hooked operands results found left
+          (record frame { values = values; labels = labels; at = at }) hooked_exec
+          → IsFrame (scope m heights f.func ty body) [] (record frame { values = values; labels = labels; at = at })
+          → FollowsExecution instr store counts frame below waiting
+          (Did operands results found (Goes left (record frame { values = values; labels = labels; at = at })))
+          start 1
+      went left values labels at operands results found g framed =
+          quietly left operands results found entries later
           (follows.after_way m other meter []
           (settled.told_of m heights other meter has instr store left waiting entries)
           (settled.waiting_of m heights other meter has instr store left waiting entries) later start
@@ -132,7 +161,7 @@ module _ (m : Module) (heights : Heights) (valid : IsValid m) (program other : P
           known.counted known.waits
           (ready.results_below m heights valid program other meter has pieces instr store store left counts frame below
           waiting b bs second body known)
-          (results_end (scope m heights f.func ty body) [] next [] framed tt))))
+          (results_end (scope m heights f.func ty body) [] next [] framed tt)))
         where
           next : Frame
           next = record frame { values = values; labels = labels; at = at }
@@ -146,14 +175,6 @@ module _ (m : Module) (heights : Heights) (valid : IsValid m) (program other : P
           later : Progress
           later = (after_settling left counts (settle (InModule next ∷ below))).next
 
-          moment : Moment
-          moment = record {
-            entry = Step f.func number operands results found;
-            instr = instr;
-            before = store;
-            after = left;
-          }
-
       -- out of the function
       left_body : (given operands results : List Val) (found : Option ℕ) (held : Store)
           → hooked_exec
@@ -161,17 +182,7 @@ module _ (m : Module) (heights : Heights) (valid : IsValid m) (program other : P
           → AreValues (func_count m) ty.results given
           → FollowsExecution instr store counts frame below waiting (Did operands results found (Returns given)) start 1
       left_body given operands results found held e are =
-          subst
-          (λ w. settled.Follows m heights other meter has
-          (told_by_step (all_globals m) instr operands results moment
-          ++ settled.told_of m heights other meter has instr store store w entries)
-          (settled.waiting_of m heights other meter has instr store store w entries) later start 1)
-          (sym (quiet.waits operands))
-          (subst
-          (λ told. settled.Follows m heights other meter has
-          (told ++ settled.told_of m heights other meter has instr store store waiting entries)
-          (settled.waiting_of m heights other meter has instr store store waiting entries) later start 1)
-          (sym (quiet.step operands results moment))
+          quietly store operands results found entries later
           (subst
           (λ told. settled.Follows m heights other meter has told
           (settled.waiting_of m heights other meter has instr store store waiting entries) later start 1)
@@ -199,7 +210,7 @@ module _ (m : Module) (heights : Heights) (valid : IsValid m) (program other : P
           (length_values (func_count m) ty.results given are ∙ sym known.framed.around.arity))
           are known.counted
           (ready.results_below m heights valid program other meter has pieces instr store store store counts frame below
-          waiting b bs second body known))))))
+          waiting b bs second body known)))))
         where
           ended : Frame
           ended = branches.ending meter site ty b.last hooked given
@@ -212,14 +223,6 @@ module _ (m : Module) (heights : Heights) (valid : IsValid m) (program other : P
 
           later : Progress
           later = (after_settling store counts (deliver below given)).next
-
-          moment : Moment
-          moment = record {
-            entry = Step f.func number operands results found;
-            instr = instr;
-            before = store;
-            after = store;
-          }
 
       pub move : (e : Execution) → exec ≡ e → HasRule (scope m heights f.func ty body) e
           → FollowsExecution instr store counts frame below waiting e start 1

@@ -1,15 +1,16 @@
 -- What is known where the next instruction of the original and of the instrumented run is executed, and what follows
 -- it.
-use Rattle.std.specs.Prelude.{ℕ, List, [], ◌∷◌, Option}
+use Rattle.std.specs.Prelude.{ℕ, ◌+◌, List, [], ◌∷◌, Option}
 use Rattle.wasm_syntax.specs.declared.instructions.Instr.{Instr}
 use Rattle.wasm_syntax.specs.declared.modules.Module.{Module}
 use Rattle.wasm_syntax.specs.Index.{imported_funcs}
+use Rattle.wasm_syntax.specs.Nest.{Nest, Plain}
 use Rattle.wasm_syntax.specs.Validity.{IsValid}
 use Rattle.wasm_syntax.specs.declared.signatures.FuncType.{FuncType}
 use Rattle.history_spec.specs.Store.{Store}
-use Rattle.history_spec.specs.Code.{Definition}
-use Rattle.history_spec.specs.Configuration.{Frame, Activation, InModule, Config}
-use Rattle.history_spec.specs.Instruction.{Execution}
+use Rattle.history_spec.specs.Code.{Definition, code_of}
+use Rattle.history_spec.specs.Configuration.{place, Frame, Activation, InModule, Config}
+use Rattle.history_spec.specs.Instruction.{Execution, execute_plain}
 use Rattle.history_spec.specs.Run.{Meter}
 use Rattle.history_spec.specs.Step.{Program, Progress, after_instruction}
 use Rattle.type_safety.specs.Configurations.{scope, Accept}
@@ -57,6 +58,21 @@ names m other meter store frame below waiting b bs second =
       start =
           leads.running (imported_funcs m) other meter (renumbered_view (imported_funcs m) store) second
           (waiting_stack m meter (type_of m frame.func).results below waiting bs) (frame_beside m meter frame [] b);
+    }
+
+-- the original's activation before an instruction, and the execution of it
+pub record InstrNames : Type 0 where
+  pub n : ℕ
+  pub frame : Frame
+  pub exec : Execution
+
+abbrev pub instr_names : (m : Module) (store : Store) (f : Frame) (i : Instr) (rest : Nest) (number : ℕ) → InstrNames
+instr_names m store f i rest number =
+    let frame : Frame = record f { at = place (Plain i rest) number } in
+    record {
+      n = imported_funcs m;
+      frame = frame;
+      exec = execute_plain (code_of m) store frame (place rest (number + 1)) i;
     }
 
 module _ (m : Module) (heights : Heights) (valid : IsValid m) (program other : Program) (meter : Meter)

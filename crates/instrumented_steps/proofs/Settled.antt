@@ -11,7 +11,7 @@ use Rattle.wasm_syntax.specs.Nest.{Nest, Empty, Plain, InBlock, InLoop, InIf, In
 use Rattle.history_spec.specs.declared.entries.Entry.{Entry}
 use Rattle.history_spec.specs.Store.{Store}
 use Rattle.history_spec.specs.Code.{Definition}
-use Rattle.history_spec.specs.Configuration.{place, Label, Frame, Activation, InModule, topmost, Point, point, leave, at_point, with_results}
+use Rattle.history_spec.specs.Configuration.{Place, place, Label, Frame, Activation, InModule, topmost, Point, point, leave, at_point, with_results}
 use Rattle.history_spec.specs.Run.{Meter}
 use Rattle.history_spec.specs.Settle.{AtEnd, Within, end_results, at_end_of, at_end, return_entry, return_from, deliver, settle}
 use Rattle.history_spec.specs.Step.{Program, Progress, Running, progress_of, after_settling}
@@ -19,7 +19,7 @@ use Rattle.type_safety.specs.Configurations.{scope, IsGoing}
 use Rattle.type_safety.specs.Heights.{Heights}
 use Rattle.type_safety.specs.Stores.{func_count}
 use Rattle.type_safety.specs.Values.{AreValues}
-use Rattle.type_safety.proofs.SettleEnds.{IsEnd}
+use Rattle.type_safety.proofs.SettleEnds.{IsEnd, going_within}
 use Rattle.hook_spec.specs.declared.hooks.Hook.TheVariants.{Leave}
 use Rattle.hook_spec.specs.Hooks.{HookCall, renumber, renumbered_view, renumbered_call}
 use Rattle.hook_spec.specs.Insertions.{Site, inserted_at_end}
@@ -32,18 +32,9 @@ use Rattle.inserted_code.proofs.Leads as leads
 use Rattle.inserted_code.proofs.BlockEnds as block_ends
 use Rattle.inserted_code.proofs.BlockEnds.{on_instrumented}
 use Rattle.inserted_code.proofs.Pieces.{HasHooks, weightless_length}
-use Rattle.inserted_code.proofs.Relation.{Beside, hooked_labels, type_of, site_at, frame_beside, IsBeside, waiting_stack, AreWaiting, going_stack, AreCounted}
-use Rattle.inserted_code.proofs.Scratch.{scratch_values}
+use Rattle.inserted_code.proofs.Relation.{Beside, hooked_labels, type_of, site_at, frame_beside, IsBeside, beside_at, waiting_stack, AreWaiting, going_stack, AreCounted}
+use Rattle.inserted_code.proofs.Scratch.{Scratch, scratch_values}
 use Rattle.inserted_code.proofs.Weights.{AreWeights, first_weights, later_weights}
-
--- before an instruction an activation is not at its end
-pub at_end_on : (rest : Nest) (frame : Frame) → IsGoing rest → at_end_of rest frame ≡ Within
-at_end_on Empty frame on = absurd on
-at_end_on (Plain i rest) frame on = refl
-at_end_on (InBlock ty body rest) frame on = refl
-at_end_on (InLoop ty body rest) frame on = refl
-at_end_on (InIf ty body rest) frame on = refl
-at_end_on (InIfElse ty body other rest) frame on = refl
 
 module _ (m : Module) (heights : Heights) (other : Program) (meter : Meter)
     (has : HasHooks (imported_funcs m) other meter) where
@@ -151,17 +142,21 @@ module _ (m : Module) (heights : Heights) (other : Program) (meter : Meter)
     abbrev pub waiting_ended : List Val → List WaitingCall
     waiting_ended given = waiting_of instr earlier store (waiting_below below waiting) (deliver below given).entries
 
-    -- the instrumented activation after its inserted block, before it tells that the function is left
-    abbrev pub ended_frame : Beside → (values : List Val) → Frame
-    ended_frame b values =
+    -- the instrumented activation outside of its blocks
+    abbrev outermost_frame : Scratch → (values : List Val) → Place → Frame
+    outermost_frame x values at =
         record {
           func = renumber n frame.func;
           arity = frame.arity;
-          locals = frame.locals ++ scratch_values b.scratch;
+          locals = frame.locals ++ scratch_values x;
           values = values;
           labels = [];
-          at = place (before_nest (inserted_at_end site) Empty) b.last;
+          at = at;
         }
+
+    -- so it is after its inserted block, before it tells that the function is left
+    abbrev pub ended_frame : Beside → (values : List Val) → Frame
+    ended_frame b values = outermost_frame b.scratch values (place (before_nest (inserted_at_end site) Empty) b.last)
 
     pub ends : (b : Beside) (values given : List Val) (second : List ℕ) → site.locals ≡ length frame.locals
         → AreWeights meter (renumber n frame.func) b.last (weightless (inserted_at_end site))
@@ -192,15 +187,7 @@ module _ (m : Module) (heights : Heights) (other : Program) (meter : Meter)
             Leave refl second b.scratch values frame.func
 
         last : Frame
-        last =
-            record {
-              func = renumber n frame.func;
-              arity = frame.arity;
-              locals = frame.locals ++ scratch_values t.scratch;
-              values = values;
-              labels = [];
-              at = place Empty (b.last + length (inserted_at_end site));
-            }
+        last = outermost_frame t.scratch values (place Empty (b.last + length (inserted_at_end site)))
 
     -- where blocks end that end here
     module _ (body : Definition) (b : Beside) (second : List ℕ) (beside : IsBeside m meter frame [] b)
@@ -239,20 +226,14 @@ module _ (m : Module) (heights : Heights) (other : Program) (meter : Meter)
           ∙ ap
           (λ e. progress_of (renumbered_view n store) second
           (return_from e (frame_beside m meter next [] beside_next) hooked_below (deliver hooked_below)).next)
-          (at_end_on (instrumented_nest site nest) (frame_beside m meter next [] beside_next)
+          (going_within (instrumented_nest site nest) (frame_beside m meter next [] beside_next)
           (on_instrumented site nest on)))
           (record {
             bs = beside_next ∷ bs;
             counts = second;
             is = refl;
             going = (
-              record {
-                arity = beside.arity;
-                locals = beside.locals;
-                weights = g.at;
-                labels = g.labels;
-                last = beside.last;
-              },
+              beside_at m meter frame [] [] b (point values labels nest number) g.number g.numbers beside g.at g.labels,
               waits,
             );
             counted = counted;

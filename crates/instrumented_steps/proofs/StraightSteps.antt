@@ -25,7 +25,6 @@ use Rattle.hook_spec.specs.Hooks.{HookCall, renumbered_view}
 use Rattle.hook_spec.specs.Insertions.{inserted_after}
 use Rattle.hook_spec.specs.ToldCalls.{WaitingCall, told_before, told_after}
 use Rattle.calls_follow.proofs.ModuleFacts.{no_call_waits}
-use Rattle.inserted_code.proofs.Before as before
 use Rattle.inserted_code.proofs.Before.{operands_of, IsRule}
 use Rattle.instrumented_steps.proofs.Executed as executed
 use Rattle.instrumented_steps.proofs.Follows as follows
@@ -46,26 +45,19 @@ use Rattle.inserted_code.proofs.PieceFacts.{HasPieces}
 
 module _ (m : Module) (heights : Heights) (valid : IsValid m) (program other : Program) (meter : Meter)
     (has : HasHooks (imported_funcs m) other meter) (pieces : HasPieces m other meter has) where
-  abbrev n : ℕ
-  n = imported_funcs m
-
-  abbrev FollowsExecution : Option Instr → Store → List ℕ → Frame → List Activation → List WaitingCall → Execution
-      → Progress → ℕ → Type 0
-  FollowsExecution = ready.FollowsExecution m heights valid program other meter has pieces
-
   module _ (store : Store) (counts : List ℕ) (f : Frame) (i : Instr) (rest : Nest) (number : ℕ)
       (below : List Activation) (waiting : List WaitingCall) (b : Beside) (bs : List Beside) (second : List ℕ)
       (body : Definition) where
-    abbrev frame : Frame
-    frame = record f { at = place (Plain i rest) number }
-
+    open (ready.instr_names m store f i rest number) use {n, frame, exec}
     open (ready.names m other meter store frame below waiting b bs second) use {site, ty, hooked, hooked_below, start}
-
-    abbrev exec : Execution
-    exec = execute_plain (code_of m) store frame (place rest (number + 1)) i
 
     module _ (known : IsReady m heights meter store counts frame below waiting b bs second body)
         (is : IsStraight i) (core : IsCoreInstr i) (rule : IsRule exec) where
+      abbrev FollowsExecution : Execution → Type 0
+      FollowsExecution e =
+          ready.FollowsExecution m heights valid program other meter has pieces (Some i) store counts frame below
+          waiting e start 1
+
       plainly : IsPlainly n i
       plainly = straight_plainly n i is
 
@@ -94,10 +86,8 @@ module _ (m : Module) (heights : Heights) (valid : IsValid m) (program other : P
           (Goes left (record frame { locals = locals; values = values; at = place rest (number + 1) }))
           → IsFrame (scope m heights f.func ty body) []
           (record frame { locals = locals; values = values; at = place rest (number + 1) })
-          → FollowsExecution (Some i) store counts frame below waiting
-          (Did operands results found
+          → FollowsExecution (Did operands results found
           (Goes left (record frame { locals = locals; values = values; at = place rest (number + 1) })))
-          start 1
       went left locals values operands results found e framed =
           subst
           (λ w. settled.Follows m heights other meter has
@@ -115,13 +105,7 @@ module _ (m : Module) (heights : Heights) (valid : IsValid m) (program other : P
           next = record frame { locals = locals; values = values; at = place rest (number + 1) }
 
           beside_next : Beside
-          beside_next =
-              record {
-                scratch = t.scratch;
-                number = executed.instr_number m other meter has store second hooked_below f i rest number b + 1;
-                numbers = b.numbers;
-                last = b.last;
-              }
+          beside_next = executed.beside_after m other meter has store second hooked_below f i rest number b t.scratch
 
           beside : IsBeside m meter next (inserted_after site i) beside_next
           beside =
@@ -216,15 +200,14 @@ module _ (m : Module) (heights : Heights) (valid : IsValid m) (program other : P
 
       -- one step
       pub straight_step : (e : Execution) → exec ≡ e → HasRule (scope m heights f.func ty body) e
-          → FollowsExecution (Some i) store counts frame below waiting e start 1
+          → FollowsExecution e
       straight_step NoRule e fine = absurd fine
       straight_step (Traps kind operands found) e fine =
           trapped kind operands found found e
           (subst (λ x. straight.IsAlike n hooked (scratch_values t.scratch) next_there x hooked_exec) e alike)
       straight_step (Did operands results found (Goes left next)) e fine =
           subst
-          (λ g. FollowsExecution (Some i) store counts frame below waiting (Did operands results found (Goes left g))
-          start 1)
+          (λ g. FollowsExecution (Did operands results found (Goes left g)))
           (sym gone)
           (went left next.locals next.values operands results found
           (e ∙ ap (λ g. Did operands results found (Goes left g)) gone)

@@ -178,6 +178,15 @@ module _ (s : Site) (ctx wider : Context) (w : Widens s ctx wider) where
       subst (λ types. Sequence wider (tells_index s hook.Ipre) types types) (sym h.had)
       (index_runs s wider w.has hook.Ipre (reverse ty.params ++ h.below) refl)
 
+  -- a load or a store, by its access
+  before_accesses : (before middle : List ValType) (type_of : Access → Option InstrType) (told : Access → List Instr)
+      (b : Bool) (o : Option Access)
+      → ((a : Access) → o ≡ Some a → Leads ctx (type_of a) before middle → Sequence wider (told a) before before)
+      → Leads ctx (cond b (option_and_then type_of o) None) before middle → Sequence wider (on o told) before before
+  before_accesses before middle type_of told false o each h = absurd h
+  before_accesses before middle type_of told true None each h = absurd h
+  before_accesses before middle type_of told true (Some a) each h = each a refl h
+
   load_told : (at : MemArg) (before middle : List ValType) (a : Access) (aligned : Bool) → FitsU32 at.offset
       → access_test a ≡ true → Leads ctx (if_true aligned (Moves (I32 ∷ []) (a.ty ∷ []))) before middle
       → Sequence wider (before_load s at a) before before
@@ -185,14 +194,6 @@ module _ (s : Site) (ctx wider : Context) (w : Widens s ctx wider) where
   load_told at before middle a true word passes h =
       subst (λ types. Sequence wider (before_load s at a) types types) (sym h.had)
       (load_runs s wider w.has at a h.below word (and_right (is_number a.ty) (nat_lt a.width (2 ^ 32)) passes))
-
-  before_loads : (at : MemArg) (before middle : List ValType) (b : Bool) (o : Option Access) → FitsU32 at.offset
-      → load_of at.op ≡ o → Leads ctx (cond b (option_and_then (load_type at) o) None) before middle
-      → Sequence wider (on o (before_load s at)) before before
-  before_loads at before middle false o word e h = absurd h
-  before_loads at before middle true None word e h = absurd h
-  before_loads at before middle true (Some a) word e h =
-      load_told at before middle a (is_aligned at a) word (load_passes at.op a e) h
 
   store_told : (at : MemArg) (before middle : List ValType) (a : Access) (aligned : Bool) → FitsU32 at.offset
       → access_test a ≡ true → Leads ctx (if_true aligned (Moves (a.ty ∷ I32 ∷ []) [])) before middle
@@ -202,14 +203,6 @@ module _ (s : Site) (ctx wider : Context) (w : Widens s ctx wider) where
       subst (λ types. Sequence wider (before_store s at a) types types) (sym h.had)
       (store_runs s wider w.has at a h.below word (and_right (is_number a.ty) (nat_lt a.width (2 ^ 32)) passes)
       (and_left (is_number a.ty) (nat_lt a.width (2 ^ 32)) passes))
-
-  before_stores : (at : MemArg) (before middle : List ValType) (b : Bool) (o : Option Access) → FitsU32 at.offset
-      → store_of at.op ≡ o → Leads ctx (cond b (option_and_then (store_type at) o) None) before middle
-      → Sequence wider (on o (before_store s at)) before before
-  before_stores at before middle false o word e h = absurd h
-  before_stores at before middle true None word e h = absurd h
-  before_stores at before middle true (Some a) word e h =
-      store_told at before middle a (is_aligned at a) word (store_passes at.op a e) h
 
   set_told : (x : ℕ) (g : GlobalType) (before middle : List ValType) (b : Bool) → IsTrue (is_number g.ty) → FitsU32 x
       → Leads ctx (if_true b (Moves (g.ty ∷ []) [])) before middle
@@ -246,9 +239,11 @@ module _ (s : Site) (ctx wider : Context) (w : Widens s ctx wider) where
   before_runs (CallIndirect t) before middle word h =
       before_indirect before middle (has_table ctx 0) (slice_get ctx.types t) h
   before_runs (Load at) before middle word h =
-      before_loads at before middle (has_memory ctx) (load_of at.op) word refl h
+      before_accesses before middle (load_type at) (before_load s at) (has_memory ctx) (load_of at.op)
+      (λ a e. load_told at before middle a (is_aligned at a) word (load_passes at.op a e)) h
   before_runs (Store at) before middle word h =
-      before_stores at before middle (has_memory ctx) (store_of at.op) word refl h
+      before_accesses before middle (store_type at) (before_store s at) (has_memory ctx) (store_of at.op)
+      (λ a e. store_told at before middle a (is_aligned at a) word (store_passes at.op a e)) h
   before_runs MemorySize before middle word h = alone_runs s wider w.has hook.Size before refl
   before_runs (GlobalSet x) before middle word h =
       before_sets x before middle (slice_get (all_globals s.m) x) refl

@@ -1,11 +1,11 @@
 -- An encoding in its place is one at the front of what is left.
-use Rattle.std.proofs.Common.{◌≡◌, ℕ, ◌+◌, ◌-◌, ◌<◌, ◌≤◌, List, length, take, drop, Option, Some, None, ap, sym, ◌∙◌, arith, length-drop, length-append}
+use Rattle.std.proofs.Common.{◌≡◌, ℕ, ◌+◌, ◌-◌, ◌<◌, ◌≤◌, List, length, take, drop, Option, Some, None, ap, sym, ◌∙◌, subst, arith, length-drop, length-append}
 use Rattle.std.proofs.lemmas.List.{drop-drop, take-append-drop}
 use Rattle.std.proofs.Math.Seq.{take-append_seam, take-length}
 use Rattle.std.proofs.lemmas.Option.{none-some, some_pair_parts}
 use Rattle.std.specs.Prelude.{Result, Ok, Err}
 use Rattle.leb_bytes.specs.Encoding.{IsReadBy}
-use Rattle.leb_bytes.specs.Place.{IsEncodedAt}
+use Rattle.leb_bytes.specs.Place.{IsEncodedAt, IsReadFrom}
 
 module _ {A : Type 0} (Encodes : List ℕ → A → Type 0) (first : List ℕ → Option (A × List ℕ)) (reads : IsReadBy Encodes first)
     (bytes : List ℕ) (at : ℕ) where
@@ -59,43 +59,31 @@ module _ {A : Type 0} (Encodes : List ℕ → A → Type 0) (first : List ℕ �
 pub behind : (bytes : List ℕ) (at : ℕ) → take (length bytes - at) (drop at bytes) ≡ drop at bytes
 behind bytes at = ap (λ n. take n (drop at bytes)) (sym (length-drop at bytes)) ∙ take-length (drop at bytes)
 
--- What is read at a place, by a reader of a front of the bytes: all that the calls say of it.
-pub record IsReadAt {A : Type 0} (Encodes : List ℕ → A → Type 0) (first : List ℕ → Option (A × List ℕ)) (E : Type 0)
-    (bytes : List ℕ) (at next : ℕ) (x : A) : Type 0 where
-  pub front : first (drop at bytes) ≡ Some (x, drop next bytes)
-  pub found : IsEncodedAt Encodes bytes at next x
-  pub only : (other : ℕ) (y : A) → IsEncodedAt Encodes bytes at other y
-      → ◌≡◌ {A = Result (A × ℕ) E} (Ok (x, next)) (Ok (y, other))
-
+-- What is read at a place, by a reader of a front of the bytes; the value may be written otherwise.
 pub read_there : {A E : Type 0} (Encodes : List ℕ → A → Type 0) (first : List ℕ → Option (A × List ℕ))
     → IsReadBy Encodes first
-    → ((front : List ℕ) (x : A) → Encodes front x → 0 < length front) → E → (bytes : List ℕ) (at taken : ℕ) (x : A)
+    → ((front : List ℕ) (x : A) → Encodes front x → 0 < length front) → E → (bytes : List ℕ) (at taken : ℕ) (x y : A)
     → at ≤ length bytes → taken ≤ length (take (length bytes - at) (drop at bytes))
     → first (take (length bytes - at) (drop at bytes)) ≡ Some (x, drop taken (take (length bytes - at) (drop at bytes)))
-    → IsReadAt Encodes first E bytes at (at + taken) x
-read_there Encodes first reads some e bytes at taken x inside within is =
+    → y ≡ x → IsReadFrom {E = E} Encodes first bytes at (Ok (y, at + taken))
+read_there {A} {E} Encodes first reads some e bytes at taken x y inside within is same =
     let p = front_at Encodes first reads bytes at (take (length bytes - at) (drop at bytes)) taken x (behind bytes at) inside within is in
-    record {
-      front = p.1;
+    subst (λ z. IsReadFrom {E = E} Encodes first bytes at (Ok (z, at + taken))) (sym same) (record {
       found = encoded_at Encodes first reads bytes at (at + taken) x (λ front. some front x) inside p.0 p.1;
-      only = λ other y. same_at Encodes first reads bytes at e (at + taken) other x y p.0 p.1;
-    }
+      only = λ other z. same_at Encodes first reads bytes at e (at + taken) other x z p.0 p.1;
+      bad = record {};
+      front = p.1;
+    })
 
--- Nothing is read at a place: all that the calls say of it.
-pub record IsUnreadAt {A E : Type 0} (Encodes : List ℕ → A → Type 0) (first : List ℕ → Option (A × List ℕ)) (bad : E)
-    (bytes : List ℕ) (at : ℕ) : Type 0 where
-  pub front : first (drop at bytes) ≡ None
-  pub none : (next : ℕ) (x : A) → IsEncodedAt Encodes bytes at next x → ⊥
-  pub only : (next : ℕ) (x : A) → IsEncodedAt Encodes bytes at next x
-      → ◌≡◌ {A = Result (A × ℕ) E} (Err bad) (Ok (x, next))
-
+-- Nothing is read at a place.
 pub none_there : {A E : Type 0} (Encodes : List ℕ → A → Type 0) (first : List ℕ → Option (A × List ℕ)) (bad : E)
     → IsReadBy Encodes first → (bytes : List ℕ) (at : ℕ)
-    → first (take (length bytes - at) (drop at bytes)) ≡ None → IsUnreadAt Encodes first bad bytes at
+    → first (take (length bytes - at) (drop at bytes)) ≡ None → IsReadFrom Encodes first bytes at (Err bad)
 none_there Encodes first bad reads bytes at is =
     let none = ap first (sym (behind bytes at)) ∙ is in
     record {
-      front = none;
-      none = λ next x. none_at Encodes first reads bytes at next x none;
+      found = record {};
       only = λ next x h. absurd (none_at Encodes first reads bytes at next x none h);
+      bad = λ next x. none_at Encodes first reads bytes at next x none;
+      front = none;
     }

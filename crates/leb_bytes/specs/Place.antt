@@ -1,5 +1,5 @@
 -- Where in a list of bytes something is encoded.
-use Rattle.std.specs.Prelude.{ℕ, ◌<◌, ◌≤◌, List, length, slice_range}
+use Rattle.std.specs.Prelude.{◌≡◌, ℕ, ◌<◌, ◌≤◌, List, length, drop, slice_range, Option, Some, None, Result, Ok, IfOk, OnErr, MatchResult}
 
 -- the bytes from `at` on, up to the place `next`, encode it
 pub record IsEncodedAt {A : Type 0} (Encodes : List ℕ → A → Type 0) (bytes : List ℕ) (at next : ℕ) (value : A)
@@ -7,3 +7,14 @@ pub record IsEncodedAt {A : Type 0} (Encodes : List ℕ → A → Type 0) (bytes
   pub begins : at < next
   pub ends : next ≤ length bytes
   pub encodes : Encodes (slice_range bytes at next) value
+
+-- What reading at a place answers: the value that is encoded there, with the place after it, or that there is none.
+-- `first` reads the front of what is left of the bytes.
+pub record IsReadFrom {A E : Type 0} (Encodes : List ℕ → A → Type 0) (first : List ℕ → Option (A × List ℕ))
+    (bytes : List ℕ) (at : ℕ) (result : Result (A × ℕ) E) : Type 0 where
+  pub found : IfOk result (λ read. IsEncodedAt Encodes bytes at read.1 read.0)
+  pub only : (next : ℕ) (value : A) → IsEncodedAt Encodes bytes at next value → result ≡ Ok (value, next)
+  pub bad : OnErr result ((next : ℕ) (value : A) → IsEncodedAt Encodes bytes at next value → ⊥)
+  pub front : MatchResult result
+      (λ read. first (drop at bytes) ≡ Some (read.0, drop read.1 bytes))
+      (λ _. first (drop at bytes) ≡ None)

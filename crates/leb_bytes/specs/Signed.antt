@@ -1,7 +1,8 @@
 -- Signed numbers in LEB128, and integers by their bits (Core 1.0, 5.2.2).
 use Rattle.std.specs.Prelude.{◌≡◌, ℕ, zero, suc, ◌+◌, ◌-◌, ◌/◌, ◌%◌, ◌^◌, ◌<◌, ◌≤◌, ◌⊎◌, List, [], ◌∷◌, Option, Some, None, ◌&&◌, Bool, nat_lt, nat_le, if◌then◌else◌, ℤ, pos, negsuc, ◌+ℤ◌, ◌-ℤ◌, ◌*ℤ◌}
 use Rattle.std.specs.Option.{option_map}
-use Rattle.std.specs.Int.{w32, w64, cast_signed, cast_unsigned}
+use Rattle.std.specs.Int.{Width, w32, w64, cast_signed, cast_unsigned}
+use mir.Val.{bits}
 
 -- The bytes encode the signed number of `width` bits. A byte below 2^7 is the last, and its seventh bit is the sign;
 -- one from 2^7 on has the low seven bits, and the bytes after it encode the rest.
@@ -44,41 +45,42 @@ signed_bytes zero z = low_bits z ∷ []
 signed_bytes (suc more) z =
     if fits_seven_bits z then low_bits z ∷ [] else (low_bits z + 2 ^ 7) ∷ signed_bytes more (high_bits z)
 
--- ---- 32 bits, in at most five bytes
+-- ---- numbers of 32 bits, in at most five bytes, and of 64, in at most ten
 
--- the bytes encode the s32
-pub record EncodesS32 (bytes : List ℕ) (z : ℤ) : Type 0 where
-  pub signed : EncodesSigned 32 bytes z
+-- the bytes encode the signed number of the width
+pub record EncodesIn (w : Width) (bytes : List ℕ) (z : ℤ) : Type 0 where
+  pub signed : EncodesSigned (bits w) bytes z
 
--- the bytes encode the i32 with these bits, as the s32 that they are in two's complement
-pub record EncodesI32 (bytes : List ℕ) (bits : ℕ) : Type 0 where
-  pub in_range : bits < 2 ^ 32
-  pub signed : EncodesS32 bytes (cast_signed w32 bits)
+-- the bytes encode the integer with these bits, as the signed number that they are in two's complement
+pub record EncodesBits (w : Width) (bytes : List ℕ) (n : ℕ) : Type 0 where
+  pub in_range : n < 2 ^ bits w
+  pub signed : EncodesIn w bytes (cast_signed w n)
 
--- the s32 that a front of the bytes encodes, and the bytes after it
+-- s32 and s64
+abbrev pub EncodesS32 : List ℕ → ℤ → Type 0
+EncodesS32 = EncodesIn w32
+
+abbrev pub EncodesS64 : List ℕ → ℤ → Type 0
+EncodesS64 = EncodesIn w64
+
+-- i32 and i64, by their bits
+abbrev pub EncodesI32 : List ℕ → ℕ → Type 0
+EncodesI32 = EncodesBits w32
+
+abbrev pub EncodesI64 : List ℕ → ℕ → Type 0
+EncodesI64 = EncodesBits w64
+
+-- the s32, and the s64, that a front of the bytes encodes, and the bytes after it
 unfoldable pub first_s32 : List ℕ → Option (ℤ × List ℕ)
 first_s32 bytes = first_signed 32 bytes
 
--- the bits of the i32 that a front of the bytes encodes, and the bytes after it
-unfoldable pub first_i32 : List ℕ → Option (ℕ × List ℕ)
-first_i32 bytes = option_map (λ read. (cast_unsigned w32 read.0, read.1)) (first_s32 bytes)
-
--- ---- 64 bits, in at most ten bytes
-
--- the bytes encode the s64
-pub record EncodesS64 (bytes : List ℕ) (z : ℤ) : Type 0 where
-  pub signed : EncodesSigned 64 bytes z
-
--- the bytes encode the i64 with these bits, as the s64 that they are in two's complement
-pub record EncodesI64 (bytes : List ℕ) (bits : ℕ) : Type 0 where
-  pub in_range : bits < 2 ^ 64
-  pub signed : EncodesS64 bytes (cast_signed w64 bits)
-
--- the s64 that a front of the bytes encodes, and the bytes after it
 unfoldable pub first_s64 : List ℕ → Option (ℤ × List ℕ)
 first_s64 bytes = first_signed 64 bytes
 
--- the bits of the i64 that a front of the bytes encodes, and the bytes after it
+-- the bits of the i32, and of the i64, that a front of the bytes encodes, and the bytes after it
+unfoldable pub first_i32 : List ℕ → Option (ℕ × List ℕ)
+first_i32 bytes = option_map (λ read. (cast_unsigned w32 read.0, read.1)) (first_s32 bytes)
+
 unfoldable pub first_i64 : List ℕ → Option (ℕ × List ℕ)
 first_i64 bytes = option_map (λ read. (cast_unsigned w64 read.0, read.1)) (first_s64 bytes)
 

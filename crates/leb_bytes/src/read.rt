@@ -1,7 +1,7 @@
 //! Reading numbers.
-ghost use Rattle.std.specs.Prelude.{◌≡◌, ℕ, ◌+◌, ◌-◌, ◌*◌, ◌^◌, ◌<◌, ◌≤◌, length, drop, Some, None, IfOk, OnErr, MatchOption, MatchResult, ℤ, List, [], ◌∷◌, pos, ◌+ℤ◌, ◌*ℤ◌};
+ghost use Rattle.std.specs.Prelude.{◌≡◌, ◌+◌, ◌^◌, ◌<◌, ◌≤◌, length, drop, Some, None, MatchOption, [], ◌∷◌, pos, ◌+ℤ◌, ◌*ℤ◌};
 ghost use Rattle.std.specs.Option.{option_map};
-ghost use Rattle.leb_bytes.specs.Place.{IsEncodedAt};
+ghost use Rattle.leb_bytes.specs.Place.{IsReadFrom};
 ghost use Rattle.leb_bytes.specs.Signed.{EncodesS32, EncodesS64, first_s32, first_s64, first_signed};
 ghost use Rattle.leb_bytes.specs.Unsigned.{EncodesU32, first_u32, first_unsigned};
 
@@ -19,16 +19,7 @@ pub struct BadLeb;
 #[inline]
 pub fn read_u32(bytes: &[u8], at: usize) -> Result<(u32, usize), BadLeb>
     requires { at ≤ length bytes.now }
-    // What is read is encoded there.
-    ensures found { IfOk result (λ read. IsEncodedAt EncodesU32 bytes.now at read.1 read.0) }
-    // What is encoded there is read.
-    ensures only { (next number : ℕ) → IsEncodedAt EncodesU32 bytes.now at next number → result ≡ Ok (number, next) }
-    // Where it is refused, nothing is encoded there.
-    ensures bad { OnErr result ((next number : ℕ) → IsEncodedAt EncodesU32 bytes.now at next number → ⊥) }
-    // The same, as the front of what is left of the bytes.
-    ensures front { MatchResult result
-        (λ read. first_u32 (drop at bytes.now) ≡ Some (read.0, drop read.1 bytes.now))
-        (λ _. first_u32 (drop at bytes.now) ≡ None) }
+    ensures { IsReadFrom EncodesU32 first_u32 bytes.now at result }
 {
     match front_u32(&bytes[at..]) {
         Some((number, taken)) => Ok((number, at + taken)),
@@ -43,17 +34,7 @@ pub fn read_u32(bytes: &[u8], at: usize) -> Result<(u32, usize), BadLeb>
 #[inline]
 pub fn read_i32(bytes: &[u8], at: usize) -> Result<(i32, usize), BadLeb>
     requires { at ≤ length bytes.now }
-    // What is read is encoded there.
-    ensures found { IfOk result (λ read. IsEncodedAt EncodesS32 bytes.now at read.1 read.0) }
-    // What is encoded there is read.
-    ensures only { (next : ℕ) (number : ℤ) → IsEncodedAt EncodesS32 bytes.now at next number
-        → result ≡ Ok (number, next) }
-    // Where it is refused, nothing is encoded there.
-    ensures bad { OnErr result ((next : ℕ) (number : ℤ) → IsEncodedAt EncodesS32 bytes.now at next number → ⊥) }
-    // The same, as the front of what is left of the bytes.
-    ensures front { MatchResult result
-        (λ read. first_s32 (drop at bytes.now) ≡ Some (read.0, drop read.1 bytes.now))
-        (λ _. first_s32 (drop at bytes.now) ≡ None) }
+    ensures { IsReadFrom EncodesS32 first_s32 bytes.now at result }
 {
     match front_signed(&bytes[at..], 32) {
         Some((number, taken)) => Ok((number as i32, at + taken)),
@@ -68,17 +49,7 @@ pub fn read_i32(bytes: &[u8], at: usize) -> Result<(i32, usize), BadLeb>
 #[inline]
 pub fn read_i64(bytes: &[u8], at: usize) -> Result<(i64, usize), BadLeb>
     requires { at ≤ length bytes.now }
-    // What is read is encoded there.
-    ensures found { IfOk result (λ read. IsEncodedAt EncodesS64 bytes.now at read.1 read.0) }
-    // What is encoded there is read.
-    ensures only { (next : ℕ) (number : ℤ) → IsEncodedAt EncodesS64 bytes.now at next number
-        → result ≡ Ok (number, next) }
-    // Where it is refused, nothing is encoded there.
-    ensures bad { OnErr result ((next : ℕ) (number : ℤ) → IsEncodedAt EncodesS64 bytes.now at next number → ⊥) }
-    // The same, as the front of what is left of the bytes.
-    ensures front { MatchResult result
-        (λ read. first_s64 (drop at bytes.now) ≡ Some (read.0, drop read.1 bytes.now))
-        (λ _. first_s64 (drop at bytes.now) ≡ None) }
+    ensures { IsReadFrom EncodesS64 first_s64 bytes.now at result }
 {
     match front_signed(&bytes[at..], 64) {
         Some((number, taken)) => Ok((number, at + taken)),

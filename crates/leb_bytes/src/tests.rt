@@ -23,23 +23,6 @@ fn u32_encodings_are_read(rt: HostRuntime) {
 }
 
 #[test]
-fn no_u32_is_encoded(rt: HostRuntime) {
-    let bad: [&[u8]; 6] = [
-        &[],
-        &[0x80],
-        &[0xe5, 0x8e],
-        // A sixth byte.
-        &[0x80, 0x80, 0x80, 0x80, 0x80, 0x00],
-        // Unused bits that aren't 0.
-        &[0xff, 0xff, 0xff, 0xff, 0x1f],
-        &[0x80, 0x80, 0x80, 0x80, 0x10],
-    ];
-    for bytes in bad {
-        assert_eq!(rt; read_u32(bytes, 0), Err(BadLeb));
-    }
-}
-
-#[test]
 fn signed_encodings_are_read(rt: HostRuntime) {
     let read: [(&[u8], i32, usize); 12] = [
         (&[0x02], 2, 1),
@@ -63,8 +46,18 @@ fn signed_encodings_are_read(rt: HostRuntime) {
 }
 
 #[test]
-fn no_s32_is_encoded(rt: HostRuntime) {
-    let bad: [&[u8]; 6] = [
+fn no_number_of_32_bits_is_encoded(rt: HostRuntime) {
+    let unsigned: [&[u8]; 6] = [
+        &[],
+        &[0x80],
+        &[0xe5, 0x8e],
+        // A sixth byte.
+        &[0x80, 0x80, 0x80, 0x80, 0x80, 0x00],
+        // Unused bits that aren't 0.
+        &[0xff, 0xff, 0xff, 0xff, 0x1f],
+        &[0x80, 0x80, 0x80, 0x80, 0x10],
+    ];
+    let signed: [&[u8]; 6] = [
         &[],
         &[0xc0, 0xbb],
         // A sixth byte.
@@ -74,7 +67,10 @@ fn no_s32_is_encoded(rt: HostRuntime) {
         &[0x80, 0x80, 0x80, 0x80, 0x08],
         &[0xff, 0xff, 0xff, 0xff, 0x0f],
     ];
-    for bytes in bad {
+    for bytes in unsigned {
+        assert_eq!(rt; read_u32(bytes, 0), Err(BadLeb));
+    }
+    for bytes in signed {
         assert_eq!(rt; read_i32(bytes, 0), Err(BadLeb));
     }
 }

@@ -13,20 +13,17 @@ use Rattle.replay_spec.specs.Observations.{Observation, Begins, Ends, Reaches, R
 use Rattle.replay_spec.specs.Known.{Known, read_byte, written_byte, carried_byte, read_entry, written_entry, carried_entry, read_global, written_global, carried_global, pages_after, entries_after, known_after}
 use Rattle.replay_spec.specs.Alike.{same_option, same_value}
 use Rattle.replay_spec.specs.Windows.{window, unless_some, first_byte, first_entry, first_global, found_pages, found_entries}
-use Rattle.replay_spec.specs.Needed.{needed, needed_byte, needed_entry, needed_global, needed_pages, needed_entries, effect_byte, effect_entry, effect_global, effect_pages, effect_entries}
+use Rattle.replay_spec.specs.Needed.{needed, effect_byte, effect_entry, effect_global, effect_pages, effect_entries, Given, SameGiven, needed_by}
 use Rattle.replay_spec.specs.Kept.{AreKeptSegments}
+use Rattle.replay_spec.proofs.OneList.{just_of_same, same_reversed}
 use Rattle.tape_follows.proofs.Activity.{or_nothing}
-use Rattle.hook_spec.specs.LogTapes.{Mark, Finds, Begins as BeginsMark, Ends as EndsMark, window_finds, first_some, AreLogSegments}
+use Rattle.hook_spec.specs.LogTapes.{Mark, Finds, Begins as BeginsMark, Ends as EndsMark, window_finds, first_some, first_given, AreLogSegments}
 
 -- ---- the relation
 
 -- what is found of a window is just what the window needs
-pub record AreNeededFinds (known : Known) (window : List Observation) (finds : List Effect) : Type 0 where
-  pub pages : first_some effect_pages finds ≡ needed_pages known window
-  pub entries : first_some effect_entries finds ≡ needed_entries known window
-  pub byte : (at : ℕ) → first_some (effect_byte at) finds ≡ needed_byte known window at
-  pub entry : (at : ℕ) → first_some (effect_entry at) finds ≡ needed_entry known window at
-  pub global : (at : ℕ) → first_some (effect_global at) finds ≡ needed_global known window at
+abbrev pub AreNeededFinds : Known → (window : List Observation) → (finds : List Effect) → Type 0
+AreNeededFinds known window finds = SameGiven (first_given finds) (needed_by known window)
 
 -- the window finds what it needs, and the segments that the marks give are those that the observations need
 pub record Agrees (known : Known) (left : List Observation) (marks : List Mark) : Type 0 where
@@ -112,12 +109,15 @@ resized_in_front : (known found left size : ℕ) → needed nat_eq left (Some si
 resized_in_front known found left size settled =
     ap (option_or (needed nat_eq known (Some found))) settled ∙ or_nothing (needed nat_eq known (Some found))
 
+-- what is needed of a size of an observation and of the window after it, where nothing is of the window if this sees it
+abbrev InFront : (sees : Type 0) → (known after : ℕ) → (own : Option ℕ) → (later all : ℕ) → Type 0
+InFront sees known after own later all =
+    (sees → needed nat_eq after (Some later) ≡ None)
+    → option_or own (needed nat_eq after (Some later)) ≡ needed nat_eq known (Some all)
+
 pages_in_front : (known : ℕ) (o : Observation) (window : List Observation)
-    → (SeesPages known o
-    → needed nat_eq (pages_after known o) (Some (found_pages (pages_after known o) window)) ≡ None)
-    → option_or (needed_pages_at known o)
-    (needed nat_eq (pages_after known o) (Some (found_pages (pages_after known o) window)))
-    ≡ needed nat_eq known (Some (found_pages known (o ∷ window)))
+    → InFront (SeesPages known o) known (pages_after known o) (needed_pages_at known o)
+    (found_pages (pages_after known o) window) (found_pages known (o ∷ window))
 pages_in_front known (Reaches end found) window settled =
     size_in_front (nat_le end (known * PAGE_SIZE)) known found (λ size. found_pages size window) settled
 pages_in_front known (Resizes found left) window settled =
@@ -125,11 +125,8 @@ pages_in_front known (Resizes found left) window settled =
 pages_in_front known o window settled = refl
 
 entries_in_front : (known : ℕ) (o : Observation) (window : List Observation)
-    → (SeesEntries known o
-    → needed nat_eq (entries_after known o) (Some (found_entries (entries_after known o) window)) ≡ None)
-    → option_or (needed_entries_at known o)
-    (needed nat_eq (entries_after known o) (Some (found_entries (entries_after known o) window)))
-    ≡ needed nat_eq known (Some (found_entries known (o ∷ window)))
+    → InFront (SeesEntries known o) known (entries_after known o) (needed_entries_at known o)
+    (found_entries (entries_after known o) window) (found_entries known (o ∷ window))
 entries_in_front known (ReachesEntry index found) window settled =
     size_in_front (nat_lt index known) known found (λ size. found_entries size window) settled
 entries_in_front known (ResizesTable found left func) window settled =
@@ -259,6 +256,12 @@ pub agrees_activity : (known : Known) (origin : Origin) (next : Next) (left : Li
 agrees_activity known origin next left marks agrees =
     record { finds = no_finds known; to_log = there; from_log = back }
   where
+    finds : Given
+    finds = first_given (window_finds marks)
+
+    needs : Given
+    needs = needed_by known (window left)
+
     there : (segments : List Segment) → AreKeptSegments known (Begins origin ∷ Ends next ∷ left) segments
         → AreLogSegments (BeginsMark origin ∷ EndsMark next ∷ marks) segments
     there [] h = h
@@ -266,15 +269,8 @@ agrees_activity known origin next left marks agrees =
       record {
         begins = h.0.begins;
         leaves = h.0.leaves;
-        changes = record {
-          ordered = h.0.changes.ordered;
-          nonempty = h.0.changes.nonempty;
-          pages = h.0.changes.pages ∙ sym agrees.finds.pages;
-          entries = h.0.changes.entries ∙ sym agrees.finds.entries;
-          byte = λ at. h.0.changes.byte at ∙ sym (agrees.finds.byte at);
-          entry = λ at. h.0.changes.entry at ∙ sym (agrees.finds.entry at);
-          global = λ at. h.0.changes.global at ∙ sym (agrees.finds.global at);
-        };
+        changes =
+            just_of_same needs finds segment.effects (same_reversed finds needs agrees.finds) h.0.changes;
       },
       agrees.to_log segments h.1,
     )
@@ -286,15 +282,7 @@ agrees_activity known origin next left marks agrees =
       record {
         begins = h.0.begins;
         leaves = h.0.leaves;
-        changes = record {
-          ordered = h.0.changes.ordered;
-          nonempty = h.0.changes.nonempty;
-          pages = h.0.changes.pages ∙ agrees.finds.pages;
-          entries = h.0.changes.entries ∙ agrees.finds.entries;
-          byte = λ at. h.0.changes.byte at ∙ agrees.finds.byte at;
-          entry = λ at. h.0.changes.entry at ∙ agrees.finds.entry at;
-          global = λ at. h.0.changes.global at ∙ agrees.finds.global at;
-        };
+        changes = just_of_same finds needs segment.effects agrees.finds h.0.changes;
       },
       agrees.from_log segments h.1,
     )

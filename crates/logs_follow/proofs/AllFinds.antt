@@ -5,8 +5,6 @@ use Rattle.std.proofs.lemmas.List.{append-nil}
 use Rattle.wasm_syntax.specs.declared.limits.TheConstants.{PAGE_SIZE}
 use Rattle.wasm_syntax.specs.declared.values.Val.{Val}
 use Rattle.trace_model.specs.declared.events.Event.TheVariants.{Seen, Table, Entry}
-use Rattle.trace_model.specs.declared.tapes.Effect.{Effect}
-use Rattle.trace_model.specs.declared.events.Event.{Event}
 use Rattle.replay_spec.specs.Observations.{Reads, Copies, Writes, Reaches, Resizes, ReadsEntry, ReachesEntry, WritesGlobal}
 use Rattle.replay_spec.specs.Known.{Known, byte_among}
 use Rattle.replay_spec.specs.Alike.{same_option}
@@ -14,10 +12,9 @@ use Rattle.replay_spec.specs.Needed.{needed, effect_entry, effect_global, effect
 use Rattle.tape_follows.proofs.Activity.{or_nothing}
 use Rattle.hook_spec.specs.Hooks.{renumber, original}
 use Rattle.hook_spec.specs.Logs.{LogState, differing_runs, unless, same_entry, all_observed_events}
-use Rattle.hook_spec.specs.LogTapes.{first_some}
 use Rattle.logs_follow.proofs.Agrees.{AreFindsOf}
 use Rattle.logs_follow.proofs.FirstBytes.{finds_of, first_differing}
-use Rattle.logs_follow.proofs.ObservedFinds.{IsToldKnown, IsNoticed, none_differing, found_size, found_entries_number, same_told_entry, original_entry, found_place}
+use Rattle.logs_follow.proofs.ObservedFinds.{IsToldKnown, IsNoticed, none_differing, found_size, found_entries_number, same_told_entry, original_entry, none_told, told_place}
 
 module _ (n size : ℕ) (known : Known) (state : LogState) (told : IsToldKnown n known state.known) where
   -- bytes that are read, by a load or as the source of a copy
@@ -47,13 +44,6 @@ module _ (n size : ℕ) (known : Known) (state : LogState) (told : IsToldKnown n
       subst (λ events. AreFindsOf known (Copies address bytes) (finds_of size events))
       (sym (append-nil (differing_runs state.known.byte address bytes)))
       (record { pages = f.pages; entries = f.entries; byte = f.byte; entry = f.entry; global = f.global })
-
-  -- what an event does not give is not found, whether the event is told or not
-  none_told : {X : Type 0} (part : Effect → Option X) (event : Event)
-      → first_some part (finds_of size (event ∷ [])) ≡ None → (untold : Bool)
-      → first_some part (finds_of size (unless untold event)) ≡ None
-  none_told part event none true = refl
-  none_told part event none false = none
 
   -- an access, and the size
   pub reaches_found : («end» found : ℕ) → IsNoticed state.noticed size known.pages found
@@ -88,10 +78,10 @@ module _ (n size : ℕ) (known : Known) (state : LogState) (told : IsToldKnown n
           (record {
             pages = found_size known.pages found state.noticed size noticed
                 ∙ sym (ap (λ b. cond b None (needed nat_eq known.pages (Some found))) p);
-            entries = none_told effect_entries Seen refl seen;
-            byte = λ at. none_told (effect_byte at) Seen refl seen;
-            entry = λ at. none_told (effect_entry at) Seen refl seen;
-            global = λ at. none_told (effect_global at) Seen refl seen;
+            entries = none_told size effect_entries Seen refl seen;
+            byte = λ at. none_told size (effect_byte at) Seen refl seen;
+            entry = λ at. none_told size (effect_entry at) Seen refl seen;
+            global = λ at. none_told size (effect_global at) Seen refl seen;
           })
 
   pub resizes_found : (found left : ℕ) → IsNoticed state.noticed size known.pages found
@@ -106,10 +96,10 @@ module _ (n size : ℕ) (known : Known) (state : LogState) (told : IsToldKnown n
       (sym (append-nil (unless seen Seen ++ []) ∙ append-nil (unless seen Seen)))
       (record {
         pages = found_size known.pages found state.noticed size noticed;
-        entries = none_told effect_entries Seen refl seen;
-        byte = λ at. none_told (effect_byte at) Seen refl seen;
-        entry = λ at. none_told (effect_entry at) Seen refl seen;
-        global = λ at. none_told (effect_global at) Seen refl seen;
+        entries = none_told size effect_entries Seen refl seen;
+        byte = λ at. none_told size (effect_byte at) Seen refl seen;
+        entry = λ at. none_told size (effect_entry at) Seen refl seen;
+        global = λ at. none_told size (effect_global at) Seen refl seen;
       }))
     where
       seen : Bool
@@ -144,12 +134,12 @@ module _ (n size : ℕ) (known : Known) (state : LogState) (told : IsToldKnown n
           subst (λ events. AreFindsOf known (ReachesEntry index found) (finds_of size events))
           (sym (append-nil (unless same (Table found))))
           (record {
-            pages = none_told effect_pages (Table found) refl same;
+            pages = none_told size effect_pages (Table found) refl same;
             entries = found_entries_number known.entries found size
                 ∙ sym (ap (λ b. cond b None (needed nat_eq known.entries (Some found))) p);
-            byte = λ at. none_told (effect_byte at) (Table found) refl same;
-            entry = λ at. none_told (effect_entry at) (Table found) refl same;
-            global = λ at. none_told (effect_global at) (Table found) refl same;
+            byte = λ at. none_told size (effect_byte at) (Table found) refl same;
+            entry = λ at. none_told size (effect_entry at) (Table found) refl same;
+            global = λ at. none_told size (effect_global at) (Table found) refl same;
           })
 
   -- what is written
@@ -180,26 +170,16 @@ module _ (n size : ℕ) (known : Known) (state : LogState) (told : IsToldKnown n
       (sym
       (ap (λ e. same_entry e (option_map (renumber n) func)) (told.entry index)
       ∙ same_told_entry n (known.entry index) func))
-      (go (same_option nat_eq (known.entry index) func) refl))
+      (subst (λ events. AreFindsOf known (ReadsEntry index func) (finds_of size events))
+      (sym (append-nil (unless untold (Entry index func))))
+      (record {
+        pages = none_told size effect_pages (Entry index func) refl untold;
+        entries = none_told size effect_entries (Entry index func) refl untold;
+        byte = λ at. none_told size (effect_byte at) (Entry index func) refl untold;
+        entry = told_place size (same_option nat_eq) known.entry index func effect_entry (Entry index func)
+            (λ at. or_nothing (cond (nat_eq index at) (Some func) None)) untold refl;
+        global = λ at. none_told size (effect_global at) (Entry index func) refl untold;
+      })))
     where
-      go : (b : Bool) → same_option nat_eq (known.entry index) func ≡ b
-          → AreFindsOf known (ReadsEntry index func) (finds_of size (unless b (Entry index func) ++ []))
-      go true p =
-          record {
-            pages = refl;
-            entries = refl;
-            byte = λ at. refl;
-            entry = λ at. sym (ap (λ b. cond b None (cond (nat_eq index at) (Some func) None)) p)
-                ∙ found_place (same_option nat_eq) known.entry index at func;
-            global = λ at. refl;
-          }
-      go false p =
-          record {
-            pages = refl;
-            entries = refl;
-            byte = λ at. refl;
-            entry = λ at. or_nothing (cond (nat_eq index at) (Some func) None)
-                ∙ sym (ap (λ b. cond b None (cond (nat_eq index at) (Some func) None)) p)
-                ∙ found_place (same_option nat_eq) known.entry index at func;
-            global = λ at. refl;
-          }
+      untold : Bool
+      untold = same_option nat_eq (known.entry index) func

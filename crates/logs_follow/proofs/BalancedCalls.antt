@@ -10,6 +10,7 @@ use Rattle.run_outcomes.specs.declared.outcomes.Outcome.{Outcome}
 use Rattle.trace_model.specs.declared.events.Event.{Event}
 use Rattle.trace_model.specs.declared.events.Event.TheVariants as events
 use Rattle.trace_model.specs.Balance.{enter_frames, calls_import}
+use Rattle.history_spec.specs.declared.entries.Entry.{Entry}
 use Rattle.history_spec.specs.declared.entries.Entry.TheVariants.{HostCall, HostReturn, ImportCall, ImportReturn, Enter, Exit}
 use Rattle.history_spec.specs.Store.{Store}
 use Rattle.replay_spec.specs.Known.{Known}
@@ -23,9 +24,10 @@ use Rattle.calls_follow.proofs.CallObservations.{seen_by}
 use Rattle.calls_follow.proofs.CallOrder as orders
 use Rattle.calls_follow.proofs.ModuleFacts.{func_there}
 use Rattle.calls_follow.proofs.TrailOrder.{same_waiting, calls_at}
-use Rattle.calls_follow.proofs.Trails.{Level, AtFunction, AtImport, AtCall, call_level, at_host, with_top_entered, IsWithin, IsHostCall, IsEntered, IsHostReturn, IsExit, IsImportCall, IsImportReturn, IsTrail}
+use Rattle.calls_follow.proofs.Trails.{Level, AtFunction, AtImport, AtCall, call_level, at_host, with_top_entered, IsWithin, IsAtEntry, IsTrail}
 use Rattle.calls_follow.proofs.CallOrder.{IsHooked, renumbered, state, callee_may, never_imported}
-use Rattle.logs_follow.proofs.BalancedEvents.{CanSee, Frames, AreLevels, host_enters, module_enters, AreBalanced, LeadsTo, both_lead, enter_leads, leave_leads, post_leads, grown_leads}
+use Rattle.logs_follow.proofs.AllowedEvents.{CanSee}
+use Rattle.logs_follow.proofs.BalancedEvents.{Frames, AreLevels, host_enters, module_enters, AreBalanced, LeadsTo, both_lead, enter_leads, leave_leads, post_leads, grown_leads}
 use Rattle.logs_follow.proofs.CallLogs as logs
 use Rattle.logs_follow.proofs.CallLogs.{noticing, Logged}
 use Rattle.logs_follow.proofs.HostTraps.{TrapsInside}
@@ -94,6 +96,23 @@ module _ (m : Module) (shape : HookedShape) (outcome : Outcome) where
       → IsTrail m shape (Some outcome) later levels known store left → IsInside (imported_funcs m) levels left
       → Tells levels known.entries st later
 
+  -- what the first moment of a trail tells, by its entry, where the rest tells what it does
+  abbrev pub FirstTells : Entry → Type 0
+  FirstTells entry =
+      (later : List Moment) (moment : Moment) (levels : List Level) (known : Known) (store : Store)
+      (left : List Observation) (st : LogState)
+      → IsAtEntry m shape levels known store left (Some outcome) later moment entry (IsTrail m shape (Some outcome) later)
+      → IsInside (imported_funcs m) levels left → Rest later
+      → Tells levels known.entries st (record moment { entry = entry } ∷ later)
+
+  -- a call that begins is balanced as one of any function
+  pub as_call : (imported direct : Bool) (callee : ℕ) (args : List Val) (levels : List Level) (entries : ℕ) (st : LogState)
+      (later : List Moment) → Tells (call_level imported direct callee args ∷ levels) entries st later
+      → Tells (AtCall direct callee false args ∷ levels) entries st later
+  as_call true direct callee args levels entries st later h =
+      record { found = h.found; are = h.are; balanced = h.balanced }
+  as_call false direct callee args levels entries st later h = h
+
 module _ (m : Module) (shape : HookedShape) (hooked : IsHooked m shape) (outcome : Outcome) where
   abbrev n : ℕ
   n = imported_funcs m
@@ -139,12 +158,8 @@ module _ (m : Module) (shape : HookedShape) (hooked : IsHooked m shape) (outcome
       (events.Post result ∷ []) (grown_events st.noticed view)
       (post_leads n outcome result direct callee entered args levels st e) (grown_leads n outcome levels st view w)
 
-  pub host_call : (later : List Moment) (moment : Moment) (levels : List Level) (known : Known) (store : Store)
-      (left : List Observation) (st : LogState) (func : ℕ) (args : List Val)
-      → IsHostCall m shape levels known store left moment func args (IsTrail m shape (Some outcome) later)
-      → IsInside n levels left → Rest m shape outcome later
-      → Tells m shape outcome levels known.entries st (record moment { entry = HostCall func args } ∷ later)
-  host_call later moment levels known store left st func args h inside rest =
+  pub host_call : (func : ℕ) (args : List Val) → FirstTells m shape outcome (HostCall func args)
+  host_call func args later moment levels known store left st h inside rest =
       then_balances levels next known.entries known.entries st (noticing moment.after st)
       (told_enter func args moment.after) (calls_at m levels later)
       (events.Enter func args ∷ grown_events st.noticed moment.after)
@@ -167,12 +182,8 @@ module _ (m : Module) (shape : HookedShape) (hooked : IsHooked m shape) (outcome
           subst (λ l. TrapsInside true (open_imports n levels) l) h.observed
           (subst (λ b. TrapsInside b (open_imports n levels) left) h.host inside)
 
-  pub entered : (later : List Moment) (moment : Moment) (levels : List Level) (known : Known) (store : Store)
-      (left : List Observation) (st : LogState) (func : ℕ)
-      → IsEntered m shape levels known store left moment func (IsTrail m shape (Some outcome) later)
-      → IsInside n levels left → Rest m shape outcome later
-      → Tells m shape outcome levels known.entries st (record moment { entry = Enter func } ∷ later)
-  entered later moment levels known store left st func h inside rest =
+  pub entered : (func : ℕ) → FirstTells m shape outcome (Enter func)
+  entered func later moment levels known store left st h inside rest =
       subst (λ l. Tells m shape outcome l known.entries st (record moment { entry = Enter func } ∷ later)) (sym h.stands)
       (then_balances top inner known.entries known.entries st (noticing moment.after st)
       (told_enter func h.args moment.after) (calls_at m top later)
@@ -191,12 +202,8 @@ module _ (m : Module) (shape : HookedShape) (hooked : IsHooked m shape) (outcome
       inner : List Level
       inner = AtFunction func ∷ AtCall h.direct func true h.args ∷ h.below
 
-  pub host_return : (later : List Moment) (moment : Moment) (levels : List Level) (known : Known) (store : Store)
-      (left : List Observation) (st : LogState) (func : ℕ) (results : List Val)
-      → IsHostReturn m shape levels known store left moment func (IsTrail m shape (Some outcome) later)
-      → IsInside n levels left → Rest m shape outcome later
-      → Tells m shape outcome levels known.entries st (record moment { entry = HostReturn func results } ∷ later)
-  host_return later moment levels known store left st func results h inside rest =
+  pub host_return : (func : ℕ) (results : List Val) → FirstTells m shape outcome (HostReturn func results)
+  host_return func results later moment levels known store left st h inside rest =
       subst (λ l. Tells m shape outcome l known.entries st (record moment { entry = HostReturn func results } ∷ later)) (sym h.stands)
       (then_balances (AtFunction func ∷ h.below) h.below known.entries known.entries st st
       (told_number Leave func moment.after) (calls_at m h.below later) (events.Leave func ∷ [])
@@ -207,12 +214,8 @@ module _ (m : Module) (shape : HookedShape) (hooked : IsHooked m shape) (outcome
       (subst (λ l. IsInside n (AtFunction func ∷ h.below) l) h.observed
       (subst (λ l. IsInside n l left) h.stands inside)))))
 
-  pub exited : (later : List Moment) (moment : Moment) (levels : List Level) (known : Known) (store : Store)
-      (left : List Observation) (st : LogState) (func : ℕ) (results : List Val)
-      → IsExit m shape levels known store left moment func results (IsTrail m shape (Some outcome) later)
-      → IsInside n levels left → Rest m shape outcome later
-      → Tells m shape outcome levels known.entries st (record moment { entry = Exit func results } ∷ later)
-  exited later moment levels known store left st func results h inside rest =
+  pub exited : (func : ℕ) (results : List Val) → FirstTells m shape outcome (Exit func results)
+  exited func results later moment levels known store left st h inside rest =
       subst (λ l. Tells m shape outcome l known.entries st (record moment { entry = Exit func results } ∷ later)) (sym h.stands)
       (then_balances (AtFunction func ∷ called) h.below known.entries known.entries st (noticing moment.after st)
       (told_number Leave func moment.after ++ over) (calls_at m h.below later)
@@ -245,12 +248,8 @@ module _ (m : Module) (shape : HookedShape) (hooked : IsHooked m shape) (outcome
 
   -- ---- imports
 
-  pub import_called : (later : List Moment) (moment : Moment) (levels : List Level) (known : Known) (store : Store)
-      (left : List Observation) (st : LogState) (import : ℕ) (args : List Val)
-      → IsImportCall m shape levels known store left moment import (IsTrail m shape (Some outcome) later)
-      → IsInside n levels left → Rest m shape outcome later
-      → Tells m shape outcome levels known.entries st (record moment { entry = ImportCall import args } ∷ later)
-  import_called later moment levels known store left st import args h inside rest =
+  pub import_called : (import : ℕ) (args : List Val) → FirstTells m shape outcome (ImportCall import args)
+  import_called import args later moment levels known store left st h inside rest =
       subst (λ l. Tells m shape outcome l known.entries st (record moment { entry = ImportCall import args } ∷ later)) (sym h.stands)
       (record { found = r.found; are = r.are; balanced = r.balanced })
     where
@@ -264,12 +263,8 @@ module _ (m : Module) (shape : HookedShape) (hooked : IsHooked m shape) (outcome
           (subst (λ b. TrapsInside b (cond b (suc (open_imports n h.below)) (open_imports n h.below)) h.later)
           (sym h.imported) left_inside)
 
-  pub import_return : (later : List Moment) (moment : Moment) (levels : List Level) (known : Known) (store : Store)
-      (left : List Observation) (st : LogState) (import : ℕ) (results : List Val)
-      → IsImportReturn m shape levels known store left moment import results (IsTrail m shape (Some outcome) later)
-      → IsInside n levels left → Rest m shape outcome later
-      → Tells m shape outcome levels known.entries st (record moment { entry = ImportReturn import results } ∷ later)
-  import_return later moment levels known store left st import results h inside rest =
+  pub import_return : (import : ℕ) (results : List Val) → FirstTells m shape outcome (ImportReturn import results)
+  import_return import results later moment levels known store left st h inside rest =
       subst (λ l. Tells m shape outcome l known.entries st (record moment { entry = ImportReturn import results } ∷ later))
       (sym h.stands)
       (then_balances top h.below known.entries known.entries st (noticing moment.after st)

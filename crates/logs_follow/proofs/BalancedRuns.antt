@@ -20,7 +20,8 @@ use Rattle.calls_follow.proofs.TrailsOfRuns.{outcome_of}
 use Rattle.logs_follow.specs.Laws.{log_of_run, LogsAreBalanced}
 use Rattle.logs_follow.proofs.BalancedTrails.{tells}
 use Rattle.logs_follow.proofs.HostTraps.{TrapsInside, first_inside}
-use Rattle.logs_follow.proofs.Whole.{same_observations, log_is, first_log}
+use Rattle.replay_spec.proofs.OneTape.{observations_same}
+use Rattle.logs_follow.proofs.Whole.{log_is, first_log}
 use Rattle.logs_follow.proofs.BalancedCalls.{Tells}
 
 same_log : (result : Result Log ℕ) (log other : Log) → result ≡ Ok log → result ≡ Ok other → log ≡ other
@@ -42,7 +43,7 @@ inside kept one run count outcome ends =
     (subst
     (λ l. AreKeptSegments (opening_known run.store)
     (Begins Begin ∷ (activity_observations (start_in_store run.m run.script run.store).entries ++ l)) tape.0)
-    (same_observations program needed.count count initial.next needed.outcome outcome needed.ends ends)
+    (observations_same program needed.count count initial.next needed.outcome outcome needed.ends ends)
     ((kept (opening_known run.store) (run_observations program initial needed.count) tape.0).0 needed.needed))
     tape.1.fits
 

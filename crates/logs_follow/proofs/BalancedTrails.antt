@@ -16,17 +16,16 @@ use Rattle.history_spec.specs.declared.entries.Entry.TheVariants.{HostCall, Host
 use Rattle.history_spec.specs.declared.entries.TrapKind.{TrapKind}
 use Rattle.history_spec.specs.Instantiation.{table_length}
 use Rattle.history_spec.specs.Instruction.{bits_at}
-use Rattle.history_spec.specs.Store.{Store}
 use Rattle.replay_spec.specs.Known.{Known, entry_of, entries_after, known_after_all}
 use Rattle.replay_spec.specs.Observations.{Observation, ReachesEntry}
 use Rattle.hook_spec.specs.declared.hooks.Hook.TheVariants.{Pre, Ipre}
 use Rattle.hook_spec.specs.Hooks.{HookCall}
-use Rattle.hook_spec.specs.Logs.{LogState, log_after_all, all_observed_events, events_from}
+use Rattle.hook_spec.specs.Logs.{LogState, log_after_all, all_observed_events}
 use Rattle.hook_spec.specs.Order.{HookedShape}
 use Rattle.hook_spec.specs.ToldCalls.{Moment, told_calls, told_number, told_by_step, told_by_trap, waiting_after_step}
 use Rattle.calls_follow.proofs.CallObservations.{seen_by}
 use Rattle.calls_follow.proofs.CallOrder as orders
-use Rattle.calls_follow.proofs.Trails.{Level, AtFunction, AtCall, call_level, waiting_calls, Leads, Stays, Direct, Indirect, IsStep, TellsTrap, Quiet, AtEntry, IsTrap, IsHostTrap, IsAtEntry, IsTrailEnd, IsTrail}
+use Rattle.calls_follow.proofs.Trails.{Level, AtFunction, AtCall, call_level, waiting_calls, Leads, Stays, Direct, Indirect, TellsTrap, Quiet, AtEntry, IsTrailEnd}
 use Rattle.calls_follow.proofs.CallOrder.{IsHooked, renumbered, state}
 use Rattle.calls_follow.proofs.TrailOrder.{calls_at}
 use Rattle.logs_follow.proofs.BalancedEvents.{on_function, AreBalanced, nothing_open, just_called, both_lead, pre_leads, observed_lead}
@@ -34,7 +33,7 @@ use Rattle.logs_follow.proofs.CallLogs as logs
 use Rattle.logs_follow.proofs.HostTraps.{TrapsInside, inside_after}
 use Rattle.logs_follow.proofs.TrailLogs as trail_logs
 use Rattle.logs_follow.proofs.BalancedCalls as balanced_calls
-use Rattle.logs_follow.proofs.BalancedCalls.{open_imports, IsInside, in_import, call_inside, Balances, Tells, Rest}
+use Rattle.logs_follow.proofs.BalancedCalls.{open_imports, IsInside, in_import, call_inside, Balances, Tells, Rest, FirstTells}
 
 module _ (m : Module) (shape : HookedShape) (hooked : IsHooked m shape) (outcome : Outcome) where
   abbrev n : ℕ
@@ -45,20 +44,9 @@ module _ (m : Module) (shape : HookedShape) (hooked : IsHooked m shape) (outcome
 
   -- ---- instructions
 
-  -- a call that begins is balanced as one of any function
-  as_call : (imported direct : Bool) (callee : ℕ) (args : List Val) (levels : List Level) (entries : ℕ) (st : LogState)
-      (later : List Moment) → Tells m shape outcome (call_level imported direct callee args ∷ levels) entries st later
-      → Tells m shape outcome (AtCall direct callee false args ∷ levels) entries st later
-  as_call true direct callee args levels entries st later h =
-      record { found = h.found; are = h.are; balanced = h.balanced }
-  as_call false direct callee args levels entries st later h = h
-
-  stepped : (later : List Moment) (moment : Moment) (levels : List Level) (known : Known) (store : Store)
-      (left : List Observation) (st : LogState) (func number : ℕ) (operands results : List Val) (found : Option ℕ)
-      → IsStep m shape levels known store left moment func operands results (IsTrail m shape (Some outcome) later)
-      → IsInside n levels left → Rest m shape outcome later
-      → Tells m shape outcome levels known.entries st (record moment { entry = Step func number operands results found } ∷ later)
-  stepped later moment levels known store left st func number operands results found h inside rest =
+  stepped : (func number : ℕ) (operands results : List Val) (found : Option ℕ)
+      → FirstTells m shape outcome (Step func number operands results found)
+  stepped func number operands results found later moment levels known store left st h inside rest =
       subst (λ l. Tells m shape outcome l known.entries st now) (sym h.stands)
       (go (subst (λ l. Leads m shape l h.after known h.items moment operands results) h.stands h.leads))
     where
@@ -95,7 +83,7 @@ module _ (m : Module) (shape : HookedShape) (hooked : IsHooked m shape) (outcome
           → (known_after_all known h.items).entries ≡ entries
           → Tells m shape outcome (AtCall direct callee false args ∷ AtFunction func ∷ h.below) entries st later
       called direct callee args entries st same e =
-          as_call (nat_lt callee n) direct callee args (AtFunction func ∷ h.below) entries st later
+          balanced_calls.as_call m shape outcome (nat_lt callee n) direct callee args (AtFunction func ∷ h.below) entries st later
           (follows_at st (call_level (nat_lt callee n) direct callee args ∷ AtFunction func ∷ h.below) entries same e
           (call_inside n (nat_lt callee n) direct callee args (AtFunction func ∷ h.below) h.later refl left_inside))
 
@@ -150,12 +138,9 @@ module _ (m : Module) (shape : HookedShape) (hooked : IsHooked m shape) (outcome
 
   -- ---- the run is over
 
-  trapped : (later : List Moment) (moment : Moment) (levels : List Level) (known : Known) (store : Store)
-      (left : List Observation) (st : LogState) (func number : ℕ) (kind : TrapKind) (operands : List Val)
-      (found : Option ℕ)
-      → IsTrap m shape levels known store left (Some outcome) later moment func operands
-      → Tells m shape outcome levels known.entries st (record moment { entry = Trap func number kind operands found } ∷ later)
-  trapped later moment levels known store left st func number kind operands found h =
+  trapped : (func number : ℕ) (kind : TrapKind) (operands : List Val) (found : Option ℕ)
+      → FirstTells m shape outcome (Trap func number kind operands found)
+  trapped func number kind operands found later moment levels known store left st h inside rest =
       subst (λ l. Tells m shape outcome l known.entries st (now later)) (sym h.stands)
       (subst (λ l. Tells m shape outcome top known.entries st (now l)) (sym h.last) (go h.tells))
     where
@@ -215,15 +200,11 @@ module _ (m : Module) (shape : HookedShape) (hooked : IsHooked m shape) (outcome
                 (λ g s. just_called n outcome callee top g over tt));
           })
 
-  host_trapped : (later : List Moment) (moment : Moment) (levels : List Level) (known : Known)
-      (left : List Observation) (st : LogState) → IsHostTrap m shape levels left (Some outcome) later
-      → IsInside n levels left → Tells m shape outcome levels known.entries st (record moment { entry = HostTrap } ∷ later)
-  host_trapped later moment levels known left st h inside =
+  host_trapped : FirstTells m shape outcome HostTrap
+  host_trapped later moment levels known store left st h inside rest =
       record {
         found = [];
-        are = λ at. ap
-            (λ l. events_from shape (state levels [] known.entries) st at
-            (renumbered m (told_calls (all_globals m) (waiting_calls levels) l))) h.last;
+        are = trail_logs.nothing_left m shape hooked outcome levels known.entries st later h.last;
         balanced = λ grew sees frames are at called.
             ap (λ o. cond (ends_so n (record { frames = frames; grew = grew; called = called }) o) None (Some at))
             (same_Some outcome HostTrapped h.over)
@@ -237,35 +218,17 @@ module _ (m : Module) (shape : HookedShape) (hooked : IsHooked m shape) (outcome
 
   -- ---- all of a trail
 
-  at_entry : (later : List Moment) → Rest m shape outcome later → (moment : Moment) (entry : Entry) (levels : List Level)
-      (known : Known) (store : Store) (left : List Observation) (st : LogState)
-      → IsAtEntry m shape levels known store left (Some outcome) later moment entry
-      (IsTrail m shape (Some outcome) later)
-      → IsInside n levels left → Tells m shape outcome levels known.entries st (record moment { entry = entry } ∷ later)
-  at_entry later rest moment (HostCall func args) levels known store left st h inside =
-      balanced_calls.host_call m shape hooked outcome later moment levels known store left st func
-      args h inside rest
-  at_entry later rest moment (Enter func) levels known store left st h inside =
-      balanced_calls.entered m shape hooked outcome later moment levels known store left st func h
-      inside rest
-  at_entry later rest moment (HostReturn func results) levels known store left st h inside =
-      balanced_calls.host_return m shape hooked outcome later moment levels known store left st func
-      results h inside rest
-  at_entry later rest moment (Exit func results) levels known store left st h inside =
-      balanced_calls.exited m shape hooked outcome later moment levels known store left st func
-      results h inside rest
-  at_entry later rest moment (ImportCall import args) levels known store left st h inside =
-      balanced_calls.import_called m shape hooked outcome later moment levels known store left st
-      import args h inside rest
-  at_entry later rest moment (ImportReturn import results) levels known store left st h inside =
-      balanced_calls.import_return m shape hooked outcome later moment levels known store left st
-      import results h inside rest
-  at_entry later rest moment (Step func number operands results found) levels known store left st h inside =
-      stepped later moment levels known store left st func number operands results found h inside rest
-  at_entry later rest moment (Trap func number kind operands found) levels known store left st h inside =
-      trapped later moment levels known store left st func number kind operands found h
-  at_entry later rest moment HostTrap levels known store left st h inside =
-      host_trapped later moment levels known left st h inside
+  at_entry : (entry : Entry) → FirstTells m shape outcome entry
+  at_entry (HostCall func args) = balanced_calls.host_call m shape hooked outcome func args
+  at_entry (Enter func) = balanced_calls.entered m shape hooked outcome func
+  at_entry (HostReturn func results) = balanced_calls.host_return m shape hooked outcome func results
+  at_entry (Exit func results) = balanced_calls.exited m shape hooked outcome func results
+  at_entry (ImportCall import args) = balanced_calls.import_called m shape hooked outcome import args
+  at_entry (ImportReturn import results) = balanced_calls.import_return m shape hooked outcome import results
+  at_entry (Step func number operands results found) =
+      stepped func number operands results found
+  at_entry (Trap func number kind operands found) = trapped func number kind operands found
+  at_entry HostTrap = host_trapped
 
   at_end : (o : Outcome) → outcome ≡ o → (levels : List Level) (known : Known) (left : List Observation)
       (st : LogState) → IsTrailEnd m shape levels left (Some o) → Tells m shape outcome levels known.entries st []
@@ -278,4 +241,4 @@ module _ (m : Module) (shape : HookedShape) (hooked : IsHooked m shape) (outcome
   pub tells : (moments : List Moment) → Rest m shape outcome moments
   tells [] levels known store left st h inside = at_end outcome refl levels known left st h
   tells (moment ∷ later) levels known store left st h inside =
-      at_entry later (tells later) moment moment.entry levels known store left st h inside
+      at_entry moment.entry later moment levels known store left st h inside (tells later)

@@ -1,9 +1,8 @@
 -- The events of what is told of a step's observations, and what the log knows after them.
-use Rattle.std.proofs.Common.{◌≡◌, ℕ, ◌+◌, List, [], ◌∷◌, ◌++◌, Option, Some, None, Bool, true, false, cond, ◌&&◌, nat_eq, nat_lt, slice_get, refl, sym, ap, ◌∙◌, subst}
+use Rattle.std.proofs.Common.{◌≡◌, ℕ, ◌+◌, List, [], ◌∷◌, ◌++◌, Option, Some, None, Bool, true, false, cond, ◌&&◌, nat_eq, slice_get, refl, sym, ap, ◌∙◌, subst, inl}
 use Rattle.std.specs.Prelude.{◌⊎◌, option_map}
-use Rattle.std.specs.List.{AllByRecursion}
+use Rattle.std.proofs.lemmas.List.{append-nil}
 use Rattle.std.proofs.lemmas.Option.{same_Some}
-use Rattle.list_laws.proofs.Lists.{joined_all}
 use Rattle.wasm_syntax.specs.declared.values.Val.{Val}
 use Rattle.wasm_syntax.specs.declared.signatures.GlobalType.{GlobalType}
 use Rattle.wasm_syntax.specs.Alike.{same_type}
@@ -21,77 +20,29 @@ use Rattle.tape_follows.proofs.Items.{pages_there}
 use Rattle.tape_follows.proofs.Relation.{IsKnownOf, IsSeen}
 use Rattle.tape_follows.proofs.Same.{own_number}
 use Rattle.tape_follows.proofs.Activity.{or_nothing}
+use Rattle.replay_spec.specs.Needed.{effect_pages, effect_entries, effect_byte, effect_entry, effect_global}
 use Rattle.hook_spec.specs.Hooks.{renumber, original}
-use Rattle.hook_spec.specs.Logs.{LogState, with_first_byte, differing_runs, unless, same_bits, sees_size, seen_events, found_events, log_after, all_observed_events}
+use Rattle.hook_spec.specs.Logs.{LogState, unless, same_bits, all_observed_events}
 use Rattle.hook_spec.specs.LogTapes.{Finds, LogFrame, is_trapped_call, event_marks, marks_from}
 use Rattle.calls_follow.specs.ToldObservations.{is_mutable, told_observation}
 use Rattle.calls_follow.proofs.Trails.{IsOfCore}
 use Rattle.logs_follow.proofs.Agrees.{AreFindsOf, marks_of}
+use Rattle.logs_follow.proofs.AllowedEvents.{IsAllowed, AreAllowed, all_allowed}
 use Rattle.logs_follow.proofs.AllFinds.{reads_found, copies_found, reaches_found, resizes_found, reaches_entry_found, writes_found, writes_global_found, entry_found}
 use Rattle.logs_follow.proofs.FirstBytes.{finds_of}
-use Rattle.logs_follow.proofs.ObservedFinds.{IsToldKnown, IsNoticed, found_place}
+use Rattle.logs_follow.proofs.ObservedFinds.{IsToldKnown, IsNoticed, none_told, told_place}
 
 -- ---- events that find something
 
 -- an event finds something of a window
 abbrev pub IsFind : Event → Type 0
-IsFind Seen = Unit {0}
-IsFind (Table entries) = Unit {0}
-IsFind (Bytes address bytes) = Unit {0}
-IsFind (Entry index func) = Unit {0}
-IsFind (Global global value) = Unit {0}
-IsFind event = ⊥
+IsFind event = IsAllowed true event
 
 abbrev pub AreFinds : List Event → Type 0
-AreFinds = AllByRecursion IsFind
-
-first_byte_finds : (address byte : ℕ) (runs : List Event) → AreFinds runs → AreFinds (with_first_byte address byte runs)
-first_byte_finds address byte [] h = (tt, tt)
-first_byte_finds address byte (Bytes at bytes ∷ runs) h = go (nat_eq at (address + 1))
-  where
-    go : (b : Bool)
-        → AreFinds
-        (cond b (Bytes address (byte ∷ bytes) ∷ runs) (Bytes address (byte ∷ []) ∷ Bytes at bytes ∷ runs))
-    go true = (tt, h.1)
-    go false = (tt, h)
-first_byte_finds address byte (event ∷ runs) h = (tt, h)
-
-differing_finds : (known : ℕ → ℕ) (address : ℕ) (bytes : List ℕ) → AreFinds (differing_runs known address bytes)
-differing_finds known address [] = tt
-differing_finds known address (byte ∷ bytes) =
-    go (nat_eq byte (known address)) (differing_finds known (address + 1) bytes)
-  where
-    go : (b : Bool) → AreFinds (differing_runs known (address + 1) bytes)
-        → AreFinds
-        (cond b (differing_runs known (address + 1) bytes)
-        (with_first_byte address byte (differing_runs known (address + 1) bytes)))
-    go true h = h
-    go false h = first_byte_finds address byte (differing_runs known (address + 1) bytes) h
-
-unless_finds : (b : Bool) (event : Event) → IsFind event → AreFinds (unless b event)
-unless_finds true event h = tt
-unless_finds false event h = (h, tt)
-
-cond_finds : (b : Bool) (first second : List Event) → AreFinds first → AreFinds second → AreFinds (cond b first second)
-cond_finds true first second f s = f
-cond_finds false first second f s = s
+AreFinds events = AreAllowed true events
 
 pub events_find : (n : ℕ) (state : LogState) (seen : List Observation) → AreFinds (all_observed_events n state seen)
-events_find n state [] = tt
-events_find n state (o ∷ seen) =
-    joined_all IsFind _ (all_observed_events n (log_after state o) seen)
-    (joined_all IsFind (cond (sees_size state.known.pages o) (seen_events state) []) (found_events n state.known o)
-    (cond_finds (sees_size state.known.pages o) (seen_events state) [] (unless_finds _ Seen tt) tt) (found o))
-    (events_find n (log_after state o) seen)
-  where
-    found : (o : Observation) → AreFinds (found_events n state.known o)
-    found (Reads address bytes) = differing_finds state.known.byte address bytes
-    found (Copies address bytes) = differing_finds state.known.byte address bytes
-    found (ReachesEntry index entries) =
-        cond_finds (nat_lt index state.known.entries) [] _ tt (unless_finds _ (Table entries) tt)
-    found (ReadsEntry index func) = unless_finds _ (Entry index _) tt
-    found (ReadsGlobal global value) = unless_finds _ (Global global value) tt
-    found o = tt
+events_find n state seen = (all_allowed true n state seen (inl refl)).0
 
 not_trapped : (outcome : Outcome) (event : Event) (later : List Event) → IsFind event
     → is_trapped_call outcome event later ≡ false
@@ -112,7 +63,7 @@ pub marks_of_finds : (n : ℕ) (outcome : Outcome) (frames : List LogFrame) (siz
 marks_of_finds n outcome frames size [] later h = refl
 marks_of_finds n outcome frames size (Seen ∷ events) later h =
     ap (λ b. cond b [] (event_marks n frames frames size Seen) ++ marks_from n outcome frames size (events ++ later))
-    (not_trapped outcome Seen (events ++ later) tt)
+    (not_trapped outcome Seen (events ++ later) h.0)
     ∙ ap (λ l. Finds (effects.Grow size) ∷ l) (marks_of_finds n outcome frames size events later h.1)
 marks_of_finds n outcome frames size (Table entries ∷ events) later h =
     ap
@@ -167,6 +118,19 @@ same_by_bits (Some k) value typed =
 
 module _ (n : ℕ) (globals : List GlobalType) (back : (func : ℕ) → original n (renumber n func) ≡ Some func)
     (size : ℕ) where
+  -- what is found of a global, where this is told unless it is known
+  global_place : (known : Known) (x : ℕ) (value : Val) (b : Bool) → same_option same_value (known.global x) (Some value) ≡ b
+      → AreFindsOf known (ReadsGlobal x value) (finds_of size (unless b (Global x value)))
+  global_place known x value b same =
+      record {
+        pages = none_told size effect_pages (Global x value) refl b;
+        entries = none_told size effect_entries (Global x value) refl b;
+        byte = λ at. none_told size (effect_byte at) (Global x value) refl b;
+        entry = λ at. none_told size (effect_entry at) (Global x value) refl b;
+        global = told_place size (same_option same_value) known.global x (Some value) effect_global (Global x value)
+            (λ at. or_nothing (cond (nat_eq x at) (Some (Some value)) None)) b same;
+      }
+
   -- a mutable global
   global_found : (known : Known) (state : LogState) (x : ℕ) (value : Val) → IsToldKnown n known state.known
       → option_map (λ v. v.ty) (known.global x) ≡ Some value.ty
@@ -177,46 +141,17 @@ module _ (n : ℕ) (globals : List GlobalType) (back : (func : ℕ) → original
       (λ b. AreFindsOf known (ReadsGlobal x value) (finds_of size (unless b (Global x value) ++ [])))
       (sym
       (ap (λ k. same_bits k value) (told.global x) ∙ same_by_bits (known.global x) value typed))
-      (go (same_option same_value (known.global x) (Some value)) refl)
-    where
-      go : (b : Bool) → same_option same_value (known.global x) (Some value) ≡ b
-          → AreFindsOf known (ReadsGlobal x value) (finds_of size (unless b (Global x value) ++ []))
-      go true p =
-          record {
-            pages = refl;
-            entries = refl;
-            byte = λ at. refl;
-            entry = λ at. refl;
-            global = λ at. sym (ap (λ b. cond b None (cond (nat_eq x at) (Some (Some value)) None)) p)
-                ∙ found_place (same_option same_value) known.global x at (Some value);
-          }
-      go false p =
-          record {
-            pages = refl;
-            entries = refl;
-            byte = λ at. refl;
-            entry = λ at. refl;
-            global = λ at. or_nothing (cond (nat_eq x at) (Some (Some value)) None)
-                ∙ sym (ap (λ b. cond b None (cond (nat_eq x at) (Some (Some value)) None)) p)
-                ∙ found_place (same_option same_value) known.global x at (Some value);
-          }
+      (subst (λ events. AreFindsOf known (ReadsGlobal x value) (finds_of size events))
+      (sym (append-nil (unless (same_option same_value (known.global x) (Some value)) (Global x value))))
+      (global_place known x value (same_option same_value (known.global x) (Some value)) refl))
 
   -- an immutable one has the known value
   immutable_found : (known : Known) (x : ℕ) (value : Val) → known.global x ≡ Some value
       → AreFindsOf known (ReadsGlobal x value) []
   immutable_found known x value same =
-      record {
-        pages = refl;
-        entries = refl;
-        byte = λ at. refl;
-        entry = λ at. refl;
-        global = λ at.
-            sym
-            (ap (λ b. cond b None (cond (nat_eq x at) (Some (Some value)) None))
-            (ap (λ k. same_option same_value k (Some value)) same
-            ∙ ap (λ b. b && nat_eq value.bits value.bits) (type_own value.ty) ∙ own_number value.bits))
-            ∙ found_place (same_option same_value) known.global x at (Some value);
-      }
+      global_place known x value true
+      (ap (λ k. same_option same_value k (Some value)) same
+      ∙ ap (λ b. b && nat_eq value.bits value.bits) (type_own value.ty) ∙ own_number value.bits)
 
   module _ (known : Known) (store : Store) (state : LogState) (kept : Keeps n globals known store state size)
       (of : IsKnownOf known store) where

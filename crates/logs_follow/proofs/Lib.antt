@@ -3,6 +3,7 @@ pub mod Settled
 pub mod FirstBytes
 pub mod ObservedFinds
 pub mod AllFinds
+pub mod AllowedEvents
 pub mod ItemEvents
 pub mod ItemSteps
 pub mod CallLogs

@@ -23,13 +23,13 @@ use Rattle.observed_steps.specs.Changes.{with_changes}
 use Rattle.tape_follows.proofs.StepItems.{nothing_read}
 use Rattle.tape_follows.specs.RealReads.{IsReadOf}
 use Rattle.hook_spec.specs.declared.hooks.Hook.TheVariants.{Ipre}
-use Rattle.hook_spec.specs.Logs.{LogState, log_after_all, all_observed_events, events_from}
+use Rattle.hook_spec.specs.Logs.{LogState, log_after_all, all_observed_events}
 use Rattle.hook_spec.specs.LogTapes.{Begins as BeginsMark, InCall, is_trapped_call, outcome_marks, marks_from}
 use Rattle.hook_spec.specs.Order.{HookedShape}
-use Rattle.hook_spec.specs.ToldCalls.{Moment, told_calls, told_number, told_by_trap}
+use Rattle.hook_spec.specs.ToldCalls.{Moment, told_number, told_by_trap}
 use Rattle.calls_follow.proofs.CallObservations.{seen_by, as_told}
 use Rattle.calls_follow.proofs.CallOrder as orders
-use Rattle.calls_follow.proofs.Trails.{Level, AtFunction, AtCall, waiting_calls, TellsTrap, Quiet, AtEntry, IsTrap, IsHostTrap, IsImportCall, IsAtEntry, IsTrailEnd, IsTrail}
+use Rattle.calls_follow.proofs.Trails.{Level, AtFunction, AtCall, TellsTrap, Quiet, AtEntry, IsTrailEnd}
 use Rattle.calls_follow.proofs.CallOrder.{IsHooked, renumbered, state}
 use Rattle.logs_follow.proofs.Agrees.{Agrees, agrees_activity, agrees_over}
 use Rattle.logs_follow.proofs.CallLogs as logs
@@ -38,7 +38,7 @@ use Rattle.logs_follow.proofs.TrailLogs as trail_logs
 use Rattle.logs_follow.proofs.LogMarks.{log_frames, IsSizeTold, ModuleAgrees, AgreesBy, agrees_host}
 use Rattle.logs_follow.proofs.TrailLogSteps as trail_steps
 use Rattle.logs_follow.proofs.CallLogs.{Logged}
-use Rattle.logs_follow.proofs.TrailLogs.{Stands, Tells_by, Tells, Rest}
+use Rattle.logs_follow.proofs.TrailLogs.{Stands, Tells_by, Tells, Rest, FirstTells}
 
 module _ (m : Module) (shape : HookedShape) (hooked : IsHooked m shape) (outcome : Outcome) where
   abbrev n : ℕ
@@ -49,14 +49,9 @@ module _ (m : Module) (shape : HookedShape) (hooked : IsHooked m shape) (outcome
 
   -- ---- an instruction traps
 
-  trapped : (later : List Moment) (moment : Moment) (levels : List Level) (known : Known) (store : Store)
-      (left : List Observation) (st : LogState) (func number : ℕ) (kind : TrapKind) (operands : List Val)
-      (found : Option ℕ)
-      → IsTrap m shape levels known store left (Some outcome) later moment func operands
-      → Stands m shape outcome levels known store st
-      → Tells m shape outcome levels known store left st
-      (record moment { entry = Trap func number kind operands found } ∷ later)
-  trapped later moment levels known store left st func number kind operands found h stands =
+  trapped : (func number : ℕ) (kind : TrapKind) (operands : List Val) (found : Option ℕ)
+      → FirstTells m shape outcome (Trap func number kind operands found)
+  trapped func number kind operands found later moment levels known store left st h stands rest =
       subst (λ s. Tells m shape outcome levels known s left st (now later)) h.begins
       (subst (λ l. Tells m shape outcome l known moment.before left st (now later)) (sym h.stands)
       (subst (λ l. Tells m shape outcome top known moment.before left st (now l)) (sym h.last) (go h.tells)))
@@ -165,12 +160,8 @@ module _ (m : Module) (shape : HookedShape) (hooked : IsHooked m shape) (outcome
 
   -- ---- the host
 
-  import_called : (later : List Moment) (moment : Moment) (levels : List Level) (known : Known) (store : Store)
-      (left : List Observation) (st : LogState) (import : ℕ) (args : List Val)
-      → IsImportCall m shape levels known store left moment import (IsTrail m shape (Some outcome) later)
-      → Stands m shape outcome levels known store st → Rest m shape outcome later
-      → Tells m shape outcome levels known store left st (record moment { entry = ImportCall import args } ∷ later)
-  import_called later moment levels known store left st import args h stands rest =
+  import_called : (import : ℕ) (args : List Val) → FirstTells m shape outcome (ImportCall import args)
+  import_called import args later moment levels known store left st h stands rest =
       subst (λ l. Tells m shape outcome l known store left st (record moment { entry = ImportCall import args } ∷ later)) (sym h.stands)
       (record {
         found = r.found;
@@ -200,15 +191,11 @@ module _ (m : Module) (shape : HookedShape) (hooked : IsHooked m shape) (outcome
             real = λ w. absurd w;
           })
 
-  host_trapped : (later : List Moment) (moment : Moment) (levels : List Level) (known : Known) (store : Store)
-      (left : List Observation) (st : LogState) → IsHostTrap m shape levels left (Some outcome) later
-      → Tells m shape outcome levels known store left st (record moment { entry = HostTrap } ∷ later)
-  host_trapped later moment levels known store left st h =
+  host_trapped : FirstTells m shape outcome HostTrap
+  host_trapped later moment levels known store left st h stands rest =
       record {
         found = [];
-        are = λ at. ap
-            (λ l. events_from shape (state levels [] known.entries) st at
-            (renumbered m (told_calls (all_globals m) (waiting_calls levels) l))) h.last;
+        are = trail_logs.nothing_left m shape hooked outcome levels known.entries st later h.last;
         agrees = λ size size_told.
             agrees_host n levels known store left (marks_from n outcome (log_frames levels) size []) h.host
             (λ origin.
@@ -225,32 +212,17 @@ module _ (m : Module) (shape : HookedShape) (hooked : IsHooked m shape) (outcome
 
   -- ---- all of a trail
 
-  at_entry : (later : List Moment) → Rest m shape outcome later → (moment : Moment) (entry : Entry) (levels : List Level) (known : Known)
-      (store : Store) (left : List Observation) (st : LogState)
-      → IsAtEntry m shape levels known store left (Some outcome) later moment entry (IsTrail m shape (Some outcome) later)
-      → Stands m shape outcome levels known store st → Tells m shape outcome levels known store left st (record moment { entry = entry } ∷ later)
-  at_entry later rest moment (HostCall func args) levels known store left st h stands =
-      trail_logs.host_call m shape hooked outcome later moment levels known store left st func args h
-      stands rest
-  at_entry later rest moment (Enter func) levels known store left st h stands =
-      trail_logs.entered m shape hooked outcome later moment levels known store left st func h stands rest
-  at_entry later rest moment (HostReturn func results) levels known store left st h stands =
-      trail_logs.host_return m shape hooked outcome later moment levels known store left st func results
-      h stands rest
-  at_entry later rest moment (Exit func results) levels known store left st h stands =
-      trail_logs.exited m shape hooked outcome later moment levels known store left st func results h
-      stands rest
-  at_entry later rest moment (ImportCall import args) levels known store left st h stands =
-      import_called later moment levels known store left st import args h stands rest
-  at_entry later rest moment (ImportReturn import results) levels known store left st h stands =
-      trail_logs.import_return m shape hooked outcome later moment levels known store left st import
-      results h stands rest
-  at_entry later rest moment (Step func number operands results found) levels known store left st h stands =
-      trail_steps.stepped m shape hooked outcome later moment levels known store left st func number operands results found h stands rest
-  at_entry later rest moment (Trap func number kind operands found) levels known store left st h stands =
-      trapped later moment levels known store left st func number kind operands found h stands
-  at_entry later rest moment HostTrap levels known store left st h stands =
-      host_trapped later moment levels known store left st h
+  at_entry : (entry : Entry) → FirstTells m shape outcome entry
+  at_entry (HostCall func args) = trail_logs.host_call m shape hooked outcome func args
+  at_entry (Enter func) = trail_logs.entered m shape hooked outcome func
+  at_entry (HostReturn func results) = trail_logs.host_return m shape hooked outcome func results
+  at_entry (Exit func results) = trail_logs.exited m shape hooked outcome func results
+  at_entry (ImportCall import args) = import_called import args
+  at_entry (ImportReturn import results) = trail_logs.import_return m shape hooked outcome import results
+  at_entry (Step func number operands results found) =
+      trail_steps.stepped m shape hooked outcome func number operands results found
+  at_entry (Trap func number kind operands found) = trapped func number kind operands found
+  at_entry HostTrap = host_trapped
 
   at_end : (o : Outcome) → outcome ≡ o → (levels : List Level) (known : Known) (store : Store)
       (left : List Observation) (st : LogState) → IsTrailEnd m shape levels left (Some o)
@@ -272,4 +244,4 @@ module _ (m : Module) (shape : HookedShape) (hooked : IsHooked m shape) (outcome
   pub tells : (moments : List Moment) → Rest m shape outcome moments
   tells [] levels known store left st h stands = at_end outcome refl levels known store left st h
   tells (moment ∷ later) levels known store left st h stands =
-      at_entry later (tells later) moment moment.entry levels known store left st h stands
+      at_entry moment.entry later moment levels known store left st h stands (tells later)

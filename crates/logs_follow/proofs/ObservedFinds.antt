@@ -133,7 +133,7 @@ no_place true = refl
 no_place false = refl
 
 -- what is found of a place that is read, where it is found unless it is known
-pub found_place : {X : Type 0} (same : X → X → Bool) (known : ℕ → X) (index at : ℕ) (x : X)
+found_place : {X : Type 0} (same : X → X → Bool) (known : ℕ → X) (index at : ℕ) (x : X)
     → cond (same (known index) x) None (cond (nat_eq index at) (Some x) None)
     ≡ needed same (known at) (cond (nat_eq index at) (Some x) None)
 found_place same known index at x = go (nat_eq index at) refl
@@ -144,3 +144,22 @@ found_place same known index at x = go (nat_eq index at) refl
         let e : index ≡ at = grind (arith, nat_tests, h) in
         ap (λ place. cond (same (known place) x) None (Some x)) e
     go false h = no_place (same (known index) x)
+
+-- what an event does not give is not found, whether the event is told or not
+pub none_told : {X : Type 0} (size : ℕ) (part : Effect → Option X) (event : Event)
+    → first_some part (finds_of size (event ∷ [])) ≡ None → (untold : Bool)
+    → first_some part (finds_of size (unless untold event)) ≡ None
+none_told size part event none true = refl
+none_told size part event none false = none
+
+-- what is found of a place by the event for it, which is told unless the place is known
+pub told_place : {X : Type 0} (size : ℕ) (same : X → X → Bool) (known : ℕ → X) (index : ℕ) (x : X)
+    (part : ℕ → Effect → Option X) (event : Event)
+    → ((at : ℕ) → first_some (part at) (finds_of size (event ∷ [])) ≡ cond (nat_eq index at) (Some x) None)
+    → (untold : Bool) → same (known index) x ≡ untold → (at : ℕ)
+    → first_some (part at) (finds_of size (unless untold event))
+    ≡ needed same (known at) (cond (nat_eq index at) (Some x) None)
+told_place size same known index x part event one true p at =
+    sym (ap (λ b. cond b None (cond (nat_eq index at) (Some x) None)) p) ∙ found_place same known index at x
+told_place size same known index x part event one false p at =
+    one at ∙ sym (ap (λ b. cond b None (cond (nat_eq index at) (Some x) None)) p) ∙ found_place same known index at x

@@ -47,6 +47,15 @@ first_of : {X : Type 0} (read written later : Option X) (x : X) → read ≡ Som
 first_of (Some y) written later x h = h
 first_of None written later x h = absurd (none-some x h)
 
+-- a place that an observation touches, and that is read first as it is
+place_settled : {X : Type 0} (same : X → X → Bool) → ((a : X) → same a a ≡ true) → (read written later : Option X)
+    (found left x : X) → (read ≡ None) ⊎ (written ≡ None)
+    → ((y : X) → option_or read (unless_some written later) ≡ Some y → found ≡ y) → left ≡ unwrap_or written found
+    → ((y : X) → later ≡ Some y → left ≡ y) → option_or read written ≡ Some x → needed same x later ≡ None
+place_settled same own read written later found left x one before is reads h =
+    not_needed same own x left later
+    (carried_left read written found left x one (λ y r. before y (first_of read written later y r)) is h) reads
+
 -- ---- a size
 
 size_not_needed : (known real found : ℕ) (Within : Type 0) → real ≡ known → IsSize known real found Within
@@ -84,29 +93,18 @@ module _ (known : Known) (store : Store) where
       record {
         pages = λ sees. size_not_needed _ _ _ _ (left.pages ∙ seen_pages o seen sees) reads.pages;
         entries = λ sees. size_not_needed _ _ _ _ (left.entries ∙ seen_entries o seen sees) reads.entries;
-        byte = λ at x h. not_needed nat_eq own_number x (byte_of after.memory at) (first_byte window at)
-            (carried_left (read_byte at o) (written_byte at o) (byte_of store.memory at) (byte_of after.memory at) x
-            (one_byte at o)
-            (λ y r. before.byte at y
-            (first_of (read_byte at o) (written_byte at o) (first_byte window at) y r))
-            (left.byte at) h)
+        byte = λ at x.
+            place_settled nat_eq own_number (read_byte at o) (written_byte at o) (first_byte window at)
+            (byte_of store.memory at) (byte_of after.memory at) x (one_byte at o) (before.byte at) (left.byte at)
             (reads.byte at);
-        entry = λ at x h. not_needed (same_option nat_eq) (own_option nat_eq own_number) x (entry_of after.table at)
-            (first_entry window at)
-            (carried_left (read_entry at o) (written_entry at o) (entry_of store.table at) (entry_of after.table at) x
-            (one_entry at o)
-            (λ y r. before.entry at y
-            (first_of (read_entry at o) (written_entry at o) (first_entry window at) y r))
-            (left.entry at) h)
-            (reads.entry at);
-        global = λ at x h. not_needed (same_option same_value) (own_option same_value own_value) x
-            (slice_get after.globals at) (first_global window at)
-            (carried_left (read_global at o) (written_global at o) (slice_get store.globals at)
-            (slice_get after.globals at) x (one_global at o)
-            (λ y r. before.global at y
-            (first_of (read_global at o) (written_global at o) (first_global window at) y r))
-            (left.global at) h)
-            (reads.global at);
+        entry = λ at x.
+            place_settled (same_option nat_eq) (own_option nat_eq own_number) (read_entry at o) (written_entry at o)
+            (first_entry window at) (entry_of store.table at) (entry_of after.table at) x (one_entry at o)
+            (before.entry at) (left.entry at) (reads.entry at);
+        global = λ at x.
+            place_settled (same_option same_value) (own_option same_value own_value) (read_global at o)
+            (written_global at o) (first_global window at) (slice_get store.globals at) (slice_get after.globals at) x
+            (one_global at o) (before.global at) (left.global at) (reads.global at);
       }
     where
       after : Store

@@ -30,7 +30,7 @@ use Rattle.hook_spec.specs.Order.{HookedShape}
 use Rattle.hook_spec.specs.ToldCalls.{Moment, WaitingCall, told_calls, told_number, told_by_step, waiting_after_step}
 use Rattle.calls_follow.proofs.CallObservations.{seen_by, as_told}
 use Rattle.calls_follow.proofs.CallOrder as orders
-use Rattle.calls_follow.proofs.Trails.{Level, AtFunction, AtCall, call_level, waiting_calls, IsOfCore, Leads, Stays, Direct, Indirect, IsStep, IsTrail}
+use Rattle.calls_follow.proofs.Trails.{Level, AtFunction, AtCall, call_level, waiting_calls, IsOfCore, Leads, Stays, Direct, Indirect, IsTrail}
 use Rattle.calls_follow.proofs.CallOrder.{IsHooked, renumbered, state}
 use Rattle.logs_follow.proofs.CallLogs as logs
 use Rattle.logs_follow.proofs.ItemEvents.{Keeps}
@@ -38,7 +38,7 @@ use Rattle.logs_follow.proofs.ItemSteps.{keeps_after_all, agrees_all}
 use Rattle.logs_follow.proofs.TrailLogs as trail_logs
 use Rattle.logs_follow.proofs.LogMarks.{log_frames, CallOnTop, IsSizeTold, ModuleAgrees, AgreesBy, AgreesAt}
 use Rattle.logs_follow.proofs.CallLogs.{Logged}
-use Rattle.logs_follow.proofs.TrailLogs.{Stands, Tells_by, Tells, Rest}
+use Rattle.logs_follow.proofs.TrailLogs.{Stands, Tells_by, Tells, Rest, FirstTells}
 
 module _ (m : Module) (shape : HookedShape) (hooked : IsHooked m shape) (outcome : Outcome) where
   abbrev n : ℕ
@@ -222,13 +222,9 @@ module _ (m : Module) (shape : HookedShape) (hooked : IsHooked m shape) (outcome
           not_last = λ c callee. absurd c;
         }
 
-  pub stepped : (later : List Moment) (moment : Moment) (levels : List Level) (known : Known) (store : Store)
-      (left : List Observation) (st : LogState) (func number : ℕ) (operands results : List Val) (found : Option ℕ)
-      → IsStep m shape levels known store left moment func operands results (IsTrail m shape (Some outcome) later)
-      → Stands m shape outcome levels known store st → Rest m shape outcome later
-      → Tells m shape outcome levels known store left st
-      (record moment { entry = Step func number operands results found } ∷ later)
-  stepped later moment levels known store left st func number operands results found h stands rest =
+  pub stepped : (func number : ℕ) (operands results : List Val) (found : Option ℕ)
+      → FirstTells m shape outcome (Step func number operands results found)
+  stepped func number operands results found later moment levels known store left st h stands rest =
       subst (λ s. Tells m shape outcome levels known s left st now) h.begins
       (subst (λ l. Tells m shape outcome levels known moment.before l st now) (sym h.observed)
       (subst (λ l. Tells m shape outcome l known moment.before (h.items ++ h.later) st now) (sym h.stands)

@@ -10,6 +10,7 @@ use Rattle.trace_model.specs.declared.events.Event.{Event}
 use Rattle.trace_model.specs.declared.events.Event.TheVariants as events
 use Rattle.trace_model.specs.declared.tapes.Origin.TheVariants.{Back}
 use Rattle.trace_model.specs.declared.tapes.Next.TheVariants.{Call, Return}
+use Rattle.history_spec.specs.declared.entries.Entry.{Entry}
 use Rattle.history_spec.specs.declared.entries.Entry.TheVariants.{HostCall, HostReturn, ImportReturn, Enter, Exit}
 use Rattle.history_spec.specs.Store.{Store}
 use Rattle.replay_spec.specs.Known.{Known, pages_of}
@@ -27,7 +28,7 @@ use Rattle.calls_follow.specs.ToldObservations.{is_mutable}
 use Rattle.calls_follow.proofs.CallOrder as orders
 use Rattle.calls_follow.proofs.ModuleFacts.{func_there}
 use Rattle.calls_follow.proofs.TrailOrder.{same_waiting, calls_at}
-use Rattle.calls_follow.proofs.Trails.{IsHostCall, IsEntered, IsHostReturn, IsExit, IsImportReturn, Level, AtFunction, AtImport, AtCall, at_host, with_top_entered, IsWithin, KeepsImmutables, IsTrail}
+use Rattle.calls_follow.proofs.Trails.{IsAtEntry, Level, AtFunction, AtImport, AtCall, at_host, with_top_entered, IsWithin, KeepsImmutables, waiting_calls, IsTrail}
 use Rattle.calls_follow.proofs.CallOrder.{IsHooked, renumbered, state, callee_may, never_imported}
 use Rattle.logs_follow.proofs.Agrees.{Agrees, agrees_activity}
 use Rattle.logs_follow.proofs.CallLogs as logs
@@ -68,6 +69,15 @@ module _ (m : Module) (shape : HookedShape) (outcome : Outcome) where
       → IsTrail m shape (Some outcome) later levels known store left → Stands levels known store st
       → Tells levels known store left st later
 
+  -- what the first moment of a trail tells, by its entry, where the rest is told
+  abbrev pub FirstTells : Entry → Type 0
+  FirstTells entry =
+      (later : List Moment) (moment : Moment) (levels : List Level) (known : Known) (store : Store)
+      (left : List Observation) (st : LogState)
+      → IsAtEntry m shape levels known store left (Some outcome) later moment entry (IsTrail m shape (Some outcome) later)
+      → Stands levels known store st → Rest later
+      → Tells levels known store left st (record moment { entry = entry } ∷ later)
+
 module _ (m : Module) (shape : HookedShape) (hooked : IsHooked m shape) (outcome : Outcome) where
   abbrev n : ℕ
   n = imported_funcs m
@@ -83,6 +93,16 @@ module _ (m : Module) (shape : HookedShape) (hooked : IsHooked m shape) (outcome
       ap (events_from shape order st at) (orders.renumbered_both m calls rest)
       ∙ p.1 ∙ ap (after_events first) (are p.0)
 
+  -- nothing is told where no moment is left
+  pub nothing_left : (levels : List Level) (entries : ℕ) (st : LogState) (later : List Moment) → later ≡ []
+      → (at : ℕ)
+      → events_from shape (state levels [] entries) st at
+      (renumbered m (told_calls (all_globals m) (waiting_calls levels) later)) ≡ Ok []
+  nothing_left levels entries st later last at =
+      ap
+      (λ l. events_from shape (state levels [] entries) st at
+      (renumbered m (told_calls (all_globals m) (waiting_calls levels) l))) last
+
   abbrev marks_at : List Level → ℕ → List Event → List Mark
   marks_at levels size events = marks_from n outcome (log_frames levels) size events
 
@@ -94,12 +114,8 @@ module _ (m : Module) (shape : HookedShape) (hooked : IsHooked m shape) (outcome
 
   -- ---- the host calls a function
 
-  pub host_call : (later : List Moment) (moment : Moment) (levels : List Level) (known : Known) (store : Store)
-      (left : List Observation) (st : LogState) (func : ℕ) (args : List Val)
-      → IsHostCall m shape levels known store left moment func args (IsTrail m shape (Some outcome) later)
-      → Stands m shape outcome levels known store st → Rest m shape outcome later
-      → Tells m shape outcome levels known store left st (record moment { entry = HostCall func args } ∷ later)
-  host_call later moment levels known store left st func args h stands rest =
+  pub host_call : (func : ℕ) (args : List Val) → FirstTells m shape outcome (HostCall func args)
+  host_call func args later moment levels known store left st h stands rest =
       record {
         found = own;
         are =
@@ -162,12 +178,8 @@ module _ (m : Module) (shape : HookedShape) (hooked : IsHooked m shape) (outcome
 
   -- ---- an import returns
 
-  pub import_return : (later : List Moment) (moment : Moment) (levels : List Level) (known : Known) (store : Store)
-      (left : List Observation) (st : LogState) (import : ℕ) (results : List Val)
-      → IsImportReturn m shape levels known store left moment import results (IsTrail m shape (Some outcome) later)
-      → Stands m shape outcome levels known store st → Rest m shape outcome later
-      → Tells m shape outcome levels known store left st (record moment { entry = ImportReturn import results } ∷ later)
-  import_return later moment levels known store left st import results h stands rest =
+  pub import_return : (import : ℕ) (results : List Val) → FirstTells m shape outcome (ImportReturn import results)
+  import_return import results later moment levels known store left st h stands rest =
       subst (λ l. Tells m shape outcome l known store left st (record moment { entry = ImportReturn import results } ∷ later))
       (sym h.stands)
       (record {
@@ -222,12 +234,8 @@ module _ (m : Module) (shape : HookedShape) (hooked : IsHooked m shape) (outcome
 
   -- ---- the module enters a function that it called
 
-  pub entered : (later : List Moment) (moment : Moment) (levels : List Level) (known : Known) (store : Store)
-      (left : List Observation) (st : LogState) (func : ℕ)
-      → IsEntered m shape levels known store left moment func (IsTrail m shape (Some outcome) later)
-      → Stands m shape outcome levels known store st → Rest m shape outcome later
-      → Tells m shape outcome levels known store left st (record moment { entry = Enter func } ∷ later)
-  entered later moment levels known store left st func h stands rest =
+  pub entered : (func : ℕ) → FirstTells m shape outcome (Enter func)
+  entered func later moment levels known store left st h stands rest =
       subst (λ l. Tells m shape outcome l known store left st (record moment { entry = Enter func } ∷ later)) (sym h.stands)
       (record {
         found = own;
@@ -285,12 +293,8 @@ module _ (m : Module) (shape : HookedShape) (hooked : IsHooked m shape) (outcome
 
   -- ---- returns
 
-  pub host_return : (later : List Moment) (moment : Moment) (levels : List Level) (known : Known) (store : Store)
-      (left : List Observation) (st : LogState) (func : ℕ) (results : List Val)
-      → IsHostReturn m shape levels known store left moment func (IsTrail m shape (Some outcome) later)
-      → Stands m shape outcome levels known store st → Rest m shape outcome later
-      → Tells m shape outcome levels known store left st (record moment { entry = HostReturn func results } ∷ later)
-  host_return later moment levels known store left st func results h stands rest =
+  pub host_return : (func : ℕ) (results : List Val) → FirstTells m shape outcome (HostReturn func results)
+  host_return func results later moment levels known store left st h stands rest =
       subst (λ l. Tells m shape outcome l known store left st (record moment { entry = HostReturn func results } ∷ later)) (sym h.stands)
       (record {
         found = events.Leave func ∷ r.found;
@@ -337,12 +341,8 @@ module _ (m : Module) (shape : HookedShape) (hooked : IsHooked m shape) (outcome
           ∙ ap (λ b. mark_if b (BeginsMark Back) ++ marks_from n outcome (log_frames h.below) size r.found)
           (frames_at_host n h.below h.host)
 
-  pub exited : (later : List Moment) (moment : Moment) (levels : List Level) (known : Known) (store : Store)
-      (left : List Observation) (st : LogState) (func : ℕ) (results : List Val)
-      → IsExit m shape levels known store left moment func results (IsTrail m shape (Some outcome) later)
-      → Stands m shape outcome levels known store st → Rest m shape outcome later
-      → Tells m shape outcome levels known store left st (record moment { entry = Exit func results } ∷ later)
-  exited later moment levels known store left st func results h stands rest =
+  pub exited : (func : ℕ) (results : List Val) → FirstTells m shape outcome (Exit func results)
+  exited func results later moment levels known store left st h stands rest =
       subst (λ l. Tells m shape outcome l known store left st (record moment { entry = Exit func results } ∷ later)) (sym h.stands)
       (record {
         found = own;

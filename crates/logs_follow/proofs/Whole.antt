@@ -1,14 +1,14 @@
 -- The log of what hooks are told of a run gives the tape that the run needs.
-use Rattle.std.proofs.Common.{◌≡◌, ℕ, zero, suc, List, [], ◌∷◌, ◌++◌, refl, ap, ◌∙◌, subst, inr, Ok}
+use Rattle.std.proofs.Common.{◌≡◌, ℕ, List, [], ◌∷◌, ◌++◌, refl, ap, ◌∙◌, subst, inr, Ok}
 use Rattle.wasm_syntax.specs.Index.{imported_funcs}
 use Rattle.run_outcomes.specs.declared.outcomes.Outcome.{Outcome}
 use Rattle.trace_model.specs.declared.tapes.Origin.TheVariants.{Begin}
 use Rattle.trace_model.specs.declared.events.Event.{Event}
-use Rattle.history_spec.specs.Run.{all_one, program_of, start_in_store, steps}
-use Rattle.history_spec.specs.Step.{Program, Progress, Running, Finished, StepResult, step}
+use Rattle.history_spec.specs.Run.{program_of, start_in_store}
+use Rattle.history_spec.specs.Step.{Program, StepResult}
 use Rattle.replay_spec.specs.Known.{opening_known}
 use Rattle.replay_spec.specs.Needed.{AreNeededSegments}
-use Rattle.replay_spec.specs.Observations.{Begins, stack_observations, activity_observations, observations, run_observations}
+use Rattle.replay_spec.specs.Observations.{Begins, activity_observations, run_observations}
 use Rattle.tape_follows.specs.Below.{LawsOfSteps, LawsOfRuns}
 use Rattle.hook_spec.specs.Hooks.{renumbered_view}
 use Rattle.hook_spec.specs.Laws.{IndicesAreRenumbered, InstrumentedKeepIndices}
@@ -19,24 +19,11 @@ use Rattle.calls_follow.specs.Laws.{hooked_shape, calls_of_run, OriginalRun}
 use Rattle.calls_follow.proofs.CallOrder.{same_length, same_entry, state}
 use Rattle.calls_follow.proofs.Ordered.{hooked_run, observed, moments_of, IsRunTrail, run_trail}
 use Rattle.calls_follow.proofs.TrailsOfRuns.{outcome_of}
+use Rattle.replay_spec.proofs.OneTape.{observations_same}
 use Rattle.logs_follow.specs.Laws.{LogsGiveNeededTapes, log_of_run}
 use Rattle.logs_follow.proofs.Agrees.{Agrees}
 use Rattle.logs_follow.proofs.TrailLogs.{Tells}
 use Rattle.logs_follow.proofs.LoggedTrails.{tells}
-
--- after its end a run observes nothing more
-pub same_observations : (program : Program) (k j : ℕ) (at : Progress) (a b : Outcome)
-    → (steps program all_one k at).at ≡ Finished a → (steps program all_one j at).at ≡ Finished b
-    → observations program k at ≡ observations program j at
-same_observations program zero zero at a b h q = refl
-same_observations program (suc k) (suc j) (Running config) a b h q =
-    ap (λ l. stack_observations config.store config.stack ++ (activity_observations (step program config).entries ++ l))
-    (same_observations program k j (step program config).next a b h q)
-same_observations program zero (suc j) (Running config) a b h q = cc
-same_observations program (suc k) zero (Running config) a b h q = cc
-same_observations program zero (suc j) at a b h q = refl
-same_observations program (suc k) zero at a b h q = refl
-same_observations program (suc k) (suc j) at a b h q = refl
 
 -- the log before its first event
 abbrev pub first_log : OriginalRun → LogState
@@ -69,7 +56,7 @@ logs_give laws runs indices renumbered run count outcome ends =
           (subst
           (λ l. AreNeededSegments (opening_known run.store) []
           (Begins Begin ∷ (activity_observations initial.entries ++ l)) tape.segments)
-          (same_observations program needed.count count initial.next needed.outcome outcome needed.ends ends)
+          (observations_same program needed.count count initial.next needed.outcome outcome needed.ends ends)
           needed.needed));
       from_log = λ tape h.
           record {

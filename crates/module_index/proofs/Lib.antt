@@ -1,4 +1,5 @@
 mod Alignment
+pub mod Counts
 mod IndexLemmas
 mod MarkLemmas
 mod RunLemmas

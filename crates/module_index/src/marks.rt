@@ -29,16 +29,11 @@ fn mark_elems(marks: &mut Vec<bool>, elems: &[ElemSeg])
 }
 
 /// The functions of a segment.
-fn funcs_of_elem(elem: &ElemSeg) -> &[u32]
+pub fn funcs_of_elem(elem: &ElemSeg) -> &[u32]
     ensures { result.now ≡ elem_funcs elem.now }
 {
     match elem {
-        ElemSeg::Active {
-            table: _,
-            offset: _,
-            funcs,
-        } => funcs.as_slice(),
-        ElemSeg::Declared { funcs } => funcs.as_slice(),
+        ElemSeg::Active { funcs, .. } | ElemSeg::Declared { funcs } => funcs.as_slice(),
     }
 }
 

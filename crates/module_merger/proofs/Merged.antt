@@ -16,7 +16,7 @@ use Rattle.module_merge.specs.Merge.{constant_global, layout_section, memory_wri
 use Rattle.module_merger.specs.Parts.{kept_globals, module_of_parts}
 use Rattle.module_merger.specs.declared.modules.Code.{Code}
 use Rattle.module_merger.specs.declared.modules.Segments.{Segments}
-use Rattle.module_merger.specs.declared.sections.Outline.{Outline}
+use Rattle.module_merger.specs.declared.modules.Outline.{Outline}
 
 pub same_length : (m : Module) (supply : Supply) → IsSupply m supply
     → length (imported_globals m) ≡ length supply.globals

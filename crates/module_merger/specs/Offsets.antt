@@ -7,6 +7,7 @@ use Rattle.wasm_syntax.specs.declared.modules.ElemSeg.{ElemSeg}
 use Rattle.wasm_syntax.specs.declared.modules.ElemSeg.TheVariants.{Active, Declared}
 use Rattle.wasm_syntax.specs.declared.modules.DataSeg.{DataSeg}
 use Rattle.history_spec.specs.Code.{zero_of}
+use Rattle.module_merger.specs.declared.modules.Segments.{Segments}
 use Rattle.history_spec.specs.Instantiation.{constant}
 
 -- the value of an offset
@@ -28,3 +29,7 @@ HaveElemOffsets imported elems = All (HasElemOffset imported) elems
 
 abbrev pub HaveDataOffsets : List Val → List DataSeg → Type 0
 HaveDataOffsets imported datas = All (λ (segment : DataSeg). IsOffset imported segment.offset) datas
+
+-- all segments of both kinds have one
+abbrev pub HaveOffsets : List Val → Segments → Type 0
+HaveOffsets imported segments = HaveElemOffsets imported segments.elems × HaveDataOffsets imported segments.datas

@@ -11,7 +11,7 @@ use Rattle.module_merge.specs.Merge.{constant_data, constant_elem, constant_glob
 use Rattle.replay_gen.specs.declared.fragments.Fragment.{Fragment}
 use Rattle.module_merger.specs.declared.modules.Code.{Code}
 use Rattle.module_merger.specs.declared.modules.Segments.{Segments}
-use Rattle.module_merger.specs.declared.sections.Outline.{Outline}
+use Rattle.module_merger.specs.declared.modules.Outline.{Outline}
 
 -- the export of a function as the start of a replay
 abbrev pub start_export : ℕ → Export

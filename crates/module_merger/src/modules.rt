@@ -1,25 +1,30 @@
 // Replay modules of generated parts.
 
-ghost use Rattle.std.specs.Prelude.{◌≡◌, ◌<◌, ◌^◌, ◌++◌, length, map, IfOk};
-ghost use Rattle.wasm_syntax.specs.Index.{func_indices};
+ghost use Rattle.std.specs.Prelude.{◌≡◌, ◌<◌, ◌^◌, ◌++◌, [], ◌∷◌, length, option_map, IfOk};
+ghost use Rattle.std.specs.Option.{option_to_list};
+ghost use Rattle.wasm_syntax.specs.Index.{func_indices, imported_globals};
 ghost use Rattle.wasm_syntax.specs.Validity.{IsValid};
 ghost use Rattle.type_safety.specs.Supplies.{IsSupply};
-ghost use Rattle.module_merge.specs.Merge.{constant_data, constant_elem, declaration, replay_module};
-ghost use Rattle.module_merger.specs.Offsets.{HaveDataOffsets, HaveElemOffsets};
-ghost use Rattle.module_merger.specs.Parts.{module_of_parts, module_of_sections};
+ghost use Rattle.history_spec.specs.Instantiation as history;
+ghost use Rattle.module_merge.specs.Merge.{layout_section, memory_written, replay_module};
+ghost use Rattle.module_merger.specs.Offsets.{HaveOffsets};
+ghost use Rattle.module_merger.specs.Parts.{kept_globals, module_of_parts, module_of_sections};
 ghost use Rattle.replay_modules.specs.Laws.{StatesMaximum};
 ghost use Rattle.module_merger.specs.Generated.{IsGenerated};
 
+use crate::globals::kept_globals;
 use crate::lists::joined;
-use crate::sections::{Outline, outline_of, start_exports};
+use crate::sections::{layout_sections, limits_list, start_exports, written_limits};
 use crate::segments::{constant_datas, merged_elems};
 use host_script::Supply;
+use instantiation_parts::{memory_limits, table_limits};
+use module_index::scope::Scope;
 use no_memory::NoMemory;
 use replay_gen::Fragment;
 use replay_modules::replay_modules_of_tapes_are_valid;
 use std::alloc::Global;
 use wasm_syntax::{
-    DataSegs, ElemSegs, FuncTypes, Funcs, Globals, Indices, Limits, List, Module, Val,
+    Customs, DataSegs, ElemSegs, FuncTypes, Funcs, Globals, Limits, LimitsList, List, Module, Val,
 };
 use wasm_validate::Checked;
 
@@ -35,6 +40,16 @@ pub(crate) struct Code {
 pub(crate) struct Segments {
     elems: ElemSegs,
     datas: DataSegs,
+}
+
+/// What follows from the original and from what is supplied: limits, globals with their values, and the section that
+/// tells the layout.
+#[derive(Drop)]
+pub(crate) struct Outline {
+    tables: LimitsList,
+    memories: LimitsList,
+    globals: Globals,
+    customs: Customs,
 }
 
 /// The replay module of a module, of what is supplied for its imports and of what is generated of a tape that fits the
@@ -95,6 +110,31 @@ fn merged_module(
     )
 }
 
+/// The outline of a module's replay module.
+fn outline_of(alloc: Global, module: &Module, supply: &Supply) -> Result<Outline, NoMemory>
+    requires few { length (func_indices «module».now) < 2 ^ 32 }
+    requires supplied { length (imported_globals «module».now) ≡ length supply.now.globals }
+    ensures tables { IfOk result (λ outline. outline.tables
+        ≡ option_to_list (history.table_limits «module».now supply.now)) }
+    ensures memories { IfOk result (λ outline. outline.memories
+        ≡ option_to_list (option_map memory_written (history.memory_limits «module».now supply.now))) }
+    ensures globals { IfOk result (λ outline. outline.globals
+        ≡ kept_globals «module».now supply.now.globals) }
+    ensures customs { IfOk result (λ outline. outline.customs ≡ layout_section «module».now ∷ []) }
+{
+    let scope = Scope::of(alloc, module)?;
+    let tables = limits_list(alloc, table_limits(module, supply))?;
+    let memories = limits_list(alloc, written_limits(memory_limits(module, supply)))?;
+    let globals = kept_globals(alloc, &scope, supply.globals.as_slice())?;
+    let customs = layout_sections(alloc, &scope)?;
+    Ok(Outline {
+        tables,
+        memories,
+        globals,
+        customs,
+    })
+}
+
 /// What a replay module keeps of the original.
 fn kept_parts(module: Module) -> (Code, Segments)
     ensures types { result.0.types ≡ «module».types }
@@ -121,8 +161,7 @@ fn with_fragment(
     imported: &[Val],
     fragment: Fragment,
 ) -> Result<Module, NoMemory>
-    requires elems { HaveElemOffsets imported.now segments.elems }
-    requires datas { HaveDataOffsets imported.now segments.datas }
+    requires offsets { HaveOffsets imported.now segments }
     ensures { IfOk result (λ merged. merged ≡ module_of_parts outline code segments imported.now fragment) }
 {
     let Fragment {
@@ -134,8 +173,17 @@ fn with_fragment(
         declared,
     } = fragment;
     let code = merged_code(code, types, bodies, helpers)?;
-    let segments = merged_segments(alloc, segments, imported, declared)?;
-    with_exports(alloc, outline, globals, code, segments, entry)
+    let Segments { elems, datas } = segments;
+    let elems = merged_elems(alloc, elems, imported, declared)?;
+    let datas = constant_datas(alloc, datas, imported)?;
+    with_exports(
+        alloc,
+        outline,
+        globals,
+        code,
+        Segments { elems, datas },
+        entry,
+    )
 }
 
 /// Types and functions with those that are generated: bodies in the places of imports, and helpers at the end.
@@ -155,25 +203,6 @@ fn merged_code(
     let types = joined(own_types, types)?;
     let funcs = joined(bodies, joined(funcs, helpers)?)?;
     Ok(Code { types, funcs })
-}
-
-/// Segments with their offsets' values, and one that declares functions, where there are any.
-fn merged_segments(
-    alloc: Global,
-    segments: Segments,
-    imported: &[Val],
-    declared: Indices,
-) -> Result<Segments, NoMemory>
-    requires elems { HaveElemOffsets imported.now segments.elems }
-    requires datas { HaveDataOffsets imported.now segments.datas }
-    ensures elems { IfOk result (λ merged. merged.elems
-        ≡ map (constant_elem imported.now) segments.elems ++ declaration declared) }
-    ensures datas { IfOk result (λ merged. merged.datas ≡ map (constant_data imported.now) segments.datas) }
-{
-    let Segments { elems, datas } = segments;
-    let elems = merged_elems(alloc, elems, imported, declared)?;
-    let datas = constant_datas(alloc, datas, imported)?;
-    Ok(Segments { elems, datas })
 }
 
 /// The replay module of its parts, with the globals that are generated and the export of the function of index `entry`.

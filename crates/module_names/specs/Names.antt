@@ -8,6 +8,8 @@ use Rattle.wasm_syntax.specs.declared.modules.Import.{Import}
 use Rattle.wasm_syntax.specs.declared.modules.ImportKind.{ImportKind}
 use Rattle.wasm_syntax.specs.declared.modules.ExportKind.{ExportKind}
 use Rattle.wasm_syntax.specs.declared.modules.ExportKind.TheVariants.{Func, Table, Memory, Global}
+use Rattle.module_names.specs.declared.index_spaces.Space.{Space}
+use Rattle.module_names.specs.declared.index_spaces.Space.TheVariants.{Funcs, Tables, Memories, Globals}
 use Rattle.wasm_syntax.specs.Index.{func_import, table_import, memory_import, global_import, type_at}
 
 -- ---- imports
@@ -15,6 +17,13 @@ use Rattle.wasm_syntax.specs.Index.{func_import, table_import, memory_import, gl
 -- whether something of a kind is imported
 abbrev pub is_kind : {K : Type 0} → (ImportKind → Option K) → Import → Bool
 is_kind pick import = is_some (pick import.kind)
+
+-- whether an import is in an index space
+abbrev pub is_in : Space → Import → Bool
+is_in Funcs = is_kind func_import
+is_in Tables = is_kind table_import
+is_in Memories = is_kind memory_import
+is_in Globals = is_kind global_import
 
 -- the imports of one kind, in order, with their names
 abbrev pub imports_with : {K : Type 0} → (ImportKind → Option K) → Module → List Import
@@ -53,21 +62,13 @@ imported_global m from name = first_named from name 0 (imports_with global_impor
 
 -- ---- exports
 
-abbrev pub func_export : ExportKind → Option ℕ
-func_export (Func index) = Some index
-func_export kind = None
-
-abbrev pub memory_export : ExportKind → Option ℕ
-memory_export (Memory index) = Some index
-memory_export kind = None
-
-abbrev pub table_export : ExportKind → Option ℕ
-table_export (Table index) = Some index
-table_export kind = None
-
-abbrev pub global_export : ExportKind → Option ℕ
-global_export (Global index) = Some index
-global_export kind = None
+-- the index of what is exported, where it is in this space
+abbrev pub index_in : Space → ExportKind → Option ℕ
+index_in Funcs (Func index) = Some index
+index_in Tables (Table index) = Some index
+index_in Memories (Memory index) = Some index
+index_in Globals (Global index) = Some index
+index_in space kind = None
 
 -- what is exported under a name
 abbrev pub export_of : Module → List ℕ → Option ExportKind
@@ -75,22 +76,22 @@ export_of m name = option_map (λ export. export.kind) (find (λ export. bytes_e
 
 -- the function, the global of that name, by its index
 abbrev pub exported_func : Module → List ℕ → Option ℕ
-exported_func m name = option_and_then func_export (export_of m name)
+exported_func m name = option_and_then (index_in Funcs) (export_of m name)
 
 abbrev pub exported_global : Module → List ℕ → Option ℕ
-exported_global m name = option_and_then global_export (export_of m name)
+exported_global m name = option_and_then (index_in Globals) (export_of m name)
 
 -- ---- access
 
 -- a memory, a table is imported or exported
-abbrev pub exports_some : (ExportKind → Option ℕ) → Module → Bool
-exports_some pick m = list_any (λ export. is_some (pick export.kind)) m.exports
+abbrev pub exports_some : Space → Module → Bool
+exports_some space m = list_any (λ export. is_some (index_in space export.kind)) m.exports
 
 abbrev pub imports_some : {K : Type 0} → (ImportKind → Option K) → Module → Bool
 imports_some pick m = list_any (is_kind pick) m.imports
 
 abbrev pub reaches_memory : Module → Bool
-reaches_memory m = imports_some memory_import m || exports_some memory_export m
+reaches_memory m = imports_some memory_import m || exports_some Memories m
 
 abbrev pub reaches_table : Module → Bool
-reaches_table m = imports_some table_import m || exports_some table_export m
+reaches_table m = imports_some table_import m || exports_some Tables m

@@ -4,7 +4,8 @@ ghost use Rattle.std.specs.Prelude.{◌≡◌, IfOk, map, [], option_map, unwrap
 ghost use Rattle.wasm_syntax.specs.Index.{func_import, imported_funcs as count_of_funcs};
 ghost use Rattle.module_names.specs.Names.{imports_with, imports_from, imports_named, func_types_named};
 
-use crate::imports::{TypesByNames, imported_funcs, modules_of, types_by_names};
+use crate::imports::{TypesByNames, imports_of, modules_of, types_by_names};
+use crate::index_spaces::Space;
 use indexmap::IndexSet;
 use no_memory::NoMemory;
 use std::alloc::Global;
@@ -42,7 +43,7 @@ impl<'a> ImportedFuncs<'a> {
     pub(crate) fn of(alloc: Global, module: &'a Module) -> Result<ImportedFuncs<'a>, NoMemory>
         ensures { IfOk result (λ funcs. funcs ≡ «module».now) }
     {
-        let imports = imported_funcs(alloc, module)?;
+        let imports = imports_of(alloc, module, Space::Funcs)?;
         let modules = modules_of(alloc, imports.as_slice())?;
         let types = types_by_names(alloc, module, imports.as_slice())?;
         Ok(ImportedFuncs {

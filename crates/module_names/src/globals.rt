@@ -4,7 +4,8 @@ ghost use Rattle.std.specs.Prelude.{◌≡◌, IfOk, map};
 ghost use Rattle.wasm_syntax.specs.Index.{global_import};
 ghost use Rattle.module_names.specs.Names.{imports_with, imports_from, imports_named, imported_global};
 
-use crate::imports::{FirstsByNames, firsts_by_names, imported_globals, modules_of};
+use crate::imports::{FirstsByNames, firsts_by_names, imports_of, modules_of};
+use crate::index_spaces::Space;
 use indexmap::IndexSet;
 use no_memory::NoMemory;
 use std::alloc::Global;
@@ -42,7 +43,7 @@ impl<'a> ImportedGlobals<'a> {
     pub(crate) fn of(alloc: Global, module: &'a Module) -> Result<ImportedGlobals<'a>, NoMemory>
         ensures { IfOk result (λ globals. globals ≡ «module».now) }
     {
-        let imports = imported_globals(alloc, module)?;
+        let imports = imports_of(alloc, module, Space::Globals)?;
         let modules = modules_of(alloc, imports.as_slice())?;
         let places = firsts_by_names(alloc, imports.as_slice())?;
         Ok(ImportedGlobals {

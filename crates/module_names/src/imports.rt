@@ -1,10 +1,10 @@
 // What a module imports, by the names of modules and of imports.
 
-ghost use Rattle.std.specs.Prelude.{◌≡◌, IfOk, OnOk, map, option_map};
-ghost use Rattle.wasm_syntax.specs.Index.{func_import, global_import};
+ghost use Rattle.std.specs.Prelude.{◌≡◌, IfOk, OnOk, filter, map, option_map};
 ghost use Rattle.module_names.specs.Indexes.{HoldsModules, HoldsTypes, HoldsFirsts, AddsType};
-ghost use Rattle.module_names.specs.Names.{is_kind, imports_with, import_type as type_of_import};
+ghost use Rattle.module_names.specs.Names.{is_in, import_type as type_of_import};
 
+use crate::index_spaces::Space;
 use indexmap::{IndexMap, IndexSet};
 use no_memory::NoMemory;
 use std::alloc::Global;
@@ -19,48 +19,19 @@ pub(crate) type TypesByNames<'a> = IndexMap<Names<'a>, Vec<&'a FuncType>>;
 /// The index of the first import under two names.
 pub type FirstsByNames<'a> = IndexMap<Names<'a>, usize>;
 
-fn is_func(import: &Import) -> bool
-    ensures { result ≡ is_kind func_import import.now }
-{
-    matches!(import.kind, ImportKind::Func(_))
-}
-
-fn is_global(import: &Import) -> bool
-    ensures { result ≡ is_kind global_import import.now }
-{
-    matches!(import.kind, ImportKind::Global(_))
-}
-
-/// The imported functions, in order.
-pub(crate) fn imported_funcs<'a>(
+/// The imports of one index space, in order.
+pub(crate) fn imports_of<'a>(
     alloc: Global,
     module: &'a Module,
+    space: Space,
 ) -> Result<Vec<&'a Import>, NoMemory>
-    ensures { IfOk result (λ funcs. map (λ import. import.now) funcs.items
-        ≡ imports_with func_import «module».now) }
+    ensures { IfOk result (λ found. map (λ import. import.now) found.items
+        ≡ filter (is_in space) «module».now.imports) }
 {
     let imports = module.imports.as_slice();
     let mut found = Vec::new(alloc);
     'imports: for import in imports {
-        if is_func(import) {
-            found.push(import)?;
-        }
-    }
-    Ok(found)
-}
-
-/// The imported globals, in order.
-pub(crate) fn imported_globals<'a>(
-    alloc: Global,
-    module: &'a Module,
-) -> Result<Vec<&'a Import>, NoMemory>
-    ensures { IfOk result (λ globals. map (λ import. import.now) globals.items
-        ≡ imports_with global_import «module».now) }
-{
-    let imports = module.imports.as_slice();
-    let mut found = Vec::new(alloc);
-    'imports: for import in imports {
-        if is_global(import) {
+        if space.has_import(import) {
             found.push(import)?;
         }
     }

@@ -6,6 +6,7 @@ mod exports;
 mod funcs;
 mod globals;
 pub mod imports;
+pub mod index_spaces;
 pub mod names;
 
 pub use imports::{FirstsByNames, firsts_by_names};

@@ -1,16 +1,18 @@
 // A module, with indexes of its names.
 
-ghost use Rattle.std.specs.Prelude.{◌≡◌, ◌≤◌, nat_lt, IfOk, map, [], option_map, option_and_then, unwrap_or, slice_get};
-ghost use Rattle.wasm_syntax.specs.Index.{func_import, global_import, memory_import, table_import, all_globals, func_type, type_at, imported_funcs as count_of_funcs};
-ghost use Rattle.module_names.specs.Names.{imports_with, imports_from, imports_named, imported_global, func_types_named, exported_func, exported_global, reaches_memory, reaches_table, imports_some, exports_some, memory_export, table_export};
+ghost use Rattle.std.specs.Prelude.{◌≡◌, ◌≤◌, ◌||◌, is_some, nat_lt, IfOk, map, [], option_map, option_and_then, unwrap_or, slice_get};
+ghost use Rattle.std.specs.List.{list_any};
+ghost use Rattle.wasm_syntax.specs.Index.{func_import, global_import, all_globals, func_type, type_at, imported_funcs as count_of_funcs};
+ghost use Rattle.module_names.specs.Names.{imports_with, imports_from, imports_named, imported_global, func_types_named, exported_func, exported_global, exports_some, index_in, is_in, reaches_memory, reaches_table};
 
 use crate::exports::Exports;
 use crate::funcs::ImportedFuncs;
 use crate::globals::ImportedGlobals;
+use crate::index_spaces::Space;
 use no_memory::NoMemory;
 use std::alloc::Global;
 use std::marker::Model;
-use wasm_syntax::{ExportKind, FuncType, GlobalType, Import, ImportKind, Module};
+use wasm_syntax::{Export, ExportKind, FuncType, GlobalType, Import, ImportKind, Module};
 
 /// A module, with indexes of its names, so that no look-up goes through its imports or exports.
 #[derive(Drop)]
@@ -40,54 +42,23 @@ impl<'a> Model for ModuleNames<'a> {
         × (names.table ≡ reaches_table names.source.now) };
 }
 
-fn imports_memory(module: &Module) -> bool
-    ensures { result ≡ imports_some memory_import «module».now }
+/// Whether something in an index space is imported or exported.
+fn reaches(module: &Module, space: Space) -> bool
+    ensures { result ≡ (list_any (is_in space) «module».now.imports || exports_some space «module».now) }
 {
-    let imports = module.imports.as_slice();
-    imports
-        .iter()
-        .any(|import| matches!(import.kind, ImportKind::Memory(_)))
+    imports_some(module.imports.as_slice(), space) || exports_some(module.exports.as_slice(), space)
 }
 
-fn exports_memory(module: &Module) -> bool
-    ensures { result ≡ exports_some memory_export «module».now }
+fn imports_some(imports: &[Import], space: Space) -> bool
+    ensures { result ≡ list_any (is_in space) imports.now }
 {
-    let exports = module.exports.as_slice();
-    exports
-        .iter()
-        .any(|export| matches!(export.kind, ExportKind::Memory(_)))
+    imports.iter().any(|import| space.has_import(import))
 }
 
-fn imports_table(module: &Module) -> bool
-    ensures { result ≡ imports_some table_import «module».now }
+fn exports_some(exports: &[Export], space: Space) -> bool
+    ensures { result ≡ list_any (λ export. is_some (index_in space export.kind)) exports.now }
 {
-    let imports = module.imports.as_slice();
-    imports
-        .iter()
-        .any(|import| matches!(import.kind, ImportKind::Table(_)))
-}
-
-fn exports_table(module: &Module) -> bool
-    ensures { result ≡ exports_some table_export «module».now }
-{
-    let exports = module.exports.as_slice();
-    exports
-        .iter()
-        .any(|export| matches!(export.kind, ExportKind::Table(_)))
-}
-
-/// Whether a memory is imported or exported.
-fn has_memory(module: &Module) -> bool
-    ensures { result ≡ reaches_memory «module».now }
-{
-    imports_memory(module) || exports_memory(module)
-}
-
-/// Whether a table is imported or exported.
-fn has_table(module: &Module) -> bool
-    ensures { result ≡ reaches_table «module».now }
-{
-    imports_table(module) || exports_table(module)
+    exports.iter().any(|export| space.has_export(export.kind))
 }
 
 impl<'a> ModuleNames<'a> {
@@ -107,8 +78,8 @@ impl<'a> ModuleNames<'a> {
             exports,
             funcs,
             globals,
-            memory: has_memory(module),
-            table: has_table(module),
+            memory: reaches(module, Space::Memories),
+            table: reaches(module, Space::Tables),
         })
     }
 

@@ -17,8 +17,8 @@ use Rattle.replay_spec.specs.Observations.{Observation, Begins, Ends, ReadsEntry
 use Rattle.replay_spec.specs.Known.{Known, read_entry, read_global, written_entry, written_global, last_some}
 use Rattle.replay_spec.specs.Windows.{window, unless_some, first_entry, first_global}
 use Rattle.replay_spec.specs.Needed.{effect_entry, effect_global, AreNeeded, AreNeededSegments}
+use Rattle.replay_spec.proofs.OneList.{entries_after, globals_after}
 use Rattle.tape_follows.proofs.Activities.{needed_is, ordered_rest}
-use Rattle.tape_follows.proofs.FitEffects.{globals_after, entries_after}
 use Rattle.tape_follows.proofs.Same.{own_number}
 use Rattle.binary_follows.specs.Playable.{WritesBytes, AllWriteBytes}
 use Rattle.replay_modules.specs.Written.{IsConstantEffect, IsConstantNext, IsConstantSegment}

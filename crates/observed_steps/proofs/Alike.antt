@@ -5,7 +5,7 @@ use Rattle.wasm_syntax.specs.declared.values.ValType.{ValType}
 use Rattle.history_spec.specs.Store.{Store}
 use Rattle.history_spec.specs.Code.{Code}
 use Rattle.history_spec.specs.Configuration.{Place, Frame}
-use Rattle.history_spec.specs.Instruction.{Goes, Calls, Execution, Did, on, pop, takes, frame_after, choice}
+use Rattle.history_spec.specs.Instruction.{Goes, Calls, Execution, Operands, Did, on, pop, takes, frame_after, choice}
 use Rattle.replay_spec.specs.Observations.{Observation, on as observed_on}
 use Rattle.observed_steps.specs.StoreAnswers.{BothOrNeither, AnswersAll}
 use Rattle.observed_steps.specs.Changes.{IsChangedAs}
@@ -15,6 +15,22 @@ use Rattle.observed_steps.proofs.Operands.{AreOperands, popped}
 pub same_activation : (frame : Frame) (next : Place) (values : List Val)
     → IsSameActivation frame (frame_after frame next values)
 same_activation frame next values = record { func = refl; arity = refl }
+
+-- executions that begin with operands are alike where what they do with these is
+abbrev pub TakesAlike : Frame → (Execution → Execution → Type 0) → Type 0
+TakesAlike frame AreAlike =
+    (types : List ValType) (go go' : List Val → List Val → Execution)
+    → ((operands rest : List Val) → AreOperands types frame.values operands
+    → AreAlike (go operands rest) (go' operands rest))
+    → AreAlike (takes frame types go) (takes frame types go')
+
+pub taken_alike : (frame : Frame) (AreAlike : Execution → Execution → Type 0)
+    → ((o : Option Operands) (go go' : Operands → Execution)
+    → ((p : Operands) → o ≡ Some p → AreAlike (go p) (go' p)) → AreAlike (on o go) (on o go'))
+    → TakesAlike frame AreAlike
+taken_alike frame AreAlike one types go go' k =
+    one (pop types frame.values) (λ p. go p.operands p.rest) (λ p. go' p.operands p.rest)
+    (λ p is. k p.operands p.rest (popped types frame.values p is))
 
 module _ (code : Code) (store other : Store) (frame : Frame) where
   abbrev pub Alike : List Observation → Execution → Execution → Type 0
@@ -51,13 +67,8 @@ module _ (code : Code) (store other : Store) (frame : Frame) where
   parts_alike R (Some x) None observe go go' both k answers = absurd both
   parts_alike R (Some x) (Some x') observe go go' both k answers = k x x' refl refl both answers
 
-  pub takes_alike : (seen : List Observation) (types : List ValType) (go go' : List Val → List Val → Execution)
-      → ((operands rest : List Val) → AreOperands types frame.values operands
-      → Alike seen (go operands rest) (go' operands rest))
-      → Alike seen (takes frame types go) (takes frame types go')
-  takes_alike seen types go go' k =
-      one_alike seen (pop types frame.values) (λ p. go p.operands p.rest) (λ p. go' p.operands p.rest)
-      (λ p is. k p.operands p.rest (popped types frame.values p is))
+  pub takes_alike : (seen : List Observation) → TakesAlike frame (Alike seen)
+  takes_alike seen = taken_alike frame (Alike seen) (one_alike seen)
 
   pub choice_alike : (seen : List Observation) (bits : ℕ) (a a' b b' : Execution) → Alike seen a a' → Alike seen b b'
       → Alike seen (choice bits a b) (choice bits a' b')

@@ -19,7 +19,7 @@ use Rattle.history_spec.specs.declared.entries.TrapKind.TheVariants.{Table as By
 use Rattle.history_spec.specs.Store.{Store, Table, grown_table_if, grown_table, with_entry, with_table}
 use Rattle.history_spec.specs.Code.{Code, signature}
 use Rattle.history_spec.specs.Configuration.{Place, Frame}
-use Rattle.history_spec.specs.Instruction.{Execution, Traps, calls_if, calls_entry, referent, table_result, table_grow_result, execute_plain}
+use Rattle.history_spec.specs.Instruction.{Execution, Traps, on, calls_if, calls_entry, referent, table_result, table_grow_result, execute_plain}
 use Rattle.replay_spec.specs.Observations.{Observation, ReachesEntry, ReadsEntry, WritesEntry, ResizesTable, on as observed_on, bits_from_top, plain_observations, entry_observations, set_observations, table_size_observations, table_grow_observations}
 use Rattle.observed_steps.specs.StoreAnswers.{BothOrNeither, AllowSameEntries, allows_entries, IsReachedAlike, Answers, AnswersAll}
 use Rattle.observed_steps.specs.Changes.{with_table_entry, IsChangedAs}
@@ -207,6 +207,15 @@ module _ (code other_code : Code) (store other : Store) (frame : Frame) (next : 
   -- ---- instructions
 
   module _ (kind : BothOrNeither AllowSameEntries store.table other.table) where
+    -- tables that both stores have or neither has
+    tables_alike : (observe : Table → List Observation) (go go' : Table → Execution)
+        → ((table table' : Table) → store.table ≡ Some table → other.table ≡ Some table' → AllowSameEntries table table'
+        → AnswersAll other (observe table) → Same (observe table) (go table) (go' table'))
+        → AnswersAll other (observed_on store.table observe)
+        → Same (observed_on store.table observe) (on store.table go) (on other.table go')
+    tables_alike observe go go' each =
+        parts_alike code store other frame AllowSameEntries store.table other.table observe go go' kind each
+
     -- an instruction does the same where the other store answers what it observes
     abbrev IsAlike : Instr → Type 0
     IsAlike i =
@@ -218,8 +227,7 @@ module _ (code other_code : Code) (store other : Store) (frame : Frame) (next : 
     call_indirect_alike shares t answers =
         on_alike code store other frame _ (slice_get code.types t) (slice_get other_code.types t) _ _ (shares.types t)
         (λ ty has.
-        parts_alike code store other frame AllowSameEntries store.table other.table _ _ _ kind
-        (λ table table' is is' grow answers.
+        tables_alike _ _ _ (λ table table' is is' grow answers.
         takes_alike code store other frame _ (ty.params ++ I32 ∷ []) _ _ (λ operands rest are.
         let long : length (ty.params ++ I32 ∷ []) ≡ length ty.params + 1 = length-append ty.params (I32 ∷ []) in
         rw (bits_same are (length ty.params) 0 (omega (arith, long)))
@@ -229,8 +237,7 @@ module _ (code other_code : Code) (store other : Store) (frame : Frame) (next : 
     pub set_alike : (t : ℕ) → IsAlike (TableSet t)
     set_alike (suc t) answers = tt
     set_alike zero answers =
-        parts_alike code store other frame AllowSameEntries store.table other.table _ _ _ kind
-        (λ table table' is is' grow answers.
+        tables_alike _ _ _ (λ table table' is is' grow answers.
         takes_alike code store other frame _ (I32 ∷ FuncRef ∷ []) _ _ (λ operands rest are.
         let func = referent (bits_from_top frame.values 0) in
         rw (bits_same are 0 1 refl, bits_same are 1 0 refl)
@@ -240,8 +247,7 @@ module _ (code other_code : Code) (store other : Store) (frame : Frame) (next : 
     pub table_size_alike : (t : ℕ) → IsAlike (TableSize t)
     table_size_alike (suc t) answers = tt
     table_size_alike zero answers =
-        parts_alike code store other frame AllowSameEntries store.table other.table _ _ _ kind
-        (λ table table' is is' grow answers.
+        tables_alike _ _ _ (λ table table' is is' grow answers.
         rw (found_size table table' is is' (length table.entries) None answers)
         (goes_alike code store other frame (table_size_observations table) [] _ None _ _ _
         (same_entries (length table.entries) None store) (same_entries (length table.entries) None other)
@@ -251,8 +257,7 @@ module _ (code other_code : Code) (store other : Store) (frame : Frame) (next : 
     pub table_grow_alike : (t : ℕ) → IsAlike (TableGrow t)
     table_grow_alike (suc t) answers = tt
     table_grow_alike zero answers =
-        parts_alike code store other frame AllowSameEntries store.table other.table _ _ _ kind
-        (λ table table' is is' grow answers.
+        tables_alike _ _ _ (λ table table' is is' grow answers.
         takes_alike code store other frame _ (FuncRef ∷ I32 ∷ []) _ _ (λ operands rest are.
         let by = bits_from_top frame.values 0 in
         let func = referent (bits_from_top frame.values 1) in

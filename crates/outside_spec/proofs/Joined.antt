@@ -7,14 +7,13 @@ use Rattle.std.proofs.lemmas.Option.{slice_get_past}
 use Rattle.list_laws.proofs.Lists.{get_front, get_after}
 use Rattle.trace_model.specs.declared.tapes.Effect.{Effect}
 use Rattle.trace_model.specs.declared.tapes.Effect.TheVariants.{Grow, Table, Bytes, Entry, Global}
-use Rattle.outside_spec.specs.Stretches.{last_of, effect_byte, effect_entry, effect_global, effect_pages, effect_entries, joined, all_joined}
+use Rattle.replay_spec.specs.Known.{last_some}
+use Rattle.replay_spec.specs.Needed.{effect_byte, effect_entry, effect_global, effect_pages, effect_entries}
+use Rattle.replay_spec.proofs.OneList.{or_none}
+use Rattle.outside_spec.specs.Stretches.{joined, all_joined}
 use Rattle.outside_spec.specs.Laws.{JoinedChangesAreSame}
 
-or_none : {X : Type 0} (o : Option X) → option_or o None ≡ o
-or_none None = refl
-or_none (Some x) = refl
-
-or_assoc : {X : Type 0} (a b c : Option X) → option_or (option_or a b) c ≡ option_or a (option_or b c)
+pub or_assoc : {X : Type 0} (a b c : Option X) → option_or (option_or a b) c ≡ option_or a (option_or b c)
 or_assoc None b c = refl
 or_assoc (Some x) b c = refl
 
@@ -25,18 +24,18 @@ Splits part = (addr : ℕ) (bytes more : List ℕ)
 
 module _ {X : Type 0} (part : Effect → Option X) (splits : Splits part) where
   join_same : (change : Effect) (later : List Effect)
-      → last_of part (joined change later) ≡ option_or (last_of part later) (part change)
+      → last_some part (joined change later) ≡ option_or (last_some part later) (part change)
   join_same (Bytes addr bytes) [] = refl
   join_same (Bytes addr bytes) (Bytes other more ∷ later) = go (nat_eq (addr + length bytes) other) refl where
     go : (b : Bool) → nat_eq (addr + length bytes) other ≡ b
-        → last_of part (cond b (Bytes addr (bytes ++ more) ∷ later) (Bytes addr bytes ∷ Bytes other more ∷ later))
-        ≡ option_or (option_or (last_of part later) (part (Bytes other more))) (part (Bytes addr bytes))
+        → last_some part (cond b (Bytes addr (bytes ++ more) ∷ later) (Bytes addr bytes ∷ Bytes other more ∷ later))
+        ≡ option_or (option_or (last_some part later) (part (Bytes other more))) (part (Bytes addr bytes))
     go false e = refl
     go true e =
         let same : addr + length bytes ≡ other = grind (arith, nat_tests, e) in
-        ap (λ o. option_or (last_of part later) o)
+        ap (λ o. option_or (last_some part later) o)
         (splits addr bytes more ∙ ap (λ at. option_or (part (Bytes at more)) (part (Bytes addr bytes))) same)
-        ∙ sym (or_assoc (last_of part later) (part (Bytes other more)) (part (Bytes addr bytes)))
+        ∙ sym (or_assoc (last_some part later) (part (Bytes other more)) (part (Bytes addr bytes)))
   join_same (Bytes addr bytes) (Grow pages ∷ later) = refl
   join_same (Bytes addr bytes) (Table size ∷ later) = refl
   join_same (Bytes addr bytes) (Entry index func ∷ later) = refl
@@ -46,12 +45,12 @@ module _ {X : Type 0} (part : Effect → Option X) (splits : Splits part) where
   join_same (Entry index func) later = refl
   join_same (Global global value) later = refl
 
-  all_same : (changes : List Effect) → last_of part changes ≡ last_of part (all_joined changes)
+  all_same : (changes : List Effect) → last_some part changes ≡ last_some part (all_joined changes)
   all_same [] = refl
   all_same (change ∷ changes) =
       ap (λ o. option_or o (part change)) (all_same changes) ∙ sym (join_same change (all_joined changes))
 
-bytes_split : (at : ℕ) → Splits (effect_byte at)
+pub bytes_split : (at : ℕ) → Splits (effect_byte at)
 bytes_split at addr bytes more = go (nat_le addr at) refl (nat_le (addr + length bytes) at) refl where
   go : (b : Bool) → nat_le addr at ≡ b → (c : Bool) → nat_le (addr + length bytes) at ≡ c
       → cond b (slice_get (bytes ++ more) (at - addr)) None
@@ -70,9 +69,9 @@ bytes_split at addr bytes more = go (nat_le addr at) refl (nat_le (addr + length
 pub joined_same : JoinedChangesAreSame
 joined_same changes =
     record {
-      bytes = λ at. all_same (effect_byte at) (bytes_split at) changes;
-      entries = λ at. all_same (effect_entry at) (λ addr bytes more. refl) changes;
-      globals = λ at. all_same (effect_global at) (λ addr bytes more. refl) changes;
       pages = all_same effect_pages (λ addr bytes more. refl) changes;
-      size = all_same effect_entries (λ addr bytes more. refl) changes;
+      entries = all_same effect_entries (λ addr bytes more. refl) changes;
+      byte = λ at. all_same (effect_byte at) (bytes_split at) changes;
+      entry = λ at. all_same (effect_entry at) (λ addr bytes more. refl) changes;
+      global = λ at. all_same (effect_global at) (λ addr bytes more. refl) changes;
     }

@@ -1,4 +1,4 @@
 mod Projections
 mod Histories
-mod Joined
+pub mod Joined
 mod Tested

@@ -1,9 +1,8 @@
 // `build`: the replay module of a tape.
 
-ghost use Rattle.std.specs.Prelude.{◌≡◌, ◌≤◌, ◌⊎◌, ℕ, List, Err, IfErr, IfOk, length};
+ghost use Rattle.std.specs.Prelude.{◌≤◌, length};
 ghost use Rattle.wasm_syntax.specs.declared.limits.TheConstants.{MOST_FILE_BYTES};
-ghost use Rattle.r3_faults.specs.declared.faults.Fault.{Fault};
-ghost use Rattle.r3_faults.specs.declared.faults.Fault.TheVariants.{Memory};
+ghost use Rattle.r3_faults.specs.Answers.{IsExact};
 ghost use Rattle.r3_build.specs.Printed.{IsPrinted};
 ghost use Rattle.r3_build.specs.Refusals.{IsBuildRefusal};
 
@@ -22,13 +21,8 @@ use std::alloc::Global;
 /// exactly where it stands and none before it does. `Memory` comes where memory is out.
 pub fn build(alloc: Global, module: &[u8], script: &[u8], tape: &[u8]) -> Result<Vec<u8>, Fault>
     requires { length «module».now ≤ MOST_FILE_BYTES }
-    ensures cause { IfErr result (λ fault. (fault ≡ Memory)
-        ⊎ IsBuildRefusal «module».now script.now tape.now fault) }
-    ensures refused { (fault : Fault) → IsBuildRefusal «module».now script.now tape.now fault
-        → (result ≡ Err fault) ⊎ (result ≡ Err Memory) }
-    ensures printed { IfOk result (λ bytes. IsPrinted «module».now script.now tape.now bytes.items) }
-    ensures accepted { (text : List ℕ) → IsPrinted «module».now script.now tape.now text
-        → IfOk result (λ bytes. bytes.items ≡ text) × IfErr result (λ fault. fault ≡ Memory) }
+    ensures { IsExact (IsPrinted «module».now script.now tape.now)
+        (IsBuildRefusal «module».now script.now tape.now) result }
 {
     let (checked, script) = inputs_of(alloc, module, script)?;
     replay_for(alloc, module, checked, &script, tape)

@@ -1,6 +1,6 @@
 // The replay module of a tape, in its binary format.
 
-ghost use Rattle.std.specs.Prelude.{◌≡◌, ◌<◌, ◌≤◌, ◌^◌, ◌⊎◌, ℕ, List, Err, Ok, IfErr, IfOk, IfSome, length};
+ghost use Rattle.std.specs.Prelude.{◌≡◌, ◌<◌, ◌≤◌, ◌^◌, Ok, IfErr, IfOk, IfSome, length};
 ghost use Rattle.sha2.specs.Sha256.{sha256};
 ghost use Rattle.wasm_syntax.specs.declared.limits.TheConstants.{MOST_FILE_BYTES};
 ghost use Rattle.wasm_syntax.specs.declared.forms.Form.TheVariants.{Core};
@@ -13,7 +13,7 @@ ghost use Rattle.type_safety.specs.Supplies.{HasBytes, IsRunnable, IsSupply};
 ghost use Rattle.replay_modules.specs.Written.{IsConstantTape};
 ghost use Rattle.binary_follows.specs.Playable.{most_weight};
 ghost use Rattle.accepted_runs.specs.Runnable.{CanRun};
-ghost use Rattle.r3_faults.specs.declared.faults.Fault.{Fault};
+ghost use Rattle.r3_faults.specs.Answers.{IsCaused, IsExact};
 ghost use Rattle.r3_faults.specs.declared.faults.Fault.TheVariants.{Memory};
 ghost use Rattle.r3_build.specs.Printed.{IsBuilt, IsReplayOf};
 ghost use Rattle.r3_build.specs.Refusals.{IsUnbuilt};
@@ -45,14 +45,8 @@ pub(crate) fn replay_for(
     requires small { length bytes.now ≤ MOST_FILE_BYTES }
     requires runnable { CanRun checked script.now }
     requires bytes { HasBytes checked }
-    ensures cause { IfErr result (λ fault. (fault ≡ Memory)
-        ⊎ IsUnbuilt checked script.now (sha256 bytes.now) tape.now fault) }
-    ensures refused { (fault : Fault) → IsUnbuilt checked script.now (sha256 bytes.now) tape.now fault
-        → (result ≡ Err fault) ⊎ (result ≡ Err Memory) }
-    ensures printed { IfOk result (λ printed.
-        IsBuilt checked script.now (sha256 bytes.now) tape.now printed.items) }
-    ensures accepted { (text : List ℕ) → IsBuilt checked script.now (sha256 bytes.now) tape.now text
-        → IfOk result (λ printed. printed.items ≡ text) × IfErr result (λ fault. fault ≡ Memory) }
+    ensures { IsExact (IsBuilt checked script.now (sha256 bytes.now) tape.now)
+        (IsUnbuilt checked script.now (sha256 bytes.now) tape.now) result }
 {
     // Bytes spell one tape at most.
     tape_files();
@@ -71,10 +65,8 @@ fn built_replay(
     requires small { length bytes.now ≤ MOST_FILE_BYTES }
     requires runnable { CanRun checked script.now }
     requires bytes { HasBytes checked }
-    ensures cause { IfErr result (λ fault. (fault ≡ Memory)
-        ⊎ IsUnbuilt checked script.now (sha256 bytes.now) tape.now fault) }
-    ensures printed { IfOk result (λ printed.
-        IsBuilt checked script.now (sha256 bytes.now) tape.now printed.items) }
+    ensures { IsCaused (IsBuilt checked script.now (sha256 bytes.now) tape.now)
+        (IsUnbuilt checked script.now (sha256 bytes.now) tape.now) result }
 {
     typed_store();
     let (supply, _) = supply_and_store(alloc, &checked, script)?;

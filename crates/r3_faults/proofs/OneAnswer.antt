@@ -1,5 +1,6 @@
 -- What an answer with its cause says of other causes and other results, where there is one of them at most.
-use Rattle.std.proofs.Common.{◌≡◌, ◌⊎◌, inl, inr, Result, Ok, Err, IfOk, IfErr, ap}
+use Rattle.std.proofs.Common.{◌≡◌, ◌⊎◌, ℕ, List, Vec, inl, inr, Result, Ok, Err, IfOk, IfErr, ap}
+use Rattle.r3_faults.specs.Answers.{IsCaused, IsExact}
 use Rattle.r3_faults.specs.declared.faults.Fault.{Fault}
 use Rattle.r3_faults.specs.declared.faults.Fault.TheVariants.{Memory}
 
@@ -26,3 +27,16 @@ module _ {T R : Type 0} (IsResult : R → Type 0) (IsRefusal : Fault → Type 0)
       go (Ok y) is why = (one (value y) x is result, tt)
       go (Err f) is (inl memory) = (tt, memory)
       go (Err f) is (inr other) = absurd (apart x f result other)
+
+-- an answer with its cause is exact where one text is printed at most, one fault refuses at most, and never both
+pub exact_answer : {Z : Type 0} (Printed : List ℕ → Type 0) (Refusal : Fault → Type 0)
+    → ((x : List ℕ) (fault : Fault) → Printed x → Refusal fault → ⊥)
+    → ((x y : List ℕ) → Printed x → Printed y → x ≡ y)
+    → ((fault other : Fault) → Refusal fault → Refusal other → fault ≡ other)
+    → (answer : Result (Vec ℕ Z) Fault) → IsCaused Printed Refusal answer → IsExact Printed Refusal answer
+exact_answer Printed Refusal apart one_text one_cause answer is = record {
+  cause = is.cause;
+  refused = refused_answer Printed Refusal apart answer (λ bytes. bytes.items) is.printed is.cause one_cause;
+  printed = is.printed;
+  accepted = accepted_answer Printed Refusal apart answer (λ bytes. bytes.items) is.printed is.cause one_text;
+}

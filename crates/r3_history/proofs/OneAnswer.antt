@@ -1,5 +1,5 @@
 -- A run under a script has one answer.
-use Rattle.std.proofs.Common.{◌≡◌, ◌⊎◌, inl, inr, ℕ, List, Result, Ok, Err, IfOk, IfErr, sym, ◌∙◌, ap}
+use Rattle.std.proofs.Common.{◌≡◌, ℕ, List, Vec, Result, sym, ◌∙◌, ap}
 use Rattle.wasm_syntax.specs.declared.modules.Module.{Module}
 use Rattle.host_script.specs.declared.scripts.Script.{Script}
 use Rattle.history_spec.specs.Step.{StepResult}
@@ -7,7 +7,8 @@ use Rattle.history_spec.specs.Run.{Run, all_one, program_of, run_from}
 use Rattle.history_spec.specs.Budget.{HasOneResultAtMost}
 use Rattle.history_spec.specs.Line.{history_text}
 use Rattle.r3_faults.specs.declared.faults.Fault.{Fault}
-use Rattle.r3_faults.specs.declared.faults.Fault.TheVariants.{Memory}
+use Rattle.r3_faults.specs.Answers.{IsCaused, IsExact}
+use Rattle.r3_faults.proofs.OneAnswer.{exact_answer}
 use Rattle.accepted_runs.proofs.OneResult.{none-one, outcome-none, outcome-one, run-one, unlinked-one, unlinked-run, unlinked-started}
 use Rattle.r3_history.specs.Histories.{IsHistoryOf, IsUntold, OfLink, OfOutcome}
 
@@ -29,15 +30,8 @@ module _ (m : Module) (script : Script) (turns : ℕ) (one : (initial : StepResu
       ∙ ap (history_text i.run.history) (outcome-one m script turns one h.run i.run h.outcome i.outcome h.ends i.ends)
       ∙ sym i.lines
 
-  -- what an answer with its cause says of a reason why there is no history, and of the history
-  pub refused_answer : {T : Type 0} (r : Result T Fault) (lines : T → List ℕ) (fault : Fault) → IfOk r (λ x. IsHistoryOf m script turns (lines x)) → IfErr r (λ f. (f ≡ Memory) ⊎ IsUntold m script turns f)
-      → IsUntold m script turns fault → (r ≡ Err fault) ⊎ (r ≡ Err Memory)
-  refused_answer (Ok x) lines fault is cause untold = absurd (told-untold (lines x) fault is untold)
-  refused_answer (Err f) lines fault is (inl memory) untold = inr (ap Err memory)
-  refused_answer (Err f) lines fault is (inr other) untold = inl (ap Err (untold-one f fault other untold))
-
-  pub accepted_answer : {T : Type 0} (r : Result T Fault) (lines : T → List ℕ) (text : List ℕ) → IfOk r (λ x. IsHistoryOf m script turns (lines x)) → IfErr r (λ f. (f ≡ Memory) ⊎ IsUntold m script turns f)
-      → IsHistoryOf m script turns text → IfOk r (λ x. lines x ≡ text) × IfErr r (λ f. f ≡ Memory)
-  accepted_answer (Ok x) lines text is cause history = (told-one (lines x) text is history, tt)
-  accepted_answer (Err f) lines text is (inl memory) history = (tt, memory)
-  accepted_answer (Err f) lines text is (inr other) history = absurd (told-untold text f history other)
+  -- an answer with its cause is exact
+  pub exact : {Z : Type 0} (r : Result (Vec ℕ Z) Fault)
+      → IsCaused (IsHistoryOf m script turns) (IsUntold m script turns) r
+      → IsExact (IsHistoryOf m script turns) (IsUntold m script turns) r
+  exact = exact_answer (IsHistoryOf m script turns) (IsUntold m script turns) told-untold told-one untold-one

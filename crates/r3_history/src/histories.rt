@@ -1,9 +1,8 @@
 // `history`: the lines of a run.
 
-ghost use Rattle.std.specs.Prelude.{◌≡◌, ◌≤◌, ◌⊎◌, ℕ, List, Err, IfErr, IfOk, length};
+ghost use Rattle.std.specs.Prelude.{◌≤◌, length};
 ghost use Rattle.wasm_syntax.specs.declared.limits.TheConstants.{MOST_FILE_BYTES};
-ghost use Rattle.r3_faults.specs.declared.faults.Fault.{Fault};
-ghost use Rattle.r3_faults.specs.declared.faults.Fault.TheVariants.{Memory};
+ghost use Rattle.r3_faults.specs.Answers.{IsExact};
 ghost use Rattle.r3_history.specs.Histories.{IsHistory, IsHistoryRefusal};
 
 use crate::lines::history_of;
@@ -21,12 +20,8 @@ use std::alloc::Global;
 /// where it stands and none before it does. `Memory` comes where memory is out.
 pub fn history(alloc: Global, module: &[u8], script: &[u8], turns: u64) -> Result<Vec<u8>, Fault>
     requires { length «module».now ≤ MOST_FILE_BYTES }
-    ensures cause { IfErr result (λ fault. (fault ≡ Memory) ⊎ IsHistoryRefusal «module».now script.now turns fault) }
-    ensures refused { (fault : Fault) → IsHistoryRefusal «module».now script.now turns fault
-        → (result ≡ Err fault) ⊎ (result ≡ Err Memory) }
-    ensures printed { IfOk result (λ bytes. IsHistory «module».now script.now turns bytes.items) }
-    ensures accepted { (text : List ℕ) → IsHistory «module».now script.now turns text
-        → IfOk result (λ bytes. bytes.items ≡ text) × IfErr result (λ fault. fault ≡ Memory) }
+    ensures { IsExact (IsHistory «module».now script.now turns)
+        (IsHistoryRefusal «module».now script.now turns) result }
 {
     let (checked, script) = inputs_of(alloc, module, script)?;
     history_of(alloc, &checked, &script, turns)

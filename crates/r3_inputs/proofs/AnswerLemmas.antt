@@ -1,6 +1,7 @@
 -- What an answer that is a fault, or a value, says of another answer.
-use Rattle.std.proofs.Common.{◌≡◌, ◌⊎◌, inl, inr, Result, Ok, Err, IfErr, sym, ◌∙◌, ap, subst}
+use Rattle.std.proofs.Common.{◌≡◌, ◌⊎◌, inl, inr, ℕ, List, Vec, Result, Ok, Err, IfOk, IfErr, sym, ◌∙◌, ap, subst}
 use Rattle.std.specs.Result.{IsErrAnd}
+use Rattle.r3_faults.specs.Answers.{IsExact}
 use Rattle.r3_faults.specs.declared.faults.Fault.{Fault}
 use Rattle.r3_faults.specs.declared.faults.Fault.TheVariants.{Memory}
 
@@ -41,8 +42,34 @@ pub passed : {T : Type 0} (r : Result T Fault) (fault : Fault) (P : Fault → Ty
 passed (Ok x) fault P e p = tt
 passed (Err other) fault P e p = subst P (sym e) p
 
+-- what holds of values alone holds of it
+pub not-printed : {T : Type 0} (r : Result T Fault) (fault : Fault) (P : T → Type 0)
+    → IsErrAnd r (λ other. other ≡ fault) → IfOk r P
+not-printed (Ok x) fault P e = absurd e
+not-printed (Err other) fault P e = tt
+
 pub answer-passed : {T : Type 0} (r : Result T Fault) (fault wanted : Fault)
     → IsErrAnd r (λ other. other ≡ fault) → (fault ≡ wanted) ⊎ (fault ≡ Memory) → IsAnswer r wanted
 answer-passed (Ok x) fault wanted e either = absurd e
 answer-passed (Err other) fault wanted e (inl same) = inl (ap Err (e ∙ same))
 answer-passed (Err other) fault wanted e (inr memory) = inr (ap Err (e ∙ memory))
+
+-- a call whose first step answers a fault, which it passes on, is exact: the step is asked for a value by each text that
+-- may be printed
+pub passed_exact : {U Z : Type 0} (q : Result U Fault) (err : Fault) → q ≡ Err err
+    → (Printed : List ℕ → Type 0) (Refusal : Fault → Type 0) (r : Result (Vec ℕ Z) Fault)
+    → IsErrAnd r (λ other. other ≡ err) → (err ≡ Memory) ⊎ Refusal err
+    → ((fault : Fault) → Refusal fault → IsAnswer r fault)
+    → ((text : List ℕ) → Printed text → (x : U) × ((q ≡ Ok x) ⊎ (q ≡ Err Memory)))
+    → IsExact Printed Refusal r
+passed_exact q err is Printed Refusal r passes cause refused asks =
+    record {
+      cause = passed r err (λ fault. (fault ≡ Memory) ⊎ Refusal fault) passes cause;
+      refused = refused;
+      printed = not-printed r err (λ bytes. Printed bytes.items) passes;
+      accepted = λ text shown.
+          let asked = asks text shown in (
+            not-printed r err (λ bytes. bytes.items ≡ text) passes,
+            passed r err (λ other. other ≡ Memory) passes (memory-err q asked.0 err is asked.1),
+          );
+    }

@@ -48,6 +48,6 @@ fn summary_of(alloc: Global, module: &[u8], script: &[u8], turns: u64) -> Result
     ensures printed { IfOk result (λ bytes. IsSummaryFor «module».now script.now turns bytes.items) }
     ensures accepted { AreReplayable «module».now script.now turns → IfErr result (λ fault. fault ≡ Memory) }
 {
-    let (checked, script) = inputs_of(alloc, module, script)?;
-    lines_of(alloc, module, &checked, script, turns)
+    let (original, script) = inputs_of(alloc, module, script)?;
+    lines_of(alloc, module, &original, script, turns)
 }

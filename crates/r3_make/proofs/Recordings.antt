@@ -24,33 +24,25 @@ use Rattle.instrumented_sizes.specs.Laws.{InstrumentedAreShort, InstrumentedHave
 use Rattle.instrumented_valid.specs.Links.{InstrumentedAreFitted, InstrumentedAreInstantiated, InstrumentedAreRunnable, InstrumentedAreSupplied, renumbered_link, script_with_hooks}
 use Rattle.instrumented_follows.specs.Laws.{instrumented_of}
 use Rattle.run_recorder.specs.Records.{RecordedRun}
+use Rattle.record_laws.specs.Laws.{recorded_run}
 use Rattle.recorded_results.specs.Laws.{record_of}
 use Rattle.r3_make.specs.Records.{IsOriginal}
-
--- the run from a store, as it is recorded
-abbrev pub recorded : Module → Script → Store → Weighing → (imports turns : ℕ) → RecordedRun
-recorded hooked script store meter imports turns =
-    record {
-      run = hooked_run hooked script store meter imports turns;
-      shape = shape_of imports hooked;
-      opened = store;
-    }
 
 -- with what the instrumented module of a run's original is recorded with, it is that of the run
 pub recorded_same : (run : OriginalRun) (turns : ℕ) (hooked : Module) (script : Script) (store : Store)
     (meter : Weighing) (imports : ℕ)
     → hooked ≡ instrumented_of run → script ≡ script_with_hooks run.m run.script
     → store ≡ renumbered_view (imported_funcs run.m) run.store → meter ≡ Some (instrumented_weights run.m)
-    → imports ≡ imported_funcs run.m → recorded hooked script store meter imports turns ≡ record_of run turns
+    → imports ≡ imported_funcs run.m → recorded_run hooked script store meter imports turns ≡ record_of run turns
 recorded_same run turns hooked script store meter imports a b c d e =
-    ap (λ hooked. recorded hooked script store meter imports turns) a
-    ∙ ap (λ script. recorded (instrumented_of run) script store meter imports turns) b
-    ∙ ap (λ store. recorded (instrumented_of run) (script_with_hooks run.m run.script) store meter imports turns) c
+    ap (λ hooked. recorded_run hooked script store meter imports turns) a
+    ∙ ap (λ script. recorded_run (instrumented_of run) script store meter imports turns) b
+    ∙ ap (λ store. recorded_run (instrumented_of run) (script_with_hooks run.m run.script) store meter imports turns) c
     ∙ ap
-    (λ meter. recorded (instrumented_of run) (script_with_hooks run.m run.script)
+    (λ meter. recorded_run (instrumented_of run) (script_with_hooks run.m run.script)
     (renumbered_view (imported_funcs run.m) run.store) meter imports turns) d
     ∙ ap
-    (λ imports. recorded (instrumented_of run) (script_with_hooks run.m run.script)
+    (λ imports. recorded_run (instrumented_of run) (script_with_hooks run.m run.script)
     (renumbered_view (imported_funcs run.m) run.store) (Some (instrumented_weights run.m)) imports turns) e
 
 -- ---- a link has one answer

@@ -4,9 +4,8 @@ ghost use Rattle.std.specs.Prelude.{◌≡◌, ℕ, ◌+◌, ◌<◌, ◌≤◌,
 ghost use Rattle.std.specs.Option.{ForSome};
 ghost use Rattle.r3_outside.specs.Count.{Rose, Took, NoneFell};
 ghost use Rattle.r3_outside.specs.Contents.{file_bytes};
-ghost use Rattle.r3_outside.specs.declared.reading.LoadFault.TheVariants.{Failed as ReadFailed, Memory};
 
-use crate::{Failed, Files};
+use crate::Files;
 use std::alloc::{AllocError, Global};
 use thiserror::Error;
 
@@ -19,22 +18,6 @@ pub enum LoadFault {
     TooLong,
     #[error("out of memory")]
     Memory,
-}
-
-impl From<Failed> for LoadFault {
-    ghost from_gives = { λ _ fault. fault ≡ ReadFailed };
-
-    fn from(_failed: Failed) -> LoadFault {
-        LoadFault::Failed
-    }
-}
-
-impl From<AllocError> for LoadFault {
-    ghost from_gives = { λ _ fault. fault ≡ Memory };
-
-    fn from(_refused: AllocError) -> LoadFault {
-        LoadFault::Memory
-    }
 }
 
 /// The most bytes that `load` asks for in one call.
@@ -73,8 +56,27 @@ pub fn load<F: Files>(
         (λ told. limit < length (file_bytes told name.now)) }
 {
     let most = limit as usize;
-    let mut piece = zeros(alloc, PIECE.min(most + 1))?;
-    load_by_pieces(alloc, files, name, most, &mut piece)
+    let zeros = zeros(alloc, PIECE.min(most + 1));
+    let mut zeros = zeros.map_err(|_| LoadFault::Memory)?;
+    let piece = zeros.as_mut_slice();
+    let mut bytes = Vec::new(alloc);
+    'pieces: loop {
+        let room = most - bytes.len();
+        let wanted = piece.len().min(room + 1);
+        let count = match files.read_at(name, bytes.len() as u64, &mut piece[..wanted]) {
+            Ok(count) => count,
+            Err(_) => return Err(LoadFault::Failed),
+        };
+        if count == 0 {
+            return Ok(bytes);
+        }
+        if count > room {
+            return Err(LoadFault::TooLong);
+        }
+        let Ok(()) = bytes.extend_from_slice(&piece[..count]) else {
+            return Err(LoadFault::Memory);
+        };
+    }
 }
 
 /// A list of `count` zeros.
@@ -82,48 +84,4 @@ fn zeros(alloc: Global, count: usize) -> Result<Vec<u8>, AllocError>
     ensures { IfOk result (λ zeros. vec_len zeros ≡ count) }
 {
     vec![in alloc; 0; count]
-}
-
-/// Reads a whole file as `load` does, by calls that ask for at most `piece.len()` bytes.
-fn load_by_pieces<F: Files>(
-    alloc: Global,
-    files: &mut F,
-    name: &str,
-    limit: usize,
-    piece: &mut [u8],
-) -> Result<Vec<u8>, LoadFault>
-    requires small { limit ≤ 536870912 }
-    requires some { 0 < length piece.old }
-
-    ensures contents_unchanged { F.contents files.new ≡ F.contents files.old }
-    ensures faults_never_fall { NoneFell (F.faults files.old) (F.faults files.new) }
-    ensures taken_never_falls { NoneFell (F.taken files.old) (F.taken files.new) }
-
-    ensures within_limit { IfOk result (λ bytes. vec_len bytes ≤ limit) }
-    ensures loaded { IfOk result (λ bytes. ForSome (F.contents files.old)
-        (λ told. bytes.items ≡ file_bytes told name.now)) }
-    ensures not_longer { IfOk result (λ _. ForSome (F.contents files.old)
-        (λ told. length (file_bytes told name.now) ≤ limit)) }
-
-    ensures failed { IsErrOf result LoadFault.Failed →
-        Rose (F.faults files.old name.now) (F.faults files.new name.now) }
-
-    ensures too_long { IsErrOf result LoadFault.TooLong →
-        Took (F.taken files.old name.now) (F.taken files.new name.now) (limit + 1) }
-    ensures longer { IsErrOf result LoadFault.TooLong → ForSome (F.contents files.old)
-        (λ told. limit < length (file_bytes told name.now)) }
-{
-    let mut bytes = Vec::new(alloc);
-    'pieces: loop {
-        let room = limit - bytes.len();
-        let wanted = piece.len().min(room + 1);
-        let count = files.read_at(name, bytes.len() as u64, &mut piece[..wanted])?;
-        if count == 0 {
-            return Ok(bytes);
-        }
-        if count > room {
-            return Err(LoadFault::TooLong);
-        }
-        bytes.extend_from_slice(&piece[..count])?;
-    }
 }

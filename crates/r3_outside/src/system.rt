@@ -12,8 +12,8 @@ use std::{fs, io, rt};
 /// The files of the system, by the paths that their names are.
 ///
 /// The last file that was read stays open, so that a file read front to back is opened once and
-/// never sought in. A file that is missing, may not be read or is a directory answers `Failed`, and
-/// so does a name for which there is no memory.
+/// never sought in. A file for whose name there is no memory is opened anew for each read. One that
+/// is missing, may not be read or is a directory answers `Failed`.
 #[derive(Drop)]
 pub struct DiskFiles<R: rt::Files + AllocGlobal + Drop> {
     reader: Reader<R>,
@@ -79,7 +79,7 @@ impl<R: rt::Files + AllocGlobal + Drop> Reader<R> {
         ensures { IfOk result (λ k. k ≤ length into.new) }
     {
         let mut file = match self.last.take() {
-            Some(file) if file.name.as_str() == name => file,
+            Some(file) if file.is_named(name) => file,
             _ => self.open(name)?,
         };
         let count = file.read_at(at, into)?;
@@ -90,22 +90,28 @@ impl<R: rt::Files + AllocGlobal + Drop> Reader<R> {
     /// Opens a file at its beginning.
     fn open(&self, name: &str) -> io::Result<OpenFile<R::File>> {
         Ok(OpenFile {
-            name: String::from_str(self.rt.alloc(), name)?,
+            name: String::from_str(self.rt.alloc(), name).ok(),
             file: fs::open(&self.rt, name)?,
             place: 0,
         })
     }
 }
 
-/// A file of the system with the place at which it goes on.
+/// A file of the system with the place at which it goes on, and with its name where there was memory
+/// for it.
 #[derive(Drop)]
 struct OpenFile<F: Read + Seek + Drop> {
-    name: String,
+    name: Option<String>,
     file: F,
     place: u64,
 }
 
 impl<F: Read + Seek + Drop> OpenFile<F> {
+    /// Whether it is known to have this name.
+    fn is_named(&self, name: &str) -> bool {
+        self.name.as_deref() == Some(name)
+    }
+
     /// Reads at a place, which is sought only where the file stands elsewhere.
     fn read_at(&mut self, at: u64, into: &mut [u8]) -> io::Result<usize>
         ensures { IfOk result (λ k. k ≤ length into.new) }

@@ -4,9 +4,8 @@ ghost use Rattle.std.specs.Prelude.{◌≡◌, ℕ, ◌≤◌, List, map, OnOk, 
 ghost use Rattle.std.specs.List.{flat_map};
 ghost use Rattle.r3_outside.specs.Count.{Rose};
 ghost use Rattle.r3_outside.specs.Growth.{Grew, GrewByPrefix};
-ghost use Rattle.r3_outside.specs.declared.writing.PutFault.TheVariants.{Failed as WriteFailed};
 
-use crate::{Failed, Sink};
+use crate::Sink;
 use thiserror::Error;
 
 /// Why bytes were not written whole.
@@ -14,14 +13,6 @@ use thiserror::Error;
 pub enum PutFault {
     #[error("a write failed")]
     Failed,
-}
-
-impl From<Failed> for PutFault {
-    ghost from_gives = { λ _ fault. fault ≡ WriteFailed };
-
-    fn from(_failed: Failed) -> PutFault {
-        PutFault::Failed
-    }
 }
 
 /// Writes all of `bytes`, by as many calls as it needs, and takes no memory.
@@ -37,7 +28,10 @@ pub fn put_all<S: Sink>(sink: &mut S, bytes: &[u8]) -> Result<(), PutFault>
 {
     let mut done = 0;
     'pieces: while done < bytes.len() {
-        done += sink.write(&bytes[done..])?;
+        match sink.write(&bytes[done..]) {
+            Ok(count) => done += count,
+            Err(_) => return Err(PutFault::Failed),
+        }
     }
     Ok(())
 }

@@ -1,5 +1,5 @@
 -- The run of a module in the hooked form under the script that bytes are has one answer.
-use Rattle.std.proofs.Common.{◌≡◌, ◌⊎◌, inl, inr, ℕ, List, Option, Some, None, Result, Ok, Err, IfOk, IfErr, sym, ◌∙◌, ap, subst}
+use Rattle.std.proofs.Common.{◌≡◌, ℕ, List, Vec, Option, Some, None, Result, Ok, Err, sym, ◌∙◌, ap, subst}
 use Rattle.wasm_syntax.specs.declared.modules.Module.{Module}
 use Rattle.host_script.specs.declared.scripts.Script.{Script}
 use Rattle.script_text.specs.Texts.{script_of_text}
@@ -14,7 +14,8 @@ use Rattle.run_recorder.specs.Records.{RecordedRun, IsLog}
 use Rattle.record_laws.specs.Laws.{RecordsAreOne}
 use Rattle.accepted_runs.proofs.OneResult.{linked-unlinked, one-store, unlinked-one}
 use Rattle.r3_faults.specs.declared.faults.Fault.{Fault}
-use Rattle.r3_faults.specs.declared.faults.Fault.TheVariants.{Memory}
+use Rattle.r3_faults.specs.Answers.{IsCaused, IsExact}
+use Rattle.r3_faults.proofs.OneAnswer.{exact_answer}
 use Rattle.r3_inputs.specs.Inputs.{IsRefusedScript, script_fault}
 use Rattle.r3_record.specs.LogFiles.{HasLogFile, HasNoLogFile, OfLink, OfRun, HasModuleLog, HasNoModuleLog, OfForm, OfScript, OfLog, IsRefusal, record_fault, run_of}
 
@@ -155,19 +156,8 @@ module _ (one : RecordsAreOne) (m : Module) (turns : ℕ) where
         (same-form (λ form. HasNoLogFile m form script turns g) form other has_form has_too
         (same-script (λ script. HasNoLogFile m other script turns g) script text is_script is_text too))
 
-    -- what an answer with its cause says of a reason why there is no file, and of the file
-    pub refused_answer : {T : Type 0} (r : Result T Fault) (bytes_of : T → List ℕ) (fault : Fault)
-        → IfOk r (λ x. HasModuleLog m bytes turns (bytes_of x))
-        → IfErr r (λ f. (f ≡ Memory) ⊎ HasNoModuleLog m bytes turns f) → HasNoModuleLog m bytes turns fault
-        → (r ≡ Err fault) ⊎ (r ≡ Err Memory)
-    refused_answer (Ok x) bytes_of fault is cause none = absurd (module-none (bytes_of x) fault is none)
-    refused_answer (Err f) bytes_of fault is (inl memory) none = inr (ap Err memory)
-    refused_answer (Err f) bytes_of fault is (inr other) none = inl (ap Err (why-one f fault other none))
-
-    pub accepted_answer : {T : Type 0} (r : Result T Fault) (bytes_of : T → List ℕ) (file : List ℕ)
-        → IfOk r (λ x. HasModuleLog m bytes turns (bytes_of x))
-        → IfErr r (λ f. (f ≡ Memory) ⊎ HasNoModuleLog m bytes turns f) → HasModuleLog m bytes turns file
-        → IfOk r (λ x. bytes_of x ≡ file) × IfErr r (λ f. f ≡ Memory)
-    accepted_answer (Ok x) bytes_of file is cause logged = (module-one (bytes_of x) file is logged, tt)
-    accepted_answer (Err f) bytes_of file is (inl memory) logged = (tt, memory)
-    accepted_answer (Err f) bytes_of file is (inr other) logged = absurd (module-none file f logged other)
+    -- an answer with its cause is exact
+    pub exact : {Z : Type 0} (r : Result (Vec ℕ Z) Fault)
+        → IsCaused (HasModuleLog m bytes turns) (HasNoModuleLog m bytes turns) r
+        → IsExact (HasModuleLog m bytes turns) (HasNoModuleLog m bytes turns) r
+    exact = exact_answer (HasModuleLog m bytes turns) (HasNoModuleLog m bytes turns) module-none module-one why-one

@@ -1,13 +1,17 @@
 -- The file of the log of the run of a module in the hooked form under a script, or why there is none.
 use Rattle.std.specs.Prelude.{◌≡◌, ◌≢◌, ℕ, List, Some, None, Ok}
 use Rattle.wasm_syntax.specs.declared.modules.Module.{Module}
+use Rattle.wasm_syntax.specs.Profile.{IsSupported}
+use Rattle.wasm_flat.specs.Sizes.{IsShort}
 use Rattle.host_script.specs.declared.scripts.Script.{Script}
 use Rattle.host_script.specs.declared.scripts.Supply.{Supply}
+use Rattle.host_script.specs.Fits.{Fits}
 use Rattle.script_text.specs.Texts.{script_of_text}
 use Rattle.trace_model.specs.declared.events.Log.{Log}
 use Rattle.trace_bytes.specs.declared.tags.TheConstants.{VERSION_2}
 use Rattle.trace_bytes.specs.Spelling.{log_bytes}
 use Rattle.history_spec.specs.Store.{Store}
+use Rattle.type_safety.specs.Supplies.{HasBytes}
 use Rattle.hook_spec.specs.HookedForm.{HookedForm, hooked_form}
 use Rattle.host_play.specs.declared.results.PlayFault.{PlayFault}
 use Rattle.host_play.specs.declared.results.PlayFault.TheVariants as refusal
@@ -19,6 +23,20 @@ use Rattle.r3_faults.specs.declared.faults.Fault.{Fault}
 use Rattle.r3_faults.specs.declared.faults.Fault.TheVariants.{Script as ScriptFault, Spent, Memory, NotHooked, HookOrder}
 use Rattle.r3_inputs.specs.declared.module_files.ModuleFile.TheVariants.{Instrumented}
 use Rattle.r3_inputs.specs.Inputs.{IsModuleIn, IsRefusedIn, IsRefusedScript}
+
+-- ---- what is taken for granted
+
+-- of an accepted module
+pub record IsAccepted (m : Module) : Type 0 where
+  pub supported : IsSupported m
+  pub short : IsShort m
+  pub bytes : HasBytes m
+
+-- of a module in the hooked form under a script
+pub record CanBeRecorded (m : Module) (form : HookedForm) (script : Script) : Type 0 where
+  pub accepted : IsAccepted m
+  pub has_form : hooked_form m ≡ Some form
+  pub fits : Fits m script
 
 -- ---- the run of a module in the hooked form under a script
 

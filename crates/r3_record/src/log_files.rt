@@ -1,8 +1,7 @@
 // `record`: the file of the log of a run.
 
-ghost use Rattle.std.specs.Prelude.{◌≡◌, ◌≤◌, ◌⊎◌, ℕ, List, Err, IfErr, IfOk, length};
-ghost use Rattle.r3_faults.specs.declared.faults.Fault.{Fault};
-ghost use Rattle.r3_faults.specs.declared.faults.Fault.TheVariants.{Memory};
+ghost use Rattle.std.specs.Prelude.{◌≤◌, length};
+ghost use Rattle.r3_faults.specs.Answers.{IsExact};
 ghost use Rattle.r3_inputs.specs.declared.module_files.TheConstants.{MOST_INSTRUMENTED_BYTES};
 ghost use Rattle.r3_record.specs.LogFiles.{IsLogFile, IsLogRefusal};
 
@@ -23,12 +22,7 @@ use std::alloc::Global;
 /// comes where memory is out.
 pub fn log_run(alloc: Global, hooked: &[u8], script: &[u8], turns: u64) -> Result<Vec<u8>, Fault>
     requires { length hooked.now ≤ MOST_INSTRUMENTED_BYTES }
-    ensures cause { IfErr result (λ fault. (fault ≡ Memory) ⊎ IsLogRefusal hooked.now script.now turns fault) }
-    ensures refused { (fault : Fault) → IsLogRefusal hooked.now script.now turns fault
-        → (result ≡ Err fault) ⊎ (result ≡ Err Memory) }
-    ensures printed { IfOk result (λ bytes. IsLogFile hooked.now script.now turns bytes.items) }
-    ensures accepted { (file : List ℕ) → IsLogFile hooked.now script.now turns file
-        → IfOk result (λ bytes. bytes.items ≡ file) × IfErr result (λ fault. fault ≡ Memory) }
+    ensures { IsExact (IsLogFile hooked.now script.now turns) (IsLogRefusal hooked.now script.now turns) result }
 {
     let checked = module_in(alloc, ModuleFile::Instrumented, hooked)?;
     log_file(alloc, &checked, script, turns)

@@ -1,22 +1,17 @@
 // The file of the log of the run of a module in the hooked form under a script.
 
-ghost use Rattle.std.specs.Prelude.{◌≡◌, ◌⊎◌, Some, Ok, IfErr, IfOk};
-ghost use Rattle.wasm_syntax.specs.Profile.{IsSupported};
-ghost use Rattle.wasm_flat.specs.Sizes.{IsShort};
-ghost use Rattle.host_script.specs.Fits.{Fits};
+ghost use Rattle.std.specs.Prelude.{◌≡◌, ◌⊎◌, Ok, IfErr, IfOk};
 ghost use Rattle.history_spec.specs.Instantiation.{instantiate};
 ghost use Rattle.type_safety.specs.Stores.{IsStore};
-ghost use Rattle.type_safety.specs.Supplies.{HasBytes};
 ghost use Rattle.accepted_runs.specs.Linked.{IsLinked};
 ghost use Rattle.trace_bytes.specs.declared.tags.TheConstants.{VERSION_2};
 ghost use Rattle.trace_bytes.specs.Spelling.{log_bytes};
 ghost use Rattle.trace_bytes.specs.Spelled.{FitEvents};
-ghost use Rattle.hook_spec.specs.HookedForm.{hooked_form};
 ghost use Rattle.hook_insert.specs.Forms.{form_of};
 ghost use Rattle.host_play.specs.HookedResults.{HasHooksAfter};
 ghost use Rattle.run_recorder.specs.Records.{IsLog};
 ghost use Rattle.r3_faults.specs.declared.faults.Fault.TheVariants.{Memory};
-ghost use Rattle.r3_record.specs.LogFiles.{HasLogFile, HasNoLogFile, IsRefusal, record_fault, run_of};
+ghost use Rattle.r3_record.specs.LogFiles.{CanBeRecorded, HasLogFile, HasNoLogFile, IsRefusal, record_fault, run_of};
 
 use accepted_runs::supply_and_store;
 use hook_insert::HookedForm;
@@ -33,75 +28,72 @@ use wasm_flatten::flatten;
 use wasm_store::Store;
 use wasm_validate::Checked;
 
-/// The file of the log of a module's run under a script that fits it.
-pub(crate) fn run_file(
-    alloc: Global,
-    checked: &Checked,
-    form: HookedForm,
-    script: &Script,
-    turns: u64,
-) -> Result<Vec<u8>, Fault>
-    requires form { hooked_form checked.now ≡ Some (form_of form) }
-    requires supported { IsSupported checked.now }
-    requires short { IsShort checked.now }
-    requires bytes { HasBytes checked.now }
-    requires fits { Fits checked.now script.now }
+/// A module in the hooked form under a script that fits it, and the most turns that its run may take.
+#[derive(Clone, Copy)]
+pub(crate) struct HookedRun<'a> {
+    pub(crate) checked: &'a Checked,
+    pub(crate) form: HookedForm,
+    pub(crate) script: &'a Script,
+    pub(crate) turns: u64,
+}
+
+/// The file of the log of a run.
+pub(crate) fn run_file(alloc: Global, run: HookedRun<'_>) -> Result<Vec<u8>, Fault>
+    requires { CanBeRecorded run.checked.now (form_of run.form) run.script.now }
     ensures cause { IfErr result (λ fault. (fault ≡ Memory)
-        ⊎ HasNoLogFile checked.now (form_of form) script.now turns fault) }
-    ensures printed { IfOk result (λ bytes. HasLogFile checked.now (form_of form) script.now turns bytes.items) }
+        ⊎ HasNoLogFile run.entry.checked.now (form_of run.entry.form) run.entry.script.now run.entry.turns fault) }
+    ensures printed { IfOk result (λ bytes.
+        HasLogFile run.entry.checked.now (form_of run.entry.form) run.entry.script.now run.entry.turns bytes.items) }
 {
-    let (supply, store) = supply_and_store(alloc, checked, script)?;
-    log_from(alloc, checked, form, script, &supply, store, turns)
+    let (supply, store) = supply_and_store(alloc, run.checked, run.script)?;
+    log_from(alloc, run, &supply, store)
 }
 
 /// The file of the log of the run from its store.
 fn log_from(
     alloc: Global,
-    checked: &Checked,
-    form: HookedForm,
-    script: &Script,
+    run: HookedRun<'_>,
     supply: &Supply,
     store: Store,
-    turns: u64,
 ) -> Result<Vec<u8>, Fault>
-    requires form { hooked_form checked.now ≡ Some (form_of form) }
-    requires supported { IsSupported checked.now }
-    requires short { IsShort checked.now }
-    requires bytes { HasBytes checked.now }
-    requires fits { Fits checked.now script.now }
-    requires typed { IsStore checked.now store }
-    requires linked { IsLinked checked.now script.now supply.now store }
+    requires run { CanBeRecorded run.checked.now (form_of run.form) run.script.now }
+    requires typed { IsStore run.checked.now store }
+    requires linked { IsLinked run.checked.now run.script.now supply.now store }
     ensures cause { IfErr result (λ fault. (fault ≡ Memory)
-        ⊎ HasNoLogFile checked.now (form_of form) script.now turns fault) }
-    ensures printed { IfOk result (λ bytes. HasLogFile checked.now (form_of form) script.now turns bytes.items) }
+        ⊎ HasNoLogFile run.entry.checked.now (form_of run.entry.form) run.entry.script.now run.entry.turns fault) }
+    ensures printed { IfOk result (λ bytes.
+        HasLogFile run.entry.checked.now (form_of run.entry.form) run.entry.script.now run.entry.turns bytes.items) }
 {
     logs_have_spellings();
-    let _valid = checked.module();
-    let log = recorded_log(alloc, checked, form, script, supply, store, turns)?;
-    file_bytes(alloc, form, &log)
+    let _valid = run.checked.module();
+    let log = recorded_log(alloc, run, supply, store)?;
+    file_bytes(alloc, run.form, &log)
 }
 
 /// The log of the run from its store.
 fn recorded_log(
     alloc: Global,
-    checked: &Checked,
-    form: HookedForm,
-    script: &Script,
+    run: HookedRun<'_>,
     supply: &Supply,
     store: Store,
-    turns: u64,
 ) -> Result<Log, Fault>
-    requires hooked { HasHooksAfter checked.now form.imports }
-    requires supported { IsSupported checked.now }
-    requires short { IsShort checked.now }
-    requires fits { Fits checked.now script.now }
-    requires typed { IsStore checked.now store }
-    requires opens { instantiate checked.now supply.now ≡ Ok store }
+    requires hooked { HasHooksAfter run.checked.now run.form.imports }
+    requires run { CanBeRecorded run.checked.now (form_of run.form) run.script.now }
+    requires typed { IsStore run.checked.now store }
+    requires opens { instantiate run.checked.now supply.now ≡ Ok store }
     ensures cause { IfErr result (λ fault. (fault ≡ Memory)
-        ⊎ IsRefusal (run_of checked.now (form_of form) script.now store turns) turns fault) }
+        ⊎ IsRefusal (run_of run.entry.checked.now (form_of run.entry.form) run.entry.script.now store run.entry.turns)
+        run.entry.turns fault) }
     ensures logged { IfOk result (λ log.
-        IsLog (run_of checked.now (form_of form) script.now store turns) log.outcome log) }
+        IsLog (run_of run.entry.checked.now (form_of run.entry.form) run.entry.script.now store run.entry.turns)
+        log.outcome log) }
 {
+    let HookedRun {
+        checked,
+        form,
+        script,
+        turns,
+    } = run;
     let meter = Meter::all_one();
     let play = Play {
         code: checked.module(),

@@ -1,11 +1,11 @@
 // `reduce`: the file of the tape of a log's file.
 
-ghost use Rattle.std.specs.Prelude.{◌≡◌, ◌⊎◌, ℕ, List, Err, IfOk, IfErr, MatchResult};
+ghost use Rattle.std.specs.Prelude.{◌≡◌, ◌⊎◌, IfOk, IfErr, MatchResult};
 ghost use Rattle.trace_model.specs.declared.events.Log.{Log};
 ghost use Rattle.trace_bytes.specs.declared.tags.TheConstants.{VERSION_2};
 ghost use Rattle.trace_bytes.specs.Spelled.{SpellsTape};
 ghost use Rattle.trace_format.specs.Faults.{IsLogFault};
-ghost use Rattle.r3_faults.specs.declared.faults.Fault.{Fault};
+ghost use Rattle.r3_faults.specs.Answers.{IsCaused, IsExact};
 ghost use Rattle.r3_faults.specs.declared.faults.Fault.TheVariants.{Memory};
 ghost use Rattle.r3_reduce.specs.Reduced.{HasTakenLog, IsReduced, IsReduceRefusal, IsTaken, IsTapeFile, IsUnbalanced};
 
@@ -27,12 +27,7 @@ use trace_reduce::{Reducer, ReducerFault};
 /// that is out of order, or their number where only the outcome is; each exactly where it stands.
 /// `Memory` comes where memory is out.
 pub fn reduce_log(alloc: Global, log: &[u8]) -> Result<Vec<u8>, Fault>
-    ensures cause { IfErr result (λ fault. (fault ≡ Memory) ⊎ IsReduceRefusal log.now fault) }
-    ensures refused { (fault : Fault) → IsReduceRefusal log.now fault
-        → (result ≡ Err fault) ⊎ (result ≡ Err Memory) }
-    ensures printed { IfOk result (λ bytes. IsReduced log.now bytes.items) }
-    ensures accepted { (file : List ℕ) → IsReduced log.now file
-        → IfOk result (λ bytes. bytes.items ≡ file) × IfErr result (λ fault. fault ≡ Memory) }
+    ensures { IsExact (IsReduced log.now) (IsReduceRefusal log.now) result }
 {
     log_files();
     log_tape_is_one();
@@ -41,8 +36,7 @@ pub fn reduce_log(alloc: Global, log: &[u8]) -> Result<Vec<u8>, Fault>
 
 /// The same, with what is printed or why nothing is.
 fn reduced_file(alloc: Global, bytes: &[u8]) -> Result<Vec<u8>, Fault>
-    ensures cause { IfErr result (λ fault. (fault ≡ Memory) ⊎ IsReduceRefusal bytes.now fault) }
-    ensures printed { IfOk result (λ file. IsReduced bytes.now file.items) }
+    ensures { IsCaused (IsReduced bytes.now) (IsReduceRefusal bytes.now) result }
 {
     match read_events(alloc, bytes) {
         Ok((digest, reducer, outcome)) => tape_file(alloc, &digest, reducer, outcome),

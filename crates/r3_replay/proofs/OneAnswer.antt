@@ -1,9 +1,8 @@
 -- The run of a replay module has one answer.
-use Rattle.std.proofs.Common.{◌≡◌, ◌≢◌, ◌⊎◌, inl, inr, ℕ, List, Option, Some, Result, Ok, Err, IfOk, IfErr, refl, sym, ◌∙◌, ap, subst}
+use Rattle.std.proofs.Common.{◌≡◌, ◌≢◌, ℕ, List, Vec, Option, Some, Result, Ok, Err, refl, sym, ◌∙◌, ap, subst}
 use Rattle.wasm_syntax.specs.declared.modules.Module.{Module}
 use Rattle.host_script.specs.declared.scripts.LinkFault.{LinkFault}
 use Rattle.host_script.specs.declared.scripts.LinkFault.TheVariants as link
-use Rattle.run_outcomes.specs.declared.outcomes.Outcome.{Outcome}
 use Rattle.history_spec.specs.Budget as budget
 use Rattle.history_spec.specs.Budget.{HasOneResultAtMost, IsResult}
 use Rattle.history_spec.specs.Instantiation.{instantiate}
@@ -11,7 +10,7 @@ use Rattle.history_spec.specs.Line.{history_text}
 use Rattle.history_spec.specs.Projection.{Layout, Projection, projection}
 use Rattle.history_spec.specs.Replay.{alone, entry_function, instructions, program_alone, run_start_alone, start_alone_or_fault}
 use Rattle.history_spec.specs.Run.{Run, run_from}
-use Rattle.history_spec.specs.Step.{Finished, Progress, StepResult}
+use Rattle.history_spec.specs.Step.{StepResult}
 use Rattle.history_spec.specs.Store.{Store}
 use Rattle.host_play.specs.declared.results.Told.{Told}
 use Rattle.replay_form.specs.Forms.{HasEntry, HasLayout}
@@ -19,22 +18,15 @@ use Rattle.replay_run.specs.declared.results.ReplayFault.{ReplayFault}
 use Rattle.replay_run.specs.declared.results.ReplayFault.TheVariants as replay
 use Rattle.replay_run.specs.Results.{IsUnlinked, RefusesReplay, TellsReplay}
 use Rattle.r3_faults.specs.declared.faults.Fault.{Fault}
-use Rattle.r3_faults.specs.declared.faults.Fault.TheVariants.{Memory}
+use Rattle.r3_faults.specs.Answers.{IsCaused, IsExact}
+use Rattle.r3_faults.proofs.OneAnswer.{exact_answer}
+use Rattle.accepted_runs.proofs.OneResult.{over-spent, same-outcome, same-run}
 use Rattle.r3_replay.specs.ReplayTexts.{HasNoReplayText, HasReplayText, replay_fault}
 
 -- ---- values that differ, and that are the same
 
 same-some : (o : Option ℕ) (a b : ℕ) → o ≡ Some a → o ≡ Some b → a ≡ b
 same-some o a b e f = cc (sym e ∙ f)
-
-same-run : (a b : Run) → budget.Over a ≡ budget.Over b → a ≡ b
-same-run a b e = cc e
-
-over-spent : (a : Run) → budget.Over a ≡ budget.Spent → ⊥
-over-spent a e = cc e
-
-same-outcome : (at : Progress) (a b : Outcome) → at ≡ Finished a → at ≡ Finished b → a ≡ b
-same-outcome at a b e f = cc (sym e ∙ f)
 
 same-segment : (r : Result Store LinkFault) (a b : ℕ) → r ≡ Err (link.Segment a) → r ≡ Err (link.Segment b) → a ≡ b
 same-segment r a b e f = cc (sym e ∙ f)
@@ -133,15 +125,7 @@ module _ (m : Module) (turns : ℕ) (layout-one : (a b : Layout) → HasLayout m
   text-none : (text : List ℕ) (fault : Fault) → HasReplayText m turns text → HasNoReplayText m turns fault → ⊥
   text-none text fault x y = told-none x.told y.found y.differs x.tells y.refused
 
-  -- what an answer with its cause says of a reason why there are no lines, and of the lines
-  pub refused_answer : {T : Type 0} (r : Result T Fault) (lines : T → List ℕ) (fault : Fault) → IfOk r (λ x. HasReplayText m turns (lines x)) → IfErr r (λ f. (f ≡ Memory) ⊎ HasNoReplayText m turns f)
-      → HasNoReplayText m turns fault → (r ≡ Err fault) ⊎ (r ≡ Err Memory)
-  refused_answer (Ok x) lines fault is cause none = absurd (text-none (lines x) fault is none)
-  refused_answer (Err f) lines fault is (inl memory) none = inr (ap Err memory)
-  refused_answer (Err f) lines fault is (inr other) none = inl (ap Err (none-one f fault other none))
-
-  pub accepted_answer : {T : Type 0} (r : Result T Fault) (lines : T → List ℕ) (text : List ℕ) → IfOk r (λ x. HasReplayText m turns (lines x)) → IfErr r (λ f. (f ≡ Memory) ⊎ HasNoReplayText m turns f)
-      → HasReplayText m turns text → IfOk r (λ x. lines x ≡ text) × IfErr r (λ f. f ≡ Memory)
-  accepted_answer (Ok x) lines text is cause shown = (text-one (lines x) text is shown, tt)
-  accepted_answer (Err f) lines text is (inl memory) shown = (tt, memory)
-  accepted_answer (Err f) lines text is (inr other) shown = absurd (text-none text f shown other)
+  -- an answer with its cause is exact
+  pub exact : {Z : Type 0} (r : Result (Vec ℕ Z) Fault)
+      → IsCaused (HasReplayText m turns) (HasNoReplayText m turns) r → IsExact (HasReplayText m turns) (HasNoReplayText m turns) r
+  exact = exact_answer (HasReplayText m turns) (HasNoReplayText m turns) text-none text-one none-one

@@ -1,10 +1,9 @@
 // `replay`: the lines of what a replay module shows.
 
-ghost use Rattle.std.specs.Prelude.{◌≡◌, ◌≤◌, ◌⊎◌, ℕ, List, Err, IfErr, IfOk, length};
-ghost use Rattle.r3_faults.specs.declared.faults.Fault.{Fault};
-ghost use Rattle.r3_faults.specs.declared.faults.Fault.TheVariants.{Memory};
+ghost use Rattle.std.specs.Prelude.{◌≤◌, length};
+ghost use Rattle.r3_faults.specs.Answers.{IsExact};
 ghost use Rattle.r3_inputs.specs.declared.module_files.TheConstants.{MOST_REPLAY_BYTES};
-ghost use Rattle.r3_replay.specs.ReplayTexts.{IsReplayText, IsReplayRefusal};
+ghost use Rattle.r3_replay.specs.ReplayTexts.{IsReplayRefusal, IsReplayText};
 
 use crate::texts::text_of;
 use r3_faults::Fault;
@@ -22,12 +21,7 @@ use std::alloc::Global;
 /// where memory is out.
 pub fn replay_text(alloc: Global, binary: &[u8], turns: u64) -> Result<Vec<u8>, Fault>
     requires { length binary.now ≤ MOST_REPLAY_BYTES }
-    ensures cause { IfErr result (λ fault. (fault ≡ Memory) ⊎ IsReplayRefusal binary.now turns fault) }
-    ensures refused { (fault : Fault) → IsReplayRefusal binary.now turns fault
-        → (result ≡ Err fault) ⊎ (result ≡ Err Memory) }
-    ensures printed { IfOk result (λ bytes. IsReplayText binary.now turns bytes.items) }
-    ensures accepted { (text : List ℕ) → IsReplayText binary.now turns text
-        → IfOk result (λ bytes. bytes.items ≡ text) × IfErr result (λ fault. fault ≡ Memory) }
+    ensures { IsExact (IsReplayText binary.now turns) (IsReplayRefusal binary.now turns) result }
 {
     let checked = module_in(alloc, ModuleFile::Replay, binary)?;
     text_of(alloc, &checked, turns)

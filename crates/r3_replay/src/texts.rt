@@ -1,11 +1,10 @@
 // The lines of what the run of an accepted replay module shows.
 
-ghost use Rattle.std.specs.Prelude.{◌≡◌, ◌⊎◌, ℕ, List, Err, IfErr, IfOk};
+ghost use Rattle.std.specs.Prelude.{◌≡◌};
 ghost use Rattle.wasm_syntax.specs.Profile.{IsSupported};
 ghost use Rattle.wasm_flat.specs.Sizes.{IsShort};
 ghost use Rattle.type_safety.specs.Supplies.{HasBytes};
-ghost use Rattle.r3_faults.specs.declared.faults.Fault.{Fault};
-ghost use Rattle.r3_faults.specs.declared.faults.Fault.TheVariants.{Memory};
+ghost use Rattle.r3_faults.specs.Answers.{IsCaused, IsExact};
 ghost use Rattle.r3_replay.specs.ReplayTexts.{HasNoReplayText, HasReplayText, replay_fault};
 
 use history_spec::runs_have_one_result_at_most;
@@ -20,12 +19,7 @@ pub(crate) fn text_of(alloc: Global, checked: &Checked, turns: u64) -> Result<Ve
     requires supported { IsSupported checked.now }
     requires short { IsShort checked.now }
     requires bytes { HasBytes checked.now }
-    ensures cause { IfErr result (λ fault. (fault ≡ Memory) ⊎ HasNoReplayText checked.now turns fault) }
-    ensures refused { (fault : Fault) → HasNoReplayText checked.now turns fault
-        → (result ≡ Err fault) ⊎ (result ≡ Err Memory) }
-    ensures printed { IfOk result (λ bytes. HasReplayText checked.now turns bytes.items) }
-    ensures accepted { (text : List ℕ) → HasReplayText checked.now turns text
-        → IfOk result (λ bytes. bytes.items ≡ text) × IfErr result (λ fault. fault ≡ Memory) }
+    ensures { IsExact (HasReplayText checked.now turns) (HasNoReplayText checked.now turns) result }
 {
     layouts_are_one();
     runs_have_one_result_at_most();
@@ -37,8 +31,7 @@ fn told_text(alloc: Global, checked: &Checked, turns: u64) -> Result<Vec<u8>, Fa
     requires supported { IsSupported checked.now }
     requires short { IsShort checked.now }
     requires bytes { HasBytes checked.now }
-    ensures cause { IfErr result (λ fault. (fault ≡ Memory) ⊎ HasNoReplayText checked.now turns fault) }
-    ensures printed { IfOk result (λ bytes. HasReplayText checked.now turns bytes.items) }
+    ensures { IsCaused (HasReplayText checked.now turns) (HasNoReplayText checked.now turns) result }
 {
     match replay(alloc, checked, turns) {
         Ok(told) => Ok(told.text.into_vec()),

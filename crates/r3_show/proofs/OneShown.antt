@@ -1,49 +1,18 @@
 -- Bytes are shown in one way, or refused in one way.
-use Rattle.std.proofs.Common.{◌≡◌, ℕ, inl, inr, List, ◌∷◌, ◌++◌, Bool, true, false, refl, sym, ◌∙◌, ap, subst, append_assoc, arith}
-use Rattle.std.proofs.lemmas.List.{append_cancel_left}
-use Rattle.leb_bytes.specs.Unsigned.{u32_bytes}
+use Rattle.std.proofs.Common.{◌≡◌, ℕ, inl, inr, List, Bool, true, false, Result, Vec, refl, sym, ◌∙◌, ap, arith}
 use Rattle.trace_model.specs.declared.events.Log.{Log}
 use Rattle.trace_model.specs.declared.tapes.Tape.{Tape}
 use Rattle.trace_bytes.specs.declared.tags.TheConstants.{LOG_MAGIC, TAPE_MAGIC}
-use Rattle.trace_bytes.specs.Spelling.{header_bytes, log_bytes, tape_bytes}
-use Rattle.trace_bytes.specs.Spelled.{IsVersion}
 use Rattle.trace_format.specs.Faults.{IsFaultOf, IsFaultPlace, IsLogFront, IsLogOf, IsOtherVersion, IsTapeFront, IsTapeOf}
 use Rattle.trace_format.specs.Laws.{LogsAreToldApart, TapesAreToldApart}
 use Rattle.trace_format.specs.Text.{log_text, tape_text}
 use Rattle.trace_format.specs.declared.files.FormatFault.{FormatFault}
 use Rattle.trace_format.specs.declared.files.FormatFault.TheVariants.{Version, Bad, Memory}
+use Rattle.trace_format.proofs.Versions.{fifth_same, log_version, tape_version}
+use Rattle.r3_faults.specs.Answers.{IsCaused, IsExact}
 use Rattle.r3_faults.specs.declared.faults.Fault.{Fault}
+use Rattle.r3_faults.proofs.OneAnswer.{exact_answer}
 use Rattle.r3_show.specs.Shown.{IsCauseAs, IsShownAs, IsUnshownAs, fault_of}
-
--- ---- versions
-
-same_first : (a b : ℕ) (rest more : List ℕ) → a ∷ rest ≡ b ∷ more → a ≡ b
-same_first a b rest more h = cc
-
--- the byte after what a file begins with is one
-same_byte : (magic bytes rest more : List ℕ) (a b : ℕ) → bytes ≡ magic ++ a ∷ rest → bytes ≡ magic ++ b ∷ more → a ≡ b
-same_byte magic bytes rest more a b one two =
-    same_first a b rest more (append_cancel_left magic (a ∷ rest) (b ∷ more) (sym one ∙ two))
-
--- a file of a version is of no other
-of_version : (magic bytes digest later : List ℕ) (version found : ℕ) → IsVersion version
-    → bytes ≡ header_bytes magic version digest ++ later → IsOtherVersion magic bytes found → ⊥
-of_version magic bytes digest later version found is parts other =
-    let moved = parts ∙ append_assoc magic (version ∷ digest) later in
-    other.other (subst IsVersion (same_byte magic bytes (digest ++ later) other.rest version found moved other.begins) is)
-
-log_version : (bytes : List ℕ) (content : List ℕ × Log) (found : ℕ) → IsLogOf bytes content.0 content.1
-    → IsOtherVersion LOG_MAGIC bytes found → ⊥
-unfolding log_bytes
-log_version bytes content found is other =
-    of_version LOG_MAGIC bytes content.0 _ is.0 found is.1.is_version
-    (is.1.spelled ∙ append_assoc (header_bytes LOG_MAGIC is.0 content.0) (u32_bytes content.1.imports) _) other
-
-tape_version : (bytes : List ℕ) (content : List ℕ × Tape) (found : ℕ) → IsTapeOf bytes content.0 content.1
-    → IsOtherVersion TAPE_MAGIC bytes found → ⊥
-unfolding tape_bytes
-tape_version bytes content found is other =
-    of_version TAPE_MAGIC bytes content.0 _ is.0 found is.1.is_version is.1.spelled other
 
 -- ---- causes
 
@@ -59,7 +28,7 @@ module _ {C : Type 0} (magic bytes : List ℕ) (IsOf : C → Type 0) (IsFront : 
   one_place a b (inr x) (inr y) = omega (arith, y.1 a x.0, x.1 b y.0)
 
   one_cause : (f g : FormatFault) → (f ≡ Memory → ⊥) → (g ≡ Memory → ⊥) → IsCause f → IsCause g → f ≡ g
-  one_cause (Version a) (Version b) m n p q = ap Version (same_byte magic bytes p.rest q.rest a b p.begins q.begins)
+  one_cause (Version a) (Version b) m n p q = ap Version (fifth_same magic p.rest q.rest a b (sym p.begins ∙ q.begins))
   one_cause (Version a) (Bad b) m n p q = absurd (q.0 a p)
   one_cause (Bad a) (Version b) m n p q = absurd (p.0 b q)
   one_cause (Bad a) (Bad b) m n p q = ap Bad (one_place a b p.2 q.2)
@@ -75,7 +44,7 @@ module _ {C : Type 0} (magic bytes : List ℕ) (IsOf : C → Type 0) (IsFront : 
 -- ---- what is shown
 
 module _ (logs : LogsAreToldApart) (tapes : TapesAreToldApart) where
-  pub one_text : (is_tape : Bool) (bytes x y : List ℕ) → IsShownAs is_tape bytes x → IsShownAs is_tape bytes y → x ≡ y
+  one_text : (is_tape : Bool) (bytes x y : List ℕ) → IsShownAs is_tape bytes x → IsShownAs is_tape bytes y → x ≡ y
   one_text true bytes x y one two =
       let same = tapes bytes one.digest two.digest one.tape two.tape one.spelled two.spelled in
       one.lines ∙ ap (λ digest. tape_text digest one.tape) same.0 ∙ ap (tape_text two.digest) same.1 ∙ sym two.lines
@@ -102,3 +71,11 @@ shown_apart true bytes text fault shown refused =
 shown_apart false bytes text fault shown refused =
     no_cause LOG_MAGIC bytes (λ (content : List ℕ × Log). IsLogOf bytes content.0 content.1) (IsLogFront bytes) (log_version bytes)
     (shown.digest, shown.log) refused.found refused.differs shown.spelled refused.cause
+
+-- so an answer with its cause is exact
+pub shown_exactly : {Z : Type 0} → LogsAreToldApart → TapesAreToldApart → (is_tape : Bool) (bytes : List ℕ)
+    (answer : Result (Vec ℕ Z) Fault) → IsCaused (IsShownAs is_tape bytes) (IsUnshownAs is_tape bytes) answer
+    → IsExact (IsShownAs is_tape bytes) (IsUnshownAs is_tape bytes) answer
+shown_exactly logs tapes is_tape bytes answer is =
+    exact_answer (IsShownAs is_tape bytes) (IsUnshownAs is_tape bytes) (shown_apart is_tape bytes)
+    (one_text logs tapes is_tape bytes) (one_refusal is_tape bytes) answer is

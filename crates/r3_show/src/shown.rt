@@ -1,8 +1,7 @@
 // `show`: the lines of a file.
 
-ghost use Rattle.std.specs.Prelude.{◌≡◌, ◌⊎◌, ℕ, List, true, false, Err, IfOk, IfErr};
-ghost use Rattle.r3_faults.specs.declared.faults.Fault.{Fault};
-ghost use Rattle.r3_faults.specs.declared.faults.Fault.TheVariants.{Memory};
+ghost use Rattle.std.specs.Prelude.{◌≡◌, true, false};
+ghost use Rattle.r3_faults.specs.Answers.{IsCaused, IsExact};
 ghost use Rattle.r3_show.specs.Shown.{IsShowRefusal, IsShown, IsShownAs, IsUnshownAs, begins_as_tape, fault_of};
 
 use r3_faults::Fault;
@@ -18,23 +17,10 @@ use trace_format::{FormatFault, lines_of_log, lines_of_tape, log_files, tape_fil
 /// `TraceVersion` and `BadTrace` name why the bytes spell none, each exactly where it stands. `Memory`
 /// comes where memory is out.
 pub fn show(alloc: Global, trace: &[u8]) -> Result<Vec<u8>, Fault>
-    ensures cause { IfErr result (λ fault. (fault ≡ Memory) ⊎ IsShowRefusal trace.now fault) }
-    ensures refused { (fault : Fault) → IsShowRefusal trace.now fault
-        → (result ≡ Err fault) ⊎ (result ≡ Err Memory) }
-    ensures printed { IfOk result (λ bytes. IsShown trace.now bytes.items) }
-    ensures accepted { (text : List ℕ) → IsShown trace.now text
-        → IfOk result (λ bytes. bytes.items ≡ text) × IfErr result (λ fault. fault ≡ Memory) }
+    ensures { IsExact (IsShown trace.now) (IsShowRefusal trace.now) result }
 {
     log_files();
     tape_files();
-    lines_of(alloc, trace)
-}
-
-/// The same, with what is shown or why nothing is.
-fn lines_of(alloc: Global, trace: &[u8]) -> Result<Vec<u8>, Fault>
-    ensures cause { IfErr result (λ fault. (fault ≡ Memory) ⊎ IsShowRefusal trace.now fault) }
-    ensures printed { IfOk result (λ bytes. IsShown trace.now bytes.items) }
-{
     if begins_as_tape(trace) {
         tape_lines(alloc, trace)
     } else {
@@ -51,8 +37,7 @@ fn begins_as_tape(trace: &[u8]) -> bool
 
 /// The lines of a tape.
 fn tape_lines(alloc: Global, trace: &[u8]) -> Result<Vec<u8>, Fault>
-    ensures cause { IfErr result (λ fault. (fault ≡ Memory) ⊎ IsUnshownAs true trace.now fault) }
-    ensures printed { IfOk result (λ bytes. IsShownAs true trace.now bytes.items) }
+    ensures { IsCaused (IsShownAs true trace.now) (IsUnshownAs true trace.now) result }
 {
     match lines_of_tape(alloc, trace) {
         Ok(lines) => Ok(lines),
@@ -62,8 +47,7 @@ fn tape_lines(alloc: Global, trace: &[u8]) -> Result<Vec<u8>, Fault>
 
 /// The lines of a log.
 fn log_lines(alloc: Global, trace: &[u8]) -> Result<Vec<u8>, Fault>
-    ensures cause { IfErr result (λ fault. (fault ≡ Memory) ⊎ IsUnshownAs false trace.now fault) }
-    ensures printed { IfOk result (λ bytes. IsShownAs false trace.now bytes.items) }
+    ensures { IsCaused (IsShownAs false trace.now) (IsUnshownAs false trace.now) result }
 {
     match lines_of_log(alloc, trace) {
         Ok(lines) => Ok(lines),

@@ -1,5 +1,5 @@
 -- What sinks take and what shadows show, after observations one after another.
-use Rattle.std.proofs.Common.{◌≡◌, ℕ, List, [], ◌∷◌, ◌++◌, length, Option, None, slice_get, slice_index_or, sym, ap, subst}
+use Rattle.std.proofs.Common.{◌≡◌, ℕ, List, [], ◌∷◌, ◌++◌, length, Option, None, slice_get, slice_index, slice_index_or, sym, ap, subst}
 use Rattle.std.proofs.lemmas.List.{append_assoc, append-nil}
 use Rattle.wasm_syntax.specs.declared.values.Val.{Val}
 use Rattle.trace_model.specs.declared.events.Event.{Event}
@@ -47,20 +47,22 @@ module _ {S : Type 0} (has_taken : S → List Event → Type 0) where
               joined,
         )
 
+-- shadows show a state by its parts
+show_by : {memory : Shadow} {tables : Tables} {state : LogState}
+    → ((at : ℕ) → state.known.byte at ≡ slice_index memory.bytes at)
+    → ((at : ℕ) → state.known.entry at ≡ slice_index_or tables.entries at None)
+    → ((at : ℕ) → state.known.global at ≡ slice_get tables.globals at) → state.known.pages ≡ memory.known
+    → state.known.entries ≡ length tables.entries → state.noticed ≡ memory.noticed → Show memory tables state
+show_by bytes each_entry globals size entries seen =
+    record { byte = bytes; entry = each_entry; global = globals; pages = size; entries = entries; noticed = seen }
+
 -- other sizes are known, and another one was noticed
 pub resized : {memory : Shadow} {tables : Tables} {state : LogState} → Show memory tables state
     → (pages noticed known found : ℕ) → pages ≡ known → noticed ≡ found
     → Show (record memory { known = known; noticed = found }) tables
     (record { known = record state.known { pages = pages }; noticed = noticed })
 resized shows pages noticed known found same_pages same_noticed =
-    record {
-      byte = shows.byte;
-      entry = shows.entry;
-      global = shows.global;
-      pages = same_pages;
-      entries = shows.entries;
-      noticed = same_noticed;
-    }
+    show_by shows.byte shows.entry shows.global same_pages shows.entries same_noticed
 
 -- other entries are known
 pub with_entries : {memory : Shadow} {tables : Tables} {state : LogState} → Show memory tables state
@@ -69,14 +71,7 @@ pub with_entries : {memory : Shadow} {tables : Tables} {state : LogState} → Sh
     → Show memory (record tables { entries = entries })
     (record state { known = record state.known { entry = entry; entries = size } })
 with_entries shows entry size entries same same_size =
-    record {
-      byte = shows.byte;
-      entry = same;
-      global = shows.global;
-      pages = shows.pages;
-      entries = same_size;
-      noticed = shows.noticed;
-    }
+    show_by shows.byte same shows.global shows.pages same_size shows.noticed
 
 -- other globals
 pub with_globals : {memory : Shadow} {tables : Tables} {state : LogState} → Show memory tables state
@@ -84,11 +79,4 @@ pub with_globals : {memory : Shadow} {tables : Tables} {state : LogState} → Sh
     → Show memory (record tables { globals = globals })
     (record state { known = record state.known { global = global } })
 with_globals shows global globals same =
-    record {
-      byte = shows.byte;
-      entry = shows.entry;
-      global = same;
-      pages = shows.pages;
-      entries = shows.entries;
-      noticed = shows.noticed;
-    }
+    show_by shows.byte shows.entry same shows.pages shows.entries shows.noticed

@@ -9,8 +9,8 @@ use Rattle.wasm_syntax.specs.declared.signatures.GlobalType.{GlobalType}
 use Rattle.wasm_syntax.specs.declared.instructions.Instr.{Instr}
 use Rattle.wasm_syntax.specs.declared.instructions.Instr.TheVariants.{Call, GlobalGet, GlobalSet, LocalGet, LocalTee, Numeric, Return}
 use Rattle.wasm_syntax.specs.declared.modules.Module.{Module}
-use Rattle.wasm_syntax.specs.Nest.{Nest, Empty, Plain}
-use Rattle.wasm_syntax.specs.Typing.{Context, IsTyped, Leaves, Moves, call_of, func_at, set_of}
+use Rattle.wasm_syntax.specs.Nest.{Empty}
+use Rattle.wasm_syntax.specs.Typing.{Context, IsTyped, Leaves, Moves, call_of, func_at, instr_type, set_of}
 use Rattle.trace_model.specs.declared.tapes.Segment.{Segment}
 use Rattle.history_spec.specs.Code.{i32_value}
 use Rattle.replay_gen.specs.declared.groups.TheConstants.{GROUP_CALLS}
@@ -31,9 +31,7 @@ module _ (ctx : Context) (results : List ValType) (given : ctx.results ≡ rever
     (number : slice_get ctx.locals local ≡ Some I32) where
   -- the number of the call, divided by how many calls a group has
   selects : (op : ℕ) (labels : List (List ValType)) (code : List Instr)
-      → ((below : List ValType) (rest : Nest) (after : List ValType)
-      → IsTyped (record ctx { labels = labels }) rest (I32 ∷ below) after
-      → IsTyped (record ctx { labels = labels }) (Plain (Numeric op) rest) (I32 ∷ I32 ∷ below) after)
+      → instr_type (record ctx { labels = labels }) (Numeric op) ≡ Some (Moves (I32 ∷ I32 ∷ []) (I32 ∷ []))
       → IsTyped (record ctx { labels = labels }) (sequence code Empty) (I32 ∷ []) []
       → IsTyped (record ctx { labels = labels })
       (sequence ((LocalGet local ∷ i32_const GROUP_CALLS ∷ Numeric op ∷ []) ++ code) Empty) [] []
@@ -43,21 +41,14 @@ module _ (ctx : Context) (results : List ValType) (given : ctx.results ≡ rever
       (ap (option_map (λ (t : ValType). Moves [] (t ∷ []))) number)
       (constant_typed (record ctx { labels = labels }) (i32_value GROUP_CALLS) (I32 ∷ [])
       (sequence (Numeric op ∷ code) Empty) [] (number_typed GROUP_CALLS (omega arith))
-      (numeric [] (sequence code Empty) [] typed))
+      (moved (record ctx { labels = labels }) (Numeric op) (I32 ∷ I32 ∷ []) (I32 ∷ []) [] (sequence code Empty) []
+      numeric typed))
 
   pub selects_group : IsSelector ctx (LocalGet local ∷ i32_const GROUP_CALLS ∷ Numeric I32_DIV_U ∷ [])
-  selects_group labels code typed =
-      selects I32_DIV_U labels code
-      (λ below rest after later.
-      moved (record ctx { labels = labels }) (Numeric I32_DIV_U) (I32 ∷ I32 ∷ []) (I32 ∷ []) below rest after refl later)
-      typed
+  selects_group labels code typed = selects I32_DIV_U labels code refl typed
 
   pub selects_call : IsSelector ctx (LocalGet local ∷ i32_const GROUP_CALLS ∷ Numeric I32_REM_U ∷ [])
-  selects_call labels code typed =
-      selects I32_REM_U labels code
-      (λ below rest after later.
-      moved (record ctx { labels = labels }) (Numeric I32_REM_U) (I32 ∷ I32 ∷ []) (I32 ∷ []) below rest after refl later)
-      typed
+  selects_call labels code typed = selects I32_REM_U labels code refl typed
 
   group_call_typed : (func : ℕ) → func_at ctx func ≡ Some (group_type results) → IsArm ctx (group_call local func)
   group_call_typed func has_type labels after =

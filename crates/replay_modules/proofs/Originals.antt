@@ -9,7 +9,7 @@ use Rattle.wasm_syntax.specs.declared.instructions.Instr.TheVariants.{Block, If,
 use Rattle.wasm_syntax.specs.Nest.{IsNest, is_plain, Nest, Empty, Plain, InBlock, InLoop, InIf, InIfElse, flat}
 use Rattle.wasm_syntax.specs.Opcodes.{load_of, store_of}
 use Rattle.wasm_syntax.specs.Typing.{Context, Drops, InstrType, IsTyped, Leads, Leaves, Moves, Selects, Switches, has_memory, has_table, if_true, indirect_of, inside, instr_type, is_declared, load_type, results_of, store_type}
-use Rattle.replay_modules.proofs.Wider.{Widens, both_parts, is_unreferring, typed_wider}
+use Rattle.replay_modules.proofs.Wider.{Widens, both_parts, inside_wider, is_unreferring, leads_wider}
 
 -- what one context knows the other knows too, but for the limits of tables and memories, of which both have as many
 abbrev narrowed : Context → Context → Context
@@ -66,11 +66,9 @@ leads_known ctx wider w i before after known leads = go (is_unreferring i) refl
 
     go : (b : Bool) → is_unreferring i ≡ b → Leads wider (instr_type wider i) before after
     go true e =
-        let whole =
-        typed_wider (Plain i Empty) ctx (narrowed ctx wider) before after w.widens (e, tt) (after, leads, refl) in
         subst (λ o. Leads wider o before after) (instr_same ctx wider w i)
         (leads_same ctx wider (instr_type (narrowed ctx wider) i) before after
-        (subst (λ s. Leads (narrowed ctx wider) (instr_type (narrowed ctx wider) i) before s) whole.2 whole.1))
+        (leads_wider ctx (narrowed ctx wider) w.widens i before after e leads))
     go false e =
         let is = referring i e in
         subst (λ j. Leads wider (instr_type wider j) before after) (sym is.1)
@@ -81,23 +79,30 @@ inside_known : (label : List ValType) (ctx wider : Context) → Extends ctx wide
     → Extends (inside label ctx) (inside label wider)
 inside_known label ctx wider w =
     record {
-      widens =
-          record {
-            types = w.widens.types;
-            funcs = w.widens.funcs;
-            tables = w.widens.tables;
-            memories = w.widens.memories;
-            globals = w.widens.globals;
-            locals = w.widens.locals;
-            labels = ap (λ l. label ∷ l) w.widens.labels;
-            results = w.widens.results;
-          };
+      widens = inside_wider label ctx (narrowed ctx wider) w.widens;
       tables = w.tables;
       memory = w.memory;
     }
 
-pub typed_known : (nest : Nest) (ctx wider : Context) (before after : List ValType) → Extends ctx wider
+-- to keep the types of a nest where the other context knows what it refers to
+abbrev pub KeepsTypes : Nest → Type 0
+KeepsTypes nest =
+    (ctx wider : Context) (before after : List ValType) → Extends ctx wider
     → AllByRecursion (IsKnown ctx wider) (flat nest) → IsTyped ctx nest before after → IsTyped wider nest before after
+
+-- a body, and what follows its end
+block_known : (body rest : Nest) → KeepsTypes body → KeepsTypes rest → (label results : List ValType)
+    → (ctx wider : Context) (before after : List ValType) → Extends ctx wider
+    → AllByRecursion (IsKnown ctx wider) (flat body ++ End ∷ flat rest)
+    → IsTyped (inside label ctx) body [] results × IsTyped ctx rest before after
+    → IsTyped (inside label wider) body [] results × IsTyped wider rest before after
+block_known body rest keeps keeps_rest label results ctx wider before after w known h =
+    let parts = both_parts (IsKnown ctx wider) (flat body) (End ∷ flat rest) known in (
+      keeps (inside label ctx) (inside label wider) [] results (inside_known label ctx wider w) parts.0 h.0,
+      keeps_rest ctx wider before after w parts.1.1 h.1,
+    )
+
+pub typed_known : (nest : Nest) → KeepsTypes nest
 typed_known Empty ctx wider before after w known h = h
 typed_known (Plain i rest) ctx wider before after w known h = (
   h.0,
@@ -105,18 +110,17 @@ typed_known (Plain i rest) ctx wider before after w known h = (
   typed_known rest ctx wider h.0 after w known.1 h.2,
 )
 typed_known (InBlock ty body rest) ctx wider before after w known h =
-    let parts = both_parts (IsKnown ctx wider) (flat body) (End ∷ flat rest) known.1 in (
-      h.0,
-      typed_known body (inside (results_of ty) ctx) (inside (results_of ty) wider) [] (results_of ty)
-          (inside_known (results_of ty) ctx wider w) parts.0 h.1,
-      typed_known rest ctx wider (results_of ty ++ before) after w parts.1.1 h.2,
-    )
+    let both =
+    block_known body rest (typed_known body) (typed_known rest) (results_of ty) (results_of ty) ctx wider
+    (results_of ty ++ before) after w known.1 (h.1, h.2)
+    in
+    (h.0, both.0, both.1)
 typed_known (InLoop ty body rest) ctx wider before after w known h =
-    let parts = both_parts (IsKnown ctx wider) (flat body) (End ∷ flat rest) known.1 in (
-      h.0,
-      typed_known body (inside [] ctx) (inside [] wider) [] (results_of ty) (inside_known [] ctx wider w) parts.0 h.1,
-      typed_known rest ctx wider (results_of ty ++ before) after w parts.1.1 h.2,
-    )
+    let both =
+    block_known body rest (typed_known body) (typed_known rest) [] (results_of ty) ctx wider (results_of ty ++ before)
+    after w known.1 (h.1, h.2)
+    in
+    (h.0, both.0, both.1)
 typed_known (InIf ty body rest) ctx wider before after w known h =
     let parts = both_parts (IsKnown ctx wider) (flat body) (End ∷ flat rest) known.1 in (
       h.0,

@@ -1,6 +1,6 @@
 -- The replay module is valid but for the bodies of its functions.
 use Rattle.std.proofs.Common.{◌≡◌, ℕ, ◌^◌, ◌<◌, ◌≤◌, List, [], ◌∷◌, ◌++◌, length, Option, Some, None, true, cond, option_map, refl, sym, ap, ◌∙◌, subst, arith, slice_get}
-use Rattle.std.specs.Prelude.{◌&&◌, Bool, false, map, min, nat_le, IsTrue, IfSome, All, unwrap_or, option_to_list}
+use Rattle.std.specs.Prelude.{◌&&◌, map, min, nat_le, IsTrue, IfSome, All, unwrap_or, option_to_list}
 use Rattle.std.specs.List.{AllByRecursion, cons_option, zip}
 use Rattle.std.proofs.lemmas.Bool.Decides.{nat_tests}
 use Rattle.std.proofs.lemmas.List.Elements.{All-cons, All-head, All-nil}
@@ -30,6 +30,7 @@ use Rattle.history_spec.specs.Instantiation.{constant, limits_of}
 use Rattle.type_safety.specs.Supplies.{Match}
 use Rattle.type_safety.specs.Values.{AreValues, IsValue, count_of}
 use Rattle.type_safety.proofs.Values.{value_at}
+use Rattle.type_safety.proofs.NewStores.{immutable, single_is}
 use Rattle.module_merge.specs.Merge.{constant_body, constant_global, memory_written, most_written, supplied_global}
 use Rattle.replay_modules.specs.Laws.{StatesMaximum}
 
@@ -160,17 +161,6 @@ value_constant other funcs ty value number is =
     number_constant value.ty value.bits funcs (subst (λ t. IsTrue (is_number t)) (sym same) number)
     (subst (λ t. value.bits < count_of funcs t) (sym same) is.in_range) in
     ap (λ b. cond b (Some value.ty) None) constant' ∙ ap (λ t. Some t) same
-
-single_is : (body : List Instr) (i : Instr) → single body ≡ Some i → body ≡ i ∷ End ∷ []
-single_is (j ∷ End ∷ []) i h = let same : j ≡ i = cc in ap (λ k. k ∷ End ∷ []) same
-single_is body i h = cc
-
-immutable : (g : GlobalType) (ty : ValType) → immutable_type g ≡ Some ty → g.ty ≡ ty
-immutable g ty e = by g.mutable e
-  where
-    by : (b : Bool) → cond b None (Some g.ty) ≡ Some ty → g.ty ≡ ty
-    by true e' = cc
-    by false e' = cc
 
 module _ (m other : Module) (funcs : ℕ) (imported : List Val)
     (values : AreValues funcs (map (λ (g : GlobalType). g.ty) (imported_globals m)) imported)

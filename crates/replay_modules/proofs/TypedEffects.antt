@@ -1,6 +1,6 @@
 -- The typing of the code of effects.
-use Rattle.std.proofs.Common.{◌≡◌, ℕ, zero, suc, ◌+◌, ◌*◌, ◌/◌, ◌%◌, ◌^◌, ◌<◌, ◌≤◌, List, [], ◌∷◌, ◌++◌, length, Option, Some, None, true, cond, refl, sym, ap, ◌∙◌, subst, arith}
-use Rattle.std.specs.Prelude.{◌&&◌, drop, nat_le, nat_lt, option_and_then, replicate, slice_get, take}
+use Rattle.std.proofs.Common.{◌≡◌, ℕ, zero, suc, ◌+◌, ◌*◌, ◌^◌, ◌<◌, ◌≤◌, List, [], ◌∷◌, ◌++◌, length, Option, Some, None, true, cond, refl, sym, ap, ◌∙◌, subst, arith}
+use Rattle.std.specs.Prelude.{◌&&◌, drop, nat_le, nat_lt, option_and_then, slice_get, take}
 use Rattle.std.specs.List.{AllByRecursion, list_all}
 use Rattle.std.proofs.Math.Nat.{pow-suc}
 use Rattle.std.proofs.lemmas.Bool.Decides.{nat_tests}
@@ -29,6 +29,7 @@ use Rattle.history_spec.specs.Store.{number_of}
 use Rattle.replay_gen.specs.Dispatch.{sequence}
 use Rattle.replay_gen.specs.Effects.{Width, Eight, Four, Two, One, byte_count, effect_code, i32_const, reference_code, store_opcode, store_type, store_widths, stores_code}
 use Rattle.replay_gen.specs.Segments.{effects_code}
+use Rattle.replay_gen.proofs.Widths.{counts_of, counts_of_all}
 use Rattle.replay_modules.specs.Written.{IsConstantEffect}
 use Rattle.replay_modules.proofs.Serving.{Serves, constant_typed, dropped, moved, number_typed}
 
@@ -54,37 +55,6 @@ taken_type ty (Some g) h =
     (g, refl, p.0, own)
 
 -- ---- widths
-
-abbrev pub total : List Width → ℕ
-total [] = 0
-total (width ∷ widths) = byte_count width + total widths
-
-total_same : (width : Width) (number : ℕ) → total (replicate number width) ≡ number * byte_count width
-total_same width zero = omega arith
-total_same width (suc number) = ap (λ n. byte_count width + n) (total_same width number) ∙ grind arith
-
-total_both : (first second : List Width) → total (first ++ second) ≡ total first + total second
-total_both [] second = omega arith
-total_both (width ∷ first) second =
-    let r = total_both first second in
-    let all : byte_count width + total (first ++ second) ≡ byte_count width + total first + total second =
-    omega (arith, r) in
-    all
-
-pub total_all : (count : ℕ) → total (store_widths count) ≡ count
-total_all count =
-    let eights = replicate (count / 8) Eight in
-    let fours = replicate (count / 4 % 2) Four in
-    let twos = replicate (count / 2 % 2) Two in
-    let ones = replicate (count % 2) One in
-    let all = total_both eights (fours ++ (twos ++ ones)) in
-    let later = total_both fours (twos ++ ones) in
-    let last = total_both twos ones in
-    let eight : total eights ≡ count / 8 * 8 = total_same Eight (count / 8) in
-    let four : total fours ≡ count / 4 % 2 * 4 = total_same Four (count / 4 % 2) in
-    let two : total twos ≡ count / 2 % 2 * 2 = total_same Two (count / 2 % 2) in
-    let one : total ones ≡ count % 2 * 1 = total_same One (count % 2) in
-    omega (arith, all, later, last, eight, four, two, one)
 
 pub number_small : (width : ℕ) (bytes : List ℕ) → AllByRecursion (λ byte. byte < 256) bytes
     → number_of (take width bytes) < 256 ^ width
@@ -124,7 +94,7 @@ module _ (m : Module) (ctx : Context) (serves : Serves m ctx) where
   store_is One there = ap (λ b. cond b (Some (Moves (I32 ∷ I32 ∷ []) [])) None) there
 
   stores_typed : (widths : List Width) (address : ℕ) (bytes : List ℕ) (code : List Instr) (rest : Nest)
-      (before after : List ValType) → has_memory ctx ≡ true → address + total widths ≤ 2 ^ 32
+      (before after : List ValType) → has_memory ctx ≡ true → address + counts_of widths ≤ 2 ^ 32
       → AllByRecursion (λ byte. byte < 256) bytes → IsTyped ctx (sequence code rest) before after
       → IsTyped ctx (sequence (stores_code widths address bytes ++ code) rest) before after
   stores_typed [] address bytes code rest before after there small are later = later
@@ -192,7 +162,7 @@ module _ (m : Module) (ctx : Context) (serves : Serves m ctx) where
       let second = p.1 in
       let there : 0 < length (all_memories m) = grind (arith, nat_tests, first) in
       let within : addr + length bytes ≤ MOST_PAGES * PAGE_SIZE = grind (arith, nat_tests, second) in
-      let all = total_all (length bytes) in
+      let all = counts_of_all (length bytes) in
       stores_typed (store_widths (length bytes)) addr bytes code rest before after (serves.memory there)
       (omega (arith, within, all)) are later
   effect_typed (Entry index func) code rest before after fits are later =

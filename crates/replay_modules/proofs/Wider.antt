@@ -1,4 +1,4 @@
--- A body that has a typing has it where more is known.
+-- An instruction that moves types moves them where more is known.
 use Rattle.std.proofs.Common.{◌≡◌, ℕ, List, [], ◌∷◌, ◌++◌, Option, Some, None, Bool, true, false, cond, is_some, slice_get, option_map, option_and_then, refl, sym, ap, ◌∙◌, subst}
 use Rattle.wasm_syntax.specs.declared.values.ValType.TheVariants.{I32}
 use Rattle.std.specs.List.{AllByRecursion}
@@ -8,10 +8,9 @@ use Rattle.wasm_syntax.specs.declared.signatures.FuncType.{FuncType}
 use Rattle.wasm_syntax.specs.declared.signatures.Limits.{Limits}
 use Rattle.wasm_syntax.specs.declared.signatures.GlobalType.{GlobalType}
 use Rattle.wasm_syntax.specs.declared.instructions.Instr.{Instr}
-use Rattle.wasm_syntax.specs.declared.instructions.Instr.TheVariants.{Unreachable, Nop, Else, End, Br, BrIf, BrTable, Return, Call, CallIndirect, Drop, Select, LocalGet, LocalSet, LocalTee, GlobalGet, GlobalSet, Load, Store, MemorySize, MemoryGrow, MemoryCopy, MemoryFill, Const, Numeric, RefNull, RefFunc, TableSet, TableGrow, TableSize}
-use Rattle.wasm_syntax.specs.Nest.{Nest, Empty, Plain, InBlock, InLoop, InIf, InIfElse, flat}
+use Rattle.wasm_syntax.specs.declared.instructions.Instr.TheVariants.{Unreachable, Nop, Br, BrIf, BrTable, Return, Call, CallIndirect, Drop, Select, LocalGet, LocalSet, LocalTee, GlobalGet, GlobalSet, Load, Store, MemorySize, MemoryGrow, MemoryCopy, MemoryFill, Const, Numeric, RefNull, RefFunc, TableSet, TableGrow, TableSize}
 use Rattle.wasm_syntax.specs.Opcodes.{load_of, store_of}
-use Rattle.wasm_syntax.specs.Typing.{Context, InstrType, Moves, Drops, Selects, Leaves, Switches, IsSwitch, call_of, indirect_of, set_of, load_type, store_type, func_at, instr_type, Leads, results_of, inside, IsTyped}
+use Rattle.wasm_syntax.specs.Typing.{Context, InstrType, Moves, Drops, Selects, Leaves, Switches, IsSwitch, call_of, indirect_of, set_of, load_type, store_type, func_at, instr_type, Leads, inside}
 
 -- it names no function by `ref.func`
 abbrev pub is_unreferring : Instr → Bool
@@ -87,7 +86,7 @@ module _ (ctx wider : Context) (widens : Widens ctx wider) where
   same_effect (Leaves operands) before after leads = leads
   same_effect (Switches targets) before after leads = subst (λ labels. IsSwitch labels targets before) (sym widens.labels) leads
 
-  leads_wider : (i : Instr) (before after : List ValType) → is_unreferring i ≡ true → Leads ctx (instr_type ctx i) before after → Leads wider (instr_type wider i) before after
+  pub leads_wider : (i : Instr) (before after : List ValType) → is_unreferring i ≡ true → Leads ctx (instr_type ctx i) before after → Leads wider (instr_type wider i) before after
   leads_wider i before after free = go (instr_type ctx i) refl
     where
       go : (e : Option InstrType) → instr_type ctx i ≡ e → Leads ctx e before after → Leads wider (instr_type wider i) before after
@@ -100,30 +99,6 @@ pub both_parts : {X : Type 0} (P : X → Type 0) (xs ys : List X) → AllByRecur
 both_parts P [] ys h = (tt, h)
 both_parts P (x ∷ xs) ys h = let later = both_parts P xs ys h.1 in ((h.0, later.0), later.1)
 
-inside_wider : (label : List ValType) (ctx wider : Context) → Widens ctx wider → Widens (inside label ctx) (inside label wider)
+pub inside_wider : (label : List ValType) (ctx wider : Context) → Widens ctx wider → Widens (inside label ctx) (inside label wider)
 inside_wider label ctx wider w =
     record { types = w.types; funcs = w.funcs; tables = w.tables; memories = w.memories; globals = w.globals; locals = w.locals; labels = ap (λ l. label ∷ l) w.labels; results = w.results }
-
-pub typed_wider : (nest : Nest) (ctx wider : Context) (before after : List ValType) → Widens ctx wider → AllByRecursion (λ i. is_unreferring i ≡ true) (flat nest) → IsTyped ctx nest before after → IsTyped wider nest before after
-typed_wider Empty ctx wider before after w free h = h
-typed_wider (Plain i rest) ctx wider before after w free h =
-    (h.0, leads_wider ctx wider w i before h.0 free.0 h.1, typed_wider rest ctx wider h.0 after w free.1 h.2)
-typed_wider (InBlock ty body rest) ctx wider before after w free h =
-    let parts = both_parts (λ i. is_unreferring i ≡ true) (flat body) (End ∷ flat rest) free.1 in
-    (h.0, typed_wider body (inside (results_of ty) ctx) (inside (results_of ty) wider) [] (results_of ty) (inside_wider (results_of ty) ctx wider w) parts.0 h.1, typed_wider rest ctx wider (results_of ty ++ before) after w parts.1.1 h.2)
-typed_wider (InLoop ty body rest) ctx wider before after w free h =
-    let parts = both_parts (λ i. is_unreferring i ≡ true) (flat body) (End ∷ flat rest) free.1 in
-    (h.0, typed_wider body (inside [] ctx) (inside [] wider) [] (results_of ty) (inside_wider [] ctx wider w) parts.0 h.1, typed_wider rest ctx wider (results_of ty ++ before) after w parts.1.1 h.2)
-typed_wider (InIf ty body rest) ctx wider before after w free h =
-    let parts = both_parts (λ i. is_unreferring i ≡ true) (flat body) (End ∷ flat rest) free.1 in
-    (h.0, h.1, h.2, typed_wider body (inside (results_of ty) ctx) (inside (results_of ty) wider) [] (results_of ty) (inside_wider (results_of ty) ctx wider w) parts.0 h.3, h.4, typed_wider rest ctx wider (results_of ty ++ h.0) after w parts.1.1 h.5)
-typed_wider (InIfElse ty body other rest) ctx wider before after w free h =
-    let parts = both_parts (λ i. is_unreferring i ≡ true) (flat body) (Else ∷ (flat other ++ End ∷ flat rest)) free.1 in
-    let later = both_parts (λ i. is_unreferring i ≡ true) (flat other) (End ∷ flat rest) parts.1.1 in (
-      h.0,
-      h.1,
-      h.2,
-      typed_wider body (inside (results_of ty) ctx) (inside (results_of ty) wider) [] (results_of ty) (inside_wider (results_of ty) ctx wider w) parts.0 h.3,
-      typed_wider other (inside (results_of ty) ctx) (inside (results_of ty) wider) [] (results_of ty) (inside_wider (results_of ty) ctx wider w) later.0 h.4,
-      typed_wider rest ctx wider (results_of ty ++ h.0) after w later.1.1 h.5,
-    )

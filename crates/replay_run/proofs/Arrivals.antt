@@ -14,10 +14,11 @@ use Rattle.history_spec.specs.Store.{Store}
 use Rattle.history_spec.specs.Configuration.{Activation, Frame, InModule, Label, leave, point, with_results}
 use Rattle.history_spec.specs.Projection.{trap_outcome}
 use Rattle.history_spec.specs.Replay.{program_alone}
-use Rattle.history_spec.specs.Settle.{Continues, Within, at_end, at_end_of, deliver, return_from, settle, settle_result}
+use Rattle.history_spec.specs.Settle.{Continues, at_end, deliver, return_from, settle, settle_result}
 use Rattle.history_spec.specs.Step.{Finished, Running, StepResult, after_entries, after_settling, progress_of}
 use Rattle.type_safety.specs.Configurations.{IsGoing}
 use Rattle.type_safety.specs.Heights.{Heights}
+use Rattle.type_safety.proofs.SettleEnds.{going_within}
 use Rattle.wasm_interp.specs.Calls.{Comes, IsRun, config_of}
 use Rattle.wasm_interp.specs.OwnSteps.{IsReturnPause}
 use Rattle.wasm_interp.specs.State.{StandsFor, State}
@@ -47,14 +48,6 @@ nothing_left (label ∷ labels) values (InLoop ty body rest) number going = refl
 nothing_left (label ∷ labels) values (InIf ty body rest) number going = refl
 nothing_left (label ∷ labels) values (InIfElse ty body other rest) number going = refl
 
-within : (rest : Nest) (frame : Frame) → IsGoing rest → at_end_of rest frame ≡ Within
-within Empty frame going = absurd going
-within (Plain i rest) frame going = refl
-within (InBlock ty body rest) frame going = refl
-within (InLoop ty body rest) frame going = refl
-within (InIf ty body rest) frame going = refl
-within (InIfElse ty body other rest) frame going = refl
-
 unchanged : (frame : Frame) → IsGoing frame.at.rest → with_results frame [] ≡ frame
 unchanged frame going =
     let left = nothing_left frame.labels frame.values frame.at.rest frame.at.number going in
@@ -62,7 +55,7 @@ unchanged frame going =
 
 pub going_settles : (frame : Frame) (below : List Activation) → IsGoing frame.at.rest → settle (InModule frame ∷ below) ≡ settle_result [] (Continues (InModule frame ∷ below))
 going_settles frame below going =
-    ap (λ f. return_from (at_end f) f below (deliver below)) (unchanged frame going) ∙ ap (λ e. return_from e frame below (deliver below)) (within frame.at.rest frame going)
+    ap (λ f. return_from (at_end f) f below (deliver below)) (unchanged frame going) ∙ ap (λ e. return_from e frame below (deliver below)) (going_within frame.at.rest frame going)
 
 -- ---- where the machine comes to
 

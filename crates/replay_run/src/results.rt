@@ -4,7 +4,6 @@ ghost use Rattle.std.specs.Prelude.{◌≡◌};
 ghost use Rattle.replay_run.specs.declared.results.ReplayFault.TheVariants.{Memory};
 
 use no_memory::NoMemory;
-use std::alloc::AllocError;
 use thiserror::Error;
 
 /// Why nothing is shown; of several causes the first counts.
@@ -33,14 +32,6 @@ impl From<NoMemory> for ReplayFault {
     ghost from_gives = { λ _ fault. fault ≡ Memory };
 
     fn from(_refused: NoMemory) -> ReplayFault {
-        ReplayFault::Memory
-    }
-}
-
-impl From<AllocError> for ReplayFault {
-    ghost from_gives = { λ _ fault. fault ≡ Memory };
-
-    fn from(_refused: AllocError) -> ReplayFault {
         ReplayFault::Memory
     }
 }

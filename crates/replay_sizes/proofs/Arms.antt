@@ -1,13 +1,15 @@
 -- What holds of each instruction of arms, and of what stands around them, holds of each instruction of their code.
-use Rattle.std.proofs.Common.{List, [], ◌∷◌, ◌++◌, length, None, sym, subst}
-use Rattle.std.specs.Prelude.{reverse}
+use Rattle.std.proofs.Common.{ℕ, zero, suc, List, [], ◌∷◌, ◌++◌, length, Option, Some, None, sym, subst}
+use Rattle.std.specs.Prelude.{reverse, replicate}
 use Rattle.std.specs.List.{AllByRecursion, range_with_len}
 use Rattle.std.proofs.lemmas.List.{reverse-append}
 use Rattle.list_laws.proofs.Lists.{joined_all}
 use Rattle.wasm_syntax.specs.declared.instructions.Instr.{Instr}
-use Rattle.wasm_syntax.specs.declared.instructions.Instr.TheVariants.{Unreachable, Block, BrTable, End}
+use Rattle.wasm_syntax.specs.declared.instructions.Instr.TheVariants.{Unreachable, Block, BrTable, Drop, End}
+use Rattle.wasm_syntax.specs.declared.signatures.FuncType.{FuncType}
 use Rattle.wasm_syntax.specs.Nest.{Nest, Empty, flat}
 use Rattle.replay_gen.specs.Dispatch.{body_of, dispatch, nested, sequence}
+use Rattle.replay_gen.specs.Segments.{drops}
 
 reversed_all : {A : Type 0} (P : A → Type 0) (xs : List A) → AllByRecursion P xs → AllByRecursion P (reverse xs)
 reversed_all P [] all = tt
@@ -42,3 +44,12 @@ module _ (P : Instr → Type 0) (trap : P Unreachable) (block : P (Block None)) 
 
   pub body_all : (nest : Nest) → AllByRecursion P (flat nest) → AllByRecursion P (body_of nest)
   body_all nest own = joined_all P (flat nest) (End ∷ []) own (closed, tt)
+
+-- what drops a call's results is drops alone
+pub dropped_all : (P : Instr → Type 0) → P Drop → (ty : Option FuncType) → AllByRecursion P (drops ty)
+dropped_all P drop None = tt
+dropped_all P drop (Some ty) = all (length ty.results)
+  where
+    all : (count : ℕ) → AllByRecursion P (replicate count Drop)
+    all zero = tt
+    all (suc count) = (drop, all count)

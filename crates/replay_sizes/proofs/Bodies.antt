@@ -22,7 +22,7 @@ use Rattle.replay_gen.specs.Dispatch.{body_of, dispatch, nested, sequence}
 use Rattle.replay_gen.specs.Effects.{i32_const}
 use Rattle.replay_gen.specs.Functions.{count_code, group_call, group_count, group_func, group_nest, groups, group_funcs, import_func, import_funcs, import_nest, one_i32, original_type, start_func}
 use Rattle.replay_gen.specs.Segments.{segments_code}
-use Rattle.replay_sizes.proofs.Instructions.{block_cost, br_table_cost, call_cost, total_cost, cost_append, const_cost, cost_is, end_cost, global_get_cost, global_set_cost, local_get_cost, local_tee_cost, marks, numeric_cost, return_cost, unreachable_cost}
+use Rattle.replay_sizes.proofs.Instructions.{br_table_cost, total_cost, cost_append, const_cost, cost_is, marks, numeric_cost, at_index, fixed, total, total_append}
 use Rattle.replay_sizes.proofs.Plans.{activations_cost, calls_cost, segments_cost}
 use Rattle.replay_sizes.proofs.Segments.{segment_cost, segments_most}
 
@@ -56,7 +56,7 @@ nested_cost inner (arm ∷ arms) =
     let parts = cost_append (flat (nested inner arms)) (End ∷ flat (sequence arm Empty)) in
     let own = sequence_cost arm Empty in
     let later = nested_cost inner arms in
-    omega (arith, parts, own, later, block_cost, end_cost)
+    omega (arith, parts, own, later, fixed.block, fixed.ends)
 
 dispatch_most : (selector : List Instr) (arms : List (List Instr))
     → total_cost (flat (dispatch selector arms)) ≤ 15 + total_cost selector + 5 * length arms + arms_cost arms
@@ -74,12 +74,12 @@ dispatch_most selector arms =
       parts,
       count,
       br_table_cost labels (length arms),
-      unreachable_cost,
+      fixed.unreachable,
       arms_reversed arms,
     )
 
 body_cost : (nest : Nest) → total_cost (body_of nest) ≡ total_cost (flat nest) + 1
-body_cost nest = let parts = cost_append (flat nest) (End ∷ []) in omega (arith, parts, end_cost)
+body_cost nest = let parts = cost_append (flat nest) (End ∷ []) in omega (arith, parts, fixed.ends)
 
 -- ---- functions
 
@@ -95,12 +95,10 @@ abbrev pub func_cost : Func → ℕ
 func_cost func = length (u32_bytes func.ty) + length (code_bytes (code_of func)) + all_marks func.body
 
 abbrev pub funcs_cost : List Func → ℕ
-funcs_cost [] = 0
-funcs_cost (func ∷ funcs) = func_cost func + funcs_cost funcs
+funcs_cost funcs = total func_cost funcs
 
 pub funcs_append : (first later : List Func) → funcs_cost (first ++ later) ≡ funcs_cost first + funcs_cost later
-funcs_append [] later = omega arith
-funcs_append (func ∷ first) later = let e = funcs_append first later in omega (arith, e)
+funcs_append first later = total_append func_cost first later
 
 func_most : (func : Func) → func_cost func ≤ 10 + length (vector_bytes run_bytes func.locals) + total_cost func.body
 unfolding code_bytes
@@ -126,7 +124,7 @@ one_local = refl
 
 selector_most : (local op : ℕ) → total_cost (LocalGet local ∷ i32_const GROUP_CALLS ∷ Numeric op ∷ []) ≤ 18
 selector_most local op =
-    omega (arith, local_get_cost local, const_cost (i32_value GROUP_CALLS), numeric_cost op)
+    omega (arith, (at_index local).local_get, const_cost (i32_value GROUP_CALLS), numeric_cost op)
 
 -- ---- the function in an import's place
 
@@ -134,9 +132,9 @@ group_calls_cost : (local first count : ℕ) → arms_cost (map (group_call loca
 group_calls_cost local first zero = omega arith
 group_calls_cost local first (suc count) = omega (
   arith,
-  local_get_cost local,
-  call_cost first,
-  return_cost,
+  (at_index local).local_get,
+  (at_index first).call,
+  fixed.returns,
   group_calls_cost local (first + 1) count,
 )
 
@@ -151,11 +149,11 @@ import_most m ty counter first count =
       one_local,
       body_cost (import_nest counter local first count),
       sequence_cost (count_code counter local) (dispatch selector arms),
-      global_get_cost counter,
-      local_tee_cost local,
+      (at_index counter).global_get,
+      (at_index local).local_tee,
       const_cost (i32_value 1),
       numeric_cost I32_ADD,
-      global_set_cost counter,
+      (at_index counter).global_set,
       dispatch_most selector arms,
       selector_most local I32_DIV_U,
       length-map (range_with_len first count) (group_call local),

@@ -1,6 +1,6 @@
 -- Generated code has an encoding, where the plan fits the module and its indices have 32 bits.
 use Rattle.std.proofs.Common.{◌≡◌, ℕ, zero, suc, ◌+◌, ◌*◌, ◌^◌, ◌<◌, ◌≤◌, List, [], ◌∷◌, ◌++◌, length, map, Option, Some, None, true, refl, arith, slice_get}
-use Rattle.std.specs.Prelude.{drop, nat_le, nat_lt, replicate, take, IsTrue}
+use Rattle.std.specs.Prelude.{drop, nat_le, nat_lt, take, IsTrue}
 use Rattle.std.specs.Option.{option_to_list}
 use Rattle.std.specs.List.{AllByRecursion, list_all, range_with_len}
 use Rattle.std.proofs.lemmas.Bool.Decides.{nat_tests}
@@ -17,7 +17,7 @@ use Rattle.wasm_syntax.specs.declared.values.ValType.{ValType}
 use Rattle.wasm_syntax.specs.declared.values.ValType.TheVariants.{I32, I64, F32, F64, FuncRef}
 use Rattle.wasm_syntax.specs.declared.signatures.FuncType.{FuncType}
 use Rattle.wasm_syntax.specs.declared.instructions.Instr.{Instr}
-use Rattle.wasm_syntax.specs.declared.instructions.Instr.TheVariants.{Call, Const, Drop, Return}
+use Rattle.wasm_syntax.specs.declared.instructions.Instr.TheVariants.{Call, Const, Return}
 use Rattle.wasm_syntax.specs.declared.modules.Module.{Module}
 use Rattle.wasm_syntax.specs.Index.{all_globals, all_memories, all_tables, func_indices, func_type}
 use Rattle.wasm_syntax.specs.Nest.{Nest, flat}
@@ -37,8 +37,9 @@ use Rattle.replay_gen.specs.Effects.{Width, Eight, Four, Two, One, byte_count, e
 use Rattle.replay_gen.specs.Segments.{drops, effects_code, next_code, segments_code}
 use Rattle.replay_modules.specs.Plans.{AreFit, NextFits}
 use Rattle.replay_modules.specs.Written.{AreConstants, IsConstantEffect, IsConstantNext}
-use Rattle.replay_sizes.proofs.Arms.{body_all, dispatch_all, sequence_all}
-use Rattle.replay_modules.proofs.TypedEffects.{memory_there, number_small, rest_small, some_bytes, taken_type, total, total_all, width_typed}
+use Rattle.replay_sizes.proofs.Arms.{body_all, dispatch_all, sequence_all, dropped_all}
+use Rattle.replay_gen.proofs.Widths.{counts_of, counts_of_all}
+use Rattle.replay_modules.proofs.TypedEffects.{memory_there, number_small, rest_small, some_bytes, taken_type, width_typed}
 
 -- instructions that a replay module's encoding can have
 abbrev pub AreFitting : List Instr → Type 0
@@ -87,7 +88,7 @@ store_is Four = refl
 store_is Two = refl
 store_is One = refl
 
-stores_fit : (widths : List Width) (address : ℕ) (bytes : List ℕ) → address + total widths ≤ 2 ^ 32
+stores_fit : (widths : List Width) (address : ℕ) (bytes : List ℕ) → address + counts_of widths ≤ 2 ^ 32
     → AllByRecursion (λ byte. byte < 256) bytes → AreFitting (stores_code widths address bytes)
 stores_fit [] address bytes small are = tt
 stores_fit (width ∷ widths) address bytes small are =
@@ -125,7 +126,7 @@ module _ (m : Module) (funcs : length (func_indices m) < 2 ^ 32) (globals : leng
       let second =
       (and_parts (nat_lt 0 (length (all_memories m))) (nat_le (addr + length bytes) (MOST_PAGES * PAGE_SIZE)) fits).1 in
       let within : addr + length bytes ≤ MOST_PAGES * PAGE_SIZE = grind (arith, nat_tests, second) in
-      let all = total_all (length bytes) in
+      let all = counts_of_all (length bytes) in
       stores_fit (store_widths (length bytes)) addr bytes (omega (arith, within, all)) are
   effect_fitting (Entry index func) fits are =
       let named = (and_parts (nat_lt 0 (length (all_tables m))) (names_function m func) fits).1 in
@@ -145,14 +146,6 @@ module _ (m : Module) (funcs : length (func_indices m) < 2 ^ 32) (globals : leng
 
   -- ---- segments
 
-  drops_fit : (count : ℕ) → AreFitting (replicate count Drop)
-  drops_fit zero = tt
-  drops_fit (suc count) = (tt, drops_fit count)
-
-  dropped_fit : (ty : Option FuncType) → AreFitting (drops ty)
-  dropped_fit None = tt
-  dropped_fit (Some ty) = drops_fit (length ty.results)
-
   called : (types : List ValType) (func : ℕ) → takes_values types (func_type m func) ≡ true → func < 2 ^ 32
   called types func h =
       let ty = some_type (func_type m func) h in
@@ -169,7 +162,7 @@ module _ (m : Module) (funcs : length (func_indices m) < 2 ^ 32) (globals : leng
   next_fitting results (Calls func args) after fits are later =
       joined_all (FitsInstr Replay) (map Const args) (Call func ∷ (drops (func_type m func) ++ after)) (constants_fit args are) (
         called (types_of args) func fits,
-        joined_all (FitsInstr Replay) (drops (func_type m func)) after (dropped_fit (func_type m func)) later,
+        joined_all (FitsInstr Replay) (drops (func_type m func)) after (dropped_all (FitsInstr Replay) tt (func_type m func)) later,
       )
   next_fitting results (Returns result) after fits are later =
       joined_all (FitsInstr Replay) (map Const (option_to_list result)) (Return ∷ [])

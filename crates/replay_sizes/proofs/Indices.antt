@@ -14,7 +14,7 @@ use Rattle.wasm_syntax.specs.Encoding.Shortest.{bounds_bytes, data_bytes, elem_b
 use Rattle.wasm_syntax.proofs.Encoding.NotEmpty.{data_bytes_some, elem_bytes_some, global_bytes_some}
 use Rattle.encoding_sizes.specs.Within.{HasListsWithin}
 use Rattle.encoding_sizes.proofs.Items.{items, items_cons, items_nil, items_some, sized_length, u32_some}
-use Rattle.encoding_sizes.proofs.Sections.{encoding_parts}
+use Rattle.encoding_sizes.proofs.Sections.{encoding_least, encoding_parts}
 use Rattle.trace_model.specs.declared.tapes.Segment.{Segment}
 use Rattle.trace_model.specs.declared.tapes.Tape.{Tape}
 use Rattle.trace_model.specs.Weight.{tape_weight}
@@ -26,7 +26,7 @@ use Rattle.fragment_maker.specs.Pieces.{group_total}
 use Rattle.module_merge.specs.Size.{most_bytes}
 use Rattle.replay_sizes.proofs.Plans.{activations_cost, all_cost, calls_cost, plan_cost}
 use Rattle.replay_sizes.proofs.Modules.{globals_are_all, imported_most, segments_weigh}
-use Rattle.replay_sizes.proofs.Sizes.{encoding_lower, no_part}
+use Rattle.replay_sizes.proofs.Sizes.{no_part}
 
 -- ---- groups are no more than segments
 
@@ -55,7 +55,7 @@ groups_weigh m tape = omega (
   groups_few (import_types m) (plan_of (imported_funcs m) tape).imports,
   plan_cost 1 nothing (imported_funcs m) tape,
   all_many tape.segments,
-  segments_weigh tape.segments,
+  (segments_weigh tape.segments).count,
 )
 
 -- ---- what stands in an encoding
@@ -97,7 +97,7 @@ parts_few : (m : Module)
     → 16 * (length m.globals + (length m.elems + length m.datas)) + 28 * (4 * length m.imports)
     ≤ 28 * length (encoding_of (record m { customs = [] }))
 parts_few m =
-    let lower = encoding_lower (record m { customs = [] }) in
+    let lower = encoding_least (record m { customs = [] }) in
     omega (
       arith,
       lower,

@@ -61,69 +61,59 @@ pub const_cost : (value : Val) → cost (Const value) ≤ 11
 unfolding cost instr_bytes
 const_cost value = let most = const_most value.ty value.bits in omega (arith, most)
 
-pub block_cost : cost (Block None) ≡ 2
-unfolding cost instr_bytes
-block_cost = refl
+-- instructions without immediates, or with one byte of them
+pub record FixedCosts : Type 0 where
+  pub block : cost (Block None) ≡ 2
+  pub unreachable : cost Unreachable ≡ 1
+  pub ends : cost End ≡ 1
+  pub returns : cost Return ≡ 1
+  pub drop : cost Drop ≡ 1
+  pub memory_size : cost MemorySize ≡ 2
+  pub memory_grow : cost MemoryGrow ≡ 2
+  pub ref_null : cost RefNull ≡ 2
 
-pub unreachable_cost : cost Unreachable ≡ 1
+pub fixed : FixedCosts
 unfolding cost instr_bytes
-unreachable_cost = refl
+fixed =
+    record {
+      block = refl;
+      unreachable = refl;
+      ends = refl;
+      returns = refl;
+      drop = refl;
+      memory_size = refl;
+      memory_grow = refl;
+      ref_null = refl;
+    }
 
-pub end_cost : cost End ≡ 1
-unfolding cost instr_bytes
-end_cost = refl
+-- instructions with an index
+pub record IndexCosts (index : ℕ) : Type 0 where
+  pub call : cost (Call index) ≤ 6
+  pub local_get : cost (LocalGet index) ≤ 6
+  pub local_tee : cost (LocalTee index) ≤ 6
+  pub global_get : cost (GlobalGet index) ≤ 6
+  pub global_set : cost (GlobalSet index) ≤ 6
+  pub table_set : cost (TableSet index) ≤ 6
 
-pub return_cost : cost Return ≡ 1
+pub at_index : (index : ℕ) → IndexCosts index
 unfolding cost instr_bytes
-return_cost = refl
-
-pub drop_cost : cost Drop ≡ 1
-unfolding cost instr_bytes
-drop_cost = refl
+at_index index =
+    record {
+      call = omega (arith, u32_most index);
+      local_get = omega (arith, u32_most index);
+      local_tee = omega (arith, u32_most index);
+      global_get = omega (arith, u32_most index);
+      global_set = omega (arith, u32_most index);
+      table_set = omega (arith, u32_most index);
+    }
 
 pub numeric_cost : (op : ℕ) → cost (Numeric op) ≡ 1
 unfolding cost instr_bytes
 numeric_cost op = refl
 
-pub memory_size_cost : cost MemorySize ≡ 2
-unfolding cost instr_bytes
-memory_size_cost = refl
-
-pub memory_grow_cost : cost MemoryGrow ≡ 2
-unfolding cost instr_bytes
-memory_grow_cost = refl
-
-pub ref_null_cost : cost RefNull ≡ 2
-unfolding cost instr_bytes
-ref_null_cost = refl
-
 pub ref_func_cost : (func : ℕ) → cost (RefFunc func) ≤ 11
 unfolding cost instr_bytes
 ref_func_cost func = omega (arith, u32_most func)
-
-pub call_cost : (func : ℕ) → cost (Call func) ≤ 6
-unfolding cost instr_bytes
-call_cost func = omega (arith, u32_most func)
-
-pub local_get_cost : (local : ℕ) → cost (LocalGet local) ≤ 6
-unfolding cost instr_bytes
-local_get_cost local = omega (arith, u32_most local)
-
-pub local_tee_cost : (local : ℕ) → cost (LocalTee local) ≤ 6
-unfolding cost instr_bytes
-local_tee_cost local = omega (arith, u32_most local)
-
-pub global_get_cost : (global : ℕ) → cost (GlobalGet global) ≤ 6
-unfolding cost instr_bytes
-global_get_cost global = omega (arith, u32_most global)
-
-pub global_set_cost : (global : ℕ) → cost (GlobalSet global) ≤ 6
-unfolding cost instr_bytes
-global_set_cost global = omega (arith, u32_most global)
-
-pub table_set_cost : (table : ℕ) → cost (TableSet table) ≤ 6
-unfolding cost instr_bytes
-table_set_cost table = omega (arith, u32_most table)
 
 pub table_size_cost : (table : ℕ) → cost (TableSize table) ≤ 11
 unfolding cost instr_bytes
@@ -162,13 +152,21 @@ br_table_cost labels default = omega (
 
 -- ---- sequences of instructions
 
+-- what some items cost together
+abbrev pub total : {A : Type 0} → (A → ℕ) → List A → ℕ
+total each [] = 0
+total each (x ∷ xs) = each x + total each xs
+
+pub total_append : {A : Type 0} (each : A → ℕ) (first later : List A)
+    → total each (first ++ later) ≡ total each first + total each later
+total_append each [] later = omega arith
+total_append each (x ∷ first) later = let e = total_append each first later in omega (arith, e)
+
 abbrev pub total_cost : List Instr → ℕ
-total_cost [] = 0
-total_cost (i ∷ is) = cost i + total_cost is
+total_cost is = total cost is
 
 pub cost_append : (first later : List Instr) → total_cost (first ++ later) ≡ total_cost first + total_cost later
-cost_append [] later = omega arith
-cost_append (i ∷ first) later = let e = cost_append first later in omega (arith, e)
+cost_append first later = total_append cost first later
 
 pub constants_cost : (values : List Val) → total_cost (map Const values) ≤ 11 * length values
 constants_cost [] = omega arith
@@ -176,4 +174,4 @@ constants_cost (value ∷ values) = let later = constants_cost values in omega (
 
 pub drops_cost : (count : ℕ) → total_cost (replicate count Drop) ≡ count
 drops_cost zero = refl
-drops_cost (suc count) = let later = drops_cost count in omega (arith, later, drop_cost)
+drops_cost (suc count) = let later = drops_cost count in omega (arith, later, fixed.drop)

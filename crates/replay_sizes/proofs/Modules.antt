@@ -25,9 +25,9 @@ use Rattle.wasm_syntax.specs.declared.modules.ImportKind.TheVariants as kinds
 use Rattle.wasm_syntax.specs.declared.modules.Module.{Module}
 use Rattle.wasm_syntax.specs.Index.{all_globals, func_import, global_import, imported_funcs, imported_globals, of_kind}
 use Rattle.wasm_syntax.specs.Encoding.Modules.{code_of}
-use Rattle.wasm_syntax.specs.Encoding.Sections.{CustomSection, DataSection, ElementSection, MemorySection, TableSection}
+use Rattle.wasm_syntax.specs.Encoding.Sections.{CustomSection}
 use Rattle.wasm_syntax.specs.Encoding.Shortest.{body_bytes, bounds_bytes, code_bytes, content_bytes, custom_bytes, data_bytes, elem_bytes, export_bytes, export_kind_bytes, func_type_bytes, global_bytes, global_type_bytes, instr_bytes, limits_bytes, sized_bytes, table_type_bytes, vector_bytes}
-use Rattle.encoding_sizes.proofs.Items.{IsVectorOf, items, items_as, items_cons, items_nil, sized_length, u32_most, vector_length}
+use Rattle.encoding_sizes.proofs.Items.{items, items_as, items_cons, items_nil, sized_length, u32_most, vector_length}
 use Rattle.trace_model.specs.declared.tapes.Next.{Next}
 use Rattle.trace_model.specs.declared.tapes.Next.TheVariants.{Call, Return, End as Ends, Trap}
 use Rattle.trace_model.specs.declared.tapes.Segment.{Segment}
@@ -37,29 +37,11 @@ use Rattle.history_spec.specs.Instantiation.{constant, global_value}
 use Rattle.replay_gen.specs.Functions.{appended_types}
 use Rattle.replay_gen.specs.Fragments.{counter}
 use Rattle.module_merge.specs.Merge.{constant_body, constant_data, constant_elem, constant_global, constant_offset, declaration, layout_section, supplied_global}
-use Rattle.replay_sizes.proofs.Instructions.{const_cost, cost_is, end_cost, indices_most}
+use Rattle.replay_sizes.proofs.Instructions.{const_cost, cost_is, indices_most, fixed}
 use Rattle.replay_sizes.proofs.Plans.{all_cost}
 use Rattle.replay_sizes.proofs.Segments.{segment_cost}
 use Rattle.replay_sizes.proofs.Bodies.{funcs_cost}
 use Rattle.replay_sizes.proofs.References.{total_marks}
-
--- ---- sections that are vectors
-
-pub tables_are : IsVectorOf TableSection table_type_bytes
-unfolding content_bytes
-tables_are xs = refl
-
-pub memories_are : IsVectorOf MemorySection limits_bytes
-unfolding content_bytes
-memories_are xs = refl
-
-pub elems_are : IsVectorOf ElementSection elem_bytes
-unfolding content_bytes
-elems_are xs = refl
-
-pub datas_are : IsVectorOf DataSection data_bytes
-unfolding content_bytes
-datas_are xs = refl
 
 -- ---- types, limits
 
@@ -101,7 +83,7 @@ constant_most value = omega (
   items_nil instr_bytes,
   const_cost value,
   cost_is (Const value),
-  end_cost,
+  fixed.ends,
   cost_is End,
 )
 
@@ -284,23 +266,21 @@ next_some (Return (Some value)) = omega arith
 next_some Ends = omega arith
 next_some Trap = omega arith
 
-pub segments_weigh : (segments : List Segment) → length segments ≤ sum_by segment_weight segments
-segments_weigh [] = omega arith
-segments_weigh (segment ∷ segments) = omega (
-  arith,
-  sum_by-cons segment_weight segment segments,
-  next_some segment.next,
-  segments_weigh segments,
-)
+-- what segments weigh: one each at least, and what their code costs
+pub record SegmentsWeigh (segments : List Segment) : Type 0 where
+  pub count : length segments ≤ sum_by segment_weight segments
+  pub cost : all_cost 80 segment_cost segments ≤ 96 * sum_by segment_weight segments
 
-pub all_most : (segments : List Segment) → all_cost 80 segment_cost segments ≤ 96 * sum_by segment_weight segments
-all_most [] = omega arith
-all_most (segment ∷ segments) = omega (
-  arith,
-  sum_by-cons segment_weight segment segments,
-  next_some segment.next,
-  all_most segments,
-)
+pub segments_weigh : (segments : List Segment) → SegmentsWeigh segments
+segments_weigh [] = record { count = omega arith; cost = omega arith }
+segments_weigh (segment ∷ segments) =
+    let sum = sum_by-cons segment_weight segment segments in
+    let one = next_some segment.next in
+    let later = segments_weigh segments in
+    record {
+      count = (let more = later.count in omega (arith, sum, one, more));
+      cost = (let more = later.cost in omega (arith, sum, one, more));
+    }
 
 -- ---- imports
 

@@ -21,7 +21,7 @@ use Rattle.history_spec.specs.Code.{i32_value}
 use Rattle.history_spec.specs.Store.{number_of}
 use Rattle.replay_gen.specs.Effects.{Width, Eight, Four, Two, One, byte_count, effect_code, store_opcode, store_type, store_widths, stores_code}
 use Rattle.replay_gen.specs.Segments.{drops, effects_code, next_code, segments_code}
-use Rattle.replay_sizes.proofs.Instructions.{total_cost, cost_append, call_cost, const_cost, constants_cost, drop_cost, drops_cost, global_set_cost, memory_grow_cost, memory_size_cost, numeric_cost, ref_func_cost, ref_null_cost, return_cost, store_cost, table_grow_cost, table_set_cost, table_size_cost, unreachable_cost}
+use Rattle.replay_sizes.proofs.Instructions.{total_cost, cost_append, const_cost, constants_cost, drops_cost, numeric_cost, ref_func_cost, store_cost, table_grow_cost, table_size_cost, at_index, fixed}
 use Rattle.replay_sizes.proofs.Plans.{segments_cost}
 
 -- ---- effects
@@ -58,22 +58,22 @@ widths_most count =
 
 effect_most : (effect : Effect) → total_cost (effect_code effect) ≤ 40 * effect_weight effect
 effect_most (Grow pages) =
-    omega (arith, const_cost (i32_value pages), memory_size_cost, numeric_cost I32_SUB, memory_grow_cost, drop_cost)
+    omega (arith, const_cost (i32_value pages), fixed.memory_size, numeric_cost I32_SUB, fixed.memory_grow, fixed.drop)
 effect_most (Table size) = omega (
   arith,
-  ref_null_cost,
+  fixed.ref_null,
   const_cost (i32_value size),
   table_size_cost 0,
   numeric_cost I32_SUB,
   table_grow_cost 0,
-  drop_cost,
+  fixed.drop,
 )
 effect_most (Bytes addr bytes) =
     omega (arith, stores_most (store_widths (length bytes)) addr bytes, widths_most (length bytes))
-effect_most (Entry index None) = omega (arith, const_cost (i32_value index), ref_null_cost, table_set_cost 0)
+effect_most (Entry index None) = omega (arith, const_cost (i32_value index), fixed.ref_null, (at_index 0).table_set)
 effect_most (Entry index (Some func)) =
-    omega (arith, const_cost (i32_value index), ref_func_cost func, table_set_cost 0)
-effect_most (Global global value) = omega (arith, const_cost value, global_set_cost global)
+    omega (arith, const_cost (i32_value index), ref_func_cost func, (at_index 0).table_set)
+effect_most (Global global value) = omega (arith, const_cost value, (at_index global).global_set)
 
 effects_most : (effects : List Effect) → total_cost (effects_code effects) ≤ 40 * sum_by effect_weight effects
 effects_most [] = omega arith
@@ -108,18 +108,18 @@ module _ (m : Module) (valid : All IsFuncType m.types) where
     arith,
     cost_append (map Const args) (Call func ∷ (drops (func_type m func) ++ after)),
     constants_cost args,
-    call_cost func,
+    (at_index func).call,
     cost_append (drops (func_type m func)) after,
     drops_most func,
   )
-  next_most (Returns None) after = omega (arith, return_cost)
-  next_most (Returns (Some value)) after = omega (arith, const_cost value, return_cost)
-  next_most Ends after = omega (arith, return_cost)
-  next_most Traps after = omega (arith, unreachable_cost)
+  next_most (Returns None) after = omega (arith, fixed.returns)
+  next_most (Returns (Some value)) after = omega (arith, const_cost value, fixed.returns)
+  next_most Ends after = omega (arith, fixed.returns)
+  next_most Traps after = omega (arith, fixed.unreachable)
 
   pub segments_most : (segments : List Segment)
       → total_cost (segments_code m segments) ≤ 1 + segments_cost segment_cost segments
-  segments_most [] = omega (arith, unreachable_cost)
+  segments_most [] = omega (arith, fixed.unreachable)
   segments_most (segment ∷ later) = omega (
     arith,
     cost_append (effects_code segment.effects) (next_code m segment.next (segments_code m later)),

@@ -12,8 +12,8 @@ use Rattle.wasm_syntax.specs.Encoding.Forms.{IsCoreModule}
 use Rattle.wasm_syntax.specs.Encoding.Modules.{code_of}
 use Rattle.wasm_syntax.specs.Encoding.Sections.{CodeSection, CustomSection, DataSection, ElementSection, ExportSection, FunctionSection, GlobalSection, ImportSection, MemorySection, StartSection, TableSection, TypeSection, Section}
 use Rattle.wasm_syntax.specs.Encoding.Shortest.{code_bytes, data_bytes, elem_bytes, encoding_of, export_bytes, func_type_bytes, global_bytes, import_bytes, limits_bytes, section_bytes, table_type_bytes, unless_empty}
-use Rattle.encoding_sizes.proofs.Items.{items, items_append, items_cons, items_nil, list_least, list_most, section_most, IsVectorOf}
-use Rattle.encoding_sizes.proofs.Sections.{codes_are, encoding_parts, exports_are, functions_are, globals_are, imports_are, part, part_is, types_are}
+use Rattle.encoding_sizes.proofs.Items.{items, items_append, items_cons, items_nil, section_most}
+use Rattle.encoding_sizes.proofs.Sections.{encoding_least, encoding_parts, part, part_is, part_most, vectors}
 use Rattle.trace_model.specs.declared.tapes.Tape.{Tape}
 use Rattle.trace_model.specs.Weight.{tape_weight}
 use Rattle.host_script.specs.declared.scripts.Supply.{Supply}
@@ -27,21 +27,12 @@ use Rattle.replay_sizes.proofs.Plans.{plan_cost}
 use Rattle.replay_sizes.proofs.Segments.{segment_cost}
 use Rattle.replay_sizes.proofs.Bodies.{funcs_append, funcs_cost, funcs_most, start_most}
 use Rattle.replay_sizes.proofs.References.{no_marks, once_most, total_marks, total_marks_are}
-use Rattle.replay_sizes.proofs.Modules.{all_most, appended_length, counters_most, datas_are, datas_most, declaration_most, elems_are, elems_most, export_most, funcs_parts, globals_are_all, globals_most, imported_most, layout_most, memories_are, memories_most, supplied_most, tables_are, tables_most}
+use Rattle.replay_sizes.proofs.Modules.{appended_length, counters_most, datas_most, declaration_most, elems_most, export_most, funcs_parts, globals_are_all, globals_most, imported_most, layout_most, memories_most, segments_weigh, supplied_most, tables_most}
 
 -- ---- sections
 
 pub no_part : part [] ≡ 0
 no_part = omega (arith, part_is [], items_nil section_bytes)
-
--- the section of a list takes its items' bytes at least, and few more
-part_least : {A : Type 0} (make : List A → Section) (write : A → List ℕ) → IsVectorOf make write → (xs : List A)
-    → items write xs ≤ part (unless_empty make xs)
-part_least make write is xs = omega (arith, part_is (unless_empty make xs), list_least make write is xs)
-
-part_most : {A : Type 0} (make : List A → Section) (write : A → List ℕ) → IsVectorOf make write → (xs : List A)
-    → part (unless_empty make xs) ≤ 11 + items write xs
-part_most make write is xs = omega (arith, part_is (unless_empty make xs), list_most make write is xs)
 
 -- a module without imports and start function has few bytes more than what stands in its sections
 encoding_upper : (r : Module) → r.imports ≡ [] → r.start ≡ None
@@ -59,34 +50,16 @@ encoding_upper r alone still =
       imports,
       start,
       no_part,
-      part_most TypeSection func_type_bytes types_are r.types,
-      part_most FunctionSection u32_bytes functions_are (map (λ func. func.ty) r.funcs),
-      part_most TableSection table_type_bytes tables_are r.tables,
-      part_most MemorySection limits_bytes memories_are r.memories,
-      part_most GlobalSection global_bytes globals_are r.globals,
-      part_most ExportSection export_bytes exports_are r.exports,
-      part_most ElementSection elem_bytes elems_are r.elems,
-      part_most CodeSection code_bytes codes_are (map code_of r.funcs),
-      part_most DataSection data_bytes datas_are r.datas,
+      part_most TypeSection func_type_bytes vectors.types r.types,
+      part_most FunctionSection u32_bytes vectors.functions (map (λ func. func.ty) r.funcs),
+      part_most TableSection table_type_bytes vectors.tables r.tables,
+      part_most MemorySection limits_bytes vectors.memories r.memories,
+      part_most GlobalSection global_bytes vectors.globals r.globals,
+      part_most ExportSection export_bytes vectors.exports r.exports,
+      part_most ElementSection elem_bytes vectors.elems r.elems,
+      part_most CodeSection code_bytes vectors.codes (map code_of r.funcs),
+      part_most DataSection data_bytes vectors.datas r.datas,
     )
-
--- an encoding is no shorter than what stands in its sections
-pub encoding_lower : (m : Module)
-    → 8 + items func_type_bytes m.types + items import_bytes m.imports
-    + items u32_bytes (map (λ func. func.ty) m.funcs) + items global_bytes m.globals + items elem_bytes m.elems
-    + items code_bytes (map code_of m.funcs) + items data_bytes m.datas
-    ≤ length (encoding_of m)
-encoding_lower m = omega (
-  arith,
-  encoding_parts m,
-  part_least TypeSection func_type_bytes types_are m.types,
-  part_least ImportSection import_bytes imports_are m.imports,
-  part_least FunctionSection u32_bytes functions_are (map (λ func. func.ty) m.funcs),
-  part_least GlobalSection global_bytes globals_are m.globals,
-  part_least ElementSection elem_bytes elems_are m.elems,
-  part_least CodeSection code_bytes codes_are (map code_of m.funcs),
-  part_least DataSection data_bytes datas_are m.datas,
-)
 
 layout_part : (m : Module) → part (map CustomSection (layout_section m ∷ [])) ≤ 30
 layout_part m = omega (
@@ -128,7 +101,7 @@ generated_most m tape valid =
       funcs_most m valid.outside.types (length (all_globals m)) (start_index m + 1) (import_types m) plan.imports,
       start_most m valid.outside.types plan.begin,
       plan_cost 80 segment_cost (imported_funcs m) tape,
-      all_most tape.segments,
+      (segments_weigh tape.segments).cost,
     )
 
 globals_whole : (m : Module) (supply : Supply)
@@ -179,7 +152,7 @@ replay_most m supply tape valid core =
     + items u32_bytes (map (λ func. func.ty) m.funcs) + items global_bytes m.globals + items elem_bytes m.elems
     + items code_bytes (map code_of m.funcs) + items data_bytes m.datas
     ≤ length (encoding_of (record m { customs = [] })) =
-    encoding_lower (record m { customs = [] }) in
+    encoding_least (record m { customs = [] }) in
     let types = items_append func_type_bytes m.types appended_types in
     let functions =
     funcs_whole bodies m.funcs helpers declared (no_marks m.funcs core.funcs) (once_most (start_index m) funcs) in

@@ -9,7 +9,7 @@ use Rattle.trace_model.specs.declared.tapes.Origin.{Origin}
 use Rattle.trace_model.specs.declared.tapes.Origin.TheVariants.{Begin, Import, Back}
 use Rattle.trace_model.specs.declared.tapes.Next.{Next}
 use Rattle.trace_model.specs.declared.tapes.Next.TheVariants.{Call, Return, End, Trap}
-use Rattle.replay_spec.specs.Alike.{same_option, same_value, same_values, same_origin, same_next}
+use Rattle.replay_spec.specs.Alike.{same_option, same_value, same_list, same_values, same_origin, same_next}
 
 pub option_same : {X : Type 0} (same : X → X → Bool) → ((x y : X) → same x y ≡ true → x ≡ y)
     → (a b : Option X) → same_option same a b ≡ true → a ≡ b
@@ -23,13 +23,17 @@ value_same a b h =
     let p = and_parts (same_type a.ty b.ty) (nat_eq a.bits b.bits) h in
     (λ i. record { ty = type_same a.ty b.ty p.0 i; bits = eqb-true a.bits b.bits p.1 i })
 
+list_same : {X : Type 0} (same : X → X → Bool) → ((a b : X) → same a b ≡ true → a ≡ b)
+    → (xs ys : List X) → same_list same xs ys ≡ true → xs ≡ ys
+list_same same each [] [] h = refl
+list_same same each [] (y ∷ ys) h = cc
+list_same same each (x ∷ xs) [] h = cc
+list_same same each (x ∷ xs) (y ∷ ys) h =
+    let p = and_parts (same x y) (same_list same xs ys) h in
+    (λ i. each x y p.0 i ∷ list_same same each xs ys p.1 i)
+
 pub values_same : (a b : List Val) → same_values a b ≡ true → a ≡ b
-values_same [] [] h = refl
-values_same [] (y ∷ ys) h = cc
-values_same (x ∷ xs) [] h = cc
-values_same (x ∷ xs) (y ∷ ys) h =
-    let p = and_parts (same_value x y) (same_values xs ys) h in
-    (λ i. value_same x y p.0 i ∷ values_same xs ys p.1 i)
+values_same a b h = list_same same_value value_same a b h
 
 pub origin_same : (a b : Origin) → same_origin a b ≡ true → a ≡ b
 origin_same Begin Begin h = refl

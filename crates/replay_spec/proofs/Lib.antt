@@ -2,4 +2,4 @@ pub mod Kept
 pub mod Alike
 pub mod Tested
 pub mod OneList
-mod OneTape
+pub mod OneTape

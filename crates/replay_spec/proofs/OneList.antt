@@ -11,11 +11,11 @@ use Rattle.trace_model.specs.declared.tapes.Effect.{Effect}
 use Rattle.trace_model.specs.declared.tapes.Effect.TheVariants.{Grow, Table, Bytes, Entry, Global}
 use Rattle.trace_model.specs.Effects.{is_before, are_ordered_after, are_ordered}
 use Rattle.replay_spec.specs.Known.{byte_among, last_some}
-use Rattle.replay_spec.specs.Needed.{effect_byte, effect_entry, effect_global, effect_pages, effect_entries, has_bytes}
+use Rattle.replay_spec.specs.Needed.{effect_byte, effect_entry, effect_global, effect_pages, effect_entries, has_bytes, Given, SameGiven, GiveJust, given_by}
 
 -- ---- options
 
-or_none : {X : Type 0} (a : Option X) → option_or a None ≡ a
+pub or_none : {X : Type 0} (a : Option X) → option_or a None ≡ a
 or_none None = refl
 or_none (Some x) = refl
 
@@ -86,20 +86,26 @@ abbrev PagesAbove : Effect → Type 0
 PagesAbove (Grow pages) = ⊥
 PagesAbove f = Unit {0}
 
+above_pages : (f g : Effect) → is_before f g ≡ true → PagesAbove g
+above_pages (Grow a) (Grow b) h = cc
+above_pages (Table a) (Grow b) h = cc
+above_pages (Bytes a c) (Grow b) h = cc
+above_pages (Entry a c) (Grow b) h = cc
+above_pages (Global a c) (Grow b) h = cc
+above_pages f g h = tt
+
 pages_kind : IsKind effect_pages PagesAbove
-pages_kind = record { gives_none = none; goes_on = λ f g above h. after f g h; next = λ e g x p h. after e g h }
+pages_kind =
+    record { gives_none = none; goes_on = λ f g above h. above_pages f g h; next = λ e g x p h. above_pages e g h }
   where
     none : (f : Effect) → PagesAbove f → effect_pages f ≡ None
     none (Grow pages) above = absurd above
     none f above = refl
 
-    after : (f g : Effect) → is_before f g ≡ true → PagesAbove g
-    after (Grow a) (Grow b) h = cc
-    after (Table a) (Grow b) h = cc
-    after (Bytes a c) (Grow b) h = cc
-    after (Entry a c) (Grow b) h = cc
-    after (Global a c) (Grow b) h = cc
-    after f g h = tt
+-- no effect grows the memory after another effect
+pub pages_after : (effect : Effect) (effects : List Effect) → are_ordered_after effect effects ≡ true
+    → last_some effect_pages effects ≡ None
+pages_after effect effects = nothing_after effect_pages PagesAbove pages_kind effect effects (above_pages effect)
 
 abbrev EntriesAbove : Effect → Type 0
 EntriesAbove (Grow pages) = ⊥
@@ -216,6 +222,12 @@ EntryAbove at (Entry index func) = at < index
 EntryAbove at (Global global value) = Unit {0}
 EntryAbove at f = ⊥
 
+after_entry : (at i : ℕ) (func : Option ℕ) (g : Effect) → at ≤ i → is_before (Entry i func) g ≡ true → EntryAbove at g
+after_entry at i func (Entry index other) le h =
+    let less : i < index = grind (arith, nat_tests, h) in omega (arith, less, le)
+after_entry at i func (Global global value) le h = tt
+after_entry at i func g le h = cc
+
 entry_kind : (at : ℕ) → IsKind (effect_entry at) (EntryAbove at)
 entry_kind at = record { gives_none = none; goes_on = on; next = next }
   where
@@ -224,26 +236,25 @@ entry_kind at = record { gives_none = none; goes_on = on; next = next }
     none (Global global value) above = refl
     none f above = absurd above
 
-    after : (i : ℕ) (func : Option ℕ) (g : Effect) → at ≤ i → is_before (Entry i func) g ≡ true → EntryAbove at g
-    after i func (Entry index other) le h =
-        let less : i < index = grind (arith, nat_tests, h) in omega (arith, less, le)
-    after i func (Global global value) le h = tt
-    after i func g le h = cc
-
     on : (f g : Effect) → EntryAbove at f → is_before f g ≡ true → EntryAbove at g
-    on (Entry index func) g above h = after index func g (omega (arith, above)) h
+    on (Entry index func) g above h = after_entry at index func g (omega (arith, above)) h
     on (Global a c) (Global b d) above h = tt
     on (Global a c) g above h = cc
     on f g above h = absurd above
 
     next : (e g : Effect) (x : Option ℕ) → effect_entry at e ≡ Some x → is_before e g ≡ true → EntryAbove at g
     next (Entry index func) g x p h =
-        let e : index ≡ at = at_place index at func x p in after index func g (omega (arith, e)) h
+        let e : index ≡ at = at_place index at func x p in after_entry at index func g (omega (arith, e)) h
     next e g x p h = cc
 
 abbrev GlobalAbove : ℕ → Effect → Type 0
 GlobalAbove at (Global global value) = at < global
 GlobalAbove at f = ⊥
+
+after_global : (at i : ℕ) (value : Val) (g : Effect) → at ≤ i → is_before (Global i value) g ≡ true → GlobalAbove at g
+after_global at i value (Global global other) le h =
+    let less : i < global = grind (arith, nat_tests, h) in omega (arith, less, le)
+after_global at i value g le h = cc
 
 global_kind : (at : ℕ) → IsKind (effect_global at) (GlobalAbove at)
 global_kind at = record { gives_none = none; goes_on = on; next = next }
@@ -252,31 +263,33 @@ global_kind at = record { gives_none = none; goes_on = on; next = next }
     none (Global global value) above = other_place global at (Some value) above
     none f above = absurd above
 
-    after : (i : ℕ) (value : Val) (g : Effect) → at ≤ i → is_before (Global i value) g ≡ true → GlobalAbove at g
-    after i value (Global global other) le h =
-        let less : i < global = grind (arith, nat_tests, h) in omega (arith, less, le)
-    after i value g le h = cc
-
     on : (f g : Effect) → GlobalAbove at f → is_before f g ≡ true → GlobalAbove at g
-    on (Global global value) g above h = after global value g (omega (arith, above)) h
+    on (Global global value) g above h = after_global at global value g (omega (arith, above)) h
     on f g above h = absurd above
 
     next : (e g : Effect) (x : Option Val) → effect_global at e ≡ Some x → is_before e g ≡ true → GlobalAbove at g
     next (Global global value) g x p h =
-        let e : global ≡ at = at_place global at (Some value) x p in after global value g (omega (arith, e)) h
+        let e : global ≡ at = at_place global at (Some value) x p in
+        after_global at global value g (omega (arith, e)) h
     next e g x p h = cc
+
+-- after an entry, and after a global, only those of greater indices are set
+pub entries_after : (index : ℕ) (func : Option ℕ) (at : ℕ) (effects : List Effect) → at ≤ index
+    → are_ordered_after (Entry index func) effects ≡ true → last_some (effect_entry at) effects ≡ None
+entries_after index func at effects low =
+    nothing_after (effect_entry at) (EntryAbove at) (entry_kind at) (Entry index func) effects
+    (λ g. after_entry at index func g low)
+
+pub globals_after : (global : ℕ) (value : Val) (at : ℕ) (effects : List Effect) → at ≤ global
+    → are_ordered_after (Global global value) effects ≡ true → last_some (effect_global at) effects ≡ None
+globals_after global value at effects low =
+    nothing_after (effect_global at) (GlobalAbove at) (global_kind at) (Global global value) effects
+    (λ g. after_global at global value g low)
 
 -- ---- two lists that give the same
 
-pub record GiveSame (es fs : List Effect) : Type 0 where
-  pub pages : last_some effect_pages es ≡ last_some effect_pages fs
-  pub entries : last_some effect_entries es ≡ last_some effect_entries fs
-  pub byte : (at : ℕ) → last_some (effect_byte at) es ≡ last_some (effect_byte at) fs
-  pub entry : (at : ℕ) → last_some (effect_entry at) es ≡ last_some (effect_entry at) fs
-  pub global : (at : ℕ) → last_some (effect_global at) es ≡ last_some (effect_global at) fs
-
-flipped : (es fs : List Effect) → GiveSame es fs → GiveSame fs es
-flipped es fs same =
+pub same_reversed : (a b : Given) → SameGiven a b → SameGiven b a
+same_reversed a b same =
     record {
       pages = sym same.pages;
       entries = sym same.entries;
@@ -284,6 +297,21 @@ flipped es fs same =
       entry = λ at. sym (same.entry at);
       global = λ at. sym (same.global at);
     }
+
+pub just_of_same : (a b : Given) (effects : List Effect) → SameGiven a b → GiveJust a effects → GiveJust b effects
+just_of_same a b effects same just =
+    record {
+      ordered = just.ordered;
+      nonempty = just.nonempty;
+      pages = just.pages ∙ same.pages;
+      entries = just.entries ∙ same.entries;
+      byte = λ at. just.byte at ∙ same.byte at;
+      entry = λ at. just.entry at ∙ same.entry at;
+      global = λ at. just.global at ∙ same.global at;
+    }
+
+abbrev GiveSame : List Effect → List Effect → Type 0
+GiveSame es fs = SameGiven (given_by es) (given_by fs)
 
 -- an effect, with others after it, gives something
 gives_more : (f : Effect) (fs : List Effect) → has_bytes f ≡ true → GiveSame (f ∷ fs) [] → ⊥
@@ -434,7 +462,7 @@ pub effects_same : (es fs : List Effect) → are_ordered es ≡ true → are_ord
     → list_all has_bytes es ≡ true → list_all has_bytes fs ≡ true → GiveSame es fs → es ≡ fs
 effects_same [] [] h k p q same = refl
 effects_same [] (f ∷ fs) h k p q same =
-    absurd (gives_more f fs (and_parts (has_bytes f) (list_all has_bytes fs) q).0 (flipped [] (f ∷ fs) same))
+    absurd (gives_more f fs (and_parts (has_bytes f) (list_all has_bytes fs) q).0 (same_reversed (given_by []) (given_by (f ∷ fs)) same))
 effects_same (e ∷ es) [] h k p q same =
     absurd (gives_more e es (and_parts (has_bytes e) (list_all has_bytes es) p).0 same)
 effects_same (e ∷ es) (f ∷ fs) h k p q same =
@@ -447,3 +475,15 @@ effects_same (e ∷ es) (f ∷ fs) h k p q same =
     (rests_same e es fs h order (subst (λ x. GiveSame (e ∷ es) (x ∷ fs)) (sym first) same))
     in
     (λ i. first i ∷ rest i)
+
+-- effects that give just the same
+pub just_one : (given : Given) (es fs : List Effect) → GiveJust given es → GiveJust given fs → es ≡ fs
+just_one given es fs a b =
+    effects_same es fs a.ordered b.ordered a.nonempty b.nonempty
+    (record {
+      pages = a.pages ∙ sym b.pages;
+      entries = a.entries ∙ sym b.entries;
+      byte = λ at. a.byte at ∙ sym (b.byte at);
+      entry = λ at. a.entry at ∙ sym (b.entry at);
+      global = λ at. a.global at ∙ sym (b.global at);
+    })

@@ -1,7 +1,6 @@
 -- A run has one needed tape at most.
 use Rattle.std.proofs.Common.{◌≡◌, ℕ, zero, suc, List, [], ◌∷◌, ◌++◌, refl, sym, ap, ◌∙◌, subst}
 use Rattle.run_outcomes.specs.declared.outcomes.Outcome.{Outcome}
-use Rattle.trace_model.specs.declared.tapes.Effect.{Effect}
 use Rattle.trace_model.specs.declared.tapes.Origin.TheVariants.{Begin}
 use Rattle.trace_model.specs.declared.tapes.Segment.{Segment}
 use Rattle.history_spec.specs.Step.{Program, Progress, Running, Finished, step}
@@ -9,21 +8,9 @@ use Rattle.history_spec.specs.Run.{all_one, steps}
 use Rattle.replay_spec.specs.Observations.{Observation, Begins, Ends, stack_observations, activity_observations, observations, run_observations}
 use Rattle.replay_spec.specs.Known.{Known, known_from, opening_known}
 use Rattle.replay_spec.specs.Windows.{window}
-use Rattle.replay_spec.specs.Needed.{AreNeeded, AreNeededSegments}
+use Rattle.replay_spec.specs.Needed.{needed_by, AreNeededSegments}
 use Rattle.replay_spec.specs.Laws.{NeededTapeIsOne}
-use Rattle.replay_spec.proofs.OneList.{effects_same}
-
-needed_same : (known : Known) (sights : List Observation) (es fs : List Effect)
-    → AreNeeded known sights es → AreNeeded known sights fs → es ≡ fs
-needed_same known sights es fs a b =
-    effects_same es fs a.ordered b.ordered a.nonempty b.nonempty
-    (record {
-      pages = a.pages ∙ sym b.pages;
-      entries = a.entries ∙ sym b.entries;
-      byte = λ at. a.byte at ∙ sym (b.byte at);
-      entry = λ at. a.entry at ∙ sym (b.entry at);
-      global = λ at. a.global at ∙ sym (b.global at);
-    })
+use Rattle.replay_spec.proofs.OneList.{just_one}
 
 segments_same : (opening : Known) (seen later : List Observation) (segments others : List Segment)
     → AreNeededSegments opening seen later segments → AreNeededSegments opening seen later others → segments ≡ others
@@ -34,7 +21,7 @@ segments_same opening seen (Begins origin ∷ Ends next ∷ later) (segment ∷ 
     let origins = a.0.begins ∙ sym b.0.begins in
     let nexts = a.0.leaves ∙ sym b.0.leaves in
     let changes =
-    needed_same (known_from opening seen) (window later) segment.effects other.effects a.0.changes b.0.changes
+    just_one (needed_by (known_from opening seen) (window later)) segment.effects other.effects a.0.changes b.0.changes
     in
     let rest = segments_same opening seen later segments others a.1 b.1 in
     (λ i. record { origin = origins i; effects = changes i; next = nexts i } ∷ rest i)
@@ -45,7 +32,7 @@ segments_same opening seen (o ∷ later) segments others a b =
     segments_same opening (seen ++ o ∷ []) later segments others a b
 
 -- after its end a run has no more observations
-observations_same : (program : Program) (k j : ℕ) (at : Progress) (a b : Outcome)
+pub observations_same : (program : Program) (k j : ℕ) (at : Progress) (a b : Outcome)
     → (steps program all_one k at).at ≡ Finished a → (steps program all_one j at).at ≡ Finished b
     → observations program k at ≡ observations program j at
 observations_same program zero zero at a b h q = refl

@@ -1,5 +1,5 @@
 -- Segments that pass the test are needed: elsewhere than at the places that occur, nothing is given and nothing needed.
-use Rattle.std.proofs.Common.{◌≡◌, ℕ, suc, ◌-◌, ◌≤◌, List, [], ◌∷◌, ◌++◌, Option, Some, None, Bool, true, false, cond, ◌||◌, nat_eq, nat_le, slice_get, ⊎_elim, refl, sym, ap, ◌∙◌, subst, arith}
+use Rattle.std.proofs.Common.{◌≡◌, ℕ, suc, ◌-◌, ◌≤◌, List, [], ◌∷◌, ◌++◌, Option, Some, None, Bool, true, false, cond, ◌&&◌, ◌||◌, nat_eq, nat_le, slice_get, ⊎_elim, refl, sym, ap, ◌∙◌, subst, arith}
 use Rattle.std.specs.List.{list_all}
 use Rattle.std.specs.Option.{option_or}
 use Rattle.std.proofs.lemmas.Bool.{eqb-true}
@@ -7,13 +7,15 @@ use Rattle.std.proofs.lemmas.Bool.Decides.{nat_tests}
 use Rattle.list_laws.proofs.Booleans.{and_parts, or_cases}
 use Rattle.trace_model.specs.declared.tapes.Effect.{Effect}
 use Rattle.trace_model.specs.declared.tapes.Effect.TheVariants.{Bytes, Entry, Global}
+use Rattle.trace_model.specs.declared.tapes.Next.{Next}
+use Rattle.trace_model.specs.declared.tapes.Origin.{Origin}
 use Rattle.trace_model.specs.declared.tapes.Segment.{Segment}
 use Rattle.replay_spec.specs.Observations.{Observation, Begins, Ends, Reads, Copies, ReadsEntry, ReadsGlobal}
 use Rattle.replay_spec.specs.Known.{Known, byte_among, read_byte, written_byte, read_entry, written_entry, read_global, written_global, last_some, known_after}
-use Rattle.replay_spec.specs.Alike.{same_option, same_value}
+use Rattle.replay_spec.specs.Alike.{same_option, same_value, same_origin, same_next}
 use Rattle.replay_spec.specs.Windows.{unless_some, first_read, window}
-use Rattle.replay_spec.specs.Needed.{needed, needed_pages, needed_entries, effect_byte, effect_entry, effect_global, effect_pages, effect_entries, AreNeeded}
-use Rattle.replay_spec.specs.NeededTest.{all_of, addresses_from, read_addresses, read_entries, read_globals, effect_addresses, entries_set, globals_set, are_needed, are_needed_segments}
+use Rattle.replay_spec.specs.Needed.{needed, effect_byte, effect_entry, effect_global, effect_pages, effect_entries, Given, GiveJust, needed_by, AreNeeded}
+use Rattle.replay_spec.specs.NeededTest.{all_of, addresses_from, read_addresses, read_entries, read_globals, effect_addresses, entries_set, globals_set, gives, give_just, are_needed, are_needed_segments}
 use Rattle.replay_spec.specs.Kept.{AreKeptSegments}
 use Rattle.replay_spec.specs.Laws.{TestedSegmentsAreNeeded}
 use Rattle.replay_spec.proofs.Kept.{needed_segments_are_kept}
@@ -129,42 +131,36 @@ pub global_unchanged : (at : ℕ) (e : Effect) → is_among at (globals_set e) �
 global_unchanged at (Global global value) h = single_none at global (Some value) h
 global_unchanged at e h = refl
 
--- ---- everywhere what is given is what is needed
+-- ---- everywhere what effects give is what is given
 
 -- of any kind of place: by the test where it occurs, and elsewhere since both are nothing
 everywhere : {X : Type 0} (same : X → X → Bool) → ((x y : X) → same x y ≡ true → x ≡ y)
-    → (given : ℕ → Effect → Option X) (changed : Effect → List ℕ)
-    → ((at : ℕ) (e : Effect) → is_among at (changed e) ≡ false → given at e ≡ None)
-    → (read written : ℕ → Observation → Option X) (places : Observation → List ℕ)
-    → ((at : ℕ) (o : Observation) → is_among at (places o) ≡ false → read at o ≡ None)
-    → (known : ℕ → X) (effects : List Effect) (window : List Observation)
-    → list_all
-    (λ at. same_option same (last_some (given at) effects)
-    (needed same (known at) (first_read (read at) (written at) window)))
-    (all_of changed effects ++ all_of places window)
-    ≡ true
-    → (at : ℕ)
-    → last_some (given at) effects ≡ needed same (known at) (first_read (read at) (written at) window)
-everywhere {X} same sound given changed unchanged read written places unread known effects window all at =
-    go (is_among at (all_of changed effects ++ all_of places window)) refl
+    → (part : ℕ → Effect → Option X) (changed : Effect → List ℕ)
+    → ((at : ℕ) (e : Effect) → is_among at (changed e) ≡ false → part at e ≡ None)
+    → (given : ℕ → Option X) (places : List ℕ) → ((at : ℕ) → is_among at places ≡ false → given at ≡ None)
+    → (effects : List Effect) → gives same part given (all_of changed effects ++ places) effects ≡ true
+    → (at : ℕ) → last_some (part at) effects ≡ given at
+everywhere same sound part changed unchanged given places none effects all at =
+    go (is_among at (all_of changed effects ++ places)) refl
   where
-    needs : ℕ → Option X
-    needs at = needed same (known at) (first_read (read at) (written at) window)
-
-    go : (b : Bool) → is_among at (all_of changed effects ++ all_of places window) ≡ b
-        → last_some (given at) effects ≡ needs at
+    go : (b : Bool) → is_among at (all_of changed effects ++ places) ≡ b → last_some (part at) effects ≡ given at
     go true among =
-        option_same same sound (last_some (given at) effects) (needs at)
-        (passes_among (λ at. same_option same (last_some (given at) effects) (needs at))
-        (all_of changed effects ++ all_of places window) at all among)
+        option_same same sound (last_some (part at) effects) (given at)
+        (passes_among (λ at. same_option same (last_some (part at) effects) (given at))
+        (all_of changed effects ++ places) at all among)
     go false past =
-        let p = not_among at (all_of changed effects) (all_of places window) past in
-        last_none (given at) changed at (unchanged at) effects p.0
-        ∙ sym (ap (needed same (known at)) (first_none (read at) (written at) places at (unread at) window p.1))
+        let p = not_among at (all_of changed effects) places past in
+        last_none (part at) changed at (unchanged at) effects p.0 ∙ sym (none at p.1)
 
-effects_needed : (known : Known) (window : List Observation) (effects : List Effect)
-    → are_needed known window effects ≡ true → AreNeeded known window effects
-effects_needed known sights effects h =
+-- nothing is given but at some addresses, entries and globals
+pub record IsGivenAt (given : Given) (addresses entries globals : List ℕ) : Type 0 where
+  pub byte : (at : ℕ) → is_among at addresses ≡ false → given.byte at ≡ None
+  pub entry : (at : ℕ) → is_among at entries ≡ false → given.entry at ≡ None
+  pub global : (at : ℕ) → is_among at globals ≡ false → given.global at ≡ None
+
+pub just_by_test : (given : Given) (addresses entries globals : List ℕ) → IsGivenAt given addresses entries globals
+    → (effects : List Effect) → give_just given addresses entries globals effects ≡ true → GiveJust given effects
+just_by_test given addresses entries globals is effects h =
     let p = and_parts _ _ h in
     let q = and_parts _ _ p.0 in
     let r = and_parts _ _ q.0 in
@@ -174,34 +170,57 @@ effects_needed known sights effects h =
     record {
       ordered = u.0;
       nonempty = u.1;
-      pages = option_same nat_eq eqb-true (last_some effect_pages effects) (needed_pages known sights) t.1;
-      entries = option_same nat_eq eqb-true (last_some effect_entries effects) (needed_entries known sights) s.1;
+      pages = option_same nat_eq eqb-true (last_some effect_pages effects) given.pages t.1;
+      entries = option_same nat_eq eqb-true (last_some effect_entries effects) given.entries s.1;
       byte =
-          everywhere nat_eq eqb-true effect_byte effect_addresses byte_unchanged read_byte written_byte read_addresses
-          byte_unread known.byte effects sights r.1;
+          everywhere nat_eq eqb-true effect_byte effect_addresses byte_unchanged given.byte addresses is.byte effects r.1;
       entry =
           everywhere (same_option nat_eq) (option_same nat_eq eqb-true) effect_entry entries_set entry_unchanged
-          read_entry written_entry read_entries entry_unread known.entry effects sights q.1;
+          given.entry entries is.entry effects q.1;
       global =
           everywhere (same_option same_value) (option_same same_value value_same) effect_global globals_set
-          global_unchanged read_global written_global read_globals global_unread known.global effects sights p.1;
+          global_unchanged given.global globals is.global effects p.1;
     }
+
+effects_needed : (known : Known) (window : List Observation) (effects : List Effect)
+    → are_needed known window effects ≡ true → AreNeeded known window effects
+effects_needed known sights =
+    just_by_test (needed_by known sights) (all_of read_addresses sights) (all_of read_entries sights)
+    (all_of read_globals sights)
+    (record {
+      byte = λ at past.
+          ap (needed nat_eq (known.byte at))
+          (first_none (read_byte at) (written_byte at) read_addresses at (byte_unread at) sights past);
+      entry = λ at past.
+          ap (needed (same_option nat_eq) (known.entry at))
+          (first_none (read_entry at) (written_entry at) read_entries at (entry_unread at) sights past);
+      global = λ at past.
+          ap (needed (same_option same_value) (known.global at))
+          (first_none (read_global at) (written_global at) read_globals at (global_unread at) sights past);
+    })
+
+-- the segment at the front of a test of segments, where the rest passes
+pub front_by_test : {Changes Rest : Type 0} (segment : Segment) (origin : Origin) (next : Next) (changes rest : Bool)
+    → (changes ≡ true → Changes) → (rest ≡ true → Rest)
+    → (same_origin segment.origin origin && same_next segment.next next && changes && rest) ≡ true
+    → (segment.origin ≡ origin) × (segment.next ≡ next) × Changes × Rest
+front_by_test segment origin next changes rest all later h =
+    let p = and_parts _ _ h in
+    let q = and_parts _ _ p.0 in
+    let r = and_parts _ _ q.0 in
+    (origin_same segment.origin origin r.0, next_same segment.next next r.1, all q.1, later p.1)
 
 kept_by_test : (known : Known) (seen : List Observation) (segments : List Segment)
     → are_needed_segments known seen segments ≡ true → AreKeptSegments known seen segments
 kept_by_test known [] [] h = tt
 kept_by_test known [] (segment ∷ segments) h = cc
 kept_by_test known (Begins origin ∷ Ends next ∷ later) (segment ∷ segments) h =
-    let p = and_parts _ _ h in
-    let q = and_parts _ _ p.0 in
-    let r = and_parts _ _ q.0 in (
-      record {
-        begins = origin_same segment.origin origin r.0;
-        leaves = next_same segment.next next r.1;
-        changes = effects_needed known (window later) segment.effects q.1;
-      },
-      kept_by_test known later segments p.1,
-    )
+    let front =
+    front_by_test segment origin next (are_needed known (window later) segment.effects)
+    (are_needed_segments known later segments) (effects_needed known (window later) segment.effects)
+    (kept_by_test known later segments) h
+    in
+    (record { begins = front.0; leaves = front.1; changes = front.2 }, front.3)
 kept_by_test known (Begins origin ∷ later) segments h = cc
 kept_by_test known (o ∷ later) segments h =
     kept_by_test (known_after known o) later segments h

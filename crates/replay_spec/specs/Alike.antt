@@ -18,11 +18,15 @@ same_option same (Some a) (Some b) = same a b
 abbrev pub same_value : Val → Val → Bool
 same_value a b = same_type a.ty b.ty && nat_eq a.bits b.bits
 
+-- lists of items that are the same
+abbrev pub same_list : {X : Type 0} → (X → X → Bool) → List X → List X → Bool
+same_list same [] [] = true
+same_list same [] (b ∷ bs) = false
+same_list same (a ∷ rest) [] = false
+same_list same (a ∷ rest) (b ∷ bs) = same a b && same_list same rest bs
+
 abbrev pub same_values : List Val → List Val → Bool
-same_values [] [] = true
-same_values [] (b ∷ bs) = false
-same_values (a ∷ rest) [] = false
-same_values (a ∷ rest) (b ∷ bs) = same_value a b && same_values rest bs
+same_values values others = same_list same_value values others
 
 abbrev pub same_origin : Origin → Origin → Bool
 same_origin Begin Begin = true

@@ -82,18 +82,66 @@ abbrev pub has_bytes : Effect → Bool
 has_bytes (Bytes address []) = false
 has_bytes effect = true
 
+-- ---- what is given everywhere
+
+-- sizes, and bytes, entries and globals by their place, each where it is given
+pub record Given : Type 0 where
+  pub pages : Option ℕ
+  pub entries : Option ℕ
+  pub byte : (at : ℕ) → Option ℕ
+  pub entry : (at : ℕ) → Option (Option ℕ)
+  pub global : (at : ℕ) → Option (Option Val)
+
+-- the same is given everywhere
+pub record SameGiven (a b : Given) : Type 0 where
+  pub pages : a.pages ≡ b.pages
+  pub entries : a.entries ≡ b.entries
+  pub byte : (at : ℕ) → a.byte at ≡ b.byte at
+  pub entry : (at : ℕ) → a.entry at ≡ b.entry at
+  pub global : (at : ℕ) → a.global at ≡ b.global at
+
+-- what is chosen of effects everywhere
+abbrev pub given_of : ((X : Type 0) → (Effect → Option X) → List Effect → Option X) → List Effect → Given
+given_of choice effects =
+    record {
+      pages = choice ℕ effect_pages effects;
+      entries = choice ℕ effect_entries effects;
+      byte = λ at. choice ℕ (effect_byte at) effects;
+      entry = λ at. choice (Option ℕ) (effect_entry at) effects;
+      global = λ at. choice (Option Val) (effect_global at) effects;
+    }
+
+-- what effects give, one after another
+abbrev pub given_by : List Effect → Given
+given_by effects = given_of (λ X part. last_some part) effects
+
+-- effects in order, bytes in longest runs, that give this everywhere and no more
+pub record GiveJust (given : Given) (effects : List Effect) : Type 0 where
+  pub ordered : AreOrdered effects
+  pub nonempty : list_all has_bytes effects ≡ true
+  pub pages : last_some effect_pages effects ≡ given.pages
+  pub entries : last_some effect_entries effects ≡ given.entries
+  pub byte : (at : ℕ) → last_some (effect_byte at) effects ≡ given.byte at
+  pub entry : (at : ℕ) → last_some (effect_entry at) effects ≡ given.entry at
+  pub global : (at : ℕ) → last_some (effect_global at) effects ≡ given.global at
+
 -- ---- the needed tape
+
+-- all that a window needs
+abbrev pub needed_by : Known → List Observation → Given
+needed_by known window =
+    record {
+      pages = needed_pages known window;
+      entries = needed_entries known window;
+      byte = needed_byte known window;
+      entry = needed_entry known window;
+      global = needed_global known window;
+    }
 
 -- the effects that a window needs of the activity before it: in order, bytes in longest runs, and everywhere what is
 -- needed there and no more
-pub record AreNeeded (known : Known) (window : List Observation) (effects : List Effect) : Type 0 where
-  pub ordered : AreOrdered effects
-  pub nonempty : list_all has_bytes effects ≡ true
-  pub pages : last_some effect_pages effects ≡ needed_pages known window
-  pub entries : last_some effect_entries effects ≡ needed_entries known window
-  pub byte : (at : ℕ) → last_some (effect_byte at) effects ≡ needed_byte known window at
-  pub entry : (at : ℕ) → last_some (effect_entry at) effects ≡ needed_entry known window at
-  pub global : (at : ℕ) → last_some (effect_global at) effects ≡ needed_global known window at
+abbrev pub AreNeeded : Known → List Observation → List Effect → Type 0
+AreNeeded known window effects = GiveJust (needed_by known window) effects
 
 -- the segment of an activity, by its begin, its end, and the window after it
 pub record IsNeededSegment (known : Known) (origin : Origin) (next : Next) (window : List Observation)

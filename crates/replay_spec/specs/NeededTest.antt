@@ -1,6 +1,6 @@
 -- Whether segments are needed, as a test that computes: it keeps what is known, and looks at the addresses and indices
 -- that occur alone.
-use Rattle.std.specs.Prelude.{ℕ, suc, List, [], ◌∷◌, ◌++◌, Bool, true, false, ◌&&◌, nat_eq}
+use Rattle.std.specs.Prelude.{ℕ, suc, List, [], ◌∷◌, ◌++◌, Option, Bool, true, false, ◌&&◌, nat_eq}
 use Rattle.std.specs.List.{list_all}
 use Rattle.trace_model.specs.declared.tapes.Effect.{Effect}
 use Rattle.trace_model.specs.declared.tapes.Effect.TheVariants.{Bytes, Entry, Global}
@@ -10,7 +10,7 @@ use Rattle.replay_spec.specs.Observations.{Observation, Begins, Ends, Reads, Cop
 use Rattle.replay_spec.specs.Known.{Known, last_some, known_after}
 use Rattle.replay_spec.specs.Alike.{same_option, same_value, same_origin, same_next}
 use Rattle.replay_spec.specs.Windows.{window}
-use Rattle.replay_spec.specs.Needed.{needed_byte, needed_entry, needed_global, needed_pages, needed_entries, effect_byte, effect_entry, effect_global, effect_pages, effect_entries, has_bytes}
+use Rattle.replay_spec.specs.Needed.{effect_byte, effect_entry, effect_global, effect_pages, effect_entries, has_bytes, Given, needed_by}
 
 -- what each of some items has, one after another
 abbrev pub all_of : {A X : Type 0} → (A → List X) → List A → List X
@@ -49,33 +49,27 @@ abbrev pub globals_set : Effect → List ℕ
 globals_set (Global global value) = global ∷ []
 globals_set effect = []
 
--- the effects give just what a window needs
-abbrev pub gives_bytes : Known → List Observation → List Effect → Bool
-gives_bytes known window effects =
-    list_all (λ at. same_option nat_eq (last_some (effect_byte at) effects) (needed_byte known window at))
-    (all_of effect_addresses effects ++ all_of read_addresses window)
+-- at each of some places effects give what is given there
+abbrev pub gives : {X : Type 0} → (X → X → Bool) → (part : ℕ → Effect → Option X) → (given : ℕ → Option X)
+    → (places : List ℕ) → List Effect → Bool
+gives same part given places effects = list_all (λ at. same_option same (last_some (part at) effects) (given at)) places
 
-abbrev pub gives_entries : Known → List Observation → List Effect → Bool
-gives_entries known window effects =
-    list_all
-    (λ at. same_option (same_option nat_eq) (last_some (effect_entry at) effects) (needed_entry known window at))
-    (all_of entries_set effects ++ all_of read_entries window)
-
-abbrev pub gives_globals : Known → List Observation → List Effect → Bool
-gives_globals known window effects =
-    list_all
-    (λ at. same_option (same_option same_value) (last_some (effect_global at) effects) (needed_global known window at))
-    (all_of globals_set effects ++ all_of read_globals window)
-
-abbrev pub are_needed : Known → List Observation → List Effect → Bool
-are_needed known window effects =
+-- the effects give just this, where nothing is given but at some addresses, entries and globals
+abbrev pub give_just : Given → (addresses entries globals : List ℕ) → List Effect → Bool
+give_just given addresses entries globals effects =
     are_ordered effects
     && list_all has_bytes effects
-    && same_option nat_eq (last_some effect_pages effects) (needed_pages known window)
-    && same_option nat_eq (last_some effect_entries effects) (needed_entries known window)
-    && gives_bytes known window effects
-    && gives_entries known window effects
-    && gives_globals known window effects
+    && same_option nat_eq (last_some effect_pages effects) given.pages
+    && same_option nat_eq (last_some effect_entries effects) given.entries
+    && gives nat_eq effect_byte given.byte (all_of effect_addresses effects ++ addresses) effects
+    && gives (same_option nat_eq) effect_entry given.entry (all_of entries_set effects ++ entries) effects
+    && gives (same_option same_value) effect_global given.global (all_of globals_set effects ++ globals) effects
+
+-- the effects give just what a window needs
+abbrev pub are_needed : Known → List Observation → List Effect → Bool
+are_needed known window effects =
+    give_just (needed_by known window) (all_of read_addresses window) (all_of read_entries window)
+    (all_of read_globals window) effects
 
 -- the segments are those of all activities
 abbrev pub are_needed_segments : Known → List Observation → List Segment → Bool

@@ -11,11 +11,12 @@ use wasm_decode::decode;
 use wasm_encode::encode;
 use wasm_syntax::{Form, shortest_encoding};
 
-/// Decodes a module in the form of replay binaries, and encodes it again.
-fn again(alloc: Global, bytes: &[u8]) -> Result<Vec<u8>, Fail> {
+/// Whether a module, decoded in the form of replay binaries and encoded again, has these bytes; both in hexadecimal.
+fn is_again(alloc: Global, text: &str, again: &str) -> Result<bool, Fail> {
     shortest_encoding();
-    let module = decode(alloc, bytes, Form::Replay)?;
-    Ok(encode(alloc, &module, u32::MAX)?)
+    let module = decode(alloc, &hex::decode(alloc, text)?, Form::Replay)?;
+    let encoded = encode(alloc, &module, u32::MAX)?;
+    Ok(encoded.as_slice() == hex::decode(alloc, again)?.as_slice())
 }
 
 const EXAMPLES: &[(&str, &str)] = &[
@@ -37,18 +38,14 @@ const EXAMPLES: &[(&str, &str)] = &[
 
 #[test]
 fn examples_give_their_own_bytes(rt: HostRuntime) -> Result<(), Fail> {
-    let alloc = rt.alloc();
     for &(name, text) in EXAMPLES {
-        let bytes = hex::decode(alloc, text)?;
-        let encoded = again(alloc, bytes.as_slice())?;
-        assert_eq!(rt; encoded.as_slice(), bytes.as_slice(), "{name}");
+        assert!(rt; is_again(rt.alloc(), text, text)?, "{name}");
     }
     Ok(())
 }
 
 #[test]
 fn long_numbers_are_cut(rt: HostRuntime) -> Result<(), Fail> {
-    let alloc = rt.alloc();
     let rows = [
         // (module (import "h" "f" (func (result i32))) (func (result i32) call 0 call 0 i32.add)
         // (export "g" (func 1))), with the index of the function's type in five bytes
@@ -57,18 +54,14 @@ fn long_numbers_are_cut(rt: HostRuntime) -> Result<(), Fail> {
         // (export "g" (func 1))), with the size of the code section in two bytes and an empty section of globals
         "0061736d010000000105016000017f02070101680166000003020100060100070501016700010a8900010700100010006a0b",
     ];
-    let bytes = hex::decode(alloc, TWO_ANSWERS)?;
     for text in rows {
-        let long = hex::decode(alloc, text)?;
-        let encoded = again(alloc, long.as_slice())?;
-        assert_eq!(rt; encoded.as_slice(), bytes.as_slice(), "{text}");
+        assert!(rt; is_again(rt.alloc(), text, TWO_ANSWERS)?, "{text}");
     }
     Ok(())
 }
 
 #[test]
 fn instructions_of_the_prefix_are_cut(rt: HostRuntime) -> Result<(), Fail> {
-    let alloc = rt.alloc();
     // each module with its numbers longer, and in their fewest bytes
     let rows = [
         // (module (memory 1) (func i32.const 8 i32.const 16 i32.const 4 memory.copy
@@ -90,13 +83,8 @@ fn instructions_of_the_prefix_are_cut(rt: HostRuntime) -> Result<(), Fail> {
         ),
     ];
     for (long, short) in rows {
-        let long = hex::decode(alloc, long)?;
-        let short = hex::decode(alloc, short)?;
-        assert_eq!(rt; again(alloc, long.as_slice())?.as_slice(), short.as_slice());
-        assert_eq!(rt;
-            again(alloc, short.as_slice())?.as_slice(),
-            short.as_slice()
-        );
+        assert!(rt; is_again(rt.alloc(), long, short)?, "{long}");
+        assert!(rt; is_again(rt.alloc(), short, short)?, "{short}");
     }
     Ok(())
 }

@@ -12,7 +12,7 @@ use Rattle.host_play.specs.declared.results.PlayFault.{PlayFault}
 use Rattle.host_play.specs.declared.results.PlayFault.TheVariants as refusal
 use Rattle.recorder.specs.Recorders.{Recorded, IsRecorderStep, StandsAt}
 use Rattle.recorder.specs.Laws.{RunsAreRecorded}
-use Rattle.run_recorder.specs.Records.{RecordedRun, calls_in, HasTakenLog, IsLog, RefusesRecord}
+use Rattle.run_recorder.specs.Records.{RecordedRun, calls_in, IsLed, IsLog}
 
 -- no events, but a number
 abbrev IsNumber : Result (List Event) ℕ → Type 0
@@ -43,11 +43,6 @@ in_order shape order log at (call ∷ calls) told is =
         let later = later_events (call_events shape log order.pending call)
         (events_from shape next (log_after_call shape log call) (at + 1) calls) told is in
         rest next later.0 later.1
-
--- what is known of the recorder by what the run answered
-abbrev pub IsLed : {S : Type 0} → (has_taken : S → List Event → Type 0) → RecordedRun → Result Outcome PlayFault → Recorded S → Type 0
-IsLed has_taken r (Ok outcome) after = HasTakenLog has_taken r after.recording.sink outcome
-IsLed has_taken r (Err fault) after = RefusesRecord r fault
 
 pub led : {S : Type 0} (has_taken : S → List Event → Type 0) → RunsAreRecorded has_taken → (r : RecordedRun) (before after : Recorded S)
     → StandsAt before r.shape (order_start (table_length r.opened.table)) (log_start r.opened) 0

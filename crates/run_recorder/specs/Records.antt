@@ -16,6 +16,7 @@ use Rattle.hook_spec.specs.Logs.{log_of}
 use Rattle.host_play.specs.HookedResults.{HookedRun, steps_of}
 use Rattle.host_play.specs.declared.results.PlayFault.{PlayFault}
 use Rattle.host_play.specs.declared.results.PlayFault.TheVariants as refusal
+use Rattle.recorder.specs.Recorders.{Recorded}
 
 -- a run of a module in the hooked form that is recorded: what the order of its hook calls needs of it, and the store
 -- that it begins with
@@ -75,6 +76,12 @@ pub record HasTakenLog {S : Type 0} (has_taken : S → List Event → Type 0) (r
   pub log : Log
   pub is_log : IsLog r outcome log
   pub taken : has_taken sink log.events
+
+-- what is known of the recorder by what the run answered
+abbrev pub IsLed : {S : Type 0} → (has_taken : S → List Event → Type 0) → RecordedRun → Result Outcome PlayFault
+    → Recorded S → Type 0
+IsLed has_taken r (Ok outcome) after = HasTakenLog has_taken r after.recording.sink outcome
+IsLed has_taken r (Err fault) after = RefusesRecord r fault
 
 abbrev pub IsRecordedInto : {S : Type 0} → (has_taken : S → List Event → Type 0) → RecordedRun
     → Result (S × Outcome) PlayFault → Type 0

@@ -10,7 +10,7 @@ ghost use Rattle.wasm_flat.specs.FlatCode.{flat_of};
 ghost use Rattle.wasm_flat.specs.Meters.{FitsMeter};
 ghost use Rattle.hook_spec.specs.Order.{shape_of};
 ghost use Rattle.host_play.specs.HookedResults.{HasHooksAfter, hooked_run};
-ghost use Rattle.run_recorder.specs.Records.{IsRecord, IsRecordedInto};
+ghost use Rattle.run_recorder.specs.Records.{IsLed, IsRecord, IsRecordedInto, RecordedRun};
 
 use history_spec::Outcome;
 use host_play::{Play, PlayFault};
@@ -60,7 +60,18 @@ pub fn record_into<S: EventSink + Drop>(
     runs_are_recorded::<S>();
     let _valid = hooked.module();
     let mut recorder = Recorder::into_sink(alloc, hooked, supply, imports, sink)?;
-    match host_play::play(alloc, play, meter, turns, imports, &mut recorder) {
+    let answer = host_play::play(alloc, play, meter, turns, imports, &mut recorder);
+    recorded_sink(recorder, answer)
+}
+
+/// The sink of a recorder, with how the run ended that led it on.
+fn recorded_sink<S: EventSink + Drop>(
+    recorder: Recorder<S>,
+    answer: Result<Outcome, PlayFault>,
+) -> Result<(S, Outcome), PlayFault>
+    ensures { (r : RecordedRun) → IsLed S.has_taken r answer recorder → IsRecordedInto S.has_taken r result }
+{
+    match answer {
         Ok(outcome) => Ok((recorder.close(), outcome)),
         Err(fault) => Err(fault),
     }

@@ -20,7 +20,8 @@ use Rattle.generated_effects.specs.Laws.{AllGrowSizes}
 use Rattle.tape_follows.proofs.Relation.{IsKnownOf, IsReadOf, Holds}
 use Rattle.tape_follows.proofs.Held.{whole_pages}
 use Rattle.tape_follows.proofs.Effects.{AreChanges}
-use Rattle.tape_follows.proofs.Activities.{HasSizes, changes_after, no_table_growth, size_between, pages_after}
+use Rattle.replay_spec.proofs.OneList.{pages_after}
+use Rattle.tape_follows.proofs.Activities.{HasSizes, changes_after, no_table_growth, size_between}
 use Rattle.tape_follows.proofs.Activity.{size_needed, or_nothing}
 
 -- changes of bytes, entries and globals give no size

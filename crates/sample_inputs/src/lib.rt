@@ -12,23 +12,11 @@ pub mod scripts;
 pub mod traces;
 
 use std::alloc::Global;
-use wasm_syntax::{List, Module};
+use wasm_syntax::Module;
 
 /// The module that has nothing. Takes no memory.
 pub fn module_without_parts(alloc: Global) -> Module
     ensures { result ≡ empty_module }
 {
-    Module {
-        types: List::new(alloc),
-        imports: List::new(alloc),
-        funcs: List::new(alloc),
-        tables: List::new(alloc),
-        memories: List::new(alloc),
-        globals: List::new(alloc),
-        exports: List::new(alloc),
-        start: None,
-        elems: List::new(alloc),
-        datas: List::new(alloc),
-        customs: List::new(alloc),
-    }
+    Module::empty(alloc)
 }

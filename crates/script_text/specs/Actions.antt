@@ -190,20 +190,20 @@ set_global_of m d = do
   _ ← fits_global m global (name_of target) value
   Ok (actions.SetGlobal global value)
 
+-- growth by the number under a key, of what has to be reached
+abbrev pub growth_of : List ℕ → Result ⊤ ScriptFault → (ℕ → Action) → Data → Result Action ScriptFault
+growth_of key access action d = do
+  _ ← only (key ∷ []) d
+  number ← under key u32_of d
+  _ ← access
+  Ok (action number)
+
 -- growth of the memory, and of the table
 unfoldable pub grow_of : Module → Data → Result Action ScriptFault
-grow_of m d = do
-  _ ← only (codes "grow" ∷ []) d
-  pages ← under (codes "grow") u32_of d
-  _ ← memory_access m
-  Ok (actions.Grow pages)
+grow_of m d = growth_of (codes "grow") (memory_access m) actions.Grow d
 
 unfoldable pub grow_table_of : Module → Data → Result Action ScriptFault
-grow_table_of m d = do
-  _ ← only (codes "grow_table" ∷ []) d
-  entries ← under (codes "grow_table") u32_of d
-  _ ← table_access m
-  Ok (actions.GrowTable entries)
+grow_table_of m d = growth_of (codes "grow_table") (table_access m) actions.GrowTable d
 
 -- a function that the module defines
 unfoldable pub is_defined : Module → ℕ → List ℕ → Result ⊤ ScriptFault

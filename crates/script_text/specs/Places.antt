@@ -1,7 +1,11 @@
--- Where an action stands, and what a global is named by, as code says it.
+-- Where an action stands, what a global is named by, and what is wrong with a name, as code says it.
 use Rattle.std.specs.Prelude.{ℕ, List, Option, Some, None}
 use Rattle.std.specs.Borrow.{Bor}
 use Rattle.wasm_syntax.specs.declared.signatures.FuncType.{FuncType}
+use Rattle.script_text.specs.declared.faults.NameFault.{NameFault}
+use Rattle.script_text.specs.declared.faults.NameFault.TheVariants as kind
+use Rattle.script_text.specs.declared.faults.ScriptFault.{ScriptFault}
+use Rattle.script_text.specs.declared.faults.ScriptFault.TheVariants.{UnknownName, WrongType, NoAccess, CallsOwn}
 use Rattle.script_text.specs.declared.places.Place as code
 use Rattle.script_text.specs.declared.targets.Target as named
 use Rattle.script_text.specs.Actions.{Place, InMain, InResponse, Target, Exported, Imported}
@@ -20,3 +24,10 @@ target_by (Some from) name = Imported from.now name.now
 
 abbrev pub target_from : named.Target → Target
 target_from target = target_by target.from target.name
+
+-- the fault of a name
+abbrev pub fault_of_name : NameFault → List ℕ → ScriptFault
+fault_of_name kind.Unknown name = UnknownName name
+fault_of_name kind.WrongType name = WrongType name
+fault_of_name kind.NoAccess name = NoAccess name
+fault_of_name kind.CallsOwn name = CallsOwn name

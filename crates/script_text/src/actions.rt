@@ -1,17 +1,15 @@
 // Actions of the host, by their lead keys.
 
-ghost use Rattle.std.specs.Prelude.{◌≡◌, ◌≤◌, option_map, OnOk};
+ghost use Rattle.std.specs.Prelude.{◌≤◌, option_map, OnOk};
 ghost use Rattle.serde_json.specs.View.{view};
 ghost use Rattle.wasm_syntax.specs.Index.{imported_funcs};
 ghost use Rattle.script_text.specs.Walk.{Gives};
 ghost use Rattle.script_text.specs.Actions.{access_to as access_where, memory_access as memory_reached, table_access as table_reached, write_of, copy_of, func_named as func_under, entry_named as entry_under, set_table_of, grow_of, grow_table_of, is_defined as defined_func, fits_params as fitting_params, call_of, call_table_of};
 ghost use Rattle.script_text.specs.Places.{place_of};
 
-use crate::faults::ScriptFault;
+use crate::faults::{NameFault, ScriptFault, fault_of_name};
 use crate::objects::{bytes_under, only, text_or_null_under, text_under};
-use crate::places::{
-    Place, address_under, calls_own, fits_address, no_access, unknown_name, wrong_type,
-};
+use crate::places::{Place, address_under, fits_address};
 use crate::types::are_of_types;
 use crate::values::{u32_under, values_under};
 use host_script::Action;
@@ -27,7 +25,7 @@ fn access_to(alloc: Global, reached: bool, name: &str) -> Result<(), ScriptFault
     if reached {
         Ok(())
     } else {
-        Err(no_access(alloc, name))
+        Err(fault_of_name(alloc, NameFault::NoAccess, name))
     }
 }
 
@@ -88,7 +86,7 @@ fn func_named(alloc: Global, names: &ModuleNames<'_>, name: &str) -> Result<u32,
 {
     match names.exported_func(name) {
         Some(func) => Ok(func),
-        None => Err(unknown_name(alloc, name)),
+        None => Err(fault_of_name(alloc, NameFault::Unknown, name)),
     }
 }
 
@@ -163,7 +161,7 @@ fn is_defined(
     ensures defined { OnOk result (imported_funcs names.now ≤ func) }
 {
     if names.is_import(func) {
-        Err(calls_own(alloc, name))
+        Err(fault_of_name(alloc, NameFault::CallsOwn, name))
     } else {
         Ok(())
     }
@@ -183,7 +181,7 @@ fn fits_params(
 {
     match names.defined_type(func) {
         Some(ty) if are_of_types(args.as_slice(), ty.params.as_slice()) => Ok(()),
-        _ => Err(wrong_type(alloc, name)),
+        _ => Err(fault_of_name(alloc, NameFault::WrongType, name)),
     }
 }
 

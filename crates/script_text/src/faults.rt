@@ -1,10 +1,10 @@
 // Why a text is no script for a module.
 
-ghost use Rattle.std.specs.Prelude.{◌≡◌};
+ghost use Rattle.std.specs.Prelude.{◌≡◌, ◌++◌, ◌∷◌, [], OnOk, IfErr, IfOk};
 ghost use Rattle.script_text.specs.declared.faults.ScriptFault.TheVariants.{Memory};
+ghost use Rattle.script_text.specs.Places.{fault_of_name};
 
-use no_memory::NoMemory;
-use std::alloc::{AllocError, AllocFailed};
+use std::alloc::{AllocError, Global};
 use thiserror::Error;
 use wasm_syntax::Name;
 
@@ -34,26 +34,43 @@ pub enum ScriptFault {
     Memory,
 }
 
-impl From<NoMemory> for ScriptFault {
-    ghost from_gives = { λ _ fault. fault ≡ Memory };
+/// What is wrong with what a name stands for.
+#[derive(Clone, Copy)]
+pub(crate) enum NameFault {
+    Unknown,
+    WrongType,
+    NoAccess,
+    CallsOwn,
+}
 
-    fn from(_refused: NoMemory) -> ScriptFault {
-        ScriptFault::Memory
+fn name_from(alloc: Global, name: &str) -> Result<Name, AllocError>
+    ensures { IfOk result (λ copy. copy ≡ name.now) }
+{
+    Ok(Name::from_string(String::from_str(alloc, name)?))
+}
+
+/// The fault of this kind that has the name.
+pub(crate) fn fault_of_name(alloc: Global, kind: NameFault, name: &str) -> ScriptFault
+    ensures { (result ≡ Memory → ⊥) → result ≡ fault_of_name kind name.now }
+{
+    let Ok(name) = name_from(alloc, name) else {
+        return ScriptFault::Memory;
+    };
+    match kind {
+        NameFault::Unknown => ScriptFault::UnknownName { name },
+        NameFault::WrongType => ScriptFault::WrongType { name },
+        NameFault::NoAccess => ScriptFault::NoAccess { name },
+        NameFault::CallsOwn => ScriptFault::CallsOwn { name },
     }
 }
 
-impl From<AllocError> for ScriptFault {
-    ghost from_gives = { λ _ fault. fault ≡ Memory };
-
-    fn from(_refused: AllocError) -> ScriptFault {
-        ScriptFault::Memory
-    }
-}
-
-impl<T: Drop> From<AllocFailed<T>> for ScriptFault {
-    ghost from_gives = { λ _ fault. fault ≡ Memory };
-
-    fn from(_refused: AllocFailed<T>) -> ScriptFault {
-        ScriptFault::Memory
+/// Appends an item to a list.
+pub(crate) fn push_item<T: Drop>(items: &mut Vec<T>, item: T) -> Result<(), ScriptFault>
+    ensures ok { OnOk result (items.new.items ≡ items.old.items ++ item ∷ []) }
+    ensures err { IfErr result (λ fault. fault ≡ Memory) }
+{
+    match items.push(item) {
+        Ok(()) => Ok(()),
+        Err(_) => Err(ScriptFault::Memory),
     }
 }

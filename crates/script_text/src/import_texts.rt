@@ -8,9 +8,8 @@ ghost use Rattle.script_text.specs.Values.{value_of};
 ghost use Rattle.script_text.specs.Texts.{each_name, in_order, look_answer};
 ghost use Rattle.script_text.specs.ImportTexts.{has_module as is_module, has_names as are_names, look, look_in_module, look_under_name, look_under_module, look_at_all};
 
-use crate::faults::ScriptFault;
+use crate::faults::{NameFault, ScriptFault, fault_of_name};
 use crate::paths::{below, shape};
-use crate::places::unknown_name;
 use crate::responses::answer_under;
 use crate::values::read_value;
 use module_names::ModuleNames;
@@ -94,7 +93,7 @@ fn look_at_name<'a>(
         (look_under_name texts names.now from.now name.now (view value.now)) }
 {
     if !has_names(names, texts, from, name) {
-        return Err(unknown_name(alloc, name));
+        return Err(fault_of_name(alloc, NameFault::Unknown, name));
     }
     below(
         alloc,
@@ -146,7 +145,7 @@ fn look_at_module<'a>(
     ensures { Gives (λ u. u) result (look_under_module texts names.now from.now (view value.now)) }
 {
     if !has_module(names, texts, from) {
-        return Err(unknown_name(alloc, from));
+        return Err(fault_of_name(alloc, NameFault::Unknown, from));
     }
     below(
         alloc,

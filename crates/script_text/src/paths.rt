@@ -47,15 +47,15 @@ fn path_below(alloc: Global, step: &str, path: &Name) -> Result<Name, NoMemory>
 }
 
 /// The fault of what stands under a key or an index.
-fn fault_below(alloc: Global, step: &str, fault: ScriptFault) -> Result<ScriptFault, NoMemory>
-    ensures { IfOk result (λ below. below ≡ fault_under step.now fault) }
+fn fault_below(alloc: Global, step: &str, fault: ScriptFault) -> ScriptFault
+    ensures { (result ≡ Memory → ⊥) → result ≡ fault_under step.now fault }
 {
     match fault {
-        ScriptFault::Shape { path } => {
-            let path = path_below(alloc, step, &path)?;
-            Ok(ScriptFault::Shape { path })
-        }
-        fault => Ok(fault),
+        ScriptFault::Shape { path } => match path_below(alloc, step, &path) {
+            Ok(path) => ScriptFault::Shape { path },
+            Err(_) => ScriptFault::Memory,
+        },
+        fault => fault,
     }
 }
 
@@ -69,7 +69,7 @@ pub(crate) fn below<T: Drop>(
 {
     match read {
         Ok(read) => Ok(read),
-        Err(fault) => Err(fault_below(alloc, step, fault)?),
+        Err(fault) => Err(fault_below(alloc, step, fault)),
     }
 }
 
@@ -85,7 +85,7 @@ pub(crate) fn below_index<T: Drop>(
         Ok(read) => Ok(read),
         Err(fault) => {
             let mut buffer = Buffer::new();
-            Err(fault_below(alloc, buffer.format(index), fault)?)
+            Err(fault_below(alloc, buffer.format(index), fault))
         }
     }
 }

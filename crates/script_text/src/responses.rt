@@ -13,11 +13,11 @@ use crate::actions::{
     read_call, read_call_table, read_copy, read_grow, read_grow_table, read_set_table, read_write,
 };
 use crate::common_types::CommonTypes;
-use crate::faults::ScriptFault;
+use crate::faults::{NameFault, ScriptFault, fault_of_name, push_item};
 use crate::leads::Lead;
 use crate::objects::only;
 use crate::paths::{below, below_index, shape};
-use crate::places::{Place, wrong_type};
+use crate::places::Place;
 use crate::targets::read_set_global;
 use crate::values::value_if_there;
 use host_script::{Action, Actions, Answer, Response, ResponseEnd, Responses};
@@ -90,7 +90,7 @@ fn leads_of(alloc: Global, value: &Value) -> Result<Vec<Lead>, ScriptFault>
     let mut found = Vec::new(alloc);
     'leads: for lead in leads.as_slice() {
         if has_lead(value, *lead) {
-            found.push(*lead)?;
+            push_item(&mut found, *lead)?;
         }
     }
     Ok(found)
@@ -138,7 +138,7 @@ fn read_actions<'a>(
     let mut found = Vec::new(alloc);
     'items: for (index, value) in values.iter().enumerate() {
         let item = action_at(alloc, names, place, index, value)?;
-        found.push(item)?;
+        push_item(&mut found, item)?;
     }
     Ok(List::from_vec(found))
 }
@@ -180,7 +180,7 @@ fn fits_results(
     if types.return_value(value) {
         Ok(())
     } else {
-        Err(wrong_type(alloc, name))
+        Err(fault_of_name(alloc, NameFault::WrongType, name))
     }
 }
 
@@ -283,7 +283,7 @@ fn read_responses<'a>(
     let mut found = Vec::new(alloc);
     'items: for (index, value) in values.iter().enumerate() {
         let item = response_at(alloc, names, name, types, index, value)?;
-        found.push(item)?;
+        push_item(&mut found, item)?;
     }
     Ok(List::from_vec(found))
 }
@@ -348,7 +348,7 @@ fn read_answer<'a>(
         (answer_of names.now name.now (map (λ ty. ty.now) types.now) (view value.now)) }
 {
     only(alloc, value, &["calls", "rest"])?;
-    let types = CommonTypes::of(alloc, types)?;
+    let types = CommonTypes::of(alloc, types).map_err(|_| ScriptFault::Memory)?;
     let calls = read_calls(alloc, names, name, &types, value)?;
     let rest = read_rest(alloc, names, name, &types, value)?;
     Ok(Answer { calls, rest })

@@ -8,7 +8,7 @@ ghost use Rattle.script_text.specs.Actions.{InMain, actions_under as actions_bel
 ghost use Rattle.script_text.specs.ImportTexts.{look_at_all};
 ghost use Rattle.script_text.specs.Texts.{member_for as member_under, value_for as import_value, answer_for as import_answer, script_of, script_of_text};
 
-use crate::faults::ScriptFault;
+use crate::faults::{ScriptFault, push_item};
 use crate::import_texts::{ImportTexts, look_at_imports};
 use crate::objects::{limits_if_there, only};
 use crate::paths::below;
@@ -83,7 +83,8 @@ fn values_for(
 {
     let mut given = Vec::new(alloc);
     'imports: for import in imports {
-        given.push(value_for(alloc, texts, import)?)?;
+        let value = value_for(alloc, texts, import)?;
+        push_item(&mut given, value)?;
     }
     Ok(List::from_vec(given))
 }
@@ -115,7 +116,7 @@ fn answer_or_copy<'a>(
         (Ok (import_answer names.now (option_map (λ v. view v.now) texts.entry) import.now)) }
 {
     match before {
-        Some(Some(answer)) => Ok(Some(answer.clone()?)),
+        Some(Some(answer)) => Ok(Some(answer.clone().map_err(|_| ScriptFault::Memory)?)),
         Some(None) => Ok(None),
         None => answer_for(alloc, names, texts, import),
     }
@@ -139,7 +140,7 @@ fn answers_by<'a>(
         let import: &'a Import = *import;
         let before = earlier_answer(firsts, answers.as_slice(), import);
         let answer = answer_or_copy(alloc, names, texts, import, before)?;
-        answers.push(answer)?;
+        push_item(&mut answers, answer)?;
     }
     Ok(List::from_vec(answers))
 }
@@ -156,7 +157,7 @@ fn answers_for<'a>(
         (import_answer names.now (option_map (λ v. view v.now) texts.entry))
         (map (λ import. import.now) imports.now))) }
 {
-    let firsts = firsts_by_names(alloc, imports)?;
+    let firsts = firsts_by_names(alloc, imports).map_err(|_| ScriptFault::Memory)?;
     answers_by(alloc, names, texts, imports, &firsts)
 }
 
@@ -229,8 +230,10 @@ fn read_for_module<'a>(
 ) -> Result<Script, ScriptFault>
     ensures { Gives (λ s. s) result (script_of «module».now (view value.now)) }
 {
-    let names = ModuleNames::of(alloc, module)?;
-    read_value_of_script(alloc, &names, value)
+    match ModuleNames::of(alloc, module) {
+        Ok(names) => read_value_of_script(alloc, &names, value),
+        Err(_) => Err(ScriptFault::Memory),
+    }
 }
 
 /// The script that a text, in JSON, is for a module.

@@ -2,15 +2,13 @@
 
 ghost use Rattle.serde_json.specs.View.{view};
 ghost use Rattle.script_text.specs.Walk.{Gives, under};
-ghost use Rattle.script_text.specs.Values.{value_of};
 ghost use Rattle.script_text.specs.Actions.{target_of, import_target, import_names, global_at, fits_global as fitting_global, set_global_of};
 ghost use Rattle.script_text.specs.Places.{target_from};
 
-use crate::faults::ScriptFault;
+use crate::faults::{NameFault, ScriptFault, fault_of_name};
 use crate::objects::{only, read_text};
 use crate::paths::{below, shape};
-use crate::places::{no_access, unknown_name, wrong_type};
-use crate::values::{read_value, value_under};
+use crate::values::value_under;
 use host_script::{Action, is_type};
 use module_names::ModuleNames;
 use serde_json::Value;
@@ -89,11 +87,11 @@ fn global_of<'a>(
     match target.from {
         None => match names.exported_global(target.name) {
             Some(global) => Ok(global),
-            None => Err(unknown_name(alloc, target.name)),
+            None => Err(fault_of_name(alloc, NameFault::Unknown, target.name)),
         },
         Some(from) => {
             if !names.has_globals_from(from) {
-                return Err(unknown_name(alloc, from));
+                return Err(fault_of_name(alloc, NameFault::Unknown, from));
             }
             match names.imported_global(from, target.name) {
                 Some(place) => match u32::try_from(place) {
@@ -101,7 +99,7 @@ fn global_of<'a>(
                     // More than 2^32 imports do not fit into memory.
                     Err(_) => Err(ScriptFault::Memory),
                 },
-                None => Err(unknown_name(alloc, target.name)),
+                None => Err(fault_of_name(alloc, NameFault::Unknown, target.name)),
             }
         }
     }
@@ -119,14 +117,14 @@ fn fits_global(
     ensures { Gives (λ u. u) result (fitting_global names.now global name.now value) }
 {
     let Some(ty) = names.global_type(global) else {
-        return Err(unknown_name(alloc, name));
+        return Err(fault_of_name(alloc, NameFault::Unknown, name));
     };
     if !ty.mutable {
-        Err(no_access(alloc, name))
+        Err(fault_of_name(alloc, NameFault::NoAccess, name))
     } else if is_type(value.ty, ty.ty) {
         Ok(())
     } else {
-        Err(wrong_type(alloc, name))
+        Err(fault_of_name(alloc, NameFault::WrongType, name))
     }
 }
 

@@ -3,10 +3,10 @@
 ghost use Rattle.std.specs.Prelude.{◌≡◌, ◌≤◌, ◌<◌, ◌^◌, ◌-◌, ◌==◌, length, negsuc, ◌≤ℤ◌, IfSome, IfOk};
 ghost use Rattle.serde_json.specs.View.{view, items_view, members_view};
 ghost use Rattle.serde_json.specs.Find.{as_object};
-ghost use Rattle.script_text.specs.Walk.{Gives, under, under_if_there, under_or, items_from, at_index, keys_of};
+ghost use Rattle.script_text.specs.Walk.{Gives, under, under_if_there, items_from, at_index, keys_of};
 ghost use Rattle.script_text.specs.Values.{integer_of, bits_from, bits_of, u32_of, value_of, val_of_type, has_one_key as one_key, values_under as values_below};
 
-use crate::faults::ScriptFault;
+use crate::faults::{ScriptFault, push_item};
 use crate::paths::{below, below_index, shape};
 use serde_json::{Map, Value};
 use std::alloc::Global;
@@ -168,7 +168,7 @@ fn read_values(alloc: Global, values: &[Value]) -> Result<Vals, ScriptFault>
     let mut found = Vec::new(alloc);
     'items: for (index, value) in values.iter().enumerate() {
         let item = value_at(alloc, index, value)?;
-        found.push(item)?;
+        push_item(&mut found, item)?;
     }
     Ok(List::from_vec(found))
 }

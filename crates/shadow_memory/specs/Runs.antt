@@ -28,6 +28,11 @@ pub record IsFirstDifference (known : List ℕ) (address : ℕ) (bytes : List �
   pub differ : (k : ℕ) → found.start ≤ k → k < found.«end» → is_known known address bytes k ≡ false
   pub ended : found.«end» < length bytes → is_known known address bytes found.«end» ≡ true
 
+-- what a comparison with the known bytes finds: none, where all are known, or the first run of others
+abbrev pub IsComparison : (known : List ℕ) (address : ℕ) (bytes : List ℕ) → Option Difference → Type 0
+IsComparison known address bytes None = AreKnown known address bytes
+IsComparison known address bytes (Some found) = IsFirstDifference known address bytes found
+
 -- how many bytes were compared: all, or those up to the end of the first difference
 abbrev pub compared : List ℕ → Option Difference → ℕ
 compared bytes None = length bytes

@@ -1,9 +1,9 @@
 // Runs of bytes: compared with the known ones, and taken, page by page.
 
-ghost use Rattle.std.specs.Prelude.{◌≡◌, ℕ, ◌+◌, ◌*◌, ◌/◌, ◌%◌, ◌<◌, ◌≤◌, [], ◌∷◌, length, take, true, IfOk, IfNone, IfSome, OnOk, OnErr, slice_index};
+ghost use Rattle.std.specs.Prelude.{◌≡◌, ℕ, ◌+◌, ◌*◌, ◌/◌, ◌%◌, ◌<◌, ◌≤◌, [], ◌∷◌, length, take, true, IfOk, OnOk, OnErr, slice_index};
 ghost use Rattle.page_arena.specs.declared.TheConstants.{PAGE_LENGTH};
 ghost use Rattle.shadow_memory.specs.Kept.{is_touched};
-ghost use Rattle.shadow_memory.specs.Runs.{compared, is_alike, is_known, AreKnown, IsFirstDifference, IsLeadingCount};
+ghost use Rattle.shadow_memory.specs.Runs.{compared, is_alike, is_known, IsComparison, IsLeadingCount};
 ghost use Rattle.shadow_memory.specs.Shadow.{AreSame, AreWritten};
 
 use crate::kept::KeptBytes;
@@ -167,10 +167,7 @@ pub(crate) fn take_difference(
     bytes: &[u8],
 ) -> Result<Option<Difference>, NoMemory>
     requires { addr + length bytes.now ≤ usize.MAX }
-    ensures none { IfOk result
-        (λ found. IfNone found (AreKnown kept.old.bytes addr bytes.now)) }
-    ensures some { IfOk result
-        (λ found. IfSome found (IsFirstDifference kept.old.bytes addr bytes.now)) }
+    ensures found { IfOk result (λ found. IsComparison kept.old.bytes addr bytes.now found) }
     ensures taken { IfOk result (λ found.
         AreWritten kept.old.bytes addr (take (compared bytes.now found) bytes.now) kept.new.bytes) }
     ensures err { OnErr result (AreSame kept.old.bytes kept.new.bytes) }

@@ -1,11 +1,11 @@
 // What is known of a memory.
 
-ghost use Rattle.std.specs.Prelude.{◌≡◌, ◌≢◌, ◌↔◌, ◌+◌, ◌≤◌, [], ◌∷◌, length, take, Ok, IsTrue, IsOk, IfOk, IfNone, IfSome, OnOk, OnErr};
+ghost use Rattle.std.specs.Prelude.{◌≡◌, ◌≢◌, ◌↔◌, ◌+◌, ◌≤◌, [], ◌∷◌, length, take, Ok, IsTrue, IsOk, IfOk, OnOk, OnErr};
 ghost use Rattle.history_spec.specs.Store.{Store};
 ghost use Rattle.history_spec.specs.Instantiation as history;
 ghost use Rattle.shadow_memory.specs.Opening.{IsOpening};
 ghost use Rattle.shadow_memory.specs.Shadow.{known_byte, HasTaken, IsUnchanged};
-ghost use Rattle.shadow_memory.specs.Runs.{compared, AreKnown, IsFirstDifference};
+ghost use Rattle.shadow_memory.specs.Runs.{compared, IsComparison};
 
 use crate::kept::KeptBytes;
 use crate::opening::opening;
@@ -105,10 +105,7 @@ impl ShadowMemory {
         bytes: &[u8],
     ) -> Result<Option<Difference>, NoMemory>
         requires { addr + length bytes.now ≤ u64.MAX }
-        ensures none { IfOk result
-            (λ found. IfNone found (AreKnown self.old.bytes addr bytes.now)) }
-        ensures some { IfOk result
-            (λ found. IfSome found (IsFirstDifference self.old.bytes addr bytes.now)) }
+        ensures found { IfOk result (λ found. IsComparison self.old.bytes addr bytes.now found) }
         ensures taken { IfOk result
             (λ found. HasTaken self.old addr (take (compared bytes.now found) bytes.now) self.new) }
         ensures err { OnErr result (IsUnchanged self.old self.new) }

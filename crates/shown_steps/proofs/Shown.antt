@@ -1,14 +1,12 @@
 -- Executions that show the same, put together of their parts.
 use Rattle.std.proofs.Common.{◌≡◌, List, [], Option, Some, None, refl}
 use Rattle.std.specs.Prelude.{◌≢◌}
-use Rattle.wasm_syntax.specs.declared.values.Val.{Val}
-use Rattle.wasm_syntax.specs.declared.values.ValType.{ValType}
 use Rattle.history_spec.specs.Store.{Store}
 use Rattle.history_spec.specs.Configuration.{Frame}
-use Rattle.history_spec.specs.Instruction.{Execution, on, pop, takes}
+use Rattle.history_spec.specs.Instruction.{Execution, on}
 use Rattle.replay_spec.specs.Observations.{Observation, on as observed_on}
+use Rattle.observed_steps.proofs.Alike.{TakesAlike, taken_alike}
 use Rattle.observed_steps.specs.StoreAnswers.{BothOrNeither, AnswersAll}
-use Rattle.observed_steps.proofs.Operands.{AreOperands, popped}
 use Rattle.shown_steps.specs.Unshown.{AnswersUnshown}
 use Rattle.shown_steps.specs.Laws.{shown}
 
@@ -49,10 +47,5 @@ module _ (other : Store) (frame : Frame) where
   parts_shown R (Some x) None observe go go' both k = absurd both
   parts_shown R (Some x) (Some x') observe go go' both k = k x x' refl refl
 
-  pub takes_shown : (seen : List Observation) (types : List ValType) (go go' : List Val → List Val → Execution)
-      → ((operands rest : List Val) → AreOperands types frame.values operands
-      → Shows seen (go operands rest) (go' operands rest))
-      → Shows seen (takes frame types go) (takes frame types go')
-  takes_shown seen types go go' k =
-      both_shown seen (pop types frame.values) (λ p. go p.operands p.rest) (λ p. go' p.operands p.rest)
-      (λ p is. k p.operands p.rest (popped types frame.values p is))
+  pub takes_shown : (seen : List Observation) → TakesAlike frame (Shows seen)
+  takes_shown seen = taken_alike frame (Shows seen) (both_shown seen)

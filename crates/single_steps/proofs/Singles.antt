@@ -15,7 +15,7 @@ use Rattle.outside_spec.specs.Inside.{inside_after, args_after, inside_after_all
 use Rattle.outside_spec.specs.Items.{Item, Makes, Changes, Steps, activation_items, changes_of, entries_in, is_block, outside_items, shown_items, steps_items}
 use Rattle.outside_spec.specs.Laws.{ItemsHoldHistories, ProjectionsRunAlong}
 use Rattle.generated_steps.specs.Leads.{Watched, Place, Leads, IsOutside, items_from}
-use Rattle.single_steps.specs.Ends.{Ends}
+use Rattle.single_steps.specs.Ends.{Shows, Ends}
 use Rattle.single_steps.specs.Single.{IsSingle, outside_step}
 use Rattle.single_steps.specs.Laws.{LeadsEnd, LeadsShow, StepsLead, StepsEnd, StepsShow}
 use Rattle.generated_steps.proofs.Along.{steps_over, items_over, entries_over, shown_over}
@@ -88,90 +88,88 @@ module _ (along : ProjectionsRunAlong) (w : Watched) (start : Place) (frame : Fr
   shown_inside : (args : List Val) → shown_items w.layout start.inside args (map Makes entries) ≡ map Makes shown
   shown_inside args = made_shown along w.layout start.inside args entries ∙ ap (map Makes) (single.shows args)
 
+  -- the items of the step, by what is shown of them
+  record StepItems (seen : List Item) : Type 0 where
+    made : List Item
+    are : items_from w 1 start.config ≡ made
+    shows : (args : List Val) → shown_items w.layout start.inside args made ≡ seen
+    has : entries_in made ≡ entries
+
+  step_outside : IsOutside w.layout frame.func → StepItems (outside_step w start frame shown)
+  step_outside outside =
+      record {
+        made = Steps (is_block frame.at.rest) ∷ (map Changes changes ++ map Makes entries);
+        are = items_outside outside;
+        shows = shown_outside;
+        has = entries_made changes entries;
+      }
+
+  step_inside : side w.layout frame.func ≡ Original → StepItems (map Makes shown)
+  step_inside original =
+      record {
+        made = map Makes entries;
+        are = items_inside original;
+        shows = shown_inside;
+        has = entries_made [] entries;
+      }
+
+  step_shown : (seen : List Item) → StepItems seen → (args : List Val)
+      → shown_items w.layout start.inside args (items_from w 1 start.config) ≡ seen
+  step_shown seen items args = ap (shown_items w.layout start.inside args) items.are ∙ items.shows args
+
+  step_entries : (seen : List Item) → StepItems seen → entries_in (items_from w 1 start.config) ≡ entries
+  step_entries seen items = ap entries_in items.are ∙ items.has
+
 pub steps_lead : ProjectionsRunAlong → StepsLead
 steps_lead along w start frame below entries shown end single = (
-  λ outside.
-      let items =
-      items_outside along w start frame below entries shown (Running end.config) end.inside single outside in
-      record {
-        count = 1;
-        comes = λ meter. ap (λ (r : StepResult). r.next) single.makes;
-        shown = λ args.
-            ap (shown_items w.layout start.inside args) items
-            ∙ shown_outside along w start frame below entries shown (Running end.config) end.inside single args;
-        inside =
-            ap (λ l. inside_after_all start.inside (entries_in l)) items
-            ∙ ap (inside_after_all start.inside)
-            (entries_made
-            (changes along w start frame below entries shown (Running end.config) end.inside single) entries)
-            ∙ single.control;
-      },
-  λ original.
-      let items =
-      items_inside along w start frame below entries shown (Running end.config) end.inside single original in
-      record {
-        count = 1;
-        comes = λ meter. ap (λ (r : StepResult). r.next) single.makes;
-        shown = λ args.
-            ap (shown_items w.layout start.inside args) items
-            ∙ shown_inside along w start frame below entries shown (Running end.config) end.inside single args;
-        inside =
-            ap (λ l. inside_after_all start.inside (entries_in l)) items
-            ∙ ap (inside_after_all start.inside) (entries_made [] entries) ∙ single.control;
-      },
+  λ outside. leads _ (step_outside along w start frame below entries shown (Running end.config) end.inside single outside),
+  λ original. leads _ (step_inside along w start frame below entries shown (Running end.config) end.inside single original),
 )
+  where
+    leads : (seen : List Item)
+        → StepItems along w start frame below entries shown (Running end.config) end.inside single seen
+        → Leads w start seen end
+    leads seen items =
+        record {
+          count = 1;
+          comes = λ meter. ap (λ (r : StepResult). r.next) single.makes;
+          shown = step_shown along w start frame below entries shown (Running end.config) end.inside single seen items;
+          inside =
+              ap (inside_after_all start.inside)
+              (step_entries along w start frame below entries shown (Running end.config) end.inside single seen items)
+              ∙ single.control;
+        }
 
 pub steps_end : ProjectionsRunAlong → StepsEnd
 steps_end along w start frame below entries shown own outcome inside single is = (
-  λ outside.
-      let items = items_outside along w start frame below entries shown (Finished own) inside single outside in
-      record {
-        count = 1;
-        own = own;
-        ends = λ meter. ap (λ (r : StepResult). r.next) single.makes;
-        shown = λ args.
-            ap (shown_items w.layout start.inside args) items
-            ∙ shown_outside along w start frame below entries shown (Finished own) inside single args;
-        outcome_shown =
-            ap (λ l. shown_outcome w.layout (entries_in l) own) items
-            ∙ ap (λ l. shown_outcome w.layout l own)
-            (entries_made (changes along w start frame below entries shown (Finished own) inside single) entries)
-            ∙ is;
-      },
-  λ original.
-      let items = items_inside along w start frame below entries shown (Finished own) inside single original in
-      record {
-        count = 1;
-        own = own;
-        ends = λ meter. ap (λ (r : StepResult). r.next) single.makes;
-        shown = λ args.
-            ap (shown_items w.layout start.inside args) items
-            ∙ shown_inside along w start frame below entries shown (Finished own) inside single args;
-        outcome_shown =
-            ap (λ l. shown_outcome w.layout (entries_in l) own) items
-            ∙ ap (λ l. shown_outcome w.layout l own) (entries_made [] entries) ∙ is;
-      },
+  λ outside. ends _ (step_outside along w start frame below entries shown (Finished own) inside single outside),
+  λ original. ends _ (step_inside along w start frame below entries shown (Finished own) inside single original),
 )
+  where
+    ends : (seen : List Item) → StepItems along w start frame below entries shown (Finished own) inside single seen
+        → Ends w start seen outcome
+    ends seen items =
+        record {
+          count = 1;
+          own = own;
+          ends = λ meter. ap (λ (r : StepResult). r.next) single.makes;
+          shown = step_shown along w start frame below entries shown (Finished own) inside single seen items;
+          outcome_shown =
+              ap (λ l. shown_outcome w.layout l own)
+              (step_entries along w start frame below entries shown (Finished own) inside single seen items)
+              ∙ is;
+        }
 
 pub steps_show : ProjectionsRunAlong → StepsShow
 steps_show along w start frame below entries shown next inside single = (
-  λ outside.
-      record {
-        count = 1;
-        shown = λ args.
-            ap (shown_items w.layout start.inside args)
-            (items_outside along w start frame below entries shown next inside single outside)
-            ∙ shown_outside along w start frame below entries shown next inside single args;
-      },
-  λ original.
-      record {
-        count = 1;
-        shown = λ args.
-            ap (shown_items w.layout start.inside args)
-            (items_inside along w start frame below entries shown next inside single original)
-            ∙ shown_inside along w start frame below entries shown next inside single args;
-      },
+  λ outside. shows _ (step_outside along w start frame below entries shown next inside single outside),
+  λ original. shows _ (step_inside along w start frame below entries shown next inside single original),
 )
+  where
+    shows : (seen : List Item) → StepItems along w start frame below entries shown next inside single seen
+        → Shows w start seen
+    shows seen items =
+        record { count = 1; shown = step_shown along w start frame below entries shown next inside single seen items }
 
 -- ---- several steps and the end
 

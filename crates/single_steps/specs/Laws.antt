@@ -42,3 +42,9 @@ StepsShow = (w : Watched) (start : Place) (frame : Frame) (below : List Activati
     (next : Progress) (inside : List ℕ) → IsSingle w start frame below entries shown next inside
     → (IsOutside w.layout frame.func → Shows w start (outside_step w start frame shown))
     × (side w.layout frame.func ≡ Original → Shows w start (map Makes shown))
+
+-- what comes of one step
+pub record StepsLeadOn : Type 0 where
+  pub leads : StepsLead
+  pub ends : StepsEnd
+  pub shows : StepsShow

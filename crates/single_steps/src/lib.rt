@@ -1,7 +1,7 @@
 //! Laws on single steps in the run of a replay module: what they lead to, and how the run is over.
 #![tactic(auto)]
 
-ghost use Rattle.single_steps.specs.Laws.{LeadsEnd, LeadsShow, StepsEnd, StepsLead, StepsShow};
+ghost use Rattle.single_steps.specs.Laws.{LeadsEnd, LeadsShow, StepsLeadOn};
 
 use outside_spec::{items_show_projections, projections_run_along};
 
@@ -16,9 +16,7 @@ pub fn leads_go_on()
 /// One step leads on, or the run is over with it, or stuck: of a function outside the original it shows its step, its
 /// changes and what its entries show, of an original this alone.
 pub fn steps_lead_on()
-    ensures leads { StepsLead }
-    ensures ends { StepsEnd }
-    ensures shows { StepsShow }
+    ensures { StepsLeadOn }
 {
     projections_run_along();
 }

@@ -1,6 +1,6 @@
 -- The needed effects of an activity of the host are done, and bring a store that holds what is known to what the window
 -- after it needs.
-use Rattle.std.proofs.Common.{◌≡◌, ℕ, ◌*◌, ◌<◌, ◌≤◌, List, [], ◌∷◌, length, Option, Some, None, Bool, true, false, cond, nat_lt, nat_eq, refl, sym, ap, ◌∙◌, subst, arith}
+use Rattle.std.proofs.Common.{◌≡◌, ℕ, ◌*◌, ◌<◌, ◌≤◌, List, [], ◌∷◌, length, Option, Some, None, Bool, true, false, cond, nat_eq, refl, sym, ap, ◌∙◌, subst, arith}
 use Rattle.std.specs.Prelude.{IfSome, option_map, unwrap_or}
 use Rattle.std.specs.Option.{option_or, option_flatten}
 use Rattle.std.proofs.lemmas.Bool.Decides.{nat_tests}
@@ -19,7 +19,7 @@ use Rattle.replay_spec.specs.Observations.{Observation}
 use Rattle.replay_spec.specs.Known.{Known, byte_of, entry_of, pages_of, last_some}
 use Rattle.replay_spec.specs.Windows.{first_byte, first_entry, first_global, found_pages, found_entries}
 use Rattle.replay_spec.specs.Alike.{same_option, same_value}
-use Rattle.replay_spec.specs.Needed.{needed, needed_byte, needed_entry, needed_global, effect_byte, effect_entry, effect_global, effect_pages, effect_entries, AreNeeded}
+use Rattle.replay_spec.specs.Needed.{needed, needed_byte, needed_entry, needed_global, effect_pages, effect_entries, AreNeeded}
 use Rattle.replay_spec.proofs.Alike.{option_same, value_same}
 use Rattle.observed_steps.specs.StoreAnswers.{allows_pages, allows_entries}
 use Rattle.tape_follows.proofs.Stores.{Maxima, maxima}
@@ -74,23 +74,6 @@ changes_after effect (next ∷ effects) small h =
 
 -- ---- effects in order
 
-pages_before : (effect next : Effect) → is_before effect next ≡ true → effect_pages next ≡ None
-pages_before (Grow a) (Grow b) h = cc
-pages_before (GrowTable a) (Grow b) h = cc
-pages_before (Bytes a c) (Grow b) h = cc
-pages_before (Entry a c) (Grow b) h = cc
-pages_before (Global a c) (Grow b) h = cc
-pages_before effect next h = refl
-
--- no effect grows the memory after another effect
-pub pages_after : (effect : Effect) (effects : List Effect) → are_ordered_after effect effects ≡ true
-    → last_some effect_pages effects ≡ None
-pages_after effect [] h = refl
-pages_after effect (next ∷ effects) h =
-    let later = pages_after next effects (and_right (is_before effect next) (are_ordered_after next effects) h) in
-    let here = pages_before effect next (and_left (is_before effect next) (are_ordered_after next effects) h) in
-    (λ i. option_or (later i) (here i))
-
 pub ordered_rest : (effect : Effect) (effects : List Effect) → are_ordered_after effect effects ≡ true
     → are_ordered effects ≡ true
 ordered_rest effect [] h = refl
@@ -103,19 +86,16 @@ none_given part none [] are = refl
 none_given part none (effect ∷ effects) are =
     (λ i. option_or (none_given part none effects are.1 i) (none effect are.0 i))
 
+gives_no_size : (effect : Effect) → IsChange effect → (effect_pages effect ≡ None) × (effect_entries effect ≡ None)
+gives_no_size (Grow size) h = absurd h
+gives_no_size (GrowTable size) h = absurd h
+gives_no_size effect h = (refl, refl)
+
 pub no_growth : (effects : List Effect) → AreChanges effects → last_some effect_pages effects ≡ None
-no_growth = none_given effect_pages none
-  where
-    none : (effect : Effect) → IsChange effect → effect_pages effect ≡ None
-    none (Grow size) h = absurd h
-    none effect h = refl
+no_growth = none_given effect_pages (λ effect h. (gives_no_size effect h).0)
 
 pub no_table_growth : (effects : List Effect) → AreChanges effects → last_some effect_entries effects ≡ None
-no_table_growth = none_given effect_entries none
-  where
-    none : (effect : Effect) → IsChange effect → effect_entries effect ≡ None
-    none (GrowTable size) h = absurd h
-    none effect h = refl
+no_table_growth = none_given effect_entries (λ effect h. (gives_no_size effect h).1)
 
 -- ---- a value that is needed
 
@@ -136,6 +116,17 @@ needed_else same is known (Some y) = go (same known y) refl
     go : (b : Bool) → same known y ≡ b → unwrap_or (cond (same known y) None (Some y)) known ≡ y
     go true p = ap (λ b. unwrap_or (cond b None (Some y)) known) p ∙ is known y p
     go false p = ap (λ b. unwrap_or (cond b None (Some y)) known) p
+
+-- so it is after what is needed was given, where what is known was there before
+needed_after : {X : Type 0} (same : X → X → Bool) → ((a b : X) → same a b ≡ true → a ≡ b) → (known : X)
+    (found given : Option X) (before after : X) → after ≡ unwrap_or given before → before ≡ known
+    → given ≡ needed same known found → after ≡ unwrap_or found known
+needed_after same is known found given before after done held need =
+    done ∙ ap (unwrap_or given) held ∙ ap (λ o. unwrap_or o known) need ∙ needed_else same is known found
+
+-- a number that is not at another or past it
+not_past : (at n : ℕ) → (n ≤ at → ⊥) → at < n
+not_past at n past = omega (arith, past)
 
 -- with the pages that are found where they are needed, so many bytes are there
 pub found_bytes : (known found : ℕ)
@@ -179,20 +170,16 @@ module _ (known : Known) (window : List Observation) (store : Store) (sizes : Ha
       past_memory (Some m) past = get_or_past m.bytes at 0 past
 
       inside : at < memory_length store.memory
-      inside = go (nat_lt at (memory_length store.memory)) refl
-        where
-          go : (b : Bool) → nat_lt at (memory_length store.memory) ≡ b → at < memory_length store.memory
-          go true p = grind (arith, nat_tests, p)
-          go false p =
-              let past : memory_length store.memory ≤ at = grind (arith, nat_tests, p) in
-              let whole : memory_length store.memory ≡ pages_of store.memory * 65536 = sizes.whole in
-              let more = k.pages in
-              let none : known.byte at ≡ 0 = k.past_pages at (omega (arith, past, whole, more)) in
-              let zero_there : x ≡ 0 = sym (real.byte at x found) ∙ past_memory store.memory past in
-              let same : known.byte at ≡ x = none ∙ sym zero_there in
-              let yes : nat_eq (known.byte at) x ≡ true = grind (arith, nat_tests, same) in
-              let apart = differs in
-              cc
+      inside =
+          not_past at (memory_length store.memory) (λ past.
+          let whole : memory_length store.memory ≡ pages_of store.memory * 65536 = sizes.whole in
+          let more = k.pages in
+          let none : known.byte at ≡ 0 = k.past_pages at (omega (arith, past, whole, more)) in
+          let zero_there : x ≡ 0 = sym (real.byte at x found) ∙ past_memory store.memory past in
+          let same : known.byte at ≡ x = none ∙ sym zero_there in
+          let yes : nat_eq (known.byte at) x ≡ true = grind (arith, nat_tests, same) in
+          let apart = differs in
+          cc)
 
       held : IsSize known.pages (pages_of store.memory) pages_held
           ((at x : ℕ) → first_byte window at ≡ Some x → at < known.pages * PAGE_SIZE) → at < pages_held * PAGE_SIZE
@@ -218,19 +205,15 @@ module _ (known : Known) (window : List Observation) (store : Store) (sizes : Ha
       past_table (Some t) past = ap option_flatten (slice_get_past t.entries at past)
 
       inside : at < table_length store.table
-      inside = go (nat_lt at (table_length store.table)) refl
-        where
-          go : (b : Bool) → nat_lt at (table_length store.table) ≡ b → at < table_length store.table
-          go true p = grind (arith, nat_tests, p)
-          go false p =
-              let past : table_length store.table ≤ at = grind (arith, nat_tests, p) in
-              let more = k.entries in
-              let none : known.entry at ≡ None = k.past_entries at (omega (arith, past, more)) in
-              let none_there : x ≡ None = sym (real.entry at x found) ∙ past_table store.table past in
-              let yes : same_option nat_eq (known.entry at) x ≡ true =
-              ap (λ o. same_option nat_eq o x) none ∙ ap (same_option nat_eq None) none_there in
-              let apart = differs in
-              cc
+      inside =
+          not_past at (table_length store.table) (λ past.
+          let more = k.entries in
+          let none : known.entry at ≡ None = k.past_entries at (omega (arith, past, more)) in
+          let none_there : x ≡ None = sym (real.entry at x found) ∙ past_table store.table past in
+          let yes : same_option nat_eq (known.entry at) x ≡ true =
+          ap (λ o. same_option nat_eq o x) none ∙ ap (same_option nat_eq None) none_there in
+          let apart = differs in
+          cc)
 
       held : IsSize known.entries (table_length store.table) entries_held
           ((at : ℕ) (x : Option ℕ) → first_entry window at ≡ Some x → at < known.entries) → at < entries_held
@@ -273,22 +256,14 @@ module _ (known : Known) (window : List Observation) (store : Store) (sizes : Ha
             entries =
                 if_count after.table other.table (ap (λ (m : Maxima). m.entries) are.same) holds.entries are.entries;
             byte = λ at.
-                are.byte at
-                ∙ ap (unwrap_or (last_some (effect_byte at) effects)) (holds.byte at)
-                ∙ ap (λ o. unwrap_or o (known.byte at)) (need.byte at)
-                ∙ needed_else nat_eq same_number (known.byte at) (first_byte window at);
+                needed_after nat_eq same_number (known.byte at) (first_byte window at) _ _ _ (are.byte at) (holds.byte at)
+                (need.byte at);
             entry = λ at.
-                are.entry at
-                ∙ ap (unwrap_or (last_some (effect_entry at) effects)) (holds.entry at)
-                ∙ ap (λ o. unwrap_or o (known.entry at)) (need.entry at)
-                ∙ needed_else (same_option nat_eq) (option_same nat_eq same_number) (known.entry at)
-                (first_entry window at);
+                needed_after (same_option nat_eq) (option_same nat_eq same_number) (known.entry at)
+                (first_entry window at) _ _ _ (are.entry at) (holds.entry at) (need.entry at);
             global = λ at.
-                are.global at
-                ∙ ap (unwrap_or (last_some (effect_global at) effects)) (holds.global at)
-                ∙ ap (λ o. unwrap_or o (known.global at)) (need.global at)
-                ∙ needed_else (same_option same_value) (option_same same_value value_same) (known.global at)
-                (first_global window at);
+                needed_after (same_option same_value) (option_same same_value value_same) (known.global at)
+                (first_global window at) _ _ _ (are.global at) (holds.global at) (need.global at);
           }
         where
           size : bytes_left (last_some effect_pages effects) (known.pages * PAGE_SIZE) ≡ pages_held * PAGE_SIZE

@@ -28,7 +28,8 @@ use Rattle.tape_follows.proofs.Held.{whole_pages}
 use Rattle.tape_follows.proofs.Same.{same_number}
 use Rattle.tape_follows.proofs.StepItems.{there_too}
 use Rattle.tape_follows.proofs.Effects.{AreDone, more_done, grow_done, grow_table_done, AreChanges, changes_done}
-use Rattle.tape_follows.proofs.Activities.{HasSizes, changes_after, no_growth, no_table_growth, size_between, byte_there, entry_there, global_there, holds_needed, pages_after, ordered_rest}
+use Rattle.replay_spec.proofs.OneList.{pages_after}
+use Rattle.tape_follows.proofs.Activities.{HasSizes, changes_after, no_growth, no_table_growth, size_between, byte_there, entry_there, global_there, holds_needed, ordered_rest}
 
 -- ---- sizes that are allowed
 
@@ -124,6 +125,23 @@ module _ (known : Known) (window : List Observation) (store : Store) (sizes : Ha
     pub entry : (at : ℕ) → last_some (effect_entry at) effects ≡ needed_entry known window at
     pub global : (at : ℕ) → last_some (effect_global at) effects ≡ needed_global known window at
 
+  -- those after an effect that is none of them
+  those_after : (effect : Effect) (effects : List Effect) → ((at : ℕ) → effect_byte at effect ≡ None)
+      → ((at : ℕ) → effect_entry at effect ≡ None) → ((at : ℕ) → effect_global at effect ≡ None)
+      → AreThose (effect ∷ effects) → AreThose effects
+  those_after effect effects byte entry global those =
+      record {
+        filled = and_right (has_bytes effect) (list_all has_bytes effects) those.filled;
+        byte = λ at. after (effect_byte at) (byte at) ∙ those.byte at;
+        entry = λ at. after (effect_entry at) (entry at) ∙ those.entry at;
+        global = λ at. after (effect_global at) (global at) ∙ those.global at;
+      }
+    where
+      after : {X : Type 0} (part : Effect → Option X) → part effect ≡ None
+          → last_some part effects ≡ last_some part (effect ∷ effects)
+      after part none =
+          sym (ap (option_or (last_some part effects)) none ∙ or_nothing (last_some part effects))
+
   -- the store on the way, before changes
   record IsOnWay (mid : Store) : Type 0 where
     pub same : maxima mid ≡ maxima store
@@ -187,12 +205,7 @@ module _ (known : Known) (window : List Observation) (store : Store) (sizes : Ha
       let rest = changes next
       (record { same = one.same ∙ way.same; memory = way.memory; count = one.count ∙ way.count })
       (if_entries next.table held_entries (one.entries ∙ e)) effects are
-      (record {
-        filled = and_right true (list_all has_bytes effects) those.filled;
-        byte = λ at. sym (or_nothing (last_some (effect_byte at) effects)) ∙ those.byte at;
-        entry = λ at. sym (or_nothing (last_some (effect_entry at) effects)) ∙ those.entry at;
-        global = λ at. sym (or_nothing (last_some (effect_global at) effects)) ∙ those.global at;
-      }) in
+      (those_after (GrowTable size) effects (λ at. refl) (λ at. refl) (λ at. refl) those) in
       (rest.0, more_done mid next rest.0 (GrowTable size) effects one rest.1)
   with_table mid way table (effect ∷ effects) none order count those =
       let are : AreChanges (effect ∷ effects) = (tt, changes_after effect effects tt order) in
@@ -249,12 +262,7 @@ module _ (known : Known) (window : List Observation) (store : Store) (sizes : Ha
       })
       holds.entries effects none (ordered_rest (Grow size) effects order)
       (sym (or_nothing (last_some effect_entries effects)) ∙ count)
-      (record {
-        filled = and_right true (list_all has_bytes effects) those.filled;
-        byte = λ at. sym (or_nothing (last_some (effect_byte at) effects)) ∙ those.byte at;
-        entry = λ at. sym (or_nothing (last_some (effect_entry at) effects)) ∙ those.entry at;
-        global = λ at. sym (or_nothing (last_some (effect_global at) effects)) ∙ those.global at;
-      }) in
+      (those_after (Grow size) effects (λ at. refl) (λ at. refl) (λ at. refl) those) in
       (rest.0, more_done other next rest.0 (Grow size) effects one rest.1)
   with_pages [] order grown count those = no_pages [] refl order grown count those
   with_pages (GrowTable new ∷ effects) order grown count those =

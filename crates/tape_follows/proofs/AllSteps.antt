@@ -38,6 +38,7 @@ use Rattle.type_safety.specs.Configurations.{IsConfig, IsSafe, IsTypedCode, scop
 use Rattle.type_safety.specs.Heights.{Heights}
 use Rattle.type_safety.specs.Stores.{IsStore}
 use Rattle.type_safety.specs.Results.{HasRule}
+use Rattle.tape_follows.proofs.SafeSteps.{safe_step}
 use Rattle.tape_follows.specs.Below.{LawsOfSteps}
 use Rattle.tape_follows.proofs.Relation.{IsKnownOf, Holds, IsReadOf, AreSeen}
 use Rattle.tape_follows.proofs.Claims.{Claim}
@@ -199,9 +200,6 @@ module _ (laws : LawsOfSteps) (m : Module) (heights : Heights) (valid : IsValid 
             (left_is laws.own laws.answers m code store fine.store frame known operands results found control e)
             (known_of_all known store items are of) safe)
 
-  safe_step : (config : Config) → IsConfig m heights config → IsSafe m heights (step program config).next
-  safe_step config fine = laws.steps m heights program config valid typed (record { code = refl; answers = fits }) fine
-
   -- ---- all steps
 
   made_next : (k : ℕ) → Delivers k → Makes (suc k)
@@ -213,7 +211,7 @@ module _ (laws : LawsOfSteps) (m : Module) (heights : Heights) (valid : IsValid 
             let f = executed k delivers frame below store counts known came nested fine of a.0 a.1
             (execute code store frame) refl
             (laws.rules m heights store frame a.0 a.1 valid typed fine.store a.2 fine.at_step)
-            (safe_step config fine) in
+            (safe_step laws m heights valid typed answers fits config fine) in
             record { reads = f.reads; shows = f.shows };
         main = λ action actions below store counts known came nested fine of.
             let config : Config =
@@ -223,7 +221,7 @@ module _ (laws : LawsOfSteps) (m : Module) (heights : Heights) (valid : IsValid 
             store counts known came [] action (λ t. refl) (λ left. refl) (λ func given other segments. refl)
             (λ other segments. refl) nested fine.store of (perform code store [] action) refl
             (laws.actions m heights store [] [] action typed fine.store tt (a.0 0 action (omega arith)))
-            (safe_step config fine) in
+            (safe_step laws m heights valid typed answers fits config fine) in
             record { reads = f.reads; shows = f.shows };
         import = λ number args action actions end below store counts known came nested fine of.
             let config : Config =
@@ -236,7 +234,7 @@ module _ (laws : LawsOfSteps) (m : Module) (heights : Heights) (valid : IsValid 
             (perform code store args action) refl
             (laws.actions m heights store a.0.params args action typed fine.store a.2
             (a.3 0 action (omega arith)))
-            (safe_step config fine) in
+            (safe_step laws m heights valid typed answers fits config fine) in
             record { reads = f.reads; shows = f.shows };
       }
 

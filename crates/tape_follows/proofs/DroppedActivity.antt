@@ -50,6 +50,31 @@ module _ {X : Type 0} (same : X → X → Bool) (is : (a b : X) → same a b ≡
 
 -- ---- an activity
 
+-- a memory that holds the known pages and those that are found, and a table likewise
+known_memory : (known found : ℕ) (a s : Option Memory) → option_map (λ m. m.max) a ≡ option_map (λ m. m.max) s
+    → IfSome a (λ m. length m.bytes ≡ found * PAGE_SIZE) → memory_length a ≡ known * PAGE_SIZE → known ≤ found
+    → found ≤ pages_of s → known ≡ found
+known_memory known found None None e h l low high = omega (arith, low, high)
+known_memory known found None (Some m) e h l low high = cc
+known_memory known found (Some m) s e h l low high =
+    let a : length m.bytes ≡ found * 65536 = h in
+    let b : length m.bytes ≡ known * 65536 = l in
+    omega (arith, a, b)
+
+known_table : (known found : ℕ) (a s : Option Table) → option_map (λ t. t.max) a ≡ option_map (λ t. t.max) s
+    → IfSome a (λ t. length t.entries ≡ found) → table_length a ≡ known → known ≤ found → found ≤ table_length s
+    → known ≡ found
+known_table known found None None e h l low high = omega (arith, low, high)
+known_table known found None (Some t) e h l low high = cc
+known_table known found (Some t) s e h l low high = sym l ∙ h
+
+-- a size of which nothing is left is the known one
+size_left : (given left : Option ℕ) (known found : ℕ) → IsLeft given left → given ≡ needed nat_eq known (Some found)
+    → (left ≡ None → known ≡ found) → left ≡ given
+size_left given left known found (inl same) need none = same
+size_left given left known found (inr nothing) need none =
+    nothing ∙ sym (need ∙ unneeded nat_eq own_number known (Some found) (none nothing))
+
 -- where nothing is needed, nothing can be taken out
 pub none_left : (known : Known) (effects left : List Effect) → AreNeeded known [] effects → AreLeft [] effects left
     → left ≡ effects
@@ -184,8 +209,8 @@ module _ (known : Known) (window : List Observation) (store : Store) (sizes : Ha
   all_left held =
       effects_same left effects are.ordered need.ordered are.nonempty need.nonempty
       (record {
-        pages = pages_left are.pages;
-        entries = entries_left are.entries;
+        pages = size_left _ _ known.pages pages_found are.pages need.pages pages_known;
+        entries = size_left _ _ known.entries entries_found are.entries need.entries entries_known;
         byte = λ at.
             left_all nat_eq same_number own_number (known.byte at) (first_byte window at)
             (last_some (effect_byte at) effects) (last_some (effect_byte at) left) (byte_of after.memory at)
@@ -202,45 +227,14 @@ module _ (known : Known) (window : List Observation) (store : Store) (sizes : Ha
             (need.global at) (global_is_done at) (are.global at) (held.global at);
       })
     where
-      pages_left : IsLeft (last_some effect_pages effects) (last_some effect_pages left)
-          → last_some effect_pages left ≡ last_some effect_pages effects
-      pages_left (inl e) = e
-      pages_left (inr e) =
-          e
-          ∙ sym
-          (need.pages
-          ∙ unneeded nat_eq own_number known.pages (Some pages_found)
-          (go after.memory store.memory (ap (λ (m : Maxima). m.pages) (done.same ∙ alike)) held.pages
+      pages_known : last_some effect_pages left ≡ None → known.pages ≡ pages_found
+      pages_known e =
+          known_memory known.pages pages_found after.memory store.memory (ap (λ (m : Maxima). m.pages) (done.same ∙ alike)) held.pages
           (done.long ∙ ap (λ o. bytes_left o (memory_length other.memory)) e ∙ known_length) pages_between.0
-          pages_between.1))
-        where
-          go : (a s : Option Memory) → option_map (λ m. m.max) a ≡ option_map (λ m. m.max) s
-              → IfSome a (λ m. length m.bytes ≡ pages_found * PAGE_SIZE)
-              → memory_length a ≡ known.pages * PAGE_SIZE → known.pages ≤ pages_found → pages_found ≤ pages_of s
-              → known.pages ≡ pages_found
-          go None None e h l low high = omega (arith, low, high)
-          go None (Some m) e h l low high = cc
-          go (Some m) s e h l low high =
-              let a : length m.bytes ≡ pages_found * 65536 = h in
-              let b : length m.bytes ≡ known.pages * 65536 = l in
-              omega (arith, a, b)
+          pages_between.1
 
-      entries_left : IsLeft (last_some effect_entries effects) (last_some effect_entries left)
-          → last_some effect_entries left ≡ last_some effect_entries effects
-      entries_left (inl e) = e
-      entries_left (inr e) =
-          e
-          ∙ sym
-          (need.entries
-          ∙ unneeded nat_eq own_number known.entries (Some entries_found)
-          (go after.table store.table (ap (λ (m : Maxima). m.entries) (done.same ∙ alike)) held.entries
+      entries_known : last_some effect_entries left ≡ None → known.entries ≡ entries_found
+      entries_known e =
+          known_table known.entries entries_found after.table store.table (ap (λ (m : Maxima). m.entries) (done.same ∙ alike)) held.entries
           (done.entries ∙ ap (λ o. unwrap_or o (table_length other.table)) e ∙ known_count) entries_between.0
-          entries_between.1))
-        where
-          go : (a s : Option Table) → option_map (λ t. t.max) a ≡ option_map (λ t. t.max) s
-              → IfSome a (λ t. length t.entries ≡ entries_found)
-              → table_length a ≡ known.entries → known.entries ≤ entries_found → entries_found ≤ table_length s
-              → known.entries ≡ entries_found
-          go None None e h l low high = omega (arith, low, high)
-          go None (Some t) e h l low high = cc
-          go (Some t) s e h l low high = sym l ∙ h
+          entries_between.1

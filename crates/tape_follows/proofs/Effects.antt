@@ -13,14 +13,14 @@ use Rattle.trace_model.specs.declared.tapes.Effect.{Effect}
 use Rattle.trace_model.specs.declared.tapes.Effect.TheVariants.{Grow, Table as GrowTable, Bytes, Entry, Global}
 use Rattle.history_spec.specs.Store.{Store, Memory, Table, pages, with_items_at, with_memory, with_table, grown_memory_if, grown_table_if}
 use Rattle.history_spec.specs.Instantiation.{memory_length, table_length}
-use Rattle.replay_spec.specs.Observations.{Writes, Resizes, WritesEntry, ResizesTable, WritesGlobal}
-use Rattle.replay_spec.specs.Known.{byte_among, byte_of, entry_of, last_some}
+use Rattle.replay_spec.specs.Observations.{Observation, Writes, Resizes, WritesEntry, ResizesTable, WritesGlobal}
+use Rattle.replay_spec.specs.Known.{byte_among, byte_of, entry_of, last_some, written_byte, written_entry, written_global}
 use Rattle.replay_spec.specs.Needed.{effect_byte, effect_entry, effect_global, effect_pages, effect_entries, has_bytes}
 use Rattle.replay_spec.specs.TapeRun.{memory_of_size, table_of_size, memory_with, table_with, store_after_effect, store_after_effects}
 use Rattle.observed_steps.specs.Changes.{with_change, with_bytes, with_pages, with_table_entry, with_entries}
 use Rattle.observed_steps.specs.StoreAnswers.{allows_pages, allows_entries}
 use Rattle.tape_follows.proofs.Stores.{maxima}
-use Rattle.tape_follows.proofs.Changes.{IsChangedBy, changed_by, gives_global}
+use Rattle.tape_follows.proofs.Changes.{IsChangedBy, left_bytes, left_entries, changed_by, gives_global}
 
 first_else : {X : Type 0} (a b : Option X) (c : X) → unwrap_or (option_or a b) c ≡ unwrap_or a (unwrap_or b c)
 first_else (Some x) b c = refl
@@ -46,6 +46,34 @@ pub record IsDone (store : Store) (effect : Effect) (after : Store) : Type 0 whe
   pub entries : table_length after.table ≡ unwrap_or (effect_entries effect) (table_length store.table)
   pub count : length after.globals ≡ length store.globals
   pub same : maxima after ≡ maxima store
+
+-- an effect is done as an observation changes the store
+done_as : {store after : Store} {o : Observation} {effect : Effect} → store_after_effect store effect ≡ Some after
+    → IsChangedBy store o after → ((at : ℕ) → written_byte at o ≡ effect_byte at effect)
+    → ((at : ℕ) → written_entry at o ≡ effect_entry at effect)
+    → ((at : ℕ) → written_global at o ≡ effect_global at effect)
+    → left_bytes (memory_length store.memory) o ≡ bytes_left (effect_pages effect) (memory_length store.memory)
+    → left_entries (table_length store.table) o ≡ unwrap_or (effect_entries effect) (table_length store.table)
+    → length after.globals ≡ length store.globals → IsDone store effect after
+done_as {store} done c byte entry global long entries count =
+    record {
+      done = done;
+      byte = λ at. c.byte at ∙ ap (λ w. unwrap_or w (byte_of store.memory at)) (byte at);
+      entry = λ at. c.entry at ∙ ap (λ w. unwrap_or w (entry_of store.table at)) (entry at);
+      global = λ at. c.global at ∙ ap (λ w. unwrap_or w (slice_get store.globals at)) (global at);
+      long = c.long ∙ long;
+      entries = c.entries ∙ entries;
+      count = count;
+      same = c.same;
+    }
+
+-- what is found in a store's own part and put back
+put_back : {X : Type 0} (put : X → Store) (find : X → Option X) (after : Option X → Store) (own : Option X) (x y : X)
+    → own ≡ Some x → find x ≡ Some y → after (Some x) ≡ put y → option_map put (option_and_then find own)
+    ≡ Some (after own)
+put_back put find after own x y is found e =
+    ap (λ o. option_map put (option_and_then find o)) is ∙ ap (option_map put) found ∙ ap Some (sym e)
+    ∙ ap (λ o. Some (after o)) (sym is)
 
 -- effects are done in order
 pub record AreDone (store : Store) (effects : List Effect) (after : Store) : Type 0 where
@@ -197,6 +225,17 @@ grow_table_done store table is size more allowed =
         go false = refl
 
 module _ (store : Store) where
+  -- bytes are put into the memory where they are within it
+  bytes_put : (memory : Memory) → store.memory ≡ Some memory → (address : ℕ) (bytes : List ℕ)
+      → nat_le (address + length bytes) (length memory.bytes) ≡ true
+      → store_after_effect store (Bytes address bytes) ≡ Some (with_change store (Writes address bytes))
+  bytes_put memory is address bytes test =
+      put_back (with_memory store) (memory_with address bytes)
+      (λ o. record store { memory = option_map (with_bytes address bytes) o }) store.memory memory
+      (with_bytes address bytes memory) is
+      (ap (λ b. option_map (λ all. record memory { bytes = all })
+      (cond b (Some (with_items_at memory.bytes address bytes)) None)) test) refl
+
   pub bytes_done : (memory : Option Memory) → store.memory ≡ memory → (address : ℕ) (bytes : List ℕ)
       → 0 < length bytes → address + length bytes ≤ memory_length memory
       → IsDone store (Bytes address bytes) (with_change store (Writes address bytes))
@@ -205,20 +244,7 @@ module _ (store : Store) where
       let c : IsChangedBy store (Writes address bytes) (with_change store (Writes address bytes)) =
       changed_by store (Writes address bytes) (memory, is) tt
       (subst (λ o. IfSome o (λ (m : Memory). address + length bytes ≤ length m.bytes)) (sym is) fits) in
-      record {
-        done =
-            ap (λ o. option_map (with_memory store) (option_and_then (memory_with address bytes) o)) is
-            ∙ ap (λ b. option_map (with_memory store) (option_map (λ all. record memory { bytes = all })
-            (cond b (Some (with_items_at memory.bytes address bytes)) None))) test
-            ∙ ap (λ o. Some (record store { memory = option_map (with_bytes address bytes) o })) (sym is);
-        byte = c.byte;
-        entry = c.entry;
-        global = c.global;
-        long = c.long;
-        entries = c.entries;
-        count = refl;
-        same = c.same;
-      }
+      done_as (bytes_put memory is address bytes test) c (λ at. refl) (λ at. refl) (λ at. refl) refl refl refl
     where
       test : nat_le (address + length bytes) (length memory.bytes) ≡ true
       test = grind (arith, nat_tests, fits)
@@ -230,20 +256,13 @@ module _ (store : Store) where
       let c : IsChangedBy store (WritesEntry index func) (with_change store (WritesEntry index func)) =
       changed_by store (WritesEntry index func) (table, is) tt
       (subst (λ o. IfSome o (λ (t : Table). index < length t.entries)) (sym is) below) in
-      record {
-        done =
-            ap (λ o. option_map (with_table store) (option_and_then (table_with index func) o)) is
-            ∙ ap (λ b. option_map (with_table store) (option_map (λ all. record table { entries = all })
-            (cond b (Some (slice_set table.entries index func)) None))) test
-            ∙ ap (λ o. Some (record store { table = option_map (with_table_entry index func) o })) (sym is);
-        byte = c.byte;
-        entry = c.entry;
-        global = c.global;
-        long = c.long;
-        entries = c.entries;
-        count = refl;
-        same = c.same;
-      }
+      done_as
+      (put_back (with_table store) (table_with index func)
+      (λ o. record store { table = option_map (with_table_entry index func) o }) store.table table
+      (with_table_entry index func table) is
+      (ap (λ b. option_map (λ all. record table { entries = all })
+      (cond b (Some (slice_set table.entries index func)) None)) test) refl)
+      c (λ at. refl) (λ at. refl) (λ at. refl) refl refl refl
     where
       test : nat_lt index (length table.entries) ≡ true
       test = grind (arith, nat_tests, below)
@@ -253,16 +272,8 @@ module _ (store : Store) where
   global_done global value below =
       let c = gives_global store global value below in
       let there = item_there store.globals global below in
-      record {
-        done = ap (option_map (λ old. with_change store (WritesGlobal global value))) there.1;
-        byte = c.byte;
-        entry = c.entry;
-        global = c.global;
-        long = c.long;
-        entries = c.entries;
-        count = length-set store.globals global value;
-        same = c.same;
-      }
+      done_as (ap (option_map (λ old. with_change store (WritesGlobal global value))) there.1) c (λ at. refl)
+      (λ at. refl) (λ at. refl) refl refl (length-set store.globals global value)
 
 -- ---- changes of what is there
 

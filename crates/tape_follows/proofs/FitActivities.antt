@@ -28,7 +28,7 @@ use Rattle.history_spec.specs.Configuration.{Frame, Activation, InModule, InMain
 use Rattle.history_spec.specs.Instruction.{Control, Goes, Calls, Returns, Execution, Did, Traps, NoRule, execute}
 use Rattle.history_spec.specs.Action.{ActionResult, Changes, Enters, Fails, Unfit, perform}
 use Rattle.history_spec.specs.Settle.{AtEnd, Within, Gives, TooFew, at_end, return_entry, return_from, deliver}
-use Rattle.history_spec.specs.Step.{Program, Progress, Running, Finished, Faulted, Stuck, after_entries, after_settling, enter_defined, enter_function, frame_of, response_to, answer_call, call_function, after_control, after_instruction, after_action, step, start, start_with_call}
+use Rattle.history_spec.specs.Step.{Program, Progress, Running, Finished, Faulted, Stuck, after_entries, after_settling, enter_defined, enter_function, frame_of, response_to, answer_call, call_function, after_control, after_instruction, after_action, start, start_with_call}
 use Rattle.history_spec.specs.Run.{all_one, steps}
 use Rattle.replay_spec.specs.Observations.{Observation, Ends, observations}
 use Rattle.replay_spec.specs.Known.{Known, known_after_all}
@@ -41,6 +41,8 @@ use Rattle.type_safety.specs.Results.{HasRule, IsControl, IsActionResult}
 use Rattle.type_safety.specs.Stores.{func_count, IsStore}
 use Rattle.type_safety.proofs.Responses.{response_fits}
 use Rattle.type_safety.proofs.Values.{types_values}
+use Rattle.tape_follows.proofs.SafeSteps.{safe_step}
+use Rattle.tape_follows.proofs.Same.{listed_value}
 use Rattle.tape_follows.specs.Below.{LawsOfSteps}
 use Rattle.tape_follows.specs.RealReads.{IsReadOf, AreNested, observed_from, ReadsAreRealAfterSettling}
 use Rattle.tape_follows.proofs.StepItems.{nothing_read}
@@ -206,7 +208,7 @@ module _ (laws : LawsOfSteps) (reads : ReadsAreRealAfterSettling) (m : Module) (
         ends kept safe within = (
           open_imports below,
           leaves_by_return m import (slice_get (option_to_list value) 0) ends.0 (open_imports below) _ ends.1
-              (ap (λ o. types_of (option_to_list o)) (value_is value) ∙ ends.2.typed),
+              (ap (λ o. types_of (option_to_list o)) (listed_value value) ∙ ends.2.typed),
           record {
             store = store;
             kept = kept;
@@ -215,17 +217,7 @@ module _ (laws : LawsOfSteps) (reads : ReadsAreRealAfterSettling) (m : Module) (
           deliver_from (InModule frame ∷ below) (option_to_list value) store counts known nested.1 ends.3 kept safe
               within,
         )
-      where
-        value_is : (o : Option Val) → slice_get (option_to_list o) 0 ≡ o
-        value_is None = refl
-        value_is (Some v) = refl
-    deliver_from (InImport import args [] (Return value) ∷ []) results store counts known nested ends kept safe within =
-        absurd nested.0
-    deliver_from (InImport import args [] (Return value) ∷ InMain actions ∷ below) results store counts known nested
-        ends kept safe within =
-        absurd nested.0
-    deliver_from (InImport import args [] (Return value) ∷ InImport number more actions end ∷ below) results store
-        counts known nested ends kept safe within =
+    deliver_from (InImport import args [] (Return value) ∷ below) results store counts known nested ends kept safe within =
         absurd nested.0
     deliver_from (InImport import args [] EndsInTrap ∷ below) results store counts known nested ends kept safe within =
         subst (λ later. AreFromEnd m known (import ∷ open_imports below) (Ends TrapNext ∷ later))
@@ -345,21 +337,18 @@ module _ (laws : LawsOfSteps) (reads : ReadsAreRealAfterSettling) (m : Module) (
 
   -- ---- a step of the module
 
+  abbrev standing : Frame → List Activation → Store → List ℕ → Config
+  standing frame below store counts = record { store = store; stack = InModule frame ∷ below; counts = counts }
+
   -- what follows an instruction, in the store that it leaves
   from_control : (k : ℕ) → Delivers k → (frame : Frame) (below : List Activation) (store : Store)
       (counts : List ℕ) (known : Known) (ty : FuncType) (body : Definition) (control : Control)
       → AreNested below → FitEnds m below → IsControl (scope m heights frame.func ty body) control
       → IsKept m known (left_store store control)
-      → IsSafe m heights
-      (after_control program (record { store = store; stack = InModule frame ∷ below; counts = counts }) frame below
-      control).next
-      → HasOutcomeWithin k
-      (after_control program (record { store = store; stack = InModule frame ∷ below; counts = counts }) frame below
-      control).next
+      → IsSafe m heights (after_control program (standing frame below store counts) frame below control).next
+      → HasOutcomeWithin k (after_control program (standing frame below store counts) frame below control).next
       → AreActivities m known (open_imports below)
-      (observed_from program k
-      (after_control program (record { store = store; stack = InModule frame ∷ below; counts = counts }) frame below
-      control))
+      (observed_from program k (after_control program (standing frame below store counts) frame below control))
   from_control k delivers frame below store counts known ty body (Goes next_store next) nested ends fine kept safe
       within =
       delivers (InModule next ∷ below) [] next_store counts known nested ends kept safe within
@@ -380,17 +369,11 @@ module _ (laws : LawsOfSteps) (reads : ReadsAreRealAfterSettling) (m : Module) (
   from_instruction : (k : ℕ) → Delivers k → (frame : Frame) (below : List Activation) (store : Store) (counts : List ℕ)
       (known : Known) (ty : FuncType) (body : Definition) → AreNested below → FitEnds m below → IsKept m known store
       → (e : Execution) → execute code store frame ≡ e → HasRule (scope m heights frame.func ty body) e
-      → IsSafe m heights
-      (after_instruction program (record { store = store; stack = InModule frame ∷ below; counts = counts }) frame below
-      e).next
-      → HasOutcomeWithin k
-      (after_instruction program (record { store = store; stack = InModule frame ∷ below; counts = counts }) frame below
-      e).next
+      → IsSafe m heights (after_instruction program (standing frame below store counts) frame below e).next
+      → HasOutcomeWithin k (after_instruction program (standing frame below store counts) frame below e).next
       → AreActivities m known (open_imports below)
       (observed store frame
-      ++ observed_from program k
-      (after_instruction program (record { store = store; stack = InModule frame ∷ below; counts = counts }) frame below
-      e))
+      ++ observed_from program k (after_instruction program (standing frame below store counts) frame below e))
   from_instruction k delivers frame below store counts known ty body nested ends kept NoRule e rule _ _ = absurd rule
   from_instruction k delivers frame below store counts known ty body nested ends kept (Traps kind operands found) e
       rule safe within =
@@ -410,19 +393,15 @@ module _ (laws : LawsOfSteps) (reads : ReadsAreRealAfterSettling) (m : Module) (
 
   -- ---- all steps
 
-  safe_step : (config : Config) → IsConfig m heights config → IsSafe m heights (step program config).next
-  safe_step config fine = laws.steps m heights program config valid typed (record { code = refl; answers = fits }) fine
-
   makes_next : (k : ℕ) → Delivers k → Makes (suc k)
   makes_next k delivers =
       record {
         runs = λ frame below store counts known nested fine kept within.
-            let config : Config = record { store = store; stack = InModule frame ∷ below; counts = counts } in
             let a = fine.stack in
             from_instruction k delivers frame below store counts known a.0 a.1 nested
             (ends_fit m heights below a.0.results a.3) kept (execute code store frame) refl
             (laws.rules m heights store frame a.0 a.1 valid typed fine.store a.2 fine.at_step)
-            (safe_step config fine) within;
+            (safe_step laws m heights valid typed answers fits (standing frame below store counts) fine) within;
         main = λ action actions below store counts known nested fine kept within.
             let config : Config =
             record { store = store; stack = InMain (action ∷ actions) ∷ below; counts = counts } in
@@ -431,7 +410,7 @@ module _ (laws : LawsOfSteps) (reads : ReadsAreRealAfterSettling) (m : Module) (
             (ends_fit m heights (InMain (action ∷ actions) ∷ below) [] a) kept (a.0 0 action (omega arith))
             (perform code store [] action) refl
             (laws.actions m heights store [] [] action typed fine.store tt (a.0 0 action (omega arith)))
-            (safe_step config fine) within;
+            (safe_step laws m heights valid typed answers fits config fine) within;
         import = λ number args action actions end below store counts known nested fine kept within.
             let config : Config =
             record { store = store; stack = InImport number args (action ∷ actions) end ∷ below; counts = counts } in
@@ -441,7 +420,7 @@ module _ (laws : LawsOfSteps) (reads : ReadsAreRealAfterSettling) (m : Module) (
             (ends_fit m heights (InImport number args (action ∷ actions) end ∷ below) [] a) kept
             (a.3 0 action (omega arith)) (perform code store args action) refl
             (laws.actions m heights store a.0.params args action typed fine.store a.2 (a.3 0 action (omega arith)))
-            (safe_step config fine) within;
+            (safe_step laws m heights valid typed answers fits config fine) within;
       }
 
   none_within : (config : Config) → HasOutcomeWithin zero (Running config) → ⊥

@@ -29,9 +29,11 @@ use Rattle.replay_spec.specs.Windows.{first_entry, first_global, found_pages, fo
 use Rattle.replay_spec.specs.Needed.{needed_byte, needed_entry, needed_global, needed_pages, needed_entries, effect_byte, effect_entry, effect_global, effect_pages, effect_entries, has_bytes, AreNeeded}
 use Rattle.type_safety.specs.Stores.{func_count, global_types, MayBeMemory, MayBeTable}
 use Rattle.tape_follows.specs.RealReads.{IsReadOf}
+use Rattle.replay_spec.proofs.OneList.{globals_after, entries_after}
 use Rattle.tape_follows.proofs.Stores.{IsThere}
 use Rattle.tape_follows.proofs.Effects.{or_first, or_second, last_among, some_bytes}
-use Rattle.tape_follows.proofs.Activities.{HasSizes, changes_after, no_table_growth, needed_is, size_between, byte_there, entry_there, pages_after, ordered_rest}
+use Rattle.replay_spec.proofs.OneList.{pages_after}
+use Rattle.tape_follows.proofs.Activities.{HasSizes, changes_after, no_table_growth, needed_is, size_between, byte_there, entry_there, ordered_rest}
 use Rattle.tape_follows.proofs.Activity.{size_needed, memory_seen, table_seen}
 use Rattle.tape_follows.proofs.HostStores.{sizes_of, type_at}
 use Rattle.tape_follows.proofs.KeptStores.{IsDeclared, IsKept}
@@ -114,33 +116,6 @@ none_after_global part none global value (Global x v ∷ effects) h =
     (and_right (nat_lt global x) (are_ordered_after (Global x v) effects) h) in
     (λ i. option_or (later i) (none x v i))
 none_after_global part none global value (effect ∷ effects) h = cc
-
-pub globals_after : (global : ℕ) (value : Val) (at : ℕ) (effects : List Effect) → at ≤ global
-    → are_ordered_after (Global global value) effects ≡ true → last_some (effect_global at) effects ≡ None
-globals_after global value at [] low h = refl
-globals_after global value at (Global x v ∷ effects) low h =
-    let t : nat_lt global x ≡ true = and_left (nat_lt global x) (are_ordered_after (Global x v) effects) h in
-    let less : global < x = grind (arith, nat_tests, t) in
-    let later = globals_after x v at effects (omega (arith, low, less))
-    (and_right (nat_lt global x) (are_ordered_after (Global x v) effects) h) in
-    let differs : nat_eq x at ≡ false = grind (arith, nat_tests, low, less) in
-    (λ i. option_or (later i) (cond (differs i) (Some (Some v)) None))
-globals_after global value at (effect ∷ effects) low h = cc
-
--- after an entry only those of greater indices are set
-pub entries_after : (index : ℕ) (func : Option ℕ) (at : ℕ) (effects : List Effect) → at ≤ index
-    → are_ordered_after (Entry index func) effects ≡ true → last_some (effect_entry at) effects ≡ None
-entries_after index func at [] low h = refl
-entries_after index func at (Entry x f ∷ effects) low h =
-    let t : nat_lt index x ≡ true = and_left (nat_lt index x) (are_ordered_after (Entry x f) effects) h in
-    let less : index < x = grind (arith, nat_tests, t) in
-    let later = entries_after x f at effects (omega (arith, low, less))
-    (and_right (nat_lt index x) (are_ordered_after (Entry x f) effects) h) in
-    let differs : nat_eq x at ≡ false = grind (arith, nat_tests, low, less) in
-    (λ i. option_or (later i) (cond (differs i) (Some f) None))
-entries_after index func at (Global x v ∷ effects) low h =
-    ap (λ o. option_or o None) (none_after_global (effect_entry at) (λ x v. refl) x v effects h)
-entries_after index func at (effect ∷ effects) low h = cc
 
 module _ (m : Module) (known : Known) (window : List Observation) (store : Store) (kept : IsKept m known store)
     (real : IsReadOf known window store) where

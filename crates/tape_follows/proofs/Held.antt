@@ -74,11 +74,11 @@ module _ (known found : ℕ) (more : known ≤ found) where
   reach_entry index later n false p most q = record { alike = ap (nat_lt index) q; same = λ f. q }
 
 -- the size that the rest finds is no less than the known one, where the access sees none
-no_less : (b : Bool) (known real : ℕ) (found : ℕ → ℕ) (Within : Type 0) → known ≤ real
-    → IsSize (cond b known real) real (found (cond b known real)) Within → b ≡ true → known ≤ found known
-no_less false known real found Within more s e = cc
-no_less true known real found Within more (Seen is) e = omega (arith, is, more)
-no_less true known real found Within more (Unseen is fits) e = omega (arith, is)
+no_less : (b : Bool) (known real found : ℕ) (finds : ℕ → ℕ) (Within : Type 0) → known ≤ found → real ≡ found
+    → IsSize (cond b known found) real (finds (cond b known found)) Within → b ≡ true → known ≤ finds known
+no_less false known real found finds Within more real_is s e = cc
+no_less true known real found finds Within more real_is (Seen is) e = omega (arith, is, more, real_is)
+no_less true known real found finds Within more real_is (Unseen is fits) e = omega (arith, is)
 
 same_index : (at : ℕ) → nat_eq at at ≡ true
 same_index at = grind (arith, nat_tests)
@@ -133,11 +133,7 @@ module _ (known : Known) (store : Store) (k : IsKnownOf known store) where
             more = subst (λ n. known.pages ≤ n) is k.pages
 
             low : fits ≡ true → known.pages ≤ found_pages known.pages later
-            low =
-                no_less fits known.pages found (λ n. found_pages n later) _ more
-                (subst (λ n. IsSize (cond fits known.pages found) n
-                (found_pages (cond fits known.pages found) later)
-                ((at x : ℕ) → first_byte later at ≡ Some x → at < cond fits known.pages found * PAGE_SIZE)) is s)
+            low = no_less fits known.pages _ found (λ n. found_pages n later) _ more is s
 
             there : (o : Option Memory)
                 → IfSome o (λ m. length m.bytes ≡ found_pages known.pages (Reaches end found ∷ later) * PAGE_SIZE)
@@ -155,11 +151,7 @@ module _ (known : Known) (store : Store) (k : IsKnownOf known store) where
             more = subst (λ n. known.entries ≤ n) is k.entries
 
             low : fits ≡ true → known.entries ≤ found_entries known.entries later
-            low =
-                no_less fits known.entries found (λ n. found_entries n later) _ more
-                (subst (λ n. IsSize (cond fits known.entries found) n
-                (found_entries (cond fits known.entries found) later)
-                ((at : ℕ) (x : Option ℕ) → first_entry later at ≡ Some x → at < cond fits known.entries found)) is t)
+            low = no_less fits known.entries _ found (λ n. found_entries n later) _ more is t
 
             there : (o : Option Table)
                 → IfSome o (λ t. length t.entries ≡ found_entries known.entries (ReachesEntry index found ∷ later))

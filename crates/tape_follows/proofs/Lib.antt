@@ -22,6 +22,7 @@ pub mod Parts
 pub mod Ready
 pub mod Replays
 pub mod Simulation
+mod SafeSteps
 pub mod AllSteps
 pub mod Whole
 pub mod DroppedPlaces

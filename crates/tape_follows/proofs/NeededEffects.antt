@@ -89,6 +89,15 @@ module _ (changes : List Effect) (are : AreChanges changes) (order : are_ordered
   growths_entries (Some pages) (Some size) =
       ap (λ o. option_or (option_or o (Some size)) None) (no_table_growth changes are)
 
+  -- growths before changes that are in order are so with these, and give their sizes
+  growths : (pages size : Option ℕ)
+      → (are_ordered (with_growth pages (with_table_growth size changes)) ≡ true)
+      × (list_all has_bytes (with_growth pages (with_table_growth size changes)) ≡ true)
+      × (last_some effect_pages (with_growth pages (with_table_growth size changes)) ≡ pages)
+      × (last_some effect_entries (with_growth pages (with_table_growth size changes)) ≡ size)
+  growths pages size =
+      (growths_ordered pages size, growths_nonempty pages size, growths_pages pages size, growths_entries pages size)
+
 growths_keep : {X : Type 0} (part : Effect → Option X) → ((n : ℕ) → part (Grow n) ≡ None)
     → ((n : ℕ) → part (GrowTable n) ≡ None) → (pages size : Option ℕ) (changes : List Effect)
     → last_some part (with_growth pages (with_table_growth size changes)) ≡ last_some part changes
@@ -206,52 +215,48 @@ module _ (m : Module) (known : Known) (window : List Observation) (store : Store
       })
 
   pub needed_effects : (effects : List Effect) × AreNeeded known window effects
-  needed_effects = (
-    effects,
-    record {
-      ordered =
-          growths_ordered changes changes_are.changes changes_are.ordered changes_are.nonempty
-          (needed_pages known window) (needed_entries known window);
-      nonempty =
-          growths_nonempty changes changes_are.changes changes_are.ordered changes_are.nonempty
-          (needed_pages known window) (needed_entries known window);
-      pages =
-          growths_pages changes changes_are.changes changes_are.ordered changes_are.nonempty
-          (needed_pages known window) (needed_entries known window);
-      entries =
-          growths_entries changes changes_are.changes changes_are.ordered changes_are.nonempty
-          (needed_pages known window) (needed_entries known window);
-      byte = λ at.
-          growths_keep (effect_byte at) (λ n. refl) (λ n. refl) (needed_pages known window)
-          (needed_entries known window) changes
-          ∙ runs_give (needed_byte known window) 0 (memory_length store.memory) entries at
-          (λ x past. past_bytes x (omega (arith, past)))
-          (effects_keep Entry (effect_byte at) (λ i a. refl) (needed_entry known window) 0 (table_length store.table)
-          globals
-          ∙ effects_keep Global (effect_byte at) (λ i a. refl) value_at 0 (length store.globals) [])
-          ∙ from_first_place (needed_byte known window) at;
-      entry = λ at.
-          growths_keep (effect_entry at) (λ n. refl) (λ n. refl) (needed_pages known window)
-          (needed_entries known window) changes
-          ∙ runs_keep (effect_entry at) (λ address bytes. refl) (needed_byte known window) 0
-          (memory_length store.memory) entries
-          ∙ effects_give Entry (λ (func : Option ℕ). func) effect_entry (λ i a x. refl) (needed_entry known window) 0
-          (table_length store.table) globals at
-          (λ x past. past_entries x (omega (arith, past)))
-          (effects_keep Global (effect_entry at) (λ i a. refl) value_at 0 (length store.globals) [])
-          ∙ from_first_place (λ y. option_map (λ (func : Option ℕ). func) (needed_entry known window y)) at
-          ∙ own_map (needed_entry known window at);
-      global = λ at.
-          growths_keep (effect_global at) (λ n. refl) (λ n. refl) (needed_pages known window)
-          (needed_entries known window) changes
-          ∙ runs_keep (effect_global at) (λ address bytes. refl) (needed_byte known window) 0
-          (memory_length store.memory) entries
-          ∙ effects_keep Entry (effect_global at) (λ i a. refl) (needed_entry known window) 0
-          (table_length store.table) globals
-          ∙ effects_give Global (λ (v : Val). Some v) effect_global (λ i a x. refl) value_at 0
-          (length store.globals) [] at
-          (λ x past. past_globals x (omega (arith, past))) refl
-          ∙ from_first_place (λ y. option_map (λ (v : Val). Some v) (value_at y)) at
-          ∙ value_is at;
-    },
-  )
+  needed_effects =
+      let sizes =
+      growths changes changes_are.changes changes_are.ordered changes_are.nonempty (needed_pages known window)
+      (needed_entries known window)
+      in (
+        effects,
+        record {
+          ordered = sizes.0;
+          nonempty = sizes.1;
+          pages = sizes.2;
+          entries = sizes.3;
+          byte = λ at.
+              growths_keep (effect_byte at) (λ n. refl) (λ n. refl) (needed_pages known window)
+              (needed_entries known window) changes
+              ∙ runs_give (needed_byte known window) 0 (memory_length store.memory) entries at
+              (λ x past. past_bytes x (omega (arith, past)))
+              (effects_keep Entry (effect_byte at) (λ i a. refl) (needed_entry known window) 0 (table_length store.table)
+              globals
+              ∙ effects_keep Global (effect_byte at) (λ i a. refl) value_at 0 (length store.globals) [])
+              ∙ from_first_place (needed_byte known window) at;
+          entry = λ at.
+              growths_keep (effect_entry at) (λ n. refl) (λ n. refl) (needed_pages known window)
+              (needed_entries known window) changes
+              ∙ runs_keep (effect_entry at) (λ address bytes. refl) (needed_byte known window) 0
+              (memory_length store.memory) entries
+              ∙ effects_give Entry (λ (func : Option ℕ). func) effect_entry (λ i a x. refl) (needed_entry known window) 0
+              (table_length store.table) globals at
+              (λ x past. past_entries x (omega (arith, past)))
+              (effects_keep Global (effect_entry at) (λ i a. refl) value_at 0 (length store.globals) [])
+              ∙ from_first_place (λ y. option_map (λ (func : Option ℕ). func) (needed_entry known window y)) at
+              ∙ own_map (needed_entry known window at);
+          global = λ at.
+              growths_keep (effect_global at) (λ n. refl) (λ n. refl) (needed_pages known window)
+              (needed_entries known window) changes
+              ∙ runs_keep (effect_global at) (λ address bytes. refl) (needed_byte known window) 0
+              (memory_length store.memory) entries
+              ∙ effects_keep Entry (effect_global at) (λ i a. refl) (needed_entry known window) 0
+              (table_length store.table) globals
+              ∙ effects_give Global (λ (v : Val). Some v) effect_global (λ i a x. refl) value_at 0
+              (length store.globals) [] at
+              (λ x past. past_globals x (omega (arith, past))) refl
+              ∙ from_first_place (λ y. option_map (λ (v : Val). Some v) (value_at y)) at
+              ∙ value_is at;
+        },
+      )

@@ -191,25 +191,22 @@ before_entry i func (Entry x f ∷ effects) h order =
 before_entry i func (Global x v ∷ effects) h order = order
 before_entry i func (effect ∷ effects) h order = absurd h
 
+placing : {A : Type 0} (make : ℕ → A → Effect) (From : ℕ → List Effect → Type 0)
+    → ((i : ℕ) (a : A) → IsChange (make i a)) → ((i : ℕ) (a : A) → has_bytes (make i a) ≡ true)
+    → ((i : ℕ) (a : A) (effects : List Effect) → From i (make i a ∷ effects))
+    → ((i : ℕ) (effects : List Effect) → From (suc i) effects → From i effects)
+    → ((i : ℕ) (a : A) (effects : List Effect) → From (suc i) effects → are_ordered effects ≡ true
+    → are_ordered_after (make i a) effects ≡ true)
+    → IsPlacing make From
+placing make From change filled own less before =
+    record { is_change = change; filled = filled; less = less; own = own; before = before }
+
 pub global_placing : IsPlacing Global GlobalFrom
 global_placing =
-    record {
-      is_change = λ i a. tt;
-      filled = λ i a. refl;
-      less = less_global;
-      own = λ i a effects. omega arith;
-      before = before_global;
-    }
+    placing Global GlobalFrom (λ i a. tt) (λ i a. refl) (λ i a effects. omega arith) less_global before_global
 
 pub entry_placing : IsPlacing Entry EntryFrom
-entry_placing =
-    record {
-      is_change = λ i a. tt;
-      filled = λ i a. refl;
-      less = less_entry;
-      own = λ i a effects. omega arith;
-      before = before_entry;
-    }
+entry_placing = placing Entry EntryFrom (λ i a. tt) (λ i a. refl) (λ i a effects. omega arith) less_entry before_entry
 
 pub globals_then_entries : (at : ℕ) (effects : List Effect) → GlobalFrom 0 effects → EntryFrom at effects
 globals_then_entries at [] h = tt

@@ -1,5 +1,5 @@
 -- Numbers that a test for equality accepts are equal, and equals pass.
-use Rattle.std.proofs.Common.{◌≡◌, ℕ, Option, Some, None, Bool, true, nat_eq, refl, arith}
+use Rattle.std.proofs.Common.{◌≡◌, ℕ, Option, Some, None, Bool, true, nat_eq, slice_get, option_to_list, refl, arith}
 use Rattle.std.proofs.lemmas.Bool.Decides.{nat_tests}
 use Rattle.list_laws.proofs.Booleans.{and_true}
 use Rattle.wasm_syntax.specs.declared.values.Val.{Val}
@@ -21,3 +21,8 @@ own_option same own (Some x) = own x
 
 pub own_value : (v : Val) → same_value v v ≡ true
 own_value v = and_true (same_type v.ty v.ty) (nat_eq v.bits v.bits) (own_number (type_byte v.ty)) (own_number v.bits)
+
+-- the value that a list of one or none holds
+pub listed_value : (o : Option Val) → slice_get (option_to_list o) 0 ≡ o
+listed_value None = refl
+listed_value (Some value) = refl

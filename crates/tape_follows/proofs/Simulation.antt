@@ -37,6 +37,7 @@ use Rattle.type_safety.specs.Configurations.{IsConfig, IsSafe, IsTypedCode, scop
 use Rattle.type_safety.specs.Heights.{Heights}
 use Rattle.type_safety.specs.Results.{IsControl, IsActionResult}
 use Rattle.type_safety.specs.Stores.{IsStore}
+use Rattle.tape_follows.proofs.Same.{listed_value}
 use Rattle.tape_follows.specs.Below.{LawsOfSteps}
 use Rattle.tape_follows.proofs.Stores.{maxima}
 use Rattle.tape_follows.proofs.Relation.{IsKnownOf}
@@ -170,19 +171,9 @@ module _ (laws : LawsOfSteps) (m : Module) (heights : Heights) (valid : IsValid 
         (λ other segments. ap
         (λ o. after_next code other counts
         (all_paused (InImport import args [] (Return value) ∷ InModule frame ∷ below)) segments came (ReturnNext o))
-        (value_is value))
+        (listed_value value))
         (deliver_from (InModule frame ∷ below) (option_to_list value) store counts known came nested.1 is of safe))
-      where
-        value_is : (o : Option Val) → slice_get (option_to_list o) 0 ≡ o
-        value_is None = refl
-        value_is (Some v) = refl
-    deliver_from (InImport import args [] (Return value) ∷ []) results store counts known came nested is of safe =
-        absurd nested.0
-    deliver_from (InImport import args [] (Return value) ∷ InMain actions ∷ below) results store counts known came
-        nested is of safe =
-        absurd nested.0
-    deliver_from (InImport import args [] (Return value) ∷ InImport number more actions end ∷ below) results store
-        counts known came nested is of safe =
+    deliver_from (InImport import args [] (Return value) ∷ below) results store counts known came nested is of safe =
         absurd nested.0
     deliver_from (InImport import args [] EndsInTrap ∷ below) results store counts known came nested is of safe =
         subst

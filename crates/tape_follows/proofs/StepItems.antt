@@ -123,21 +123,19 @@ OnlyLastWrites [] = Unit {0}
 OnlyLastWrites (o ∷ []) = Unit {0}
 OnlyLastWrites (o ∷ next ∷ seen) = IsRead o × OnlyLastWrites (next ∷ seen)
 
+read_keeps : (store : Store) (o : Observation) → IsRead o → CanChange store o × (with_change store o ≡ store)
+read_keeps store (Writes address bytes) r = absurd r
+read_keeps store (Resizes found left) r = absurd r
+read_keeps store (WritesEntry index func) r = absurd r
+read_keeps store (ResizesTable found left func) r = absurd r
+read_keeps store (WritesGlobal global value) r = absurd r
+read_keeps store o r = (tt, refl)
+
 read_possible : (store : Store) (o : Observation) → IsRead o → CanChange store o
-read_possible store (Writes address bytes) r = absurd r
-read_possible store (Resizes found left) r = absurd r
-read_possible store (WritesEntry index func) r = absurd r
-read_possible store (ResizesTable found left func) r = absurd r
-read_possible store (WritesGlobal global value) r = absurd r
-read_possible store o r = tt
+read_possible store o r = (read_keeps store o r).0
 
 pub read_changes : (store : Store) (o : Observation) → IsRead o → with_change store o ≡ store
-read_changes store (Writes address bytes) r = absurd r
-read_changes store (Resizes found left) r = absurd r
-read_changes store (WritesEntry index func) r = absurd r
-read_changes store (ResizesTable found left func) r = absurd r
-read_changes store (WritesGlobal global value) r = absurd r
-read_changes store o r = refl
+read_changes store o r = (read_keeps store o r).1
 
 -- nothing is read first of no observations
 pub nothing_read : (known : Known) (store : Store) → IsReadOf known [] store

@@ -1,7 +1,7 @@
 // Calls with the machine alone, by many turns at once and turn by turn.
 
-ghost use Rattle.std.specs.Prelude.{◌≤◌, IfOk};
-ghost use Rattle.bench_machine.specs.Positions.{IsRunning};
+ghost use Rattle.std.specs.Prelude.{◌≡◌, Ok, IfOk, true};
+ghost use Rattle.bench_machine.specs.Positions.{IsIdle, IsRunning};
 
 use bench_machine::{Instance, instance_of};
 use history_lines::print_entry;
@@ -57,15 +57,23 @@ pub(crate) fn running_instance(alloc: Global, case: Case) -> Result<Instance, Fa
     if bytes.len() as u64 > MOST_FILE_BYTES {
         return Err(Fail::from("a module that is too long"));
     }
-    let args = values_of(alloc, case.ty, case.args)?;
     let Ok(mut instance) = instance_of(alloc, &bytes, case.script.as_bytes()) else {
         return Err(Fail::from("a module without an instance"));
     };
-    if instance.call(alloc, case.func, &args)? {
+    if call_function(alloc, &mut instance, case)? {
         Ok(instance)
     } else {
         Err(Fail::from("a function that is not called"))
     }
+}
+
+/// Whether the function is called in an instance.
+fn call_function(alloc: Global, instance: &mut Instance, case: Case) -> Result<bool, NoMemory>
+    requires { IsIdle instance.old.«module» instance.old.machine }
+    ensures { result ≡ Ok true → IsRunning instance.new.«module» instance.new.machine }
+{
+    let args = values_of(alloc, case.ty, case.args)?;
+    instance.call(alloc, case.func, &args)
 }
 
 /// A call by `advance`.
@@ -75,25 +83,40 @@ pub(crate) fn outcome_by_advance(
     turns: u64,
 ) -> Result<CallOutcome, Fail> {
     let mut instance = running_instance(alloc, case)?;
-    let meter = Meter::all_one();
-    let (pause, left) = instance.advance(&meter, turns)?;
+    advance_outcome(alloc, &mut instance, turns)
+}
+
+/// What is left of a call by `advance`.
+fn advance_outcome(alloc: Global, instance: &mut Instance, turns: u64) -> Result<CallOutcome, Fail>
+    requires { IsRunning instance.old.«module» instance.old.machine }
+{
+    let (pause, left) = instance.advance(&Meter::all_one(), turns)?;
+    let bytes = Vec::from_slice(alloc, instance.machine.store().bytes())?;
     Ok(CallOutcome {
         pause,
         turns: turns - left,
         line: Vec::new(alloc),
-        bytes: Vec::from_slice(alloc, instance.machine.store().bytes())?,
+        bytes,
     })
 }
 
 /// The same turn by turn.
 pub(crate) fn outcome_by_turns(alloc: Global, case: Case, turns: u64) -> Result<CallOutcome, Fail> {
     let mut instance = running_instance(alloc, case)?;
-    let (pause, taken, line) = end_by_turns(alloc, &mut instance, turns)?;
+    turns_outcome(alloc, &mut instance, turns)
+}
+
+/// What is left of it, turn by turn.
+fn turns_outcome(alloc: Global, instance: &mut Instance, turns: u64) -> Result<CallOutcome, Fail>
+    requires { IsRunning instance.old.«module» instance.old.machine }
+{
+    let (pause, taken, line) = end_by_turns(alloc, instance, turns)?;
+    let bytes = Vec::from_slice(alloc, instance.machine.store().bytes())?;
     Ok(CallOutcome {
         pause,
         turns: taken,
         line,
-        bytes: Vec::from_slice(alloc, instance.machine.store().bytes())?,
+        bytes,
     })
 }
 

@@ -39,9 +39,9 @@ const EXTENSION_CASE: Case = Case {
     ..BULK_CASE
 };
 
-/// Copies that overlap, to greater and to lower addresses; copies at the end of the memory and past it,
-/// and whose ends are past 2^32.
-const COPY_ROWS: &[Row] = &[
+const BULK_ROWS: &[Row] = &[
+    // copies that overlap, to greater and to lower addresses; copies at the end of the memory and past it, and whose
+    // ends are past 2^32
     (
         0,
         &[2, 0, 4],
@@ -126,10 +126,7 @@ const COPY_ROWS: &[Row] = &[
         4,
         "trap 0 3 memory i32:00000001 i32:00000001 i32:ffffffff found 1\n",
     ),
-];
-
-/// Fills with a value past 255; at the end of the memory and past it, and whose ends are past 2^32.
-const FILL_ROWS: &[Row] = &[
+    // fills with a value past 255; at the end of the memory and past it, and whose ends are past 2^32
     (
         1,
         &[2, 0x1FF, 3],
@@ -300,8 +297,7 @@ const BROAD_EXTENSION_ROWS: &[Row] = &[
 ];
 
 const TABLES: &[(Case, &[Row])] = &[
-    (BULK_CASE, COPY_ROWS),
-    (BULK_CASE, FILL_ROWS),
+    (BULK_CASE, BULK_ROWS),
     (EXTENSION_CASE, NARROW_EXTENSION_ROWS),
     (
         Case {

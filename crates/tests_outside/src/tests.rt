@@ -23,29 +23,23 @@ fn long_bytes(alloc: Global) -> Result<Vec<u8>, AllocError> {
     Ok(bytes)
 }
 
+/// The program that runs the test.
+const PROGRAM: &str = "/proc/self/exe";
+
+/// Forward past its place, back, and by turns with another file.
 #[test]
-fn a_file_is_read_forward_past_its_place(rt: HostRuntime) -> Result<(), Fail> {
-    // The program that runs this test, as another reader gives it.
-    let name = "/proc/self/exe";
-    let program = fs::read(&rt, name)?;
+fn a_file_is_read_at_places_in_any_order(rt: HostRuntime) -> Result<(), Fail> {
+    // As another reader gives it.
+    let program = fs::read(&rt, PROGRAM)?;
     let mut files = DiskFiles::new(&rt);
     assert!(rt; program.len() > 70_000);
     for at in [0, 4, 40_000, 40_004, 66_000, 3, 66_004, 40_004] {
         let place = at as usize;
-        assert!(rt; reads(&mut files, name, at, &program[place..place + 4]));
+        assert!(rt; reads(&mut files, PROGRAM, at, &program[place..place + 4]));
     }
-    Ok(())
-}
-
-#[test]
-fn two_files_are_read_by_turns(rt: HostRuntime) -> Result<(), Fail> {
-    let name = "/proc/self/exe";
-    let program = fs::read(&rt, name)?;
-    let mut files = DiskFiles::new(&rt);
-    assert!(rt; program.len() > 9);
-    assert!(rt; reads(&mut files, name, 1, &program[1..5]));
+    assert!(rt; reads(&mut files, PROGRAM, 1, &program[1..5]));
     assert!(rt; reads(&mut files, "/dev/zero", 9, &[0; 4]));
-    assert!(rt; reads(&mut files, name, 5, &program[5..9]));
+    assert!(rt; reads(&mut files, PROGRAM, 5, &program[5..9]));
     Ok(())
 }
 

@@ -186,7 +186,7 @@ fn take_nested_call(alloc: Global, reducer: &mut Reducer) -> Result<(), NoMemory
 /// What is answered of these events where the tape may weigh so much at most.
 fn nested_call(alloc: Global, most: u64) -> Result<Tape, ReducerFault> {
     let mut reducer = Reducer::new(alloc, 1, most);
-    take_nested_call(alloc, &mut reducer)?;
+    take_nested_call(alloc, &mut reducer).map_err(|_| ReducerFault::Memory)?;
     reducer.finish(Outcome::Ended)
 }
 

@@ -2,7 +2,6 @@
 
 ghost use Rattle.std.specs.Prelude.{◌≡◌, ◌++◌, ◌∷◌, OnOk, IfOk, IfSome};
 ghost use Rattle.leb_bytes.specs.Unsigned.{u32_bytes};
-ghost use Rattle.wasm_syntax.specs.Alike.{type_byte as byte_of_type};
 ghost use Rattle.trace_bytes.specs.declared.tags.TheConstants.{VERSION_2};
 ghost use Rattle.trace_bytes.specs.Spelled.{FitBytes, FitEvents, FitSegments, FitVals, FitsEffect, FitsEvent, FitsNext, FitsSegment, FitsVal, SpellsLog, SpellsTape};
 ghost use Rattle.trace_bytes.specs.Spelling.{bytes_bytes, call_bytes, effect_bytes, entry_bytes, event_bytes, global_bytes, next_bytes, option_bytes, origin_bytes, outcome_byte, segment_bytes, val_bytes};
@@ -18,7 +17,6 @@ use leb_bytes::push_u32;
 use no_memory::NoMemory;
 use std::alloc::Global;
 use trace_model::{Effect, Event, Log, Next, Origin, Outcome, Segment, Tape};
-use wasm_opcodes::marks::{TYPE_F32, TYPE_F64, TYPE_FUNCREF, TYPE_I32, TYPE_I64};
 use wasm_syntax::{Val, ValType, Vals};
 
 /// Values.
@@ -298,24 +296,11 @@ fn write_val(value: Val, out: &mut Vec<u8>) -> Result<(), NoMemory>
     requires { FitsVal value }
     ensures { OnOk result (out.new.items ≡ out.old.items ++ val_bytes value) }
 {
-    out.push(type_byte(value.ty))?;
+    out.push(value.ty.byte())?;
     match value.ty {
         ValType::I32 | ValType::F32 => out.extend_from_slice(&(value.bits as u32).to_le_bytes())?,
         ValType::I64 | ValType::F64 => out.extend_from_slice(&value.bits.to_le_bytes())?,
         ValType::FuncRef => {}
     }
     Ok(())
-}
-
-/// The byte of a value type.
-fn type_byte(ty: ValType) -> u8
-    ensures { result ≡ byte_of_type ty }
-{
-    match ty {
-        ValType::I32 => TYPE_I32,
-        ValType::I64 => TYPE_I64,
-        ValType::F32 => TYPE_F32,
-        ValType::F64 => TYPE_F64,
-        ValType::FuncRef => TYPE_FUNCREF,
-    }
 }

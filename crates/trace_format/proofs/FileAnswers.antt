@@ -5,6 +5,7 @@ use Rattle.std.proofs.lemmas.Option.{none-some}
 use Rattle.trace_format.specs.Answers.{IsFileAnswer}
 use Rattle.trace_format.specs.Faults.{IsFaultOf, IsFaultPlace, IsOtherVersion}
 use Rattle.trace_format.specs.Reading.{other_version}
+use Rattle.trace_format.specs.Results.{IsContent, IsTold}
 use Rattle.trace_format.specs.declared.files.FormatFault.{FormatFault}
 use Rattle.trace_format.specs.declared.files.FormatFault.TheVariants.{Version, Bad, Memory}
 use Rattle.trace_format.proofs.Versions.{is_other, other_is}
@@ -18,20 +19,12 @@ pub record FileFacts {C : Type 0} (magic bytes : List ℕ) (IsOf IsRead : C → 
   pub place : (at : ℕ) → IsBad at → IsFaultPlace IsFront at
   pub of_version : (content : C) (found : ℕ) → IsOf content → IsOtherVersion magic bytes found → ⊥
 
--- the place of a fault, by fronts in other words
-pub same_places : (Front Other : ℕ → Type 0) → ((count : ℕ) → Front count → Other count)
-    → ((count : ℕ) → Other count → Front count) → (at : ℕ) → IsFaultPlace Front at → IsFaultPlace Other at
-same_places Front Other there back at is = elim is [
-  | inl none ↦ inl ((λ count f. none.0 count (back count f)), none.1)
-  | inr found ↦ inr (there at found.0, (λ count f. found.1 count (back count f)))
-]
-
 module _ {C : Type 0} (magic bytes : List ℕ) (IsOf IsRead : C → Type 0) (IsFront IsBad : ℕ → Type 0)
     (facts : FileFacts magic bytes IsOf IsRead IsFront IsBad) where
   abbrev IsAnswer : Result C FormatFault → Type 0
   IsAnswer = IsFileAnswer IsRead IsBad (other_version magic bytes)
 
-  pub answer_found : (answer : Result C FormatFault) → IsAnswer answer → IfOk answer IsOf
+  answer_found : (answer : Result C FormatFault) → IsAnswer answer → IfOk answer IsOf
   answer_found (Ok content) is = facts.read_is content is
   answer_found (Err fault) is = tt
 
@@ -41,7 +34,7 @@ module _ {C : Type 0} (magic bytes : List ℕ) (IsOf IsRead : C → Type 0) (IsF
   fault_only (Bad at) is content spelled = absurd (facts.none at content is.1 (facts.is_read content spelled))
   fault_only Memory is content spelled = refl
 
-  pub answer_only : (answer : Result C FormatFault) → IsAnswer answer → (content : C) → IsOf content
+  answer_only : (answer : Result C FormatFault) → IsAnswer answer → (content : C) → IsOf content
       → (answer ≡ Ok content) ⊎ (answer ≡ Err Memory)
   answer_only (Ok read) is content spelled = inl (ap Ok (facts.one read content is (facts.is_read content spelled)))
   answer_only (Err fault) is content spelled = inr (ap Err (fault_only fault is content spelled))
@@ -55,10 +48,19 @@ module _ {C : Type 0} (magic bytes : List ℕ) (IsOf IsRead : C → Type 0) (IsF
   )
   fault_is Memory is = tt
 
-  pub answer_fault : (answer : Result C FormatFault) → IsAnswer answer
+  answer_fault : (answer : Result C FormatFault) → IsAnswer answer
       → IfErr answer (λ fault. IsFaultOf magic IsOf IsFront bytes fault)
   answer_fault (Ok content) is = tt
   answer_fault (Err fault) is = fault_is fault is
+
+  -- all of these
+  pub content_answer : (answer : Result C FormatFault) → IsAnswer answer
+      → IsContent IsOf (λ fault. IsFaultOf magic IsOf IsFront bytes fault) answer
+  content_answer answer is = record {
+    found = answer_found answer is;
+    only = answer_only answer is;
+    fault = answer_fault answer is;
+  }
 
 -- what is told of the content of a file that is read
 module _ {C T : Type 0} (magic bytes : List ℕ) (IsOf IsRead : C → Type 0) (IsFront IsBad : ℕ → Type 0)
@@ -69,13 +71,13 @@ module _ {C T : Type 0} (magic bytes : List ℕ) (IsOf IsRead : C → Type 0) (I
   abbrev IsTelling : Result T FormatFault → Type 0
   IsTelling answer = MatchResult answer (λ told. (content : C) × IsRead content × Tells content told) IsFault
 
-  pub telling_found : (IsTold : T → Type 0)
-      → ((content : C) (told : T) → IsOf content → Tells content told → IsTold told)
-      → (answer : Result T FormatFault) → IsTelling answer → IfOk answer IsTold
-  telling_found IsTold all (Ok told) is = all is.0 told (facts.read_is is.0 is.1) is.2
-  telling_found IsTold all (Err fault) is = tt
+  telling_found : (IsRight : T → Type 0)
+      → ((content : C) (told : T) → IsOf content → Tells content told → IsRight told)
+      → (answer : Result T FormatFault) → IsTelling answer → IfOk answer IsRight
+  telling_found IsRight all (Ok told) is = all is.0 told (facts.read_is is.0 is.1) is.2
+  telling_found IsRight all (Err fault) is = tt
 
-  pub telling_only : (answer : Result T FormatFault) → IsTelling answer → (content : C) → IsOf content
+  telling_only : (answer : Result T FormatFault) → IsTelling answer → (content : C) → IsOf content
       → IfOk answer (λ told. Tells content told) × IfErr answer (λ fault. fault ≡ Memory)
   telling_only (Ok told) is content spelled = (
     subst (λ c. Tells c told) (facts.one is.0 content is.1 (facts.is_read content spelled)) is.2,
@@ -84,7 +86,18 @@ module _ {C T : Type 0} (magic bytes : List ℕ) (IsOf IsRead : C → Type 0) (I
   telling_only (Err fault) is content spelled =
       (tt, fault_only magic bytes IsOf IsRead IsFront IsBad facts fault is content spelled)
 
-  pub telling_fault : (answer : Result T FormatFault) → IsTelling answer
+  telling_fault : (answer : Result T FormatFault) → IsTelling answer
       → IfErr answer (λ fault. IsFaultOf magic IsOf IsFront bytes fault)
   telling_fault (Ok told) is = tt
   telling_fault (Err fault) is = fault_is magic bytes IsOf IsRead IsFront IsBad facts fault is
+
+  -- all of these
+  pub telling : (IsRight : T → Type 0)
+      → ((content : C) (told : T) → IsOf content → Tells content told → IsRight told)
+      → (answer : Result T FormatFault) → IsTelling answer
+      → IsTold IsOf (λ fault. IsFaultOf magic IsOf IsFront bytes fault) IsRight Tells answer
+  telling IsRight all answer is = record {
+    found = telling_found IsRight all answer is;
+    only = telling_only answer is;
+    fault = telling_fault answer is;
+  }

@@ -6,9 +6,10 @@ use Rattle.std.proofs.lemmas.List.{append-nil, length-append}
 use Rattle.std.proofs.lemmas.Option.{none-some, some_pair_parts}
 use Rattle.leb_bytes.specs.Encoding.{IsReadBy}
 use Rattle.wasm_syntax.specs.Encoding.Combinators.{Reader, first_items}
-use Rattle.trace_format.specs.Faults.{IsFaultPlace, perhaps}
+use Rattle.trace_format.specs.Faults.{IsFaultPlace, IsFileFront, IsOtherVersion, perhaps}
 use Rattle.trace_format.specs.Files.{AreAllRead, AreRead, IsBadAt, IsCut, IsReadTo, IsWhole}
 use Rattle.trace_format.specs.Laws.{Spells}
+use Rattle.trace_format.proofs.FileAnswers.{FileFacts}
 
 abbrev pub IsAny : {A : Type 0} → A → Type 0
 IsAny x = Unit {0}
@@ -110,14 +111,14 @@ module _ {H A O : Type 0} (FH : H → Type 0) (sH : H → List ℕ) (FA : H → 
   last_spelled : (left rest : List ℕ) (o : O) → last left ≡ Some (o, rest) → left ≡ sO o ++ rest
   last_spelled left rest o e = let f = last_reads.found left rest o e in f.2 ∙ ap (λ r. r ++ rest) f.1.spelled
 
-  pub whole_spelled : (bytes : List ℕ) (h : H) (xs : List A) (o : O) → IsWhole head item last bytes h xs o
+  whole_spelled : (bytes : List ℕ) (h : H) (xs : List A) (o : O) → IsWhole head item last bytes h xs o
       → FH h × AllByRecursion (FA h) xs × (bytes ≡ sH h ++ (flat_map sA xs ++ sO o))
   whole_spelled bytes h xs o whole =
       let to = read_to_spelled bytes whole.left h xs whole.read_to in
       let ends : whole.left ≡ sO o = last_spelled whole.left [] o whole.end_read ∙ append-nil (sO o) in
       (to.0, to.1, to.2 ∙ ap (λ r. sH h ++ (flat_map sA xs ++ r)) ends)
 
-  pub spelled_whole : (bytes : List ℕ) (h : H) (xs : List A) (o : O) → FH h → AllByRecursion (FA h) xs
+  spelled_whole : (bytes : List ℕ) (h : H) (xs : List A) (o : O) → FH h → AllByRecursion (FA h) xs
       → bytes ≡ sH h ++ (flat_map sA xs ++ sO o) → IsWhole head item last bytes h xs o
   spelled_whole bytes h xs o fits fit parts = record {
     left = sO o;
@@ -142,7 +143,7 @@ module _ {H A O : Type 0} (FH : H → Type 0) (sH : H → List ℕ) (FA : H → 
       let same = one_reading (item k) two.start left other xs ys moved two.items_read in
       (parts.0, same.0, same.1)
 
-  pub one_whole : (bytes : List ℕ) (h k : H) (xs ys : List A) (o p : O) → IsWhole head item last bytes h xs o
+  one_whole : (bytes : List ℕ) (h k : H) (xs ys : List A) (o p : O) → IsWhole head item last bytes h xs o
       → IsWhole head item last bytes k ys p → (h ≡ k) × (xs ≡ ys) × (o ≡ p)
   one_whole bytes h k xs ys o p one two =
       let to = one_read_to bytes one.left two.left h k xs ys one.read_to two.read_to in
@@ -159,7 +160,7 @@ module _ {H A O : Type 0} (FH : H → Type 0) (sH : H → List ℕ) (FA : H → 
         | inr more ↦ no_cons more.1 more.2 (some_pair_parts more.0 o (more.1 ∷ more.2) [] (sym more.3 ∙ ends)).1
       ]
 
-  pub bad_not_whole : (bytes : List ℕ) (at : ℕ) (h : H) (xs : List A) (o : O) → IsBadAt head item last bytes at
+  bad_not_whole : (bytes : List ℕ) (at : ℕ) (h : H) (xs : List A) (o : O) → IsBadAt head item last bytes at
       → IsWhole head item last bytes h xs o → ⊥
   bad_not_whole bytes at h xs o bad whole = elim bad [
     | inl none ↦ some_none (head bytes) (h, whole.read_to.start) whole.read_to.header_read none.0
@@ -168,24 +169,16 @@ module _ {H A O : Type 0} (FH : H → Type 0) (sH : H → List ℕ) (FA : H → 
 
   -- ---- fronts
 
-  -- a front of so many bytes is a header and items, and perhaps an end
-  pub record IsFront (bytes : List ℕ) (count : ℕ) : Type 0 where
-    pub header : H
-    pub items : List A
-    pub close : Option O
-    pub rest : List ℕ
-    pub fits : FH header
-    pub fit : AllByRecursion (FA header) items
-    pub parts : bytes ≡ sH header ++ (flat_map sA items ++ (perhaps sO close ++ rest))
-    pub counted : count + length rest ≡ length bytes
+  abbrev Front : List ℕ → ℕ → Type 0
+  Front = IsFileFront FH sH FA sA sO
 
-  front_head : (bytes : List ℕ) (count : ℕ) (f : IsFront bytes count)
+  front_head : (bytes : List ℕ) (count : ℕ) (f : Front bytes count)
       → head bytes ≡ Some (f.header, flat_map sA f.items ++ (perhaps sO f.close ++ f.rest))
   front_head bytes count f = ap head f.parts ∙ head_read f.header _ f.fits
 
   -- a file that is cut goes on from each front
   goes_on : (bytes left : List ℕ) (count : ℕ) (h : H) (xs : List A) → IsReadTo head item bytes h xs left
-      → (f : IsFront bytes count) → (zs : List A) × AreRead (item f.header) (perhaps sO f.close ++ f.rest) zs left
+      → (f : Front bytes count) → (zs : List A) × AreRead (item f.header) (perhaps sO f.close ++ f.rest) zs left
   goes_on bytes left count h xs to f =
       let start = flat_map sA f.items ++ (perhaps sO f.close ++ f.rest) in
       let parts = some_pair_parts h f.header to.start start (sym to.header_read ∙ front_head bytes count f) in
@@ -222,7 +215,7 @@ module _ {H A O : Type 0} (FH : H → Type 0) (sH : H → List ℕ) (FA : H → 
             omega (arith, counted, more.4, ap length same)
       ]
 
-  cut_front : (bytes : List ℕ) (at : ℕ) → IsCut head item last bytes at → IsFront bytes at
+  cut_front : (bytes : List ℕ) (at : ℕ) → IsCut head item last bytes at → Front bytes at
   cut_front bytes at cut =
       let to = read_to_spelled bytes cut.left cut.header cut.items cut.read_to in
       elim cut.fault [
@@ -248,7 +241,7 @@ module _ {H A O : Type 0} (FH : H → Type 0) (sH : H → List ℕ) (FA : H → 
         }
       ]
 
-  pub bad_place : (bytes : List ℕ) (at : ℕ) → IsBadAt head item last bytes at → IsFaultPlace (IsFront bytes) at
+  bad_place : (bytes : List ℕ) (at : ℕ) → IsBadAt head item last bytes at → IsFaultPlace (Front bytes) at
   bad_place bytes at bad = elim bad [
     | inl none ↦ inl (
       (λ count f. some_none (head bytes) _ (front_head bytes count f) none.0),
@@ -261,3 +254,37 @@ module _ {H A O : Type 0} (FH : H → Type 0) (sH : H → List ℕ) (FA : H → 
           none_longer bytes cut.left f.rest at count f.header f.close later.0 later.1 f.counted cut.fault),
     )
   ]
+
+  -- so the facts of a kind of files, whose content has a header by its version, items and an end
+  pub file_facts : {C : Type 0} (magic bytes : List ℕ) (Is : ℕ → C → Type 0) (header : ℕ → C → H) (items : C → List A)
+      (close : C → O)
+      → ((version : ℕ) (content : C) → FH (header version content)
+      → AllByRecursion (FA (header version content)) (items content)
+      → bytes ≡ sH (header version content) ++ (flat_map sA (items content) ++ sO (close content))
+      → Is version content)
+      → ((version : ℕ) (content : C) → Is version content → FH (header version content)
+      × AllByRecursion (FA (header version content)) (items content)
+      × (bytes ≡ sH (header version content) ++ (flat_map sA (items content) ++ sO (close content))))
+      → ((version other : ℕ) (content second : C) → header version content ≡ header other second
+      → items content ≡ items second → close content ≡ close second → content ≡ second)
+      → ((content : C) (found : ℕ) → (version : ℕ) × Is version content → IsOtherVersion magic bytes found → ⊥)
+      → FileFacts magic bytes (λ content. (version : ℕ) × Is version content)
+      (λ content. (version : ℕ)
+      × IsWhole head item last bytes (header version content) (items content) (close content))
+      (Front bytes) (IsBadAt head item last bytes)
+  file_facts magic bytes Is header items close made parts same of_version = record {
+    read_is = λ content read.
+        let w = whole_spelled bytes (header read.0 content) (items content) (close content) read.1 in
+        (read.0, made read.0 content w.0 w.1 w.2);
+    is_read = λ content is.
+        let p = parts is.0 content is.1 in
+        (is.0, spelled_whole bytes (header is.0 content) (items content) (close content) p.0 p.1 p.2);
+    one = λ content second read also.
+        let w = one_whole bytes (header read.0 content) (header also.0 second) (items content) (items second)
+        (close content) (close second) read.1 also.1 in
+        same read.0 also.0 content second w.0 w.1 w.2;
+    none = λ at content bad read.
+        bad_not_whole bytes at (header read.0 content) (items content) (close content) bad read.1;
+    place = bad_place bytes;
+    of_version = of_version;
+  }

@@ -1,5 +1,5 @@
 -- From the header and the items to the whole file.
-use Rattle.std.proofs.Common.{◌≡◌, ℕ, ◌-◌, List, length, take, drop, Some, None, Err, refl, ap, sym, ◌∙◌, subst, inl, inr, arith, length-drop}
+use Rattle.std.proofs.Common.{◌≡◌, ℕ, ◌-◌, ◌≤◌, List, length, take, drop, Some, None, Err, refl, ap, sym, ◌∙◌, subst, inl, inr, arith, length-drop}
 use Rattle.trace_model.specs.declared.events.Log.{Log}
 use Rattle.trace_model.specs.declared.tapes.Tape.{Tape}
 use Rattle.trace_bytes.specs.declared.tags.TheConstants.{LOG_MAGIC, TAPE_MAGIC}
@@ -28,17 +28,27 @@ no_number : (bytes : List ℕ) (header : ℕ × List ℕ) → IsHeaderThere LOG_
 unfolding first_log_header
 no_number bytes header there none = rw (there.header_read, none) refl
 
+-- what stands after that number is no longer than the file
+pub number_left : NumberLaws → (bytes : List ℕ) (imports : ℕ) (start : List ℕ)
+    → first_number (take (length bytes - header_length) (drop header_length bytes)) ≡ Some (imports, start)
+    → length start ≤ length bytes
+number_left laws bytes imports start is =
+    omega (
+      arith,
+      number_shorter laws _ start imports (ap first_number (sym (whole_rest bytes header_length)) ∙ is),
+      length-drop header_length bytes,
+    )
+
 -- what is there of a log before its events
 pub log_begun : NumberLaws → (bytes digest : List ℕ) (version imports : ℕ) (start : List ℕ)
     → IsHeaderThere LOG_MAGIC bytes (version, digest)
     → first_number (take (length bytes - header_length) (drop header_length bytes)) ≡ Some (imports, start)
     → IsLogStart bytes version digest imports start
 log_begun laws bytes digest version imports start there is =
-    let number = ap first_number (sym (whole_rest bytes header_length)) ∙ is in
     record {
       header = there;
-      number = number;
-      shorter = omega (arith, number_shorter laws _ start imports number, length-drop header_length bytes);
+      number = ap first_number (sym (whole_rest bytes header_length)) ∙ is;
+      shorter = number_left laws bytes imports start is;
     }
 
 pub log_not_begun : (bytes digest : List ℕ) (version : ℕ) → IsHeaderThere LOG_MAGIC bytes (version, digest)
@@ -111,10 +121,10 @@ module _ (bytes digest : List ℕ) (version : ℕ) (there : IsHeaderThere TAPE_M
     },
   )
 
-  pub items_fault_of_tape : (fault : FormatFault)
+  fault_of_tape : (fault : FormatFault)
       → IsItemsFault (first_segment version) first_close bytes (drop header_length bytes) fault → IsTapeAnswer bytes (Err fault)
-  items_fault_of_tape (Version found) is = absurd is
-  items_fault_of_tape (Bad at) is = (
+  fault_of_tape (Version found) is = absurd is
+  fault_of_tape (Bad at) is = (
     there.of_version,
     inr (record {
       header = (version, digest);
@@ -124,4 +134,11 @@ module _ (bytes digest : List ℕ) (version : ℕ) (there : IsHeaderThere TAPE_M
       fault = is.fault;
     }),
   )
-  items_fault_of_tape Memory is = tt
+  fault_of_tape Memory is = tt
+
+  pub items_fault_of_tape : (fault : FormatFault)
+      → IsItemsFault (first_segment version) first_close bytes
+      (take (length bytes - header_length) (drop header_length bytes)) fault → IsTapeAnswer bytes (Err fault)
+  items_fault_of_tape fault is =
+      fault_of_tape fault
+      (subst (λ r. IsItemsFault (first_segment version) first_close bytes r fault) (whole_rest bytes header_length) is)

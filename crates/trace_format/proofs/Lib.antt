@@ -1,4 +1,3 @@
-mod ByteLemmas
 mod EndLemmas
 mod FileAnswers
 mod FileLaws
@@ -13,5 +12,5 @@ mod Shrinking
 mod Taken
 mod Tapes
 mod ValueReaders
-mod Versions
+pub mod Versions
 mod Writable

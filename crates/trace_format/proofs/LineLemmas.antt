@@ -8,7 +8,8 @@ use Rattle.trace_bytes.specs.declared.tags.TheConstants.{TAPE_MAGIC}
 use Rattle.trace_model.specs.declared.events.Log.{Log}
 use Rattle.trace_model.specs.declared.tapes.Tape.{Tape}
 use Rattle.trace_format.specs.Answers.{IsHeaderThere, IsLogRead, IsLogStart, IsTapeRead, header_length}
-use Rattle.trace_format.specs.Lines.{AreShown, IsLogEndShown, IsTapeEndShown, IsTextOf, log_content_text, tape_content_text}
+use Rattle.trace_format.specs.Lines.{AreShown, IsEndShown, IsTextOf, log_content_text, tape_content_text}
+use Rattle.trace_format.specs.Reading.{first_close, first_event, first_outcome, first_segment}
 use Rattle.trace_format.specs.Text.{event_text, hex_text, log_text, segment_text, tape_text}
 use Rattle.trace_format.proofs.FileLaws.{read_last}
 use Rattle.trace_format.proofs.FileSteps.{log_is_read, tape_is_read}
@@ -39,11 +40,11 @@ module _ {A : Type 0} (read : Reader A) (lines : A → List ℕ) where
 pub log_shown : (bytes digest : List ℕ) (version imports : ℕ) (start : List ℕ)
     → IsLogStart bytes version digest imports start
     → (before now : List ℕ) → before ≡ line (codes "log" ++ with_space (hex_text digest))
-    → IsLogEndShown version start before now → IsTextOf (IsLogRead bytes) log_content_text now
+    → IsEndShown (first_event version) first_outcome (λ event. line (event_text event)) (λ outcome. line (outcome_text outcome)) start before now → IsTextOf (IsLogRead bytes) log_content_text now
 unfolding log_text
 log_shown bytes digest version imports start begun before now first shown =
-    let log : Log = record { imports = imports; events = shown.events; outcome = shown.outcome } in
-    let ending = flat_map (λ event. line (event_text event)) shown.events ++ line (outcome_text shown.outcome) in (
+    let log : Log = record { imports = imports; events = shown.items; outcome = shown.close } in
+    let ending = flat_map (λ event. line (event_text event)) shown.items ++ line (outcome_text shown.close) in (
       (digest, log),
       log_is_read bytes digest version imports start begun log refl shown.ended,
       shown.grown ∙ ap (λ t. t ++ ending) first,
@@ -51,11 +52,11 @@ log_shown bytes digest version imports start begun before now first shown =
 
 pub tape_shown : (bytes digest : List ℕ) (version : ℕ) → IsHeaderThere TAPE_MAGIC bytes (version, digest)
     → (before now : List ℕ) → before ≡ line (codes "tape" ++ with_space (hex_text digest))
-    → IsTapeEndShown version (drop header_length bytes) before now → IsTextOf (IsTapeRead bytes) tape_content_text now
+    → IsEndShown (first_segment version) first_close segment_text (λ it. line (codes "close")) (drop header_length bytes) before now → IsTextOf (IsTapeRead bytes) tape_content_text now
 unfolding tape_text
 tape_shown bytes digest version there before now begun shown =
-    let tape : Tape = record { segments = shown.segments } in
-    let ending = flat_map segment_text shown.segments ++ line (codes "close") in (
+    let tape : Tape = record { segments = shown.items } in
+    let ending = flat_map segment_text shown.items ++ line (codes "close") in (
       (digest, tape),
       tape_is_read bytes digest version there tape shown.ended,
       shown.grown ∙ ap (λ t. t ++ ending) begun,

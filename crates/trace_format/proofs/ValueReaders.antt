@@ -15,6 +15,7 @@ use Rattle.wasm_syntax.proofs.Encoding.Tools.{as_read_is, by_mark_found, done_fi
 use Rattle.trace_bytes.specs.declared.tags.TheConstants.{DIGEST_BYTES, LOG_MAGIC, VERSION_1, VERSION_2}
 use Rattle.trace_bytes.specs.Spelling.{header_bytes, val_bytes}
 use Rattle.trace_bytes.specs.Spelled.{FitsVal, IsDigest, IsVersion}
+use Rattle.trace_format.specs.Faults.{IsHeader, IsLogHeader}
 use Rattle.trace_format.specs.Laws.{NumberLaws, Spells}
 use Rattle.trace_format.specs.Reading.{first_header, first_log_header, first_number, first_val, first_version, val_rows, value_of, version_rows}
 use Rattle.trace_format.proofs.PartReaders.{number_reads, raw_reads, same_grammar, then_reads}
@@ -70,10 +71,6 @@ version_reads = record {
   only = version_only;
 }
 
--- a version and a digest
-abbrev pub IsHeader : ℕ × List ℕ → Type 0
-IsHeader header = IsVersion header.0 × IsDigest header.1
-
 pub header_reads : (magic : List ℕ)
     → IsReadBy (Spells IsHeader (λ (h : ℕ × List ℕ). header_bytes magic h.0 h.1)) (first_header magic)
 unfolding first_header
@@ -87,10 +84,6 @@ header_reads magic =
     (λ bytes h e. record { fits = e.4.fits; spelled = e.2 ∙ ap (λ r. r ++ e.1) e.3 ∙ ap (λ r. magic ++ r) e.4.spelled })
     (λ bytes h e. (magic, one_byte h.0 ++ h.1, e.spelled, refl, record { fits = e.fits; spelled = refl }))
     (record { found = is.found; only = is.only })
-
--- a log's
-abbrev pub IsLogHeader : (ℕ × List ℕ) × ℕ → Type 0
-IsLogHeader header = IsHeader header.0 × FitsU32 header.1
 
 pub log_header_reads : NumberLaws
     → IsReadBy (Spells IsLogHeader (λ (h : (ℕ × List ℕ) × ℕ). header_bytes LOG_MAGIC h.0.0 h.0.1 ++ u32_bytes h.1)) first_log_header

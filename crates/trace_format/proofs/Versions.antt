@@ -1,16 +1,18 @@
 -- The version that a file tells.
 use Rattle.std.proofs.Common.{◌≡◌, ℕ, true, false, cond, List, [], ◌∷◌, ◌++◌, Some, None, refl, ap, sym, ◌∙◌, subst, append_assoc, eq-eqb, inl, inr}
 use Rattle.std.specs.Prelude.{nat_eq, option_and_then}
-use Rattle.std.proofs.lemmas.Bool.{cases_eq}
-use Rattle.std.proofs.lemmas.Bool.{ne_eqb}
+use Rattle.std.proofs.lemmas.Bool.{cases_eq, ne_eqb}
 use Rattle.std.proofs.lemmas.Option.{none-some, same_Some}
 use Rattle.list_laws.proofs.Options.{and_then_some, cond_none_some}
 use Rattle.wasm_syntax.specs.Encoding.Combinators.{first_exactly}
 use Rattle.wasm_syntax.proofs.Encoding.Tools.{exactly_is}
-use Rattle.trace_bytes.specs.declared.tags.TheConstants.{VERSION_1, VERSION_2}
-use Rattle.trace_bytes.specs.Spelling.{header_bytes}
+use Rattle.leb_bytes.specs.Unsigned.{u32_bytes}
+use Rattle.trace_model.specs.declared.events.Log.{Log}
+use Rattle.trace_model.specs.declared.tapes.Tape.{Tape}
+use Rattle.trace_bytes.specs.declared.tags.TheConstants.{LOG_MAGIC, TAPE_MAGIC, VERSION_1, VERSION_2}
+use Rattle.trace_bytes.specs.Spelling.{header_bytes, log_bytes, tape_bytes}
 use Rattle.trace_bytes.specs.Spelled.{IsVersion}
-use Rattle.trace_format.specs.Faults.{IsOtherVersion}
+use Rattle.trace_format.specs.Faults.{IsLogOf, IsOtherVersion, IsTapeOf}
 use Rattle.trace_format.specs.Reading.{other_version, version_at}
 
 false_true : false ≡ true → ⊥
@@ -57,7 +59,8 @@ is_other magic bytes found is =
     ∙ ap (option_and_then (λ (after : Unit {0} × List ℕ). version_at after.1)) ((exactly_is magic).only magic (found ∷ is.rest) tt refl)
     ∙ at_version found is.rest is.other
 
-fifth_same : (magic rest more : List ℕ) (a b : ℕ) → magic ++ a ∷ rest ≡ magic ++ b ∷ more → a ≡ b
+-- the byte after what a file begins with is one
+pub fifth_same : (magic rest more : List ℕ) (a b : ℕ) → magic ++ a ∷ rest ≡ magic ++ b ∷ more → a ≡ b
 fifth_same [] rest more a b h = cc
 fifth_same (m ∷ ms) rest more a b h =
     let later : ms ++ a ∷ rest ≡ ms ++ b ∷ more = cc in
@@ -70,3 +73,17 @@ version_is magic bytes digest later version found is parts other =
     let same = fifth_same magic (digest ++ later) other.rest version found
     (sym (append_assoc magic (version ∷ digest) later) ∙ sym parts ∙ other.begins) in
     other.other (subst IsVersion same is)
+
+-- so is a log, and a tape
+pub log_version : (bytes : List ℕ) (content : List ℕ × Log) (found : ℕ) → IsLogOf bytes content.0 content.1
+    → IsOtherVersion LOG_MAGIC bytes found → ⊥
+unfolding log_bytes
+log_version bytes content found is other =
+    version_is LOG_MAGIC bytes content.0 _ is.0 found is.1.is_version
+    (is.1.spelled ∙ append_assoc (header_bytes LOG_MAGIC is.0 content.0) (u32_bytes content.1.imports) _) other
+
+pub tape_version : (bytes : List ℕ) (content : List ℕ × Tape) (found : ℕ) → IsTapeOf bytes content.0 content.1
+    → IsOtherVersion TAPE_MAGIC bytes found → ⊥
+unfolding tape_bytes
+tape_version bytes content found is other =
+    version_is TAPE_MAGIC bytes content.0 _ is.0 found is.1.is_version is.1.spelled other

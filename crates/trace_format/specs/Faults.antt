@@ -1,14 +1,13 @@
 -- Why a file is refused.
 use Rattle.std.specs.Prelude.{◌≡◌, ℕ, ◌+◌, ◌≤◌, ◌⊎◌, List, [], ◌∷◌, ◌++◌, length, flat_map, Option, Some, None}
+use Rattle.std.specs.List.{AllByRecursion}
 use Rattle.wasm_syntax.specs.Encoding.Encodable.{FitsU32}
 use Rattle.run_outcomes.specs.declared.outcomes.Outcome.{Outcome}
-use Rattle.trace_model.specs.declared.events.Event.{Event}
 use Rattle.trace_model.specs.declared.events.Log.{Log}
-use Rattle.trace_model.specs.declared.tapes.Segment.{Segment}
 use Rattle.trace_model.specs.declared.tapes.Tape.{Tape}
 use Rattle.trace_bytes.specs.declared.tags.TheConstants.{LOG_MAGIC, TAPE_MAGIC, TAG_CLOSE}
 use Rattle.trace_bytes.specs.Spelling.{event_bytes, header_bytes, log_header_bytes, outcome_byte, segment_bytes}
-use Rattle.trace_bytes.specs.Spelled.{FitEvents, FitSegments, IsDigest, IsVersion, SpellsLog, SpellsTape}
+use Rattle.trace_bytes.specs.Spelled.{FitsEvent, FitsSegment, IsDigest, IsVersion, SpellsLog, SpellsTape}
 use Rattle.trace_format.specs.declared.files.FormatFault.{FormatFault}
 use Rattle.trace_format.specs.declared.files.FormatFault.TheVariants.{Version, Bad, Memory}
 
@@ -32,37 +31,36 @@ abbrev pub perhaps : {A : Type 0} → (A → List ℕ) → Option A → List ℕ
 perhaps spell None = []
 perhaps spell (Some x) = spell x
 
--- a front of so many bytes is a log's header and whole events, and perhaps an outcome
-pub record IsLogFront (bytes : List ℕ) (count : ℕ) : Type 0 where
-  pub version : ℕ
-  pub is_version : IsVersion version
-  pub digest : List ℕ
-  pub is_digest : IsDigest digest
-  pub imports : ℕ
-  pub few : FitsU32 imports
-  pub events : List Event
-  pub fit : FitEvents version events
-  pub outcome : Option Outcome
+-- a version and a digest are a header; with the number of imported functions it is that of a log
+abbrev pub IsHeader : ℕ × List ℕ → Type 0
+IsHeader header = IsVersion header.0 × IsDigest header.1
+
+abbrev pub IsLogHeader : (ℕ × List ℕ) × ℕ → Type 0
+IsLogHeader header = IsHeader header.0 × FitsU32 header.1
+
+-- a front of a given number of bytes is a header and whole items, and perhaps an end
+pub record IsFileFront {H A O : Type 0} (FitsHeader : H → Type 0) (spell_header : H → List ℕ) (Fits : H → A → Type 0)
+    (spell : A → List ℕ) (spell_end : O → List ℕ) (bytes : List ℕ) (count : ℕ) : Type 0 where
+  pub header : H
+  pub items : List A
+  pub close : Option O
   pub rest : List ℕ
-  pub parts : bytes
-      ≡ log_header_bytes version digest imports
-      ++ (flat_map event_bytes events ++ (perhaps (λ o. outcome_byte o ∷ []) outcome ++ rest))
+  pub fits : FitsHeader header
+  pub fit : AllByRecursion (Fits header) items
+  pub parts : bytes ≡ spell_header header ++ (flat_map spell items ++ (perhaps spell_end close ++ rest))
   pub counted : count + length rest ≡ length bytes
 
--- a front of so many bytes is a tape's header and whole segments, and perhaps its end
-pub record IsTapeFront (bytes : List ℕ) (count : ℕ) : Type 0 where
-  pub version : ℕ
-  pub is_version : IsVersion version
-  pub digest : List ℕ
-  pub is_digest : IsDigest digest
-  pub segments : List Segment
-  pub fit : FitSegments version segments
-  pub close : Option (Unit {0})
-  pub rest : List ℕ
-  pub parts : bytes
-      ≡ header_bytes TAPE_MAGIC version digest
-      ++ (flat_map segment_bytes segments ++ (perhaps (λ _. TAG_CLOSE ∷ []) close ++ rest))
-  pub counted : count + length rest ≡ length bytes
+-- of a log it is the header and whole events, and perhaps an outcome
+abbrev pub IsLogFront : (bytes : List ℕ) → ℕ → Type 0
+IsLogFront =
+    IsFileFront IsLogHeader (λ h. log_header_bytes h.0.0 h.0.1 h.1) (λ h. FitsEvent h.0.0) event_bytes
+    (λ (outcome : Outcome). outcome_byte outcome ∷ [])
+
+-- of a tape it is the header and whole segments, and perhaps the end
+abbrev pub IsTapeFront : (bytes : List ℕ) → ℕ → Type 0
+IsTapeFront =
+    IsFileFront IsHeader (λ h. header_bytes TAPE_MAGIC h.0 h.1) (λ h. FitsSegment h.0) segment_bytes
+    (λ (it : Unit {0}). TAG_CLOSE ∷ [])
 
 -- the place of a fault: the end of the longest such front, or 0 where no whole header is there
 abbrev pub IsFaultPlace : (IsFront : ℕ → Type 0) → ℕ → Type 0

@@ -5,5 +5,6 @@ pub mod Laws
 pub mod Lines
 pub mod ReadResults
 pub mod Reading
+pub mod Results
 pub mod Taken
 pub mod Text

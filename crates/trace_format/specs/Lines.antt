@@ -1,17 +1,13 @@
 -- The lines of what bytes spell.
-use Rattle.std.specs.Prelude.{◌≡◌, ℕ, List, ◌++◌, None, codes, flat_map}
+use Rattle.std.specs.Prelude.{◌≡◌, ℕ, List, ◌++◌, None, Vec, Result, MatchResult, flat_map}
 use Rattle.wasm_syntax.specs.Encoding.Combinators.{Reader}
-use Rattle.history_spec.specs.Line.{line, outcome_text}
-use Rattle.run_outcomes.specs.declared.outcomes.Outcome.{Outcome}
-use Rattle.trace_model.specs.declared.events.Event.{Event}
 use Rattle.trace_model.specs.declared.events.Log.{Log}
-use Rattle.trace_model.specs.declared.tapes.Segment.{Segment}
 use Rattle.trace_model.specs.declared.tapes.Tape.{Tape}
 use Rattle.trace_format.specs.Answers.{AreEnded}
 use Rattle.trace_format.specs.Faults.{IsLogOf, IsTapeOf}
 use Rattle.trace_format.specs.Files.{AreRead}
-use Rattle.trace_format.specs.Reading.{first_close, first_event, first_outcome, first_segment}
-use Rattle.trace_format.specs.Text.{event_text, log_text, segment_text, tape_text}
+use Rattle.trace_format.specs.Text.{log_text, tape_text}
+use Rattle.trace_format.specs.declared.files.FormatFault.{FormatFault}
 
 -- the text of a log that the bytes spell
 pub record IsLogShown (bytes text : List ℕ) : Type 0 where
@@ -41,24 +37,24 @@ pub record AreAllShown {A : Type 0} (read : Reader A) (lines : A → List ℕ) (
   pub shown : AreShown read lines bytes left before now
   pub ended : read left ≡ None
 
--- it grew by the lines of the events that begin at the start, and of the outcome after them
-pub record IsLogEndShown (version : ℕ) (start before now : List ℕ) : Type 0 where
-  pub events : List Event
-  pub outcome : Outcome
-  pub ended : AreEnded (first_event version) first_outcome start events outcome
-  pub grown : now ≡ before ++ (flat_map (λ event. line (event_text event)) events ++ line (outcome_text outcome))
-
--- it grew by the lines of the segments that begin there, and of the end after them
-pub record IsTapeEndShown (version : ℕ) (start before now : List ℕ) : Type 0 where
-  pub segments : List Segment
-  pub ended : AreEnded (first_segment version) first_close start segments tt
-  pub grown : now ≡ before ++ (flat_map segment_text segments ++ line (codes "close"))
+-- it grew by the lines of the items that begin at the start, and of the end after them
+pub record IsEndShown {A O : Type 0} (read : Reader A) (last : Reader O) (lines : A → List ℕ) (end_text : O → List ℕ)
+    (start before now : List ℕ) : Type 0 where
+  pub items : List A
+  pub close : O
+  pub ended : AreEnded read last start items close
+  pub grown : now ≡ before ++ (flat_map lines items ++ end_text close)
 
 -- ---- whole files
 
 -- the text of what is read of a file
 abbrev pub IsTextOf : {C : Type 0} → (IsRead : C → Type 0) → (text_of : C → List ℕ) → List ℕ → Type 0
 IsTextOf {C} IsRead text_of text = (content : C) × IsRead content × (text ≡ text_of content)
+
+-- what is told of a file that is read, or why it is not
+abbrev pub IsTextRead : {C Z : Type 0} → (IsRead : C → Type 0) → (IsFault : FormatFault → Type 0)
+    → (text_of : C → List ℕ) → Result (Vec ℕ Z) FormatFault → Type 0
+IsTextRead IsRead IsFault text_of result = MatchResult result (λ text. IsTextOf IsRead text_of text.items) IsFault
 
 -- the text of a log with its digest, and of a tape
 abbrev pub log_content_text : List ℕ × Log → List ℕ

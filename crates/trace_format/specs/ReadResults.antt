@@ -1,19 +1,7 @@
--- What a reader gives, beside its plain reader.
-use Rattle.std.specs.Prelude.{◌≡◌, Option, Some, None, Result, Ok, Err}
-use Rattle.trace_format.specs.declared.unread.Unread.{Unread}
-use Rattle.trace_format.specs.declared.unread.Unread.TheVariants.{NotThere, Memory}
-
--- nothing is read: out of memory, or where the plain reader reads nothing
-abbrev pub Misses : {B : Type 0} → Unread → Option B → Type 0
-Misses NotThere plain = plain ≡ None
-Misses Memory plain = Unit {0}
+-- What a reader that takes no memory gives, beside its plain reader.
+use Rattle.std.specs.Prelude.{◌≡◌, Option, Some, None}
 
 -- what is read, seen so, is what the plain reader reads
-abbrev pub Gives : {A B : Type 0} → (A → B) → Result A Unread → Option B → Type 0
-Gives view (Ok read) plain = plain ≡ Some (view read)
-Gives view (Err unread) plain = Misses unread plain
-
--- the same of a reader that takes no memory
 abbrev pub Finds : {A B : Type 0} → (A → B) → Option A → Option B → Type 0
 Finds view None plain = plain ≡ None
 Finds view (Some read) plain = plain ≡ Some (view read)

@@ -4,18 +4,20 @@ ghost use Rattle.wasm_syntax.specs.Encoding.Combinators.{first_then, map_read};
 ghost use Rattle.trace_model.specs.declared.events.Event.TheVariants as events;
 ghost use Rattle.trace_format.specs.Reading as plain;
 ghost use Rattle.trace_format.specs.Reading.{with_pair};
-ghost use Rattle.trace_format.specs.ReadResults.{Finds, Gives};
+ghost use Rattle.leb_bytes.specs.ReadResults.{Gives};
+ghost use Rattle.trace_format.specs.ReadResults.{Finds};
 
 use crate::items::Kind;
-use crate::numbers::{first_byte, first_number, first_option_number, first_option_val};
+use crate::numbers::{first_byte, first_number, first_option};
 use crate::parts::{first_call, first_entry, first_global, first_placed};
-use crate::unread::Unread;
+use leb_bytes::Unread;
 use std::alloc::Global;
 use trace_bytes::tags::{
     TAG_BYTES, TAG_ENDED, TAG_ENTER, TAG_ENTRY, TAG_GLOBAL, TAG_GROW, TAG_HOST_TRAPPED, TAG_LEAVE,
     TAG_POST, TAG_PRE, TAG_SEEN, TAG_TABLE, TAG_TRAPPED, VERSION_2,
 };
 use trace_model::{Event, Outcome};
+use wasm_syntax::Val;
 
 impl Kind for Event {
     type Item = Event;
@@ -78,7 +80,7 @@ fn pre_event(bytes: &[u8]) -> Result<(Event, &[u8]), Unread>
     ensures { Gives (λ read. (read.0, read.1.now)) result
         (map_read events.Pre (plain.first_option plain.first_number) bytes.now) }
 {
-    match first_option_number(bytes) {
+    match first_option::<u32>(bytes) {
         Some((callee, rest)) => Ok((Event::Pre { callee }, rest)),
         None => Err(Unread::NotThere),
     }
@@ -89,7 +91,7 @@ fn post_event(bytes: &[u8]) -> Result<(Event, &[u8]), Unread>
     ensures { Gives (λ read. (read.0, read.1.now)) result
         (map_read events.Post (plain.first_option plain.first_val) bytes.now) }
 {
-    match first_option_val(bytes) {
+    match first_option::<Val>(bytes) {
         Some((value, rest)) => Ok((Event::Post { result: value }, rest)),
         None => Err(Unread::NotThere),
     }

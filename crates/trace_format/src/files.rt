@@ -1,17 +1,14 @@
 // Reading whole files.
 
-ghost use Rattle.std.specs.Prelude.{◌≡◌, ◌≤◌, ℕ, List, ◌⊎◌, length, IfOk, IfErr, MatchResult};
-ghost use Rattle.trace_model.specs.declared.events.Log.{Log};
-ghost use Rattle.trace_model.specs.declared.tapes.Tape.{Tape};
+ghost use Rattle.std.specs.Prelude.{◌≡◌, ◌≤◌, length, MatchResult};
 ghost use Rattle.trace_format.specs.Reading as plain;
 ghost use Rattle.trace_format.specs.Answers.{AreEnded, IsItemsFault, IsLogAnswer, IsTapeAnswer};
-ghost use Rattle.trace_format.specs.Faults.{IsLogFault, IsLogOf, IsTapeFault, IsTapeOf};
+ghost use Rattle.trace_format.specs.Results.{IsLogContent, IsTapeContent};
 ghost use Rattle.trace_format.specs.declared.files.FormatFault.TheVariants.{Memory};
 
-use crate::headers::{Digest, HEADER_BYTES, end_of_log, end_of_tape, header_of};
+use crate::headers::{Digest, HEADER_BYTES, end_of_log, end_of_tape, header_of, log_start};
 use crate::items::whole_items;
 use crate::laws::{event_readers, segment_readers};
-use crate::numbers::first_number;
 use no_memory::NoMemory;
 use std::alloc::Global;
 use thiserror::Error;
@@ -47,13 +44,7 @@ impl From<NoMemory> for FormatFault {
 /// # Errors
 /// The version where it is another; else where the file is faulty; or out of memory.
 pub fn read_log(alloc: Global, bytes: &[u8]) -> Result<(Digest, Log), FormatFault>
-    // What is read is spelled by the bytes.
-    ensures found { IfOk result (λ read. IsLogOf bytes.now read.0 read.1) }
-    // What the bytes spell is read, unless memory runs out.
-    ensures only { (digest : List ℕ) (log : Log) → IsLogOf bytes.now digest log
-        → (result ≡ Ok (digest, log)) ⊎ (result ≡ Err FormatFault.Memory) }
-    // The cause of each other answer.
-    ensures fault { IfErr result (λ fault. IsLogFault bytes.now fault) }
+    ensures { IsLogContent bytes.now result }
 {
     event_readers();
     log_in(alloc, bytes)
@@ -64,13 +55,7 @@ pub fn read_log(alloc: Global, bytes: &[u8]) -> Result<(Digest, Log), FormatFaul
 /// # Errors
 /// The version where it is another; else where the file is faulty; or out of memory.
 pub fn read_tape(alloc: Global, bytes: &[u8]) -> Result<(Digest, Tape), FormatFault>
-    // What is read is spelled by the bytes.
-    ensures found { IfOk result (λ read. IsTapeOf bytes.now read.0 read.1) }
-    // What the bytes spell is read, unless memory runs out.
-    ensures only { (digest : List ℕ) (tape : Tape) → IsTapeOf bytes.now digest tape
-        → (result ≡ Ok (digest, tape)) ⊎ (result ≡ Err FormatFault.Memory) }
-    // The cause of each other answer.
-    ensures fault { IfErr result (λ fault. IsTapeFault bytes.now fault) }
+    ensures { IsTapeContent bytes.now result }
 {
     segment_readers();
     tape_in(alloc, bytes)
@@ -81,9 +66,8 @@ pub fn read_tape(alloc: Global, bytes: &[u8]) -> Result<(Digest, Tape), FormatFa
 fn log_in(alloc: Global, bytes: &[u8]) -> Result<(Digest, Log), FormatFault>
     ensures { IsLogAnswer bytes.now result }
 {
-    event_readers();
     let (version, digest) = header_of(&LOG_MAGIC, bytes)?;
-    let Some((imports, start)) = first_number(&bytes[HEADER_BYTES..]) else {
+    let Some((imports, start)) = log_start(bytes) else {
         return Err(FormatFault::Bad { at: 0 });
     };
     match log_after(alloc, version, imports, bytes, start) {

@@ -1,16 +1,17 @@
 // What files begin and end with.
 
-ghost use Rattle.std.specs.Prelude.{◌≡◌, ◌≤◌, ◌-◌, length, MatchResult};
+ghost use Rattle.std.specs.Prelude.{◌≡◌, ◌≤◌, ◌-◌, ℕ, List, length, IfSome, MatchOption, MatchResult};
 ghost use Rattle.trace_format.specs.Reading as plain;
 ghost use Rattle.trace_format.specs.declared.files.FormatFault.TheVariants.{Bad};
 ghost use Rattle.wasm_syntax.specs.Encoding.Readers.{first_raw};
-ghost use Rattle.trace_bytes.specs.declared.tags.TheConstants.{DIGEST_BYTES};
-ghost use Rattle.trace_format.specs.Answers.{IsEndAnswer, IsHeaderFault, IsHeaderThere};
+ghost use Rattle.trace_bytes.specs.declared.tags.TheConstants.{DIGEST_BYTES, LOG_MAGIC};
+ghost use Rattle.trace_format.specs.Answers.{IsEndAnswer, IsHeaderFault, IsHeaderThere, IsLogStart, IsLogStartFault, header_length};
 ghost use Rattle.trace_format.specs.ReadResults.{Finds};
 
 use crate::events::first_outcome;
 use crate::files::FormatFault;
-use crate::numbers::first_byte;
+use crate::laws::event_readers;
+use crate::numbers::{first_byte, first_number};
 use std::marker::Model;
 use trace_bytes::tags::{DIGEST_BYTES, TAG_CLOSE, VERSION_1, VERSION_2};
 use trace_model::Outcome;
@@ -82,6 +83,21 @@ pub(crate) fn header_of(magic: &[u8; 4], bytes: &[u8]) -> Result<(u8, Digest), F
     match first_digest(rest) {
         Some((digest, _)) => Ok((version, digest)),
         None => Err(FormatFault::Bad { at: 0 }),
+    }
+}
+
+/// The number of imported functions, which stands after the header of a log, and what stands after it.
+pub(crate) fn log_start(bytes: &[u8]) -> Option<(u32, &[u8])>
+    requires { header_length ≤ length bytes.now }
+    ensures start { (version : ℕ) (digest : List ℕ) → IsHeaderThere LOG_MAGIC bytes.now (version, digest)
+        → MatchOption result (IsLogStartFault bytes.now (Bad 0))
+        (λ read. IsLogStart bytes.now version digest read.0 read.1.now) }
+    ensures shorter { IfSome result (λ read. length read.1.now ≤ length bytes.now) }
+{
+    event_readers();
+    match first_number(&bytes[HEADER_BYTES..]) {
+        Some((imports, start)) => Some((imports, start)),
+        None => None,
     }
 }
 

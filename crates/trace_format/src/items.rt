@@ -5,10 +5,12 @@ ghost use Rattle.trace_format.specs.Files.{AreAllRead, Shrinks};
 ghost use Rattle.trace_format.specs.Lines.{AreAllShown};
 ghost use Rattle.wasm_syntax.specs.Encoding.Combinators.{first_items};
 ghost use Rattle.trace_format.specs.Reading.{first_counted};
-ghost use Rattle.trace_format.specs.ReadResults.{Finds, Gives};
+ghost use Rattle.leb_bytes.specs.ReadResults.{Gives};
+ghost use Rattle.trace_format.specs.ReadResults.{Finds};
 
+use crate::files::FormatFault;
 use crate::numbers::first_number;
-use crate::unread::Unread;
+use leb_bytes::Unread;
 use no_memory::NoMemory;
 use std::alloc::Global;
 use wasm_syntax::List;
@@ -16,7 +18,7 @@ use wasm_syntax::List;
 /// A kind of items that stand one after another.
 pub(crate) trait Kind {
     ghost use Rattle.std.specs.Prelude.{ℕ, List, Option};
-    ghost use Rattle.trace_format.specs.ReadResults.{Gives};
+    ghost use Rattle.leb_bytes.specs.ReadResults.{Gives};
 
     /// What an item is read into.
     type Item: Drop;
@@ -39,6 +41,30 @@ pub(crate) trait Shown: Kind {
     /// Appends the lines of an item.
     fn put_lines(out: &mut Vec<u8>, item: &Self::Item) -> Result<(), NoMemory>
         ensures { OnOk result (out.new.items ≡ out.old.items ++ lines item.now) };
+}
+
+/// A kind of items that a file has, with what ends it.
+pub(crate) trait FileItem: Shown {
+    ghost use Rattle.std.specs.Prelude.{◌≡◌, ◌≤◌, ◌++◌, ℕ, List, Option, length, OnOk};
+    ghost use Rattle.trace_format.specs.Answers.{IsEndAnswer};
+
+    /// What the end tells.
+    type End: Drop;
+
+    // the plain reader of the end
+    ghost last: { List ℕ → Option (Self.End × List ℕ) };
+
+    // its lines
+    ghost end_text: { Self.End → List ℕ };
+
+    /// The end, where nothing stands after it.
+    fn end(bytes: &[u8], left: &[u8]) -> Result<Self::End, FormatFault>
+        requires { length left.now ≤ length bytes.now }
+        ensures { IsEndAnswer last bytes.now left.now result };
+
+    /// Appends the lines of the end.
+    fn put_end(out: &mut Vec<u8>, end: Self::End) -> Result<(), NoMemory>
+        ensures { OnOk result (out.new.items ≡ out.old.items ++ end_text end) };
 }
 
 /// As many items as the number at the front says.

@@ -12,7 +12,6 @@ mod numbers;
 mod parts;
 mod segments;
 mod texts;
-mod unread;
 
 pub use file_lines::{lines_of_log, lines_of_tape};
 pub use files::{FormatFault, read_log, read_tape};

@@ -10,10 +10,9 @@ ghost use Rattle.trace_format.specs.Taken.{AreAllTaken, AreTakenToEnd, BeginsLog
 ghost use Rattle.trace_format.specs.declared.files.FormatFault.TheVariants as faults;
 
 use crate::files::FormatFault;
-use crate::headers::{Digest, HEADER_BYTES, end_of_log, header_of};
+use crate::headers::{Digest, end_of_log, header_of, log_start};
 use crate::items::next_item;
 use crate::laws::event_readers;
-use crate::numbers::first_number;
 use no_memory::NoMemory;
 use std::alloc::Global;
 use trace_bytes::tags::LOG_MAGIC;
@@ -52,7 +51,7 @@ pub fn log_header(bytes: &[u8]) -> Result<(Digest, u32), FormatFault>
 {
     event_readers();
     let (_, digest) = header_of(&LOG_MAGIC, bytes)?;
-    match first_number(&bytes[HEADER_BYTES..]) {
+    match log_start(bytes) {
         Some((imports, _)) => Ok((digest, imports)),
         None => Err(FormatFault::Bad { at: 0 }),
     }
@@ -90,9 +89,8 @@ fn events_in<S: LogSink>(alloc: Global, bytes: &[u8], sink: &mut S) -> Result<Ou
         × TakesLog S.takes sink.old sink.new content outcome)
         (λ fault. IsLogAnswer bytes.now (Err fault)) }
 {
-    event_readers();
     let (version, _) = header_of(&LOG_MAGIC, bytes)?;
-    match first_number(&bytes[HEADER_BYTES..]) {
+    match log_start(bytes) {
         Some((_, start)) => events_after(alloc, version, bytes, start, sink),
         None => Err(FormatFault::Bad { at: 0 }),
     }

@@ -5,10 +5,10 @@ ghost use Rattle.std.specs.Prelude.{◌≡◌, [], ◌∷◌, length, MatchOptio
 ghost use Rattle.leb_bytes.specs.Unsigned.{u32_bytes};
 ghost use Rattle.wasm_syntax.specs.Encoding.Readers.{first_raw, first_f32, first_f64};
 ghost use Rattle.trace_format.specs.Reading.{first_bytes, first_number, first_option, first_val};
-ghost use Rattle.trace_format.specs.ReadResults.{Finds, Gives};
+ghost use Rattle.leb_bytes.specs.ReadResults.{Gives};
+ghost use Rattle.trace_format.specs.ReadResults.{Finds};
 
-use crate::unread::Unread;
-use leb_bytes::read_u32;
+use leb_bytes::{Unread, read_u32};
 use std::alloc::Global;
 use trace_bytes::tags::{OPTION_NONE, OPTION_SOME};
 use wasm_opcodes::marks::{TYPE_F32, TYPE_F64, TYPE_I32, TYPE_I64};
@@ -115,31 +115,45 @@ pub(crate) fn first_val(bytes: &[u8]) -> Option<(Val, &[u8])>
     Some((Val { ty, bits }, rest))
 }
 
-/// A number, or none.
-pub(crate) fn first_option_number(bytes: &[u8]) -> Option<(Option<u32>, &[u8])>
-    ensures { Finds (λ read. (read.0, read.1.now)) result (first_option first_number bytes.now) }
-{
-    let (mark, rest) = first_byte(bytes)?;
-    match mark {
-        OPTION_NONE => Some((None, rest)),
-        OPTION_SOME => {
-            let (number, rest) = first_number(rest)?;
-            Some((Some(number), rest))
-        }
-        _ => None,
+/// What is read without memory.
+pub(crate) trait Plain: Copy {
+    ghost use Rattle.std.specs.Prelude.{ℕ, List, Option};
+    ghost use Rattle.trace_format.specs.ReadResults.{Finds};
+
+    // its plain reader
+    ghost first: { List ℕ → Option (Self × List ℕ) };
+
+    /// Reads one.
+    fn first(bytes: &[u8]) -> Option<(Self, &[u8])>
+        ensures { Finds (λ read. (read.0, read.1.now)) result (first bytes.now) };
+}
+
+impl Plain for u32 {
+    ghost first = { first_number };
+
+    fn first(bytes: &[u8]) -> Option<(u32, &[u8])> {
+        first_number(bytes)
     }
 }
 
-/// A value, or none.
-pub(crate) fn first_option_val(bytes: &[u8]) -> Option<(Option<Val>, &[u8])>
-    ensures { Finds (λ read. (read.0, read.1.now)) result (first_option first_val bytes.now) }
+impl Plain for Val {
+    ghost first = { first_val };
+
+    fn first(bytes: &[u8]) -> Option<(Val, &[u8])> {
+        first_val(bytes)
+    }
+}
+
+/// One, or none.
+pub(crate) fn first_option<T: Plain>(bytes: &[u8]) -> Option<(Option<T>, &[u8])>
+    ensures { Finds (λ read. (read.0, read.1.now)) result (first_option T.first bytes.now) }
 {
     let (mark, rest) = first_byte(bytes)?;
     match mark {
         OPTION_NONE => Some((None, rest)),
         OPTION_SOME => {
-            let (value, rest) = first_val(rest)?;
-            Some((Some(value), rest))
+            let (item, rest) = T::first(rest)?;
+            Some((Some(item), rest))
         }
         _ => None,
     }

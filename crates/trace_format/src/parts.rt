@@ -2,11 +2,12 @@
 
 ghost use Rattle.wasm_syntax.specs.Encoding.Combinators.{first_then};
 ghost use Rattle.trace_format.specs.Reading as plain;
-ghost use Rattle.trace_format.specs.ReadResults.{Finds, Gives};
+ghost use Rattle.leb_bytes.specs.ReadResults.{Gives};
+ghost use Rattle.trace_format.specs.ReadResults.{Finds};
 
 use crate::items::{Kind, first_counted};
-use crate::numbers::{first_bytes, first_number, first_option_number, first_val};
-use crate::unread::Unread;
+use crate::numbers::{first_bytes, first_number, first_option, first_val};
+use leb_bytes::Unread;
 use std::alloc::Global;
 use trace_bytes::tags::VERSION_2;
 use wasm_syntax::{Bytes, Val, Vals};
@@ -55,7 +56,7 @@ pub(crate) fn first_entry(bytes: &[u8]) -> Option<((u32, Option<u32>), &[u8])>
         (first_then plain.first_number (plain.first_option plain.first_number) bytes.now) }
 {
     let (index, rest) = first_number(bytes)?;
-    let (func, rest) = first_option_number(rest)?;
+    let (func, rest) = first_option::<u32>(rest)?;
     Some(((index, func), rest))
 }
 

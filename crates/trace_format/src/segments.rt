@@ -4,18 +4,20 @@ ghost use Rattle.wasm_syntax.specs.Encoding.Combinators.{first_then, map_read};
 ghost use Rattle.trace_model.specs.declared.tapes.Effect.TheVariants as effects;
 ghost use Rattle.trace_format.specs.Reading as plain;
 ghost use Rattle.trace_format.specs.Reading.{with_pair};
-ghost use Rattle.trace_format.specs.ReadResults.{Finds, Gives};
+ghost use Rattle.leb_bytes.specs.ReadResults.{Gives};
+ghost use Rattle.trace_format.specs.ReadResults.{Finds};
 
 use crate::items::{Kind, first_counted};
-use crate::numbers::{first_byte, first_number, first_option_val};
+use crate::numbers::{first_byte, first_number, first_option};
 use crate::parts::{first_call, first_entry, first_global, first_placed};
-use crate::unread::Unread;
+use leb_bytes::Unread;
 use std::alloc::Global;
 use trace_bytes::tags::{
     TAG_BACK, TAG_BEGIN, TAG_BYTES, TAG_CALL, TAG_END, TAG_ENTRY, TAG_GLOBAL, TAG_GROW, TAG_IMPORT,
     TAG_RETURN, TAG_TABLE, TAG_TRAP, VERSION_2,
 };
 use trace_model::{Effect, Next, Origin, Segment};
+use wasm_syntax::Val;
 
 impl Kind for Effect {
     type Item = Effect;
@@ -143,7 +145,7 @@ fn first_next(alloc: Global, bytes: &[u8]) -> Result<(Next, &[u8]), Unread>
             let ((func, args), rest) = first_call(alloc, rest)?;
             Ok((Next::Call { func, args }, rest))
         }
-        TAG_RETURN => match first_option_val(rest) {
+        TAG_RETURN => match first_option::<Val>(rest) {
             Some((value, rest)) => Ok((Next::Return { result: value }, rest)),
             None => Err(Unread::NotThere),
         },

@@ -23,8 +23,7 @@ const DIGITS: [u8; 16] = *b"0123456789abcdef";
 pub fn show_log(alloc: Global, digest: &Digest, log: &Log) -> Result<Vec<u8>, NoMemory>
     ensures { IfOk result (λ text. text.items ≡ log_text digest.now log.now) }
 {
-    let mut out = Vec::new(alloc);
-    put_hex_line(&mut out, b"log", digest.as_bytes())?;
+    let mut out = header_line(alloc, b"log", digest)?;
     put_events(&mut out, log.events.as_slice())?;
     print_outcome(&mut out, log.outcome)?;
     Ok(out)
@@ -38,8 +37,7 @@ pub fn show_log(alloc: Global, digest: &Digest, log: &Log) -> Result<Vec<u8>, No
 pub fn show_tape(alloc: Global, digest: &Digest, tape: &Tape) -> Result<Vec<u8>, NoMemory>
     ensures { IfOk result (λ text. text.items ≡ tape_text digest.now tape.now) }
 {
-    let mut out = Vec::new(alloc);
-    put_hex_line(&mut out, b"tape", digest.as_bytes())?;
+    let mut out = header_line(alloc, b"tape", digest)?;
     put_segments(&mut out, tape.segments.as_slice())?;
     put(&mut out, b"close\n")?;
     Ok(out)
@@ -94,13 +92,15 @@ fn put_effects(out: &mut Vec<u8>, effects: &[Effect]) -> Result<(), NoMemory>
     Ok(())
 }
 
-/// Appends a word and bytes in hexadecimal, with a line feed.
-pub(crate) fn put_hex_line(out: &mut Vec<u8>, word: &[u8], bytes: &[u8]) -> Result<(), NoMemory>
-    ensures { OnOk result (out.new.items ≡ out.old.items ++ line (word.now ++ with_space (hex_text bytes.now))) }
+/// The line that the text of a file begins with: a word and the digest.
+pub(crate) fn header_line(alloc: Global, word: &[u8], digest: &Digest) -> Result<Vec<u8>, NoMemory>
+    ensures { IfOk result (λ text. text.items ≡ line (word.now ++ with_space (hex_text digest.now))) }
 {
-    put(out, word)?;
-    put_hex(out, bytes)?;
-    put(out, b"\n")
+    let mut out = Vec::new(alloc);
+    put(&mut out, word)?;
+    put_hex(&mut out, digest.as_bytes())?;
+    put(&mut out, b"\n")?;
+    Ok(out)
 }
 
 /// Appends bytes in hexadecimal, after a space.

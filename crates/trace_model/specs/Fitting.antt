@@ -8,9 +8,10 @@ use Rattle.wasm_syntax.specs.declared.values.Val.{Val}
 use Rattle.wasm_syntax.specs.declared.signatures.FuncType.{FuncType}
 use Rattle.wasm_syntax.specs.declared.signatures.Limits.{Limits}
 use Rattle.wasm_syntax.specs.declared.signatures.GlobalType.{GlobalType}
+use Rattle.wasm_syntax.specs.declared.modules.ImportKind.{ImportKind}
 use Rattle.wasm_syntax.specs.declared.modules.Module.{Module}
 use Rattle.wasm_syntax.specs.Alike.{same_type, same_types}
-use Rattle.wasm_syntax.specs.Index.{imported_funcs, func_indices, func_type, all_tables, all_memories, all_globals}
+use Rattle.wasm_syntax.specs.Index.{imported_funcs, func_indices, func_type, all_tables, all_memories, all_globals, memory_import, table_import}
 use Rattle.trace_model.specs.declared.tapes.Effect.{Effect}
 use Rattle.trace_model.specs.declared.tapes.Effect.TheVariants.{Grow, Table, Bytes, Entry, Global}
 use Rattle.trace_model.specs.declared.tapes.Origin.{Origin}
@@ -44,6 +45,11 @@ names_function m (Some func) = nat_lt func (length (func_indices m))
 abbrev pub takes_value : ValType → Option GlobalType → Bool
 takes_value ty None = false
 takes_value ty (Some g) = g.mutable && same_type ty g.ty
+
+-- the limits of an import that is a table, or of one that is a memory
+abbrev pub limits_import : (of_table : Bool) → ImportKind → Option Limits
+limits_import true = table_import
+limits_import false = memory_import
 
 abbrev pub effect_fits : Module → Effect → Bool
 effect_fits m (Grow pages) = grows_within MOST_PAGES pages (slice_get (all_memories m) 0)

@@ -22,17 +22,6 @@ pub enum BalanceFault {
     Memory,
 }
 
-impl From<NoMemory> for BalanceFault {
-    ghost from_gives = { λ _ fault. fault ≡ Memory };
-
-    ghost use Rattle.std.specs.Prelude.{◌≡◌};
-    ghost use Rattle.trace_model.specs.declared.balance.BalanceFault.TheVariants.{Memory};
-
-    fn from(_refused: NoMemory) -> BalanceFault {
-        BalanceFault::Memory
-    }
-}
-
 /// What is open.
 #[derive(Clone, Copy)]
 pub enum Frame {
@@ -241,7 +230,8 @@ pub fn balanced(alloc: Global, log: &Log) -> Result<(), BalanceFault>
     let events = log.events.as_slice();
     let mut state = Balance::new(alloc);
     'events: for (number, event) in events.iter().enumerate() {
-        if !state.step(log.imports, event)? {
+        let step = state.step(log.imports, event);
+        if !step.map_err(|_| BalanceFault::Memory)? {
             return Err(BalanceFault::Event(number as u64));
         }
     }

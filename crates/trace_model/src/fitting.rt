@@ -1,12 +1,12 @@
 // Whether a tape fits a module.
 
-ghost use Rattle.std.specs.Prelude.{◌≡◌, [], length, slice_get, IfOk};
+ghost use Rattle.std.specs.Prelude.{◌≡◌, ◌++◌, [], length, slice_get, IfOk};
 ghost use Rattle.std.specs.List.{list_all};
 ghost use Rattle.std.specs.Option.{option_to_list};
 ghost use Rattle.wasm_syntax.specs.Alike.{same_types};
-ghost use Rattle.wasm_syntax.specs.Index.{all_memories, all_tables, func_type};
+ghost use Rattle.wasm_syntax.specs.Index.{all_memories, all_tables, func_type, of_kind};
 ghost use Rattle.trace_model.specs.Balance.{Takes};
-ghost use Rattle.trace_model.specs.Fitting.{IsFit, came, effect_fits, first_unfit, fitting_step, gives_values, grows_within, left, names_function, takes_values, types_of, unfit_from};
+ghost use Rattle.trace_model.specs.Fitting.{IsFit, came, effect_fits, first_unfit, fitting_step, gives_values, grows_within, left, limits_import, names_function, takes_values, types_of, unfit_from};
 
 use crate::ordering::are_ordered;
 use crate::tapes::{Effect, Next, Origin, Segment, Tape};
@@ -17,7 +17,7 @@ use std::alloc::Global;
 use std::marker::Model;
 use thiserror::Error;
 use wasm_syntax::limits::{MOST_ENTRIES, MOST_PAGES, PAGE_SIZE};
-use wasm_syntax::{ImportKind, Limits, Module, Val, ValType};
+use wasm_syntax::{Import, ImportKind, Limits, Module, Val, ValType};
 
 /// Why a tape does not fit a module, or nothing is known of it.
 #[derive(Clone, Copy, PartialEq, Eq, Debug, Error)]
@@ -28,17 +28,6 @@ pub enum TapeFault {
     /// Out of memory.
     #[error("out of memory")]
     Memory,
-}
-
-impl From<NoMemory> for TapeFault {
-    ghost from_gives = { λ _ fault. fault ≡ Memory };
-
-    ghost use Rattle.std.specs.Prelude.{◌≡◌};
-    ghost use Rattle.trace_model.specs.declared.fitting.TapeFault.TheVariants.{Memory};
-
-    fn from(_refused: NoMemory) -> TapeFault {
-        TapeFault::Memory
-    }
 }
 
 /// The imports whose calls are open. Contracts see the innermost first.
@@ -135,28 +124,41 @@ fn are_of_types(values: &[Val], types: &[ValType]) -> bool
     true
 }
 
-/// The limits of the first memory, imported or defined.
+/// The limits of an import that is a table, or of one that is a memory.
+fn imported_limits(kind: ImportKind, of_table: bool) -> Option<Limits>
+    ensures { result ≡ limits_import of_table kind }
+{
+    match kind {
+        ImportKind::Table(limits) if of_table => Some(limits),
+        ImportKind::Memory(limits) if !of_table => Some(limits),
+        _ => None,
+    }
+}
+
+/// The limits of the first table or memory, imported or defined.
+fn first_limits(imports: &[Import], defined: &[Limits], of_table: bool) -> Option<Limits>
+    ensures { result ≡ slice_get (of_kind (limits_import of_table) imports.now ++ defined.now) 0 }
+{
+    'imports: for import in imports {
+        if let Some(limits) = imported_limits(import.kind, of_table) {
+            return Some(limits);
+        }
+    }
+    defined.first().copied()
+}
+
+/// The limits of the first memory.
 fn memory_limits(module: &Module) -> Option<Limits>
     ensures { result ≡ slice_get (all_memories «module».now) 0 }
 {
-    'imports: for import in module.imports.as_slice() {
-        if let ImportKind::Memory(limits) = import.kind {
-            return Some(limits);
-        }
-    }
-    module.memories.as_slice().first().copied()
+    first_limits(module.imports.as_slice(), module.memories.as_slice(), false)
 }
 
-/// The limits of the first table, imported or defined.
+/// The limits of the first table.
 fn table_limits(module: &Module) -> Option<Limits>
     ensures { result ≡ slice_get (all_tables «module».now) 0 }
 {
-    'imports: for import in module.imports.as_slice() {
-        if let ImportKind::Table(limits) = import.kind {
-            return Some(limits);
-        }
-    }
-    module.tables.as_slice().first().copied()
+    first_limits(module.imports.as_slice(), module.tables.as_slice(), true)
 }
 
 /// A size is within the limit and within the maximum, if there is one.
@@ -242,7 +244,8 @@ fn segments_fit(alloc: Global, scope: &Scope<'_>, segments: &[Segment]) -> Resul
     let mut opened = Opened::new(alloc);
     'segments: for (number, segment) in segments.iter().enumerate() {
         let is_last = number + 1 == segments.len();
-        if !step(&mut opened, scope, number as u64, is_last, segment)? {
+        let fits = step(&mut opened, scope, number as u64, is_last, segment);
+        if !fits.map_err(|_| TapeFault::Memory)? {
             return Err(TapeFault::Unfit {
                 segment: number as u64,
             });
@@ -258,7 +261,7 @@ fn segments_fit(alloc: Global, scope: &Scope<'_>, segments: &[Segment]) -> Resul
 pub fn fits(alloc: Global, tape: &Tape, module: &Module) -> Result<(), TapeFault>
     ensures { IsFit (first_unfit «module».now tape.now) result }
 {
-    let scope = Scope::of(alloc, module)?;
+    let scope = Scope::of(alloc, module).map_err(|_| TapeFault::Memory)?;
     let segments = tape.segments.as_slice();
     if segments.is_empty() {
         return Err(TapeFault::Unfit { segment: 0 });

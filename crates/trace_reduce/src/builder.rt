@@ -103,7 +103,9 @@ impl TapeBuilder {
         ensures host { (before marks : List Mark) → IsAtHost self before marks
             → IsWeighed (λ (tape : Tape). AreLogSegments before tape.segments) self.tape.most result }
     {
-        self.close_window()?;
+        let Ok(()) = self.close_window() else {
+            return Err(ReducerFault::Memory);
+        };
         let TapeBuilder { tape, .. } = self;
         tape.into_tape()
     }
@@ -114,7 +116,9 @@ impl TapeBuilder {
             → IsWeighed (λ (tape : Tape). AreLogSegments (marks ++ Ends next ∷ []) tape.segments) self.tape.most
             result }
     {
-        self.take(Turn::Ends(next))?;
+        let Ok(()) = self.take(Turn::Ends(next)) else {
+            return Err(ReducerFault::Memory);
+        };
         self.into_tape()
     }
 

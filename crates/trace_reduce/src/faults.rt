@@ -1,6 +1,5 @@
 // Why there is no tape.
 
-use no_memory::NoMemory;
 use thiserror::Error;
 
 /// Why a log has no tape, or nothing is known of it.
@@ -26,26 +25,4 @@ pub enum ReducerFault {
     /// Out of memory.
     #[error("out of memory")]
     Memory,
-}
-
-impl From<NoMemory> for ReducerFault {
-    ghost from_gives = { λ _ fault. fault ≡ Memory };
-
-    ghost use Rattle.std.specs.Prelude.{◌≡◌};
-    ghost use Rattle.trace_reduce.specs.declared.faults.ReducerFault.TheVariants.{Memory};
-
-    fn from(_refused: NoMemory) -> ReducerFault {
-        ReducerFault::Memory
-    }
-}
-
-impl From<NoMemory> for ReduceFault {
-    ghost from_gives = { λ _ fault. fault ≡ Memory };
-
-    ghost use Rattle.std.specs.Prelude.{◌≡◌};
-    ghost use Rattle.trace_reduce.specs.declared.faults.ReduceFault.TheVariants.{Memory};
-
-    fn from(_refused: NoMemory) -> ReduceFault {
-        ReduceFault::Memory
-    }
 }

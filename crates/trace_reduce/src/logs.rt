@@ -21,24 +21,18 @@ fn copy_of(event: &Event) -> Result<Event, NoMemory>
             func: *func,
             args: args.clone()?,
         },
-        Event::Leave { func } => Event::Leave { func: *func },
-        Event::Pre { callee } => Event::Pre { callee: *callee },
-        Event::Post { result } => Event::Post { result: *result },
-        Event::Grow { pages } => Event::Grow { pages: *pages },
+        &Event::Leave { func } => Event::Leave { func },
+        &Event::Pre { callee } => Event::Pre { callee },
+        &Event::Post { result } => Event::Post { result },
+        &Event::Grow { pages } => Event::Grow { pages },
         Event::Seen => Event::Seen,
-        Event::Table { size } => Event::Table { size: *size },
+        &Event::Table { size } => Event::Table { size },
         Event::Bytes { addr, bytes } => Event::Bytes {
             addr: *addr,
             bytes: bytes.clone()?,
         },
-        Event::Entry { index, func } => Event::Entry {
-            index: *index,
-            func: *func,
-        },
-        Event::Global { global, value } => Event::Global {
-            global: *global,
-            value: *value,
-        },
+        &Event::Entry { index, func } => Event::Entry { index, func },
+        &Event::Global { global, value } => Event::Global { global, value },
     })
 }
 
@@ -81,6 +75,8 @@ pub fn reduce(alloc: Global, log: &Log) -> Result<Tape, ReduceFault>
     ensures { IsReduction log.now result }
 {
     let mut reducer = Reducer::new(alloc, log.imports, u64::MAX);
-    push_all(&mut reducer, log.events.as_slice())?;
+    let Ok(()) = push_all(&mut reducer, log.events.as_slice()) else {
+        return Err(ReduceFault::Memory);
+    };
     of_any_weight(reducer.finish(log.outcome))
 }

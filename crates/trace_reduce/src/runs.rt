@@ -166,11 +166,8 @@ fn put_entries(
     ensures all { OnOk result (effects.new.items ≡ effects.old.items ++ map entry_effect entries.now.entries) }
     ensures ordered { IsOrdered nat_cmp entries.now }
 {
-    'entries: for (index, func) in entries {
-        effects.push(Effect::Entry {
-            index: *index,
-            func: *func,
-        })?;
+    'entries: for (&index, &func) in entries {
+        effects.push(Effect::Entry { index, func })?;
     }
     Ok(())
 }
@@ -180,11 +177,8 @@ fn put_globals(effects: &mut Vec<Effect>, globals: &BTreeMap<u32, Val>) -> Resul
     ensures all { OnOk result (effects.new.items ≡ effects.old.items ++ map global_effect globals.now.entries) }
     ensures ordered { IsOrdered nat_cmp globals.now }
 {
-    'globals: for (global, value) in globals {
-        effects.push(Effect::Global {
-            global: *global,
-            value: *value,
-        })?;
+    'globals: for (&global, &value) in globals {
+        effects.push(Effect::Global { global, value })?;
     }
     Ok(())
 }

@@ -1,7 +1,8 @@
--- No instruction of a body's tree is refused where none of its list is.
+-- What holds of each instruction of a body's list holds of those of its tree, and none of these is refused where
+-- none of the list is.
 use Rattle.std.proofs.Common.{◌≡◌, ℕ, suc, zero, ◌+◌, List, [], ◌∷◌, ◌++◌, Option, Some, None, Bool, true, false, cond, option_map, slice_get, refl, sym, subst}
 use Rattle.std.specs.Prelude.{filter, filter_map, flat_map}
-use Rattle.std.specs.List.{enumerate_from, cons_option}
+use Rattle.std.specs.List.{AllByRecursion, enumerate_from, cons_option}
 use Rattle.std.proofs.lemmas.List.{append_assoc}
 use Rattle.list_laws.proofs.Lists.{nil_parts}
 use Rattle.wasm_syntax.specs.declared.instructions.Instr.{Instr}
@@ -9,40 +10,45 @@ use Rattle.wasm_syntax.specs.declared.instructions.Instr.TheVariants.{Else, End,
 use Rattle.wasm_syntax.specs.declared.modules.Func.{Func}
 use Rattle.wasm_syntax.specs.Nest.{Nest, Empty, Plain, InBlock, InLoop, InIf, InIfElse, flat, IsBody}
 use Rattle.wasm_syntax.specs.Profile.{Unsupported, refused_feature, is_numbered, refused_in}
-use Rattle.type_safety.specs.Frames.{HasNoneRefused}
+use Rattle.type_safety.specs.Frames.{AllPlain, HasNoneRefused}
+
+-- what holds of each instruction of a list holds of the plain ones of its tree, and of what comes after
+abbrev HoldsIn : (P : Instr → Type 0) → Nest → Type 0
+HoldsIn P t =
+    (more : List Instr) → AllByRecursion P (flat t ++ more) → AllPlain P t × AllByRecursion P more
+
+all_in_block : (P : Instr → Type 0) (body rest : Nest) → HoldsIn P body → HoldsIn P rest → (more : List Instr)
+    → AllByRecursion P ((flat body ++ End ∷ flat rest) ++ more)
+    → (AllPlain P body × AllPlain P rest) × AllByRecursion P more
+all_in_block P body rest in_body in_rest more h =
+    let p = in_body (End ∷ (flat rest ++ more))
+    (subst (AllByRecursion P) (append_assoc (flat body) (End ∷ flat rest) more) h) in
+    let q = in_rest more p.1.1 in
+    ((p.0, q.0), q.1)
+
+all_in_nest : (P : Instr → Type 0) (t : Nest) → HoldsIn P t
+all_in_nest P Empty more h = (tt, h)
+all_in_nest P (Plain i rest) more h = let p = all_in_nest P rest more h.1 in ((h.0, p.0), p.1)
+all_in_nest P (InBlock ty body rest) more h =
+    all_in_block P body rest (λ m g. all_in_nest P body m g) (λ m g. all_in_nest P rest m g) more h.1
+all_in_nest P (InLoop ty body rest) more h =
+    all_in_block P body rest (λ m g. all_in_nest P body m g) (λ m g. all_in_nest P rest m g) more h.1
+all_in_nest P (InIf ty body rest) more h =
+    all_in_block P body rest (λ m g. all_in_nest P body m g) (λ m g. all_in_nest P rest m g) more h.1
+all_in_nest P (InIfElse ty body other rest) more h =
+    let p = all_in_nest P body (Else ∷ ((flat other ++ End ∷ flat rest) ++ more))
+    (subst (AllByRecursion P) (append_assoc (flat body) (Else ∷ (flat other ++ End ∷ flat rest)) more) h.1) in
+    let q = all_in_block P other rest (λ m g. all_in_nest P other m g) (λ m g. all_in_nest P rest m g) more p.1.1 in
+    ((p.0, q.0.0, q.0.1), q.1)
+
+-- so it is with a body
+pub all_in_body : (P : Instr → Type 0) (t : Nest) (body : List Instr) → AllByRecursion P body → IsBody t body
+    → AllPlain P t
+all_in_body P t body all is = (all_in_nest P t (End ∷ []) (subst (AllByRecursion P) (sym is.written) all)).0
 
 -- none of a list is refused
 abbrev NoneIn : List Instr → Type 0
-NoneIn [] = Unit {0}
-NoneIn (i ∷ is) = (refused_feature i ≡ None) × NoneIn is
-
-none_in_nest : (t : Nest) (more : List Instr) → NoneIn (flat t ++ more) → HasNoneRefused t × NoneIn more
-none_in_nest Empty more h = (tt, h)
-none_in_nest (Plain i rest) more h =
-    let p = none_in_nest rest more h.1 in
-    ((h.0, p.0), p.1)
-none_in_nest (InBlock ty body rest) more h =
-    let p = none_in_nest body (End ∷ (flat rest ++ more))
-    (subst NoneIn (append_assoc (flat body) (End ∷ flat rest) more) h.1) in
-    let q = none_in_nest rest more p.1.1 in
-    ((p.0, q.0), q.1)
-none_in_nest (InLoop ty body rest) more h =
-    let p = none_in_nest body (End ∷ (flat rest ++ more))
-    (subst NoneIn (append_assoc (flat body) (End ∷ flat rest) more) h.1) in
-    let q = none_in_nest rest more p.1.1 in
-    ((p.0, q.0), q.1)
-none_in_nest (InIf ty body rest) more h =
-    let p = none_in_nest body (End ∷ (flat rest ++ more))
-    (subst NoneIn (append_assoc (flat body) (End ∷ flat rest) more) h.1) in
-    let q = none_in_nest rest more p.1.1 in
-    ((p.0, q.0), q.1)
-none_in_nest (InIfElse ty body other rest) more h =
-    let p = none_in_nest body (Else ∷ ((flat other ++ End ∷ flat rest) ++ more))
-    (subst NoneIn (append_assoc (flat body) (Else ∷ (flat other ++ End ∷ flat rest)) more) h.1) in
-    let o = none_in_nest other (End ∷ (flat rest ++ more))
-    (subst NoneIn (append_assoc (flat other) (End ∷ flat rest) more) p.1.1) in
-    let q = none_in_nest rest more o.1.1 in
-    ((p.0, o.0, q.0), q.1)
+NoneIn = AllByRecursion (λ i. refused_feature i ≡ None)
 
 unnumbered : (i : Instr) → is_numbered i ≡ false → refused_feature i ≡ None
 unnumbered Else h = refl
@@ -102,5 +108,4 @@ pub body_supported : (start : ℕ) (funcs : List Func) (k : ℕ) (func : Func) (
     → slice_get funcs k ≡ Some func → IsBody t func.body → HasNoneRefused t
 body_supported start funcs k func t h is body =
     let p = none_at start funcs k func h is in
-    let none = none_in_body p.0 0 func.body p.1 in
-    (none_in_nest t (End ∷ []) (subst NoneIn (sym body.written) none)).0
+    all_in_body (λ i. refused_feature i ≡ None) t func.body (none_in_body p.0 0 func.body p.1) body

@@ -85,18 +85,24 @@ module _ (s : Scope) (labels : List (List ValType)) (number base : ℕ) (before 
     },
   )
 
+  -- the heights after the first instruction of a sequence
+  later_heights : (t : Nest) (c : IsCode s labels (place t number) base before after) (count : ℕ)
+      → size t ≡ 1 + count → (j : ℕ) → j < count
+      → s.heights (number + 1 + j) ≡ base + height (context s labels) t before after c.typed (suc j)
+  later_heights t c count same =
+      next_heights s.heights (height (context s labels) t before after c.typed) number base count
+      (λ i below. c.heights i (omega arith))
+
   pub of_block : (ty : Option ValType) (body rest : Nest)
       → IsCode s labels (place (InBlock ty body rest) number) base before after
       → IsTrue (is_block_type ty)
       × IsCode s (results_of ty ∷ labels) (place body (number + 1)) (base + length before) [] (results_of ty)
       × IsCode s labels (place rest (number + 1 + size body)) base (results_of ty ++ before) after
   of_block ty body rest c =
-      let parts =
-      block_parts (results_of ty ∷ labels) body rest (length before) (results_of ty) (results_of ty ++ before)
+      let parts = block_parts (results_of ty ∷ labels) body rest (length before) (results_of ty) (results_of ty ++ before)
       c.typed.1 c.typed.2 c.supported.0 c.supported.1
-      (next_heights s.heights (height (context s labels) (InBlock ty body rest) before after c.typed) number base
-      (size body + size rest) (λ i b. c.heights i (omega arith)))
-      in (c.typed.0, parts.0, parts.1)
+      (later_heights (InBlock ty body rest) c (size body + size rest) (omega arith)) in
+      (c.typed.0, parts.0, parts.1)
 
   pub of_loop : (ty : Option ValType) (body rest : Nest)
       → IsCode s labels (place (InLoop ty body rest) number) base before after
@@ -104,12 +110,10 @@ module _ (s : Scope) (labels : List (List ValType)) (number base : ℕ) (before 
       × IsCode s ([] ∷ labels) (place body (number + 1)) (base + length before) [] (results_of ty)
       × IsCode s labels (place rest (number + 1 + size body)) base (results_of ty ++ before) after
   of_loop ty body rest c =
-      let parts =
-      block_parts ([] ∷ labels) body rest (length before) (results_of ty) (results_of ty ++ before)
+      let parts = block_parts ([] ∷ labels) body rest (length before) (results_of ty) (results_of ty ++ before)
       c.typed.1 c.typed.2 c.supported.0 c.supported.1
-      (next_heights s.heights (height (context s labels) (InLoop ty body rest) before after c.typed) number base
-      (size body + size rest) (λ i b. c.heights i (omega arith)))
-      in (c.typed.0, parts.0, parts.1)
+      (later_heights (InLoop ty body rest) c (size body + size rest) (omega arith)) in
+      (c.typed.0, parts.0, parts.1)
 
   pub of_if : (ty : Option ValType) (body rest : Nest)
       → IsCode s labels (place (InIf ty body rest) number) base before after
@@ -120,9 +124,8 @@ module _ (s : Scope) (labels : List (List ValType)) (number base : ℕ) (before 
       let parts =
       block_parts (results_of ty ∷ labels) body rest (length c.typed.0) (results_of ty) (results_of ty ++ c.typed.0)
       c.typed.3 c.typed.5 c.supported.0 c.supported.1
-      (next_heights s.heights (height (context s labels) (InIf ty body rest) before after c.typed) number base
-      (size body + size rest) (λ i b. c.heights i (omega arith)))
-      in (c.typed.0, c.typed.1, c.typed.4, parts.0, parts.1)
+      (later_heights (InIf ty body rest) c (size body + size rest) (omega arith)) in
+      (c.typed.0, c.typed.1, c.typed.4, parts.0, parts.1)
 
   pub of_if_else : (ty : Option ValType) (body other rest : Nest)
       → IsCode s labels (place (InIfElse ty body other rest) number) base before after
@@ -139,8 +142,7 @@ module _ (s : Scope) (labels : List (List ValType)) (number base : ℕ) (before 
       let each : (j : ℕ) → j < size body + (size other + size rest)
       → s.heights (number + 1 + j) ≡ base + cond (nat_lt j (size body)) (length c.typed.0 + inner j)
       (later (j - size body)) =
-      λ j below. next_heights s.heights (height (context s labels) (InIfElse ty body other rest) before after c.typed)
-      number base (size body + (size other + size rest)) (λ i b. c.heights i (omega arith)) j below in
+      later_heights (InIfElse ty body other rest) c (size body + (size other + size rest)) (omega arith) in
       let more : (j : ℕ) → j < size other + size rest → s.heights (number + 1 + size body + j) ≡ base + later j =
       outer_heights s.heights inner later (number + 1) base (length c.typed.0) (size body) (size other + size rest)
       each in (

@@ -1,18 +1,21 @@
 -- Instructions that are done in a well-typed activation, by what they do: they give results, enter blocks,
 -- branch, and call.
-use Rattle.std.proofs.Common.{◌≡◌, ℕ, suc, zero, ◌+◌, List, [], ◌∷◌, ◌++◌, length, Option, Some, slice_get, sym, ◌∙◌, subst}
+use Rattle.std.proofs.Common.{◌≡◌, ℕ, suc, zero, ◌+◌, List, [], ◌∷◌, ◌++◌, length, Option, Some, None, slice_get, refl, sym, ◌∙◌, subst}
 use Rattle.std.specs.Prelude.{reverse}
 use Rattle.std.proofs.lemmas.List.{reverse-reverse, length-reverse}
 use Rattle.wasm_syntax.specs.declared.values.ValType.{ValType}
 use Rattle.wasm_syntax.specs.declared.values.Val.{Val}
 use Rattle.wasm_syntax.specs.declared.signatures.FuncType.{FuncType}
+use Rattle.wasm_syntax.specs.declared.instructions.Instr.{Instr}
+use Rattle.wasm_syntax.specs.Typing.{Leads, instr_type}
+use Rattle.wasm_syntax.specs.Profile.{refused_feature}
 use Rattle.history_spec.specs.Store.{Store}
 use Rattle.history_spec.specs.Code.{code_of, signature}
 use Rattle.history_spec.specs.Configuration.{Place, Label, Frame, topmost, push_all}
-use Rattle.history_spec.specs.Instruction.{Execution, on, pop, takes, gives_in, enters, to_label, to_caller, branch_to, calls}
+use Rattle.history_spec.specs.Instruction.{Execution, on, pop, takes, gives, gives_in, execute_plain, enters, to_label, to_caller, branch_to, calls}
 use Rattle.type_safety.specs.Values.{AreValues}
 use Rattle.type_safety.specs.Stores.{func_count, IsStore}
-use Rattle.type_safety.specs.Frames.{Scope, IsCode, base_of, IsLabel, AreLabels, IsAround}
+use Rattle.type_safety.specs.Frames.{Scope, context, IsCode, base_of, IsLabel, AreLabels, IsAround}
 use Rattle.type_safety.specs.Results.{HasRule}
 use Rattle.type_safety.proofs.Values.{pushed_values, take_values, pop_values}
 
@@ -49,6 +52,28 @@ gives_fine s store frame next labels given types below operands rest results fou
     code = code;
   },
 )
+
+-- it changes the store, or traps
+pub changes_fine : {X : Type 0} (s : Scope) (changed : X → Store) (frame : Frame) (next : Place)
+    (labels : List (List ValType)) (given below : List ValType) (operands rest : List Val)
+    (result : Option X → Execution) (o : Option X) → HasRule s (result None)
+    → ((x : X) → result (Some x) ≡ gives (changed x) frame next operands rest [])
+    → ((x : X) → o ≡ Some x → IsStore s.m (changed x)) → IsAround s labels given frame
+    → AreValues (func_count s.m) below rest → IsCode s labels next (base_of frame.labels) below given
+    → HasRule s (result o)
+changes_fine s changed frame next labels given below operands rest result None trap same stored around p code = trap
+changes_fine s changed frame next labels given below operands rest result (Some x) trap same stored around p code =
+    subst (HasRule s) (sym (same x))
+    (gives_fine s (changed x) frame next labels given [] below operands rest [] None (stored x refl) around tt p code)
+
+-- a plain instruction before values of types from which it leads on has a rule, whatever comes next
+abbrev pub IsFine : (s : Scope) → Store → Frame → (labels : List (List ValType)) → (given : List ValType)
+    → (next : Place) → Instr → Type 0
+IsFine s store frame labels given next i =
+    (before middle : List ValType) → AreValues (func_count s.m) before frame.values
+    → Leads (context s labels) (instr_type (context s labels) i) before middle → refused_feature i ≡ None
+    → IsCode s labels next (base_of frame.labels) middle given
+    → HasRule s (execute_plain (code_of s.m) store frame next i)
 
 pub enters_fine : (s : Scope) (store : Store) (frame : Frame) (labels : List (List ValType))
     (given taken results below : List ValType) (operands values : List Val) (arity : ℕ) (body target next : Place)

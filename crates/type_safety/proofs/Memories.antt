@@ -68,7 +68,8 @@ modulo_fits : (w : ℕ) (z : ℤ) → modulo w z < 2 ^ w
 modulo_fits w (pos n) = mod-lt n (pow_pos w)
 modulo_fits w (negsuc n) = omega (arith, pow_pos w)
 
-number_count : (n : ℕ) (t : ValType) → is_number t ≡ true → count_of n t ≡ 2 ^ bits_of t
+-- a value of a number type is below the power of two of its bits
+pub number_count : (n : ℕ) (t : ValType) → is_number t ≡ true → count_of n t ≡ 2 ^ bits_of t
 number_count n I32 h = refl
 number_count n I64 h = refl
 number_count n F32 h = refl

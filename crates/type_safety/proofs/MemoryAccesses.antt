@@ -1,6 +1,6 @@
 -- The instructions on memory in a well-typed activation have rules, and lead to what is well typed.
-use Rattle.std.proofs.Common.{◌≡◌, ℕ, ◌+◌, ◌%◌, ◌^◌, ◌<◌, List, [], ◌∷◌, ◌++◌, Option, Some, None, option_and_then, refl, arith}
-use Rattle.std.specs.Prelude.{reverse, replicate}
+use Rattle.std.proofs.Common.{◌≡◌, ℕ, ◌+◌, ◌%◌, ◌^◌, ◌<◌, List, [], ◌∷◌, Option, Some, None, option_and_then, refl, arith}
+use Rattle.std.specs.Prelude.{replicate}
 use Rattle.std.proofs.Math.Nat.{mod-lt}
 use Rattle.std.proofs.lemmas.List.Elements.{All-replicate}
 use Rattle.wasm_syntax.specs.declared.values.ValType.{ValType}
@@ -12,19 +12,18 @@ use Rattle.wasm_syntax.specs.declared.instructions.Instr.TheVariants.{Load, Stor
 use Rattle.wasm_syntax.specs.Index.{all_memories}
 use Rattle.wasm_syntax.specs.Opcodes.{Access, load_of, store_of}
 use Rattle.wasm_syntax.specs.Typing.{Moves, has_memory, load_type, store_type, is_aligned, Leads, instr_type}
-use Rattle.wasm_syntax.specs.Profile.{refused_feature}
 use Rattle.history_spec.specs.Store.{Store, Memory, pages, grown_memory, bytes_at, with_bytes_at, with_bytes_copied, with_bytes_filled, number_of, bytes_of, with_memory}
-use Rattle.history_spec.specs.Code.{code_of, i32_value}
+use Rattle.history_spec.specs.Code.{i32_value}
 use Rattle.history_spec.specs.Numeric.{loaded_number}
 use Rattle.history_spec.specs.Configuration.{Place, Frame}
-use Rattle.history_spec.specs.Instruction.{on, bits_at, gives, load_result, store_result, grow_result, execute_plain, takes}
+use Rattle.history_spec.specs.Instruction.{on, bits_at, gives, load_result, store_result, grow_result, takes}
 use Rattle.type_safety.specs.Values.{count_of, AreValues}
 use Rattle.type_safety.specs.Stores.{func_count, IsStore}
 use Rattle.type_safety.specs.Frames.{Scope, context, IsCode, base_of, IsAround}
 use Rattle.type_safety.proofs.Memories.{MemoryThere, memory_there, bytes_at_fits, load_fits, load_is_narrow, bytes_of_fit, store_written, memory_grown}
 use Rattle.type_safety.proofs.InstrTypes.{then_leads, cond_leads, ready}
 use Rattle.type_safety.specs.Results.{HasRule}
-use Rattle.type_safety.proofs.Fine.{on_fine, takes_fine, gives_fine}
+use Rattle.type_safety.proofs.Fine.{IsFine, on_fine, takes_fine, gives_fine, changes_fine}
 
 module _ (s : Scope) (store : Store) (is_store : IsStore s.m store) (frame : Frame) (labels : List (List ValType))
     (given : List ValType) (around : IsAround s labels given frame) (next : Place) where
@@ -34,17 +33,8 @@ module _ (s : Scope) (store : Store) (is_store : IsStore s.m store) (frame : Fra
   abbrev IsNext : List ValType → Type 0
   IsNext types = IsCode s labels next (base_of frame.labels) types given
 
-  -- it gives results in the store as it is
-  give : (types below : List ValType) (operands rest results : List Val) → AreValues n types results
-      → AreValues n below rest → IsNext (reverse types ++ below)
-      → HasRule s (gives store frame next operands rest results)
-  give types below operands rest results p q code =
-      gives_fine s store frame next labels given types below operands rest results None is_store around p q code
-
   abbrev Fine : Instr → Type 0
-  Fine i = (before middle : List ValType) → AreValues n before frame.values
-      → Leads (context s labels) (instr_type (context s labels) i) before middle
-      → refused_feature i ≡ None → IsNext middle → HasRule s (execute_plain (code_of s.m) store frame next i)
+  Fine = IsFine s store frame labels given next
 
   -- ---- what they come to
 
@@ -55,18 +45,17 @@ module _ (s : Scope) (store : Store) (is_store : IsStore s.m store) (frame : Fra
       → HasRule s (load_result store frame next memory access operands rest bytes)
   loaded_fine memory access below operands rest None fits q code = tt
   loaded_fine memory access below operands rest (Some read) fits q code =
-      give (access.ty ∷ []) below operands rest
-      (record { ty = access.ty; bits = loaded_number access (number_of read) } ∷ [])
+      gives_fine s store frame next labels given (access.ty ∷ []) below operands rest
+      (record { ty = access.ty; bits = loaded_number access (number_of read) } ∷ []) None is_store around
       (record { typed = refl; in_range = fits read refl }, tt) q code
 
   stored_fine : (memory : Memory) (below : List ValType) (operands rest : List Val) (bytes : Option (List ℕ))
       → ((new : List ℕ) → bytes ≡ Some new → IsStore s.m (with_memory store (record memory { bytes = new })))
       → AreValues n below rest → IsNext below
       → HasRule s (store_result store frame next memory operands rest bytes)
-  stored_fine memory below operands rest None changed q code = tt
-  stored_fine memory below operands rest (Some new) changed q code =
-      gives_fine s (with_memory store (record memory { bytes = new })) frame next labels given [] below operands rest
-      [] None (changed new refl) around tt q code
+  stored_fine memory below operands rest bytes changed q code =
+      changes_fine s (λ (new : List ℕ). with_memory store (record memory { bytes = new })) frame next labels given below
+      operands rest (store_result store frame next memory operands rest) bytes tt (λ new. refl) changed around q code
 
   grown_fine : (memory : Memory) (below : List ValType) (operands rest : List Val) (larger : Option Memory)
       → ((new : Memory) → larger ≡ Some new → IsStore s.m (with_memory store new)) → pages memory < 2 ^ 32
@@ -162,8 +151,9 @@ module _ (s : Scope) (store : Store) (is_store : IsStore s.m store) (frame : Fra
       let few : pages there.memory < 2 ^ 32 = omega (arith, there.good.most) in
       on_fine s store.memory there.memory
       (λ memory. gives store frame next [] frame.values (i32_value (pages memory) ∷ [])) there.is
-      (give (I32 ∷ []) r.below [] frame.values (i32_value (pages there.memory) ∷ [])
-      (record { typed = refl; in_range = few }, tt) r.had r.code)
+      (gives_fine s store frame next labels given (I32 ∷ []) r.below [] frame.values
+      (i32_value (pages there.memory) ∷ []) None is_store around (record { typed = refl; in_range = few }, tt) r.had
+      r.code)
 
   pub grow_fine : Fine MemoryGrow
   grow_fine before middle p leads supported code =

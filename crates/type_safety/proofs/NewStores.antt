@@ -39,9 +39,17 @@ use Rattle.type_safety.proofs.Memories.{memory_written, cond_some}
 -- ---- constants
 
 -- an expression of one instruction
-single_is : (body : List Instr) (i : Instr) → single body ≡ Some i → body ≡ i ∷ End ∷ []
+pub single_is : (body : List Instr) (i : Instr) → single body ≡ Some i → body ≡ i ∷ End ∷ []
 single_is (j ∷ End ∷ []) i h = let same : j ≡ i = cc in ap (λ k. k ∷ End ∷ []) same
 single_is body i h = cc
+
+-- the type of an immutable global
+pub immutable : (g : GlobalType) (ty : ValType) → immutable_type g ≡ Some ty → g.ty ≡ ty
+immutable g ty e = by g.mutable e
+  where
+    by : (b : Bool) → cond b None (Some g.ty) ≡ Some ty → g.ty ≡ ty
+    by true e' = cc
+    by false e' = cc
 
 module _ (m : Module) (imported : List Val)
     (values : AreValues (func_count m) (map (λ global. global.ty) (imported_globals m)) imported) where
@@ -57,13 +65,6 @@ module _ (m : Module) (imported : List Val)
       (slice_get-map (λ global. global.ty) (imported_globals m) x ∙ ap (option_map (λ global. global.ty)) g.1) in
       subst (λ o. IsValue (func_count m) t (unwrap_or o other)) (sym v.1)
       (subst (λ u. IsValue (func_count m) u v.0) own v.2)
-    where
-      immutable : (g : GlobalType) (u : ValType) → immutable_type g ≡ Some u → g.ty ≡ u
-      immutable g u e = by g.mutable e
-        where
-          by : (b : Bool) → cond b None (Some g.ty) ≡ Some u → g.ty ≡ u
-          by true e' = cc
-          by false e' = cc
   instr_value i t other h = cc
 
   constant_fits : (t : ValType) (body : List Instr) (other : Val) → IsConstant m t body

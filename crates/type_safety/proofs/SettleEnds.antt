@@ -1,5 +1,5 @@
 -- Where control comes to the end of blocks and functions, settling ends at well-typed activations, or the run ends.
-use Rattle.std.proofs.Common.{◌≡◌, ℕ, List, [], ◌∷◌, ◌++◌, length, sym, ◌∙◌, subst, arith}
+use Rattle.std.proofs.Common.{◌≡◌, ℕ, List, [], ◌∷◌, ◌++◌, length, refl, sym, ◌∙◌, subst, arith}
 use Rattle.std.specs.Prelude.{reverse}
 use Rattle.std.specs.Option.{option_to_list}
 use Rattle.std.proofs.lemmas.List.{append-nil}
@@ -20,6 +20,16 @@ use Rattle.type_safety.specs.Heights.{Heights}
 use Rattle.type_safety.specs.Configurations.{scope, Accept, IsGoing, IsAtStep}
 use Rattle.type_safety.proofs.Values.{append_values, pushed_values, take_values}
 use Rattle.type_safety.proofs.Constants.{fit_values}
+
+-- ---- before an instruction an activation is not at its end
+
+pub going_within : (rest : Nest) (frame : Frame) → IsGoing rest → at_end_of rest frame ≡ Within
+going_within Empty frame going = absurd going
+going_within (Plain i rest) frame going = refl
+going_within (InBlock ty body rest) frame going = refl
+going_within (InLoop ty body rest) frame going = refl
+going_within (InIf ty body rest) frame going = refl
+going_within (InIfElse ty body other rest) frame going = refl
 
 -- ---- leaving blocks
 

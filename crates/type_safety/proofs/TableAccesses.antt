@@ -1,6 +1,6 @@
 -- The instructions on tables in a well-typed activation have rules, and lead to what is well typed.
-use Rattle.std.proofs.Common.{◌≡◌, ℕ, suc, zero, ◌^◌, ◌<◌, ◌≤◌, List, [], ◌∷◌, ◌++◌, length, Option, Some, None, true, slice_get, refl, arith}
-use Rattle.std.specs.Prelude.{is_some, reverse, IfSome}
+use Rattle.std.proofs.Common.{◌≡◌, ℕ, suc, zero, ◌^◌, ◌<◌, ◌≤◌, List, [], ◌∷◌, length, Option, Some, None, true, slice_get, refl, arith}
+use Rattle.std.specs.Prelude.{is_some, IfSome}
 use Rattle.wasm_syntax.specs.declared.values.ValType.{ValType}
 use Rattle.wasm_syntax.specs.declared.values.ValType.TheVariants.{I32, FuncRef}
 use Rattle.wasm_syntax.specs.declared.values.Val.{Val}
@@ -8,19 +8,18 @@ use Rattle.wasm_syntax.specs.declared.signatures.Limits.{Limits}
 use Rattle.wasm_syntax.specs.declared.instructions.Instr.{Instr}
 use Rattle.wasm_syntax.specs.declared.instructions.Instr.TheVariants.{TableSet, TableGrow, TableSize}
 use Rattle.wasm_syntax.specs.Index.{all_tables}
-use Rattle.wasm_syntax.specs.Typing.{Moves, has_table, Leads, instr_type}
-use Rattle.wasm_syntax.specs.Profile.{refused_feature}
+use Rattle.wasm_syntax.specs.Typing.{Moves, has_table}
 use Rattle.history_spec.specs.Store.{Store, Table, grown_table, with_entry, with_table}
-use Rattle.history_spec.specs.Code.{code_of, i32_value}
+use Rattle.history_spec.specs.Code.{i32_value}
 use Rattle.history_spec.specs.Configuration.{Place, Frame}
-use Rattle.history_spec.specs.Instruction.{bits_at, gives, referent, table_result, table_grow_result, execute_plain, takes}
+use Rattle.history_spec.specs.Instruction.{bits_at, gives, referent, table_result, table_grow_result, takes}
 use Rattle.type_safety.specs.Values.{AreValues}
 use Rattle.type_safety.specs.Stores.{func_count, IsStore}
 use Rattle.type_safety.specs.Frames.{Scope, context, IsCode, base_of, IsAround}
 use Rattle.type_safety.proofs.Tables.{table_there, entry_set_fits, table_grown, referred_fits}
 use Rattle.type_safety.proofs.InstrTypes.{cond_leads, ready}
 use Rattle.type_safety.specs.Results.{HasRule}
-use Rattle.type_safety.proofs.Fine.{on_fine, takes_fine, gives_fine}
+use Rattle.type_safety.proofs.Fine.{IsFine, on_fine, takes_fine, gives_fine, changes_fine}
 
 no_second : (t : ℕ) (tables : List Limits) → is_some (slice_get tables (suc t)) ≡ true → length tables ≤ 1 → ⊥
 no_second t [] there one = cc
@@ -32,40 +31,29 @@ module _ (s : Scope) (one : length (all_tables s.m) ≤ 1) (store : Store) (is_s
   abbrev n : ℕ
   n = func_count s.m
 
-  abbrev IsNext : List ValType → Type 0
-  IsNext types = IsCode s labels next (base_of frame.labels) types given
-
-  -- it gives results in the store as it is
-  give : (types below : List ValType) (operands rest results : List Val) → AreValues n types results
-      → AreValues n below rest → IsNext (reverse types ++ below)
-      → HasRule s (gives store frame next operands rest results)
-  give types below operands rest results p q code =
-      gives_fine s store frame next labels given types below operands rest results None is_store around p q code
-
   abbrev Fine : Instr → Type 0
-  Fine i = (before middle : List ValType) → AreValues n before frame.values
-      → Leads (context s labels) (instr_type (context s labels) i) before middle
-      → refused_feature i ≡ None → IsNext middle → HasRule s (execute_plain (code_of s.m) store frame next i)
+  Fine = IsFine s store frame labels given next
 
   -- ---- what they come to
 
   entry_set_fine : (table : Table) (below : List ValType) (operands rest : List Val)
       (entries : Option (List (Option ℕ)))
       → ((new : List (Option ℕ)) → entries ≡ Some new
-      → IsStore s.m (with_table store (record table { entries = new }))) → AreValues n below rest → IsNext below
+      → IsStore s.m (with_table store (record table { entries = new }))) → AreValues n below rest
+      → IsCode s labels next (base_of frame.labels) below given
       → HasRule s (table_result store frame next table operands rest entries)
-  entry_set_fine table below operands rest None changed q code = tt
-  entry_set_fine table below operands rest (Some new) changed q code =
-      gives_fine s (with_table store (record table { entries = new })) frame next labels given [] below operands rest
-      [] None (changed new refl) around tt q code
+  entry_set_fine table below operands rest entries changed q code =
+      changes_fine s (λ (new : List (Option ℕ)). with_table store (record table { entries = new })) frame next labels
+      given below operands rest (table_result store frame next table operands rest) entries tt (λ new. refl) changed
+      around q code
 
   table_grown_fine : (table : Table) (below : List ValType) (operands rest : List Val) (larger : Option Table)
       → ((new : Table) → larger ≡ Some new → IsStore s.m (with_table store new)) → length table.entries < 2 ^ 32
-      → AreValues n below rest → IsNext (I32 ∷ below)
+      → AreValues n below rest → IsCode s labels next (base_of frame.labels) (I32 ∷ below) given
       → HasRule s (table_grow_result store frame next table operands rest larger)
   table_grown_fine table below operands rest None changed few q code =
-      give (I32 ∷ []) below operands rest (i32_value 0xFFFFFFFF ∷ [])
-      (record { typed = refl; in_range = omega arith }, tt) q code
+      gives_fine s store frame next labels given (I32 ∷ []) below operands rest (i32_value 0xFFFFFFFF ∷ []) None
+      is_store around (record { typed = refl; in_range = omega arith }, tt) q code
   table_grown_fine table below operands rest (Some new) changed few q code =
       gives_fine s (with_table store new) frame next labels given (I32 ∷ []) below operands rest
       (i32_value (length table.entries) ∷ []) None (changed new refl) around
@@ -116,7 +104,8 @@ module _ (s : Scope) (one : length (all_tables s.m) ≤ 1) (store : Store) (is_s
       let few : length there.table.entries < 2 ^ 32 = omega (arith, there.good.most) in
       on_fine s store.table there.table
       (λ table. gives store frame next [] frame.values (i32_value (length table.entries) ∷ [])) there.is
-      (give (I32 ∷ []) r.below [] frame.values (i32_value (length there.table.entries) ∷ [])
+      (gives_fine s store frame next labels given (I32 ∷ []) r.below [] frame.values
+      (i32_value (length there.table.entries) ∷ []) None is_store around
       (record { typed = refl; in_range = few }, tt) r.had r.code)
   table_size_fine (suc t) before middle p leads supported code =
       let c = cond_leads (context s labels) before middle (has_table (context s labels) (suc t))

@@ -2,6 +2,7 @@
 use Rattle.std.specs.Prelude.{◌≡◌, ℕ, ◌+◌, ◌<◌, List, [], ◌∷◌, ◌++◌, length, reverse, Some, None}
 use Rattle.wasm_syntax.specs.declared.values.ValType.{ValType}
 use Rattle.wasm_syntax.specs.declared.signatures.FuncType.{FuncType}
+use Rattle.wasm_syntax.specs.declared.instructions.Instr.{Instr}
 use Rattle.wasm_syntax.specs.declared.modules.Module.{Module}
 use Rattle.wasm_syntax.specs.Nest.{Nest, Empty, Plain, InBlock, InLoop, InIf, InIfElse, size}
 use Rattle.wasm_syntax.specs.Index.{func_indices, all_tables, all_memories, all_globals}
@@ -37,14 +38,18 @@ context s labels = record {
   declared = declared_funcs s.m;
 }
 
+-- each plain instruction of a sequence, within its blocks too
+abbrev pub AllPlain : (Instr → Type 0) → Nest → Type 0
+AllPlain P Empty = Unit {0}
+AllPlain P (Plain i rest) = P i × AllPlain P rest
+AllPlain P (InBlock ty body rest) = AllPlain P body × AllPlain P rest
+AllPlain P (InLoop ty body rest) = AllPlain P body × AllPlain P rest
+AllPlain P (InIf ty body rest) = AllPlain P body × AllPlain P rest
+AllPlain P (InIfElse ty body other rest) = AllPlain P body × AllPlain P other × AllPlain P rest
+
 -- no instruction of a sequence is refused
 abbrev pub HasNoneRefused : Nest → Type 0
-HasNoneRefused Empty = Unit {0}
-HasNoneRefused (Plain i rest) = (refused_feature i ≡ None) × HasNoneRefused rest
-HasNoneRefused (InBlock ty body rest) = HasNoneRefused body × HasNoneRefused rest
-HasNoneRefused (InLoop ty body rest) = HasNoneRefused body × HasNoneRefused rest
-HasNoneRefused (InIf ty body rest) = HasNoneRefused body × HasNoneRefused rest
-HasNoneRefused (InIfElse ty body other rest) = HasNoneRefused body × HasNoneRefused other × HasNoneRefused rest
+HasNoneRefused = AllPlain (λ i. refused_feature i ≡ None)
 
 -- what comes next within these labels, with `base` values below: it leads from values of some types to values of
 -- others, no instruction is refused, and its heights are those of the function

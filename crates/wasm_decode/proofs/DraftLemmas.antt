@@ -1,12 +1,11 @@
 -- What a draft holds after sections in lawful order is what the sections hold: since each kind comes at most once,
--- its list
--- may be put in place of the one that was there, which is empty.
+-- its list may be put in place of the one that was there, which is empty.
 use Rattle.std.proofs.Common.{◌≡◌, ℕ, ◌<◌, ◌≤◌, ◌≢◌, ◌⊎◌, List, [], ◌∷◌, ◌++◌, Option, Some, None, refl, ap, sym, ◌∙◌, inl, inr, append_assoc, append-nil, arith}
-use Rattle.std.specs.Prelude.{flat_map, option_to_list}
+use Rattle.std.specs.Prelude.{flat_map, option_map, option_to_list}
 use Rattle.std.proofs.lemmas.Bool.{cases_lt}
 use Rattle.wasm_syntax.specs.Encoding.Sections.{Section, CustomSection, TypeSection, ImportSection, FunctionSection, TableSection, MemorySection, GlobalSection, ExportSection, StartSection, ElementSection, CodeSection, DataSection, id_of}
 use Rattle.wasm_syntax.specs.Encoding.Modules.{AreInOrder, types_in, imports_in, functions_in, tables_in, memories_in, globals_in, exports_in, starts_in, elems_in, codes_in, datas_in, customs_in}
-use Rattle.wasm_syntax.specs.Encoding.ReadModules.{first_of, module_of}
+use Rattle.wasm_syntax.specs.Encoding.ReadModules.{first_of, funcs_of, module_of}
 use Rattle.wasm_decode.specs.declared.draft.Draft.{Draft}
 use Rattle.wasm_decode.specs.Drafts.{empty_draft, draft_with, draft_with_all, module_of_draft}
 
@@ -76,22 +75,22 @@ upto id get held part some last (section ∷ rest) before order draft empty =
 
 -- custom sections stand after one another
 customs : (sections : List Section) (draft : Draft)
-    → (draft_with_all sections draft).customs ≡ draft.customs ++ flat_map customs_in sections
-customs [] draft = sym (append-nil draft.customs)
+    → (draft_with_all sections draft).parts.customs ≡ draft.parts.customs ++ flat_map customs_in sections
+customs [] draft = sym (append-nil draft.parts.customs)
 customs (section ∷ rest) draft =
     customs rest (draft_with section draft)
     ∙ ap (λ items. items ++ flat_map customs_in rest) (one section)
-    ∙ append_assoc draft.customs (customs_in section) (flat_map customs_in rest)
+    ∙ append_assoc draft.parts.customs (customs_in section) (flat_map customs_in rest)
   where
-    one : (s : Section) → (draft_with s draft).customs ≡ draft.customs ++ customs_in s
+    one : (s : Section) → (draft_with s draft).parts.customs ≡ draft.parts.customs ++ customs_in s
     one (CustomSection custom) = refl
-    one other = sym (append-nil draft.customs)
+    one other = sym (append-nil draft.parts.customs)
 
-types : IsPart 1 (λ d. d.types) types_in
+types : IsPart 1 (λ d. d.parts.types) types_in
 types (TypeSection held) draft = inl (refl, refl)
 types other draft = inr (λ e. omega arith, refl, refl)
 
-imports : IsPart 2 (λ d. d.imports) imports_in
+imports : IsPart 2 (λ d. d.parts.imports) imports_in
 imports (ImportSection held) draft = inl (refl, refl)
 imports other draft = inr (λ e. omega arith, refl, refl)
 
@@ -99,27 +98,27 @@ functions : IsPart 3 (λ d. d.functions) functions_in
 functions (FunctionSection held) draft = inl (refl, refl)
 functions other draft = inr (λ e. omega arith, refl, refl)
 
-tables : IsPart 4 (λ d. d.tables) tables_in
+tables : IsPart 4 (λ d. d.parts.tables) tables_in
 tables (TableSection held) draft = inl (refl, refl)
 tables other draft = inr (λ e. omega arith, refl, refl)
 
-memories : IsPart 5 (λ d. d.memories) memories_in
+memories : IsPart 5 (λ d. d.parts.memories) memories_in
 memories (MemorySection held) draft = inl (refl, refl)
 memories other draft = inr (λ e. omega arith, refl, refl)
 
-globals : IsPart 6 (λ d. d.globals) globals_in
+globals : IsPart 6 (λ d. d.parts.globals) globals_in
 globals (GlobalSection held) draft = inl (refl, refl)
 globals other draft = inr (λ e. omega arith, refl, refl)
 
-exports : IsPart 7 (λ d. d.exports) exports_in
+exports : IsPart 7 (λ d. d.parts.exports) exports_in
 exports (ExportSection held) draft = inl (refl, refl)
 exports other draft = inr (λ e. omega arith, refl, refl)
 
-starts : IsPart 8 (λ d. option_to_list d.start) starts_in
+starts : IsPart 8 (λ d. option_to_list d.parts.start) starts_in
 starts (StartSection held) draft = inl (refl, refl)
 starts other draft = inr (λ e. omega arith, refl, refl)
 
-elems : IsPart 9 (λ d. d.elems) elems_in
+elems : IsPart 9 (λ d. d.parts.elems) elems_in
 elems (ElementSection held) draft = inl (refl, refl)
 elems other draft = inr (λ e. omega arith, refl, refl)
 
@@ -127,7 +126,7 @@ codes : IsPart 10 (λ d. d.codes) codes_in
 codes (CodeSection held) draft = inl (refl, refl)
 codes other draft = inr (λ e. omega arith, refl, refl)
 
-datas : IsPart 11 (λ d. d.datas) datas_in
+datas : IsPart 11 (λ d. d.parts.datas) datas_in
 datas (DataSection held) draft = inl (refl, refl)
 datas other draft = inr (λ e. omega arith, refl, refl)
 
@@ -135,57 +134,28 @@ first_start : (start : Option ℕ) → first_of (option_to_list start) ≡ start
 first_start None = refl
 first_start (Some func) = refl
 
--- what the sections hold, as a draft
-abbrev held_by : List Section → Draft
-held_by sections = record {
-  types = flat_map types_in sections;
-  imports = flat_map imports_in sections;
-  functions = flat_map functions_in sections;
-  tables = flat_map tables_in sections;
-  memories = flat_map memories_in sections;
-  globals = flat_map globals_in sections;
-  exports = flat_map exports_in sections;
-  start = first_of (flat_map starts_in sections);
-  elems = flat_map elems_in sections;
-  codes = flat_map codes_in sections;
-  datas = flat_map datas_in sections;
-  customs = flat_map customs_in sections;
-}
-
-same : (a b : Draft) → a.types ≡ b.types → a.imports ≡ b.imports → a.functions ≡ b.functions → a.tables ≡ b.tables
-    → a.memories ≡ b.memories
-    → a.globals ≡ b.globals → a.exports ≡ b.exports → a.start ≡ b.start → a.elems ≡ b.elems → a.codes ≡ b.codes
-    → a.datas ≡ b.datas → a.customs ≡ b.customs
-    → a ≡ b
-same a b e1 e2 e3 e4 e5 e6 e7 e8 e9 e10 e11 e0 = λ i. record {
-  types = e1 i;
-  imports = e2 i;
-  functions = e3 i;
-  tables = e4 i;
-  memories = e5 i;
-  globals = e6 i;
-  exports = e7 i;
-  start = e8 i;
-  elems = e9 i;
-  codes = e10 i;
-  datas = e11 i;
-  customs = e0 i;
-}
-
 pub drafted : (sections : List Section) → AreInOrder 0 sections
     → module_of_draft (draft_with_all sections empty_draft) ≡ module_of sections
-drafted sections order = ap module_of_draft (same (draft_with_all sections empty_draft) (held_by sections)
-    (upto 1 (λ d. d.types) types_in types (omega arith) 0 sections (omega arith) order empty_draft refl)
-    (upto 2 (λ d. d.imports) imports_in imports (omega arith) 0 sections (omega arith) order empty_draft refl)
-    (upto 3 (λ d. d.functions) functions_in functions (omega arith) 0 sections (omega arith) order empty_draft refl)
-    (upto 4 (λ d. d.tables) tables_in tables (omega arith) 0 sections (omega arith) order empty_draft refl)
-    (upto 5 (λ d. d.memories) memories_in memories (omega arith) 0 sections (omega arith) order empty_draft refl)
-    (upto 6 (λ d. d.globals) globals_in globals (omega arith) 0 sections (omega arith) order empty_draft refl)
-    (upto 7 (λ d. d.exports) exports_in exports (omega arith) 0 sections (omega arith) order empty_draft refl)
-    (sym (first_start (draft_with_all sections empty_draft).start)
-    ∙ ap first_of (upto 8 (λ d. option_to_list d.start) starts_in starts (omega arith) 0 sections (omega arith) order
-    empty_draft refl))
-    (upto 9 (λ d. d.elems) elems_in elems (omega arith) 0 sections (omega arith) order empty_draft refl)
-    (upto 10 (λ d. d.codes) codes_in codes (omega arith) 0 sections (omega arith) order empty_draft refl)
-    (upto 11 (λ d. d.datas) datas_in datas (omega arith) 0 sections (omega arith) order empty_draft refl)
-    (customs sections empty_draft))
+drafted sections order = λ i. option_map (λ funcs. record {
+  types = held 1 (λ d. d.parts.types) types_in types (omega arith) refl i;
+  imports = held 2 (λ d. d.parts.imports) imports_in imports (omega arith) refl i;
+  funcs = funcs;
+  tables = held 4 (λ d. d.parts.tables) tables_in tables (omega arith) refl i;
+  memories = held 5 (λ d. d.parts.memories) memories_in memories (omega arith) refl i;
+  globals = held 6 (λ d. d.parts.globals) globals_in globals (omega arith) refl i;
+  exports = held 7 (λ d. d.parts.exports) exports_in exports (omega arith) refl i;
+  start = start i;
+  elems = held 9 (λ d. d.parts.elems) elems_in elems (omega arith) refl i;
+  datas = held 11 (λ d. d.parts.datas) datas_in datas (omega arith) refl i;
+  customs = customs sections empty_draft i;
+}) (funcs_of (held 3 (λ d. d.functions) functions_in functions (omega arith) refl i)
+    (held 10 (λ d. d.codes) codes_in codes (omega arith) refl i))
+  where
+    held : {A : Type 0} (id : ℕ) (get : Draft → List A) (held_in : Section → List A) → IsPart id get held_in → 0 < id
+        → get empty_draft ≡ [] → get (draft_with_all sections empty_draft) ≡ flat_map held_in sections
+    held id get held_in part some empty = upto id get held_in part some 0 sections some order empty_draft empty
+
+    start : (draft_with_all sections empty_draft).parts.start ≡ first_of (flat_map starts_in sections)
+    start =
+        sym (first_start (draft_with_all sections empty_draft).parts.start)
+        ∙ ap first_of (held 8 (λ d. option_to_list d.parts.start) starts_in starts (omega arith) refl)

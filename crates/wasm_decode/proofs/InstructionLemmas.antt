@@ -6,9 +6,9 @@ use Rattle.std.specs.Prelude.{option_map, option_and_then}
 use Rattle.wasm_syntax.specs.declared.forms.Form.{Form}
 use Rattle.wasm_syntax.specs.declared.instructions.Instr.{Instr}
 use Rattle.wasm_syntax.specs.Encoding.Readers.{first_instr, first_instrs, open_after}
-use Rattle.wasm_decode.specs.declared.unread.Unread.{Unread}
-use Rattle.wasm_decode.specs.declared.unread.Unread.TheVariants.{NotThere, Memory}
-use Rattle.wasm_decode.specs.ReadResults.{Misses}
+use Rattle.leb_bytes.specs.declared.unread.Unread.{Unread}
+use Rattle.leb_bytes.specs.declared.unread.Unread.TheVariants.{NotThere, Memory}
+use Rattle.leb_bytes.specs.ReadResults.{Misses}
 use Rattle.wasm_decode.proofs.ItemLemmas.{with_front, regroup}
 
 -- while a block is open another instruction is read

@@ -3,9 +3,9 @@ use Rattle.std.proofs.Common.{◌≡◌, ℕ, suc, ◌-◌, ◌+◌, ◌≤◌, 
 use Rattle.std.proofs.lemmas.List.{append-nil}
 use Rattle.std.specs.Prelude.{option_map}
 use Rattle.wasm_syntax.specs.Encoding.Combinators.{Reader, first_items}
-use Rattle.wasm_decode.specs.declared.unread.Unread.{Unread}
-use Rattle.wasm_decode.specs.declared.unread.Unread.TheVariants.{NotThere, Memory}
-use Rattle.wasm_decode.specs.ReadResults.{Misses}
+use Rattle.leb_bytes.specs.declared.unread.Unread.{Unread}
+use Rattle.leb_bytes.specs.declared.unread.Unread.TheVariants.{NotThere, Memory}
+use Rattle.leb_bytes.specs.ReadResults.{Misses}
 
 -- what was read before, and what is still read
 abbrev pub with_front : {A : Type 0} → List A → Option (List A × List ℕ) → Option (List A × List ℕ)

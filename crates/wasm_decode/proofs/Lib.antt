@@ -7,7 +7,6 @@ pub mod SectionLemmas
 pub mod ItemLemmas
 pub mod Segments
 pub mod RestLengths
-pub mod ByteLemmas
 pub mod NameLemmas
 pub mod ModuleLemmas
 pub mod FuncLemmas

@@ -1,5 +1,5 @@
 -- What opcodes say to read: nothing between those that have an instruction, and three of the control instructions.
-use Rattle.std.proofs.Common.{◌≡◌, ◌≢◌, ℕ, ◌<◌, List, ◌∷◌, Option, Some, None, Result, refl, ap, sym, ◌∙◌, subst, inl, inr, arith}
+use Rattle.std.proofs.Common.{◌≡◌, ◌≢◌, ℕ, zero, suc, ◌+◌, ◌<◌, ◌≤◌, List, ◌∷◌, Option, Some, None, Result, refl, ap, sym, ◌∙◌, subst, inl, inr, arith}
 use Rattle.std.specs.Prelude.{option_and_then, option_map}
 use Rattle.std.proofs.lemmas.Bool.{cases_eq}
 use Rattle.wasm_syntax.specs.declared.forms.Form.{Form}
@@ -9,8 +9,8 @@ use Rattle.leb_bytes.specs.Unsigned.{first_u32}
 use Rattle.wasm_syntax.specs.declared.instructions.Instr.TheVariants.{BrIf, BrTable, Return}
 use Rattle.wasm_syntax.specs.Encoding.Combinators.{Reader, by_mark, first_then, map_read}
 use Rattle.wasm_syntax.specs.Encoding.Readers.{first_indices, instr_at}
-use Rattle.wasm_decode.specs.declared.unread.Unread.{Unread}
-use Rattle.wasm_decode.specs.ReadResults.{Gives}
+use Rattle.leb_bytes.specs.declared.unread.Unread.{Unread}
+use Rattle.leb_bytes.specs.ReadResults.{Gives}
 
 abbrev IsGap : ℕ → Type 0
 IsGap op = (form : Form) → instr_at form op ≡ None
@@ -64,47 +64,30 @@ nothing form op n bytes is gap =
     ap (λ (choice : Option (Reader Instr)). option_and_then (λ (read : Reader Instr). read bytes) choice)
     (ap (instr_at form) is ∙ gap form)
 
+-- this many opcodes from one on
+abbrev AreGaps : (count from : ℕ) → Type 0
+AreGaps zero from = Unit {0}
+AreGaps (suc count) from = IsGap from × AreGaps count (suc from)
+
+nothing_among : (count from : ℕ) → AreGaps count from → (form : Form) (op : ℕ) (bytes : List ℕ) → from ≤ op
+    → op < from + count → by_mark (instr_at form) (op ∷ bytes) ≡ None
+nothing_among zero from gaps form op bytes low high = absurd (omega (arith, low, high))
+nothing_among (suc count) from gaps form op bytes low high =
+    elim (cases_eq op from) [
+      | inl e ↦ nothing form op from bytes e gaps.0
+      | inr differs ↦
+          nothing_among count (suc from) gaps.1 form op bytes (omega (arith, low, differs)) (omega (arith, high))
+    ]
+
 -- between `else` and `end`
 pub no_block : (form : Form) (op : ℕ) (bytes : List ℕ) → 5 < op → op < 11
     → by_mark (instr_at form) (op ∷ bytes) ≡ None
-no_block form op bytes low high =
-    elim (cases_eq op 6) [
-      | inl e ↦ nothing form op 6 bytes e gap_6
-      | inr n6 ↦
-          elim (cases_eq op 7) [
-            | inl e ↦ nothing form op 7 bytes e gap_7
-            | inr n7 ↦
-                elim (cases_eq op 8) [
-                  | inl e ↦ nothing form op 8 bytes e gap_8
-                  | inr n8 ↦
-                      elim (cases_eq op 9) [
-                        | inl e ↦ nothing form op 9 bytes e gap_9
-                        | inr n9 ↦
-                            let last : op ≡ 10 = omega (arith, low, high, n6, n7, n8, n9) in
-                            nothing form op 10 bytes last gap_10
-                      ]
-                ]
-          ]
-    ]
+no_block = nothing_among 5 6 (gap_6, (gap_7, (gap_8, (gap_9, (gap_10, tt)))))
 
 -- between `select` and `local.get`
 pub no_parametric : (form : Form) (op : ℕ) (bytes : List ℕ) → 27 < op → op < 32
     → by_mark (instr_at form) (op ∷ bytes) ≡ None
-no_parametric form op bytes low high =
-    elim (cases_eq op 28) [
-      | inl e ↦ nothing form op 28 bytes e gap_28
-      | inr n28 ↦
-          elim (cases_eq op 29) [
-            | inl e ↦ nothing form op 29 bytes e gap_29
-            | inr n29 ↦
-                elim (cases_eq op 30) [
-                  | inl e ↦ nothing form op 30 bytes e gap_30
-                  | inr n30 ↦
-                      let last : op ≡ 31 = omega (arith, low, high, n28, n29, n30) in
-                      nothing form op 31 bytes last gap_31
-                ]
-          ]
-    ]
+no_parametric = nothing_among 4 28 (gap_28, (gap_29, (gap_30, (gap_31, tt))))
 
 -- between `global.set` and `i32.load`, but for `table.set`
 pub no_table : (form : Form) (op : ℕ) (bytes : List ℕ) → 36 < op → op < 40 → op ≢ 38

@@ -8,8 +8,8 @@ use Rattle.wasm_syntax.specs.Encoding.Combinators.{Reader, Rows, row_at, first_s
 use Rattle.wasm_syntax.specs.Encoding.Readers.{first_code, first_elem}
 use Rattle.wasm_syntax.specs.Encoding.ReadModules.{first_section, section_rows}
 use Rattle.wasm_syntax.specs.Encoding.Sections.{Section, CodeSection, ElementSection}
-use Rattle.wasm_decode.specs.declared.unread.Unread.{Unread}
-use Rattle.wasm_decode.specs.ReadResults.{Gives}
+use Rattle.leb_bytes.specs.declared.unread.Unread.{Unread}
+use Rattle.leb_bytes.specs.ReadResults.{Gives}
 
 -- ---- the last ids
 
@@ -27,19 +27,24 @@ codes_at : (form : Form) (bytes : List ℕ) → first_section form (SECTION_CODE
 unfolding first_section
 codes_at form bytes = refl
 
+-- what is read after the mark of a section
+gives_after : {A : Type 0} (view : A → Section × List ℕ) (result : Result A Unread) (form : Form)
+    (mark : ℕ) (read : Reader Section) → ((bytes : List ℕ) → first_section form (mark ∷ bytes) ≡ read bytes)
+    → (id : ℕ) (bytes all : List ℕ) → all ≡ id ∷ bytes → id ≡ mark → Gives view result (read bytes)
+    → Gives view result (first_section form all)
+gives_after view result form mark read reads id bytes all are is gives =
+    subst (Gives view result)
+    (sym (ap (first_section form) (are ∙ ap (λ (n : ℕ). n ∷ bytes) is) ∙ reads bytes)) gives
+
 pub gives_elements : {A : Type 0} (view : A → Section × List ℕ) (result : Result A Unread) (form : Form) (id : ℕ)
     (bytes all : List ℕ) → all ≡ id ∷ bytes → id ≡ SECTION_ELEMENT → Gives view result (elements form bytes)
     → Gives view result (first_section form all)
-gives_elements view result form id bytes all are is gives =
-    subst (Gives view result)
-    (sym (ap (first_section form) (are ∙ ap (λ (n : ℕ). n ∷ bytes) is) ∙ elements_at form bytes)) gives
+gives_elements view result form = gives_after view result form SECTION_ELEMENT (elements form) (elements_at form)
 
 pub gives_codes : {A : Type 0} (view : A → Section × List ℕ) (result : Result A Unread) (form : Form) (id : ℕ)
     (bytes all : List ℕ) → all ≡ id ∷ bytes → id ≡ SECTION_CODE → Gives view result (codes form bytes)
     → Gives view result (first_section form all)
-gives_codes view result form id bytes all are is gives =
-    subst (Gives view result)
-    (sym (ap (first_section form) (are ∙ ap (λ (n : ℕ). n ∷ bytes) is) ∙ codes_at form bytes)) gives
+gives_codes view result form = gives_after view result form SECTION_CODE (codes form) (codes_at form)
 
 -- ---- past them
 

@@ -1,5 +1,6 @@
 -- A module under construction: what the sections that were read so far hold.
-use Rattle.std.specs.Prelude.{ℕ, List, [], ◌∷◌, ◌++◌, Option, Some, None, option_map}
+use Rattle.std.specs.Prelude.{ℕ, List, [], ◌∷◌, ◌++◌, Option, Some, option_map}
+use Rattle.wasm_syntax.specs.EmptyModule.{empty_module}
 use Rattle.wasm_syntax.specs.Encoding.Sections as grammar
 use Rattle.wasm_syntax.specs.Encoding.Sections.{CustomSection, TypeSection, ImportSection, FunctionSection, TableSection, MemorySection, GlobalSection, ExportSection, StartSection, ElementSection, CodeSection, DataSection}
 use Rattle.wasm_syntax.specs.Encoding.ReadModules.{funcs_of}
@@ -26,35 +27,27 @@ section_of (read.Data datas) = DataSection datas
 
 -- what is there before any section
 abbrev pub empty_draft : Draft
-empty_draft = record {
-  types = [];
-  imports = [];
-  functions = [];
-  tables = [];
-  memories = [];
-  globals = [];
-  exports = [];
-  start = None;
-  elems = [];
-  codes = [];
-  datas = [];
-  customs = [];
-}
+empty_draft = record { parts = empty_module; functions = []; codes = [] }
+
+-- with other parts beside the functions
+abbrev with_parts : Draft → Module → Draft
+with_parts draft parts = record draft { parts = parts }
 
 -- with a section: a custom one after the others, any other in its place
 abbrev pub draft_with : grammar.Section → Draft → Draft
-draft_with (CustomSection custom) draft = record draft { customs = draft.customs ++ custom ∷ [] }
-draft_with (TypeSection types) draft = record draft { types = types }
-draft_with (ImportSection imports) draft = record draft { imports = imports }
+draft_with (CustomSection custom) draft =
+    with_parts draft (record draft.parts { customs = draft.parts.customs ++ custom ∷ [] })
+draft_with (TypeSection types) draft = with_parts draft (record draft.parts { types = types })
+draft_with (ImportSection imports) draft = with_parts draft (record draft.parts { imports = imports })
 draft_with (FunctionSection types) draft = record draft { functions = types }
-draft_with (TableSection tables) draft = record draft { tables = tables }
-draft_with (MemorySection memories) draft = record draft { memories = memories }
-draft_with (GlobalSection globals) draft = record draft { globals = globals }
-draft_with (ExportSection exports) draft = record draft { exports = exports }
-draft_with (StartSection func) draft = record draft { start = Some func }
-draft_with (ElementSection elems) draft = record draft { elems = elems }
+draft_with (TableSection tables) draft = with_parts draft (record draft.parts { tables = tables })
+draft_with (MemorySection memories) draft = with_parts draft (record draft.parts { memories = memories })
+draft_with (GlobalSection globals) draft = with_parts draft (record draft.parts { globals = globals })
+draft_with (ExportSection exports) draft = with_parts draft (record draft.parts { exports = exports })
+draft_with (StartSection func) draft = with_parts draft (record draft.parts { start = Some func })
+draft_with (ElementSection elems) draft = with_parts draft (record draft.parts { elems = elems })
 draft_with (CodeSection codes) draft = record draft { codes = codes }
-draft_with (DataSection datas) draft = record draft { datas = datas }
+draft_with (DataSection datas) draft = with_parts draft (record draft.parts { datas = datas })
 
 -- with sections, one after another
 abbrev pub draft_with_all : List grammar.Section → Draft → Draft
@@ -63,19 +56,7 @@ draft_with_all (section ∷ sections) draft = draft_with_all sections (draft_wit
 
 -- the module of a draft; none where the functions and the code sections differ in number
 abbrev pub module_from : Draft → List Func → Module
-module_from draft funcs = record {
-  types = draft.types;
-  imports = draft.imports;
-  funcs = funcs;
-  tables = draft.tables;
-  memories = draft.memories;
-  globals = draft.globals;
-  exports = draft.exports;
-  start = draft.start;
-  elems = draft.elems;
-  datas = draft.datas;
-  customs = draft.customs;
-}
+module_from draft funcs = record draft.parts { funcs = funcs }
 
 abbrev pub module_of_draft : Draft → Option Module
 module_of_draft draft = option_map (module_from draft) (funcs_of draft.functions draft.codes)

@@ -1,3 +1,2 @@
 pub mod DecodeResults
 pub mod Drafts
-pub mod ReadResults

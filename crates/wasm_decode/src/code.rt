@@ -2,13 +2,12 @@
 
 ghost use Rattle.std.specs.Prelude.{◌≡◌};
 ghost use Rattle.wasm_syntax.specs.Encoding.Readers.{first_code};
-ghost use Rattle.wasm_decode.specs.ReadResults.{Gives};
+ghost use Rattle.leb_bytes.specs.ReadResults.{Gives};
 
 use crate::expressions::first_expr;
 use crate::locals::first_locals;
-use crate::unread::Unread;
-use crate::values::first_sized;
-use crate::vectors::Kind;
+use crate::values::{Read, first_sized};
+use leb_bytes::Unread;
 use std::alloc::Global;
 use std::marker::Model;
 use wasm_syntax::{Body, Form, Runs};
@@ -41,11 +40,7 @@ impl CodeItem {
 
 /// The locals and the body of a function, in as many bytes as their size says.
 #[tactic(auto, unfolding(wasm_syntax::specs::Encoding::Readers::first_code))]
-pub(crate) fn first_code(
-    alloc: Global,
-    form: Form,
-    bytes: &[u8],
-) -> Result<(CodeItem, &[u8]), Unread>
+pub(crate) fn first_code(alloc: Global, form: Form, bytes: &[u8]) -> Read<'_, CodeItem>
     ensures { Gives (λ read. (read.0, read.1.now)) result (first_code form bytes.now) }
 {
     let (content, rest) = first_sized(bytes)?;
@@ -55,14 +50,4 @@ pub(crate) fn first_code(
         return Err(Unread::NotThere);
     }
     Ok((CodeItem { locals, body }, rest))
-}
-
-impl Kind for CodeItem {
-    type Item = CodeItem;
-
-    ghost first = { first_code };
-
-    fn first(alloc: Global, form: Form, bytes: &[u8]) -> Result<(CodeItem, &[u8]), Unread> {
-        first_code(alloc, form, bytes)
-    }
 }

@@ -2,16 +2,17 @@
 
 ghost use Rattle.std.specs.Prelude.{◌≢◌, [], reverse};
 ghost use Rattle.wasm_syntax.specs.Encoding.Readers.{first_expr, open_after};
-ghost use Rattle.wasm_decode.specs.ReadResults.{Gives};
+ghost use Rattle.leb_bytes.specs.ReadResults.{Gives};
 
 use crate::instructions::first_instr;
-use crate::unread::Unread;
+use crate::values::Read;
+use leb_bytes::Unread;
 use std::alloc::Global;
 use wasm_syntax::{Body, Form, Instr};
 
 /// An expression: instructions up to its own `End`.
 #[tactic(auto, unfolding(wasm_syntax::specs::Encoding::Readers::first_expr))]
-pub(crate) fn first_expr(alloc: Global, form: Form, bytes: &[u8]) -> Result<(Body, &[u8]), Unread>
+pub(crate) fn first_expr(alloc: Global, form: Form, bytes: &[u8]) -> Read<'_, Body>
     ensures { Gives (λ read. (read.0, read.1.now)) result (first_expr form bytes.now) }
 {
     let mut instrs = Vec::new(alloc);

@@ -6,13 +6,13 @@ ghost use Rattle.wasm_syntax.specs.Encoding.Combinators.{by_mark, first_exactly,
 ghost use Rattle.wasm_syntax.specs.Encoding.Readers.{first_indices, first_instr, instr_at, const, mem_arg, prefixed_rows};
 ghost use Rattle.wasm_syntax.specs.declared.forms.Form.TheVariants.{Core, Replay};
 ghost use Rattle.wasm_syntax.specs.declared.instructions.Instr.TheVariants.{BrTable};
-ghost use Rattle.wasm_decode.specs.ReadResults.{Gives};
+ghost use Rattle.leb_bytes.specs.ReadResults.{Gives};
 ghost use Rattle.wasm_opcodes.specs.declared.TheConstants.{BR, ELSE, END, F64_CONST, GLOBAL_SET, I32_LOAD, I64_EXTEND32_S, LOCAL_GET, MEMORY_COPY, MEMORY_FILL, MEMORY_SIZE, PREFIX, SELECT, TABLE_SET};
 
 use crate::types::first_block_type;
-use crate::unread::Unread;
-use crate::values::{first_byte, first_f32, first_f64, first_i32, first_i64, first_u32};
+use crate::values::{Read, first_byte, first_f32, first_f64, first_i32, first_i64, first_u32};
 use crate::vectors::first_vector;
+use leb_bytes::Unread;
 use std::alloc::Global;
 use wasm_opcodes::marks::TYPE_FUNCREF;
 use wasm_opcodes::{
@@ -45,7 +45,7 @@ const RESERVED: u8 = 0x00;
 
 /// An instruction; `Else` and `End` are read as such.
 #[tactic(auto, unfolding(wasm_syntax::specs::Encoding::Readers::first_instr))]
-pub(crate) fn first_instr(alloc: Global, form: Form, bytes: &[u8]) -> Result<(Instr, &[u8]), Unread>
+pub(crate) fn first_instr(alloc: Global, form: Form, bytes: &[u8]) -> Read<'_, Instr>
     ensures { Gives (λ read. (read.0, read.1.now)) result (first_instr form bytes.now) }
 {
     let (op, rest) = first_byte(bytes)?;
@@ -72,7 +72,7 @@ pub(crate) fn first_instr(alloc: Global, form: Form, bytes: &[u8]) -> Result<(In
 }
 
 /// No instruction has an opcode between those of `select` and `local.get`.
-fn no_parametric_instr(form: Form, op: u8, bytes: &[u8]) -> Result<(Instr, &[u8]), Unread>
+fn no_parametric_instr(form: Form, op: u8, bytes: &[u8]) -> Read<'_, Instr>
     requires low { SELECT < op }
     requires high { op < LOCAL_GET }
     ensures { Gives (λ read. (read.0, read.1.now)) result (by_mark (instr_at form) (op ∷ bytes.now)) }
@@ -81,7 +81,7 @@ fn no_parametric_instr(form: Form, op: u8, bytes: &[u8]) -> Result<(Instr, &[u8]
 }
 
 /// The operand of the load or store of an opcode (Core 1.0, 5.4.4).
-fn mem_arg_of(op: u8, bytes: &[u8]) -> Result<(MemArg, &[u8]), Unread>
+fn mem_arg_of(op: u8, bytes: &[u8]) -> Read<'_, MemArg>
     ensures { Gives (λ read. (read.0, read.1.now)) result
         (map_read (mem_arg op) (first_then first_u32 first_u32) bytes.now) }
 {
@@ -91,7 +91,7 @@ fn mem_arg_of(op: u8, bytes: &[u8]) -> Result<(MemArg, &[u8]), Unread>
 }
 
 /// No instruction has an opcode between those of `else` and `end`.
-fn no_block_instr(form: Form, op: u8, bytes: &[u8]) -> Result<(Instr, &[u8]), Unread>
+fn no_block_instr(form: Form, op: u8, bytes: &[u8]) -> Read<'_, Instr>
     requires low { ELSE < op }
     requires high { op < END }
     ensures { Gives (λ read. (read.0, read.1.now)) result (by_mark (instr_at form) (op ∷ bytes.now)) }
@@ -100,7 +100,7 @@ fn no_block_instr(form: Form, op: u8, bytes: &[u8]) -> Result<(Instr, &[u8]), Un
 }
 
 /// The instruction of an opcode up to that of `else`.
-fn block_instr(form: Form, op: u8, bytes: &[u8]) -> Result<(Instr, &[u8]), Unread>
+fn block_instr(form: Form, op: u8, bytes: &[u8]) -> Read<'_, Instr>
     requires { op ≤ ELSE }
     ensures { Gives (λ read. (read.0, read.1.now)) result (by_mark (instr_at form) (op ∷ bytes.now)) }
 {
@@ -125,7 +125,7 @@ fn block_instr(form: Form, op: u8, bytes: &[u8]) -> Result<(Instr, &[u8]), Unrea
 
 /// The operands of `br_table`.
 #[tactic(auto, unfolding(wasm_syntax::specs::Encoding::Readers::first_indices))]
-fn br_table_instr(alloc: Global, form: Form, bytes: &[u8]) -> Result<(Instr, &[u8]), Unread>
+fn br_table_instr(alloc: Global, form: Form, bytes: &[u8]) -> Read<'_, Instr>
     ensures { Gives (λ read. (read.0, read.1.now)) result
         (map_read (λ labels. BrTable labels.0 labels.1) (first_then first_indices first_u32) bytes.now) }
 {
@@ -135,7 +135,7 @@ fn br_table_instr(alloc: Global, form: Form, bytes: &[u8]) -> Result<(Instr, &[u
 }
 
 /// The instruction of an opcode from that of `br` to that of `select`.
-fn control_instr(alloc: Global, form: Form, op: u8, bytes: &[u8]) -> Result<(Instr, &[u8]), Unread>
+fn control_instr(alloc: Global, form: Form, op: u8, bytes: &[u8]) -> Read<'_, Instr>
     requires low { BR ≤ op }
     requires high { op ≤ SELECT }
     ensures { Gives (λ read. (read.0, read.1.now)) result (by_mark (instr_at form) (op ∷ bytes.now)) }
@@ -166,7 +166,7 @@ fn control_instr(alloc: Global, form: Form, op: u8, bytes: &[u8]) -> Result<(Ins
 }
 
 /// The instruction of an opcode from that of `local.get` to that of `global.set`.
-fn variable_instr(form: Form, op: u8, bytes: &[u8]) -> Result<(Instr, &[u8]), Unread>
+fn variable_instr(form: Form, op: u8, bytes: &[u8]) -> Read<'_, Instr>
     requires low { LOCAL_GET ≤ op }
     requires high { op ≤ GLOBAL_SET }
     ensures { Gives (λ read. (read.0, read.1.now)) result (by_mark (instr_at form) (op ∷ bytes.now)) }
@@ -182,7 +182,7 @@ fn variable_instr(form: Form, op: u8, bytes: &[u8]) -> Result<(Instr, &[u8]), Un
 }
 
 /// The instruction of an opcode from that of `memory.size` to that of `f64.const`.
-fn constant_instr(form: Form, op: u8, bytes: &[u8]) -> Result<(Instr, &[u8]), Unread>
+fn constant_instr(form: Form, op: u8, bytes: &[u8]) -> Read<'_, Instr>
     requires low { MEMORY_SIZE ≤ op }
     requires high { op ≤ F64_CONST }
     ensures { Gives (λ read. (read.0, read.1.now)) result (by_mark (instr_at form) (op ∷ bytes.now)) }
@@ -210,7 +210,7 @@ fn constant_instr(form: Form, op: u8, bytes: &[u8]) -> Result<(Instr, &[u8]), Un
 }
 
 /// The instruction of an opcode between those of `global.set` and `i32.load`: `table.set` alone.
-fn table_instr(form: Form, op: u8, bytes: &[u8]) -> Result<(Instr, &[u8]), Unread>
+fn table_instr(form: Form, op: u8, bytes: &[u8]) -> Read<'_, Instr>
     requires low { GLOBAL_SET < op }
     requires high { op < I32_LOAD }
     ensures { Gives (λ read. (read.0, read.1.now)) result (by_mark (instr_at form) (op ∷ bytes.now)) }
@@ -222,7 +222,7 @@ fn table_instr(form: Form, op: u8, bytes: &[u8]) -> Result<(Instr, &[u8]), Unrea
 }
 
 /// The instruction of the opcode of `table.set`, which the replay form alone has.
-fn table_set_instr(form: Form, bytes: &[u8]) -> Result<(Instr, &[u8]), Unread>
+fn table_set_instr(form: Form, bytes: &[u8]) -> Read<'_, Instr>
     ensures { Gives (λ read. (read.0, read.1.now)) result
         (by_mark (instr_at form) (TABLE_SET ∷ bytes.now)) }
 {
@@ -236,7 +236,7 @@ fn table_set_instr(form: Form, bytes: &[u8]) -> Result<(Instr, &[u8]), Unread>
 }
 
 /// The instruction of an opcode after those of the numeric instructions.
-fn late_instr(form: Form, op: u8, bytes: &[u8]) -> Result<(Instr, &[u8]), Unread>
+fn late_instr(form: Form, op: u8, bytes: &[u8]) -> Read<'_, Instr>
     requires { I64_EXTEND32_S < op }
     ensures { Gives (λ read. (read.0, read.1.now)) result (by_mark (instr_at form) (op ∷ bytes.now)) }
 {
@@ -250,7 +250,7 @@ fn late_instr(form: Form, op: u8, bytes: &[u8]) -> Result<(Instr, &[u8]), Unread
 }
 
 /// The core form has no instruction after the numeric ones but those of the prefix.
-fn no_core_instr(op: u8, bytes: &[u8]) -> Result<(Instr, &[u8]), Unread>
+fn no_core_instr(op: u8, bytes: &[u8]) -> Read<'_, Instr>
     requires late { I64_EXTEND32_S < op }
     requires plain { op ≢ PREFIX }
     ensures { Gives (λ read. (read.0, read.1.now)) result (by_mark (instr_at Core) (op ∷ bytes.now)) }
@@ -259,7 +259,7 @@ fn no_core_instr(op: u8, bytes: &[u8]) -> Result<(Instr, &[u8]), Unread>
 }
 
 /// The instruction of an opcode after those of the numeric instructions, in the replay form; none of the prefix.
-fn reference_instr(op: u8, bytes: &[u8]) -> Result<(Instr, &[u8]), Unread>
+fn reference_instr(op: u8, bytes: &[u8]) -> Read<'_, Instr>
     requires late { I64_EXTEND32_S < op }
     requires plain { op ≢ PREFIX }
     ensures { Gives (λ read. (read.0, read.1.now)) result (by_mark (instr_at Replay) (op ∷ bytes.now)) }
@@ -275,7 +275,7 @@ fn reference_instr(op: u8, bytes: &[u8]) -> Result<(Instr, &[u8]), Unread>
 }
 
 /// The instruction of the prefix and the number after it (Core 2.0, 5.4.5 and 5.4.6).
-fn prefixed_instr(form: Form, bytes: &[u8]) -> Result<(Instr, &[u8]), Unread>
+fn prefixed_instr(form: Form, bytes: &[u8]) -> Read<'_, Instr>
     ensures { Gives (λ read. (read.0, read.1.now)) result
         (by_mark (instr_at form) (PREFIX ∷ bytes.now)) }
 {
@@ -284,7 +284,7 @@ fn prefixed_instr(form: Form, bytes: &[u8]) -> Result<(Instr, &[u8]), Unread>
 }
 
 /// The instruction of a number after the prefix.
-fn numbered_instr(form: Form, number: u32, bytes: &[u8]) -> Result<(Instr, &[u8]), Unread>
+fn numbered_instr(form: Form, number: u32, bytes: &[u8]) -> Read<'_, Instr>
     ensures { Gives (λ read. (read.0, read.1.now)) result
         (option_and_then (λ read. read bytes.now) (row_at (prefixed_rows form) number)) }
 {
@@ -296,7 +296,7 @@ fn numbered_instr(form: Form, number: u32, bytes: &[u8]) -> Result<(Instr, &[u8]
 }
 
 /// The instruction of another number after the prefix: the replay form alone has some.
-fn numbered_table_instr(form: Form, number: u32, bytes: &[u8]) -> Result<(Instr, &[u8]), Unread>
+fn numbered_table_instr(form: Form, number: u32, bytes: &[u8]) -> Read<'_, Instr>
     requires no_copy { number ≢ MEMORY_COPY }
     requires no_fill { number ≢ MEMORY_FILL }
     ensures { Gives (λ read. (read.0, read.1.now)) result
@@ -309,7 +309,7 @@ fn numbered_table_instr(form: Form, number: u32, bytes: &[u8]) -> Result<(Instr,
 }
 
 /// The instruction of another number after the prefix, in the replay form.
-fn replay_table_instr(number: u32, bytes: &[u8]) -> Result<(Instr, &[u8]), Unread>
+fn replay_table_instr(number: u32, bytes: &[u8]) -> Read<'_, Instr>
     requires no_copy { number ≢ MEMORY_COPY }
     requires no_fill { number ≢ MEMORY_FILL }
     ensures { Gives (λ read. (read.0, read.1.now)) result

@@ -5,14 +5,14 @@ ghost use Rattle.wasm_syntax.specs.Encoding.Combinators.{map_read, by_mark, firs
 ghost use Rattle.wasm_syntax.specs.Encoding.Readers.{first_indices, first_import_kind, first_import, first_global, first_export_kind, first_export, first_expr, active_of, first_elem, first_data};
 ghost use Rattle.wasm_syntax.specs.declared.modules.ElemSeg.TheVariants.{Declared};
 ghost use Rattle.wasm_syntax.specs.Encoding.ReadModules.{custom_of};
-ghost use Rattle.wasm_decode.specs.ReadResults.{Gives};
+ghost use Rattle.leb_bytes.specs.ReadResults.{Gives};
 ghost use Rattle.wasm_opcodes.specs.declared.marks.TheConstants.{ELEMENT_FUNCS};
 
 use crate::expressions::first_expr;
 use crate::types::{first_global_type, first_limits, first_table_type};
-use crate::unread::Unread;
-use crate::values::{copy_of, first_byte, first_bytes, first_name, first_sized, first_u32};
-use crate::vectors::{Kind, first_vector};
+use crate::values::{Read, copy_of, first_byte, first_bytes, first_name, first_sized, first_u32};
+use crate::vectors::first_vector;
+use leb_bytes::Unread;
 use std::alloc::Global;
 use wasm_opcodes::marks::{
     ELEMENT_DECLARED, ELEMENT_FUNCS, EXTERNAL_FUNC, EXTERNAL_GLOBAL, EXTERNAL_MEMORY,
@@ -27,7 +27,7 @@ const DECLARED: u32 = ELEMENT_DECLARED as u32;
 
 /// What an import brings in (Core 1.0, 5.5.5).
 #[tactic(auto, unfolding(wasm_syntax::specs::Encoding::Readers::first_import_kind))]
-pub(crate) fn first_import_kind(bytes: &[u8]) -> Result<(ImportKind, &[u8]), Unread>
+pub(crate) fn first_import_kind(bytes: &[u8]) -> Read<'_, ImportKind>
     ensures { Gives (λ read. (read.0, read.1.now)) result (first_import_kind bytes.now) }
 {
     let (mark, rest) = first_byte(bytes)?;
@@ -54,7 +54,7 @@ pub(crate) fn first_import_kind(bytes: &[u8]) -> Result<(ImportKind, &[u8]), Unr
 
 /// An import (Core 1.0, 5.5.5).
 #[tactic(auto, unfolding(wasm_syntax::specs::Encoding::Readers::first_import))]
-pub(crate) fn first_import(alloc: Global, bytes: &[u8]) -> Result<(Import, &[u8]), Unread>
+pub(crate) fn first_import(alloc: Global, bytes: &[u8]) -> Read<'_, Import>
     ensures { Gives (λ read. (read.0, read.1.now)) result (first_import bytes.now) }
 {
     let (module, rest) = first_name(alloc, bytes)?;
@@ -65,11 +65,7 @@ pub(crate) fn first_import(alloc: Global, bytes: &[u8]) -> Result<(Import, &[u8]
 
 /// A global (Core 1.0, 5.5.9).
 #[tactic(auto, unfolding(wasm_syntax::specs::Encoding::Readers::first_global))]
-pub(crate) fn first_global(
-    alloc: Global,
-    form: Form,
-    bytes: &[u8],
-) -> Result<(GlobalItem, &[u8]), Unread>
+pub(crate) fn first_global(alloc: Global, form: Form, bytes: &[u8]) -> Read<'_, GlobalItem>
     ensures { Gives (λ read. (read.0, read.1.now)) result (first_global form bytes.now) }
 {
     let (ty, rest) = first_global_type(bytes)?;
@@ -79,7 +75,7 @@ pub(crate) fn first_global(
 
 /// What an export names (Core 1.0, 5.5.10).
 #[tactic(auto, unfolding(wasm_syntax::specs::Encoding::Readers::first_export_kind))]
-pub(crate) fn first_export_kind(bytes: &[u8]) -> Result<(ExportKind, &[u8]), Unread>
+pub(crate) fn first_export_kind(bytes: &[u8]) -> Read<'_, ExportKind>
     ensures { Gives (λ read. (read.0, read.1.now)) result (first_export_kind bytes.now) }
 {
     let (mark, rest) = first_byte(bytes)?;
@@ -98,7 +94,7 @@ pub(crate) fn first_export_kind(bytes: &[u8]) -> Result<(ExportKind, &[u8]), Unr
 
 /// An export (Core 1.0, 5.5.10).
 #[tactic(auto, unfolding(wasm_syntax::specs::Encoding::Readers::first_export))]
-pub(crate) fn first_export(alloc: Global, bytes: &[u8]) -> Result<(Export, &[u8]), Unread>
+pub(crate) fn first_export(alloc: Global, bytes: &[u8]) -> Read<'_, Export>
     ensures { Gives (λ read. (read.0, read.1.now)) result (first_export bytes.now) }
 {
     let (name, rest) = first_name(alloc, bytes)?;
@@ -109,11 +105,7 @@ pub(crate) fn first_export(alloc: Global, bytes: &[u8]) -> Result<(Export, &[u8]
 /// An element segment (Core 1.0, 5.5.12). In the replay form it is one of table 0, or a declared
 /// one (Core 2.0, 5.5.12).
 #[tactic(auto, unfolding(wasm_syntax::specs::Encoding::Readers::first_elem))]
-pub(crate) fn first_elem(
-    alloc: Global,
-    form: Form,
-    bytes: &[u8],
-) -> Result<(ElemSeg, &[u8]), Unread>
+pub(crate) fn first_elem(alloc: Global, form: Form, bytes: &[u8]) -> Read<'_, ElemSeg>
     ensures { Gives (λ read. (read.0, read.1.now)) result (first_elem form bytes.now) }
 {
     let (kind, rest) = first_u32(bytes)?;
@@ -126,12 +118,7 @@ pub(crate) fn first_elem(
 
 /// The offset and the functions of an active segment of a table.
 #[tactic(auto, unfolding(wasm_syntax::specs::Encoding::Readers::first_indices))]
-fn active_elem(
-    alloc: Global,
-    form: Form,
-    table: u32,
-    bytes: &[u8],
-) -> Result<(ElemSeg, &[u8]), Unread>
+fn active_elem(alloc: Global, form: Form, table: u32, bytes: &[u8]) -> Read<'_, ElemSeg>
     ensures { Gives (λ read. (read.0, read.1.now)) result
         (map_read (active_of table) (first_then (first_expr form) first_indices) bytes.now) }
 {
@@ -149,7 +136,7 @@ fn active_elem(
 
 /// The functions of a declared segment, after the kind of their references.
 #[tactic(auto, unfolding(wasm_syntax::specs::Encoding::Readers::first_indices))]
-fn declared_elem(alloc: Global, form: Form, bytes: &[u8]) -> Result<(ElemSeg, &[u8]), Unread>
+fn declared_elem(alloc: Global, form: Form, bytes: &[u8]) -> Read<'_, ElemSeg>
     ensures { Gives (λ read. (read.0, read.1.now)) result
         (by_mark (row_at ((ELEMENT_FUNCS, map_read Declared first_indices) ∷ [])) bytes.now) }
 {
@@ -163,11 +150,7 @@ fn declared_elem(alloc: Global, form: Form, bytes: &[u8]) -> Result<(ElemSeg, &[
 
 /// A data segment (Core 1.0, 5.5.14).
 #[tactic(auto, unfolding(wasm_syntax::specs::Encoding::Readers::first_data))]
-pub(crate) fn first_data(
-    alloc: Global,
-    form: Form,
-    bytes: &[u8],
-) -> Result<(DataSeg, &[u8]), Unread>
+pub(crate) fn first_data(alloc: Global, form: Form, bytes: &[u8]) -> Read<'_, DataSeg>
     ensures { Gives (λ read. (read.0, read.1.now)) result (first_data form bytes.now) }
 {
     let (memory, rest) = first_u32(bytes)?;
@@ -193,59 +176,9 @@ fn custom_of(alloc: Global, bytes: &[u8]) -> Result<Custom, Unread>
 }
 
 /// A custom section, in as many bytes as its size says.
-pub(crate) fn first_custom(alloc: Global, bytes: &[u8]) -> Result<(Custom, &[u8]), Unread>
+pub(crate) fn first_custom(alloc: Global, bytes: &[u8]) -> Read<'_, Custom>
     ensures { Gives (λ read. (read.0, read.1.now)) result (first_sized custom_of bytes.now) }
 {
     let (content, rest) = first_sized(bytes)?;
     Ok((custom_of(alloc, content)?, rest))
-}
-
-impl Kind for Import {
-    type Item = Import;
-
-    ghost first = { λ _. first_import };
-
-    fn first(alloc: Global, _form: Form, bytes: &[u8]) -> Result<(Import, &[u8]), Unread> {
-        first_import(alloc, bytes)
-    }
-}
-
-impl Kind for GlobalItem {
-    type Item = GlobalItem;
-
-    ghost first = { first_global };
-
-    fn first(alloc: Global, form: Form, bytes: &[u8]) -> Result<(GlobalItem, &[u8]), Unread> {
-        first_global(alloc, form, bytes)
-    }
-}
-
-impl Kind for Export {
-    type Item = Export;
-
-    ghost first = { λ _. first_export };
-
-    fn first(alloc: Global, _form: Form, bytes: &[u8]) -> Result<(Export, &[u8]), Unread> {
-        first_export(alloc, bytes)
-    }
-}
-
-impl Kind for ElemSeg {
-    type Item = ElemSeg;
-
-    ghost first = { first_elem };
-
-    fn first(alloc: Global, form: Form, bytes: &[u8]) -> Result<(ElemSeg, &[u8]), Unread> {
-        first_elem(alloc, form, bytes)
-    }
-}
-
-impl Kind for DataSeg {
-    type Item = DataSeg;
-
-    ghost first = { first_data };
-
-    fn first(alloc: Global, form: Form, bytes: &[u8]) -> Result<(DataSeg, &[u8]), Unread> {
-        first_data(alloc, form, bytes)
-    }
 }

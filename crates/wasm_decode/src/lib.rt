@@ -7,6 +7,7 @@ mod expressions;
 mod funcs;
 mod instructions;
 mod items;
+mod kinds;
 mod locals;
 mod modules;
 #[cfg(test)]
@@ -16,7 +17,6 @@ mod sections;
 #[cfg(test)]
 mod tests;
 mod types;
-mod unread;
 mod values;
 mod vectors;
 

@@ -3,19 +3,19 @@
 ghost use Rattle.std.specs.Prelude.{◌≡◌, ◌+◌, ◌<◌, ◌≤◌, ◌^◌, List, ◌∷◌, ◌++◌, sum_by, nat_lt, IfOk};
 ghost use Rattle.wasm_syntax.specs.Encoding.Readers.{first_run, first_locals, runs_of};
 ghost use Rattle.wasm_syntax.specs.declared.modules.Run.{Run};
-ghost use Rattle.wasm_decode.specs.ReadResults.{Gives};
+ghost use Rattle.leb_bytes.specs.ReadResults.{Gives};
 
 use crate::types::first_val_type;
-use crate::unread::Unread;
-use crate::values::first_u32;
-use crate::vectors::{Kind, first_vector};
+use crate::values::{Read, first_u32};
+use crate::vectors::first_vector;
+use leb_bytes::Unread;
 use no_memory::NoMemory;
 use std::alloc::Global;
 use wasm_syntax::{Form, Run, Runs, ValType};
 
 /// So many locals of a type.
 #[tactic(auto, unfolding(wasm_syntax::specs::Encoding::Readers::first_run))]
-pub(crate) fn first_run(bytes: &[u8]) -> Result<(Run, &[u8]), Unread>
+pub(crate) fn first_run(bytes: &[u8]) -> Read<'_, Run>
     ensures { Gives (λ read. (read.0, read.1.now)) result (first_run bytes.now) }
 {
     let (count, rest) = first_u32(bytes)?;
@@ -23,20 +23,10 @@ pub(crate) fn first_run(bytes: &[u8]) -> Result<(Run, &[u8]), Unread>
     Ok((Run { count, ty }, rest))
 }
 
-impl Kind for Run {
-    type Item = Run;
-
-    ghost first = { λ _. first_run };
-
-    fn first(_alloc: Global, _form: Form, bytes: &[u8]) -> Result<(Run, &[u8]), Unread> {
-        first_run(bytes)
-    }
-}
-
 /// The locals of a function, fewer than 2^32, in runs without those of none and with neighbours of
 /// one type joined.
 #[tactic(auto, unfolding(wasm_syntax::specs::Encoding::Readers::first_locals))]
-pub(crate) fn first_locals(alloc: Global, form: Form, bytes: &[u8]) -> Result<(Runs, &[u8]), Unread>
+pub(crate) fn first_locals(alloc: Global, form: Form, bytes: &[u8]) -> Read<'_, Runs>
     ensures { Gives (λ read. (read.0, read.1.now)) result (first_locals bytes.now) }
 {
     let (written, rest) = first_vector::<Run>(alloc, form, bytes)?;

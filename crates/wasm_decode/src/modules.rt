@@ -9,7 +9,6 @@ ghost use Rattle.wasm_syntax.specs.declared.modules.Module.{Module};
 ghost use Rattle.encoding_sizes.specs.Within.{HasListsWithin};
 ghost use Rattle.wasm_decode.specs.DecodeResults.{IsRead, IsFaultOf};
 ghost use Rattle.wasm_decode.specs.Drafts.{empty_draft, draft_with_read};
-ghost use Rattle.wasm_decode.specs.declared.modules.DecodeFault.TheVariants.{Memory as DecodeMemory};
 
 use crate::draft::Draft;
 use crate::sections::next_section;
@@ -29,14 +28,6 @@ pub enum DecodeFault {
     Malformed { at: u64 },
     #[error("out of memory")]
     Memory,
-}
-
-impl From<NoMemory> for DecodeFault {
-    ghost from_gives = { λ _ fault. fault ≡ DecodeMemory };
-
-    fn from(_refused: NoMemory) -> DecodeFault {
-        DecodeFault::Memory
-    }
 }
 
 /// The magic and the version that each module begins with (Core 1.0, 5.5.15).
@@ -81,12 +72,17 @@ fn read(alloc: Global, bytes: &[u8], form: Form) -> Result<Module, DecodeFault>
     let Some(after) = bytes.strip_prefix(&PREAMBLE) else {
         return Err(DecodeFault::Malformed { at: 0 });
     };
-    let (draft, rest) = lawful_sections(alloc, form, after)?;
+    let Ok((draft, rest)) = lawful_sections(alloc, form, after) else {
+        return Err(DecodeFault::Memory);
+    };
     let at = (bytes.len() - rest.len()) as u64;
     if !rest.is_empty() {
         return Err(DecodeFault::Malformed { at });
     }
-    match draft.finish(alloc)? {
+    let Ok(module) = draft.finish(alloc) else {
+        return Err(DecodeFault::Memory);
+    };
+    match module {
         Some(module) => Ok(module),
         None => Err(DecodeFault::Malformed { at }),
     }

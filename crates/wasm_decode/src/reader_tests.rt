@@ -1,8 +1,8 @@
 // What readers take of the stack and of memory.
 
 use crate::expressions::first_expr;
-use crate::unread::Unread;
 use crate::vectors::first_vector;
+use leb_bytes::Unread;
 use std::test::Fail;
 use wasm_syntax::Form;
 

@@ -6,19 +6,19 @@ ghost use Rattle.wasm_syntax.specs.Encoding.Readers.{first_code, first_data, fir
 ghost use Rattle.wasm_syntax.specs.Encoding.ReadModules.{custom_of};
 ghost use Rattle.wasm_syntax.specs.Encoding.Sections.{CodeSection, CustomSection, DataSection, ElementSection, ExportSection, FunctionSection, GlobalSection, ImportSection, MemorySection, StartSection, TableSection, TypeSection};
 ghost use Rattle.wasm_decode.specs.Drafts.{section_of};
-ghost use Rattle.wasm_decode.specs.ReadResults.{Gives};
+ghost use Rattle.leb_bytes.specs.ReadResults.{Gives};
 
 use crate::code::CodeItem;
 use crate::items::first_custom;
+use crate::kinds::Tables;
 use crate::sections::Section;
-use crate::types::Tables;
-use crate::unread::Unread;
+use crate::values::Read;
 use crate::vectors::{first_sized_u32, first_sized_vector};
 use std::alloc::Global;
 use wasm_syntax::{DataSeg, ElemSeg, Export, Form, FuncType, Global as GlobalItem, Import, Limits};
 
 /// A custom section (Core 1.0, 5.5.3).
-pub(crate) fn first_custom_section(alloc: Global, bytes: &[u8]) -> Result<(Section, &[u8]), Unread>
+pub(crate) fn first_custom_section(alloc: Global, bytes: &[u8]) -> Read<'_, Section>
     ensures { Gives (λ read. (section_of read.0, read.1.now)) result
         (map_read CustomSection (first_sized custom_of) bytes.now) }
 {
@@ -27,11 +27,7 @@ pub(crate) fn first_custom_section(alloc: Global, bytes: &[u8]) -> Result<(Secti
 }
 
 /// A type section (Core 1.0, 5.5.4).
-pub(crate) fn first_type_section(
-    alloc: Global,
-    form: Form,
-    bytes: &[u8],
-) -> Result<(Section, &[u8]), Unread>
+pub(crate) fn first_type_section(alloc: Global, form: Form, bytes: &[u8]) -> Read<'_, Section>
     ensures { Gives (λ read. (section_of read.0, read.1.now)) result
         (map_read TypeSection (first_sized (whole (first_vector first_func_type))) bytes.now) }
 {
@@ -40,11 +36,7 @@ pub(crate) fn first_type_section(
 }
 
 /// An import section (Core 1.0, 5.5.5).
-pub(crate) fn first_import_section(
-    alloc: Global,
-    form: Form,
-    bytes: &[u8],
-) -> Result<(Section, &[u8]), Unread>
+pub(crate) fn first_import_section(alloc: Global, form: Form, bytes: &[u8]) -> Read<'_, Section>
     ensures { Gives (λ read. (section_of read.0, read.1.now)) result
         (map_read ImportSection (first_sized (whole (first_vector first_import))) bytes.now) }
 {
@@ -54,11 +46,7 @@ pub(crate) fn first_import_section(
 
 /// A function section (Core 1.0, 5.5.6).
 #[tactic(auto, unfolding(wasm_syntax::specs::Encoding::Readers::first_indices))]
-pub(crate) fn first_function_section(
-    alloc: Global,
-    form: Form,
-    bytes: &[u8],
-) -> Result<(Section, &[u8]), Unread>
+pub(crate) fn first_function_section(alloc: Global, form: Form, bytes: &[u8]) -> Read<'_, Section>
     ensures { Gives (λ read. (section_of read.0, read.1.now)) result
         (map_read FunctionSection (first_sized (whole first_indices)) bytes.now) }
 {
@@ -67,11 +55,7 @@ pub(crate) fn first_function_section(
 }
 
 /// A table section (Core 1.0, 5.5.7).
-pub(crate) fn first_table_section(
-    alloc: Global,
-    form: Form,
-    bytes: &[u8],
-) -> Result<(Section, &[u8]), Unread>
+pub(crate) fn first_table_section(alloc: Global, form: Form, bytes: &[u8]) -> Read<'_, Section>
     ensures { Gives (λ read. (section_of read.0, read.1.now)) result
         (map_read TableSection (first_sized (whole (first_vector first_table_type))) bytes.now) }
 {
@@ -80,11 +64,7 @@ pub(crate) fn first_table_section(
 }
 
 /// A memory section (Core 1.0, 5.5.8).
-pub(crate) fn first_memory_section(
-    alloc: Global,
-    form: Form,
-    bytes: &[u8],
-) -> Result<(Section, &[u8]), Unread>
+pub(crate) fn first_memory_section(alloc: Global, form: Form, bytes: &[u8]) -> Read<'_, Section>
     ensures { Gives (λ read. (section_of read.0, read.1.now)) result
         (map_read MemorySection (first_sized (whole (first_vector first_limits))) bytes.now) }
 {
@@ -93,11 +73,7 @@ pub(crate) fn first_memory_section(
 }
 
 /// A global section (Core 1.0, 5.5.9).
-pub(crate) fn first_global_section(
-    alloc: Global,
-    form: Form,
-    bytes: &[u8],
-) -> Result<(Section, &[u8]), Unread>
+pub(crate) fn first_global_section(alloc: Global, form: Form, bytes: &[u8]) -> Read<'_, Section>
     ensures { Gives (λ read. (section_of read.0, read.1.now)) result
         (map_read GlobalSection (first_sized (whole (first_vector (first_global form)))) bytes.now) }
 {
@@ -106,11 +82,7 @@ pub(crate) fn first_global_section(
 }
 
 /// An export section (Core 1.0, 5.5.10).
-pub(crate) fn first_export_section(
-    alloc: Global,
-    form: Form,
-    bytes: &[u8],
-) -> Result<(Section, &[u8]), Unread>
+pub(crate) fn first_export_section(alloc: Global, form: Form, bytes: &[u8]) -> Read<'_, Section>
     ensures { Gives (λ read. (section_of read.0, read.1.now)) result
         (map_read ExportSection (first_sized (whole (first_vector first_export))) bytes.now) }
 {
@@ -119,7 +91,7 @@ pub(crate) fn first_export_section(
 }
 
 /// A start section (Core 1.0, 5.5.11).
-pub(crate) fn first_start_section(bytes: &[u8]) -> Result<(Section, &[u8]), Unread>
+pub(crate) fn first_start_section(bytes: &[u8]) -> Read<'_, Section>
     ensures { Gives (λ read. (section_of read.0, read.1.now)) result
         (map_read StartSection (first_sized (whole unsigned.first_u32)) bytes.now) }
 {
@@ -128,11 +100,7 @@ pub(crate) fn first_start_section(bytes: &[u8]) -> Result<(Section, &[u8]), Unre
 }
 
 /// An element section (Core 1.0, 5.5.12).
-pub(crate) fn first_element_section(
-    alloc: Global,
-    form: Form,
-    bytes: &[u8],
-) -> Result<(Section, &[u8]), Unread>
+pub(crate) fn first_element_section(alloc: Global, form: Form, bytes: &[u8]) -> Read<'_, Section>
     ensures { Gives (λ read. (section_of read.0, read.1.now)) result
         (map_read ElementSection (first_sized (whole (first_vector (first_elem form)))) bytes.now) }
 {
@@ -141,11 +109,7 @@ pub(crate) fn first_element_section(
 }
 
 /// A code section (Core 1.0, 5.5.13).
-pub(crate) fn first_code_section(
-    alloc: Global,
-    form: Form,
-    bytes: &[u8],
-) -> Result<(Section, &[u8]), Unread>
+pub(crate) fn first_code_section(alloc: Global, form: Form, bytes: &[u8]) -> Read<'_, Section>
     ensures { Gives (λ read. (section_of read.0, read.1.now)) result
         (map_read CodeSection (first_sized (whole (first_vector (first_code form)))) bytes.now) }
 {
@@ -154,11 +118,7 @@ pub(crate) fn first_code_section(
 }
 
 /// A data section (Core 1.0, 5.5.14).
-pub(crate) fn first_data_section(
-    alloc: Global,
-    form: Form,
-    bytes: &[u8],
-) -> Result<(Section, &[u8]), Unread>
+pub(crate) fn first_data_section(alloc: Global, form: Form, bytes: &[u8]) -> Read<'_, Section>
     ensures { Gives (λ read. (section_of read.0, read.1.now)) result
         (map_read DataSection (first_sized (whole (first_vector (first_data form)))) bytes.now) }
 {

@@ -4,7 +4,7 @@ ghost use Rattle.std.specs.Prelude.{◌≡◌, ◌<◌, length, option_map, IfOk
 ghost use Rattle.wasm_syntax.specs.Encoding.Sections.{id_of};
 ghost use Rattle.wasm_syntax.specs.Encoding.ReadModules.{first_section, last_after, next_section};
 ghost use Rattle.wasm_decode.specs.Drafts.{section_of};
-ghost use Rattle.wasm_decode.specs.ReadResults.{Gives};
+ghost use Rattle.leb_bytes.specs.ReadResults.{Gives};
 
 use crate::code::CodeItem;
 use crate::section_contents::{
@@ -12,9 +12,8 @@ use crate::section_contents::{
     first_export_section, first_function_section, first_global_section, first_import_section,
     first_memory_section, first_start_section, first_table_section, first_type_section,
 };
-use crate::unread::Unread;
-use crate::values::first_byte;
-use leb_bytes::u32_encoding;
+use crate::values::{Read, first_byte};
+use leb_bytes::{Unread, u32_encoding};
 use no_memory::NoMemory;
 use std::alloc::Global;
 use wasm_opcodes::marks::{
@@ -67,7 +66,7 @@ impl Section {
 
 /// The section at the front of the bytes: its id, its size, and what it holds.
 #[tactic(auto, unfolding(wasm_syntax::specs::Encoding::ReadModules::first_section))]
-fn first_section(alloc: Global, form: Form, bytes: &[u8]) -> Result<(Section, &[u8]), Unread>
+fn first_section(alloc: Global, form: Form, bytes: &[u8]) -> Read<'_, Section>
     ensures { Gives (λ read. (section_of read.0, read.1.now)) result (first_section form bytes.now) }
 {
     let (id, rest) = first_byte(bytes)?;

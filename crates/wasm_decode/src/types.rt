@@ -1,11 +1,11 @@
 // Readers of types (Core 1.0, 5.3).
 
 ghost use Rattle.wasm_syntax.specs.Encoding.Readers.{first_val_type, first_block_type, first_func_type, first_limits, first_table_type, first_mutability, first_global_type};
-ghost use Rattle.wasm_decode.specs.ReadResults.{Gives};
+ghost use Rattle.leb_bytes.specs.ReadResults.{Gives};
 
-use crate::unread::Unread;
-use crate::values::{first_byte, first_u32};
-use crate::vectors::{Kind, first_vector};
+use crate::values::{Read, first_byte, first_u32};
+use crate::vectors::first_vector;
+use leb_bytes::Unread;
 use std::alloc::Global;
 use wasm_opcodes::marks::{
     LIMITS_MIN, LIMITS_MIN_MAX, MUTABILITY_CONST, MUTABILITY_VAR, TYPE_EMPTY, TYPE_F32, TYPE_F64,
@@ -15,7 +15,7 @@ use wasm_syntax::{Form, FuncType, GlobalType, Limits, ValType};
 
 /// A value type (Core 1.0, 5.3.1).
 #[tactic(auto, unfolding(wasm_syntax::specs::Encoding::Readers::first_val_type))]
-pub(crate) fn first_val_type(bytes: &[u8]) -> Result<(ValType, &[u8]), Unread>
+pub(crate) fn first_val_type(bytes: &[u8]) -> Read<'_, ValType>
     ensures { Gives (λ read. (read.0, read.1.now)) result (first_val_type bytes.now) }
 {
     let (mark, rest) = first_byte(bytes)?;
@@ -30,7 +30,7 @@ pub(crate) fn first_val_type(bytes: &[u8]) -> Result<(ValType, &[u8]), Unread>
 
 /// A block type (Core 1.0, 5.3.2).
 #[tactic(auto, unfolding(wasm_syntax::specs::Encoding::Readers::first_block_type))]
-pub(crate) fn first_block_type(bytes: &[u8]) -> Result<(Option<ValType>, &[u8]), Unread>
+pub(crate) fn first_block_type(bytes: &[u8]) -> Read<'_, Option<ValType>>
     ensures { Gives (λ read. (read.0, read.1.now)) result (first_block_type bytes.now) }
 {
     let (mark, rest) = first_byte(bytes)?;
@@ -46,11 +46,7 @@ pub(crate) fn first_block_type(bytes: &[u8]) -> Result<(Option<ValType>, &[u8]),
 
 /// A function type (Core 1.0, 5.3.3).
 #[tactic(auto, unfolding(wasm_syntax::specs::Encoding::Readers::first_func_type))]
-pub(crate) fn first_func_type(
-    alloc: Global,
-    form: Form,
-    bytes: &[u8],
-) -> Result<(FuncType, &[u8]), Unread>
+pub(crate) fn first_func_type(alloc: Global, form: Form, bytes: &[u8]) -> Read<'_, FuncType>
     ensures { Gives (λ read. (read.0, read.1.now)) result (first_func_type bytes.now) }
 {
     let (mark, rest) = first_byte(bytes)?;
@@ -64,7 +60,7 @@ pub(crate) fn first_func_type(
 
 /// Limits (Core 1.0, 5.3.4).
 #[tactic(auto, unfolding(wasm_syntax::specs::Encoding::Readers::first_limits))]
-pub(crate) fn first_limits(bytes: &[u8]) -> Result<(Limits, &[u8]), Unread>
+pub(crate) fn first_limits(bytes: &[u8]) -> Read<'_, Limits>
     ensures { Gives (λ read. (read.0, read.1.now)) result (first_limits bytes.now) }
 {
     let (mark, rest) = first_byte(bytes)?;
@@ -90,7 +86,7 @@ pub(crate) fn first_limits(bytes: &[u8]) -> Result<(Limits, &[u8]), Unread>
 
 /// A table type (Core 1.0, 5.3.6).
 #[tactic(auto, unfolding(wasm_syntax::specs::Encoding::Readers::first_table_type))]
-pub(crate) fn first_table_type(bytes: &[u8]) -> Result<(Limits, &[u8]), Unread>
+pub(crate) fn first_table_type(bytes: &[u8]) -> Read<'_, Limits>
     ensures { Gives (λ read. (read.0, read.1.now)) result (first_table_type bytes.now) }
 {
     let (mark, rest) = first_byte(bytes)?;
@@ -102,7 +98,7 @@ pub(crate) fn first_table_type(bytes: &[u8]) -> Result<(Limits, &[u8]), Unread>
 
 /// Whether a global is mutable (Core 1.0, 5.3.7).
 #[tactic(auto, unfolding(wasm_syntax::specs::Encoding::Readers::first_mutability))]
-pub(crate) fn first_mutability(bytes: &[u8]) -> Result<(bool, &[u8]), Unread>
+pub(crate) fn first_mutability(bytes: &[u8]) -> Read<'_, bool>
     ensures { Gives (λ read. (read.0, read.1.now)) result (first_mutability bytes.now) }
 {
     let (mark, rest) = first_byte(bytes)?;
@@ -115,54 +111,10 @@ pub(crate) fn first_mutability(bytes: &[u8]) -> Result<(bool, &[u8]), Unread>
 
 /// A global type (Core 1.0, 5.3.7).
 #[tactic(auto, unfolding(wasm_syntax::specs::Encoding::Readers::first_global_type))]
-pub(crate) fn first_global_type(bytes: &[u8]) -> Result<(GlobalType, &[u8]), Unread>
+pub(crate) fn first_global_type(bytes: &[u8]) -> Read<'_, GlobalType>
     ensures { Gives (λ read. (read.0, read.1.now)) result (first_global_type bytes.now) }
 {
     let (ty, rest) = first_val_type(bytes)?;
     let (mutable, rest) = first_mutability(rest)?;
     Ok((GlobalType { ty, mutable }, rest))
-}
-
-impl Kind for ValType {
-    type Item = ValType;
-
-    ghost first = { λ _. first_val_type };
-
-    fn first(_alloc: Global, _form: Form, bytes: &[u8]) -> Result<(ValType, &[u8]), Unread> {
-        first_val_type(bytes)
-    }
-}
-
-impl Kind for FuncType {
-    type Item = FuncType;
-
-    ghost first = { λ _. first_func_type };
-
-    fn first(alloc: Global, form: Form, bytes: &[u8]) -> Result<(FuncType, &[u8]), Unread> {
-        first_func_type(alloc, form, bytes)
-    }
-}
-
-/// The types of memories.
-impl Kind for Limits {
-    type Item = Limits;
-
-    ghost first = { λ _. first_limits };
-
-    fn first(_alloc: Global, _form: Form, bytes: &[u8]) -> Result<(Limits, &[u8]), Unread> {
-        first_limits(bytes)
-    }
-}
-
-/// The types of tables, which are limits too.
-pub(crate) struct Tables;
-
-impl Kind for Tables {
-    type Item = Limits;
-
-    ghost first = { λ _. first_table_type };
-
-    fn first(_alloc: Global, _form: Form, bytes: &[u8]) -> Result<(Limits, &[u8]), Unread> {
-        first_table_type(bytes)
-    }
 }

@@ -6,18 +6,20 @@ ghost use Rattle.leb_bytes.specs.Unsigned.{first_u32};
 ghost use Rattle.leb_bytes.specs.Signed.{first_i32, first_i64};
 ghost use Rattle.wasm_syntax.specs.Encoding.Combinators.{first_sized};
 ghost use Rattle.wasm_syntax.specs.Encoding.Readers.{first_f32, first_f64, first_bytes, first_name, first_raw};
-ghost use Rattle.wasm_decode.specs.ReadResults.{Gives};
-ghost use Rattle.wasm_decode.specs.declared.unread.Unread.TheVariants.{NotThere};
+ghost use Rattle.leb_bytes.specs.ReadResults.{Gives};
+ghost use Rattle.leb_bytes.specs.declared.unread.Unread.TheVariants.{NotThere};
 
-use crate::unread::Unread;
-use leb_bytes::{read_i32, read_i64, read_u32};
+use leb_bytes::{Unread, read_i32, read_i64, read_u32};
 use no_memory::NoMemory;
 use std::alloc::Global;
 use std::str::from_utf8;
 use wasm_syntax::{Bytes, Name};
 
+/// What a front of the bytes encodes, with the bytes after it.
+pub(crate) type Read<'a, T> = Result<(T, &'a [u8]), Unread>;
+
 /// The first byte.
-pub(crate) fn first_byte(bytes: &[u8]) -> Result<(u8, &[u8]), Unread>
+pub(crate) fn first_byte(bytes: &[u8]) -> Read<'_, u8>
     ensures { MatchResult result
         (λ read. bytes.now ≡ read.0 ∷ read.1.now)
         (λ unread. (unread ≡ NotThere) × (bytes.now ≡ [])) }
@@ -29,7 +31,7 @@ pub(crate) fn first_byte(bytes: &[u8]) -> Result<(u8, &[u8]), Unread>
 }
 
 /// A given number of bytes as they are.
-pub(crate) fn first_raw(count: usize, bytes: &[u8]) -> Result<(&[u8], &[u8]), Unread>
+pub(crate) fn first_raw(count: usize, bytes: &[u8]) -> Read<'_, &[u8]>
     ensures { Gives (λ read. (read.0.now, read.1.now)) result (first_raw count bytes.now) }
 {
     match bytes.split_at_checked(count) {
@@ -39,7 +41,7 @@ pub(crate) fn first_raw(count: usize, bytes: &[u8]) -> Result<(&[u8], &[u8]), Un
 }
 
 /// A u32.
-pub(crate) fn first_u32(bytes: &[u8]) -> Result<(u32, &[u8]), Unread>
+pub(crate) fn first_u32(bytes: &[u8]) -> Read<'_, u32>
     ensures { Gives (λ read. (read.0, read.1.now)) result (first_u32 bytes.now) }
 {
     let (number, next) = read_u32(bytes, 0)?;
@@ -48,7 +50,7 @@ pub(crate) fn first_u32(bytes: &[u8]) -> Result<(u32, &[u8]), Unread>
 
 /// The bits of an i32, which is encoded as an s32.
 #[tactic(auto, unfolding(leb_bytes::specs::Signed::first_i32))]
-pub(crate) fn first_i32(bytes: &[u8]) -> Result<(u32, &[u8]), Unread>
+pub(crate) fn first_i32(bytes: &[u8]) -> Read<'_, u32>
     ensures { Gives (λ read. (read.0, read.1.now)) result (first_i32 bytes.now) }
 {
     let (number, next) = read_i32(bytes, 0)?;
@@ -57,7 +59,7 @@ pub(crate) fn first_i32(bytes: &[u8]) -> Result<(u32, &[u8]), Unread>
 
 /// The bits of an i64, which is encoded as an s64.
 #[tactic(auto, unfolding(leb_bytes::specs::Signed::first_i64))]
-pub(crate) fn first_i64(bytes: &[u8]) -> Result<(u64, &[u8]), Unread>
+pub(crate) fn first_i64(bytes: &[u8]) -> Read<'_, u64>
     ensures { Gives (λ read. (read.0, read.1.now)) result (first_i64 bytes.now) }
 {
     let (number, next) = read_i64(bytes, 0)?;
@@ -66,7 +68,7 @@ pub(crate) fn first_i64(bytes: &[u8]) -> Result<(u64, &[u8]), Unread>
 
 /// The bits of an f32.
 #[tactic(auto, unfolding(wasm_syntax::specs::Encoding::Readers::first_f32))]
-pub(crate) fn first_f32(bytes: &[u8]) -> Result<(u32, &[u8]), Unread>
+pub(crate) fn first_f32(bytes: &[u8]) -> Read<'_, u32>
     ensures { Gives (λ read. (read.0, read.1.now)) result (first_f32 bytes.now) }
 {
     match bytes.split_first_chunk::<4>() {
@@ -77,7 +79,7 @@ pub(crate) fn first_f32(bytes: &[u8]) -> Result<(u32, &[u8]), Unread>
 
 /// The bits of an f64.
 #[tactic(auto, unfolding(wasm_syntax::specs::Encoding::Readers::first_f64))]
-pub(crate) fn first_f64(bytes: &[u8]) -> Result<(u64, &[u8]), Unread>
+pub(crate) fn first_f64(bytes: &[u8]) -> Read<'_, u64>
     ensures { Gives (λ read. (read.0, read.1.now)) result (first_f64 bytes.now) }
 {
     match bytes.split_first_chunk::<8>() {
@@ -87,7 +89,7 @@ pub(crate) fn first_f64(bytes: &[u8]) -> Result<(u64, &[u8]), Unread>
 }
 
 /// As many bytes as the u32 at their front says, as they are.
-pub(crate) fn first_sized(bytes: &[u8]) -> Result<(&[u8], &[u8]), Unread>
+pub(crate) fn first_sized(bytes: &[u8]) -> Read<'_, &[u8]>
     ensures { Gives (λ read. (read.0.now, read.1.now)) result (first_sized Some bytes.now) }
 {
     let (size, rest) = first_u32(bytes)?;
@@ -96,7 +98,7 @@ pub(crate) fn first_sized(bytes: &[u8]) -> Result<(&[u8], &[u8]), Unread>
 
 /// A vector of bytes.
 #[tactic(auto, unfolding(wasm_syntax::specs::Encoding::Readers::first_bytes))]
-pub(crate) fn first_bytes(alloc: Global, bytes: &[u8]) -> Result<(Bytes, &[u8]), Unread>
+pub(crate) fn first_bytes(alloc: Global, bytes: &[u8]) -> Read<'_, Bytes>
     ensures { Gives (λ read. (read.0, read.1.now)) result (first_bytes bytes.now) }
 {
     let (content, rest) = first_sized(bytes)?;
@@ -112,7 +114,7 @@ pub(crate) fn copy_of(alloc: Global, bytes: &[u8]) -> Result<Bytes, NoMemory>
 
 /// A name: a vector of bytes that are UTF-8 (Core 1.0, 5.2.4).
 #[tactic(auto, unfolding(wasm_syntax::specs::Encoding::Readers::first_name, wasm_syntax::specs::Encoding::Readers::first_bytes))]
-pub(crate) fn first_name(alloc: Global, bytes: &[u8]) -> Result<(Name, &[u8]), Unread>
+pub(crate) fn first_name(alloc: Global, bytes: &[u8]) -> Read<'_, Name>
     ensures { Gives (λ read. (read.0, read.1.now)) result (first_name bytes.now) }
 {
     let (content, rest) = first_sized(bytes)?;

@@ -2,45 +2,20 @@
 
 ghost use Rattle.leb_bytes.specs.Unsigned as unsigned;
 ghost use Rattle.wasm_syntax.specs.Encoding.Combinators.{first_vector, first_sized, whole};
-ghost use Rattle.wasm_decode.specs.ReadResults.{Gives};
+ghost use Rattle.leb_bytes.specs.ReadResults.{Gives};
 
-use crate::unread::Unread;
-use crate::values::{first_sized, first_u32};
+use crate::kinds::Kind;
+use crate::values::{Read, first_sized, first_u32};
+use leb_bytes::Unread;
 use std::alloc::Global;
 use wasm_syntax::{Form, List};
-
-/// A kind of items that vectors hold.
-pub(crate) trait Kind {
-    ghost use Rattle.std.specs.Prelude.{ℕ, List, Option};
-    ghost use Rattle.wasm_syntax.specs.declared.forms.Form.{Form};
-
-    /// What an item is read into.
-    type Item: Drop;
-
-    // the plain reader of an item
-    ghost first: { Form → List ℕ → Option (Self.Item × List ℕ) };
-
-    /// Reads an item.
-    fn first(alloc: Global, form: Form, bytes: &[u8]) -> Result<(Self::Item, &[u8]), Unread>
-        ensures { Gives (λ read. (read.0, read.1.now)) result (first form bytes.now) };
-}
-
-impl Kind for u32 {
-    type Item = u32;
-
-    ghost first = { λ _. unsigned.first_u32 };
-
-    fn first(_alloc: Global, _form: Form, bytes: &[u8]) -> Result<(u32, &[u8]), Unread> {
-        first_u32(bytes)
-    }
-}
 
 /// A vector of items of a kind.
 pub(crate) fn first_vector<K: Kind>(
     alloc: Global,
     form: Form,
     bytes: &[u8],
-) -> Result<(List<K::Item>, &[u8]), Unread>
+) -> Read<'_, List<K::Item>>
     ensures { Gives (λ read. (read.0, read.1.now)) result (first_vector (K.first form) bytes.now) }
 {
     let (count, mut rest) = first_u32(bytes)?;
@@ -58,7 +33,7 @@ pub(crate) fn first_sized_vector<K: Kind>(
     alloc: Global,
     form: Form,
     bytes: &[u8],
-) -> Result<(List<K::Item>, &[u8]), Unread>
+) -> Read<'_, List<K::Item>>
     ensures { Gives (λ read. (read.0, read.1.now)) result
         (first_sized (whole (first_vector (K.first form))) bytes.now) }
 {
@@ -71,7 +46,7 @@ pub(crate) fn first_sized_vector<K: Kind>(
 }
 
 /// A u32 that is all of the content of a size.
-pub(crate) fn first_sized_u32(bytes: &[u8]) -> Result<(u32, &[u8]), Unread>
+pub(crate) fn first_sized_u32(bytes: &[u8]) -> Read<'_, u32>
     ensures { Gives (λ read. (read.0, read.1.now)) result (first_sized (whole unsigned.first_u32) bytes.now) }
 {
     let (content, rest) = first_sized(bytes)?;

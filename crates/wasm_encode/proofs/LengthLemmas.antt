@@ -1,5 +1,5 @@
 -- How many bytes the shortest encodings of numbers have.
-use Rattle.std.proofs.Common.{◌≡◌, ℕ, zero, suc, ◌+◌, ◌-◌, ◌/◌, ◌%◌, ◌<◌, ◌≤◌, ◌^◌, true, false, [], ◌∷◌, length, refl, ap, inl, inr, arith}
+use Rattle.std.proofs.Common.{◌≡◌, ℕ, zero, suc, ◌+◌, ◌-◌, ◌/◌, ◌%◌, ◌<◌, ◌≤◌, ◌^◌, Bool, true, false, List, [], ◌∷◌, length, refl, ap, inl, inr, arith}
 use Rattle.std.specs.Prelude.{ℤ, pos, negsuc, nat_lt, if◌then◌else◌}
 use Rattle.std.proofs.lemmas.Bool.{cases_lt}
 use Rattle.std.proofs.lemmas.Bool.Decides.{nat_tests}
@@ -35,15 +35,18 @@ count_next count most last left all room large so_far =
 
 -- ---- numbers
 
+-- one byte, or one before others
+counted : (is_last : Bool) (last first : ℕ) (rest : List ℕ) (count : ℕ) → length rest ≡ count
+    → length (if is_last then last ∷ [] else (first ∷ rest)) ≡ (if is_last then 1 else suc count)
+counted true last first rest count is = refl
+counted false last first rest count is = ap suc is
+
 unsigned_count : (more n : ℕ) → length (unsigned_bytes more n) ≡ byte_count more (2 ^ 7) n
 unfolding unsigned_bytes
 unsigned_count zero n = refl
-unsigned_count (suc more) n = elim (nat_lt n (2 ^ 7))
-    as (λ b. length (if b then n ∷ [] else ((n % 2 ^ 7 + 2 ^ 7) ∷ unsigned_bytes more (n / 2 ^ 7)))
-    ≡ (if b then 1 else suc (byte_count more (2 ^ 7) (n / 2 ^ 7)))) [
-      | true ↦ refl
-      | false ↦ ap suc (unsigned_count more (n / 2 ^ 7))
-    ]
+unsigned_count (suc more) n =
+    counted (nat_lt n (2 ^ 7)) n (n % 2 ^ 7 + 2 ^ 7) (unsigned_bytes more (n / 2 ^ 7))
+    (byte_count more (2 ^ 7) (n / 2 ^ 7)) (unsigned_count more (n / 2 ^ 7))
 
 pub u32_count : (n : ℕ) → length (u32_bytes n) ≡ byte_count 4 (2 ^ 7) n
 unfolding u32_bytes
@@ -53,20 +56,13 @@ u32_count n = unsigned_count 4 n
 signed_count : (more : ℕ) (z : ℤ) → length (signed_bytes more z) ≡ byte_count more (2 ^ 6) (magnitude z)
 unfolding signed_bytes
 signed_count zero z = refl
-signed_count (suc more) (pos n) = elim (nat_lt n (2 ^ 6))
-    as (λ b. length (if b then low_bits (pos n) ∷ []
-    else ((low_bits (pos n) + 2 ^ 7) ∷ signed_bytes more (high_bits (pos n))))
-    ≡ (if b then 1 else suc (byte_count more (2 ^ 6) (n / 2 ^ 7)))) [
-      | true ↦ refl
-      | false ↦ ap suc (signed_count more (pos (n / 2 ^ 7)))
-    ]
-signed_count (suc more) (negsuc n) = elim (nat_lt n (2 ^ 6))
-    as (λ b. length (if b then low_bits (negsuc n) ∷ []
-    else ((low_bits (negsuc n) + 2 ^ 7) ∷ signed_bytes more (high_bits (negsuc n))))
-    ≡ (if b then 1 else suc (byte_count more (2 ^ 6) (n / 2 ^ 7)))) [
-      | true ↦ refl
-      | false ↦ ap suc (signed_count more (negsuc (n / 2 ^ 7)))
-    ]
+signed_count (suc more) (pos n) =
+    counted (nat_lt n (2 ^ 6)) (low_bits (pos n)) (low_bits (pos n) + 2 ^ 7) (signed_bytes more (high_bits (pos n)))
+    (byte_count more (2 ^ 6) (n / 2 ^ 7)) (signed_count more (high_bits (pos n)))
+signed_count (suc more) (negsuc n) =
+    counted (nat_lt n (2 ^ 6)) (low_bits (negsuc n)) (low_bits (negsuc n) + 2 ^ 7)
+    (signed_bytes more (high_bits (negsuc n))) (byte_count more (2 ^ 6) (n / 2 ^ 7))
+    (signed_count more (high_bits (negsuc n)))
 
 pub s64_count : (z : ℤ) → length (s64_bytes z) ≡ byte_count 9 (2 ^ 6) (magnitude z)
 unfolding s64_bytes

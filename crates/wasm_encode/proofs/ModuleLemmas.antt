@@ -11,15 +11,8 @@ use Rattle.wasm_encode.specs.Vectors.{start_section, vector_section}
 use Rattle.wasm_syntax.specs.Encoding.Modules.{code_of, preamble}
 use Rattle.wasm_syntax.specs.Encoding.Sections.{Section, CustomSection, TypeSection, ImportSection, FunctionSection, TableSection, MemorySection, GlobalSection, ExportSection, StartSection, ElementSection, CodeSection, DataSection}
 use Rattle.wasm_syntax.specs.Encoding.Shortest.{code_bytes, content_bytes, data_bytes, elem_bytes, encoding_of, export_bytes, func_type_bytes, global_bytes, import_bytes, limits_bytes, section_bytes, sections_of, sized_bytes, table_type_bytes, unless_empty, vector_bytes}
-use Rattle.wasm_syntax.specs.declared.modules.DataSeg.{DataSeg}
-use Rattle.wasm_syntax.specs.declared.modules.ElemSeg.{ElemSeg}
-use Rattle.wasm_syntax.specs.declared.modules.Export.{Export}
 use Rattle.wasm_syntax.specs.declared.modules.Func.{Func}
-use Rattle.wasm_syntax.specs.declared.modules.Global.{Global}
-use Rattle.wasm_syntax.specs.declared.modules.Import.{Import}
 use Rattle.wasm_syntax.specs.declared.modules.Module.{Module}
-use Rattle.wasm_syntax.specs.declared.signatures.FuncType.{FuncType}
-use Rattle.wasm_syntax.specs.declared.signatures.Limits.{Limits}
 
 -- the bytes of sections, one after another
 abbrev all_bytes : List Section → List ℕ
@@ -46,60 +39,42 @@ unfolding section_bytes content_bytes
 start_listed None = refl
 start_listed (Some func) = append-nil (section_bytes (StartSection func))
 
-types_listed : (xs : List FuncType)
-    → all_bytes (unless_empty TypeSection xs) ≡ vector_section SECTION_TYPE func_type_bytes xs
-unfolding section_bytes content_bytes
-types_listed = listed TypeSection SECTION_TYPE func_type_bytes (λ xs. refl)
+-- what is written of each section that is a vector
+abbrev IsListed : {A : Type 0} → (List A → Section) → ℕ → (A → List ℕ) → Type 0
+IsListed {A} make id write = (xs : List A) → all_bytes (unless_empty make xs) ≡ vector_section id write xs
 
-imports_listed : (xs : List Import)
-    → all_bytes (unless_empty ImportSection xs) ≡ vector_section SECTION_IMPORT import_bytes xs
-unfolding section_bytes content_bytes
-imports_listed = listed ImportSection SECTION_IMPORT import_bytes (λ xs. refl)
+record AreListed : Type 0 where
+  types : IsListed TypeSection SECTION_TYPE func_type_bytes
+  imports : IsListed ImportSection SECTION_IMPORT import_bytes
+  functions : IsListed FunctionSection SECTION_FUNCTION u32_bytes
+  tables : IsListed TableSection SECTION_TABLE table_type_bytes
+  memories : IsListed MemorySection SECTION_MEMORY limits_bytes
+  globals : IsListed GlobalSection SECTION_GLOBAL global_bytes
+  exports : IsListed ExportSection SECTION_EXPORT export_bytes
+  elems : IsListed ElementSection SECTION_ELEMENT elem_bytes
+  codes : IsListed CodeSection SECTION_CODE code_bytes
+  datas : IsListed DataSection SECTION_DATA data_bytes
 
-functions_listed : (xs : List Func)
-    → all_bytes (unless_empty FunctionSection (map (λ func. func.ty) xs))
-    ≡ vector_section SECTION_FUNCTION (λ func. u32_bytes func.ty) xs
+all_listed : AreListed
 unfolding section_bytes content_bytes
-functions_listed xs =
-    listed FunctionSection SECTION_FUNCTION u32_bytes (λ ys. refl) (map (λ func. func.ty) xs)
-    ∙ of_parts SECTION_FUNCTION u32_bytes (λ (func : Func). func.ty) xs
+all_listed = record {
+  types = listed TypeSection SECTION_TYPE func_type_bytes (λ xs. refl);
+  imports = listed ImportSection SECTION_IMPORT import_bytes (λ xs. refl);
+  functions = listed FunctionSection SECTION_FUNCTION u32_bytes (λ xs. refl);
+  tables = listed TableSection SECTION_TABLE table_type_bytes (λ xs. refl);
+  memories = listed MemorySection SECTION_MEMORY limits_bytes (λ xs. refl);
+  globals = listed GlobalSection SECTION_GLOBAL global_bytes (λ xs. refl);
+  exports = listed ExportSection SECTION_EXPORT export_bytes (λ xs. refl);
+  elems = listed ElementSection SECTION_ELEMENT elem_bytes (λ xs. refl);
+  codes = listed CodeSection SECTION_CODE code_bytes (λ xs. refl);
+  datas = listed DataSection SECTION_DATA data_bytes (λ xs. refl);
+}
 
-tables_listed : (xs : List Limits)
-    → all_bytes (unless_empty TableSection xs) ≡ vector_section SECTION_TABLE table_type_bytes xs
-unfolding section_bytes content_bytes
-tables_listed = listed TableSection SECTION_TABLE table_type_bytes (λ xs. refl)
-
-memories_listed : (xs : List Limits)
-    → all_bytes (unless_empty MemorySection xs) ≡ vector_section SECTION_MEMORY limits_bytes xs
-unfolding section_bytes content_bytes
-memories_listed = listed MemorySection SECTION_MEMORY limits_bytes (λ xs. refl)
-
-globals_listed : (xs : List Global)
-    → all_bytes (unless_empty GlobalSection xs) ≡ vector_section SECTION_GLOBAL global_bytes xs
-unfolding section_bytes content_bytes
-globals_listed = listed GlobalSection SECTION_GLOBAL global_bytes (λ xs. refl)
-
-exports_listed : (xs : List Export)
-    → all_bytes (unless_empty ExportSection xs) ≡ vector_section SECTION_EXPORT export_bytes xs
-unfolding section_bytes content_bytes
-exports_listed = listed ExportSection SECTION_EXPORT export_bytes (λ xs. refl)
-
-elems_listed : (xs : List ElemSeg)
-    → all_bytes (unless_empty ElementSection xs) ≡ vector_section SECTION_ELEMENT elem_bytes xs
-unfolding section_bytes content_bytes
-elems_listed = listed ElementSection SECTION_ELEMENT elem_bytes (λ xs. refl)
-
-codes_listed : (xs : List Func)
-    → all_bytes (unless_empty CodeSection (map code_of xs))
-    ≡ vector_section SECTION_CODE (λ func. code_bytes (code_of func)) xs
-unfolding section_bytes content_bytes
-codes_listed xs =
-    listed CodeSection SECTION_CODE code_bytes (λ ys. refl) (map code_of xs)
-    ∙ of_parts SECTION_CODE code_bytes code_of xs
-
-datas_listed : (xs : List DataSeg) → all_bytes (unless_empty DataSection xs) ≡ vector_section SECTION_DATA data_bytes xs
-unfolding section_bytes content_bytes
-datas_listed = listed DataSection SECTION_DATA data_bytes (λ xs. refl)
+-- the same of a section that holds a part of each item
+part_listed : {A B : Type 0} (make : List B → Section) (id : ℕ) (write : B → List ℕ) → IsListed make id write
+    → (part : A → B) (xs : List A)
+    → all_bytes (unless_empty make (map part xs)) ≡ vector_section id (λ x. write (part x)) xs
+part_listed make id write is part xs = is (map part xs) ∙ of_parts id write part xs
 
 -- sections in front of others
 all_bytes-append : (xs ys : List Section) (a b : List ℕ) → all_bytes xs ≡ a → all_bytes ys ≡ b
@@ -115,17 +90,17 @@ pub encoding_parts : (m : Module) → encoding_of m ≡ preamble ++ (declaration
 unfolding encoding_of sections_of declarations_of definitions_of
 encoding_parts m =
     ap (λ x. preamble ++ x)
-    (all_bytes-append _ _ _ _ (types_listed m.types)
-    (all_bytes-append _ _ _ _ (imports_listed m.imports)
-    (all_bytes-append _ _ _ _ (functions_listed m.funcs)
-    (all_bytes-append _ _ _ _ (tables_listed m.tables)
-    (all_bytes-append _ _ _ _ (memories_listed m.memories)
-    (all_bytes-append _ _ _ _ (globals_listed m.globals)
-    (all_bytes-append _ _ _ _ (exports_listed m.exports)
+    (all_bytes-append _ _ _ _ (all_listed.types m.types)
+    (all_bytes-append _ _ _ _ (all_listed.imports m.imports)
+    (all_bytes-append _ _ _ _ (part_listed FunctionSection SECTION_FUNCTION u32_bytes all_listed.functions (λ (func : Func). func.ty) m.funcs)
+    (all_bytes-append _ _ _ _ (all_listed.tables m.tables)
+    (all_bytes-append _ _ _ _ (all_listed.memories m.memories)
+    (all_bytes-append _ _ _ _ (all_listed.globals m.globals)
+    (all_bytes-append _ _ _ _ (all_listed.exports m.exports)
     (all_bytes-append _ _ _ _ (start_listed m.start)
-    (all_bytes-append _ _ _ _ (elems_listed m.elems)
-    (all_bytes-append _ _ _ _ (codes_listed m.funcs)
-    (all_bytes-append _ _ _ _ (datas_listed m.datas) (flat_map-map section_bytes CustomSection m.customs)))))))))))
+    (all_bytes-append _ _ _ _ (all_listed.elems m.elems)
+    (all_bytes-append _ _ _ _ (part_listed CodeSection SECTION_CODE code_bytes all_listed.codes code_of m.funcs)
+    (all_bytes-append _ _ _ _ (all_listed.datas m.datas) (flat_map-map section_bytes CustomSection m.customs)))))))))))
     ∙ regrouped (vector_section SECTION_TYPE func_type_bytes m.types)
     (vector_section SECTION_IMPORT import_bytes m.imports)
     (vector_section SECTION_FUNCTION (λ func. u32_bytes func.ty) m.funcs)

@@ -14,10 +14,11 @@ ghost use Rattle.wasm_syntax.specs.declared.instructions.Instr.TheVariants.{BrTa
 ghost use Rattle.wasm_opcodes.specs.declared.TheConstants.{PREFIX};
 
 use crate::encoding::Encoding;
+use crate::kinds::Indices;
 use crate::lengths::{i64_length, u32_length};
 use crate::parts::{push_byte, push_marked, push_pair};
 use crate::types::block_type_byte;
-use crate::vectors::{Indices, items_length, vector_length, write_items, write_vector};
+use crate::vectors::{items_length, vector_length, write_items, write_vector};
 use leb_bytes::{push_i64, push_u32};
 use no_memory::NoMemory;
 use wasm_opcodes::marks::TYPE_FUNCREF;

@@ -2,9 +2,9 @@
 #![tactic(auto)]
 
 mod encoding;
-mod functions;
 mod instructions;
 mod items;
+mod kinds;
 mod lengths;
 mod limited;
 mod modules;

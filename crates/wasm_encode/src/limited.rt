@@ -1,7 +1,7 @@
 // Encoding a module within a limit.
 
-ghost use Rattle.std.specs.Prelude.{◌≡◌, ◌<◌, ◌≤◌, length, OnOk, IfOk, IfErr};
-ghost use Rattle.wasm_encode.specs.declared.limited.EncodeFault.TheVariants.{TooLong, Memory};
+ghost use Rattle.std.specs.Prelude.{◌≡◌, ◌^◌, ◌<◌, ◌≤◌, length, OnOk, IfOk, IfErr};
+ghost use Rattle.wasm_encode.specs.declared.limited.EncodeFault.TheVariants.{TooLong};
 ghost use Rattle.wasm_syntax.specs.Encoding.Encodable.{IsEncodable};
 ghost use Rattle.wasm_syntax.specs.Encoding.Forms.{IsCoreModule};
 ghost use Rattle.wasm_syntax.specs.Encoding.Modules.{Encodes};
@@ -10,7 +10,7 @@ ghost use Rattle.wasm_syntax.specs.declared.forms.Form.TheVariants.{Core, Replay
 
 use crate::modules::{module_length, write_module};
 use no_memory::NoMemory;
-use std::alloc::{AllocError, Global};
+use std::alloc::Global;
 use thiserror::Error;
 use wasm_syntax::{Module, encoding_forms, shortest_encoding};
 
@@ -24,22 +24,6 @@ pub enum EncodeFault {
     TooLong,
     #[error("out of memory")]
     Memory,
-}
-
-impl From<NoMemory> for EncodeFault {
-    ghost from_gives = { λ _ fault. fault ≡ Memory };
-
-    fn from(_refused: NoMemory) -> EncodeFault {
-        EncodeFault::Memory
-    }
-}
-
-impl From<AllocError> for EncodeFault {
-    ghost from_gives = { λ _ fault. fault ≡ Memory };
-
-    fn from(_refused: AllocError) -> EncodeFault {
-        EncodeFault::Memory
-    }
 }
 
 /// The shortest encoding of a module in at most `most` bytes (Core 1.0, 5): each number in its
@@ -66,7 +50,19 @@ pub fn encode(alloc: Global, module: &Module, most: u32) -> Result<Vec<u8>, Enco
     if length > u64::from(most) {
         return Err(EncodeFault::TooLong);
     }
-    let mut bytes = Vec::with_capacity(alloc, length as usize + ROOM)?;
+    match encoding_in(alloc, module, length as usize) {
+        Ok(bytes) => Ok(bytes),
+        Err(NoMemory) => Err(EncodeFault::Memory),
+    }
+}
+
+/// The shortest encoding of a module, which has `size` bytes.
+fn encoding_in(alloc: Global, module: &Module, size: usize) -> Result<Vec<u8>, NoMemory>
+    requires fits { IsEncodable Replay «module».now }
+    requires size { (size ≡ length (encoding_of «module».now)) × (size < 2 ^ 32) }
+    ensures { IfOk result (λ bytes. bytes.items ≡ encoding_of «module».now) }
+{
+    let mut bytes = Vec::with_capacity(alloc, size + ROOM)?;
     write_module(module, &mut bytes)?;
     Ok(bytes)
 }

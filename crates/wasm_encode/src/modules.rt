@@ -7,10 +7,11 @@ ghost use Rattle.wasm_syntax.specs.Encoding.Encodable.{IsEncodable};
 ghost use Rattle.wasm_syntax.specs.Encoding.Shortest.{encoding_of};
 ghost use Rattle.wasm_syntax.specs.declared.forms.Form.TheVariants.{Replay};
 
-use crate::functions::{Codes, TypesOfFuncs};
-use crate::items::{CustomSections, DataSegs, ElemSegs, Exports, Globals, Imports};
+use crate::kinds::{
+    Codes, CustomSections, DataSegs, ElemSegs, Exports, FuncTypes, Globals, Imports, MemoryTypes,
+    TableTypes, TypesOfFuncs,
+};
 use crate::sections::{section_length, start_length, write_section, write_start};
-use crate::types::{FuncTypes, MemoryTypes, TableTypes};
 use crate::vectors::{items_length, write_items};
 use no_memory::NoMemory;
 use wasm_opcodes::marks::{

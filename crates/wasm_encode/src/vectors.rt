@@ -2,37 +2,13 @@
 
 ghost use Rattle.std.specs.Prelude.{◌≡◌, ℕ, ◌^◌, ◌<◌, ◌++◌, List, length, OnOk, flat_map};
 ghost use Rattle.std.specs.List.{AllByRecursion};
-ghost use Rattle.leb_bytes.specs.Unsigned.{u32_bytes};
 ghost use Rattle.wasm_encode.specs.Lengths.{at_most_u64};
-ghost use Rattle.wasm_encode.specs.NotEmpty.{u32_some};
-ghost use Rattle.wasm_syntax.specs.Encoding.Encodable.{FitsU32};
 ghost use Rattle.wasm_syntax.specs.Encoding.Shortest.{vector_bytes};
 
 use crate::encoding::Encoding;
 use crate::lengths::u32_length;
 use leb_bytes::push_u32;
 use no_memory::NoMemory;
-
-/// Indices.
-pub(crate) struct Indices;
-
-impl Encoding for Indices {
-    type Item = u32;
-
-    ghost bytes = { u32_bytes };
-
-    ghost fits = { FitsU32 };
-
-    fn length(item: &u32) -> u64 {
-        u32_length(u64::from(*item))
-    }
-
-    fn write(item: &u32, out: &mut Vec<u8>) -> Result<(), NoMemory> {
-        push_u32(out, *item)
-    }
-
-    ghost some = { λ index fits. u32_some index };
-}
 
 /// How many bytes the encodings of the items have together.
 pub(crate) fn items_length<E: Encoding>(items: &[E::Item]) -> u64

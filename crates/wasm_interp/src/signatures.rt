@@ -11,44 +11,14 @@ use crate::control::Control;
 use crate::table::entry;
 use history_spec::TrapKind;
 use wasm_flat::Flat;
-use wasm_opcodes::marks::{TYPE_F32, TYPE_F64, TYPE_FUNCREF, TYPE_I32, TYPE_I64};
 use wasm_store::Store;
-use wasm_syntax::{FuncType, ValType};
-
-/// The byte of a type.
-fn type_byte(ty: ValType) -> u8
-    ensures { result ≡ alike.type_byte ty }
-{
-    match ty {
-        ValType::I32 => TYPE_I32,
-        ValType::I64 => TYPE_I64,
-        ValType::F32 => TYPE_F32,
-        ValType::F64 => TYPE_F64,
-        ValType::FuncRef => TYPE_FUNCREF,
-    }
-}
-
-/// Whether types are the same.
-fn same_types(a: &[ValType], b: &[ValType]) -> bool
-    ensures { result ≡ alike.same_types a.now b.now }
-{
-    if a.len() != b.len() {
-        return false;
-    }
-    for i in 0..a.len() {
-        if type_byte(a[i]) != type_byte(b[i]) {
-            return false;
-        }
-    }
-    true
-}
+use wasm_syntax::FuncType;
 
 /// Whether function types are equal in structure.
 fn same_signature(a: &FuncType, b: &FuncType) -> bool
     ensures { result ≡ alike.same_signature a.now b.now }
 {
-    same_types(a.params.as_slice(), b.params.as_slice())
-        && same_types(a.results.as_slice(), b.results.as_slice())
+    *a == *b
 }
 
 /// Whether a function has a type by its structure.

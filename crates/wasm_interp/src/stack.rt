@@ -1,6 +1,7 @@
 // The activations of the machine.
 
 ghost use Rattle.std.specs.Prelude.{◌≡◌, List, [], ◌∷◌, OnOk, OnErr};
+ghost use Rattle.flat_steps.specs.FlatStep.{frame_at};
 ghost use Rattle.wasm_interp.specs.Frames.{top_of, below_of, with_number};
 
 use flat_steps::FlatFrame;
@@ -54,6 +55,19 @@ impl Frames {
     {
         self.items.push(frame)?;
         Ok(())
+    }
+
+    /// Puts an activation of a function on top, before its first instruction.
+    #[inline(always)]
+    pub(crate) fn push_start(&mut self, func: u32, base: usize) -> Result<(), NoMemory>
+        ensures ok { OnOk result (self.new ≡ frame_at func 0 base ∷ self.old) }
+        ensures err { OnErr result (self.new ≡ self.old) }
+    {
+        self.push(FlatFrame {
+            func,
+            number: 0,
+            base,
+        })
     }
 
     /// Removes the topmost activation, where there is one.

@@ -13,6 +13,17 @@ use wasm_opcodes::{
     I64_SUB, I64_XOR,
 };
 
+// The bits of -1 and of the least and the greatest number with a sign, and of pi and a signalling NaN, in 64 bits.
+const ALL_64: u64 = 0xFFFF_FFFF_FFFF_FFFF;
+
+const LEAST_64: u64 = 0x8000_0000_0000_0000;
+
+const GREATEST_64: u64 = 0x7FFF_FFFF_FFFF_FFFF;
+
+const PI_64: u64 = 0x4009_21FB_5444_2D18;
+
+const NAN_64: u64 = 0x7FF4_0000_0000_0000;
+
 // Opcode, operand, result.
 const TESTS: [(u8, u64, u32); 4] = [
     (I32_EQZ, 1, 0),
@@ -21,7 +32,8 @@ const TESTS: [(u8, u64, u32); 4] = [
     (I64_EQZ, 0, 1),
 ];
 
-const UNARY: [(u8, u64, u64); 12] = [
+// Opcode, operand, result: counts of bits, sign extensions, conversions.
+const OF_ONE: [(u8, u64, u64); 34] = [
     (I32_CLZ, 0xFF, 24),
     (I32_CLZ, 0, 32),
     (I32_CTZ, 0x8000, 15),
@@ -34,9 +46,6 @@ const UNARY: [(u8, u64, u64); 12] = [
     (I64_CTZ, 0, 64),
     (I64_POPCNT, 0xDEAD_BEEF_DEAD_BEEF, 48),
     (I64_POPCNT, 0xFFFF_FFFF_FFFF_FFFF, 64),
-];
-
-const SIGN_EXTENSIONS: [(u8, u64, u64); 8] = [
     (I32_EXTEND8_S, 0x1234_567F, 0x7F),
     (I32_EXTEND8_S, 0x1234_5680, 0xFFFF_FF80),
     (I32_EXTEND16_S, 0x1234_7FFF, 0x7FFF),
@@ -45,10 +54,24 @@ const SIGN_EXTENSIONS: [(u8, u64, u64); 8] = [
     (I64_EXTEND16_S, 0x1_FFFE, 0xFFFF_FFFF_FFFF_FFFE),
     (I64_EXTEND32_S, 0x1_7FFF_FFFF, 0x7FFF_FFFF),
     (I64_EXTEND32_S, 0x1_8000_0000, 0xFFFF_FFFF_8000_0000),
+    (I32_WRAP_I64, 0x1234_5678_9ABC_DEF0, 0x9ABC_DEF0),
+    (I32_WRAP_I64, 0xFFFF_FFFF_0000_0000, 0),
+    (I64_EXTEND_I32_S, 10_000, 10_000),
+    (I64_EXTEND_I32_S, 0x8000_0000, 0xFFFF_FFFF_8000_0000),
+    (I64_EXTEND_I32_U, 10_000, 10_000),
+    (I64_EXTEND_I32_U, 0x8000_0000, 0x8000_0000),
+    (I32_REINTERPRET_F32, 0x4049_0FDB, 0x4049_0FDB),
+    (I32_REINTERPRET_F32, 0xFFFF_FFFF, 0xFFFF_FFFF),
+    (I64_REINTERPRET_F64, PI_64, PI_64),
+    (I64_REINTERPRET_F64, ALL_64, ALL_64),
+    (F32_REINTERPRET_I32, 0x7FA0_0000, 0x7FA0_0000),
+    (F32_REINTERPRET_I32, 0xFFFF_FFFF, 0xFFFF_FFFF),
+    (F64_REINTERPRET_I64, NAN_64, NAN_64),
+    (F64_REINTERPRET_I64, ALL_64, ALL_64),
 ];
 
-// Opcode, operands, result.
-const COMPARISONS_32: [(u8, u64, u64, u32); 20] = [
+// Opcode, operands, result: comparisons, and arithmetic.
+const OF_TWO: [(u8, u64, u64, u64); 100] = [
     (I32_EQ, 1, 1, 1),
     (I32_EQ, 0x8000_0000, 0x7FFF_FFFF, 0),
     (I32_NE, 1, 1, 0),
@@ -69,9 +92,26 @@ const COMPARISONS_32: [(u8, u64, u64, u32); 20] = [
     (I32_GE_S, 0x7FFF_FFFF, 0x8000_0000, 1),
     (I32_GE_U, 1, 1, 1),
     (I32_GE_U, 0x7FFF_FFFF, 0x8000_0000, 0),
-];
-
-const BINARY_32: [(u8, u64, u64, u64); 30] = [
+    (I64_EQ, 1, 1, 1),
+    (I64_EQ, 0x8000_0000_0000_0000, 0x7FFF_FFFF_FFFF_FFFF, 0),
+    (I64_NE, 1, 1, 0),
+    (I64_NE, 0x8000_0000_0000_0000, 0x7FFF_FFFF_FFFF_FFFF, 1),
+    (I64_LT_S, 0, 1, 1),
+    (I64_LT_S, 0x7FFF_FFFF_FFFF_FFFF, 0x8000_0000_0000_0000, 0),
+    (I64_LT_U, 0, 1, 1),
+    (I64_LT_U, 0x7FFF_FFFF_FFFF_FFFF, 0x8000_0000_0000_0000, 1),
+    (I64_GT_S, 1, 0, 1),
+    (I64_GT_S, 0x7FFF_FFFF_FFFF_FFFF, 0x8000_0000_0000_0000, 1),
+    (I64_GT_U, 1, 0, 1),
+    (I64_GT_U, 0x7FFF_FFFF_FFFF_FFFF, 0x8000_0000_0000_0000, 0),
+    (I64_LE_S, 1, 1, 1),
+    (I64_LE_S, 0x7FFF_FFFF_FFFF_FFFF, 0x8000_0000_0000_0000, 0),
+    (I64_LE_U, 1, 1, 1),
+    (I64_LE_U, 0x7FFF_FFFF_FFFF_FFFF, 0x8000_0000_0000_0000, 1),
+    (I64_GE_S, 1, 1, 1),
+    (I64_GE_S, 0x7FFF_FFFF_FFFF_FFFF, 0x8000_0000_0000_0000, 1),
+    (I64_GE_U, 1, 1, 1),
+    (I64_GE_U, 0x7FFF_FFFF_FFFF_FFFF, 0x8000_0000_0000_0000, 0),
     (I32_ADD, 0x3FFF_FFFF, 1, 0x4000_0000),
     (I32_ADD, 0x7FFF_FFFF, 1, 0x8000_0000),
     (I32_SUB, 0x3FFF_FFFF, 0xFFFF_FFFF, 0x4000_0000),
@@ -102,32 +142,6 @@ const BINARY_32: [(u8, u64, u64, u64); 30] = [
     (I32_ROTL, 1, 32, 1),
     (I32_ROTR, 0xB0C1_D2E3, 5, 0x1D86_0E97),
     (I32_ROTR, 1, 32, 1),
-];
-
-const COMPARISONS_64: [(u8, u64, u64, u32); 20] = [
-    (I64_EQ, 1, 1, 1),
-    (I64_EQ, 0x8000_0000_0000_0000, 0x7FFF_FFFF_FFFF_FFFF, 0),
-    (I64_NE, 1, 1, 0),
-    (I64_NE, 0x8000_0000_0000_0000, 0x7FFF_FFFF_FFFF_FFFF, 1),
-    (I64_LT_S, 0, 1, 1),
-    (I64_LT_S, 0x7FFF_FFFF_FFFF_FFFF, 0x8000_0000_0000_0000, 0),
-    (I64_LT_U, 0, 1, 1),
-    (I64_LT_U, 0x7FFF_FFFF_FFFF_FFFF, 0x8000_0000_0000_0000, 1),
-    (I64_GT_S, 1, 0, 1),
-    (I64_GT_S, 0x7FFF_FFFF_FFFF_FFFF, 0x8000_0000_0000_0000, 1),
-    (I64_GT_U, 1, 0, 1),
-    (I64_GT_U, 0x7FFF_FFFF_FFFF_FFFF, 0x8000_0000_0000_0000, 0),
-    (I64_LE_S, 1, 1, 1),
-    (I64_LE_S, 0x7FFF_FFFF_FFFF_FFFF, 0x8000_0000_0000_0000, 0),
-    (I64_LE_U, 1, 1, 1),
-    (I64_LE_U, 0x7FFF_FFFF_FFFF_FFFF, 0x8000_0000_0000_0000, 1),
-    (I64_GE_S, 1, 1, 1),
-    (I64_GE_S, 0x7FFF_FFFF_FFFF_FFFF, 0x8000_0000_0000_0000, 1),
-    (I64_GE_U, 1, 1, 1),
-    (I64_GE_U, 0x7FFF_FFFF_FFFF_FFFF, 0x8000_0000_0000_0000, 0),
-];
-
-const BINARY_64: [(u8, u64, u64, u64); 30] = [
     (I64_ADD, 0x3FFF_FFFF, 1, 0x4000_0000),
     (I64_ADD, 0x7FFF_FFFF_FFFF_FFFF, 1, 0x8000_0000_0000_0000),
     (I64_SUB, 0x3FFF_FFFF, 0xFFFF_FFFF_FFFF_FFFF, 0x4000_0000),
@@ -138,12 +152,7 @@ const BINARY_64: [(u8, u64, u64, u64); 30] = [
         0xFEDC_BA98_7654_3210,
         0x2236_D88F_E561_8CF0,
     ),
-    (
-        I64_MUL,
-        0x7FFF_FFFF_FFFF_FFFF,
-        0xFFFF_FFFF_FFFF_FFFF,
-        0x8000_0000_0000_0001,
-    ),
+    (I64_MUL, GREATEST_64, ALL_64, 0x8000_0000_0000_0001),
     (I64_DIV_S, 0xFFFF_FFFF_FFFF_FFF9, 3, 0xFFFF_FFFF_FFFF_FFFE),
     (I64_DIV_S, 0x8000_0000_0000_0000, 2, 0xC000_0000_0000_0000),
     (I64_DIV_U, 0x8FF0_0FF0_0FF0_0FF0, 0x1_0000_0001, 0x8FF0_0FEF),
@@ -151,28 +160,13 @@ const BINARY_64: [(u8, u64, u64, u64); 30] = [
     (I64_REM_S, 0xFFFF_FFFF_FFFF_FFF9, 3, 0xFFFF_FFFF_FFFF_FFFF),
     (I64_REM_S, 0x8000_0000_0000_0000, 0xFFFF_FFFF_FFFF_FFFF, 0),
     (I64_REM_U, 0x8FF0_0FF0_0FF0_0FF0, 0x1_0000_0001, 0x8000_0001),
-    (
-        I64_REM_U,
-        0x8000_0000_0000_0000,
-        0xFFFF_FFFF_FFFF_FFFF,
-        0x8000_0000_0000_0000,
-    ),
+    (I64_REM_U, LEAST_64, ALL_64, LEAST_64),
     (I64_AND, 0xF0F0_FFFF, 0xFFFF_F0F0, 0xF0F0_F0F0),
     (I64_AND, 0x7FFF_FFFF_FFFF_FFFF, 0x8000_0000_0000_0000, 0),
     (I64_OR, 0xF0F0_FFFF, 0xFFFF_F0F0, 0xFFFF_FFFF),
-    (
-        I64_OR,
-        0x7FFF_FFFF_FFFF_FFFF,
-        0x8000_0000_0000_0000,
-        0xFFFF_FFFF_FFFF_FFFF,
-    ),
+    (I64_OR, GREATEST_64, LEAST_64, ALL_64),
     (I64_XOR, 0xF0F0_FFFF, 0xFFFF_F0F0, 0x0F0F_0F0F),
-    (
-        I64_XOR,
-        0xFFFF_FFFF_FFFF_FFFF,
-        0x8000_0000_0000_0000,
-        0x7FFF_FFFF_FFFF_FFFF,
-    ),
+    (I64_XOR, ALL_64, LEAST_64, GREATEST_64),
     (I64_SHL, 0x7FFF_FFFF_FFFF_FFFF, 1, 0xFFFF_FFFF_FFFF_FFFE),
     (I64_SHL, 1, 65, 2),
     (I64_SHR_S, 0x4000_0000_0000_0000, 1, 0x2000_0000_0000_0000),
@@ -183,40 +177,6 @@ const BINARY_64: [(u8, u64, u64, u64); 30] = [
     (I64_ROTL, 1, 64, 1),
     (I64_ROTR, 0xABCD_1234_EF56_7809, 53, 0x6891_A77A_B3C0_4D5E),
     (I64_ROTR, 1, 64, 1),
-];
-
-// Opcode, operand, result of the conversions.
-const CONVERSIONS: [(u8, u64, u64); 14] = [
-    (I32_WRAP_I64, 0x1234_5678_9ABC_DEF0, 0x9ABC_DEF0),
-    (I32_WRAP_I64, 0xFFFF_FFFF_0000_0000, 0),
-    (I64_EXTEND_I32_S, 10_000, 10_000),
-    (I64_EXTEND_I32_S, 0x8000_0000, 0xFFFF_FFFF_8000_0000),
-    (I64_EXTEND_I32_U, 10_000, 10_000),
-    (I64_EXTEND_I32_U, 0x8000_0000, 0x8000_0000),
-    (I32_REINTERPRET_F32, 0x4049_0FDB, 0x4049_0FDB),
-    (I32_REINTERPRET_F32, 0xFFFF_FFFF, 0xFFFF_FFFF),
-    (
-        I64_REINTERPRET_F64,
-        0x4009_21FB_5444_2D18,
-        0x4009_21FB_5444_2D18,
-    ),
-    (
-        I64_REINTERPRET_F64,
-        0xFFFF_FFFF_FFFF_FFFF,
-        0xFFFF_FFFF_FFFF_FFFF,
-    ),
-    (F32_REINTERPRET_I32, 0x7FA0_0000, 0x7FA0_0000),
-    (F32_REINTERPRET_I32, 0xFFFF_FFFF, 0xFFFF_FFFF),
-    (
-        F64_REINTERPRET_I64,
-        0x7FF4_0000_0000_0000,
-        0x7FF4_0000_0000_0000,
-    ),
-    (
-        F64_REINTERPRET_I64,
-        0xFFFF_FFFF_FFFF_FFFF,
-        0xFFFF_FFFF_FFFF_FFFF,
-    ),
 ];
 
 // Opcode and operands of divisions that trap.
@@ -230,12 +190,7 @@ const TRAPS: [(u8, u64, u64, NumTrap); 14] = [
     (I32_REM_U, 1, 0, NumTrap::DivideByZero),
     (I64_DIV_S, 1, 0, NumTrap::DivideByZero),
     (I64_DIV_S, 0x8000_0000_0000_0000, 0, NumTrap::DivideByZero),
-    (
-        I64_DIV_S,
-        0x8000_0000_0000_0000,
-        0xFFFF_FFFF_FFFF_FFFF,
-        NumTrap::Overflow,
-    ),
+    (I64_DIV_S, LEAST_64, ALL_64, NumTrap::Overflow),
     (I64_DIV_U, 1, 0, NumTrap::DivideByZero),
     (I64_REM_S, 1, 0, NumTrap::DivideByZero),
     (I64_REM_S, 0x8000_0000_0000_0000, 0, NumTrap::DivideByZero),
@@ -249,14 +204,6 @@ fn test_at(op: u8, a: u64) -> Option<u32> {
     match op {
         I32_EQZ if a < PAST_I32 => Some(test(op, a)),
         I64_EQZ => Some(test(op, a)),
-        _ => None,
-    }
-}
-
-fn compare_at(op: u8, a: u64, b: u64) -> Option<u32> {
-    match op {
-        I32_EQ..=I32_GE_U if a < PAST_I32 && b < PAST_I32 => Some(compare(op, a, b)),
-        I64_EQ..=I64_GE_U => Some(compare(op, a, b)),
         _ => None,
     }
 }
@@ -280,19 +227,33 @@ fn sign_extension_at(op: u8, a: u64) -> Option<u64> {
     }
 }
 
-fn binary_at(op: u8, a: u64, b: u64) -> Option<Result<u64, NumTrap>> {
-    match op {
-        I32_ADD..=I32_ROTR if a < PAST_I32 && b < PAST_I32 => Some(binary(op, a, b)),
-        I64_ADD..=I64_ROTR => Some(binary(op, a, b)),
-        _ => None,
-    }
-}
-
 fn convert_at(op: u8, a: u64) -> Option<u64> {
     match op {
         I64_EXTEND_I32_S | I64_EXTEND_I32_U | I32_REINTERPRET_F32 | F32_REINTERPRET_I32
             if a < PAST_I32 => Some(convert(op, a)),
         I32_WRAP_I64 | I64_REINTERPRET_F64 | F64_REINTERPRET_I64 => Some(convert(op, a)),
+        _ => None,
+    }
+}
+
+// What an instruction gives that counts bits, extends a sign or converts.
+fn of_one_at(op: u8, a: u64) -> Option<u64> {
+    match (unary_at(op, a), sign_extension_at(op, a)) {
+        (Some(result), _) => Some(result),
+        (None, Some(result)) => Some(result),
+        (None, None) => convert_at(op, a),
+    }
+}
+
+// What an instruction gives that compares, or one of arithmetic.
+fn of_two_at(op: u8, a: u64, b: u64) -> Option<Result<u64, NumTrap>> {
+    match op {
+        I32_EQ..=I32_GE_U if a < PAST_I32 && b < PAST_I32 => {
+            Some(Ok(u64::from(compare(op, a, b))))
+        }
+        I64_EQ..=I64_GE_U => Some(Ok(u64::from(compare(op, a, b)))),
+        I32_ADD..=I32_ROTR if a < PAST_I32 && b < PAST_I32 => Some(binary(op, a, b)),
+        I64_ADD..=I64_ROTR => Some(binary(op, a, b)),
         _ => None,
     }
 }
@@ -305,49 +266,22 @@ fn tests_of_zero(rt: HostRuntime) {
 }
 
 #[test]
-fn comparisons(rt: HostRuntime) {
-    for (op, a, b, want) in COMPARISONS_32 {
-        assert_eq!(rt; compare_at(op, a, b), Some(want), "{op} of {a} and {b}");
-    }
-    for (op, a, b, want) in COMPARISONS_64 {
-        assert_eq!(rt; compare_at(op, a, b), Some(want), "{op} of {a} and {b}");
+fn instructions_on_one_operand(rt: HostRuntime) {
+    for (op, a, want) in OF_ONE {
+        assert_eq!(rt; of_one_at(op, a), Some(want), "{op} of {a}");
     }
 }
 
 #[test]
-fn sign_extensions(rt: HostRuntime) {
-    for (op, a, want) in SIGN_EXTENSIONS {
-        assert_eq!(rt; sign_extension_at(op, a), Some(want), "{op} of {a}");
-    }
-}
-
-#[test]
-fn counts_of_bits(rt: HostRuntime) {
-    for (op, a, want) in UNARY {
-        assert_eq!(rt; unary_at(op, a), Some(want), "{op} of {a}");
-    }
-}
-
-#[test]
-fn arithmetic(rt: HostRuntime) {
-    for (op, a, b, want) in BINARY_32 {
-        assert_eq!(rt; binary_at(op, a, b), Some(Ok(want)), "{op} of {a} and {b}");
-    }
-    for (op, a, b, want) in BINARY_64 {
-        assert_eq!(rt; binary_at(op, a, b), Some(Ok(want)), "{op} of {a} and {b}");
+fn instructions_on_two_operands(rt: HostRuntime) {
+    for (op, a, b, want) in OF_TWO {
+        assert_eq!(rt; of_two_at(op, a, b), Some(Ok(want)), "{op} of {a} and {b}");
     }
 }
 
 #[test]
 fn divisions_that_trap(rt: HostRuntime) {
     for (op, a, b, want) in TRAPS {
-        assert_eq!(rt; binary_at(op, a, b), Some(Err(want)), "{op} of {a} and {b}");
-    }
-}
-
-#[test]
-fn conversions(rt: HostRuntime) {
-    for (op, a, want) in CONVERSIONS {
-        assert_eq!(rt; convert_at(op, a), Some(want), "{op} of {a}");
+        assert_eq!(rt; of_two_at(op, a, b), Some(Err(want)), "{op} of {a} and {b}");
     }
 }

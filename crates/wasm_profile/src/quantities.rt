@@ -44,13 +44,7 @@ fn refuse_tables(module: &Module) -> Result<(), ProfileFault>
     ensures { refusal_in result ≡ slice_get
         (filter_map (λ limits. past MOST_ENTRIES Table limits.min) (all_tables «module».now)) 0 }
 {
-    let imports = module.imports.as_slice();
-    refuse_all(
-        MOST_ENTRIES,
-        Which::Table,
-        imports,
-        module.tables.as_slice(),
-    )
+    refuse_all(MOST_ENTRIES, Which::Table, module, module.tables.as_slice())
 }
 
 /// Refuses the first memory that begins with too many pages, imported ones first.
@@ -58,27 +52,21 @@ fn refuse_memories(module: &Module) -> Result<(), ProfileFault>
     ensures { refusal_in result ≡ slice_get
         (filter_map (λ limits. past MOST_PAGES Memory limits.min) (all_memories «module».now)) 0 }
 {
-    let imports = module.imports.as_slice();
     refuse_all(
         MOST_PAGES,
         Which::Memory,
-        imports,
+        module,
         module.memories.as_slice(),
     )
 }
 
 /// Refuses the first of these quantities of tables or of memories, imported ones first.
 #[tactic(auto, using(crate::proofs::Scans::picked_after, crate::proofs::Scans::picked_of_front))]
-fn refuse_all(
-    most: u32,
-    which: Which,
-    imports: &[Import],
-    all: &[Limits],
-) -> Result<(), ProfileFault>
-    ensures { refusal_in result
-        ≡ slice_get (filter_map (past_minimum most which) (of_kind (limits_import which) imports.now ++ all.now)) 0 }
+fn refuse_all(most: u32, which: Which, module: &Module, all: &[Limits]) -> Result<(), ProfileFault>
+    ensures { refusal_in result ≡ slice_get
+        (filter_map (past_minimum most which) (of_kind (limits_import which) «module».now.imports ++ all.now)) 0 }
 {
-    refuse_imports(most, which, imports)?;
+    refuse_imports(most, which, module.imports.as_slice())?;
     refuse_limits(most, which, all)
 }
 

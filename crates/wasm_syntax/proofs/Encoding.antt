@@ -2,6 +2,7 @@
 pub mod Tools
 pub mod Lists
 pub mod Numbers
+pub mod Bytes
 pub mod Types
 pub mod Instructions
 pub mod Nests

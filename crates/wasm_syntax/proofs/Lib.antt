@@ -9,7 +9,7 @@ mod OpcodeExamples
 mod Places
 mod ProfileExamples
 pub mod Quantities
-mod SameTypes
+pub mod SameTypes
 mod EncodingExamples
 mod TypingExamples
 mod ValidityExamples

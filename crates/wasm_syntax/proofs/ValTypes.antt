@@ -1,25 +1,31 @@
 -- The tests for equality of value types, of lists of them and of function types: each passes for equals alone.
-use Rattle.std.proofs.Common.{◌≡◌, List, [], ◌∷◌, true, refl}
+use Rattle.std.proofs.Common.{◌≡◌, ℕ, List, [], ◌∷◌, true, cond, nat_eq, refl, sym, ap, ◌∙◌}
+use Rattle.std.proofs.lemmas.Bool.Decides.{Decides-eqb}
 use Rattle.list_laws.proofs.Booleans.{and_parts, and_true}
+use Rattle.wasm_opcodes.specs.declared.marks.TheConstants.{TYPE_I32, TYPE_I64, TYPE_F32, TYPE_F64}
 use Rattle.wasm_syntax.specs.declared.values.ValType.{ValType}
 use Rattle.wasm_syntax.specs.declared.values.ValType.TheVariants.{I32, I64, F32, F64, FuncRef}
 use Rattle.wasm_syntax.specs.declared.signatures.FuncType.{FuncType}
-use Rattle.wasm_syntax.specs.Alike.{same_type, same_types, same_signature}
+use Rattle.wasm_syntax.specs.Alike.{type_byte, same_type, same_types, same_signature}
 
-pub type_same : (t u : ValType) → same_type t u ≡ true → t ≡ u
-type_same I32 I32 h = refl
-type_same I64 I64 h = refl
-type_same F32 F32 h = refl
-type_same F64 F64 h = refl
-type_same FuncRef FuncRef h = refl
-type_same t u h = cc
+-- the type that a byte stands for
+abbrev type_of_byte : ℕ → ValType
+type_of_byte byte =
+    cond (nat_eq byte TYPE_I32) I32 (cond (nat_eq byte TYPE_I64) I64 (cond (nat_eq byte TYPE_F32) F32
+    (cond (nat_eq byte TYPE_F64) F64 FuncRef)))
+
+byte_back : (t : ValType) → type_of_byte (type_byte t) ≡ t
+byte_back I32 = refl
+byte_back I64 = refl
+byte_back F32 = refl
+byte_back F64 = refl
+byte_back FuncRef = refl
 
 pub type_own : (t : ValType) → same_type t t ≡ true
-type_own I32 = refl
-type_own I64 = refl
-type_own F32 = refl
-type_own F64 = refl
-type_own FuncRef = refl
+type_own t = (Decides-eqb (type_byte t) (type_byte t)).1 refl
+
+pub type_same : (t u : ValType) → same_type t u ≡ true → t ≡ u
+type_same t u h = sym (byte_back t) ∙ ap type_of_byte ((Decides-eqb (type_byte t) (type_byte u)).0 h) ∙ byte_back u
 
 pub types_same : (ts us : List ValType) → same_types ts us ≡ true → ts ≡ us
 types_same [] [] h = refl

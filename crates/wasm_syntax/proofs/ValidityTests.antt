@@ -164,23 +164,29 @@ outside_decides m =
     let one_memory = at_most (length (all_memories m)) 1 in
     Decides-like (is_valid_outside m)
     (λ h. record {
-      types = h.0;
-      imports = h.1.0;
-      funcs = h.1.1.0;
-      tables = h.1.1.1.0;
-      memories = h.1.1.1.1.0;
-      globals = h.1.1.1.1.1.0;
-      exports = h.1.1.1.1.1.1.0;
-      names_differ = h.1.1.1.1.1.1.1.0;
-      start = h.1.1.1.1.1.1.1.1.0;
-      elems = h.1.1.1.1.1.1.1.1.1.0;
-      datas = h.1.1.1.1.1.1.1.1.1.1.0;
-      one_table = h.1.1.1.1.1.1.1.1.1.1.1.0;
-      one_memory = h.1.1.1.1.1.1.1.1.1.1.1.1;
+      types = h.0.0;
+      imports = h.0.1.0;
+      funcs = h.0.1.1.0;
+      tables = h.0.1.1.1.0;
+      memories = h.0.1.1.1.1.0;
+      globals = h.0.1.1.1.1.1;
+      exports = h.1.0;
+      names_differ = h.1.1.0;
+      start = h.1.1.1.0;
+      elems = h.1.1.1.1.0;
+      datas = h.1.1.1.1.1.0;
+      one_table = h.1.1.1.1.1.1.0;
+      one_memory = h.1.1.1.1.1.1.1;
     })
-    (λ h. (h.types, (h.imports, (h.funcs, (h.tables, (h.memories, (h.globals, (h.exports, (h.names_differ, (h.start, (h.elems, (h.datas, (h.one_table, h.one_memory)))))))))))))
-    (Decides-and _ _ types (Decides-and _ _ imports (Decides-and _ _ funcs (Decides-and _ _ tables (Decides-and _ _ memories (Decides-and _ _ globals
-    (Decides-and _ _ exports (Decides-and _ _ names (Decides-and _ _ start (Decides-and _ _ elems (Decides-and _ _ datas (Decides-and _ _ one_table one_memory))))))))))))
+    (λ h. (
+      (h.types, (h.imports, (h.funcs, (h.tables, (h.memories, h.globals))))),
+      (h.exports, (h.names_differ, (h.start, (h.elems, (h.datas, (h.one_table, h.one_memory)))))),
+    ))
+    (Decides-and _ _
+    (Decides-and _ _ types (Decides-and _ _ imports (Decides-and _ _ funcs (Decides-and _ _ tables
+    (Decides-and _ _ memories globals)))))
+    (Decides-and _ _ exports (Decides-and _ _ names (Decides-and _ _ start (Decides-and _ _ elems
+    (Decides-and _ _ datas (Decides-and _ _ one_table one_memory)))))))
 
 -- a body's typing, by the nest that is read and the type that is found
 typed_if_ends : (m : Module) (f : Function) (ty : FuncType) (nest : Option Nest) → nest_of f.body ≡ nest

@@ -97,21 +97,29 @@ names_differ [] = true
 names_differ (e ∷ exports) =
     list_all (λ (later : Export). not (bytes_eq e.name later.name)) exports && names_differ exports
 
-abbrev pub is_valid_outside : Module → Bool
-is_valid_outside m =
+-- the types, and all that is imported or defined
+abbrev pub declares : Module → Bool
+declares m =
     list_all is_func_type m.types
     && (list_all (λ i. is_import m i.kind) m.imports
     && (list_all (is_declared_func m) m.funcs
     && (list_all is_table m.tables
     && (list_all is_memory m.memories
-    && (list_all (is_global m) m.globals
-    && (list_all (λ e. is_there m e.kind) m.exports
+    && list_all (is_global m) m.globals))))
+
+-- exports, the start function, segments, and how many tables and memories there are
+abbrev pub refers : Module → Bool
+refers m =
+    list_all (λ e. is_there m e.kind) m.exports
     && (names_differ m.exports
     && (is_start m m.start
     && (list_all (is_elem m) m.elems
     && (list_all (is_data m) m.datas
     && (nat_le (length (all_tables m)) 1
-    && nat_le (length (all_memories m)) 1)))))))))))
+    && nat_le (length (all_memories m)) 1)))))
+
+abbrev pub is_valid_outside : Module → Bool
+is_valid_outside m = declares m && refers m
 
 -- a body is nested, and may leave these types
 abbrev pub nest_ends : Context → List ValType → Option Nest → Bool

@@ -3,7 +3,7 @@
 ghost use Rattle.std.specs.Prelude.{◌≡◌, ◌+◌, ◌-◌, ◌^◌, ◌<◌, ◌≤◌, [], length, IfOk, OnOk, OnErr};
 ghost use Rattle.wasm_syntax.specs.AppendedTypes.{AreDistinct, HasNumber, Asks};
 
-use crate::lists::List;
+use crate::lists::{Item, List};
 use crate::signatures::{FuncType, FuncTypes};
 use indexmap::IndexSet;
 use no_memory::NoMemory;
@@ -57,7 +57,7 @@ impl Types {
         if let Some(place) = self.types.get_index_of(ty) {
             return Ok(self.count + place as u32);
         }
-        let (place, _added) = self.types.insert_full(ty.clone()?)?;
+        let (place, _added) = self.types.insert_full(ty.copy()?)?;
         Ok(self.count + place as u32)
     }
 

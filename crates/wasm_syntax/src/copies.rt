@@ -2,23 +2,96 @@
 
 ghost use Rattle.std.specs.Prelude.{◌≡◌, IfOk};
 
+use crate::instructions::Instr;
 use crate::lists::Item;
 use crate::modules::{
     Custom, Customs, DataSeg, DataSegs, ElemSeg, ElemSegs, Export, Exports, Func, Funcs, Global,
     Globals, Import, Imports, LimitsList, Module, Run,
 };
-use crate::signatures::FuncTypes;
+use crate::signatures::{FuncType, FuncTypes, Limits};
+use crate::values::{Val, ValType};
 use no_memory::NoMemory;
 
-impl Import {
-    /// An equal import.
-    ///
-    /// # Errors
-    ///
-    /// When memory runs out.
-    pub fn clone(&self) -> Result<Import, NoMemory>
-        ensures { IfOk result (λ copy. copy ≡ self.now) }
-    {
+impl Item for u8 {
+    fn copy(&self) -> Result<u8, NoMemory> {
+        Ok(*self)
+    }
+}
+
+impl Item for u32 {
+    fn copy(&self) -> Result<u32, NoMemory> {
+        Ok(*self)
+    }
+}
+
+impl Item for ValType {
+    fn copy(&self) -> Result<ValType, NoMemory> {
+        Ok(*self)
+    }
+}
+
+impl Item for Val {
+    fn copy(&self) -> Result<Val, NoMemory> {
+        Ok(*self)
+    }
+}
+
+impl Item for Limits {
+    fn copy(&self) -> Result<Limits, NoMemory> {
+        Ok(*self)
+    }
+}
+
+impl Item for FuncType {
+    fn copy(&self) -> Result<FuncType, NoMemory> {
+        let params = self.params.clone()?;
+        let results = self.results.clone()?;
+        Ok(FuncType { params, results })
+    }
+}
+
+impl Item for Instr {
+    fn copy(&self) -> Result<Instr, NoMemory> {
+        Ok(match self {
+            Instr::Unreachable => Instr::Unreachable,
+            Instr::Nop => Instr::Nop,
+            Instr::Block(result) => Instr::Block(*result),
+            Instr::Loop(result) => Instr::Loop(*result),
+            Instr::If(result) => Instr::If(*result),
+            Instr::Else => Instr::Else,
+            Instr::End => Instr::End,
+            Instr::Br(label) => Instr::Br(*label),
+            Instr::BrIf(label) => Instr::BrIf(*label),
+            Instr::BrTable(labels, default) => Instr::BrTable(labels.clone()?, *default),
+            Instr::Return => Instr::Return,
+            Instr::Call(func) => Instr::Call(*func),
+            Instr::CallIndirect(ty) => Instr::CallIndirect(*ty),
+            Instr::Drop => Instr::Drop,
+            Instr::Select => Instr::Select,
+            Instr::LocalGet(local) => Instr::LocalGet(*local),
+            Instr::LocalSet(local) => Instr::LocalSet(*local),
+            Instr::LocalTee(local) => Instr::LocalTee(*local),
+            Instr::GlobalGet(global) => Instr::GlobalGet(*global),
+            Instr::GlobalSet(global) => Instr::GlobalSet(*global),
+            Instr::Load(access) => Instr::Load(*access),
+            Instr::Store(access) => Instr::Store(*access),
+            Instr::MemorySize => Instr::MemorySize,
+            Instr::MemoryGrow => Instr::MemoryGrow,
+            Instr::MemoryCopy => Instr::MemoryCopy,
+            Instr::MemoryFill => Instr::MemoryFill,
+            Instr::Const(value) => Instr::Const(*value),
+            Instr::Numeric(op) => Instr::Numeric(*op),
+            Instr::RefNull => Instr::RefNull,
+            Instr::RefFunc(func) => Instr::RefFunc(*func),
+            Instr::TableSet(table) => Instr::TableSet(*table),
+            Instr::TableGrow(table) => Instr::TableGrow(*table),
+            Instr::TableSize(table) => Instr::TableSize(*table),
+        })
+    }
+}
+
+impl Item for Import {
+    fn copy(&self) -> Result<Import, NoMemory> {
         let module = self.module.clone()?;
         let name = self.name.clone()?;
         Ok(Import {
@@ -29,15 +102,8 @@ impl Import {
     }
 }
 
-impl Export {
-    /// An equal export.
-    ///
-    /// # Errors
-    ///
-    /// When memory runs out.
-    pub fn clone(&self) -> Result<Export, NoMemory>
-        ensures { IfOk result (λ copy. copy ≡ self.now) }
-    {
+impl Item for Export {
+    fn copy(&self) -> Result<Export, NoMemory> {
         let name = self.name.clone()?;
         Ok(Export {
             name,
@@ -46,15 +112,8 @@ impl Export {
     }
 }
 
-impl Func {
-    /// An equal function.
-    ///
-    /// # Errors
-    ///
-    /// When memory runs out.
-    pub fn clone(&self) -> Result<Func, NoMemory>
-        ensures { IfOk result (λ copy. copy ≡ self.now) }
-    {
+impl Item for Func {
+    fn copy(&self) -> Result<Func, NoMemory> {
         let locals = self.locals.clone()?;
         let body = self.body.clone()?;
         Ok(Func {
@@ -65,29 +124,15 @@ impl Func {
     }
 }
 
-impl Global {
-    /// An equal global.
-    ///
-    /// # Errors
-    ///
-    /// When memory runs out.
-    pub fn clone(&self) -> Result<Global, NoMemory>
-        ensures { IfOk result (λ copy. copy ≡ self.now) }
-    {
+impl Item for Global {
+    fn copy(&self) -> Result<Global, NoMemory> {
         let init = self.init.clone()?;
         Ok(Global { ty: self.ty, init })
     }
 }
 
-impl ElemSeg {
-    /// An equal element segment.
-    ///
-    /// # Errors
-    ///
-    /// When memory runs out.
-    pub fn clone(&self) -> Result<ElemSeg, NoMemory>
-        ensures { IfOk result (λ copy. copy ≡ self.now) }
-    {
+impl Item for ElemSeg {
+    fn copy(&self) -> Result<ElemSeg, NoMemory> {
         match self {
             ElemSeg::Active {
                 table,
@@ -110,15 +155,8 @@ impl ElemSeg {
     }
 }
 
-impl DataSeg {
-    /// An equal data segment.
-    ///
-    /// # Errors
-    ///
-    /// When memory runs out.
-    pub fn clone(&self) -> Result<DataSeg, NoMemory>
-        ensures { IfOk result (λ copy. copy ≡ self.now) }
-    {
+impl Item for DataSeg {
+    fn copy(&self) -> Result<DataSeg, NoMemory> {
         let offset = self.offset.clone()?;
         let bytes = self.bytes.clone()?;
         Ok(DataSeg {
@@ -129,15 +167,8 @@ impl DataSeg {
     }
 }
 
-impl Custom {
-    /// An equal custom section.
-    ///
-    /// # Errors
-    ///
-    /// When memory runs out.
-    pub fn clone(&self) -> Result<Custom, NoMemory>
-        ensures { IfOk result (λ copy. copy ≡ self.now) }
-    {
+impl Item for Custom {
+    fn copy(&self) -> Result<Custom, NoMemory> {
         let name = self.name.clone()?;
         let bytes = self.bytes.clone()?;
         Ok(Custom { name, bytes })
@@ -181,7 +212,19 @@ impl Module {
         let code = self.code_parts()?;
         let store = self.store_parts()?;
         let segments = self.segment_parts()?;
-        Ok(module_of(code, store, self.start, segments))
+        Ok(Module {
+            types: code.types,
+            imports: code.imports,
+            funcs: code.funcs,
+            tables: store.tables,
+            memories: store.memories,
+            globals: store.globals,
+            exports: store.exports,
+            start: self.start,
+            elems: segments.elems,
+            datas: segments.datas,
+            customs: segments.customs,
+        })
     }
 
     fn code_parts(&self) -> Result<CodeParts, NoMemory>
@@ -226,84 +269,6 @@ impl Module {
             datas,
             customs,
         })
-    }
-}
-
-/// The module of these parts.
-fn module_of(
-    code: CodeParts,
-    store: StoreParts,
-    start: Option<u32>,
-    segments: SegmentParts,
-) -> Module
-    ensures { result ≡ record {
-      types = code.types;
-      imports = code.imports;
-      funcs = code.funcs;
-      tables = store.tables;
-      memories = store.memories;
-      globals = store.globals;
-      exports = store.exports;
-      start = start;
-      elems = segments.elems;
-      datas = segments.datas;
-      customs = segments.customs;
-    } }
-{
-    Module {
-        types: code.types,
-        imports: code.imports,
-        funcs: code.funcs,
-        tables: store.tables,
-        memories: store.memories,
-        globals: store.globals,
-        exports: store.exports,
-        start,
-        elems: segments.elems,
-        datas: segments.datas,
-        customs: segments.customs,
-    }
-}
-
-impl Item for Import {
-    fn copy(&self) -> Result<Import, NoMemory> {
-        self.clone()
-    }
-}
-
-impl Item for Export {
-    fn copy(&self) -> Result<Export, NoMemory> {
-        self.clone()
-    }
-}
-
-impl Item for Func {
-    fn copy(&self) -> Result<Func, NoMemory> {
-        self.clone()
-    }
-}
-
-impl Item for Global {
-    fn copy(&self) -> Result<Global, NoMemory> {
-        self.clone()
-    }
-}
-
-impl Item for ElemSeg {
-    fn copy(&self) -> Result<ElemSeg, NoMemory> {
-        self.clone()
-    }
-}
-
-impl Item for DataSeg {
-    fn copy(&self) -> Result<DataSeg, NoMemory> {
-        self.clone()
-    }
-}
-
-impl Item for Custom {
-    fn copy(&self) -> Result<Custom, NoMemory> {
-        self.clone()
     }
 }
 

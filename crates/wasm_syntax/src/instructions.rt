@@ -1,10 +1,7 @@
 // Instructions and bodies.
 
-ghost use Rattle.std.specs.Prelude.{◌≡◌, IfOk};
-
-use crate::lists::{Item, List};
+use crate::lists::List;
 use crate::values::{Val, ValType};
-use no_memory::NoMemory;
 
 /// One instruction of a flat body (Core 1.0, 2.4; of Core 2.0 the sign extensions, `memory.copy` and
 /// `memory.fill`, 2.4.1 and 2.4.7). `Numeric` holds an opcode from 0x45 to 0xC4 (Core 1.0, 5.4.5;
@@ -61,56 +58,3 @@ pub type Labels = List<u32>;
 /// The instructions of a function or a constant expression in order; the last is its own `End`
 /// (Core 1.0, 2.4.6).
 pub type Body = List<Instr>;
-
-impl Instr {
-    /// An equal instruction.
-    ///
-    /// # Errors
-    ///
-    /// When memory runs out.
-    pub fn clone(&self) -> Result<Instr, NoMemory>
-        ensures { IfOk result (λ copy. copy ≡ self.now) }
-    {
-        Ok(match self {
-            Instr::Unreachable => Instr::Unreachable,
-            Instr::Nop => Instr::Nop,
-            Instr::Block(result) => Instr::Block(*result),
-            Instr::Loop(result) => Instr::Loop(*result),
-            Instr::If(result) => Instr::If(*result),
-            Instr::Else => Instr::Else,
-            Instr::End => Instr::End,
-            Instr::Br(label) => Instr::Br(*label),
-            Instr::BrIf(label) => Instr::BrIf(*label),
-            Instr::BrTable(labels, default) => Instr::BrTable(labels.clone()?, *default),
-            Instr::Return => Instr::Return,
-            Instr::Call(func) => Instr::Call(*func),
-            Instr::CallIndirect(ty) => Instr::CallIndirect(*ty),
-            Instr::Drop => Instr::Drop,
-            Instr::Select => Instr::Select,
-            Instr::LocalGet(local) => Instr::LocalGet(*local),
-            Instr::LocalSet(local) => Instr::LocalSet(*local),
-            Instr::LocalTee(local) => Instr::LocalTee(*local),
-            Instr::GlobalGet(global) => Instr::GlobalGet(*global),
-            Instr::GlobalSet(global) => Instr::GlobalSet(*global),
-            Instr::Load(access) => Instr::Load(*access),
-            Instr::Store(access) => Instr::Store(*access),
-            Instr::MemorySize => Instr::MemorySize,
-            Instr::MemoryGrow => Instr::MemoryGrow,
-            Instr::MemoryCopy => Instr::MemoryCopy,
-            Instr::MemoryFill => Instr::MemoryFill,
-            Instr::Const(value) => Instr::Const(*value),
-            Instr::Numeric(op) => Instr::Numeric(*op),
-            Instr::RefNull => Instr::RefNull,
-            Instr::RefFunc(func) => Instr::RefFunc(*func),
-            Instr::TableSet(table) => Instr::TableSet(*table),
-            Instr::TableGrow(table) => Instr::TableGrow(*table),
-            Instr::TableSize(table) => Instr::TableSize(*table),
-        })
-    }
-}
-
-impl Item for Instr {
-    fn copy(&self) -> Result<Instr, NoMemory> {
-        self.clone()
-    }
-}

@@ -1,6 +1,6 @@
 // Lists of the syntax trees.
 
-ghost use Rattle.std.specs.Prelude.{◌≡◌, [], length, IfOk};
+ghost use Rattle.std.specs.Prelude.{◌≡◌, [], ◌∷◌, ◌++◌, length, IfOk, OnOk, OnErr};
 ghost use Rattle.std.specs.Hash as fed;
 ghost use Rattle.std.specs.Hash.{items_Alike};
 
@@ -69,6 +69,21 @@ impl<T> List<T> {
     }
 }
 
+impl<T: Drop> List<T> {
+    /// Appends an item.
+    ///
+    /// # Errors
+    ///
+    /// When memory runs out; the list is then as it was.
+    pub fn push(&mut self, item: T) -> Result<(), NoMemory>
+        ensures ok { OnOk result (self.new ≡ self.old ++ item ∷ []) }
+        ensures refused { OnErr result (self.new ≡ self.old) }
+    {
+        self.items.push(item)?;
+        Ok(())
+    }
+}
+
 impl<T: Item + Drop> List<T> {
     /// An equal list.
     ///
@@ -83,18 +98,6 @@ impl<T: Item + Drop> List<T> {
             items.push(item.copy()?)?;
         }
         Ok(List { items })
-    }
-}
-
-impl Item for u8 {
-    fn copy(&self) -> Result<u8, NoMemory> {
-        Ok(*self)
-    }
-}
-
-impl Item for u32 {
-    fn copy(&self) -> Result<u32, NoMemory> {
-        Ok(*self)
     }
 }
 

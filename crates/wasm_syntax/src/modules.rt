@@ -1,13 +1,14 @@
 // Modules and their parts.
 
-ghost use Rattle.std.specs.Prelude.{◌≡◌, IfOk};
+ghost use Rattle.std.specs.Prelude.{◌≡◌};
+ghost use Rattle.wasm_syntax.specs.EmptyModule.{empty_module};
 
 use crate::instructions::Body;
-use crate::lists::{Bytes, Indices, Item, List};
+use crate::lists::{Bytes, Indices, List};
 use crate::names::Name;
 use crate::signatures::{FuncTypes, GlobalType, Limits};
 use crate::values::ValType;
-use no_memory::NoMemory;
+use std::alloc;
 
 /// An import (Core 1.0, 2.5.11).
 #[derive(Debug, Drop)]
@@ -127,4 +128,25 @@ pub struct Module {
     pub elems: ElemSegs,
     pub datas: DataSegs,
     pub customs: Customs,
+}
+
+impl Module {
+    /// The module that has nothing. Takes no memory.
+    pub fn empty(alloc: alloc::Global) -> Module
+        ensures { result ≡ empty_module }
+    {
+        Module {
+            types: List::new(alloc),
+            imports: List::new(alloc),
+            funcs: List::new(alloc),
+            tables: List::new(alloc),
+            memories: List::new(alloc),
+            globals: List::new(alloc),
+            exports: List::new(alloc),
+            start: None,
+            elems: List::new(alloc),
+            datas: List::new(alloc),
+            customs: List::new(alloc),
+        }
+    }
 }

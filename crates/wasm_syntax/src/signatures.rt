@@ -1,10 +1,7 @@
 // Types of functions, globals, memories and tables.
 
-ghost use Rattle.std.specs.Prelude.{◌≡◌, IfOk};
-
-use crate::lists::{Item, List};
+use crate::lists::List;
 use crate::values::{ValType, ValTypes};
-use no_memory::NoMemory;
 
 /// The type of a function (Core 1.0, 2.3.3).
 #[derive(PartialEq, Eq, Hash, Debug, Drop)]
@@ -29,30 +26,3 @@ pub struct GlobalType {
 
 /// Function types in order of their indices.
 pub type FuncTypes = List<FuncType>;
-
-impl FuncType {
-    /// An equal type.
-    ///
-    /// # Errors
-    ///
-    /// When memory runs out.
-    pub fn clone(&self) -> Result<FuncType, NoMemory>
-        ensures { IfOk result (λ copy. copy ≡ self.now) }
-    {
-        let params = self.params.clone()?;
-        let results = self.results.clone()?;
-        Ok(FuncType { params, results })
-    }
-}
-
-impl Item for FuncType {
-    fn copy(&self) -> Result<FuncType, NoMemory> {
-        self.clone()
-    }
-}
-
-impl Item for Limits {
-    fn copy(&self) -> Result<Limits, NoMemory> {
-        Ok(*self)
-    }
-}

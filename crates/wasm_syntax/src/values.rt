@@ -1,7 +1,10 @@
 // Value types and values.
 
-use crate::lists::{Item, List};
-use no_memory::NoMemory;
+ghost use Rattle.std.specs.Prelude.{◌≡◌};
+ghost use Rattle.wasm_syntax.specs.Alike.{type_byte};
+
+use crate::lists::List;
+use wasm_opcodes::marks::{TYPE_F32, TYPE_F64, TYPE_FUNCREF, TYPE_I32, TYPE_I64};
 
 /// A value type (Core 1.0, 2.3.1). `FuncRef` (Core 2.0, 2.3.3) stands on operand stacks of the
 /// replay form alone.
@@ -12,6 +15,22 @@ pub enum ValType {
     F32,
     F64,
     FuncRef,
+}
+
+impl ValType {
+    /// The byte that stands for the type (Core 1.0, 5.3.1; for references Core 2.0, 5.3.3).
+    #[inline]
+    pub fn byte(self) -> u8
+        ensures { result ≡ type_byte self }
+    {
+        match self {
+            ValType::I32 => TYPE_I32,
+            ValType::I64 => TYPE_I64,
+            ValType::F32 => TYPE_F32,
+            ValType::F64 => TYPE_F64,
+            ValType::FuncRef => TYPE_FUNCREF,
+        }
+    }
 }
 
 /// A value: its type and its bits. The upper 32 bits of a 32-bit value are 0 (Core 1.0, 4.2.1).
@@ -26,15 +45,3 @@ pub type ValTypes = List<ValType>;
 
 /// Values in order, as of arguments or results.
 pub type Vals = List<Val>;
-
-impl Item for ValType {
-    fn copy(&self) -> Result<ValType, NoMemory> {
-        Ok(*self)
-    }
-}
-
-impl Item for Val {
-    fn copy(&self) -> Result<Val, NoMemory> {
-        Ok(*self)
-    }
-}

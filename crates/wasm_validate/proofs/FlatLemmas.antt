@@ -189,19 +189,16 @@ record IsRead (levels : List Level) (is : List Instr) : Type 0 where
   read : open_nest is ≡ Within first around
   blocks : AreOpen levels around
 
-reads-block : (inner l : Level) (levels : List Level) (is : List Instr) (ty : Option ValType) (first : Nest) (around : Open)
+-- a block without `else`
+reads-open : (i : Instr) (block : Nest → Nest → Nest)
+    → ((first rest : Nest) (around : Open) → in_front i (Within first (InEnd around rest)) ≡ Within (block first rest) around)
+    → (inner l : Level) (levels : List Level) (is : List Instr) (first : Nest) (around : Open)
     → is_if inner.kind ≡ false → open_nest is ≡ Within first around → AreOpen (inner ∷ l ∷ levels) around
-    → IsRead (l ∷ levels) (instr.Block ty ∷ is)
-reads-block inner l levels is ty first Outside not r b = absurd b
-reads-block inner l levels is ty first (InEnd around rest) not r b = record { first = InBlock ty first rest; around = around; read = ap (in_front (instr.Block ty)) r; blocks = b }
-reads-block inner l levels is ty first (InElse around other rest) not r b = absurd (false≢true (sym not ∙ b.0))
-
-reads-loop : (inner l : Level) (levels : List Level) (is : List Instr) (ty : Option ValType) (first : Nest) (around : Open)
-    → is_if inner.kind ≡ false → open_nest is ≡ Within first around → AreOpen (inner ∷ l ∷ levels) around
-    → IsRead (l ∷ levels) (instr.Loop ty ∷ is)
-reads-loop inner l levels is ty first Outside not r b = absurd b
-reads-loop inner l levels is ty first (InEnd around rest) not r b = record { first = InLoop ty first rest; around = around; read = ap (in_front (instr.Loop ty)) r; blocks = b }
-reads-loop inner l levels is ty first (InElse around other rest) not r b = absurd (false≢true (sym not ∙ b.0))
+    → IsRead (l ∷ levels) (i ∷ is)
+reads-open i block opens inner l levels is first Outside not r b = absurd b
+reads-open i block opens inner l levels is first (InEnd around rest) not r b =
+    record { first = block first rest; around = around; read = ap (in_front i) r ∙ opens first rest around; blocks = b }
+reads-open i block opens inner l levels is first (InElse around other rest) not r b = absurd (false≢true (sym not ∙ b.0))
 
 reads-if : (inner l : Level) (levels : List Level) (is : List Instr) (ty : Option ValType) (first : Nest) (around : Open)
     → open_nest is ≡ Within first around → AreOpen (inner ∷ l ∷ levels) around → IsRead (l ∷ levels) (instr.If ty ∷ is)
@@ -275,10 +272,10 @@ scan-read : (ctx : Context) (is : List Instr) (l : Level) (levels : List Level) 
 scan-read ctx [] l levels here h = absurd (false≢true h)
 scan-read ctx (instr.Block ty ∷ is) l levels here h =
     let r = scan-read ctx is (level Block ty here) (l ∷ levels) nothing (cond-right (is_block_type ty) _ (sym (on_some-cond (λ s. scan ctx is s) (is_block_type ty) (state (level Block ty here ∷ l ∷ levels) nothing)) ∙ h)) in
-    reads-block (level Block ty here) l levels is ty r.first r.around refl r.read r.blocks
+    reads-open (instr.Block ty) (InBlock ty) (λ first rest around. refl) (level Block ty here) l levels is r.first r.around refl r.read r.blocks
 scan-read ctx (instr.Loop ty ∷ is) l levels here h =
     let r = scan-read ctx is (level Loop ty here) (l ∷ levels) nothing (cond-right (is_block_type ty) _ (sym (on_some-cond (λ s. scan ctx is s) (is_block_type ty) (state (level Loop ty here ∷ l ∷ levels) nothing)) ∙ h)) in
-    reads-loop (level Loop ty here) l levels is ty r.first r.around refl r.read r.blocks
+    reads-open (instr.Loop ty) (InLoop ty) (λ first rest around. refl) (level Loop ty here) l levels is r.first r.around refl r.read r.blocks
 scan-read ctx (instr.If ty ∷ is) l levels here h =
     let p = on_some-popped (λ s. scan ctx is s) ty (l ∷ levels) (pop I32 here) h in
     let r = scan-read ctx is (level If ty p.0) (l ∷ levels) nothing p.1 in

@@ -1,5 +1,5 @@
 -- One instruction of the pass over a body.
-use Rattle.std.proofs.Common.{◌≡◌, List, [], ◌∷◌, Option, None, true, false, refl, sym, ap, ◌∙◌}
+use Rattle.std.proofs.Common.{◌≡◌, List, [], ◌∷◌, Option, false, refl, sym, ap, ◌∙◌}
 use Rattle.std.specs.Prelude.{option_map}
 use Rattle.wasm_syntax.specs.declared.values.ValType.{ValType}
 use Rattle.wasm_syntax.specs.declared.instructions.Instr.{Instr}

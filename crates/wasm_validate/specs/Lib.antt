@@ -3,4 +3,3 @@ pub mod Stacks
 pub mod Changes
 pub mod Scopes
 pub mod Names
-pub mod Outside

@@ -6,11 +6,10 @@ ghost use Rattle.std.specs.Option.{option_copied};
 ghost use Rattle.wasm_syntax.specs.Validity.{single as single_instr, constant_type as type_of_constant};
 ghost use Rattle.wasm_syntax.specs.Typing.{is_number as is_number_type};
 ghost use Rattle.wasm_syntax.specs.ValidityTests as decide;
-ghost use Rattle.wasm_validate.specs.Outside.{declares as declares_all, refers as refers_all};
 
 use crate::export_names::names_differ;
 use module_index::scope::Scope;
-use module_index::{is_number, is_value, same_type};
+use module_index::{funcs_of_elem, is_number, is_value, same_type};
 use no_memory::NoMemory;
 use std::alloc::Global;
 use wasm_syntax::{
@@ -30,7 +29,7 @@ pub(crate) fn is_valid_outside(alloc: Global, scope: &Scope) -> Result<bool, NoM
 
 /// The types and all that is imported or defined.
 fn declares(scope: &Scope) -> bool
-    ensures { result ≡ declares_all scope.now }
+    ensures { result ≡ decide.declares scope.now }
 {
     if !are_types(scope) || !are_imports(scope) || !are_declared_funcs(scope) {
         return false;
@@ -40,7 +39,7 @@ fn declares(scope: &Scope) -> bool
 
 /// Exports, the start function, segments, and how many tables and memories there are.
 fn refers(alloc: Global, scope: &Scope) -> Result<bool, NoMemory>
-    ensures { IfOk result (λ valid. valid ≡ refers_all scope.now) }
+    ensures { IfOk result (λ valid. valid ≡ decide.refers scope.now) }
 {
     if !are_exports(scope) || !names_differ(alloc, scope.module().exports.as_slice())? {
         return Ok(false);
@@ -230,14 +229,10 @@ fn is_elem(scope: &Scope, elem: &ElemSeg) -> bool
     ensures { result ≡ decide.is_elem scope.now elem.now }
 {
     match elem {
-        ElemSeg::Active {
-            table,
-            offset,
-            funcs,
-        } => {
+        ElemSeg::Active { table, offset, .. } => {
             scope.has_table(*table)
                 && is_constant_of(scope, ValType::I32, offset.as_slice())
-                && are_funcs(scope, funcs.as_slice())
+                && are_funcs(scope, funcs_of_elem(elem))
         }
         ElemSeg::Declared { funcs } => are_funcs(scope, funcs.as_slice()),
     }

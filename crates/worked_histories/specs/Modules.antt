@@ -1,51 +1,62 @@
 -- The modules of the examples, as values.
-use Rattle.std.specs.Prelude.{[], ◌∷◌, Some, None, true, false, codes}
+use Rattle.std.specs.Prelude.{List, [], ◌∷◌, Some, None, true, false, codes}
 use Rattle.wasm_opcodes.specs.declared.TheConstants.{F64_ADD, I32_ADD, I32_EXTEND8_S, I32_LOAD, I32_LOAD8_U, I32_SHL, I32_STORE16, I32_STORE8, I32_SUB}
 use Rattle.wasm_syntax.specs.declared.values.ValType.TheVariants.{I32, F32, F64}
+use Rattle.wasm_syntax.specs.declared.signatures.FuncType.{FuncType}
+use Rattle.wasm_syntax.specs.declared.signatures.Limits.{Limits}
+use Rattle.wasm_syntax.specs.declared.instructions.Instr.{Instr}
 use Rattle.wasm_syntax.specs.declared.instructions.Instr.TheVariants.{If, Else, End, Call, CallIndirect, Drop, LocalGet, LocalTee, GlobalGet, GlobalSet, Load, Store, MemoryGrow, MemoryCopy, MemoryFill, Const, Numeric, RefNull, RefFunc, TableGrow, TableSize, Unreachable, Nop}
 use Rattle.wasm_syntax.specs.declared.modules.ImportKind.TheVariants.{Func, Global}
 use Rattle.wasm_syntax.specs.declared.modules.ExportKind.TheVariants.{Func as ExportFunc, Table as ExportTable, Memory as ExportMemory, Global as ExportGlobal}
 use Rattle.wasm_syntax.specs.declared.modules.ElemSeg.TheVariants.{Active}
+use Rattle.wasm_syntax.specs.declared.modules.Func.{Func as DefinedFunc}
 use Rattle.wasm_syntax.specs.declared.modules.Module.{Module}
 use Rattle.wasm_syntax.specs.EmptyModule.{empty_module}
 use Rattle.worked_histories.specs.Build.{value, func_type, limits, global_type, memory_arg, import_of, export_of, run, func, global}
 
+-- imports a function of the first of these types, and exports the first of these functions
+abbrev pub with_import : List FuncType → List DefinedFunc → Module
+with_import types funcs =
+    record empty_module {
+      types = types;
+      imports = import_of (codes "h") (codes "f") (Func 0) ∷ [];
+      funcs = funcs;
+      exports = export_of (codes "g") (ExportFunc 1) ∷ [];
+    }
+
+-- and has a memory, which is exported too
+abbrev pub with_memory : Limits → List FuncType → List DefinedFunc → Module
+with_memory pages types funcs =
+    record (with_import types funcs) {
+      memories = pages ∷ [];
+      exports = export_of (codes "g") (ExportFunc 1) ∷ export_of (codes "m") (ExportMemory 0) ∷ [];
+    }
+
+-- a function that takes and returns nothing, and one that returns a number
+abbrev pub no_result : FuncType
+no_result = func_type [] []
+
+abbrev pub one_result : FuncType
+one_result = func_type [] (I32 ∷ [])
+
 -- adds two answers of the host
 abbrev pub two_answers : Module
 two_answers =
-    record empty_module {
-      types = func_type [] (I32 ∷ []) ∷ [];
-      imports = import_of (codes "h") (codes "f") (Func 0) ∷ [];
-      funcs = func 0 []
-          (Call 0 ∷ Call 0 ∷ Numeric I32_ADD ∷ End ∷ []) ∷ [];
-      exports = export_of (codes "g") (ExportFunc 1) ∷ [];
-    }
+    with_import (one_result ∷ []) (func 0 [] (Call 0 ∷ Call 0 ∷ Numeric I32_ADD ∷ End ∷ []) ∷ [])
 
 -- stores into a memory that the host writes
 abbrev pub overwrite : Module
 overwrite =
-    record empty_module {
-      types = func_type [] [] ∷ func_type [] (I32 ∷ []) ∷ [];
-      imports = import_of (codes "h") (codes "f") (Func 0) ∷ [];
-      funcs = func 1 []
-          (Call 0 ∷ Const (value I32 8) ∷ Const (value I32 1) ∷ Store (memory_arg I32_STORE16 1 0)
-          ∷ Const (value I32 8) ∷ Load (memory_arg I32_LOAD 2 0) ∷ End ∷ []) ∷ [];
-      memories = limits 1 None ∷ [];
-      exports = export_of (codes "g") (ExportFunc 1) ∷ export_of (codes "m") (ExportMemory 0) ∷ [];
-    }
+    with_memory (limits 1 None) (no_result ∷ one_result ∷ [])
+    (func 1 [] (Call 0 ∷ Const (value I32 8) ∷ Const (value I32 1) ∷ Store (memory_arg I32_STORE16 1 0)
+    ∷ Const (value I32 8) ∷ Load (memory_arg I32_LOAD 2 0) ∷ End ∷ []) ∷ [])
 
 -- stores past the first page
 abbrev pub grow_access : Module
 grow_access =
-    record empty_module {
-      types = func_type [] [] ∷ [];
-      imports = import_of (codes "h") (codes "f") (Func 0) ∷ [];
-      funcs = func 0 []
-          (Call 0 ∷ Const (value I32 65536) ∷ Const (value I32 9) ∷ Store (memory_arg I32_STORE8 0 0)
-          ∷ End ∷ []) ∷ [];
-      memories = limits 1 None ∷ [];
-      exports = export_of (codes "g") (ExportFunc 1) ∷ export_of (codes "m") (ExportMemory 0) ∷ [];
-    }
+    with_memory (limits 1 None) (no_result ∷ [])
+    (func 0 [] (Call 0 ∷ Const (value I32 65536) ∷ Const (value I32 9) ∷ Store (memory_arg I32_STORE8 0 0)
+    ∷ End ∷ []) ∷ [])
 
 -- copies what the host writes, and reads it with its sign
 abbrev pub copy_load : Module
@@ -78,25 +89,19 @@ fill_past =
 -- grows a memory of ten pages at most by three
 abbrev pub grow_failed : Module
 grow_failed =
-    record empty_module {
-      types = func_type [] [] ∷ func_type [] (I32 ∷ []) ∷ [];
-      imports = import_of (codes "h") (codes "f") (Func 0) ∷ [];
-      funcs = func 1 []
-          (Call 0 ∷ Const (value I32 3) ∷ MemoryGrow ∷ End ∷ []) ∷ [];
-      memories = limits 4 (Some 10) ∷ [];
-      exports = export_of (codes "g") (ExportFunc 1) ∷ export_of (codes "m") (ExportMemory 0) ∷ [];
-    }
+    with_memory (limits 4 (Some 10)) (no_result ∷ one_result ∷ [])
+    (func 1 [] (Call 0 ∷ Const (value I32 3) ∷ MemoryGrow ∷ End ∷ []) ∷ [])
+
+-- the first of two functions that calls the import and adds a byte of the memory, the second of which has this body
+abbrev pub byte_adders : List Instr → List DefinedFunc
+byte_adders second =
+    func 0 [] (Call 0 ∷ Const (value I32 0) ∷ Load (memory_arg I32_LOAD8_U 0 0) ∷ Numeric I32_ADD ∷ End ∷ [])
+    ∷ func 0 [] second ∷ []
 
 -- the host may call its second function inside the call of an import
 abbrev pub nested_call : Module
 nested_call =
-    record empty_module {
-      types = func_type [] (I32 ∷ []) ∷ [];
-      imports = import_of (codes "h") (codes "f") (Func 0) ∷ [];
-      funcs = func 0 []
-          (Call 0 ∷ Const (value I32 0) ∷ Load (memory_arg I32_LOAD8_U 0 0) ∷ Numeric I32_ADD ∷ End ∷ []) ∷ func 0 []
-          (Call 0 ∷ End ∷ []) ∷ [];
-      memories = limits 1 None ∷ [];
+    record (with_memory (limits 1 None) (one_result ∷ []) (byte_adders (Call 0 ∷ End ∷ []))) {
       exports =
           export_of (codes "g") (ExportFunc 1) ∷ export_of (codes "e") (ExportFunc 2)
           ∷ export_of (codes "m") (ExportMemory 0) ∷ [];
@@ -104,23 +109,18 @@ nested_call =
 
 -- the same, where that function traps
 abbrev pub nested_trap : Module
-nested_trap =
-    record nested_call {
-      funcs = func 0 []
-          (Call 0 ∷ Const (value I32 0) ∷ Load (memory_arg I32_LOAD8_U 0 0) ∷ Numeric I32_ADD ∷ End ∷ []) ∷ func 0 []
-          (Unreachable ∷ Numeric I32_ADD ∷ End ∷ []) ∷ [];
-    }
+nested_trap = record nested_call { funcs = byte_adders (Unreachable ∷ Numeric I32_ADD ∷ End ∷ []) }
+
+-- the functions of a module with a table: one with this body, one that returns 7, and one that returns nothing
+abbrev pub table_funcs : List Instr → List DefinedFunc
+table_funcs body =
+    func 1 [] body ∷ func 1 [] (Const (value I32 7) ∷ End ∷ []) ∷ func 0 [] (End ∷ []) ∷ []
 
 -- calls a function by a table that the host changes
 abbrev pub table_entry : Module
 table_entry =
-    record empty_module {
-      types = func_type [] [] ∷ func_type [] (I32 ∷ []) ∷ [];
-      imports = import_of (codes "h") (codes "f") (Func 0) ∷ [];
-      funcs = func 1 []
-          (Call 0 ∷ Const (value I32 0) ∷ CallIndirect 1 ∷ End ∷ []) ∷ func 1 []
-          (Const (value I32 7) ∷ End ∷ []) ∷ func 0 []
-          (End ∷ []) ∷ [];
+    record (with_import (no_result ∷ one_result ∷ [])
+    (table_funcs (Call 0 ∷ Const (value I32 0) ∷ CallIndirect 1 ∷ End ∷ []))) {
       tables = limits 2 None ∷ [];
       exports =
           export_of (codes "g") (ExportFunc 1) ∷ export_of (codes "b") (ExportFunc 3)
@@ -131,12 +131,7 @@ table_entry =
 -- the same, by an index past the table
 abbrev pub table_growth : Module
 table_growth =
-    record table_entry {
-      funcs = func 1 []
-          (Call 0 ∷ Const (value I32 5) ∷ CallIndirect 1 ∷ End ∷ []) ∷ func 1 []
-          (Const (value I32 7) ∷ End ∷ []) ∷ func 0 []
-          (End ∷ []) ∷ [];
-    }
+    record table_entry { funcs = table_funcs (Call 0 ∷ Const (value I32 5) ∷ CallIndirect 1 ∷ End ∷ []) }
 
 -- grows a table of four entries at most by two that hold a function, then by one, and calls the last
 abbrev pub table_sizes : Module
@@ -155,11 +150,8 @@ table_sizes =
 -- reads a global that the host sets
 abbrev pub float_global : Module
 float_global =
-    record empty_module {
-      types = func_type [] [] ∷ func_type [] (F32 ∷ []) ∷ [];
-      imports = import_of (codes "h") (codes "f") (Func 0) ∷ [];
-      funcs = func 1 []
-          (Call 0 ∷ GlobalGet 0 ∷ End ∷ []) ∷ [];
+    record (with_import (no_result ∷ func_type [] (F32 ∷ []) ∷ [])
+    (func 1 [] (Call 0 ∷ GlobalGet 0 ∷ End ∷ []) ∷ [])) {
       globals = global (global_type F32 true) (Const (value F32 0) ∷ End ∷ []) ∷ [];
       exports = export_of (codes "g") (ExportFunc 1) ∷ export_of (codes "x") (ExportGlobal 0) ∷ [];
     }

@@ -113,6 +113,10 @@ pub record Example : Type 0 where
   pub log : Log
   pub segments : List Segment
 
+abbrev pub example : Module → Script → (turns : ℕ) → Log → List Segment → Example
+example m script turns log segments =
+    record { m = m; script = script; turns = turns; log = log; segments = segments }
+
 -- the run of the instrumented module takes these turns and has this log, which is balanced, and whose tape this is
 pub record IsRecorded (example : Example) : Type 0 where
   pub recorded : recording example.m example.script ≡ Recorded example.turns example.log

@@ -1,7 +1,8 @@
 -- Worked recordings: the logs of runs, and their tapes.
-use Rattle.std.specs.Prelude.{◌≡◌, List, [], ◌∷◌, ◌++◌, Some, None, false}
+use Rattle.std.specs.Prelude.{◌≡◌, ℕ, List, [], ◌∷◌, ◌++◌, Option, Some, None, false}
 use Rattle.wasm_syntax.specs.declared.values.ValType.TheVariants.{F32}
 use Rattle.host_script.specs.declared.scripts.Address.TheVariants.{Fixed}
+use Rattle.host_script.specs.declared.scripts.Script.{Script}
 use Rattle.host_script.specs.declared.scripts.Action.TheVariants.{Write, SetTable, SetGlobal, Grow as GrowBy, GrowTable}
 use Rattle.run_outcomes.specs.declared.outcomes.Outcome.TheVariants.{Ended, Trapped, HostTrapped}
 use Rattle.trace_model.specs.declared.events.Event.{Event}
@@ -21,7 +22,7 @@ use Rattle.worked_histories.specs.Tells.{tell, Spent}
 use Rattle.worked_histories.specs.Scripts.{five_seven, does, does_all, does_nothing, host_traps, calls_back, reads_hi}
 use Rattle.worked_tapes.specs.TapeBuild.{segment, changes, changes_then_traps}
 use Rattle.worked_hooks.specs.Examples.{hooked_two_answers, damaged}
-use Rattle.worked_hooks.specs.Recordings.{Recorded, OutOfOrder, script_for_hooked, recording_by, log, tape, Example, IsRecorded, IsRecordedAsNeeded}
+use Rattle.worked_hooks.specs.Recordings.{Recorded, OutOfOrder, script_for_hooked, recording_by, log, tape, Example, example, IsRecorded, IsRecordedAsNeeded}
 
 -- ---- two answers
 
@@ -31,15 +32,10 @@ two_answers_log =
 
 abbrev pub two_answers_recorded : Example
 two_answers_recorded =
-    record {
-      m = two_answers;
-      script = five_seven;
-      turns = 4;
-      log = two_answers_log;
-      segments =
-          segment Begin [] (Call 1 []) ∷ segment (Import 0) [] (Return (Some (i32 5)))
-          ∷ segment (Import 0) [] (Return (Some (i32 7))) ∷ segment Back [] End ∷ [];
-    }
+    example two_answers five_seven 4
+    two_answers_log
+    (segment Begin [] (Call 1 []) ∷ segment (Import 0) [] (Return (Some (i32 5)))
+    ∷ segment (Import 0) [] (Return (Some (i32 7))) ∷ segment Back [] End ∷ [])
 
 -- where each step is a turn
 abbrev pub TwoAnswersAllTurns : Type 0
@@ -71,258 +67,135 @@ trapped events = log (found events) Trapped
 -- a write that overlaps what is stored: two of four bytes are found
 abbrev pub overwrite_recorded : Example
 overwrite_recorded =
-    record {
-      m = overwrite;
-      script = does (Write (Fixed 8) (0xAA ∷ 0xBB ∷ 0xCC ∷ 0xDD ∷ []));
-      turns = 8;
-      log = left (Bytes 10 (0xCC ∷ 0xDD ∷ []) ∷ []);
-      segments = changes (effects.Bytes 10 (0xCC ∷ 0xDD ∷ []) ∷ []);
-    }
+    example overwrite (does (Write (Fixed 8) (0xAA ∷ 0xBB ∷ 0xCC ∷ 0xDD ∷ []))) 8
+    (left (Bytes 10 (0xCC ∷ 0xDD ∷ []) ∷ []))
+    (changes (effects.Bytes 10 (0xCC ∷ 0xDD ∷ []) ∷ []))
 
 -- a write that is not read
 abbrev pub unread_write_recorded : Example
-unread_write_recorded =
-    record {
-      m = overwrite;
-      script = does (Write (Fixed 100) (0xFF ∷ []));
-      turns = 8;
-      log = left [];
-      segments = changes [];
-    }
+unread_write_recorded = example overwrite (does (Write (Fixed 100) (0xFF ∷ []))) 8 (left []) (changes [])
 
 -- a growth that is noticed and not seen
 abbrev pub unseen_growth_recorded : Example
-unseen_growth_recorded =
-    record {
-      m = overwrite;
-      script = does (GrowBy 1);
-      turns = 8;
-      log = left (Grow 2 ∷ []);
-      segments = changes [];
-    }
+unseen_growth_recorded = example overwrite (does (GrowBy 1)) 8 (left (Grow 2 ∷ [])) (changes [])
 
 -- a growth that an access sees, and the access without it
 abbrev pub growth_recorded : Example
 growth_recorded =
-    record {
-      m = grow_access;
-      script = does (GrowBy 1);
-      turns = 6;
-      log = left (Grow 2 ∷ Seen ∷ []);
-      segments = changes (effects.Grow 2 ∷ []);
-    }
+    example grow_access (does (GrowBy 1)) 6 (left (Grow 2 ∷ Seen ∷ [])) (changes (effects.Grow 2 ∷ []))
 
 abbrev pub no_growth_recorded : Example
-no_growth_recorded =
-    record {
-      m = grow_access;
-      script = does_nothing;
-      turns = 5;
-      log = trapped [];
-      segments = changes_then_traps [];
-    }
+no_growth_recorded = example grow_access does_nothing 5 (trapped []) (changes_then_traps [])
 
 -- a growth that a growth of the module's own sees, which fails
 abbrev pub growth_failed_recorded : Example
 growth_failed_recorded =
-    record {
-      m = record grow_failed { memories = limits 1 (Some 2) ∷ [] };
-      script = does (GrowBy 1);
-      turns = 5;
-      log = left (Grow 2 ∷ Seen ∷ []);
-      segments = changes (effects.Grow 2 ∷ []);
-    }
+    example (record grow_failed { memories = limits 1 (Some 2) ∷ [] }) (does (GrowBy 1)) 5
+    (left (Grow 2 ∷ Seen ∷ []))
+    (changes (effects.Grow 2 ∷ []))
 
 -- a copy reads two bytes that are not known, and its target is loaded
 abbrev pub copy_recorded : Example
 copy_recorded =
-    record {
-      m = copy_load;
-      script = does (Write (Fixed 8) (0x85 ∷ 0x00 ∷ 0x00 ∷ 0x01 ∷ []));
-      turns = 10;
-      log = left (Bytes 8 (0x85 ∷ []) ∷ Bytes 11 (0x01 ∷ []) ∷ []);
-      segments = changes (effects.Bytes 8 (0x85 ∷ []) ∷ effects.Bytes 11 (0x01 ∷ []) ∷ []);
-    }
+    example copy_load (does (Write (Fixed 8) (0x85 ∷ 0x00 ∷ 0x00 ∷ 0x01 ∷ []))) 10
+    (left (Bytes 8 (0x85 ∷ []) ∷ Bytes 11 (0x01 ∷ []) ∷ []))
+    (changes (effects.Bytes 8 (0x85 ∷ []) ∷ effects.Bytes 11 (0x01 ∷ []) ∷ []))
 
 -- a copy onto some of the bytes that it reads, of which a load reads what was written
 abbrev pub copy_overlap_recorded : Example
 copy_overlap_recorded =
-    record {
-      m = copy_overlap;
-      script = does (Write (Fixed 8) (1 ∷ 2 ∷ 3 ∷ []));
-      turns = 13;
-      log = left (Bytes 8 (1 ∷ 2 ∷ 3 ∷ []) ∷ []);
-      segments = changes (effects.Bytes 8 (1 ∷ 2 ∷ 3 ∷ []) ∷ []);
-    }
+    example copy_overlap (does (Write (Fixed 8) (1 ∷ 2 ∷ 3 ∷ []))) 13
+    (left (Bytes 8 (1 ∷ 2 ∷ 3 ∷ []) ∷ []))
+    (changes (effects.Bytes 8 (1 ∷ 2 ∷ 3 ∷ []) ∷ []))
 
 -- a fill past the end, and one that sees a growth
 abbrev pub fill_recorded : Example
-fill_recorded =
-    record {
-      m = fill_past;
-      script = does_nothing;
-      turns = 6;
-      log = trapped [];
-      segments = changes_then_traps [];
-    }
+fill_recorded = example fill_past does_nothing 6 (trapped []) (changes_then_traps [])
 
 abbrev pub fill_grown_recorded : Example
 fill_grown_recorded =
-    record {
-      m = fill_past;
-      script = does (GrowBy 1);
-      turns = 7;
-      log = left (Grow 2 ∷ Seen ∷ []);
-      segments = changes (effects.Grow 2 ∷ []);
-    }
+    example fill_past (does (GrowBy 1)) 7 (left (Grow 2 ∷ Seen ∷ [])) (changes (effects.Grow 2 ∷ []))
 
--- an entry of another type: the call of its function begins and is not over
+-- a call by the first entry of the table, which is found with this function; its call begins and is not over
+abbrev pub entry_case : Script → (turns : ℕ) → Option ℕ → Example
+entry_case script turns func =
+    example table_entry script turns (trapped (Entry 0 func ∷ Pre func ∷ []))
+    (changes_then_traps (effects.Entry 0 func ∷ []))
+
+-- an entry of another type
 abbrev pub entry_recorded : Example
-entry_recorded =
-    record {
-      m = table_entry;
-      script = does (SetTable 0 (Some 3));
-      turns = 5;
-      log = trapped (Entry 0 (Some 3) ∷ Pre (Some 3) ∷ []);
-      segments = changes_then_traps (effects.Entry 0 (Some 3) ∷ []);
-    }
+entry_recorded = entry_case (does (SetTable 0 (Some 3))) 5 (Some 3)
 
 -- one that is emptied, and one that holds an import of another type, whose call begins no segment
 abbrev pub emptied_recorded : Example
-emptied_recorded =
-    record {
-      m = table_entry;
-      script = does (SetTable 0 None);
-      turns = 5;
-      log = trapped (Entry 0 None ∷ Pre None ∷ []);
-      segments = changes_then_traps (effects.Entry 0 None ∷ []);
-    }
+emptied_recorded = entry_case (does (SetTable 0 None)) 5 None
 
 abbrev pub import_entry_recorded : Example
-import_entry_recorded =
-    record {
-      m = table_entry;
-      script = does (SetTable 0 (Some 0));
-      turns = 5;
-      log = trapped (Entry 0 (Some 0) ∷ Pre (Some 0) ∷ []);
-      segments = changes_then_traps (effects.Entry 0 (Some 0) ∷ []);
-    }
+import_entry_recorded = entry_case (does (SetTable 0 (Some 0))) 5 (Some 0)
 
 -- a table that grows unseen, by a call within its first entries
 abbrev pub table_unseen_recorded : Example
-table_unseen_recorded =
-    record {
-      m = table_entry;
-      script = does_all (GrowTable 4 ∷ SetTable 0 (Some 3) ∷ []);
-      turns = 6;
-      log = trapped (Entry 0 (Some 3) ∷ Pre (Some 3) ∷ []);
-      segments = changes_then_traps (effects.Entry 0 (Some 3) ∷ []);
-    }
+table_unseen_recorded = entry_case (does_all (GrowTable 4 ∷ SetTable 0 (Some 3) ∷ [])) 6 (Some 3)
 
 -- the bits of a NaN
 abbrev pub float_recorded : Example
 float_recorded =
-    record {
-      m = float_global;
-      script = does (SetGlobal 0 (value F32 2141192193));
-      turns = 4;
-      log = left (Global 0 (value F32 2141192193) ∷ []);
-      segments = changes (effects.Global 0 (value F32 2141192193) ∷ []);
-    }
+    example float_global (does (SetGlobal 0 (value F32 2141192193))) 4
+    (left (Global 0 (value F32 2141192193) ∷ []))
+    (changes (effects.Global 0 (value F32 2141192193) ∷ []))
 
 -- a table that the host grows, with its new last entry set, or with it past the end; and one that it does not grow
 abbrev pub table_growth_recorded : Example
 table_growth_recorded =
-    record {
-      m = table_growth;
-      script = does_all (GrowTable 4 ∷ SetTable 5 (Some 3) ∷ []);
-      turns = 6;
-      log = trapped (Table 6 ∷ Entry 5 (Some 3) ∷ Pre (Some 3) ∷ []);
-      segments = changes_then_traps (effects.Table 6 ∷ effects.Entry 5 (Some 3) ∷ []);
-    }
+    example table_growth (does_all (GrowTable 4 ∷ SetTable 5 (Some 3) ∷ [])) 6
+    (trapped (Table 6 ∷ Entry 5 (Some 3) ∷ Pre (Some 3) ∷ []))
+    (changes_then_traps (effects.Table 6 ∷ effects.Entry 5 (Some 3) ∷ []))
 
 abbrev pub table_short_recorded : Example
 table_short_recorded =
-    record {
-      m = table_growth;
-      script = does (GrowTable 2);
-      turns = 5;
-      log = trapped (Table 4 ∷ Pre None ∷ []);
-      segments = changes_then_traps (effects.Table 4 ∷ []);
-    }
+    example table_growth (does (GrowTable 2)) 5
+    (trapped (Table 4 ∷ Pre None ∷ []))
+    (changes_then_traps (effects.Table 4 ∷ []))
 
 abbrev pub table_not_grown_recorded : Example
 table_not_grown_recorded =
-    record {
-      m = table_growth;
-      script = does_nothing;
-      turns = 4;
-      log = trapped (Pre None ∷ []);
-      segments = changes_then_traps [];
-    }
+    example table_growth does_nothing 4 (trapped (Pre None ∷ [])) (changes_then_traps [])
 
 -- ---- others
 
 -- a call within the call of an import; what is written after it is found after the import's return
 abbrev pub nested_recorded : Example
 nested_recorded =
-    record {
-      m = nested_call;
-      script = calls_back;
-      turns = 8;
-      log =
-          log
-          (Enter 1 [] ∷ Pre (Some 0) ∷ Enter 2 [] ∷ Pre (Some 0) ∷ Post (Some (i32 2)) ∷ Leave 2 ∷ Post (Some (i32 1))
-          ∷ Bytes 0 (0x04 ∷ []) ∷ Leave 1 ∷ [])
-          Ended;
-      segments =
-          segment Begin [] (Call 1 []) ∷ segment (Import 0) [] (Call 2 [])
-          ∷ segment (Import 0) [] (Return (Some (i32 2)))
-          ∷ segment Back (effects.Bytes 0 (0x04 ∷ []) ∷ []) (Return (Some (i32 1))) ∷ segment Back [] End ∷ [];
-    }
+    example nested_call calls_back 8
+    (log (Enter 1 [] ∷ Pre (Some 0) ∷ Enter 2 [] ∷ Pre (Some 0) ∷ Post (Some (i32 2)) ∷ Leave 2
+    ∷ Post (Some (i32 1)) ∷ Bytes 0 (0x04 ∷ []) ∷ Leave 1 ∷ []) Ended)
+    (segment Begin [] (Call 1 []) ∷ segment (Import 0) [] (Call 2 [])
+    ∷ segment (Import 0) [] (Return (Some (i32 2)))
+    ∷ segment Back (effects.Bytes 0 (0x04 ∷ []) ∷ []) (Return (Some (i32 1))) ∷ segment Back [] End ∷ [])
 
 -- a trap there
 abbrev pub nested_trap_recorded : Example
 nested_trap_recorded =
-    record {
-      m = nested_trap;
-      script = calls_back;
-      turns = 4;
-      log = log (Enter 1 [] ∷ Pre (Some 0) ∷ Enter 2 [] ∷ []) Trapped;
-      segments = segment Begin [] (Call 1 []) ∷ segment (Import 0) [] (Call 2 []) ∷ [];
-    }
+    example nested_trap calls_back 4
+    (log (Enter 1 [] ∷ Pre (Some 0) ∷ Enter 2 [] ∷ []) Trapped)
+    (segment Begin [] (Call 1 []) ∷ segment (Import 0) [] (Call 2 []) ∷ [])
 
 -- the host traps
 abbrev pub host_trap_recorded : Example
 host_trap_recorded =
-    record {
-      m = two_answers;
-      script = host_traps;
-      turns = 2;
-      log = log (Enter 1 [] ∷ Pre (Some 0) ∷ []) HostTrapped;
-      segments = segment Begin [] (Call 1 []) ∷ segment (Import 0) [] Trap ∷ [];
-    }
+    example two_answers host_traps 2
+    (log (Enter 1 [] ∷ Pre (Some 0) ∷ []) HostTrapped)
+    (segment Begin [] (Call 1 []) ∷ segment (Import 0) [] Trap ∷ [])
 
 -- buffers on a C stack
 abbrev pub c_buffers_recorded : Example
 c_buffers_recorded =
-    record {
-      m = c_buffers;
-      script = reads_hi;
-      turns = 29;
-      log =
-          log
-          (Enter 1 [] ∷ Pre (Some 0) ∷ Post (Some (i32 0))
-          ∷ Bytes 66544 (0x68 ∷ 0x69 ∷ 0x0A ∷ []) ∷ Bytes 66552 (0x03 ∷ [])
-          ∷ Pre (Some 2) ∷ Enter 2 (i32 0xA696B ∷ []) ∷ Leave 2 ∷ Post (Some (i32 0x14D2D6)) ∷ Leave 1 ∷ [])
-          Ended;
-      segments =
-          segment Begin [] (Call 1 [])
-          ∷ segment (Import 0)
-          (effects.Bytes 66544 (0x68 ∷ 0x69 ∷ 0x0A ∷ []) ∷ effects.Bytes 66552 (0x03 ∷ []) ∷ [])
-          (Return (Some (i32 0)))
-          ∷ segment Back [] End ∷ [];
-    }
+    example c_buffers reads_hi 29
+    (log (Enter 1 [] ∷ Pre (Some 0) ∷ Post (Some (i32 0)) ∷ Bytes 66544 (0x68 ∷ 0x69 ∷ 0x0A ∷ [])
+    ∷ Bytes 66552 (0x03 ∷ []) ∷ Pre (Some 2) ∷ Enter 2 (i32 0xA696B ∷ []) ∷ Leave 2
+    ∷ Post (Some (i32 0x14D2D6)) ∷ Leave 1 ∷ []) Ended)
+    (segment Begin [] (Call 1 []) ∷ segment (Import 0) (effects.Bytes 66544 (0x68 ∷ 0x69 ∷ 0x0A ∷ [])
+    ∷ effects.Bytes 66552 (0x03 ∷ []) ∷ []) (Return (Some (i32 0))) ∷ segment Back [] End ∷ [])
 
 -- ---- a log that no run has, whose window finds much, out of order and some of it twice
 
@@ -374,20 +247,14 @@ LastMissing = is_log_tape overwrite_log (tape (changes_then_traps (effects.Bytes
 
 -- the worked runs have these logs and tapes
 pub record WorkedRecordings : Type 0 where
+  -- with the tapes that the originals need
   pub two_answers : IsRecordedAsNeeded two_answers_recorded
-  pub two_answers_all_turns : TwoAnswersAllTurns
-  pub two_answers_spent : TwoAnswersSpent
-  pub enters_at_end : EntersAtEndLog
-  pub tells_reference : TellsReferenceLog
   pub overwrite : IsRecordedAsNeeded overwrite_recorded
   pub unread_write : IsRecordedAsNeeded unread_write_recorded
-  pub unseen_growth : IsRecorded unseen_growth_recorded
   pub growth : IsRecordedAsNeeded growth_recorded
   pub no_growth : IsRecordedAsNeeded no_growth_recorded
-  pub growth_failed : IsRecorded growth_failed_recorded
   pub copy : IsRecordedAsNeeded copy_recorded
   pub copy_onto_itself : IsRecordedAsNeeded copy_overlap_recorded
-  pub fill : IsRecorded fill_recorded
   pub fill_grown : IsRecordedAsNeeded fill_grown_recorded
   pub entry : IsRecordedAsNeeded entry_recorded
   pub emptied : IsRecordedAsNeeded emptied_recorded
@@ -401,6 +268,16 @@ pub record WorkedRecordings : Type 0 where
   pub nested_trapped : IsRecordedAsNeeded nested_trap_recorded
   pub host_trapped : IsRecordedAsNeeded host_trap_recorded
   pub buffers : IsRecordedAsNeeded c_buffers_recorded
+  -- others
+  pub unseen_growth : IsRecorded unseen_growth_recorded
+  pub growth_failed : IsRecorded growth_failed_recorded
+  pub fill : IsRecorded fill_recorded
+  -- whose turns and log, or the call of a hook out of order, are stated alone
+  pub two_answers_all_turns : TwoAnswersAllTurns
+  pub two_answers_spent : TwoAnswersSpent
+  pub enters_at_end : EntersAtEndLog
+  pub tells_reference : TellsReferenceLog
+  -- logs and tapes of no run
   pub mixed_balanced : MixedBalanced
   pub mixed : MixedTape
   pub wrong_byte : WrongByte

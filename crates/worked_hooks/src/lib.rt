@@ -8,15 +8,12 @@ ghost use Rattle.worked_hooks.specs.WorkedRecordings.{WorkedRecordings};
 use hook_spec::tested_tapes_are_of_logs;
 use worked_tapes::examples_have_their_needed_tapes;
 
-/// The example modules are instrumented as it is stated for them, that of two answers byte for byte.
+/// The example modules are instrumented as it is stated for them, that of two answers byte for byte. They call the
+/// hooks that are stated for them, which are those that are read off the originals' runs, in order; damaged ones are
+/// out of order where it is stated.
 pub fn examples_are_instrumented()
-    ensures { InstrumentedExamples }
-{}
-
-/// The examples call the hooks that are stated for them, which are those that are read off the originals' runs, in
-/// order; damaged ones are out of order where it is stated.
-pub fn examples_call_their_hooks()
-    ensures { HookCallExamples }
+    ensures instrumented { InstrumentedExamples }
+    ensures calls { HookCallExamples }
 {}
 
 /// The worked runs take the turns of the originals and have the logs that are stated for them; the tapes of these logs

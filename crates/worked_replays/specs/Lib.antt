@@ -4,4 +4,5 @@ pub mod Tests
 pub mod Replays
 pub mod Fitting
 pub mod Parts
+pub mod WorkedReplays
 pub mod WrongReplays

@@ -18,7 +18,7 @@ use Rattle.host_script.specs.declared.scripts.Address.TheVariants.{Fixed, Arg}
 use Rattle.host_script.specs.declared.scripts.Script.{Script}
 use Rattle.host_script.specs.declared.scripts.Supply.{Supply}
 use Rattle.host_script.specs.declared.scripts.ResponseEnd.TheVariants.{Return as Gives}
-use Rattle.host_script.specs.Fits.{FitsAction, FitActions, FitsEnd, FitsResponse, Fits}
+use Rattle.host_script.specs.Fits.{HasMemory, FitsAction, FitActions, FitsEnd, FitsResponse, Fits}
 use Rattle.host_script.specs.Supply.{supply_of}
 use Rattle.run_outcomes.specs.declared.outcomes.Outcome.{Outcome}
 use Rattle.trace_model.specs.declared.tapes.Segment.{Segment}
@@ -27,15 +27,13 @@ use Rattle.history_spec.specs.Instantiation.{instantiate}
 use Rattle.history_spec.specs.Step.{Finished}
 use Rattle.history_spec.specs.Run.{program_of, start_in_store}
 use Rattle.replay_spec.specs.Laws.{TestedSegmentsAreNeeded}
-use Rattle.replay_spec.specs.Known.{opening_known}
 use Rattle.replay_spec.specs.Needed.{IsNeededTape, opening_store, opening_store_with}
-use Rattle.replay_spec.specs.NeededTest.{are_needed_segments}
-use Rattle.replay_spec.specs.Observations.{run_observations}
 use Rattle.type_safety.specs.Supplies.{IsRunnable, HasBytes}
 use Rattle.worked_histories.specs.Modules.{two_answers, overwrite, grow_access, copy_load, fill_past, nested_call, table_entry, table_growth, float_global, c_buffers}
 use Rattle.worked_histories.specs.Build.{value, i32, returns, traps}
 use Rattle.worked_histories.specs.Scripts.{five_seven, host_traps, does, does_all, calls_back, reads_hi}
-use Rattle.worked_tapes.specs.TapeBuild.{most_steps, scripted_run}
+use Rattle.worked_tapes.specs.TapeBuild.{scripted_run}
+use Rattle.worked_tapes.proofs.Needs.{test, needed_by_test}
 use Rattle.worked_tape_laws.specs.Dropped.{writes_four, writes_copied}
 use Rattle.worked_tape_laws.proofs.Fit.{no_constants, one_call_fits, does_fits}
 
@@ -56,21 +54,13 @@ pub record CanRun (m : Module) (script : Script) : Type 0 where
 pub record HasTape (m : Module) (script : Script) (segments : List Segment) (outcome : Outcome) (store : Store)
     : Type 0 where
   pub ends : (scripted_run m script store).at ≡ Finished outcome
-  pub tested : are_needed_segments (opening_known store)
-      (run_observations (program_of m script) (start_in_store m script store) most_steps) segments ≡ true
+  pub tested : test m script segments store ≡ true
 
 abbrev pub needed_tape : TestedSegmentsAreNeeded → (m : Module) (script : Script) (segments : List Segment)
     (outcome : Outcome) (store : Store) → HasTape m script segments outcome store
     → IsNeededTape (program_of m script) (start_in_store m script store) store segments
 needed_tape law m script segments outcome store has =
-    record {
-      count = most_steps;
-      outcome = outcome;
-      ends = has.ends;
-      needed =
-          law (opening_known store)
-          (run_observations (program_of m script) (start_in_store m script store) most_steps) segments has.tested;
-    }
+    needed_by_test law m script segments outcome store has.ends has.tested
 
 pub runnable : ValidityIsDecided → (m : Module) (script : Script) → CanRun m script → IsRunnable m
 runnable valid m script can =
@@ -98,6 +88,14 @@ four_small : (a b c d : ℕ) → a < 256 → b < 256 → c < 256 → d < 256
 four_small a b c d p q r s =
     All-from_recursion (λ byte. byte < 256) (a ∷ b ∷ c ∷ d ∷ []) (p, (q, (r, (s, tt))))
 
+-- four bytes are written at 8
+abbrev writes : (a b c d : ℕ) → List Action
+writes a b c d = Write (Fixed 8) (a ∷ b ∷ c ∷ d ∷ []) ∷ []
+
+four_written : (m : Module) → HasMemory m → (a b c d : ℕ) → a < 256 → b < 256 → c < 256 → d < 256
+    → FitActions m [] (writes a b c d)
+four_written m has a b c d p q r s = small m (writes a b c d) ((has, tt, four_small a b c d p q r s), tt)
+
 can_run : (m : Module) (script : Script) → invalid_at m ≡ None → refused_instructions m ≡ []
     → quantities_past true m ≡ [] → m.datas ≡ [] → supply_of m script ≡ Ok none_supplied → Fits m script
     → CanRun m script
@@ -119,12 +117,8 @@ gives results = record { params = []; results = results }
 pub overwrite_runs : CanRun overwrite writes_four
 overwrite_runs =
     can_run overwrite writes_four refl refl refl refl refl
-    (does_fits overwrite (gives (I32 ∷ [])) (Write (Fixed 8) (0xAA ∷ 0xBB ∷ 0xCC ∷ 0xDD ∷ []) ∷ []) refl refl
-    (omega arith) refl refl refl
-    (small overwrite (Write (Fixed 8) (0xAA ∷ 0xBB ∷ 0xCC ∷ 0xDD ∷ []) ∷ []) (
-      (omega arith, tt, four_small 0xAA 0xBB 0xCC 0xDD (omega arith) (omega arith) (omega arith) (omega arith)),
-      tt,
-    )))
+    (does_fits overwrite (gives (I32 ∷ [])) (writes 0xAA 0xBB 0xCC 0xDD) refl refl (omega arith) refl refl refl
+    (four_written overwrite (omega arith) 0xAA 0xBB 0xCC 0xDD (omega arith) (omega arith) (omega arith) (omega arith)))
 
 pub grow_access_runs : CanRun grow_access (does (GrowBy 1))
 grow_access_runs =
@@ -204,12 +198,8 @@ nested_call_runs =
 pub copy_load_runs : CanRun copy_load writes_copied
 copy_load_runs =
     can_run copy_load writes_copied refl refl refl refl refl
-    (does_fits copy_load (gives (I32 ∷ [])) (Write (Fixed 8) (0x85 ∷ 0x00 ∷ 0x00 ∷ 0x01 ∷ []) ∷ []) refl refl
-    (omega arith) refl refl refl
-    (small copy_load (Write (Fixed 8) (0x85 ∷ 0x00 ∷ 0x00 ∷ 0x01 ∷ []) ∷ []) (
-      (omega arith, tt, four_small 0x85 0x00 0x00 0x01 (omega arith) (omega arith) (omega arith) (omega arith)),
-      tt,
-    )))
+    (does_fits copy_load (gives (I32 ∷ [])) (writes 0x85 0x00 0x00 0x01) refl refl (omega arith) refl refl refl
+    (four_written copy_load (omega arith) 0x85 0x00 0x00 0x01 (omega arith) (omega arith) (omega arith) (omega arith)))
 
 pub unread_write_runs : CanRun overwrite (does (Write (Fixed 100) (0xFF ∷ [])))
 unread_write_runs =

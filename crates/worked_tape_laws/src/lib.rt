@@ -9,20 +9,13 @@ use replay_spec::tested_segments_are_needed;
 use tape_follows::{needed_tape_replays, nothing_can_be_dropped};
 use wasm_syntax::validity_is_decided;
 
-/// The tapes that the runs of the example modules need replay them, and their runs never disagree.
-pub fn examples_are_replayed()
-    ensures { WorkedReplays }
+/// The tapes that the runs of the example modules need replay them, and their runs never disagree; with a byte, a size,
+/// an entry or a global taken out of the tapes the runs are other ones, and a byte that a copy reads first stays.
+pub fn laws_of_tapes_hold_at_examples()
+    ensures replayed { WorkedReplays }
+    ensures taken_out { WorkedDrops }
 {
     needed_tape_replays();
-    tested_segments_are_needed();
-    validity_is_decided();
-}
-
-/// The runs of the example modules are other ones with a byte, a size, an entry or a global taken out of their tapes;
-/// a byte that a copy reads first stays.
-pub fn examples_lack_what_is_taken_out()
-    ensures { WorkedDrops }
-{
     nothing_can_be_dropped();
     tested_segments_are_needed();
     validity_is_decided();

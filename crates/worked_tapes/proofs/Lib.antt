@@ -1,6 +1,5 @@
-mod Needs
+pub mod Needs
 mod GrowFailed
 mod Tapes
-mod Bounds
 mod Observed
 mod WrongTapes

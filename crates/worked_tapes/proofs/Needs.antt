@@ -23,19 +23,13 @@ test m script segments store =
     are_needed_segments (opening_known store)
     (run_observations (program_of m script) (start_in_store m script store) most_steps) segments
 
-pub needed_by_test : TestedSegmentsAreNeeded
+abbrev pub needed_by_test : TestedSegmentsAreNeeded
     → (m : Module) (script : Script) (segments : List Segment) (outcome : Outcome) (store : Store)
     → (scripted_run m script store).at ≡ Finished outcome → test m script segments store ≡ true
     → IsNeededTape (program_of m script) (start_in_store m script store) store segments
 needed_by_test law m script segments outcome store ends tested =
-    record {
-      count = most_steps;
-      outcome = outcome;
-      ends = ends;
-      needed =
-          law (opening_known store)
-          (run_observations (program_of m script) (start_in_store m script store) most_steps) segments tested;
-    }
+    let seen = run_observations (program_of m script) (start_in_store m script store) most_steps in
+    record { count = most_steps; outcome = outcome; ends = ends; needed = law (opening_known store) seen segments tested }
 
 -- what is computed for that run
 pub record Passes (m : Module) (script : Script) (segments : List Segment) (outcome : Outcome) (store : Store)

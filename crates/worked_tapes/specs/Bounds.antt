@@ -12,7 +12,8 @@ use Rattle.trace_model.specs.declared.tapes.Segment.{Segment}
 use Rattle.worked_histories.specs.Build.{value}
 use Rattle.worked_histories.specs.Scripts.{does, does_all}
 use Rattle.worked_tapes.specs.TapeBuild.{segment, changes, changes_then_traps, Needs}
-use Rattle.worked_tapes.specs.Modules.{last_byte, last_then_next, reads_next, grows_itself, sizes_twice, reads_twice, stores_between, reads_words, calls_entry, calls_last_then_next, sets_between, does_then}
+use Rattle.worked_tapes.specs.Modules.{does_then}
+use Rattle.worked_tapes.specs.Modules as modules
 
 -- changes in each of two calls of the import
 abbrev pub changes_twice : (first second : List Effect) → List Segment
@@ -20,122 +21,62 @@ changes_twice first second =
     segment Begin [] (Call 1 []) ∷ segment (Import 0) first (Return None) ∷ segment (Import 0) second (Return None)
     ∷ segment Back [] End ∷ []
 
--- ---- sizes
-
--- an access that ends where the known memory does does not see a growth
-abbrev pub LastByte : Type 0
-LastByte = Needs last_byte (does (GrowBy 1)) (changes []) 3 Ended
-
--- nor does it make the growth known
-abbrev pub LastThenNext : Type 0
-LastThenNext = Needs last_then_next (does_then (GrowBy 1 ∷ []) []) (changes_twice [] (Grow 2 ∷ [])) 5 Ended
-
--- a byte in the page that the host added
-abbrev pub ReadsNext : Type 0
-ReadsNext =
-    Needs reads_next (does_all (GrowBy 1 ∷ Write (Fixed 65536) (5 ∷ []) ∷ []))
-    (changes (Grow 2 ∷ Bytes 65536 (5 ∷ []) ∷ [])) 5 Ended
-
--- what the module itself grew the memory to is known
-abbrev pub GrowsItself : Type 0
-GrowsItself = Needs grows_itself (does_then [] (GrowBy 1 ∷ [])) (changes_twice [] []) 4 Ended
-
--- its growth sees the one of the host before it
-abbrev pub GrowsAfterHost : Type 0
-GrowsAfterHost = Needs grows_itself (does_then (GrowBy 1 ∷ []) []) (changes_twice (Grow 2 ∷ []) []) 5 Ended
-
--- a size that is seen once is known, until the host changes it again
-abbrev pub SizesOnce : Type 0
-SizesOnce = Needs sizes_twice (does_then (GrowBy 1 ∷ []) []) (changes_twice (Grow 2 ∷ []) []) 5 Ended
-
-abbrev pub SizesTwice : Type 0
-SizesTwice =
-    Needs sizes_twice (does_then (GrowBy 1 ∷ []) (GrowBy 2 ∷ [])) (changes_twice (Grow 2 ∷ []) (Grow 4 ∷ [])) 6 Ended
-
--- an index right past the known table sees its growth, the last one within it does not
-abbrev pub FirstPastTable : Type 0
-FirstPastTable = Needs (calls_entry 2) (does (GrowTable 1)) (changes_then_traps (Table 3 ∷ [])) 3 Trapped
-
-abbrev pub LastInTable : Type 0
-LastInTable = Needs (calls_entry 1) (does (GrowTable 1)) (changes_then_traps []) 2 Trapped
-
-abbrev pub LastThenNextEntry : Type 0
-LastThenNextEntry =
-    Needs calls_last_then_next
-    (does_then (GrowTable 1 ∷ SetTable 1 (Some 2) ∷ SetTable 2 (Some 2) ∷ []) [])
-    (changes_twice (Entry 1 (Some 2) ∷ []) (Table 3 ∷ Entry 2 (Some 2) ∷ [])) 7 Ended
-
--- ---- bytes and globals
-
--- a byte that was read is known: the same again is not needed
-abbrev pub SameAgain : Type 0
-SameAgain =
-    Needs reads_twice (does_then (Write (Fixed 0) (5 ∷ []) ∷ []) (Write (Fixed 0) (5 ∷ []) ∷ []))
-    (changes_twice (Bytes 0 (5 ∷ []) ∷ []) []) 5 Ended
-
--- and neither is nothing
-abbrev pub NothingAgain : Type 0
-NothingAgain =
-    Needs reads_twice (does_then (Write (Fixed 0) (5 ∷ []) ∷ []) []) (changes_twice (Bytes 0 (5 ∷ []) ∷ []) []) 5 Ended
-
--- what stood there when the run began is
-abbrev pub BackToFirst : Type 0
-BackToFirst =
-    Needs reads_twice (does_then (Write (Fixed 0) (5 ∷ []) ∷ []) (Write (Fixed 0) (0 ∷ []) ∷ []))
-    (changes_twice (Bytes 0 (5 ∷ []) ∷ []) (Bytes 0 (0 ∷ []) ∷ [])) 6 Ended
-
--- a byte that the module stored is known, and what stood there before it is not needed
-abbrev pub StoredByModule : Type 0
-StoredByModule =
-    Needs stores_between (does_then (Write (Fixed 0) (7 ∷ []) ∷ []) (Write (Fixed 0) (9 ∷ []) ∷ []))
-    (changes_twice [] []) 4 Ended
-
-abbrev pub StoredByBoth : Type 0
-StoredByBoth =
-    Needs stores_between (does_then (Write (Fixed 0) (7 ∷ []) ∷ []) (Write (Fixed 0) (7 ∷ []) ∷ []))
-    (changes_twice [] (Bytes 0 (7 ∷ []) ∷ [])) 5 Ended
-
--- bytes that two loads read, side by side, are one run
-abbrev pub OneRun : Type 0
-OneRun =
-    Needs reads_words (does (Write (Fixed 8) (1 ∷ 2 ∷ 3 ∷ 4 ∷ 5 ∷ 6 ∷ 7 ∷ 8 ∷ [])))
-    (changes (Bytes 8 (1 ∷ 2 ∷ 3 ∷ 4 ∷ 5 ∷ 6 ∷ 7 ∷ 8 ∷ []) ∷ [])) 11 Ended
-
--- a byte among them that is as it was parts them
-abbrev pub TwoRuns : Type 0
-TwoRuns =
-    Needs reads_words (does (Write (Fixed 8) (1 ∷ 2 ∷ 3 ∷ 0 ∷ 5 ∷ 6 ∷ 7 ∷ 8 ∷ [])))
-    (changes (Bytes 8 (1 ∷ 2 ∷ 3 ∷ []) ∷ Bytes 12 (5 ∷ 6 ∷ 7 ∷ 8 ∷ []) ∷ [])) 10 Ended
-
--- a global that the module set is known
-abbrev pub SetByModule : Type 0
-SetByModule =
-    Needs sets_between (does_then (SetGlobal 0 (value F32 7) ∷ []) (SetGlobal 0 (value F32 1) ∷ []))
-    (changes_twice [] []) 4 Ended
-
-abbrev pub SetByBoth : Type 0
-SetByBoth =
-    Needs sets_between (does_then [] (SetGlobal 0 (value F32 0) ∷ []))
-    (changes_twice [] (Global 0 (value F32 0) ∷ [])) 5 Ended
-
 -- all of them
 pub record WorkedBounds : Type 0 where
-  pub last_byte : LastByte
-  pub last_then_next : LastThenNext
-  pub reads_next : ReadsNext
-  pub grows_itself : GrowsItself
-  pub grows_after_host : GrowsAfterHost
-  pub sizes_once : SizesOnce
-  pub sizes_twice : SizesTwice
-  pub first_past_table : FirstPastTable
-  pub last_in_table : LastInTable
-  pub last_then_next_entry : LastThenNextEntry
-  pub same_again : SameAgain
-  pub nothing_again : NothingAgain
-  pub back_to_first : BackToFirst
-  pub stored_by_module : StoredByModule
-  pub stored_by_both : StoredByBoth
-  pub one_run : OneRun
-  pub two_runs : TwoRuns
-  pub set_by_module : SetByModule
-  pub set_by_both : SetByBoth
+  -- ---- sizes
+  -- an access that ends where the known memory does does not see a growth
+  pub last_byte : Needs modules.last_byte (does (GrowBy 1)) (changes []) 3 Ended
+  -- nor does it make the growth known
+  pub last_then_next
+      : Needs modules.last_then_next (does_then (GrowBy 1 ∷ []) []) (changes_twice [] (Grow 2 ∷ [])) 5 Ended
+  -- a byte in the page that the host added
+  pub reads_next : Needs modules.reads_next (does_all (GrowBy 1 ∷ Write (Fixed 65536) (5 ∷ []) ∷ []))
+      (changes (Grow 2 ∷ Bytes 65536 (5 ∷ []) ∷ [])) 5 Ended
+  -- what the module itself grew the memory to is known
+  pub grows_itself : Needs modules.grows_itself (does_then [] (GrowBy 1 ∷ [])) (changes_twice [] []) 4 Ended
+  -- its growth sees the one of the host before it
+  pub grows_after_host
+      : Needs modules.grows_itself (does_then (GrowBy 1 ∷ []) []) (changes_twice (Grow 2 ∷ []) []) 5 Ended
+  -- a size that is seen once is known, until the host changes it again
+  pub sizes_once
+      : Needs modules.sizes_twice (does_then (GrowBy 1 ∷ []) []) (changes_twice (Grow 2 ∷ []) []) 5 Ended
+  pub sizes_twice : Needs modules.sizes_twice (does_then (GrowBy 1 ∷ []) (GrowBy 2 ∷ []))
+      (changes_twice (Grow 2 ∷ []) (Grow 4 ∷ [])) 6 Ended
+  -- an index right past the known table sees its growth, the last one within it does not
+  pub first_past_table
+      : Needs (modules.calls_entry 2) (does (GrowTable 1)) (changes_then_traps (Table 3 ∷ [])) 3 Trapped
+  pub last_in_table : Needs (modules.calls_entry 1) (does (GrowTable 1)) (changes_then_traps []) 2 Trapped
+  pub last_then_next_entry : Needs modules.calls_last_then_next
+      (does_then (GrowTable 1 ∷ SetTable 1 (Some 2) ∷ SetTable 2 (Some 2) ∷ []) [])
+      (changes_twice (Entry 1 (Some 2) ∷ []) (Table 3 ∷ Entry 2 (Some 2) ∷ [])) 7 Ended
+  -- ---- bytes and globals
+  -- a byte that was read is known: the same again is not needed
+  pub same_again
+      : Needs modules.reads_twice (does_then (Write (Fixed 0) (5 ∷ []) ∷ []) (Write (Fixed 0) (5 ∷ []) ∷ []))
+      (changes_twice (Bytes 0 (5 ∷ []) ∷ []) []) 5 Ended
+  -- and neither is nothing
+  pub nothing_again : Needs modules.reads_twice (does_then (Write (Fixed 0) (5 ∷ []) ∷ []) [])
+      (changes_twice (Bytes 0 (5 ∷ []) ∷ []) []) 5 Ended
+  -- what stood there when the run began is
+  pub back_to_first
+      : Needs modules.reads_twice (does_then (Write (Fixed 0) (5 ∷ []) ∷ []) (Write (Fixed 0) (0 ∷ []) ∷ []))
+      (changes_twice (Bytes 0 (5 ∷ []) ∷ []) (Bytes 0 (0 ∷ []) ∷ [])) 6 Ended
+  -- a byte that the module stored is known, and what stood there before it is not needed
+  pub stored_by_module
+      : Needs modules.stores_between (does_then (Write (Fixed 0) (7 ∷ []) ∷ []) (Write (Fixed 0) (9 ∷ []) ∷ []))
+      (changes_twice [] []) 4 Ended
+  pub stored_by_both
+      : Needs modules.stores_between (does_then (Write (Fixed 0) (7 ∷ []) ∷ []) (Write (Fixed 0) (7 ∷ []) ∷ []))
+      (changes_twice [] (Bytes 0 (7 ∷ []) ∷ [])) 5 Ended
+  -- bytes that two loads read, side by side, are one run
+  pub one_run : Needs modules.reads_words (does (Write (Fixed 8) (1 ∷ 2 ∷ 3 ∷ 4 ∷ 5 ∷ 6 ∷ 7 ∷ 8 ∷ [])))
+      (changes (Bytes 8 (1 ∷ 2 ∷ 3 ∷ 4 ∷ 5 ∷ 6 ∷ 7 ∷ 8 ∷ []) ∷ [])) 11 Ended
+  -- a byte among them that is as it was parts them
+  pub two_runs : Needs modules.reads_words (does (Write (Fixed 8) (1 ∷ 2 ∷ 3 ∷ 0 ∷ 5 ∷ 6 ∷ 7 ∷ 8 ∷ [])))
+      (changes (Bytes 8 (1 ∷ 2 ∷ 3 ∷ []) ∷ Bytes 12 (5 ∷ 6 ∷ 7 ∷ 8 ∷ []) ∷ [])) 10 Ended
+  -- a global that the module set is known
+  pub set_by_module
+      : Needs modules.sets_between (does_then (SetGlobal 0 (value F32 7) ∷ []) (SetGlobal 0 (value F32 1) ∷ []))
+      (changes_twice [] []) 4 Ended
+  pub set_by_both : Needs modules.sets_between (does_then [] (SetGlobal 0 (value F32 0) ∷ []))
+      (changes_twice [] (Global 0 (value F32 0) ∷ [])) 5 Ended

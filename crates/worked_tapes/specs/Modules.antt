@@ -8,7 +8,7 @@ use Rattle.wasm_syntax.specs.declared.modules.Module.{Module}
 use Rattle.host_script.specs.declared.scripts.Action.{Action}
 use Rattle.host_script.specs.declared.scripts.Script.{Script}
 use Rattle.worked_histories.specs.Build.{value, memory_arg, func, returns, one_call}
-use Rattle.worked_histories.specs.Modules.{overwrite, grow_access, table_entry, float_global}
+use Rattle.worked_histories.specs.Modules.{overwrite, grow_access, table_entry, table_funcs, float_global}
 
 -- one function that gives a number, with a memory of a page
 abbrev pub with_body : List Instr → Module
@@ -70,22 +70,16 @@ reads_words =
 -- calls the function in an entry of a table that has two, of which the second is empty
 abbrev pub calls_entry : ℕ → Module
 calls_entry index =
-    record table_entry {
-      funcs = func 1 []
-          (Call 0 ∷ Const (value I32 index) ∷ CallIndirect 1 ∷ End ∷ []) ∷ func 1 []
-          (Const (value I32 7) ∷ End ∷ []) ∷ func 0 []
-          (End ∷ []) ∷ [];
-    }
+    record table_entry { funcs = table_funcs (Call 0 ∷ Const (value I32 index) ∷ CallIndirect 1 ∷ End ∷ []) }
 
 -- calls the functions in the last entry of the table and in the one after it
 abbrev pub calls_last_then_next : Module
 calls_last_then_next =
     record table_entry {
-      funcs = func 1 []
+      funcs =
+          table_funcs
           (Call 0 ∷ Const (value I32 1) ∷ CallIndirect 1 ∷ Call 0 ∷ Const (value I32 2) ∷ CallIndirect 1
-          ∷ Numeric I32_ADD ∷ End ∷ []) ∷ func 1 []
-          (Const (value I32 7) ∷ End ∷ []) ∷ func 0 []
-          (End ∷ []) ∷ [];
+          ∷ Numeric I32_ADD ∷ End ∷ []);
     }
 
 -- sets its global between two calls of the import, and reads it after both

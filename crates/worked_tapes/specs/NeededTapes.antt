@@ -10,7 +10,7 @@ use Rattle.trace_model.specs.declared.tapes.Effect.TheVariants.{Grow, Table, Byt
 use Rattle.trace_model.specs.declared.tapes.Segment.{Segment}
 use Rattle.wasm_syntax.specs.EmptyModule.{empty_module}
 use Rattle.worked_histories.specs.Build.{value, i32}
-use Rattle.worked_histories.specs.Modules.{two_answers, overwrite, grow_access, copy_load, copy_overlap, fill_past, grow_failed, nested_call, nested_trap, table_entry, table_growth, float_global, imported_offset, c_buffers}
+use Rattle.worked_histories.specs.Modules as modules
 use Rattle.worked_histories.specs.Scripts.{idle, five_seven, does, does_all, does_nothing, host_traps, calls_back, gives_global, reads_hi}
 use Rattle.worked_tapes.specs.TapeBuild.{segment, changes, changes_then_traps, Needs}
 
@@ -20,55 +20,9 @@ two_answers_tape =
     segment Begin [] (Call 1 []) ∷ segment (Import 0) [] (Return (Some (i32 5)))
     ∷ segment (Import 0) [] (Return (Some (i32 7))) ∷ segment Back [] End ∷ []
 
-abbrev pub TwoAnswers : Type 0
-TwoAnswers = Needs two_answers five_seven two_answers_tape 6 Ended
-
--- a host that does nothing
-abbrev pub Empty : Type 0
-Empty = Needs empty_module idle (segment Begin [] End ∷ []) 1 Ended
-
--- a host that traps
-abbrev pub HostTrap : Type 0
-HostTrap = Needs two_answers host_traps (segment Begin [] (Call 1 []) ∷ segment (Import 0) [] Trap ∷ []) 2 HostTrapped
-
 -- of four bytes that the host writes the module overwrites the first two before it reads all
 abbrev pub needed_bytes : List Segment
 needed_bytes = changes (Bytes 10 (0xCC ∷ 0xDD ∷ []) ∷ [])
-
-abbrev pub Overwrite : Type 0
-Overwrite = Needs overwrite (does (Write (Fixed 8) (0xAA ∷ 0xBB ∷ 0xCC ∷ 0xDD ∷ []))) needed_bytes 5 Ended
-
--- a write that the module does not read
-abbrev pub UnreadWrite : Type 0
-UnreadWrite = Needs overwrite (does (Write (Fixed 100) (0xFF ∷ []))) (changes []) 3 Ended
-
--- a growth that a store sees
-abbrev pub GrowAccess : Type 0
-GrowAccess = Needs grow_access (does (GrowBy 1)) (changes (Grow 2 ∷ [])) 4 Ended
-
--- none, where the store traps
-abbrev pub NoGrowth : Type 0
-NoGrowth = Needs grow_access does_nothing (changes_then_traps []) 2 Trapped
-
--- a growth that a failed growth sees
-abbrev pub GrowFailed : Type 0
-GrowFailed = Needs grow_failed (does (GrowBy 4)) (changes (Grow 8 ∷ [])) 4 Ended
-
--- a growth that a fill sees
-abbrev pub FillGrown : Type 0
-FillGrown = Needs fill_past (does (GrowBy 1)) (changes (Grow 2 ∷ [])) 4 Ended
-
--- of four bytes that the host writes two are other than 0, which are known; a copy reads all
-abbrev pub CopyLoad : Type 0
-CopyLoad =
-    Needs copy_load (does (Write (Fixed 8) (0x85 ∷ 0x00 ∷ 0x00 ∷ 0x01 ∷ [])))
-    (changes (Bytes 8 (0x85 ∷ []) ∷ Bytes 11 (0x01 ∷ []) ∷ [])) 5 Ended
-
--- a copy onto some of the bytes that it reads
-abbrev pub CopyOverlap : Type 0
-CopyOverlap =
-    Needs copy_overlap (does (Write (Fixed 8) (1 ∷ 2 ∷ 3 ∷ [])))
-    (changes (Bytes 8 (1 ∷ 2 ∷ 3 ∷ []) ∷ [])) 6 Ended
 
 -- a call within the call of an import: the write after it stands in the segment that the return begins
 abbrev pub nested_tape : List Segment
@@ -76,91 +30,66 @@ nested_tape =
     segment Begin [] (Call 1 []) ∷ segment (Import 0) [] (Call 2 []) ∷ segment (Import 0) [] (Return (Some (i32 2)))
     ∷ segment Back (Bytes 0 (4 ∷ []) ∷ []) (Return (Some (i32 1))) ∷ segment Back [] End ∷ []
 
-abbrev pub NestedCall : Type 0
-NestedCall = Needs nested_call calls_back nested_tape 8 Ended
-
--- one that traps
-abbrev pub NestedTrap : Type 0
-NestedTrap =
-    Needs nested_trap calls_back (segment Begin [] (Call 1 []) ∷ segment (Import 0) [] (Call 2 []) ∷ []) 2 Trapped
-
--- an entry of another type
-abbrev pub TableEntry : Type 0
-TableEntry = Needs table_entry (does (SetTable 0 (Some 3))) (changes_then_traps (Entry 0 (Some 3) ∷ [])) 3 Trapped
-
--- one that is emptied
-abbrev pub TableEntryEmptied : Type 0
-TableEntryEmptied = Needs table_entry (does (SetTable 0 None)) (changes_then_traps (Entry 0 None ∷ [])) 3 Trapped
-
--- one that holds the import
-abbrev pub TableEntryImport : Type 0
-TableEntryImport =
-    Needs table_entry (does (SetTable 0 (Some 0))) (changes_then_traps (Entry 0 (Some 0) ∷ [])) 3 Trapped
-
--- a table that the host grows from two entries by four, of which it sets the last
-abbrev pub TableGrowth : Type 0
-TableGrowth =
-    Needs table_growth (does_all (GrowTable 4 ∷ SetTable 5 (Some 3) ∷ []))
-    (changes_then_traps (Table 6 ∷ Entry 5 (Some 3) ∷ [])) 4 Trapped
-
--- or by two, so that the index is still past it
-abbrev pub TableGrowthShort : Type 0
-TableGrowthShort = Needs table_growth (does (GrowTable 2)) (changes_then_traps (Table 4 ∷ [])) 3 Trapped
-
--- or not at all
-abbrev pub TableNotGrown : Type 0
-TableNotGrown = Needs table_growth does_nothing (changes_then_traps []) 2 Trapped
-
--- a growth of the table that the module does not see: its index is within the first two entries
-abbrev pub TableGrowthUnseen : Type 0
-TableGrowthUnseen =
-    Needs table_entry (does_all (GrowTable 4 ∷ SetTable 0 (Some 3) ∷ []))
-    (changes_then_traps (Entry 0 (Some 3) ∷ [])) 3 Trapped
-
--- a NaN, bit by bit
-abbrev pub FloatGlobal : Type 0
-FloatGlobal =
-    Needs float_global (does (SetGlobal 0 (value F32 0x7FA00001)))
-    (changes (Global 0 (value F32 0x7FA00001) ∷ [])) 4 Ended
-
--- a data segment at an imported offset is known from the beginning
-abbrev pub ImportedOffset : Type 0
-ImportedOffset =
-    Needs imported_offset (gives_global (Some (i32 16)))
-    (segment Begin [] (Call 0 []) ∷ segment Back [] End ∷ []) 2 Ended
-
--- buffers on a C stack: of the four bytes in each the last, or the last three, are 0, as they were
-abbrev pub CBuffers : Type 0
-CBuffers =
-    Needs c_buffers reads_hi
-    (segment Begin [] (Call 1 [])
-    ∷ segment (Import 0) (Bytes 66544 (0x68 ∷ 0x69 ∷ 0x0A ∷ []) ∷ Bytes 66552 (3 ∷ []) ∷ [])
-    (Return (Some (i32 0)))
-    ∷ segment Back [] End ∷ [])
-    8 Ended
-
 -- all examples have their needed tapes
 pub record WorkedTapes : Type 0 where
-  pub two_answers : TwoAnswers
-  pub empty : Empty
-  pub host_trap : HostTrap
-  pub overwrite : Overwrite
-  pub unread_write : UnreadWrite
-  pub grow_access : GrowAccess
-  pub no_growth : NoGrowth
-  pub grow_failed : GrowFailed
-  pub fill_grown : FillGrown
-  pub copy_load : CopyLoad
-  pub copy_overlap : CopyOverlap
-  pub nested_call : NestedCall
-  pub nested_trap : NestedTrap
-  pub table_entry : TableEntry
-  pub table_entry_emptied : TableEntryEmptied
-  pub table_entry_import : TableEntryImport
-  pub table_growth : TableGrowth
-  pub table_growth_short : TableGrowthShort
-  pub table_not_grown : TableNotGrown
-  pub table_growth_unseen : TableGrowthUnseen
-  pub float_global : FloatGlobal
-  pub imported_offset : ImportedOffset
-  pub c_buffers : CBuffers
+  pub two_answers : Needs modules.two_answers five_seven two_answers_tape 6 Ended
+  -- a host that does nothing
+  pub empty : Needs empty_module idle (segment Begin [] End ∷ []) 1 Ended
+  -- a host that traps
+  pub host_trap : Needs modules.two_answers host_traps
+      (segment Begin [] (Call 1 []) ∷ segment (Import 0) [] Trap ∷ []) 2 HostTrapped
+  pub overwrite
+      : Needs modules.overwrite (does (Write (Fixed 8) (0xAA ∷ 0xBB ∷ 0xCC ∷ 0xDD ∷ []))) needed_bytes 5 Ended
+  -- a write that the module does not read
+  pub unread_write : Needs modules.overwrite (does (Write (Fixed 100) (0xFF ∷ []))) (changes []) 3 Ended
+  -- a growth that a store sees
+  pub grow_access : Needs modules.grow_access (does (GrowBy 1)) (changes (Grow 2 ∷ [])) 4 Ended
+  -- none, where the store traps
+  pub no_growth : Needs modules.grow_access does_nothing (changes_then_traps []) 2 Trapped
+  -- a growth that a failed growth sees
+  pub grow_failed : Needs modules.grow_failed (does (GrowBy 4)) (changes (Grow 8 ∷ [])) 4 Ended
+  -- a growth that a fill sees
+  pub fill_grown : Needs modules.fill_past (does (GrowBy 1)) (changes (Grow 2 ∷ [])) 4 Ended
+  -- of four bytes that the host writes two are other than 0, which are known; a copy reads all
+  pub copy_load : Needs modules.copy_load (does (Write (Fixed 8) (0x85 ∷ 0x00 ∷ 0x00 ∷ 0x01 ∷ [])))
+      (changes (Bytes 8 (0x85 ∷ []) ∷ Bytes 11 (0x01 ∷ []) ∷ [])) 5 Ended
+  -- a copy onto some of the bytes that it reads
+  pub copy_overlap : Needs modules.copy_overlap (does (Write (Fixed 8) (1 ∷ 2 ∷ 3 ∷ [])))
+      (changes (Bytes 8 (1 ∷ 2 ∷ 3 ∷ []) ∷ [])) 6 Ended
+  pub nested_call : Needs modules.nested_call calls_back nested_tape 8 Ended
+  -- one that traps
+  pub nested_trap : Needs modules.nested_trap calls_back
+      (segment Begin [] (Call 1 []) ∷ segment (Import 0) [] (Call 2 []) ∷ []) 2 Trapped
+  -- an entry of another type
+  pub table_entry
+      : Needs modules.table_entry (does (SetTable 0 (Some 3))) (changes_then_traps (Entry 0 (Some 3) ∷ [])) 3 Trapped
+  -- one that is emptied
+  pub table_entry_emptied
+      : Needs modules.table_entry (does (SetTable 0 None)) (changes_then_traps (Entry 0 None ∷ [])) 3 Trapped
+  -- one that holds the import
+  pub table_entry_import
+      : Needs modules.table_entry (does (SetTable 0 (Some 0))) (changes_then_traps (Entry 0 (Some 0) ∷ [])) 3 Trapped
+  -- a table that the host grows from two entries by four, of which it sets the last
+  pub table_growth : Needs modules.table_growth (does_all (GrowTable 4 ∷ SetTable 5 (Some 3) ∷ []))
+      (changes_then_traps (Table 6 ∷ Entry 5 (Some 3) ∷ [])) 4 Trapped
+  -- or by two, so that the index is still past it
+  pub table_growth_short
+      : Needs modules.table_growth (does (GrowTable 2)) (changes_then_traps (Table 4 ∷ [])) 3 Trapped
+  -- or not at all
+  pub table_not_grown : Needs modules.table_growth does_nothing (changes_then_traps []) 2 Trapped
+  -- a growth of the table that the module does not see: its index is within the first two entries
+  pub table_growth_unseen : Needs modules.table_entry (does_all (GrowTable 4 ∷ SetTable 0 (Some 3) ∷ []))
+      (changes_then_traps (Entry 0 (Some 3) ∷ [])) 3 Trapped
+  -- a NaN, bit by bit
+  pub float_global : Needs modules.float_global (does (SetGlobal 0 (value F32 0x7FA00001)))
+      (changes (Global 0 (value F32 0x7FA00001) ∷ [])) 4 Ended
+  -- a data segment at an imported offset is known from the beginning
+  pub imported_offset : Needs modules.imported_offset (gives_global (Some (i32 16)))
+      (segment Begin [] (Call 0 []) ∷ segment Back [] End ∷ []) 2 Ended
+  -- buffers on a C stack: of the four bytes in each the last, or the last three, are 0, as they were
+  pub c_buffers : Needs modules.c_buffers reads_hi
+      (segment Begin [] (Call 1 [])
+      ∷ segment (Import 0) (Bytes 66544 (0x68 ∷ 0x69 ∷ 0x0A ∷ []) ∷ Bytes 66552 (3 ∷ []) ∷ [])
+      (Return (Some (i32 0)))
+      ∷ segment Back [] End ∷ [])
+      8 Ended

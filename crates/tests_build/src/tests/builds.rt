@@ -46,6 +46,15 @@ pub fn tape_file(alloc: Global, module: &[u8], segments: &[u8]) -> Result<Vec<u8
     Ok(bytes)
 }
 
+/// The same of segments in hexadecimal.
+///
+/// # Errors
+///
+/// When memory runs out, or the text is no hexadecimal.
+pub fn tape_of_text(alloc: Global, module: &[u8], segments: &str) -> Result<Vec<u8>, Fail> {
+    tape_file(alloc, module, hex::decode(alloc, segments)?.as_slice())
+}
+
 /// What `build` answers for a module in hexadecimal, a script, and a tape of the module with these segments, in
 /// hexadecimal too.
 ///
@@ -59,11 +68,7 @@ pub fn answer_for(
     segments: &str,
 ) -> Result<Result<Vec<u8>, Fault>, Fail> {
     let bytes = module_bytes(alloc, module)?;
-    let tape = tape_file(
-        alloc,
-        bytes.as_slice(),
-        hex::decode(alloc, segments)?.as_slice(),
-    )?;
+    let tape = tape_of_text(alloc, bytes.as_slice(), segments)?;
     Ok(build(alloc, bytes.as_slice(), script.as_bytes(), tape.as_slice()))
 }
 

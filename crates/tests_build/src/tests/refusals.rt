@@ -1,6 +1,6 @@
 //! Tapes that are refused, and what is looked for first.
 
-use crate::tests::builds::{answer_for, module_bytes, refusal_of, tape_file};
+use crate::tests::builds::{answer_for, module_bytes, refusal_of, tape_of_text};
 use r3_build::build;
 use sample_inputs::examples::{GROW_ACCESS, IMPORTED_OFFSET, OVERWRITE, TWO_ANSWERS};
 use sample_inputs::traces::TAPE_OF_TWO_ANSWERS;
@@ -101,10 +101,9 @@ const REFUSED: &[(&str, &str, &str, &str, u8, &str)] = &[
 
 #[test]
 fn tapes_are_refused(rt: HostRuntime) -> Result<(), Fail> {
-    let alloc = rt.alloc();
     for &(name, module, script, segments, status, line) in REFUSED {
-        let answer = answer_for(alloc, module, script, segments)?;
-        let Some((found, told)) = refusal_of(alloc, answer)? else {
+        let answer = answer_for(rt.alloc(), module, script, segments)?;
+        let Some((found, told)) = refusal_of(rt.alloc(), answer)? else {
             return Err(Fail::from("a tape is taken"));
         };
         assert_eq!(rt; found, status, "{name}");
@@ -125,11 +124,7 @@ fn digest_in(alloc: Global, tape: &[u8]) -> Result<String, Fail> {
 fn a_tape_of_another_module(rt: HostRuntime) -> Result<(), Fail> {
     let alloc = rt.alloc();
     let module = module_bytes(alloc, TWO_ANSWERS)?;
-    let mut tape = tape_file(
-        alloc,
-        module.as_slice(),
-        hex::decode(alloc, TAPE_OF_TWO_ANSWERS)?.as_slice(),
-    )?;
+    let mut tape = tape_of_text(alloc, module.as_slice(), TAPE_OF_TWO_ANSWERS)?;
     let given = digest_in(alloc, tape.as_slice())?;
     let Some(byte) = tape.get_mut(5) else {
         return Err(Fail::from("no digest"));
@@ -153,11 +148,7 @@ const WHOLE_PARTS: &[usize] = &[37, 42, 52, 62, 65];
 fn every_proper_front_of_a_tape(rt: HostRuntime) -> Result<(), Fail> {
     let alloc = rt.alloc();
     let module = module_bytes(alloc, TWO_ANSWERS)?;
-    let tape = tape_file(
-        alloc,
-        module.as_slice(),
-        hex::decode(alloc, TAPE_OF_TWO_ANSWERS)?.as_slice(),
-    )?;
+    let tape = tape_of_text(alloc, module.as_slice(), TAPE_OF_TWO_ANSWERS)?;
     assert_eq!(rt; tape.len(), 66);
     for length in 0..tape.len() {
         let mut place = 0;

@@ -21,6 +21,18 @@ impl Outcome {
         self.status == 0 && self.line.is_empty()
     }
 
+    /// Whether the call did its job and printed this.
+    pub fn prints(&self, text: &str) -> bool {
+        self.is_done() && self.printed.as_slice() == text.as_bytes()
+    }
+
+    /// Whether the call ended since a write failed, and these bytes were written before.
+    pub fn is_cut(&self, written: &[u8]) -> bool {
+        self.status == 13
+            && self.line.as_slice() == b"write\n".as_slice()
+            && self.printed.as_slice() == written
+    }
+
     /// Whether the call ended with this status and this line of error, and printed nothing.
     pub fn is_refused(&self, status: u8, line: &str) -> bool {
         self.status == status && self.line.as_slice() == line.as_bytes() && self.printed.is_empty()
@@ -35,6 +47,31 @@ impl Outcome {
 pub fn outcome_of(alloc: Global, words: &[&str], files: &mut MemFiles) -> Result<Outcome, Fail> {
     let out = MemSink::new(alloc, 1_000_000, Vec::new(alloc));
     outcome_into(alloc, words, files, out)
+}
+
+/// The outcome of a call whose second write fails, of ten bytes each.
+///
+/// # Errors
+///
+/// When memory runs out.
+pub fn outcome_cut(alloc: Global, words: &[&str], files: &mut MemFiles) -> Result<Outcome, Fail> {
+    let out = MemSink::new(alloc, 10, vec![in alloc; 1u64]?);
+    outcome_into(alloc, words, files, out)
+}
+
+/// Compares calls that are refused for their words: each read would fail, and no file is read.
+///
+/// # Errors
+///
+/// At the first that is not, and when memory runs out.
+pub fn check_usage(alloc: Global, calls: &[&[&str]]) -> Result<(), Fail> {
+    for (number, words) in calls.iter().enumerate() {
+        let mut files = MemFiles::new(alloc, vec![in alloc; 0u64]?);
+        if !outcome_of(alloc, words, &mut files)?.is_refused(2, "usage\n") {
+            return Err(Fail::new(format_args!("call {number}")));
+        }
+    }
+    Ok(())
 }
 
 /// Words as the call takes them.

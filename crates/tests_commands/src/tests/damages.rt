@@ -81,9 +81,7 @@ fn each_byte_of_a_history_that_is_refused(rt: HostRuntime) -> Result<(), Fail> {
     for byte in 0..whole.len() {
         let out = MemSink::new(alloc, 1, vec![in alloc; byte as u64]?);
         let answer = outcome_into(alloc, &words, &mut files, out)?;
-        assert_eq!(rt; answer.status, 13, "{byte}");
-        assert_eq!(rt; answer.line.as_slice(), b"write\n".as_slice(), "{byte}");
-        assert_eq!(rt; answer.printed.as_slice(), &whole[..byte], "{byte}");
+        assert!(rt; answer.is_cut(&whole[..byte]), "{byte}");
     }
     Ok(())
 }

@@ -2,9 +2,7 @@
 //! interpreter that has nothing of this repository told them.
 
 use crate::tests::calls::outcome_of_command;
-use crate::tests::edge_modules::{
-    ACCESSES, BRANCHES, CALLS, COPIES, DEEP, DIVISIONS, STARTS, STARTS_WITH_IMPORT,
-};
+use crate::tests::edge_modules::{ACCESSES, CALLS, COPIES};
 use crate::tests::tables::check_tables;
 use sample_inputs::importers::IN_TURN;
 use std::test::Fail;
@@ -49,7 +47,12 @@ const RUNS: &[(&str, &str)] = &[
 "#,
     ),
     (
-        DIVISIONS,
+        // (module (func (export "div_s") (param i32 i32) (result i32) local.get 0 local.get 1 i32.div_s)
+        //   (func (export "rem_s") (param i64 i64) (result i64) local.get 0 local.get 1 i64.rem_s)
+        //   (func (export "rem_u") (param i32 i32) (result i32) local.get 0 local.get 1 i32.rem_u))
+        "0061736d01000000010d0260027f7f017f60027e7e017e030403000100\
+         071903056469765f7300000572656d5f7300010572656d5f750002\
+         0a19030700200020016d0b070020002001810b070020002001700b",
         r#"
 - divisions | 100 | {"main":[{"call":"div_s","args":[{"i32":-7},{"i32":2}]},{"call":"rem_s","args":[{"i64":-7},
   {"i64":2}]},{"call":"rem_s","args":[{"i64":-9223372036854775808},{"i64":-1}]},{"call":"rem_u",
@@ -73,7 +76,21 @@ const RUNS: &[(&str, &str)] = &[
 "#,
     ),
     (
-        BRANCHES,
+        // (module (func (export "switch") (param i32) (result i32) block (result i32) block (result i32)
+        //     block (result i32) i32.const 10 local.get 0 br_table 0 1 2 end i32.const 1 i32.add end
+        //     i32.const 2 i32.add end)
+        //   (func (export "carry") (param i32) (result i64) i64.const 1 block (result i64)
+        //     i64.const 2 i64.const 3 local.get 0 br_if 0 i64.add end i64.sub)
+        //   (func (export "count") (param i32) (result i32) (local i32) loop
+        //     local.get 1 i32.const 1 i32.add local.tee 1 local.get 0 i32.lt_u br_if 0 end local.get 1)
+        //   (func (export "either") (param i32) (result f32) local.get 0 if (result f32) f32.const 1 else
+        //     local.get 0 i32.eqz if f64.const -0 i64.reinterpret_f64 drop f32.const nan:0x200001 return end
+        //     unreachable end))
+        "0061736d0100000001100360017f017f60017f017e60017f017d03050400010002\
+         072304067377697463680000056361727279000105636f756e740002066569746865720003\
+         0a6a041a00027f027f027f410a20000e020001020b41016a0b41026a0b0b11004201027e4202420320000d007c0b7d0b1501\
+         017f0340200141016a22012000490d000b20010b25002000047d430000803f052000450440440000000000000080bd1a4301\
+         00a07f0f0b000b0b",
         r#"
 - a table of branches, and past its end | 100 | {"main":[{"call":"switch","args":[{"i32":0}]},{"call":"switch",
   "args":[{"i32":1}]},{"call":"switch","args":[{"i32":2}]},{"call":"switch","args":[{"i32":-1}]}]}
@@ -115,7 +132,10 @@ const RUNS: &[(&str, &str)] = &[
 "#,
     ),
     (
-        STARTS,
+        // (module (global (mut i64) (i64.const 5)) (func global.get 0 i64.const 3 i64.shl global.set 0)
+        //   (func (export "get") (result i64) global.get 0) (start 0))
+        "0061736d010000000108026000006000017e03030200010606017e0142050b070701036765740001080100\
+         0a10020900230042038624000b040023000b",
         r#"
 - a start function | 100 | {"main":[{"call":"get"}]}
   => host-call 0; step 0 0 -> i64:0000000000000005; step 0 1 -> i64:0000000000000003;
@@ -124,7 +144,8 @@ const RUNS: &[(&str, &str)] = &[
 "#,
     ),
     (
-        STARTS_WITH_IMPORT,
+        // (module (import "h" "f" (func)) (func (export "g") call 0) (start 0))
+        "0061736d0100000001040160000002070101680166000003020100070501016700010801000a0601040010000b",
         r#"
 - a start function that is an import | 100 | {"imports":{"h":{"f":{"calls":[{"do":[]}]}}},"main":[{"call":"g"}]}
   => host-call 1; step 1 0 ->; import-call 0; import-return 0; host-return 1; ended
@@ -221,13 +242,17 @@ fn faults_have_their_turn(rt: HostRuntime) -> Result<(), Fail> {
 /// A function that calls itself 100,000 times, one within the other: 1,000,006 lines.
 #[test]
 fn a_deep_recursion(rt: HostRuntime) -> Result<(), Fail> {
+    // (module (func (export "depth") (param i32) (result i32) local.get 0 if (result i32)
+    //     local.get 0 i32.const 1 i32.sub call 0 i32.const 1 i32.add else i32.const 0 end))
+    let module = "0061736d0100000001060160017f017f0302010007090105646570746800000a1601140020000\
+        47f200041016b100041016a0541000b0b";
     let script = r#"{"main":[{"call":"depth","args":[{"i32":100000}]}]}"#;
-    let answer = outcome_of_command(rt.alloc(), "history", DEEP, script, "800004")?;
+    let answer = outcome_of_command(rt.alloc(), "history", module, script, "800004")?;
     assert_eq!(rt; answer.status, 0);
     assert_eq!(rt; answer.printed.len(), 28000133);
     let end = b"host-return 0 i32:000186a0\nended\n".as_slice();
     assert!(rt; answer.printed.as_slice().ends_with(end));
-    let short = outcome_of_command(rt.alloc(), "history", DEEP, script, "800003")?;
+    let short = outcome_of_command(rt.alloc(), "history", module, script, "800003")?;
     assert_eq!(rt; short.status, 12);
     Ok(())
 }

@@ -1,7 +1,7 @@
 //! Calls of `load`: its words, and what it prints: numbers that were worked out by hand.
 
-use crate::tests::calls::{outcome_into, outcome_of};
-use r3_outside::{MemFiles, MemSink};
+use crate::tests::calls::{check_usage, outcome_cut, outcome_of};
+use r3_outside::MemFiles;
 use std::test::Fail;
 
 /// Numbers of calls, and the four lines. With q the whole part of N / 16, and z how many calls below N write the byte 0
@@ -22,16 +22,13 @@ fn the_lines_of_loads(rt: HostRuntime) -> Result<(), Fail> {
     for (number, lines) in SUMMARIES {
         let mut files = MemFiles::new(alloc, Vec::new(alloc));
         let answer = outcome_of(alloc, &["load", number], &mut files)?;
-        assert!(rt; answer.is_done(), "{number}");
-        assert_eq!(rt; answer.printed.as_slice(), lines.as_bytes(), "{number}");
+        assert!(rt; answer.prints(lines), "{number}");
     }
     Ok(())
 }
 
-/// Each read would fail, and no file is read.
 #[test]
 fn words_that_are_not_of_load(rt: HostRuntime) -> Result<(), Fail> {
-    let alloc = rt.alloc();
     let calls: [&[&str]; 7] = [
         &["load"],
         &["load", "0"],
@@ -41,22 +38,14 @@ fn words_that_are_not_of_load(rt: HostRuntime) -> Result<(), Fail> {
         &["load", "1", "1"],
         &["load", "m.wasm", "1"],
     ];
-    for words in calls {
-        let mut files = MemFiles::new(alloc, vec![in alloc; 0u64]?);
-        let answer = outcome_of(alloc, words, &mut files)?;
-        assert!(rt; answer.is_refused(2, "usage\n"));
-    }
-    Ok(())
+    check_usage(rt.alloc(), &calls)
 }
 
 #[test]
 fn a_load_that_is_not_written(rt: HostRuntime) -> Result<(), Fail> {
     let alloc = rt.alloc();
     let mut files = MemFiles::new(alloc, vec![in alloc; 0u64]?);
-    let out = MemSink::new(alloc, 10, vec![in alloc; 1u64]?);
-    let answer = outcome_into(alloc, &["load", "1"], &mut files, out)?;
-    assert_eq!(rt; answer.status, 13);
-    assert_eq!(rt; answer.printed.as_slice(), b"turns 19\ne".as_slice());
-    assert_eq!(rt; answer.line.as_slice(), b"write\n".as_slice());
+    let answer = outcome_cut(alloc, &["load", "1"], &mut files)?;
+    assert!(rt; answer.is_cut(b"turns 19\ne"));
     Ok(())
 }

@@ -94,6 +94,17 @@ fn replays_show_the_runs_that_they_are_made_of(rt: HostRuntime) -> Result<(), Fa
     Ok(())
 }
 
+/// How many lines a text has.
+fn lines_in(text: &[u8]) -> u64 {
+    let mut lines = 0u64;
+    for &byte in text {
+        if byte == b'\n' {
+            lines = lines.saturating_add(1);
+        }
+    }
+    lines
+}
+
 /// A run of 346,252 turns, in which the host writes and is called 20,000 times.
 #[test]
 fn a_load_of_20000_calls(rt: HostRuntime) -> Result<(), Fail> {
@@ -106,13 +117,7 @@ fn a_load_of_20000_calls(rt: HostRuntime) -> Result<(), Fail> {
     let shown = printed_by(alloc, &["replay", "r", MOST], &mut files)?;
     assert!(rt; shown.as_slice() == told.as_slice());
     // each entry has a line, and so has the outcome
-    let mut lines = 0u64;
-    for &byte in shown.as_slice() {
-        if byte == b'\n' {
-            lines = lines.saturating_add(1);
-        }
-    }
-    assert_eq!(rt; lines, 367_504);
+    assert_eq!(rt; lines_in(shown.as_slice()), 367_504);
     Ok(())
 }
 

@@ -58,10 +58,9 @@ const ROWS: &[(&str, &str, u8, &str)] = &[
 
 #[test]
 fn each_fault_of_a_module_goes_before_those_of_the_script(rt: HostRuntime) -> Result<(), Fail> {
-    let alloc = rt.alloc();
     for &(name, module, status, line) in ROWS {
         for script in ["{}", "{"] {
-            let answer = outcome_of_command(alloc, "make", module, script, "100")?;
+            let answer = outcome_of_command(rt.alloc(), "make", module, script, "100")?;
             assert!(rt; answer.is_refused(status, line), "{name}");
         }
     }

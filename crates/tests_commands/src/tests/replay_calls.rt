@@ -1,9 +1,9 @@
 //! Calls of `replay`: its words and its file, what it prints, and its statuses. Lines were worked out by hand.
 
 use crate::tests::calls::{
-    ANSWERS, Outcome, TWO_ANSWERS, outcome_into, outcome_of, outcome_of_command,
+    ANSWERS, Outcome, TWO_ANSWERS, check_usage, outcome_cut, outcome_of, outcome_of_command,
 };
-use r3_outside::{MemFiles, MemSink};
+use r3_outside::MemFiles;
 use sample_inputs::examples::REPLAY_TWO_ANSWERS;
 use std::alloc::Global;
 use std::test::Fail;
@@ -104,8 +104,7 @@ fn the_lines_of_a_replay(rt: HostRuntime) -> Result<(), Fail> {
     let alloc = rt.alloc();
     for turns in ["19", "20000000"] {
         let answer = outcome_of_replay(alloc, REPLAY_TWO_ANSWERS, turns)?;
-        assert!(rt; answer.is_done());
-        assert_eq!(rt; answer.printed.as_slice(), LINES.as_bytes());
+        assert!(rt; answer.prints(LINES));
     }
     Ok(())
 }
@@ -122,7 +121,6 @@ fn modules_that_show_nothing(rt: HostRuntime) -> Result<(), Fail> {
 
 #[test]
 fn words_that_are_not_of_replay(rt: HostRuntime) -> Result<(), Fail> {
-    let alloc = rt.alloc();
     let calls: [&[&str]; 6] = [
         &["replay", "r.wasm"],
         &["replay", "r.wasm", "0"],
@@ -131,12 +129,7 @@ fn words_that_are_not_of_replay(rt: HostRuntime) -> Result<(), Fail> {
         &["replay", "r.wasm", "19", "19"],
         &["replay", "r.wasm", "s.json", "19"],
     ];
-    for words in calls {
-        let mut files = file_of(alloc, REPLAY_TWO_ANSWERS, Vec::new(alloc))?;
-        let answer = outcome_of(alloc, words, &mut files)?;
-        assert!(rt; answer.is_refused(2, "usage\n"));
-    }
-    Ok(())
+    check_usage(rt.alloc(), &calls)
 }
 
 #[test]
@@ -147,11 +140,8 @@ fn a_file_and_a_sink_that_fail(rt: HostRuntime) -> Result<(), Fail> {
     assert!(rt; unread.is_refused(3, "read: r.wasm\n"));
 
     let mut files = file_of(alloc, REPLAY_TWO_ANSWERS, Vec::new(alloc))?;
-    let out = MemSink::new(alloc, 10, vec![in alloc; 1u64]?);
-    let unwritten = outcome_into(alloc, &["replay", "r.wasm", "19"], &mut files, out)?;
-    assert_eq!(rt; unwritten.status, 13);
-    assert_eq!(rt; unwritten.printed.as_slice(), b"host-call ".as_slice());
-    assert_eq!(rt; unwritten.line.as_slice(), b"write\n".as_slice());
+    let unwritten = outcome_cut(alloc, &["replay", "r.wasm", "19"], &mut files)?;
+    assert!(rt; unwritten.is_cut(b"host-call "));
     Ok(())
 }
 

@@ -8,6 +8,18 @@ use sample_inputs::examples::{
 use std::alloc::Global;
 use std::test::Fail;
 
+/// A host that sets a float global in its answer.
+const SETTING: &str = concat!(
+    r#"{"imports":{"h":{"f":{"calls":[{"do":[{"set_global":"x","value":{"f32":2141192193}}]}]}}},"#,
+    r#""main":[{"call":"g"}]}"#
+);
+
+/// A host that calls in its first answer of two.
+const CALLING_TWICE: &str = concat!(
+    r#"{"imports":{"h":{"f":{"calls":[{"do":[{"call":"e"}],"return":{"i32":1}},"#,
+    r#"{"return":{"i32":2}}]}}},"main":[{"call":"g"}]}"#
+);
+
 #[test]
 fn two_answers_in_four_turns(rt: HostRuntime) -> Result<(), Fail> {
     let alloc = rt.alloc();
@@ -133,14 +145,7 @@ fn what_is_made_shows_the_history(rt: HostRuntime) -> Result<(), Fail> {
     let rows = [
         // (module (memory 1))
         ("a memory", "0061736d010000000503010001", "{}"),
-        (
-            "a float global that the host sets",
-            FLOAT_GLOBAL,
-            concat!(
-                r#"{"imports":{"h":{"f":{"calls":[{"do":[{"set_global":"x","value":{"f32":2141192193}}]}]}}},"#,
-                r#""main":[{"call":"g"}]}"#
-            ),
-        ),
+        ("a float global that the host sets", FLOAT_GLOBAL, SETTING),
         (
             "a host that writes",
             OVERWRITE,
@@ -160,10 +165,7 @@ fn what_is_made_shows_the_history(rt: HostRuntime) -> Result<(), Fail> {
         (
             "a host that calls in an answer, and a memory",
             NESTED_CALL,
-            concat!(
-                r#"{"imports":{"h":{"f":{"calls":[{"do":[{"call":"e"}],"return":{"i32":1}},"#,
-                r#"{"return":{"i32":2}}]}}},"main":[{"call":"g"}]}"#
-            ),
+            CALLING_TWICE,
         ),
         (
             "a call in an answer that traps",

@@ -1,8 +1,8 @@
 //! Calls of `show`: what it prints of logs and tapes, and why it prints nothing. Bytes, places and lines were worked
 //! out from the format by hand.
 
-use crate::tests::calls::{Outcome, outcome_into, outcome_of};
-use r3_outside::{MemFiles, MemSink};
+use crate::tests::calls::{Outcome, outcome_cut, outcome_of};
+use r3_outside::MemFiles;
 use sample_inputs::traces::{
     DIGEST, EACH_EFFECT, EACH_EVENT, LINES_OF_EACH_EFFECT, LINES_OF_EACH_EVENT, LOG,
     LOG_LINES_OF_TWO_ANSWERS, LOG_OF_TWO_ANSWERS, TAPE, TAPE_LINES_OF_TWO_ANSWERS,
@@ -153,8 +153,7 @@ fn lines_of_files(rt: HostRuntime) -> Result<(), Fail> {
         let wanted = format!(in alloc; "{kind} {DIGEST}\n{lines}")?;
         let bytes = file_of(alloc, magic, version, body)?;
         let answer = outcome_of_show(alloc, bytes.as_slice())?;
-        assert!(rt; answer.is_done(), "{name}");
-        assert_eq!(rt; answer.printed.as_slice(), wanted.as_bytes(), "{name}");
+        assert!(rt; answer.prints(&wanted), "{name}");
     }
     Ok(())
 }
@@ -233,10 +232,7 @@ fn the_second_write_of_show_fails(rt: HostRuntime) -> Result<(), Fail> {
         "t",
         file_of(alloc, LOG, "02", LOG_OF_TWO_ANSWERS)?.as_slice(),
     )?;
-    let out = MemSink::new(alloc, 10, vec![in alloc; 1u64]?);
-    let answer = outcome_into(alloc, &["show", "t"], &mut files, out)?;
-    assert_eq!(rt; answer.status, 13);
-    assert_eq!(rt; answer.line.as_slice(), b"write\n".as_slice());
-    assert_eq!(rt; answer.printed.as_slice(), b"log 000102".as_slice());
+    let answer = outcome_cut(alloc, &["show", "t"], &mut files)?;
+    assert!(rt; answer.is_cut(b"log 000102"));
     Ok(())
 }

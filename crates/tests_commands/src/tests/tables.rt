@@ -67,7 +67,7 @@ fn check_row(alloc: Global, module: &str, row: &str) -> Result<(), Fail> {
     };
     let wanted = row.text(alloc)?;
     let answer = outcome_of_command(alloc, "history", module, row.script, row.turns)?;
-    if answer.is_done() && answer.printed.as_slice() == wanted.as_bytes() {
+    if answer.prints(&wanted) {
         return Ok(());
     }
     let printed = String::from_utf8_lossy(alloc, answer.printed.as_slice())?;

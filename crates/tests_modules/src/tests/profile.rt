@@ -5,6 +5,23 @@ use crate::tests::answers::answer_to;
 use std::test::Fail;
 use wasm_syntax::{Feature, Which};
 
+/// Float arithmetic in the second instruction of the first function, and a float conversion there.
+const ARITHMETIC: Answer = Unsupported(0, 1, Feature::FloatArithmetic);
+
+const CONVERSION: Answer = Unsupported(0, 1, Feature::FloatConversion);
+
+/// A comparison in the third one, and float arithmetic there.
+const COMPARISON: Answer = Unsupported(0, 2, Feature::FloatComparison);
+
+const ARITHMETIC_OF_TWO: Answer = Unsupported(0, 2, Feature::FloatArithmetic);
+
+/// The least of each quantity that is not taken.
+const LARGE_MEMORY: Answer = Limit(Which::Memory, 4097);
+
+const LARGE_TABLE: Answer = Limit(Which::Table, 1_000_001);
+
+const MANY_LOCALS: Answer = Limit(Which::Locals, 50_001);
+
 pub const INSTRUCTIONS: &[(&str, &str, Answer)] = &[
     (
         "f64.add in the third function",
@@ -16,219 +33,193 @@ pub const INSTRUCTIONS: &[(&str, &str, Answer)] = &[
         "f32.eq",
         // (module (func f32.const 0 f32.const 0 f32.eq drop))
         "0061736d01000000010401600000030201000a10010e00430000000043000000005b1a0b",
-        Unsupported(0, 2, Feature::FloatComparison),
+        COMPARISON,
     ),
     (
         "f32.ge",
         // (module (func f32.const 0 f32.const 0 f32.ge drop))
         "0061736d01000000010401600000030201000a10010e0043000000004300000000601a0b",
-        Unsupported(0, 2, Feature::FloatComparison),
+        COMPARISON,
     ),
     (
         "f64.eq",
         // (module (func f64.const 0 f64.const 0 f64.eq drop))
         "0061736d01000000010401600000030201000a18011600440000000000000000440000000000000000611a0b",
-        Unsupported(0, 2, Feature::FloatComparison),
+        COMPARISON,
     ),
     (
         "f64.ge",
         // (module (func f64.const 0 f64.const 0 f64.ge drop))
         "0061736d01000000010401600000030201000a18011600440000000000000000440000000000000000661a0b",
-        Unsupported(0, 2, Feature::FloatComparison),
+        COMPARISON,
     ),
     (
         "f32.abs",
         // (module (func f32.const 0 f32.abs drop))
         "0061736d01000000010401600000030201000a0b01090043000000008b1a0b",
-        Unsupported(0, 1, Feature::FloatArithmetic),
+        ARITHMETIC,
     ),
     (
         "f32.sqrt",
         // (module (func f32.const 0 f32.sqrt drop))
         "0061736d01000000010401600000030201000a0b0109004300000000911a0b",
-        Unsupported(0, 1, Feature::FloatArithmetic),
+        ARITHMETIC,
     ),
     (
         "f32.add",
         // (module (func f32.const 0 f32.const 0 f32.add drop))
         "0061736d01000000010401600000030201000a10010e0043000000004300000000921a0b",
-        Unsupported(0, 2, Feature::FloatArithmetic),
+        ARITHMETIC_OF_TWO,
     ),
     (
         "f32.copysign",
         // (module (func f32.const 0 f32.const 0 f32.copysign drop))
         "0061736d01000000010401600000030201000a10010e0043000000004300000000981a0b",
-        Unsupported(0, 2, Feature::FloatArithmetic),
+        ARITHMETIC_OF_TWO,
     ),
     (
         "f64.abs",
         // (module (func f64.const 0 f64.abs drop))
         "0061736d01000000010401600000030201000a0f010d00440000000000000000991a0b",
-        Unsupported(0, 1, Feature::FloatArithmetic),
+        ARITHMETIC,
     ),
     (
         "f64.sqrt",
         // (module (func f64.const 0 f64.sqrt drop))
         "0061736d01000000010401600000030201000a0f010d004400000000000000009f1a0b",
-        Unsupported(0, 1, Feature::FloatArithmetic),
+        ARITHMETIC,
     ),
     (
         "f64.add",
         // (module (func f64.const 0 f64.const 0 f64.add drop))
         "0061736d01000000010401600000030201000a18011600440000000000000000440000000000000000a01a0b",
-        Unsupported(0, 2, Feature::FloatArithmetic),
+        ARITHMETIC_OF_TWO,
     ),
     (
         "f64.copysign",
         // (module (func f64.const 0 f64.const 0 f64.copysign drop))
         "0061736d01000000010401600000030201000a18011600440000000000000000440000000000000000a61a0b",
-        Unsupported(0, 2, Feature::FloatArithmetic),
+        ARITHMETIC_OF_TWO,
     ),
     (
         "i32.trunc_f32_s",
         // (module (func f32.const 0 i32.trunc_f32_s drop))
         "0061736d01000000010401600000030201000a0b0109004300000000a81a0b",
-        Unsupported(0, 1, Feature::FloatConversion),
+        CONVERSION,
     ),
     (
         "i32.trunc_f32_u",
         // (module (func f32.const 0 i32.trunc_f32_u drop))
         "0061736d01000000010401600000030201000a0b0109004300000000a91a0b",
-        Unsupported(0, 1, Feature::FloatConversion),
+        CONVERSION,
     ),
     (
         "i32.trunc_f64_s",
         // (module (func f64.const 0 i32.trunc_f64_s drop))
         "0061736d01000000010401600000030201000a0f010d00440000000000000000aa1a0b",
-        Unsupported(0, 1, Feature::FloatConversion),
+        CONVERSION,
     ),
     (
         "i32.trunc_f64_u",
         // (module (func f64.const 0 i32.trunc_f64_u drop))
         "0061736d01000000010401600000030201000a0f010d00440000000000000000ab1a0b",
-        Unsupported(0, 1, Feature::FloatConversion),
+        CONVERSION,
     ),
     (
         "i64.trunc_f32_s",
         // (module (func f32.const 0 i64.trunc_f32_s drop))
         "0061736d01000000010401600000030201000a0b0109004300000000ae1a0b",
-        Unsupported(0, 1, Feature::FloatConversion),
+        CONVERSION,
     ),
     (
         "i64.trunc_f32_u",
         // (module (func f32.const 0 i64.trunc_f32_u drop))
         "0061736d01000000010401600000030201000a0b0109004300000000af1a0b",
-        Unsupported(0, 1, Feature::FloatConversion),
+        CONVERSION,
     ),
     (
         "i64.trunc_f64_s",
         // (module (func f64.const 0 i64.trunc_f64_s drop))
         "0061736d01000000010401600000030201000a0f010d00440000000000000000b01a0b",
-        Unsupported(0, 1, Feature::FloatConversion),
+        CONVERSION,
     ),
     (
         "i64.trunc_f64_u",
         // (module (func f64.const 0 i64.trunc_f64_u drop))
         "0061736d01000000010401600000030201000a0f010d00440000000000000000b11a0b",
-        Unsupported(0, 1, Feature::FloatConversion),
+        CONVERSION,
     ),
     (
         "f32.convert_i32_s",
         // (module (func i32.const 0 f32.convert_i32_s drop))
         "0061736d01000000010401600000030201000a080106004100b21a0b",
-        Unsupported(0, 1, Feature::FloatConversion),
+        CONVERSION,
     ),
     (
         "f32.convert_i32_u",
         // (module (func i32.const 0 f32.convert_i32_u drop))
         "0061736d01000000010401600000030201000a080106004100b31a0b",
-        Unsupported(0, 1, Feature::FloatConversion),
+        CONVERSION,
     ),
     (
         "f32.convert_i64_s",
         // (module (func i64.const 0 f32.convert_i64_s drop))
         "0061736d01000000010401600000030201000a080106004200b41a0b",
-        Unsupported(0, 1, Feature::FloatConversion),
+        CONVERSION,
     ),
     (
         "f32.convert_i64_u",
         // (module (func i64.const 0 f32.convert_i64_u drop))
         "0061736d01000000010401600000030201000a080106004200b51a0b",
-        Unsupported(0, 1, Feature::FloatConversion),
+        CONVERSION,
     ),
     (
         "f32.demote_f64",
         // (module (func f64.const 0 f32.demote_f64 drop))
         "0061736d01000000010401600000030201000a0f010d00440000000000000000b61a0b",
-        Unsupported(0, 1, Feature::FloatConversion),
+        CONVERSION,
     ),
     (
         "f64.convert_i32_s",
         // (module (func i32.const 0 f64.convert_i32_s drop))
         "0061736d01000000010401600000030201000a080106004100b71a0b",
-        Unsupported(0, 1, Feature::FloatConversion),
+        CONVERSION,
     ),
     (
         "f64.convert_i32_u",
         // (module (func i32.const 0 f64.convert_i32_u drop))
         "0061736d01000000010401600000030201000a080106004100b81a0b",
-        Unsupported(0, 1, Feature::FloatConversion),
+        CONVERSION,
     ),
     (
         "f64.convert_i64_s",
         // (module (func i64.const 0 f64.convert_i64_s drop))
         "0061736d01000000010401600000030201000a080106004200b91a0b",
-        Unsupported(0, 1, Feature::FloatConversion),
+        CONVERSION,
     ),
     (
         "f64.convert_i64_u",
         // (module (func i64.const 0 f64.convert_i64_u drop))
         "0061736d01000000010401600000030201000a080106004200ba1a0b",
-        Unsupported(0, 1, Feature::FloatConversion),
+        CONVERSION,
     ),
     (
         "f64.promote_f32",
         // (module (func f32.const 0 f64.promote_f32 drop))
         "0061736d01000000010401600000030201000a0b0109004300000000bb1a0b",
-        Unsupported(0, 1, Feature::FloatConversion),
+        CONVERSION,
     ),
     (
         "f32.neg after unreachable",
         // (module (func unreachable f32.neg drop))
         "0061736d01000000010401600000030201000a07010500008c1a0b",
-        Unsupported(0, 1, Feature::FloatArithmetic),
-    ),
-    (
-        "else and end have no number",
-        // (module (func i32.const 0 if nop else nop end f32.const 0 f32.abs drop))
-        "0061736d01000000010401600000030201000a13011100410004400105010b43000000008b1a0b",
-        Unsupported(0, 5, Feature::FloatArithmetic),
-    ),
-    (
-        "block and loop have numbers",
-        // (module (func block loop f32.const 0 f32.abs drop end end))
-        "0061736d01000000010401600000030201000a11010f000240034043000000008b1a0b0b0b",
-        Unsupported(0, 3, Feature::FloatArithmetic),
+        ARITHMETIC,
     ),
     (
         "the first of two",
         // (module (func f32.const 0 i32.trunc_f32_s drop f32.const 0 f32.abs drop))
         "0061736d01000000010401600000030201000a120110004300000000a81a43000000008b1a0b",
-        Unsupported(0, 1, Feature::FloatConversion),
-    ),
-    (
-        "the first function of two",
-        // (module (func nop nop f32.const 0 f32.abs drop) (func f32.const 0 i32.trunc_f32_s drop))
-        "0061736d0100000001040160000003030200000a17020b00010143000000008b1a0b09004300000000a81a0b",
-        Unsupported(0, 3, Feature::FloatArithmetic),
-    ),
-    (
-        "imported functions are counted",
-        // (module (import "h" "f" (func)) (import "h" "f" (global i32)) (import "h" "f" (func)) (func)
-        //   (func f32.const 0 i32.trunc_f32_s drop))
-        "0061736d0100000001040160000002140301680166000001680166037f000168016600000303020000\
-         0a0e0202000b09004300000000a81a0b",
-        Unsupported(3, 1, Feature::FloatConversion),
+        CONVERSION,
     ),
     (
         "floats that are kept, loaded and stored",
@@ -236,18 +227,60 @@ pub const INSTRUCTIONS: &[(&str, &str, Answer)] = &[
         "0061736d010000000104016000000302010005030100010a18011600410041002a02003802004400000000000000001a0b",
         Taken,
     ),
+];
+
+// The functions and the numbers of instructions that are refused, and their classes.
+const PLACES: &[(&str, &str, u64, u64, Feature)] = &[
+    (
+        "else and end have no number",
+        // (module (func i32.const 0 if nop else nop end f32.const 0 f32.abs drop))
+        "0061736d01000000010401600000030201000a13011100410004400105010b43000000008b1a0b",
+        0,
+        5,
+        Feature::FloatArithmetic,
+    ),
+    (
+        "block and loop have numbers",
+        // (module (func block loop f32.const 0 f32.abs drop end end))
+        "0061736d01000000010401600000030201000a11010f000240034043000000008b1a0b0b0b",
+        0,
+        3,
+        Feature::FloatArithmetic,
+    ),
+    (
+        "the first function of two",
+        // (module (func nop nop f32.const 0 f32.abs drop) (func f32.const 0 i32.trunc_f32_s drop))
+        "0061736d0100000001040160000003030200000a17020b00010143000000008b1a0b09004300000000a81a0b",
+        0,
+        3,
+        Feature::FloatArithmetic,
+    ),
+    (
+        "imported functions are counted",
+        // (module (import "h" "f" (func)) (import "h" "f" (global i32)) (import "h" "f" (func)) (func)
+        //   (func f32.const 0 i32.trunc_f32_s drop))
+        "0061736d0100000001040160000002140301680166000001680166037f000168016600000303020000\
+         0a0e0202000b09004300000000a81a0b",
+        3,
+        1,
+        Feature::FloatConversion,
+    ),
     (
         "an instruction before a quantity and a reserved import",
         // (module (import "r3" "f" (func)) (memory 4097) (func f32.const 0 f32.abs drop))
         "0061736d0100000001040160000002080102723301660000030201000504010081200a0b01090043000000008b1a0b",
-        Unsupported(1, 1, Feature::FloatArithmetic),
+        1,
+        1,
+        Feature::FloatArithmetic,
     ),
     (
         "sign extensions before float arithmetic",
         // (module (func i32.const 0 i32.extend8_s i32.extend16_s drop i64.const 0 i64.extend8_s i64.extend16_s
         //   i64.extend32_s drop f32.const 0 f32.abs drop))
         "0061736d01000000010401600000030201000a160114004100c0c11a4200c2c3c41a43000000008b1a0b",
-        Unsupported(0, 10, Feature::FloatArithmetic),
+        0,
+        10,
+        Feature::FloatArithmetic,
     ),
     (
         "memory.copy and memory.fill before a float conversion",
@@ -255,7 +288,9 @@ pub const INSTRUCTIONS: &[(&str, &str, Answer)] = &[
         //   memory.fill f32.const 0 i32.trunc_f32_s drop))
         "0061736d01000000010401600000030201000503010001\
          0a1e011c00410041004100fc0a0000410041004100fc0b004300000000a81a0b",
-        Unsupported(0, 9, Feature::FloatConversion),
+        0,
+        9,
+        Feature::FloatConversion,
     ),
 ];
 
@@ -270,7 +305,7 @@ pub const QUANTITIES: &[(&str, &str, Answer)] = &[
         "a memory of 4,097 pages",
         // (module (memory 4097))
         "0061736d01000000050401008120",
-        Limit(Which::Memory, 4097),
+        LARGE_MEMORY,
     ),
     (
         "a memory of 65,536 pages",
@@ -288,7 +323,7 @@ pub const QUANTITIES: &[(&str, &str, Answer)] = &[
         "an imported memory of 4,097 pages at least",
         // (module (import "h" "f" (memory 4097)))
         "0061736d010000000209010168016602008120",
-        Limit(Which::Memory, 4097),
+        LARGE_MEMORY,
     ),
     (
         "a table of 1,000,000 entries",
@@ -300,7 +335,7 @@ pub const QUANTITIES: &[(&str, &str, Answer)] = &[
         "a table of 1,000,001 entries",
         // (module (table 1000001 funcref))
         "0061736d010000000406017000c1843d",
-        Limit(Which::Table, 1_000_001),
+        LARGE_TABLE,
     ),
     (
         "a table of 2^32 - 1 entries",
@@ -318,7 +353,7 @@ pub const QUANTITIES: &[(&str, &str, Answer)] = &[
         "an imported table of 1,000,001 entries at least",
         // (module (import "h" "f" (table 1000001 funcref)))
         "0061736d01000000020b0101680166017000c1843d",
-        Limit(Which::Table, 1_000_001),
+        LARGE_TABLE,
     ),
     (
         "50,000 locals",
@@ -330,7 +365,7 @@ pub const QUANTITIES: &[(&str, &str, Answer)] = &[
         "50,001 locals",
         // (module (func)), but with 50,001 locals of type i64
         "0061736d01000000010401600000030201000a08010601d186037e0b",
-        Limit(Which::Locals, 50_001),
+        MANY_LOCALS,
     ),
     (
         "50,000 locals in two runs",
@@ -342,7 +377,7 @@ pub const QUANTITIES: &[(&str, &str, Answer)] = &[
         "50,001 locals in two runs",
         // (module (func)), but with 25,000 locals of type i32 and 25,001 of type i64
         "0061736d01000000010401600000030201000a0c010a02a8c3017fa9c3017e0b",
-        Limit(Which::Locals, 50_001),
+        MANY_LOCALS,
     ),
     (
         "50,000 locals and a parameter",
@@ -372,19 +407,19 @@ pub const QUANTITIES: &[(&str, &str, Answer)] = &[
         "a memory before locals",
         // (module (memory 4097) (func)), but with 50,001 locals of type i32
         "0061736d01000000010401600000030201000504010081200a08010601d186037f0b",
-        Limit(Which::Memory, 4097),
+        LARGE_MEMORY,
     ),
     (
         "a table before a memory",
         // (module (table 1000001 funcref) (memory 4097))
         "0061736d010000000406017000c1843d050401008120",
-        Limit(Which::Table, 1_000_001),
+        LARGE_TABLE,
     ),
     (
         "a memory before an import that is reserved",
         // (module (import "r3" "f" (func)) (memory 4097))
         "0061736d0100000001040160000002080102723301660000050401008120",
-        Limit(Which::Memory, 4097),
+        LARGE_MEMORY,
     ),
     (
         "an import that is reserved",
@@ -449,6 +484,17 @@ fn parameters(rt: HostRuntime) -> Result<(), Fail> {
         bytes.extend_from_slice(types.as_slice())?;
         bytes.extend_from_slice(hex::decode(alloc, after)?.as_slice())?;
         assert_eq!(rt; answer_to(alloc, bytes.as_slice())?, want, "{count}");
+    }
+    Ok(())
+}
+
+#[test]
+fn places_of_instructions(rt: HostRuntime) -> Result<(), Fail> {
+    let alloc = rt.alloc();
+    for &(what, module, func, number, feature) in PLACES {
+        let bytes = hex::decode(alloc, module)?;
+        let want = Unsupported(func, number, feature);
+        assert_eq!(rt; answer_to(alloc, bytes.as_slice())?, want, "{what}");
     }
     Ok(())
 }

@@ -26,12 +26,10 @@ enum Side {
 
 impl Layout {
     fn side(self, func: u32) -> Side {
-        if func < self.imports {
-            Side::Import
-        } else if func - self.imports < self.defined {
-            Side::Original
-        } else {
-            Side::Appended
+        match func.checked_sub(self.imports) {
+            None => Side::Import,
+            Some(defined) if defined < self.defined => Side::Original,
+            Some(_) => Side::Appended,
         }
     }
 }

@@ -2,10 +2,7 @@
 //! hand.
 
 use crate::tests::handmade::{
-    BY_TABLE, DATA, DATA_AND_NO_EXPORT, ELEMENT, EMPTY, EXPORTED_MEMORY, FLOAT, IMPORT_BY_TABLE,
-    IMPORTED_MEMORY, INVALID, MEMORY, NESTED, NO_EXPORT, NONE, ONE_AND_ONE, ONE_AND_THREE,
-    ONE_AND_TWO, ONE_DEFINED, OTHER_NAME, PARAMETER, REFERENCES, RESERVED, RESULT, START, TRAP,
-    TWO_ANSWERS, TWO_DEFINED, TWO_EXPORTS,
+    EMPTY, NONE, ONE_AND_ONE, ONE_AND_TWO, ONE_DEFINED, START, TRAP, TWO_ANSWERS, TWO_DEFINED,
 };
 use crate::tests::replays::printed_by_replay;
 use sample_inputs::examples;
@@ -79,7 +76,10 @@ const ROWS: &[(&str, &str, &str, u64, &str)] = &[
     ),
     (
         "references",
-        REFERENCES,
+        // (module (table 1 funcref) (func (export "_start")
+        //   i32.const 0 ref.null func table.set 0 i32.const 0 ref.func 0 table.set 0))
+        "0061736d0100000001040160000003020100040401700001070a01065f737461727400000a10010e\
+         004100d07026004100d20026000b",
         ONE_DEFINED,
         6,
         "host-call 0\nstep 0 0 -> i32:00000000\nstep 0 1 -> funcref:0000000000000000\n\
@@ -89,7 +89,11 @@ const ROWS: &[(&str, &str, &str, u64, &str)] = &[
     ),
     (
         "a call within an import, and a helper",
-        NESTED,
+        // (module (type (func (param i32) (result i32))) (func (type 0) local.get 0 call 2)
+        //   (func i32.const 7 call 0 drop) (func (type 0) local.get 0 call 3) (func (type 0) local.get 0)
+        //   (func (export "_start") call 1))
+        "0061736d0100000001090260017f017f6000000306050001000001070a01065f737461727400040a\
+         21050600200010020b0700410710001a0b0600200010030b040020000b040010010b",
         ONE_AND_TWO,
         9,
         "host-call 1\nstep 1 0 -> i32:00000007\nstep 1 1 i32:00000007 ->\n\
@@ -99,7 +103,10 @@ const ROWS: &[(&str, &str, &str, u64, &str)] = &[
     ),
     (
         "an original through a table",
-        BY_TABLE,
+        // (module (type (func (param i32))) (table 1 funcref) (elem (i32.const 0) 1)
+        //   (func i32.const 9 i32.const 0 call_indirect (type 0)) (func (type 0) nop) (func (export "_start") call 0))
+        "0061736d0100000001080260017f00600000030403010001040401700001070a01065f7374617274\
+         00020907010041000b01010a14030900410941001100000b0300010b040010000b",
         TWO_DEFINED,
         5,
         "host-call 0\nstep 0 0 -> i32:00000009\nstep 0 1 -> i32:00000000\n\
@@ -108,7 +115,10 @@ const ROWS: &[(&str, &str, &str, u64, &str)] = &[
     ),
     (
         "an import through a table",
-        IMPORT_BY_TABLE,
+        // (module (type (func (param i32))) (table 1 funcref) (elem (i32.const 0) 0)
+        //   (func (type 0) nop) (func i32.const 9 i32.const 0 call_indirect (type 0)) (func (export "_start") call 1))
+        "0061736d0100000001080260017f00600000030403000101040401700001070a01065f7374617274\
+         00020907010041000b01000a14030300010b0900410941001100000b040010010b",
         ONE_AND_ONE,
         5,
         "host-call 1\nstep 1 0 -> i32:00000009\nstep 1 1 -> i32:00000000\n\
@@ -149,7 +159,7 @@ const ROWS: &[(&str, &str, &str, u64, &str)] = &[
     (
         "one function more than there are",
         TWO_ANSWERS,
-        ONE_AND_THREE,
+        "000c0972332e6c61796f75740103",
         19,
         "replay: layout\n",
     ),
@@ -225,53 +235,93 @@ const ROWS: &[(&str, &str, &str, u64, &str)] = &[
     ),
     (
         "an imported memory",
-        IMPORTED_MEMORY,
+        // (module (import "h" "m" (memory 1)) (func (export "_start")))
+        "0061736d010000000104016000000208010168016d02000103020100070a01065f73746172740000\
+         0a040102000b",
         ONE_DEFINED,
         9,
         "replay: imports\n",
     ),
     (
         "an import from `r3`",
-        RESERVED,
+        // (module (import "r3" "m" (memory 1)))
+        "0061736d01000000020901027233016d020001",
         NONE,
         9,
         "reserved: import 0\n",
     ),
-    ("no export", NO_EXPORT, ONE_DEFINED, 9, "replay: entry\n"),
+    (
+        "no export",
+        // (module (func))
+        "0061736d01000000010401600000030201000a040102000b",
+        ONE_DEFINED,
+        9,
+        "replay: entry\n",
+    ),
     (
         "two exports",
-        TWO_EXPORTS,
+        // (module (func (export "_start") (export "again")))
+        "0061736d0100000001040160000003020100071202065f7374617274000005616761696e00000a04\
+         0102000b",
         ONE_DEFINED,
         9,
         "replay: entry\n",
     ),
     (
         "another name",
-        OTHER_NAME,
+        // (module (func (export "start")))
+        "0061736d010000000104016000000302010007090105737461727400000a040102000b",
         ONE_DEFINED,
         9,
         "replay: entry\n",
     ),
     (
         "a memory",
-        EXPORTED_MEMORY,
+        // (module (func) (memory (export "_start") 1))
+        "0061736d01000000010401600000030201000503010001070a01065f737461727402000a040102000b",
         ONE_DEFINED,
         9,
         "replay: entry\n",
     ),
-    ("a result", RESULT, ONE_DEFINED, 9, "replay: entry\n"),
-    ("a parameter", PARAMETER, ONE_DEFINED, 9, "replay: entry\n"),
-    ("a data segment", DATA, ONE_DEFINED, 9, "link: segment 1\n"),
+    (
+        "a result",
+        // (module (func (export "_start") (result i32) i32.const 0))
+        "0061736d010000000105016000017f03020100070a01065f737461727400000a0601040041000b",
+        ONE_DEFINED,
+        9,
+        "replay: entry\n",
+    ),
+    (
+        "a parameter",
+        // (module (func (export "_start") (param i32)))
+        "0061736d0100000001050160017f0003020100070a01065f737461727400000a040102000b",
+        ONE_DEFINED,
+        9,
+        "replay: entry\n",
+    ),
+    (
+        "a data segment",
+        // (module (memory 1) (func (export "_start")) (data (i32.const 0) "A") (data (i32.const 65536) "A"))
+        "0061736d01000000010401600000030201000503010001070a01065f737461727400000a04010200\
+         0b0b0f020041000b014100418080040b0141",
+        ONE_DEFINED,
+        9,
+        "link: segment 1\n",
+    ),
     (
         "an element segment",
-        ELEMENT,
+        // (module (table 1 funcref) (memory 1) (func (export "_start")) (elem (i32.const 1) 0)
+        //   (data (i32.const 65536) "A"))
+        "0061736d01000000010401600000030201000404017000010503010001070a01065f737461727400\
+         000907010041010b01000a040102000b0b090100418080040b0141",
         ONE_DEFINED,
         9,
         "link: segment 0\n",
     ),
     (
         "a data segment, and no export",
-        DATA_AND_NO_EXPORT,
+        // (module (memory 1) (func) (data (i32.const 65536) "A"))
+        "0061736d010000000104016000000302010005030100010a040102000b0b090100418080040b0141",
         ONE_DEFINED,
         9,
         "replay: entry\n",
@@ -279,19 +329,29 @@ const ROWS: &[(&str, &str, &str, u64, &str)] = &[
     ("half a header", "0061736d", "", 9, "malformed: at 0\n"),
     (
         "a body that is not valid",
-        INVALID,
+        // (module (func (export "_start") i32.const 0))
+        "0061736d0100000001040160000003020100070a01065f737461727400000a0601040041000b",
         ONE_DEFINED,
         9,
         "invalid: function 0\n",
     ),
     (
         "an instruction that is refused",
-        FLOAT,
+        // (module (func (export "_start") f32.const 0 f32.abs drop))
+        "0061736d0100000001040160000003020100070a01065f737461727400000a0b0109004300000000\
+         8b1a0b",
         ONE_DEFINED,
         9,
         "unsupported: function 0 instruction 1 float arithmetic\n",
     ),
-    ("a large memory", MEMORY, NONE, 9, "limit: memory 4097\n"),
+    (
+        "a large memory",
+        // (module (memory 4097))
+        "0061736d01000000050401008120",
+        NONE,
+        9,
+        "limit: memory 4097\n",
+    ),
 ];
 
 #[test]

@@ -126,23 +126,16 @@ fn replays_show_what_was_worked_out(rt: HostRuntime) -> Result<(), Fail> {
 }
 
 #[test]
-fn replay_prints_the_lines_of_the_history(rt: HostRuntime) -> Result<(), Fail> {
+fn replays_print_the_history_and_are_made_anew_with_the_same_bytes(
+    rt: HostRuntime,
+) -> Result<(), Fail> {
     let alloc = rt.alloc();
     for (what, module, script, turns, lines) in ROWS {
         let replay = replay_of_run(alloc, module, script, *turns)?;
         let printed = printed_by_replay(alloc, replay.as_slice(), MOST_TURNS_REPLAYED)?;
         assert_eq!(rt; printed.as_slice(), lines.as_bytes(), "{what}");
-    }
-    Ok(())
-}
-
-#[test]
-fn a_replay_is_made_anew_with_the_same_bytes(rt: HostRuntime) -> Result<(), Fail> {
-    let alloc = rt.alloc();
-    for (what, module, script, turns, _lines) in ROWS {
-        let once = replay_of_run(alloc, module, script, *turns)?;
         let again = replay_of_run(alloc, module, script, *turns)?;
-        assert_eq!(rt; once.as_slice(), again.as_slice(), "{what}");
+        assert_eq!(rt; replay.as_slice(), again.as_slice(), "{what}");
     }
     Ok(())
 }

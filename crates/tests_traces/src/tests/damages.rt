@@ -1,141 +1,111 @@
 //! Files that are refused: their version, or the place of their fault.
 
-use crate::tests::files::{Row, check_logs, check_tapes, file};
+use crate::tests::files::Kind::{self, Log, Tape};
+use crate::tests::files::{check_answers, file};
 use sample_inputs::traces::{LOG_OF_TWO_ANSWERS, TAPE_OF_TWO_ANSWERS};
 use std::test::Fail;
 use trace_format::FormatFault::{Bad, Version};
 use trace_format::{lines_of_log, lines_of_tape};
 
-/// The header of a log with few imported functions has 38 bytes.
-const LOGS: &[Row] = &[
-    (
-        "the third version",
-        "03",
-        LOG_OF_TWO_ANSWERS,
-        Err(Version { found: 3 }),
-    ),
-    ("no version", "00", "0010", Err(Version { found: 0 })),
-    (
-        "another version, and no more",
-        "ff",
-        "",
-        Err(Version { found: 255 }),
-    ),
-    (
-        "a table in the first version",
-        "01",
-        "010a0510",
-        Err(Bad { at: 38 }),
-    ),
-    ("no number of imports", "02", "", Err(Bad { at: 0 })),
-    (
-        "a long number of imports",
-        "02",
-        "810010",
-        Err(Bad { at: 0 }),
-    ),
-    (
-        "a long number in an event",
-        "02",
-        "0102810010",
-        Err(Bad { at: 38 }),
-    ),
-    (
-        "a number past 32 bits",
-        "02",
-        "0102808080801010",
-        Err(Bad { at: 38 }),
-    ),
-    ("an unknown tag", "02", "010b10", Err(Bad { at: 38 })),
-    (
-        "bytes that are none",
-        "02",
-        "01070000000010",
-        Err(Bad { at: 38 }),
-    ),
-    (
-        "fewer bytes than their count",
-        "02",
-        "01070003aabb",
-        Err(Bad { at: 38 }),
-    ),
-    (
-        "fewer values than their count",
-        "02",
-        "010101027f0500000010",
-        Err(Bad { at: 38 }),
-    ),
-    (
-        "an option by another byte",
-        "02",
-        "01030210",
-        Err(Bad { at: 38 }),
-    ),
-    (
-        "a value of a type that is no number's",
-        "02",
-        "0104017010",
-        Err(Bad { at: 38 }),
-    ),
-    ("no outcome", "02", "010206", Err(Bad { at: 40 })),
-    ("no outcome at all", "02", "01", Err(Bad { at: 38 })),
-    (
-        "a byte after the outcome",
-        "02",
-        "01061000",
-        Err(Bad { at: 40 }),
-    ),
-    ("two outcomes", "02", "011010", Err(Bad { at: 39 })),
-    (
-        "a fault after events",
-        "02",
-        "010502060213",
-        Err(Bad { at: 43 }),
-    ),
+/// Files of other versions: their kind, their version in hexadecimal and as a number, what stands after the digest.
+const VERSIONS: &[(Kind, &str, u8, &str)] = &[
+    (Log, "03", 3, LOG_OF_TWO_ANSWERS),
+    (Log, "00", 0, "0010"),
+    (Log, "ff", 255, ""),
+    (Tape, "03", 3, TAPE_OF_TWO_ANSWERS),
 ];
 
-/// The header of a tape has 37 bytes.
-const TAPES: &[Row] = &[
+/// Faulty files: their kind, their version, and the place of their fault; the name of each, and what stands after the
+/// digest. The header of a log with few imported functions has 38 bytes, that of a tape 37.
+const FAULTS: &[(Kind, &str, u64, &[(&str, &str)])] = &[
     (
-        "the third version",
-        "03",
-        TAPE_OF_TWO_ANSWERS,
-        Err(Version { found: 3 }),
-    ),
-    (
-        "a table in the first version",
+        Log,
         "01",
-        "00010a05222f",
-        Err(Bad { at: 37 }),
+        38,
+        &[("a table in the first version", "010a0510")],
     ),
     (
-        "a size that is seen",
+        Log,
         "02",
-        "000106222f",
-        Err(Bad { at: 37 }),
+        0,
+        &[
+            ("no number of imports", ""),
+            ("a long number of imports", "810010"),
+        ],
     ),
-    ("an unknown origin", "02", "0300222f", Err(Bad { at: 37 })),
-    ("an unknown next", "02", "0000242f", Err(Bad { at: 37 })),
     (
-        "fewer effects than their count",
+        Log,
         "02",
-        "00020501222f",
-        Err(Bad { at: 37 }),
+        38,
+        &[
+            ("a long number in an event", "0102810010"),
+            ("a number past 32 bits", "0102808080801010"),
+            ("an unknown tag", "010b10"),
+            ("bytes that are none", "01070000000010"),
+            ("fewer bytes than their count", "01070003aabb"),
+            ("fewer values than their count", "010101027f0500000010"),
+            ("an option by another byte", "01030210"),
+            ("a value of a type that is no number's", "0104017010"),
+            ("no outcome at all", "01"),
+        ],
     ),
-    ("a long number", "02", "00010581002f", Err(Bad { at: 37 })),
-    ("no end", "02", "000022", Err(Bad { at: 40 })),
-    ("two ends", "02", "0000222f2f", Err(Bad { at: 41 })),
-    ("nothing", "02", "", Err(Bad { at: 37 })),
+    (
+        Log,
+        "02",
+        40,
+        &[
+            ("no outcome", "010206"),
+            ("a byte after the outcome", "01061000"),
+        ],
+    ),
+    (Log, "02", 39, &[("two outcomes", "011010")]),
+    (Log, "02", 43, &[("a fault after events", "010502060213")]),
+    (
+        Tape,
+        "01",
+        37,
+        &[("a table in the first version", "00010a05222f")],
+    ),
+    (
+        Tape,
+        "02",
+        37,
+        &[
+            ("a size that is seen", "000106222f"),
+            ("an unknown origin", "0300222f"),
+            ("an unknown next", "0000242f"),
+            ("fewer effects than their count", "00020501222f"),
+            ("a long number", "00010581002f"),
+            ("nothing", ""),
+        ],
+    ),
+    (Tape, "02", 40, &[("no end", "000022")]),
+    (Tape, "02", 41, &[("two ends", "0000222f2f")]),
 ];
 
 #[test]
-fn faulty_logs_are_refused(rt: HostRuntime) -> Result<(), Fail> {
-    check_logs(rt.alloc(), LOGS)
+fn other_versions_are_refused(rt: HostRuntime) -> Result<(), Fail> {
+    for &(kind, version, found, body) in VERSIONS {
+        check_answers(
+            rt.alloc(),
+            kind,
+            version,
+            version,
+            body,
+            Err(Version { found }),
+        )?;
+    }
+    Ok(())
 }
 
 #[test]
-fn faulty_tapes_are_refused(rt: HostRuntime) -> Result<(), Fail> {
-    check_tapes(rt.alloc(), TAPES)
+fn faulty_files_are_refused(rt: HostRuntime) -> Result<(), Fail> {
+    for &(kind, version, at, files) in FAULTS {
+        for &(name, body) in files {
+            check_answers(rt.alloc(), kind, name, version, body, Err(Bad { at }))?;
+        }
+    }
+    Ok(())
 }
 
 #[test]

@@ -4,17 +4,86 @@ use sample_inputs::traces::{DIGEST, LOG, TAPE};
 use std::alloc::Global;
 use std::test::Fail;
 use trace_format::{
-    FormatFault, lines_of_log, lines_of_tape, read_log, read_tape, show_log, show_tape,
+    FormatFault, lines_of_log, lines_of_tape, log_files, read_log, read_tape, show_log, show_tape,
+    tape_files, write_log, write_tape,
 };
 
-/// A file: its name, its version, what stands after the digest; and its lines after the first, or why
-/// it is refused.
-pub type Row = (
-    &'static str,
-    &'static str,
-    &'static str,
-    Result<&'static str, FormatFault>,
-);
+/// What a file holds.
+#[derive(Clone, Copy, PartialEq, Eq)]
+pub enum Kind {
+    Log,
+    Tape,
+}
+
+impl Kind {
+    /// The bytes that its files begin with, in hexadecimal.
+    pub fn magic(self) -> &'static str {
+        match self {
+            Kind::Log => LOG,
+            Kind::Tape => TAPE,
+        }
+    }
+
+    /// The word that the first line begins with.
+    fn word(self) -> &'static str {
+        match self {
+            Kind::Log => "log",
+            Kind::Tape => "tape",
+        }
+    }
+
+    /// The lines of a file that is read first.
+    fn read_lines(self, alloc: Global, bytes: &[u8]) -> Result<Vec<u8>, FormatFault> {
+        match self {
+            Kind::Log => {
+                let (digest, log) = read_log(alloc, bytes)?;
+                Ok(show_log(alloc, &digest, &log)?)
+            }
+            Kind::Tape => {
+                let (digest, tape) = read_tape(alloc, bytes)?;
+                Ok(show_tape(alloc, &digest, &tape)?)
+            }
+        }
+    }
+
+    /// The lines of a file that is shown at once.
+    pub fn shown_lines(self, alloc: Global, bytes: &[u8]) -> Result<Vec<u8>, FormatFault> {
+        match self {
+            Kind::Log => lines_of_log(alloc, bytes),
+            Kind::Tape => lines_of_tape(alloc, bytes),
+        }
+    }
+
+    /// Why a file is not read; none where it is.
+    pub fn fault(self, alloc: Global, bytes: &[u8]) -> Option<FormatFault> {
+        match self {
+            Kind::Log => read_log(alloc, bytes).err(),
+            Kind::Tape => read_tape(alloc, bytes).err(),
+        }
+    }
+
+    /// The file of what a file holds.
+    pub fn written_again(self, alloc: Global, bytes: &[u8]) -> Result<Vec<u8>, FormatFault> {
+        match self {
+            Kind::Log => log_again(alloc, bytes),
+            Kind::Tape => tape_again(alloc, bytes),
+        }
+    }
+}
+
+/// The file of the log of a file.
+fn log_again(alloc: Global, bytes: &[u8]) -> Result<Vec<u8>, FormatFault> {
+    log_files();
+    let (digest, log) = read_log(alloc, bytes)?;
+    Ok(write_log(alloc, digest.as_bytes(), &log)?)
+}
+
+/// The file of the tape of a file.
+fn tape_again(alloc: Global, bytes: &[u8]) -> Result<Vec<u8>, FormatFault> {
+    tape_files();
+    let (digest, tape) = read_tape(alloc, bytes)?;
+    Ok(write_tape(alloc, digest.as_bytes(), &tape)?)
+}
 
 /// The bytes of a file.
 pub fn file(alloc: Global, magic: &str, version: &str, body: &str) -> Result<Vec<u8>, Fail> {
@@ -25,55 +94,36 @@ pub fn file(alloc: Global, magic: &str, version: &str, body: &str) -> Result<Vec
     Ok(bytes)
 }
 
-/// Compares the answers to logs, read and shown, and shown at once.
-pub fn check_logs(alloc: Global, rows: &[Row]) -> Result<(), Fail> {
-    for &(name, version, body, want) in rows {
-        let bytes = file(alloc, LOG, version, body)?;
-        let read = read_log_lines(alloc, bytes.as_slice());
-        let shown = lines_of_log(alloc, bytes.as_slice());
-        if !agree(alloc, "log ", read, want)? || !agree(alloc, "log ", shown, want)? {
-            return Err(Fail::new(format_args!("{name}")));
-        }
+/// Compares the answers to a file, read and shown, and shown at once: its lines after the first, or why it is refused.
+pub fn check_answers(
+    alloc: Global,
+    kind: Kind,
+    name: &str,
+    version: &str,
+    body: &str,
+    want: Result<&str, FormatFault>,
+) -> Result<(), Fail> {
+    let bytes = file(alloc, kind.magic(), version, body)?;
+    let read = kind.read_lines(alloc, bytes.as_slice());
+    let shown = kind.shown_lines(alloc, bytes.as_slice());
+    if !agree(alloc, kind, read, want)? || !agree(alloc, kind, shown, want)? {
+        return Err(Fail::new(format_args!("{} {name}", kind.word())));
     }
     Ok(())
-}
-
-/// Compares the answers to tapes, read and shown, and shown at once.
-pub fn check_tapes(alloc: Global, rows: &[Row]) -> Result<(), Fail> {
-    for &(name, version, body, want) in rows {
-        let bytes = file(alloc, TAPE, version, body)?;
-        let read = read_tape_lines(alloc, bytes.as_slice());
-        let shown = lines_of_tape(alloc, bytes.as_slice());
-        if !agree(alloc, "tape ", read, want)? || !agree(alloc, "tape ", shown, want)? {
-            return Err(Fail::new(format_args!("{name}")));
-        }
-    }
-    Ok(())
-}
-
-/// The lines of a log that is read first.
-fn read_log_lines(alloc: Global, bytes: &[u8]) -> Result<Vec<u8>, FormatFault> {
-    let (digest, log) = read_log(alloc, bytes)?;
-    Ok(show_log(alloc, &digest, &log)?)
-}
-
-/// The lines of a tape that is read first.
-fn read_tape_lines(alloc: Global, bytes: &[u8]) -> Result<Vec<u8>, FormatFault> {
-    let (digest, tape) = read_tape(alloc, bytes)?;
-    Ok(show_tape(alloc, &digest, &tape)?)
 }
 
 /// The answer is the one that is wanted.
 fn agree(
     alloc: Global,
-    kind: &str,
+    kind: Kind,
     answer: Result<Vec<u8>, FormatFault>,
     want: Result<&str, FormatFault>,
 ) -> Result<bool, Fail> {
     match (answer, want) {
         (Ok(lines), Ok(text)) => {
             let mut expected = Vec::new(alloc);
-            expected.extend_from_slice(kind.as_bytes())?;
+            expected.extend_from_slice(kind.word().as_bytes())?;
+            expected.extend_from_slice(b" ")?;
             expected.extend_from_slice(DIGEST.as_bytes())?;
             expected.extend_from_slice(b"\n")?;
             expected.extend_from_slice(text.as_bytes())?;

@@ -6,155 +6,92 @@ use sample_inputs::traces::{TAPE, TAPE_OF_TWO_ANSWERS};
 use std::alloc::Global;
 use std::test::Fail;
 use trace_format::read_tape;
-use trace_model::TapeFault::{self, Unfit};
-use trace_model::{Tape, fits};
+use trace_model::{Tape, TapeFault, fits};
 use wasm_syntax::{
     Func, FuncType, Import, ImportKind, Instr, Limits, List, Module, Name, NoMemory, ValType,
 };
 
-/// What stands after a tape's digest, and whether it fits.
-type Row = (&'static str, &'static str, Result<(), TapeFault>);
+/// The first segment of tapes that does not fit, none where they fit; the name of each, and what stands after its
+/// digest.
+type Rows = (Option<u64>, &'static [(&'static str, &'static str)]);
 
-const TWO_ANSWERS_ROWS: &[Row] = &[
-    ("two answers", TAPE_OF_TWO_ANSWERS, Ok(())),
-    ("no segments", "2f", Err(Unfit { segment: 0 })),
+const TWO_ANSWERS_ROWS: &[Rows] = &[
     (
-        "a beginning by an import",
-        "010000210\
-     17f050000002f",
-        Err(Unfit { segment: 0 }),
+        None,
+        &[
+            ("two answers", TAPE_OF_TWO_ANSWERS),
+            ("a trap within an import", "0000200100010000232f"),
+        ],
     ),
     (
-        "a second beginning",
-        "00002001000000222f",
-        Err(Unfit { segment: 1 }),
+        Some(0),
+        &[
+            ("no segments", "2f"),
+            ("a beginning by an import", "01000021017f050000002f"),
+            ("a call of an import", "00002000002f"),
+            ("a call of no function", "00002002002f"),
+            ("an argument too many", "00002001017f000000002f"),
+            ("a return without an import", "000021002f"),
+            ("a trap without one", "0000232f"),
+            ("a segment after the end", "0000220200222f"),
+            ("bytes without a memory", "0001070001ff222f"),
+            ("a growth without a memory", "00010501222f"),
+            ("a table that is not there", "00010a05222f"),
+            ("an entry without a table", "0001080000222f"),
+            ("a global that is not there", "000109007f00000000222f"),
+        ],
     ),
     (
-        "a call of an import",
-        "00002000002f",
-        Err(Unfit { segment: 0 }),
-    ),
-    (
-        "a call of no function",
-        "00002002002f",
-        Err(Unfit { segment: 0 }),
-    ),
-    (
-        "an argument too many",
-        "00002001017f000000002f",
-        Err(Unfit { segment: 0 }),
-    ),
-    (
-        "an import that is not there",
-        "0000200100010100\
-     21017f050000002f",
-        Err(Unfit { segment: 1 }),
-    ),
-    (
-        "a result of another type",
-        "000020010001000021017e\
-     05000000000000002f",
-        Err(Unfit { segment: 1 }),
-    ),
-    (
-        "no result",
-        "000020010001000021002f",
-        Err(Unfit { segment: 1 }),
-    ),
-    (
-        "a return without an import",
-        "000021002f",
-        Err(Unfit { segment: 0 }),
-    ),
-    (
-        "an end within an import",
-        "0000200100010000222f",
-        Err(Unfit { segment: 1 }),
-    ),
-    ("a trap within an import", "0000200100010000232f", Ok(())),
-    ("a trap without one", "0000232f", Err(Unfit { segment: 0 })),
-    (
-        "a segment after a trap",
-        "00002001000100002302\
-     00222f",
-        Err(Unfit { segment: 1 }),
-    ),
-    (
-        "a segment after the end",
-        "0000220200222f",
-        Err(Unfit { segment: 0 }),
-    ),
-    (
-        "bytes without a memory",
-        "00010700\
-     01ff222f",
-        Err(Unfit { segment: 0 }),
-    ),
-    (
-        "a growth without a memory",
-        "00010501222f",
-        Err(Unfit { segment: 0 }),
-    ),
-    (
-        "a table that is not there",
-        "00010a05222f",
-        Err(Unfit { segment: 0 }),
-    ),
-    (
-        "an entry without a table",
-        "0001080000222f",
-        Err(Unfit { segment: 0 }),
-    ),
-    (
-        "a global that is not there",
-        "000109007f00000000222f",
-        Err(Unfit { segment: 0 }),
+        Some(1),
+        &[
+            ("a second beginning", "00002001000000222f"),
+            (
+                "an import that is not there",
+                "000020010001010021017f050000002f",
+            ),
+            (
+                "a result of another type",
+                "000020010001000021017e05000000000000002f",
+            ),
+            ("no result", "000020010001000021002f"),
+            ("an end within an import", "0000200100010000222f"),
+            ("a segment after a trap", "0000200100010000230200222f"),
+        ],
     ),
 ];
 
-const OVERWRITE_ROWS: &[Row] = &[
-    ("bytes", "0001070a02ccdd222f", Ok(())),
+const OVERWRITE_ROWS: &[Rows] = &[
     (
-        "bytes that touch",
-        "0002070a01cc070b01dd222f",
-        Err(Unfit { segment: 0 }),
-    ),
-    ("bytes apart", "0002070a01cc070c01dd222f", Ok(())),
-    (
-        "bytes in another order",
-        "0002070c01dd070a01cc222f",
-        Err(Unfit { segment: 0 }),
-    ),
-    (
-        "bytes twice",
-        "0002070a01cc070a01dd222f",
-        Err(Unfit { segment: 0 }),
-    ),
-    ("a growth before bytes", "00020502070a01cc222f", Ok(())),
-    (
-        "a growth after bytes",
-        "0002070a01cc0502222f",
-        Err(Unfit { segment: 0 }),
-    ),
-    ("two growths", "000205020503222f", Err(Unfit { segment: 0 })),
-    ("the greatest memory", "0001058020222f", Ok(())),
-    ("a page more", "0001058120222f", Err(Unfit { segment: 0 })),
-    (
-        "the last byte of the greatest memory",
-        "000107ffffff7f01aa222f",
-        Ok(()),
+        None,
+        &[
+            ("bytes", "0001070a02ccdd222f"),
+            ("bytes apart", "0002070a01cc070c01dd222f"),
+            ("a growth before bytes", "00020502070a01cc222f"),
+            ("the greatest memory", "0001058020222f"),
+            (
+                "the last byte of the greatest memory",
+                "000107ffffff7f01aa222f",
+            ),
+        ],
     ),
     (
-        "a byte more",
-        "000107ffffff7f02aabb222f",
-        Err(Unfit { segment: 0 }),
+        Some(0),
+        &[
+            ("bytes that touch", "0002070a01cc070b01dd222f"),
+            ("bytes in another order", "0002070c01dd070a01cc222f"),
+            ("bytes twice", "0002070a01cc070a01dd222f"),
+            ("a growth after bytes", "0002070a01cc0502222f"),
+            ("two growths", "000205020503222f"),
+            ("a page more", "0001058120222f"),
+            ("a byte more", "000107ffffff7f02aabb222f"),
+        ],
     ),
 ];
 
 /// A memory of two pages at most.
-const MAXIMUM_ROWS: &[Row] = &[
-    ("a growth to the maximum", "00010502222f", Ok(())),
-    ("a page more", "00010503222f", Err(Unfit { segment: 0 })),
+const MAXIMUM_ROWS: &[Rows] = &[
+    (None, &[("a growth to the maximum", "00010502222f")]),
+    (Some(0), &[("a page more", "00010503222f")]),
 ];
 
 #[test]
@@ -185,11 +122,16 @@ fn of_a_memory_with_a_maximum(rt: HostRuntime) -> Result<(), Fail> {
 }
 
 /// Compares whether tapes fit a module.
-fn check_rows(alloc: Global, module: &Module, rows: &[Row]) -> Result<(), Fail> {
-    for &(name, body, want) in rows {
-        let tape = tape_of(alloc, body)?;
-        if fits(alloc, &tape, module) != want {
-            return Err(Fail::new(format_args!("{name}")));
+fn check_rows(alloc: Global, module: &Module, groups: &[Rows]) -> Result<(), Fail> {
+    for &(unfit, rows) in groups {
+        let want = match unfit {
+            None => Ok(()),
+            Some(segment) => Err(TapeFault::Unfit { segment }),
+        };
+        for &(name, body) in rows {
+            if fits(alloc, &tape_of(alloc, body)?, module) != want {
+                return Err(Fail::new(format_args!("{name}")));
+            }
         }
     }
     Ok(())

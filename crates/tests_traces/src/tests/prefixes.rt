@@ -1,9 +1,10 @@
 //! Every proper prefix of a log and of a tape is refused, at the end of what is whole of it.
 
-use crate::tests::files::file;
-use sample_inputs::traces::{LOG, LOG_OF_TWO_ANSWERS, TAPE, TAPE_OF_TWO_ANSWERS};
+use crate::tests::files::{Kind, file};
+use sample_inputs::traces::{LOG_OF_TWO_ANSWERS, TAPE_OF_TWO_ANSWERS};
+use std::alloc::Global;
 use std::test::Fail;
-use trace_format::{FormatFault, read_log, read_tape};
+use trace_format::FormatFault;
 
 /// Where the header of the log ends, and each of its events.
 const LOG_PLACES: [u64; 7] = [38, 41, 44, 51, 54, 61, 63];
@@ -24,32 +25,37 @@ fn place_within(places: &[u64], length: usize) -> u64 {
 
 #[test]
 fn of_a_log(rt: HostRuntime) -> Result<(), Fail> {
-    let alloc = rt.alloc();
-    for version in ["01", "02"] {
-        let bytes = file(alloc, LOG, version, LOG_OF_TWO_ANSWERS)?;
-        assert!(rt; bytes.len() == 64);
-        for length in 0..bytes.len() {
-            let at = place_within(&LOG_PLACES, length);
-            match read_log(alloc, &bytes[..length]) {
-                Err(fault) if fault == (FormatFault::Bad { at }) => {}
-                _ => return Err(Fail::new(format_args!("the first {length} bytes"))),
-            }
-        }
-    }
-    Ok(())
+    check_prefixes(rt.alloc(), Kind::Log, LOG_OF_TWO_ANSWERS, 64, &LOG_PLACES)
 }
 
 #[test]
 fn of_a_tape(rt: HostRuntime) -> Result<(), Fail> {
-    let alloc = rt.alloc();
+    check_prefixes(
+        rt.alloc(),
+        Kind::Tape,
+        TAPE_OF_TWO_ANSWERS,
+        66,
+        &TAPE_PLACES,
+    )
+}
+
+/// Compares the faults of the proper prefixes of a file in both versions, which has this length.
+fn check_prefixes(
+    alloc: Global,
+    kind: Kind,
+    body: &str,
+    whole: usize,
+    places: &[u64],
+) -> Result<(), Fail> {
     for version in ["01", "02"] {
-        let bytes = file(alloc, TAPE, version, TAPE_OF_TWO_ANSWERS)?;
-        assert!(rt; bytes.len() == 66);
+        let bytes = file(alloc, kind.magic(), version, body)?;
+        if bytes.len() != whole {
+            return Err(Fail::new(format_args!("a file of {} bytes", bytes.len())));
+        }
         for length in 0..bytes.len() {
-            let at = place_within(&TAPE_PLACES, length);
-            match read_tape(alloc, &bytes[..length]) {
-                Err(fault) if fault == (FormatFault::Bad { at }) => {}
-                _ => return Err(Fail::new(format_args!("the first {length} bytes"))),
+            let at = place_within(places, length);
+            if kind.fault(alloc, &bytes[..length]) != Some(FormatFault::Bad { at }) {
+                return Err(Fail::new(format_args!("the first {length} bytes")));
             }
         }
     }

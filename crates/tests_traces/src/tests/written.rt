@@ -1,49 +1,33 @@
 //! Files that are read and written again.
 
+use crate::tests::files::Kind::{self, Log, Tape};
 use crate::tests::files::file;
-use sample_inputs::traces::{
-    EACH_EFFECT, EACH_EVENT, LOG, LOG_OF_TWO_ANSWERS, TAPE, TAPE_OF_TWO_ANSWERS,
-};
-use std::alloc::Global;
+use sample_inputs::traces::{EACH_EFFECT, EACH_EVENT, LOG_OF_TWO_ANSWERS, TAPE_OF_TWO_ANSWERS};
 use std::test::Fail;
-use trace_format::{
-    FormatFault, log_files, read_log, read_tape, tape_files, write_log, write_tape,
-};
 
-/// The file of the log of a file.
-fn log_again(alloc: Global, bytes: &[u8]) -> Result<Vec<u8>, FormatFault> {
-    log_files();
-    let (digest, log) = read_log(alloc, bytes)?;
-    Ok(write_log(alloc, digest.as_bytes(), &log)?)
-}
-
-/// The file of the tape of a file.
-fn tape_again(alloc: Global, bytes: &[u8]) -> Result<Vec<u8>, FormatFault> {
-    tape_files();
-    let (digest, tape) = read_tape(alloc, bytes)?;
-    Ok(write_tape(alloc, digest.as_bytes(), &tape)?)
-}
+/// Files by their name, their kind, their version, and what stands after the digest.
+const FILES: &[(&str, Kind, &str, &str)] = &[
+    ("a log of the first version", Log, "01", LOG_OF_TWO_ANSWERS),
+    ("a log", Log, "02", LOG_OF_TWO_ANSWERS),
+    ("each kind of event", Log, "02", EACH_EVENT),
+    (
+        "a tape of the first version",
+        Tape,
+        "01",
+        TAPE_OF_TWO_ANSWERS,
+    ),
+    ("a tape", Tape, "02", TAPE_OF_TWO_ANSWERS),
+    ("each kind of effect", Tape, "02", EACH_EFFECT),
+];
 
 #[test]
-fn logs_are_written_in_the_second_version(rt: HostRuntime) -> Result<(), Fail> {
+fn files_are_written_in_the_second_version(rt: HostRuntime) -> Result<(), Fail> {
     let alloc = rt.alloc();
-    let first = file(alloc, LOG, "01", LOG_OF_TWO_ANSWERS)?;
-    let second = file(alloc, LOG, "02", LOG_OF_TWO_ANSWERS)?;
-    let each = file(alloc, LOG, "02", EACH_EVENT)?;
-    assert!(rt; log_again(alloc, first.as_slice())? == second);
-    assert!(rt; log_again(alloc, second.as_slice())? == second);
-    assert!(rt; log_again(alloc, each.as_slice())? == each);
-    Ok(())
-}
-
-#[test]
-fn tapes_are_written_in_the_second_version(rt: HostRuntime) -> Result<(), Fail> {
-    let alloc = rt.alloc();
-    let first = file(alloc, TAPE, "01", TAPE_OF_TWO_ANSWERS)?;
-    let second = file(alloc, TAPE, "02", TAPE_OF_TWO_ANSWERS)?;
-    let each = file(alloc, TAPE, "02", EACH_EFFECT)?;
-    assert!(rt; tape_again(alloc, first.as_slice())? == second);
-    assert!(rt; tape_again(alloc, second.as_slice())? == second);
-    assert!(rt; tape_again(alloc, each.as_slice())? == each);
+    for &(name, kind, version, body) in FILES {
+        let bytes = file(alloc, kind.magic(), version, body)?;
+        let second = file(alloc, kind.magic(), "02", body)?;
+        let written = kind.written_again(alloc, bytes.as_slice())?;
+        assert!(rt; written == second, "{name}");
+    }
     Ok(())
 }

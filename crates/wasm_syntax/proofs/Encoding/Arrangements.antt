@@ -169,80 +169,38 @@ parts_of part none m starts customs starts-are customs-are =
     (of_list part DataSection none.9 m.datas _ _
     customs-are))))))))))
 
-types_hold : (m : Module) → flat_map types_in (sections_of m) ≡ m.types
-types_hold m =
-    parts_of types_in (refl, refl, refl, refl, refl, refl, refl, refl, refl, refl) m [] []
-    (no_starts types_in (λ n. refl) m.start) (no_customs types_in (λ c. refl) m.customs) ∙ append-nil m.types
-
-imports_hold : (m : Module) → flat_map imports_in (sections_of m) ≡ m.imports
-imports_hold m =
-    parts_of imports_in (refl, refl, refl, refl, refl, refl, refl, refl, refl, refl) m [] []
-    (no_starts imports_in (λ n. refl) m.start) (no_customs imports_in (λ c. refl) m.customs) ∙ append-nil m.imports
-
-functions_hold : (m : Module) → flat_map functions_in (sections_of m) ≡ map (λ func. func.ty) m.funcs
-functions_hold m =
-    parts_of functions_in (refl, refl, refl, refl, refl, refl, refl, refl, refl, refl) m [] []
-    (no_starts functions_in (λ n. refl) m.start) (no_customs functions_in (λ c. refl) m.customs)
-    ∙ append-nil (map (λ func. func.ty) m.funcs)
-
-tables_hold : (m : Module) → flat_map tables_in (sections_of m) ≡ m.tables
-tables_hold m =
-    parts_of tables_in (refl, refl, refl, refl, refl, refl, refl, refl, refl, refl) m [] []
-    (no_starts tables_in (λ n. refl) m.start) (no_customs tables_in (λ c. refl) m.customs) ∙ append-nil m.tables
-
-memories_hold : (m : Module) → flat_map memories_in (sections_of m) ≡ m.memories
-memories_hold m =
-    parts_of memories_in (refl, refl, refl, refl, refl, refl, refl, refl, refl, refl) m [] []
-    (no_starts memories_in (λ n. refl) m.start) (no_customs memories_in (λ c. refl) m.customs) ∙ append-nil m.memories
-
-globals_hold : (m : Module) → flat_map globals_in (sections_of m) ≡ m.globals
-globals_hold m =
-    parts_of globals_in (refl, refl, refl, refl, refl, refl, refl, refl, refl, refl) m [] []
-    (no_starts globals_in (λ n. refl) m.start) (no_customs globals_in (λ c. refl) m.customs) ∙ append-nil m.globals
-
-exports_hold : (m : Module) → flat_map exports_in (sections_of m) ≡ m.exports
-exports_hold m =
-    parts_of exports_in (refl, refl, refl, refl, refl, refl, refl, refl, refl, refl) m [] []
-    (no_starts exports_in (λ n. refl) m.start) (no_customs exports_in (λ c. refl) m.customs) ∙ append-nil m.exports
-
-starts_hold : (m : Module) → flat_map starts_in (sections_of m) ≡ option_to_list m.start
-starts_hold m =
-    parts_of starts_in (refl, refl, refl, refl, refl, refl, refl, refl, refl, refl) m (option_to_list m.start) []
-    (all_starts m.start) (no_customs starts_in (λ c. refl) m.customs) ∙ append-nil (option_to_list m.start)
-
-elems_hold : (m : Module) → flat_map elems_in (sections_of m) ≡ m.elems
-elems_hold m =
-    parts_of elems_in (refl, refl, refl, refl, refl, refl, refl, refl, refl, refl) m [] []
-    (no_starts elems_in (λ n. refl) m.start) (no_customs elems_in (λ c. refl) m.customs) ∙ append-nil m.elems
-
-codes_hold : (m : Module) → flat_map codes_in (sections_of m) ≡ map code_of m.funcs
-codes_hold m =
-    parts_of codes_in (refl, refl, refl, refl, refl, refl, refl, refl, refl, refl) m [] []
-    (no_starts codes_in (λ n. refl) m.start) (no_customs codes_in (λ c. refl) m.customs)
-    ∙ append-nil (map code_of m.funcs)
-
-datas_hold : (m : Module) → flat_map datas_in (sections_of m) ≡ m.datas
-datas_hold m =
-    parts_of datas_in (refl, refl, refl, refl, refl, refl, refl, refl, refl, refl) m [] []
-    (no_starts datas_in (λ n. refl) m.start) (no_customs datas_in (λ c. refl) m.customs) ∙ append-nil m.datas
-
-customs_hold : (m : Module) → flat_map customs_in (sections_of m) ≡ m.customs
-customs_hold m =
-    parts_of customs_in (refl, refl, refl, refl, refl, refl, refl, refl, refl, refl) m [] m.customs
-    (no_starts customs_in (λ n. refl) m.start) (all_customs m.customs)
+-- a part that neither the start section nor a custom one has
+plain_part : {A : Type 0} (part : Section → List A) → HasNoneInEmpty part → ((n : ℕ) → part (StartSection n) ≡ [])
+    → ((c : Custom) → part (CustomSection c) ≡ []) → (m : Module) (xs : List A) → parts_in part m [] [] ≡ xs ++ []
+    → xs ≡ flat_map part (sections_of m)
+plain_part part none starts customs m xs is =
+    sym (parts_of part none m [] [] (no_starts part starts m.start) (no_customs part customs m.customs)
+    ∙ is ∙ append-nil xs)
 
 pub sections_hold : (m : Module) → AreSectionsOf m (sections_of m)
 sections_hold m = record {
-  types = sym (types_hold m);
-  imports = sym (imports_hold m);
-  functions = sym (functions_hold m);
-  codes = sym (codes_hold m);
-  tables = sym (tables_hold m);
-  memories = sym (memories_hold m);
-  globals = sym (globals_hold m);
-  exports = sym (exports_hold m);
-  start = sym (starts_hold m);
-  elems = sym (elems_hold m);
-  datas = sym (datas_hold m);
-  customs = sym (customs_hold m);
+  types = plain_part types_in (refl, refl, refl, refl, refl, refl, refl, refl, refl, refl) (λ n. refl) (λ c. refl) m
+      m.types refl;
+  imports = plain_part imports_in (refl, refl, refl, refl, refl, refl, refl, refl, refl, refl) (λ n. refl) (λ c. refl) m
+      m.imports refl;
+  functions = plain_part functions_in (refl, refl, refl, refl, refl, refl, refl, refl, refl, refl) (λ n. refl) (λ c. refl) m
+      (map (λ func. func.ty) m.funcs) refl;
+  codes = plain_part codes_in (refl, refl, refl, refl, refl, refl, refl, refl, refl, refl) (λ n. refl) (λ c. refl) m
+      (map code_of m.funcs) refl;
+  tables = plain_part tables_in (refl, refl, refl, refl, refl, refl, refl, refl, refl, refl) (λ n. refl) (λ c. refl) m
+      m.tables refl;
+  memories = plain_part memories_in (refl, refl, refl, refl, refl, refl, refl, refl, refl, refl) (λ n. refl) (λ c. refl) m
+      m.memories refl;
+  globals = plain_part globals_in (refl, refl, refl, refl, refl, refl, refl, refl, refl, refl) (λ n. refl) (λ c. refl) m
+      m.globals refl;
+  exports = plain_part exports_in (refl, refl, refl, refl, refl, refl, refl, refl, refl, refl) (λ n. refl) (λ c. refl) m
+      m.exports refl;
+  start = sym (parts_of starts_in (refl, refl, refl, refl, refl, refl, refl, refl, refl, refl) m (option_to_list m.start) []
+      (all_starts m.start) (no_customs starts_in (λ c. refl) m.customs) ∙ append-nil (option_to_list m.start));
+  elems = plain_part elems_in (refl, refl, refl, refl, refl, refl, refl, refl, refl, refl) (λ n. refl) (λ c. refl) m
+      m.elems refl;
+  datas = plain_part datas_in (refl, refl, refl, refl, refl, refl, refl, refl, refl, refl) (λ n. refl) (λ c. refl) m
+      m.datas refl;
+  customs = sym (parts_of customs_in (refl, refl, refl, refl, refl, refl, refl, refl, refl, refl) m [] m.customs
+      (no_starts customs_in (λ n. refl) m.start) (all_customs m.customs));
 }

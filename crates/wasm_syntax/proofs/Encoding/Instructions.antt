@@ -15,7 +15,7 @@ use Rattle.wasm_syntax.specs.declared.values.ValType.TheVariants.{I32, I64, F32,
 use Rattle.wasm_syntax.specs.declared.instructions.Instr.{Instr}
 use Rattle.wasm_syntax.specs.declared.instructions.Instr.TheVariants.{Unreachable, Nop, Block, Loop, If, Else, End, Br, BrIf, BrTable, Return, Call, CallIndirect, Drop, Select, LocalGet, LocalSet, LocalTee, GlobalGet, GlobalSet, Load, Store, MemorySize, MemoryGrow, MemoryCopy, MemoryFill, Const, Numeric, RefNull, RefFunc, TableSet, TableGrow, TableSize}
 use Rattle.wasm_syntax.specs.Opcodes.{is_from}
-use Rattle.wasm_syntax.specs.Encoding.Grammar.{Grammar, Exactly, ◌then◌}
+use Rattle.wasm_syntax.specs.Encoding.Grammar.{Grammar, Exactly, Marked, ◌then◌}
 use Rattle.wasm_syntax.specs.Encoding.Types.{EncodesF32, EncodesF64, EncodesIndices, EncodesBlockType}
 use Rattle.wasm_syntax.specs.Encoding.Instructions.{IsReplay, EncodesInstr, EncodesConst, Prefixed}
 use Rattle.wasm_syntax.specs.Encoding.Combinators.{Reader, always, map_read, first_then, first_exactly, by_mark, by_number, row_at}
@@ -274,6 +274,15 @@ module _ (laws : NumberLaws) where
   prefixed_only form number F read make row is bytes rest a h =
       numbered_only (instr_at form) (row_at (prefixed_rows form)) 0xFC number F read make (prefix_at form) row laws.u32 is bytes rest a h
 
+  -- with one number, and the same in both forms
+  number_only : (form : Form) (op : ℕ) (make : ℕ → Instr) → special op ≡ false
+      → row_at core_rows op ≡ Some (map_read make first_u32)
+      → (bytes rest : List ℕ) (n : ℕ) → Marked op EncodesU32 bytes n
+      → by_mark (instr_at form) (bytes ++ rest) ≡ Some (make n, rest)
+  number_only form op make plain row bytes rest n h =
+      read_only (instr_at form) op EncodesU32 first_u32 make (core_at form op (map_read make first_u32) plain row) laws.u32
+      bytes rest n h
+
   instr_only : (form : Form) (bytes rest : List ℕ) (i : Instr) → EncodesInstr form bytes i
       → by_mark (instr_at form) (bytes ++ rest) ≡ Some (i, rest)
   instr_only form bytes rest Unreachable h = done_only (instr_at form) 0x00 Unreachable (core_at form 0x00 (always Unreachable) refl refl) bytes rest h
@@ -286,29 +295,21 @@ module _ (laws : NumberLaws) where
       read_only (instr_at form) 0x04 EncodesBlockType first_block_type If (core_at form 0x04 (map_read If first_block_type) refl refl) block_type_is bytes rest ty h
   instr_only form bytes rest Else h = done_only (instr_at form) 0x05 Else (core_at form 0x05 (always Else) refl refl) bytes rest h
   instr_only form bytes rest End h = done_only (instr_at form) 0x0B End (core_at form 0x0B (always End) refl refl) bytes rest h
-  instr_only form bytes rest (Br label) h =
-      read_only (instr_at form) 0x0C EncodesU32 first_u32 Br (core_at form 0x0C (map_read Br first_u32) refl refl) laws.u32 bytes rest label h
-  instr_only form bytes rest (BrIf label) h =
-      read_only (instr_at form) 0x0D EncodesU32 first_u32 BrIf (core_at form 0x0D (map_read BrIf first_u32) refl refl) laws.u32 bytes rest label h
+  instr_only form bytes rest (Br label) h = number_only form 0x0C Br refl refl bytes rest label h
+  instr_only form bytes rest (BrIf label) h = number_only form 0x0D BrIf refl refl bytes rest label h
   instr_only form bytes rest (BrTable labels default) h =
       read_only (instr_at form) 0x0E (EncodesIndices then EncodesU32) (first_then first_indices first_u32) (λ labels. BrTable labels.0 labels.1) (core_at form 0x0E (map_read (λ labels. BrTable labels.0 labels.1) (first_then first_indices first_u32)) refl refl) labels_is bytes rest (labels, default) h
   instr_only form bytes rest Return h = done_only (instr_at form) 0x0F Return (core_at form 0x0F (always Return) refl refl) bytes rest h
-  instr_only form bytes rest (Call func) h =
-      read_only (instr_at form) 0x10 EncodesU32 first_u32 Call (core_at form 0x10 (map_read Call first_u32) refl refl) laws.u32 bytes rest func h
+  instr_only form bytes rest (Call func) h = number_only form 0x10 Call refl refl bytes rest func h
   instr_only form bytes rest (CallIndirect ty) h =
       read_only (instr_at form) 0x11 (EncodesU32 then Exactly (0x00 ∷ [])) (first_then first_u32 (first_exactly (0x00 ∷ []))) (λ parts. CallIndirect parts.0) (core_at form 0x11 (map_read (λ parts. CallIndirect parts.0) (first_then first_u32 (first_exactly (0x00 ∷ [])))) refl refl) indirect_is bytes rest (ty, tt) h
   instr_only form bytes rest Drop h = done_only (instr_at form) 0x1A Drop (core_at form 0x1A (always Drop) refl refl) bytes rest h
   instr_only form bytes rest Select h = done_only (instr_at form) 0x1B Select (core_at form 0x1B (always Select) refl refl) bytes rest h
-  instr_only form bytes rest (LocalGet local) h =
-      read_only (instr_at form) 0x20 EncodesU32 first_u32 LocalGet (core_at form 0x20 (map_read LocalGet first_u32) refl refl) laws.u32 bytes rest local h
-  instr_only form bytes rest (LocalSet local) h =
-      read_only (instr_at form) 0x21 EncodesU32 first_u32 LocalSet (core_at form 0x21 (map_read LocalSet first_u32) refl refl) laws.u32 bytes rest local h
-  instr_only form bytes rest (LocalTee local) h =
-      read_only (instr_at form) 0x22 EncodesU32 first_u32 LocalTee (core_at form 0x22 (map_read LocalTee first_u32) refl refl) laws.u32 bytes rest local h
-  instr_only form bytes rest (GlobalGet global) h =
-      read_only (instr_at form) 0x23 EncodesU32 first_u32 GlobalGet (core_at form 0x23 (map_read GlobalGet first_u32) refl refl) laws.u32 bytes rest global h
-  instr_only form bytes rest (GlobalSet global) h =
-      read_only (instr_at form) 0x24 EncodesU32 first_u32 GlobalSet (core_at form 0x24 (map_read GlobalSet first_u32) refl refl) laws.u32 bytes rest global h
+  instr_only form bytes rest (LocalGet local) h = number_only form 0x20 LocalGet refl refl bytes rest local h
+  instr_only form bytes rest (LocalSet local) h = number_only form 0x21 LocalSet refl refl bytes rest local h
+  instr_only form bytes rest (LocalTee local) h = number_only form 0x22 LocalTee refl refl bytes rest local h
+  instr_only form bytes rest (GlobalGet global) h = number_only form 0x23 GlobalGet refl refl bytes rest global h
+  instr_only form bytes rest (GlobalSet global) h = number_only form 0x24 GlobalSet refl refl bytes rest global h
   instr_only form bytes rest MemorySize h =
       read_only (instr_at form) 0x3F (Exactly (0x00 ∷ [])) (first_exactly (0x00 ∷ [])) (λ it. MemorySize) (core_at form 0x3F (map_read (λ it. MemorySize) (first_exactly (0x00 ∷ []))) refl refl) (exactly_is (0x00 ∷ [])) bytes rest tt (0x00 ∷ [], h, refl)
   instr_only form bytes rest MemoryGrow h =

@@ -42,12 +42,21 @@ EncodesImport bytes i = (EncodesName then EncodesName then EncodesImportKind) by
 abbrev pub EncodesGlobal : Form → List ℕ → Global → Type 0
 EncodesGlobal form bytes g = (EncodesGlobalType then EncodesExpr form) bytes (g.ty, g.init)
 
--- an export (Core 1.0, 5.5.10)
+-- an export (Core 1.0, 5.5.10): the mark of its kind, the index of what it names
+abbrev pub export_mark : ExportKind → ℕ
+export_mark (exports.Func func) = EXTERNAL_FUNC
+export_mark (exports.Table table) = EXTERNAL_TABLE
+export_mark (exports.Memory memory) = EXTERNAL_MEMORY
+export_mark (exports.Global global) = EXTERNAL_GLOBAL
+
+abbrev pub export_index : ExportKind → ℕ
+export_index (exports.Func func) = func
+export_index (exports.Table table) = table
+export_index (exports.Memory memory) = memory
+export_index (exports.Global global) = global
+
 abbrev pub EncodesExportKind : List ℕ → ExportKind → Type 0
-EncodesExportKind bytes (exports.Func func) = Marked EXTERNAL_FUNC EncodesU32 bytes func
-EncodesExportKind bytes (exports.Table table) = Marked EXTERNAL_TABLE EncodesU32 bytes table
-EncodesExportKind bytes (exports.Memory memory) = Marked EXTERNAL_MEMORY EncodesU32 bytes memory
-EncodesExportKind bytes (exports.Global global) = Marked EXTERNAL_GLOBAL EncodesU32 bytes global
+EncodesExportKind bytes kind = Marked (export_mark kind) EncodesU32 bytes (export_index kind)
 
 abbrev pub EncodesExport : List ℕ → Export → Type 0
 EncodesExport bytes e = (EncodesName then EncodesExportKind) bytes (e.name, e.kind)

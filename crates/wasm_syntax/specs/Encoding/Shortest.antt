@@ -7,7 +7,7 @@ use Rattle.leb_bytes.specs.Signed.{i32_bytes, i64_bytes}
 pub use Rattle.wasm_syntax.specs.Alike.{type_byte as val_type_byte}
 use Rattle.wasm_opcodes.specs.declared.TheConstants.{I32_CONST, I64_CONST, F32_CONST, F64_CONST, UNREACHABLE, NOP, BLOCK, LOOP, IF, ELSE, END, BR, BR_IF, BR_TABLE, RETURN, CALL, CALL_INDIRECT, DROP, SELECT, LOCAL_GET, LOCAL_SET, LOCAL_TEE, GLOBAL_GET, GLOBAL_SET, MEMORY_SIZE, MEMORY_GROW, TABLE_SET, REF_NULL, REF_FUNC, PREFIX, MEMORY_COPY, MEMORY_FILL, TABLE_GROW, TABLE_SIZE}
 use Rattle.wasm_opcodes.specs.declared.marks.TheConstants.{TYPE_EMPTY, TYPE_FUNC, LIMITS_MIN, LIMITS_MIN_MAX, TYPE_FUNCREF, MUTABILITY_CONST, MUTABILITY_VAR, EXTERNAL_FUNC, EXTERNAL_TABLE, EXTERNAL_MEMORY, EXTERNAL_GLOBAL, ELEMENT_DECLARED, ELEMENT_FUNCS}
-use Rattle.wasm_syntax.specs.Encoding.Sections.{Code, Section, CustomSection, TypeSection, ImportSection, FunctionSection, TableSection, MemorySection, GlobalSection, ExportSection, StartSection, ElementSection, CodeSection, DataSection, id_of}
+use Rattle.wasm_syntax.specs.Encoding.Sections.{Code, Section, CustomSection, TypeSection, ImportSection, FunctionSection, TableSection, MemorySection, GlobalSection, ExportSection, StartSection, ElementSection, CodeSection, DataSection, id_of, export_index, export_mark}
 use Rattle.wasm_syntax.specs.Encoding.Modules.{preamble, code_of}
 use Rattle.wasm_syntax.specs.declared.values.ValType.{ValType}
 use Rattle.wasm_syntax.specs.declared.values.ValType.TheVariants.{I32, I64, F32, F64, FuncRef}
@@ -22,7 +22,6 @@ use Rattle.wasm_syntax.specs.declared.modules.ImportKind.{ImportKind}
 use Rattle.wasm_syntax.specs.declared.modules.ImportKind.TheVariants as imports
 use Rattle.wasm_syntax.specs.declared.modules.Export.{Export}
 use Rattle.wasm_syntax.specs.declared.modules.ExportKind.{ExportKind}
-use Rattle.wasm_syntax.specs.declared.modules.ExportKind.TheVariants as exports
 use Rattle.wasm_syntax.specs.declared.modules.Run.{Run}
 use Rattle.wasm_syntax.specs.declared.modules.Global.{Global}
 use Rattle.wasm_syntax.specs.declared.modules.ElemSeg.{ElemSeg}
@@ -135,10 +134,7 @@ unfoldable pub global_bytes : Global → List ℕ
 global_bytes g = global_type_bytes g.ty ++ body_bytes g.init
 
 abbrev pub export_kind_bytes : ExportKind → List ℕ
-export_kind_bytes (exports.Func func) = EXTERNAL_FUNC ∷ u32_bytes func
-export_kind_bytes (exports.Table table) = EXTERNAL_TABLE ∷ u32_bytes table
-export_kind_bytes (exports.Memory memory) = EXTERNAL_MEMORY ∷ u32_bytes memory
-export_kind_bytes (exports.Global global) = EXTERNAL_GLOBAL ∷ u32_bytes global
+export_kind_bytes kind = export_mark kind ∷ u32_bytes (export_index kind)
 
 unfoldable pub export_bytes : Export → List ℕ
 export_bytes e = sized_bytes e.name ++ export_kind_bytes e.kind

@@ -1,4 +1,4 @@
-use Rattle.worked_tapes.proofs.Bounds.{worked_bounds}
+use Rattle.worked_tapes.proofs.Tapes.{worked_bounds}
 use Rattle.worked_tapes.proofs.bounds_have_their_needed_tapes.Goals as goal
 
 pub returns : goal.returns

@@ -11,9 +11,7 @@ returns c =
                   along = c.leads_run_along.ensures;
                   end_after = c.leads_go_on.ensures.ends;
                   show_after = c.leads_go_on.ensures.shows;
-                  leads = c.steps_lead_on.ensures.leads;
-                  ends = c.steps_lead_on.ensures.ends;
-                  shows = c.steps_lead_on.ensures.shows;
+                  single = c.steps_lead_on.ensures;
                 };
             steps =
                 record {

@@ -1,18 +1,19 @@
 use Rattle.std.proofs.Common.{sym, ◌∙◌}
-use Rattle.hook_insert.proofs.Accesses.{if_ok}
+use Rattle.hook_insert.proofs.Accesses.{if_ok_both}
 use Rattle.hook_insert.proofs.FlatFunctions.{func_is, weights_are}
 use Rattle.hook_insert.proofs.functions.instrumented_func.Goals as goal
 
-pub returns-clause-func : goal.returns-clause-func
-returns-clause-func c =
-    if_ok c.typed_func.result
-    (λ made is. is ∙ func_is c.bodies_are_read.ensures c.args.scope.now c.args.index c.in-Some.ty.now c.args.func.now
-    c.requires.insertable.typed (sym c.in-Some.ensures))
-    c.typed_func.ensures.func
-
-pub returns-clause-weights : goal.returns-clause-weights
-returns-clause-weights c =
-    if_ok c.typed_func.result
-    (λ made is. is ∙ weights_are c.bodies_are_read.ensures c.args.scope.now c.args.index c.in-Some.ty.now c.args.func.now
-    c.requires.insertable.typed (sym c.in-Some.ensures))
-    c.typed_func.ensures.weights
+pub returns : goal.returns
+returns c =
+    let m = c.args.scope.now in
+    let func = c.args.func.now in
+    let ty = c.in-Some.ty.now in
+    let is = sym c.in-Some.ensures in
+    let read = c.bodies_are_read.ensures in
+    let typed = c.requires.insertable.typed in
+    if_ok_both c.typed_func.result
+    (λ made same weighed. record {
+      func = same ∙ func_is read m c.args.index ty func typed is;
+      weights = weighed ∙ weights_are read m c.args.index ty func typed is;
+    })
+    c.typed_func.ensures.func c.typed_func.ensures.weights

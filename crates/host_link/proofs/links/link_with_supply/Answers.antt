@@ -1,21 +1,16 @@
-use Rattle.std.proofs.Common.{◌≡◌, Ok, Err, sym, subst}
+use Rattle.std.proofs.Common.{◌≡◌, Ok, Err, subst}
 use Rattle.wasm_syntax.specs.Validity.{IsValid}
-use Rattle.host_script.specs.Supply.{supply_of}
 use Rattle.history_spec.specs.Instantiation.{instantiate}
-use Rattle.host_link.specs.Link.{HasLimits}
-use Rattle.host_link.proofs.Chosen.{are_chosen}
+use Rattle.host_link.proofs.Chosen.{supplied_there}
 use Rattle.host_link.proofs.Supplied.{links_by, starts_by}
 use Rattle.host_link.proofs.links.link_with_supply.Goals as goal
 
 pub instantiate-requires : goal.instantiate-requires
 instantiate-requires c =
-    let m = c.args.checked.now in
-    let script = c.args.script.now in
-    let supply = c.in_ok-supply.supply in
-    let same = c.module-module.ensures.same in
-    let is = subst (λ x. supply_of x script ≡ Ok supply) same c.in_ok-supply.ensures.ok in
-    let matches = c.typed_store.ensures.supplied m script supply c.requires.fits is in
-    subst (λ x. HasLimits x supply) (sym same) (are_chosen m script supply c.requires.supported matches is)
+    (supplied_there c.args.checked.now _ c.args.script.now c.in_ok-supply.supply c.module-module.ensures.same
+    c.requires.supported
+    (c.typed_store.ensures.supplied c.args.checked.now c.args.script.now c.in_ok-supply.supply c.requires.fits)
+    c.in_ok-supply.ensures.ok).1
 
 pub returns-in-Ok-clause-ok : goal.returns-in-Ok-clause-ok
 returns-in-Ok-clause-ok c =
@@ -29,19 +24,18 @@ returns-in-Err-clause-err c = λ other.
 
 pub returns-in-Ok-clause-typed : goal.returns-in-Ok-clause-typed
 returns-in-Ok-clause-typed c = λ bytes.
-    let m = c.args.checked.now in
-    let script = c.args.script.now in
-    let supply = c.in_ok-supply.supply in
     let same = c.module-module.ensures.same in
-    let is = subst (λ x. supply_of x script ≡ Ok supply) same c.in_ok-supply.ensures.ok in
-    let matches = c.typed_store.ensures.supplied m script supply c.requires.fits is in
-    c.typed_store.ensures.store m supply c.in-Ok.store
+    let there = supplied_there c.args.checked.now _ c.args.script.now c.in_ok-supply.supply c.module-module.ensures.same
+    c.requires.supported
+    (c.typed_store.ensures.supplied c.args.checked.now c.args.script.now c.in_ok-supply.supply c.requires.fits)
+    c.in_ok-supply.ensures.ok in
+    c.typed_store.ensures.store c.args.checked.now c.in_ok-supply.supply c.in-Ok.store
     (record {
       valid = subst IsValid same c.module-module.ensures.valid;
       supported = c.requires.supported;
       bytes = bytes;
     })
-    matches (subst (λ x. instantiate x supply ≡ Ok c.in-Ok.store) same c.in-Ok.ensures.ok)
+    there.0 (subst (λ x. instantiate x c.in_ok-supply.supply ≡ Ok c.in-Ok.store) same c.in-Ok.ensures.ok)
 
 pub returns-in-Ok-clause-opened : goal.returns-in-Ok-clause-opened
 returns-in-Ok-clause-opened c =

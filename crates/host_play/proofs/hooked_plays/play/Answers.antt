@@ -4,11 +4,13 @@ use Rattle.history_spec.specs.Run.{start_in_store}
 use Rattle.host_play.specs.HookedResults.{IsPlayedWithHooks}
 use Rattle.host_play.specs.HooksSoFar.{CanPlay, run_in}
 use Rattle.host_play.proofs.HookShapes.{can_play, hooked_fits}
+use Rattle.host_play.proofs.RunStarts.{begins_with}
 use Rattle.host_play.proofs.hooked_plays.play.Goals as goal
 
-pub play_from-requires-clause-fits : goal.play_from-requires-clause-fits
-play_from-requires-clause-fits g c =
-    subst (Fits c.args.play.code.now) (sym c.with_hooks-host.ensures) (hooked_fits c.args.play.code.now c.args.imports c.requires.hooked c.args.play.script.now c.requires.fits)
+pub play_from-requires-clause-begins : goal.play_from-requires-clause-begins
+play_from-requires-clause-begins g c =
+    begins_with c.args.play c.requires.begins
+    (subst (Fits c.args.play.code.now) (sym c.with_hooks-host.ensures) (hooked_fits c.args.play.code.now c.args.imports c.requires.hooked c.args.play.script.now c.requires.begins.fits))
 
 pub play_from-requires-clause-hooked : goal.play_from-requires-clause-hooked
 play_from-requires-clause-hooked g c =

@@ -1,5 +1,5 @@
-use Rattle.leb_bytes.proofs.Encodings.{encoding_of, s32_range, s32_read, s32_shortest}
+use Rattle.leb_bytes.proofs.Encodings.{laws_32}
 use Rattle.leb_bytes.proofs.laws.s32_encoding.Goals as goal
 
 pub returns : goal.returns
-returns c = record { range = s32_range; encoding = encoding_of s32_read s32_shortest }
+returns c = record { range = laws_32.range; encoding = laws_32.signed }

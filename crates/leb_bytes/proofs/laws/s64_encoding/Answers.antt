@@ -1,5 +1,5 @@
-use Rattle.leb_bytes.proofs.Encodings.{encoding_of, s64_range, s64_read, s64_shortest}
+use Rattle.leb_bytes.proofs.Encodings.{laws_64}
 use Rattle.leb_bytes.proofs.laws.s64_encoding.Goals as goal
 
 pub returns : goal.returns
-returns c = record { range = s64_range; encoding = encoding_of s64_read s64_shortest }
+returns c = record { range = laws_64.range; encoding = laws_64.signed }

@@ -1,36 +1,15 @@
-use Rattle.std.proofs.Common.{◌≡◌, ◌+◌, ◌-◌, length, take, drop, Some, ap, sym, ◌∙◌, ℤ, FitsSigned, w64, to_z, of_z}
+use Rattle.std.proofs.Common.{◌-◌, length, take, drop, w64}
 use Rattle.std.proofs.lemmas.Int.{to_z-of_z}
-use Rattle.leb_bytes.specs.declared.read.BadLeb.{BadLeb}
-use Rattle.leb_bytes.specs.Signed.{EncodesS64, first_s64}
-use Rattle.leb_bytes.proofs.Encodings.{s64_fits, s64_read, s64_range}
-use Rattle.leb_bytes.proofs.Placed.{IsReadAt, read_there, none_there}
+use Rattle.leb_bytes.proofs.Encodings.{laws_64, narrow_64, no_number, number_there, read_fits}
 use Rattle.leb_bytes.proofs.read.read_i64.Goals as goal
 
-fits : (c : goal.In-Some) → FitsSigned w64 c.in-Some.number
-fits c =
-    s64_fits (take (length c.args.bytes.now - c.args.at) (drop c.args.at c.args.bytes.now)) _ c.in-Some.number
-    c.in-Some.ensures.1
-
--- the number by its bits
-number_of : goal.In-Some → ℤ
-number_of c = to_z w64 (of_z w64 c.in-Some.number)
-
-there : (c : goal.In-Some)
-    → IsReadAt EncodesS64 first_s64 BadLeb c.args.bytes.now c.args.at (c.args.at + c.in-Some.taken) (number_of c)
-unfolding first_s64 number_of
-there c =
-    let left = take (length c.args.bytes.now - c.args.at) (drop c.args.at c.args.bytes.now) in
-    let is : first_s64 left ≡ Some (number_of c, drop c.in-Some.taken left) =
-    c.in-Some.ensures.1 ∙ ap (λ z. Some (z, drop c.in-Some.taken left)) (sym (to_z-of_z w64 c.in-Some.number (fits c))) in
-    read_there EncodesS64 first_s64 s64_read (λ front x h. (s64_range front x h).1) (record {}) c.args.bytes.now c.args.at
-    c.in-Some.taken (number_of c) c.requires c.in-Some.ensures.0 is
-
 pub returns-in-Some : goal.returns-in-Some
-unfolding number_of
-returns-in-Some c = let is = there c in record { found = is.found; only = is.only; bad = record {}; front = is.front }
+returns-in-Some c =
+    let fits = read_fits w64 narrow_64
+    (take (length c.args.bytes.now - c.args.at) (drop c.args.at c.args.bytes.now)) _ c.in-Some.number
+    c.in-Some.ensures.1 in
+    number_there laws_64 (record {}) c.args.bytes.now c.args.at c.in-Some.taken c.in-Some.number _ c.requires
+    c.in-Some.ensures.0 c.in-Some.ensures.1 (to_z-of_z w64 c.in-Some.number fits)
 
 pub returns-in-None : goal.returns-in-None
-unfolding first_s64
-returns-in-None c =
-    let is = none_there EncodesS64 first_s64 (record {}) s64_read c.args.bytes.now c.args.at c.in-None.ensures in
-    record { found = record {}; only = is.only; bad = is.none; front = is.front }
+returns-in-None c = no_number laws_64 (record {}) c.args.bytes.now c.args.at c.in-None.ensures

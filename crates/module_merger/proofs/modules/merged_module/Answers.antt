@@ -1,7 +1,7 @@
 use Rattle.std.proofs.Common.{◌≡◌, sym, subst, ◌∙◌}
 use Rattle.std.proofs.lemmas.Result.{IfOk-weaker}
 use Rattle.module_merge.specs.Merge.{declaration, replay_module}
-use Rattle.module_merger.specs.Offsets.{HaveDataOffsets, HaveElemOffsets}
+use Rattle.module_merger.specs.Offsets.{HaveDataOffsets, HaveElemOffsets, HaveOffsets}
 use Rattle.module_merger.specs.Parts.{module_of_parts}
 use Rattle.module_merger.proofs.Merged.{merged, same_length}
 use Rattle.module_merger.proofs.Offsets.{data_offsets, elem_offsets}
@@ -10,23 +10,18 @@ use Rattle.module_merger.proofs.modules.merged_module.Goals as goal
 pub outline_of-requires-clause-supplied : goal.outline_of-requires-clause-supplied
 outline_of-requires-clause-supplied c = same_length c.args.«module» c.args.supply.now c.requires.supplied
 
-pub with_fragment-requires-clause-elems : goal.with_fragment-requires-clause-elems
-with_fragment-requires-clause-elems c =
+pub with_fragment-requires : goal.with_fragment-requires
+with_fragment-requires c =
     let m = c.args.«module» in
     let imported = c.args.supply.now.globals in
     let made = replay_module m c.args.supply.now c.args.fragment in
-    subst (λ imported. HaveElemOffsets imported c.kept_parts-code.result.1.elems) (sym c.as_slice.ensures)
-    (subst (λ elems. HaveElemOffsets imported elems) (sym c.kept_parts-code.ensures.elems)
-    (elem_offsets made imported m.elems (declaration c.args.fragment.declared) c.requires.valid.outside.elems))
-
-pub with_fragment-requires-clause-datas : goal.with_fragment-requires-clause-datas
-with_fragment-requires-clause-datas c =
-    let m = c.args.«module» in
-    let imported = c.args.supply.now.globals in
-    let made = replay_module m c.args.supply.now c.args.fragment in
-    subst (λ imported. HaveDataOffsets imported c.kept_parts-code.result.1.datas) (sym c.as_slice.ensures)
-    (subst (λ datas. HaveDataOffsets imported datas) (sym c.kept_parts-code.ensures.datas)
-    (data_offsets made imported m.datas c.requires.valid.outside.datas))
+    let elems : HaveElemOffsets imported c.kept_parts-code.result.1.elems =
+    subst (HaveElemOffsets imported) (sym c.kept_parts-code.ensures.elems)
+    (elem_offsets made imported m.elems (declaration c.args.fragment.declared) c.requires.valid.outside.elems) in
+    let datas : HaveDataOffsets imported c.kept_parts-code.result.1.datas =
+    subst (HaveDataOffsets imported) (sym c.kept_parts-code.ensures.datas)
+    (data_offsets made imported m.datas c.requires.valid.outside.datas) in
+    record { offsets = subst (λ imported. HaveOffsets imported c.kept_parts-code.result.1) (sym c.as_slice.ensures) (elems, datas) }
 
 pub returns : goal.returns
 returns c =

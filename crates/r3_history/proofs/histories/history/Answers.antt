@@ -1,12 +1,11 @@
-use Rattle.std.proofs.Common.{◌≡◌, ◌⊎◌, inl, inr, ℕ, List, Result, Ok, Err, IfOk}
-use Rattle.std.specs.Result.{IsErrAnd}
+use Rattle.std.proofs.Common.{◌≡◌, ◌⊎◌, inl, inr, ℕ, List}
 use Rattle.std.proofs.lemmas.Result.{IfErr-weaker, IfOk-weaker}
 use Rattle.wasm_syntax.specs.declared.modules.Module.{Module}
 use Rattle.host_script.specs.declared.scripts.Script.{Script}
 use Rattle.r3_faults.specs.declared.faults.Fault.{Fault}
 use Rattle.r3_faults.specs.declared.faults.Fault.TheVariants.{Memory}
-use Rattle.accepted_runs.proofs.InputAnswers.{IsWhy, inputs-answer, inputs-memory, inputs-same, inputs-why}
-use Rattle.r3_inputs.proofs.AnswerLemmas.{passed}
+use Rattle.accepted_runs.proofs.InputAnswers.{IsWhy, inputs-answer, inputs-same, inputs-why}
+use Rattle.r3_inputs.proofs.AnswerLemmas.{passed_exact}
 use Rattle.r3_history.specs.Histories.{IsHistory, IsHistoryOf, IsHistoryRefusal, OfInputs, OfRun, IsUntold}
 use Rattle.r3_history.proofs.histories.history.Goals as goal
 
@@ -18,49 +17,39 @@ why : (module_bytes script_bytes : List ℕ) (turns : ℕ) (fault : Fault) → I
 why module_bytes script_bytes turns fault (OfInputs x) = inl x
 why module_bytes script_bytes turns fault (OfRun m script inputs x) = inr (m, script, inputs, x)
 
-pub returns-in_err-checked-clause-cause : goal.returns-in_err-checked-clause-cause
-returns-in_err-checked-clause-cause c =
-    passed c.from_residual.result c.in_err-checked.field-0.0 (λ fault. (fault ≡ Memory) ⊎ IsHistoryRefusal c.args.module.now c.args.script.now c.args.turns fault) c.from_residual.ensures.1
+pub returns-in_err-checked : goal.returns-in_err-checked
+returns-in_err-checked c =
+    passed_exact c.inputs_of.result c.in_err-checked.field-0.0 c.in_err-checked.was
+    (IsHistory c.args.module.now c.args.script.now c.args.turns) (IsHistoryRefusal c.args.module.now c.args.script.now c.args.turns) c.from_residual.result
+    c.from_residual.ensures.1
     (elim c.in_err-checked.ensures.cause [ inl memory ↦ inl memory | inr refused ↦ inr (OfInputs refused) ])
-
-pub returns-in_err-checked-clause-refused : goal.returns-in_err-checked-clause-refused
-returns-in_err-checked-clause-refused c = λ fault refusal.
-    inputs-answer c.args.module.now c.args.script.now c.inputs_of.result c.inputs_of.ensures.refused c.inputs_of.ensures.accepted c.in_err-checked.field-0.0 c.in_err-checked.was c.from_residual.result c.from_residual.ensures.1
-    (Why c.args.turns) fault (why c.args.module.now c.args.script.now c.args.turns fault refusal)
-
-no-text : {T : Type 0} (r : Result T Fault) (err : Fault) (P : T → Type 0) → IsErrAnd r (λ other. other ≡ err) → IfOk r P
-no-text (Ok x) err P e = absurd e
-no-text (Err other) err P e = tt
-
-pub returns-in_err-checked-clause-accepted : goal.returns-in_err-checked-clause-accepted
-returns-in_err-checked-clause-accepted c = λ text history. (
-  no-text c.from_residual.result c.in_err-checked.field-0.0 (λ bytes. bytes.items ≡ text) c.from_residual.ensures.1,
-  inputs-memory c.args.module.now c.args.script.now c.inputs_of.result c.inputs_of.ensures.refused c.inputs_of.ensures.accepted c.in_err-checked.field-0.0 c.in_err-checked.was c.from_residual.result c.from_residual.ensures.1
-      history.m history.script history.inputs,
-)
-
-pub returns-clause-printed : goal.returns-clause-printed
-returns-clause-printed c =
-    IfOk-weaker c.history_of.result (λ bytes. IsHistoryOf c.in_ok-checked.checked c.in_ok-checked.script c.args.turns bytes.items)
-    (λ bytes. IsHistory c.args.module.now c.args.script.now c.args.turns bytes.items)
-    (λ bytes history. record { m = c.in_ok-checked.checked; script = c.in_ok-checked.script; inputs = c.in_ok-checked.ensures.taken.inputs; history = history })
-    c.history_of.ensures.printed
-
-pub returns-clause-cause : goal.returns-clause-cause
-returns-clause-cause c =
-    IfErr-weaker c.history_of.result (λ fault. (fault ≡ Memory) ⊎ IsUntold c.in_ok-checked.checked c.in_ok-checked.script c.args.turns fault)
-    (λ fault. (fault ≡ Memory) ⊎ IsHistoryRefusal c.args.module.now c.args.script.now c.args.turns fault)
-    (λ fault either. elim either [ inl memory ↦ inl memory | inr untold ↦ inr (OfRun c.in_ok-checked.checked c.in_ok-checked.script c.in_ok-checked.ensures.taken.inputs untold) ])
-    c.history_of.ensures.cause
-
-pub returns-clause-refused : goal.returns-clause-refused
-returns-clause-refused c = λ fault refusal.
-    c.history_of.ensures.refused fault
-    (inputs-why c.args.module.now c.args.script.now c.inputs_of.result c.inputs_of.ensures.refused c.inputs_of.ensures.accepted c.in_ok-checked.checked c.in_ok-checked.script c.in_ok-checked.was
+    (λ fault refusal.
+    inputs-answer c.args.module.now c.args.script.now c.inputs_of.result c.inputs_of.ensures.refused c.inputs_of.ensures.accepted
+    c.in_err-checked.field-0.0 c.in_err-checked.was c.from_residual.result c.from_residual.ensures.1
     (Why c.args.turns) fault (why c.args.module.now c.args.script.now c.args.turns fault refusal))
+    (λ text shown. ((shown.m, shown.script), c.inputs_of.ensures.accepted shown.m shown.script shown.inputs))
 
-pub returns-clause-accepted : goal.returns-clause-accepted
-returns-clause-accepted c = λ text history.
-    c.history_of.ensures.accepted text
-    (inputs-same c.args.module.now c.args.script.now c.inputs_of.result c.inputs_of.ensures.refused c.inputs_of.ensures.accepted c.in_ok-checked.checked c.in_ok-checked.script c.in_ok-checked.was
-    (λ m script. IsHistoryOf m script c.args.turns text) history.m history.script history.inputs history.history)
+pub returns : goal.returns
+returns c =
+    record {
+      cause =
+          IfErr-weaker c.history_of.result (λ fault. (fault ≡ Memory) ⊎ IsUntold c.in_ok-checked.checked c.in_ok-checked.script c.args.turns fault)
+          (λ fault. (fault ≡ Memory) ⊎ IsHistoryRefusal c.args.module.now c.args.script.now c.args.turns fault)
+          (λ fault either. elim either [ inl memory ↦ inl memory | inr untold ↦ inr (OfRun c.in_ok-checked.checked c.in_ok-checked.script c.in_ok-checked.ensures.taken.inputs untold) ])
+          c.history_of.ensures.cause;
+      refused =
+          λ fault refusal.
+          c.history_of.ensures.refused fault
+          (inputs-why c.args.module.now c.args.script.now c.inputs_of.result c.inputs_of.ensures.refused c.inputs_of.ensures.accepted c.in_ok-checked.checked c.in_ok-checked.script c.in_ok-checked.was
+          (Why c.args.turns) fault (why c.args.module.now c.args.script.now c.args.turns fault refusal));
+      printed =
+          IfOk-weaker c.history_of.result (λ bytes. IsHistoryOf c.in_ok-checked.checked c.in_ok-checked.script c.args.turns bytes.items)
+          (λ bytes. IsHistory c.args.module.now c.args.script.now c.args.turns bytes.items)
+          (λ bytes history. record { m = c.in_ok-checked.checked; script = c.in_ok-checked.script; inputs = c.in_ok-checked.ensures.taken.inputs; history = history })
+          c.history_of.ensures.printed;
+      accepted =
+          λ text history.
+          c.history_of.ensures.accepted text
+          (inputs-same c.args.module.now c.args.script.now c.inputs_of.result c.inputs_of.ensures.refused c.inputs_of.ensures.accepted c.in_ok-checked.checked c.in_ok-checked.script c.in_ok-checked.was
+          (λ m script. IsHistoryOf m script c.args.turns text) history.m history.script history.inputs history.history);
+    }

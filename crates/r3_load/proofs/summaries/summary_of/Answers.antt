@@ -20,58 +20,58 @@ why : (module_bytes script_bytes : List ℕ) (turns : ℕ) (fault : Fault)
 why module_bytes script_bytes turns fault (OfInputs x) = inl x
 why module_bytes script_bytes turns fault (OfModule m script inputs x) = inr (m, script, inputs, x)
 
-pub returns-in_err-checked-clause-cause : goal.returns-in_err-checked-clause-cause
-returns-in_err-checked-clause-cause c =
-    passed c.from_residual.result c.in_err-checked.field-0.0
+pub returns-in_err-original-clause-cause : goal.returns-in_err-original-clause-cause
+returns-in_err-original-clause-cause c =
+    passed c.from_residual.result c.in_err-original.field-0.0
     (λ fault. (fault ≡ Memory) ⊎ IsMakeRefusal c.args.module.now c.args.script.now c.args.turns fault)
     c.from_residual.ensures.1
-    (elim c.in_err-checked.ensures.cause [ inl memory ↦ inl memory | inr refused ↦ inr (OfInputs refused) ])
+    (elim c.in_err-original.ensures.cause [ inl memory ↦ inl memory | inr refused ↦ inr (OfInputs refused) ])
 
-pub returns-in_err-checked-clause-refused : goal.returns-in_err-checked-clause-refused
-returns-in_err-checked-clause-refused c = λ fault refusal.
+pub returns-in_err-original-clause-refused : goal.returns-in_err-original-clause-refused
+returns-in_err-original-clause-refused c = λ fault refusal.
     inputs-answer c.args.module.now c.args.script.now c.inputs_of.result c.inputs_of.ensures.refused
-    c.inputs_of.ensures.accepted c.in_err-checked.field-0.0 c.in_err-checked.was c.from_residual.result
+    c.inputs_of.ensures.accepted c.in_err-original.field-0.0 c.in_err-original.was c.from_residual.result
     c.from_residual.ensures.1 (Why c.args.turns) fault
     (why c.args.module.now c.args.script.now c.args.turns fault refusal)
 
-pub returns-in_err-checked-clause-accepted : goal.returns-in_err-checked-clause-accepted
-returns-in_err-checked-clause-accepted c = λ these.
+pub returns-in_err-original-clause-accepted : goal.returns-in_err-original-clause-accepted
+returns-in_err-original-clause-accepted c = λ these.
     inputs-memory c.args.module.now c.args.script.now c.inputs_of.result c.inputs_of.ensures.refused
-    c.inputs_of.ensures.accepted c.in_err-checked.field-0.0 c.in_err-checked.was c.from_residual.result
+    c.inputs_of.ensures.accepted c.in_err-original.field-0.0 c.in_err-original.was c.from_residual.result
     c.from_residual.ensures.1 these.m these.script these.inputs
 
 pub returns-clause-cause : goal.returns-clause-cause
 returns-clause-cause c =
-    let m = c.in_ok-checked.checked in
-    let script = c.in_ok-checked.script in
+    let m = c.in_ok-original.original in
+    let script = c.in_ok-original.script in
     IfErr-weaker c.lines_of.result (λ fault. (fault ≡ Memory) ⊎ IsUnmade m script c.args.turns fault)
     (λ fault. (fault ≡ Memory) ⊎ IsMakeRefusal c.args.module.now c.args.script.now c.args.turns fault)
     (λ fault either. elim either [
       | inl memory ↦ inl memory
-      | inr unmade ↦ inr (OfModule m script c.in_ok-checked.ensures.taken.inputs unmade)
+      | inr unmade ↦ inr (OfModule m script c.in_ok-original.ensures.taken.inputs unmade)
     ])
     c.lines_of.ensures.cause
 
 pub returns-clause-printed : goal.returns-clause-printed
 returns-clause-printed c =
-    let m = c.in_ok-checked.checked in
-    let script = c.in_ok-checked.script in
+    let m = c.in_ok-original.original in
+    let script = c.in_ok-original.script in
     IfOk-weaker c.lines_of.result (λ bytes. IsSummaryOf m script c.args.turns bytes.items)
     (λ bytes. IsSummaryFor c.args.module.now c.args.script.now c.args.turns bytes.items)
     (λ bytes summary.
-    record { m = m; script = script; inputs = c.in_ok-checked.ensures.taken.inputs; summary = summary })
+    record { m = m; script = script; inputs = c.in_ok-original.ensures.taken.inputs; summary = summary })
     c.lines_of.ensures.printed
 
 pub returns-clause-refused : goal.returns-clause-refused
 returns-clause-refused c = λ fault refusal.
     c.lines_of.ensures.refused fault
     (inputs-why c.args.module.now c.args.script.now c.inputs_of.result c.inputs_of.ensures.refused
-    c.inputs_of.ensures.accepted c.in_ok-checked.checked c.in_ok-checked.script c.in_ok-checked.was
+    c.inputs_of.ensures.accepted c.in_ok-original.original c.in_ok-original.script c.in_ok-original.was
     (Why c.args.turns) fault (why c.args.module.now c.args.script.now c.args.turns fault refusal))
 
 pub returns-clause-accepted : goal.returns-clause-accepted
 returns-clause-accepted c = λ these.
     c.lines_of.ensures.accepted
     (inputs-same c.args.module.now c.args.script.now c.inputs_of.result c.inputs_of.ensures.refused
-    c.inputs_of.ensures.accepted c.in_ok-checked.checked c.in_ok-checked.script c.in_ok-checked.was
+    c.inputs_of.ensures.accepted c.in_ok-original.original c.in_ok-original.script c.in_ok-original.was
     (λ m script. NeedsLightTape m script c.args.turns) these.m these.script these.inputs these.replayable)

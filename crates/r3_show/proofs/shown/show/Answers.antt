@@ -1,18 +1,17 @@
-use Rattle.r3_faults.proofs.OneAnswer.{accepted_answer, refused_answer}
-use Rattle.r3_show.specs.Shown.{IsShowRefusal, IsShown, begins_as_tape}
-use Rattle.r3_show.proofs.OneShown.{one_refusal, one_text, shown_apart}
+use Rattle.std.proofs.Common.{subst}
+use Rattle.r3_faults.specs.Answers.{IsExact}
+use Rattle.r3_show.specs.Shown.{IsShownAs, IsUnshownAs}
+use Rattle.r3_show.proofs.OneShown.{shown_exactly}
 use Rattle.r3_show.proofs.shown.show.Goals as goal
 
-pub returns-clause-refused : goal.returns-clause-refused
-returns-clause-refused c = λ fault refusal.
-    let bytes = c.args.trace.now in
-    let is_tape = begins_as_tape bytes in
-    refused_answer (IsShown bytes) (IsShowRefusal bytes) (shown_apart is_tape bytes) c.lines_of.result (λ lines. lines.items)
-    c.lines_of.ensures.printed c.lines_of.ensures.cause (one_refusal is_tape bytes) fault refusal
+pub returns-then-begins_as_tape : goal.returns-then-begins_as_tape
+returns-then-begins_as_tape c =
+    subst (λ is_tape. IsExact (IsShownAs is_tape c.args.trace.now) (IsUnshownAs is_tape c.args.trace.now) c.tape_lines.result)
+    c.if-begins_as_tape.ensures
+    (shown_exactly c.log_files.ensures.apart c.tape_files.ensures.apart _ c.args.trace.now c.tape_lines.result c.tape_lines.ensures)
 
-pub returns-clause-accepted : goal.returns-clause-accepted
-returns-clause-accepted c = λ text shown.
-    let bytes = c.args.trace.now in
-    let is_tape = begins_as_tape bytes in
-    accepted_answer (IsShown bytes) (IsShowRefusal bytes) (shown_apart is_tape bytes) c.lines_of.result (λ lines. lines.items)
-    c.lines_of.ensures.printed c.lines_of.ensures.cause (one_text c.log_files.ensures.apart c.tape_files.ensures.apart is_tape bytes) text shown
+pub returns-else-begins_as_tape : goal.returns-else-begins_as_tape
+returns-else-begins_as_tape c =
+    subst (λ is_tape. IsExact (IsShownAs is_tape c.args.trace.now) (IsUnshownAs is_tape c.args.trace.now) c.log_lines.result)
+    c.if-begins_as_tape.ensures
+    (shown_exactly c.log_files.ensures.apart c.tape_files.ensures.apart _ c.args.trace.now c.log_lines.result c.log_lines.ensures)

@@ -1,14 +1,14 @@
-use Rattle.std.proofs.Common.{[], Ok, Err, subst, sym}
+use Rattle.std.proofs.Common.{[], subst, sym}
 use Rattle.hook_spec.specs.Order.{shape_of}
 use Rattle.host_play.specs.HookedResults.{HookedRun, IsPlayedWithHooks, hooked_run}
 use Rattle.wasm_syntax.specs.declared.modules.Module.{Module}
 use Rattle.recorder.specs.Recorders.{IsRecorderStep}
-use Rattle.run_recorder.specs.Records.{RecordedRun, HasTakenLog}
+use Rattle.run_recorder.specs.Records.{RecordedRun}
 use Rattle.run_recorder.proofs.Led.{led}
 use Rattle.run_recorder.proofs.records.record_into.Goals as goal
 
-pub returns-in-Ok : goal.returns-in-Ok
-returns-in-Ok g c =
+pub returns : goal.returns
+returns g c =
     let taken = g.S.EventSink.has_taken in
     let run : Module → HookedRun = λ m. hooked_run m c.args.play.script.now c.args.play.store c.args.meter.now c.args.imports c.args.turns in
     let r : RecordedRun = record {
@@ -18,20 +18,6 @@ returns-in-Ok g c =
     } in
     let stands = c.in_ok-recorder.ensures.stands c.args.play.store c.requires.begins in
     let fresh = subst (λ sink. taken sink []) (sym c.in_ok-recorder.ensures.sink) c.requires.fresh in
-    let played = subst (λ m. IsPlayedWithHooks (IsRecorderStep taken) (run m) (Ok c.in-Ok.outcome) c.in_ok-recorder.recorder c.play.new.hooks) c.requires.code c.in-Ok.ensures in
-    subst (λ sink. HasTakenLog taken r sink c.in-Ok.outcome) (sym c.close.ensures)
-    (led taken c.runs_are_recorded.ensures r c.in_ok-recorder.recorder c.play.new.hooks stands fresh (Ok c.in-Ok.outcome) played)
-
-pub returns-in-Err : goal.returns-in-Err
-returns-in-Err g c =
-    let taken = g.S.EventSink.has_taken in
-    let run : Module → HookedRun = λ m. hooked_run m c.args.play.script.now c.args.play.store c.args.meter.now c.args.imports c.args.turns in
-    let r : RecordedRun = record {
-      run = run c.args.hooked.now;
-      shape = shape_of c.args.imports c.args.hooked.now;
-      opened = c.args.play.store;
-    } in
-    let stands = c.in_ok-recorder.ensures.stands c.args.play.store c.requires.begins in
-    let fresh = subst (λ sink. taken sink []) (sym c.in_ok-recorder.ensures.sink) c.requires.fresh in
-    let played = subst (λ m. IsPlayedWithHooks (IsRecorderStep taken) (run m) (Err c.in-Err.fault) c.in_ok-recorder.recorder c.play.new.hooks) c.requires.code c.in-Err.ensures in
-    led taken c.runs_are_recorded.ensures r c.in_ok-recorder.recorder c.play.new.hooks stands fresh (Err c.in-Err.fault) played
+    let played = subst (λ m. IsPlayedWithHooks (IsRecorderStep taken) (run m) c.play-answer.result c.in_ok-recorder.recorder c.play-answer.new.hooks) c.requires.code c.play-answer.ensures in
+    c.recorded_sink.ensures r
+    (led taken c.runs_are_recorded.ensures r c.in_ok-recorder.recorder c.play-answer.new.hooks stands fresh c.play-answer.result played)

@@ -13,7 +13,7 @@ returns-in_err-item c =
 
 pub items-preserved : goal.items-preserved
 items-preserved c =
-    rw c.in_ok-push.ensures.items
+    rw c.in_ok-push_item.ensures.ok
     (goes_on (action_of c.args.names.now (place_of c.args.place.now)) c.items.found.items c.args.values.now c.items.index c.index-values-index.result c.in_ok-item.item (items_from (action_of c.args.names.now (place_of c.args.place.now)) 0 (items_view c.args.values.now)) c.items-test.true c.index-values-index.is c.in_ok-item.ensures c.items.invariant)
 
 pub returns : goal.returns

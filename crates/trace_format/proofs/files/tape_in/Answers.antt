@@ -1,5 +1,5 @@
 use Rattle.std.proofs.Common.{subst}
-use Rattle.trace_format.specs.Answers.{AreEnded, IsItemsFault, header_length}
+use Rattle.trace_format.specs.Answers.{AreEnded, header_length}
 use Rattle.trace_format.specs.Reading.{first_close, first_segment}
 use Rattle.trace_format.proofs.EndLemmas.{whole_rest}
 use Rattle.trace_format.proofs.FileSteps.{items_fault_of_tape, tape_is_read}
@@ -14,6 +14,4 @@ returns-in-Ok c =
 pub returns-in-Err : goal.returns-in-Err
 returns-in-Err c =
     items_fault_of_tape c.args.bytes.now c.in_ok-version.digest c.in_ok-version.version c.in_ok-version.ensures
-    c.in-Err.fault
-    (subst (λ r. IsItemsFault (first_segment c.in_ok-version.version) first_close c.args.bytes.now r c.in-Err.fault)
-    (whole_rest c.args.bytes.now header_length) c.in-Err.ensures)
+    c.in-Err.fault c.in-Err.ensures

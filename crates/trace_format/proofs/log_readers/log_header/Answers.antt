@@ -1,7 +1,7 @@
 use Rattle.std.proofs.Common.{Ok}
 use Rattle.std.proofs.lemmas.Result.{err_from_is_err_and}
 use Rattle.trace_format.specs.declared.files.FormatFault.TheVariants.{Bad}
-use Rattle.trace_format.proofs.FileSteps.{log_begun, log_header_fault, log_not_begun}
+use Rattle.trace_format.proofs.FileSteps.{log_header_fault}
 use Rattle.trace_format.proofs.LogHeaders.{header_begins, one_header, start_fault_is, start_is_there}
 use Rattle.trace_format.proofs.log_readers.log_header.Goals as goal
 
@@ -9,8 +9,7 @@ pub returns-in-Some : goal.returns-in-Some
 returns-in-Some c =
     let numbers = c.event_readers.ensures.numbers in
     let bytes = c.args.bytes.now in
-    let start = log_begun numbers bytes c.in_ok-digest.digest c.in_ok-digest.field-0-0 c.in-Some.imports
-    c.in-Some.field-0-1.now c.in_ok-digest.ensures c.in-Some.ensures in
+    let start = c.in-Some.ensures.start c.in_ok-digest.field-0-0 c.in_ok-digest.digest c.in_ok-digest.ensures in
     record {
       found = header_begins numbers bytes _ _ _ _ start;
       only = λ digest imports begins. let same = one_header numbers bytes _ _ _ _ start digest imports begins in
@@ -21,13 +20,12 @@ returns-in-Some c =
 
 pub returns-in-None : goal.returns-in-None
 returns-in-None c =
-    let numbers = c.event_readers.ensures.numbers in
-    let bytes = c.args.bytes.now in
-    let is = log_not_begun bytes c.in_ok-digest.digest c.in_ok-digest.field-0-0 c.in_ok-digest.ensures c.in-None.ensures in
+    let is = c.in-None.ensures.start c.in_ok-digest.field-0-0 c.in_ok-digest.digest c.in_ok-digest.ensures in
     record {
       found = tt;
-      only = λ digest imports begins. absurd (start_is_there numbers bytes digest imports begins (Bad 0) is);
-      fault = start_fault_is numbers bytes c.event_readers.ensures.events (Bad 0) is;
+      only = λ digest imports begins.
+          absurd (start_is_there c.event_readers.ensures.numbers c.args.bytes.now digest imports begins (Bad 0) is);
+      fault = start_fault_is c.event_readers.ensures.numbers c.args.bytes.now c.event_readers.ensures.events (Bad 0) is;
       caused = λ memory. cc;
     }
 

@@ -1,7 +1,7 @@
 use Rattle.std.proofs.Common.{arith, w32}
 use Rattle.std.specs.Int.{from_le_bytes}
 use Rattle.wasm_syntax.specs.Encoding.Readers.{first_f32}
-use Rattle.trace_format.proofs.ByteLemmas.{bits_read}
+use Rattle.wasm_syntax.proofs.Encoding.Bytes.{bits_read}
 use Rattle.trace_format.proofs.numbers.first_narrow.Goals as goal
 
 pub returns-in-Some : goal.returns-in-Some

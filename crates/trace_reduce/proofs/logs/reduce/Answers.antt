@@ -6,7 +6,7 @@ pub returns : goal.returns
 returns c =
     c.of_any_weight.ensures _ c.args.log.now
     (log_answered c.args.log.now _ c.push_all.new.reducer c.finish.result
-    (c.in_ok-push_all.ensures c.args.log.now.imports _ c.args.log.now.events
+    (c.in-Ok.ensures c.args.log.now.imports _ c.args.log.now.events
     (record {
       taken = [];
       whole = c.as_slice.ensures;

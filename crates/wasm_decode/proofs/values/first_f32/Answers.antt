@@ -1,7 +1,7 @@
 use Rattle.std.proofs.Common.{arith, w32}
 use Rattle.std.specs.Int.{from_le_bytes}
 use Rattle.wasm_syntax.specs.Encoding.Readers.{first_f32}
-use Rattle.wasm_decode.proofs.ByteLemmas.{bits_read}
+use Rattle.wasm_syntax.proofs.Encoding.Bytes.{bits_read}
 use Rattle.wasm_decode.proofs.values.first_f32.Goals as goal
 
 pub returns-in-Some : goal.returns-in-Some

@@ -15,7 +15,7 @@ returns-clause-safe c =
     let room = c.in_ok-enter_slots.ensures.room in
     let longer = c.enter_slots.ensures.longer in
     let longer_before = c.place_args.ensures.longer in
-    subst (λ frames. AreInBounds c.args.flat.now frames c.enter_slots.new.slots.items) (sym c.in_ok-push.ensures.ok)
+    subst (λ frames. AreInBounds c.args.flat.now frames c.enter_slots.new.slots.items) (sym c.in_ok-push_start.ensures.ok)
     (entered_in c.args.flat.now c.in-Some.function.now (record { func = c.args.func; number = 0; base = c.base_above-base.result }) c.args.frames.now c.args.slots.now.items c.enter_slots.new.slots.items
     c.requires.safe.code c.requires.defined c.in-Some.ensures.there
     (bound_func c.args.flat.now c.args.func c.in-Some.function.now c.requires.safe.code c.requires.defined c.in-Some.ensures.there).some

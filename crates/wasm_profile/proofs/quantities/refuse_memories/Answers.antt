@@ -9,5 +9,4 @@ use Rattle.wasm_profile.proofs.quantities.refuse_memories.Goals as goal
 pub returns : goal.returns
 returns c =
     c.refuse_all.ensures
-    ∙ ap (λ is. slice_get (filter_map (past_minimum MOST_PAGES Memory) (of_kind memory_import is ++ c.as_slice.result.now)) 0) c.as_slice-imports.ensures
     ∙ ap (λ all. slice_get (filter_map (past_minimum MOST_PAGES Memory) (of_kind memory_import c.args.«module».now.imports ++ all)) 0) c.as_slice.ensures

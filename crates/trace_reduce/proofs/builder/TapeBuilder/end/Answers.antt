@@ -10,5 +10,5 @@ returns c =
     subst
     (λ most. IsWeighed (λ (tape : Tape). AreLogSegments (marks ++ Ends c.args.next ∷ []) tape.segments) most
     c.into_tape.result)
-    c.in_ok-take.ensures.most
-    (c.into_tape.ensures.window (marks ++ Ends c.args.next ∷ []) (c.in_ok-take.ensures.mark before marks h))
+    c.in-Ok.ensures.most
+    (c.into_tape.ensures.window (marks ++ Ends c.args.next ∷ []) (c.in-Ok.ensures.mark before marks h))

@@ -10,15 +10,15 @@ pub returns-clause-window : goal.returns-clause-window
 returns-clause-window c =
     λ marks h.
     subst (λ most. IsWeighed (λ (tape : Tape). AreLogSegments marks tape.segments) most c.into_tape.result)
-    c.in_ok-close_window.ensures.most
+    c.in-Ok.ensures.most
     (built_answer c.close_window.new.self.tape c.close_window.new.self.tape.most marks c.into_tape.result
-    ((c.in_ok-close_window.ensures.closes marks h).closed) c.into_tape.ensures)
+    ((c.in-Ok.ensures.closes marks h).closed) c.into_tape.ensures)
 
 pub returns-clause-host : goal.returns-clause-host
 returns-clause-host c =
     λ before marks h.
     subst (λ most. IsWeighed (λ (tape : Tape). AreLogSegments before tape.segments) most c.into_tape.result)
-    c.in_ok-close_window.ensures.most
+    c.in-Ok.ensures.most
     (built_answer c.close_window.new.self.tape c.close_window.new.self.tape.most before c.into_tape.result
-    (subst (λ tape. AreBuilt tape before) (sym (c.in_ok-close_window.ensures.stays h.over.waits)) h.over.closed)
+    (subst (λ tape. AreBuilt tape before) (sym (c.in-Ok.ensures.stays h.over.waits)) h.over.closed)
     c.into_tape.ensures)

@@ -24,7 +24,7 @@ returns-clause-number c =
     let stored = c.in_ok-place.ensures.stored in
     record {
       place = c.in_ok-place.place;
-      at_place = stored.1 ∙ ap Some (sym ((func_decides _ _).0 stored.2) ∙ c.in_ok-clone.ensures);
+      at_place = stored.1 ∙ ap Some (sym ((func_decides _ _).0 stored.2) ∙ c.in_ok-copy.ensures);
       behind = refl;
     }
 

@@ -1,0 +1,41 @@
+-- What reading a file answers.
+use Rattle.std.specs.Prelude.{◌≡◌, ◌⊎◌, ℕ, List, Vec, Result, Ok, Err, IfOk, IfErr}
+use Rattle.trace_model.specs.declared.events.Log.{Log}
+use Rattle.trace_model.specs.declared.tapes.Tape.{Tape}
+use Rattle.trace_format.specs.Faults.{IsLogFault, IsLogOf, IsTapeFault, IsTapeOf}
+use Rattle.trace_format.specs.Lines.{IsLogShown, IsTapeShown, log_content_text, tape_content_text}
+use Rattle.trace_format.specs.declared.files.FormatFault.{FormatFault}
+use Rattle.trace_format.specs.declared.files.FormatFault.TheVariants.{Memory}
+
+-- What is read is the content of the file; its content is read, unless memory runs out; any other answer has a cause.
+pub record IsContent {C : Type 0} (IsOf : C → Type 0) (IsFault : FormatFault → Type 0) (result : Result C FormatFault)
+    : Type 0 where
+  pub found : IfOk result IsOf
+  pub only : (content : C) → IsOf content → (result ≡ Ok content) ⊎ (result ≡ Err Memory)
+  pub fault : IfErr result IsFault
+
+abbrev pub IsLogContent : (bytes : List ℕ) → Result (List ℕ × Log) FormatFault → Type 0
+IsLogContent bytes = IsContent (λ content. IsLogOf bytes content.0 content.1) (IsLogFault bytes)
+
+abbrev pub IsTapeContent : (bytes : List ℕ) → Result (List ℕ × Tape) FormatFault → Type 0
+IsTapeContent bytes = IsContent (λ content. IsTapeOf bytes content.0 content.1) (IsTapeFault bytes)
+
+-- What is told is told of the content of the file; its content is told of, unless memory runs out; any other answer has
+-- a cause.
+pub record IsTold {C T : Type 0} (IsOf : C → Type 0) (IsFault : FormatFault → Type 0) (IsRight : T → Type 0)
+    (Tells : C → T → Type 0) (result : Result T FormatFault) : Type 0 where
+  pub found : IfOk result IsRight
+  pub only : (content : C) → IsOf content
+      → IfOk result (λ told. Tells content told) × IfErr result (λ fault. fault ≡ Memory)
+  pub fault : IfErr result IsFault
+
+-- the lines of the log, and of the tape
+abbrev pub IsLogText : {Z : Type 0} → (bytes : List ℕ) → Result (Vec ℕ Z) FormatFault → Type 0
+IsLogText bytes =
+    IsTold (λ content. IsLogOf bytes content.0 content.1) (IsLogFault bytes) (λ text. IsLogShown bytes text.items)
+    (λ content text. text.items ≡ log_content_text content)
+
+abbrev pub IsTapeText : {Z : Type 0} → (bytes : List ℕ) → Result (Vec ℕ Z) FormatFault → Type 0
+IsTapeText bytes =
+    IsTold (λ content. IsTapeOf bytes content.0 content.1) (IsTapeFault bytes) (λ text. IsTapeShown bytes text.items)
+    (λ content text. text.items ≡ tape_content_text content)
