@@ -67,16 +67,11 @@ fn renumbered_answer(alloc: Global, imports: u32, answer: Answer) -> Result<Answ
 {
     let Answer { calls, rest } = answer;
     let calls = renumbered_responses(alloc, imports, calls)?;
-    match rest {
-        Some(response) => {
-            let response = renumbered_response(alloc, imports, response)?;
-            Ok(Answer {
-                calls,
-                rest: Some(response),
-            })
-        }
-        None => Ok(Answer { calls, rest: None }),
-    }
+    let rest = match rest {
+        Some(response) => Some(renumbered_response(alloc, imports, response)?),
+        None => None,
+    };
+    Ok(Answer { calls, rest })
 }
 
 /// The responses to the first calls, renumbered.

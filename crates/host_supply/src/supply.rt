@@ -99,7 +99,7 @@ pub fn imports_table(imports: &[Import]) -> bool
 }
 
 /// The limits that a script supplies, where something of their kind is imported.
-fn if_imported(is_imported: bool, limits: Option<Limits>) -> Option<Limits>
+fn limits_if(is_imported: bool, limits: Option<Limits>) -> Option<Limits>
     ensures { result ≡ cond is_imported limits None }
 {
     if is_imported { limits } else { None }
@@ -121,8 +121,8 @@ pub fn supply_of(alloc: Global, module: &Module, script: &Script) -> Result<Supp
         return Err(LinkFault::Memory);
     };
     Ok(Supply {
-        memory: if_imported(imports_memory(imports), script.memory),
-        table: if_imported(imports_table(imports), script.table),
+        memory: limits_if(imports_memory(imports), script.memory),
+        table: limits_if(imports_table(imports), script.table),
         globals,
     })
 }

@@ -35,7 +35,11 @@ pub fn offset_of(imported: &[Val], body: &[Instr]) -> u64
     constant(imported, zero_of(ValType::I32), body).bits
 }
 
-/// The values of all globals: the imported ones, and the initial values of the others.
+/// The values of all globals: the imported ones, and the initial values of the others (Core 1.0, 4.5.4).
+///
+/// # Errors
+///
+/// Where an allocation fails.
 pub fn all_globals(
     alloc: Global,
     imported: &[Val],

@@ -9,7 +9,6 @@ pub mod opcodes;
 pub mod scope;
 mod types;
 
-pub use marks::funcs_of_elem;
 pub use no_memory::NoMemory;
 pub use opcodes::is_aligned;
 pub use types::{is_number, is_value, result_of, same_type};

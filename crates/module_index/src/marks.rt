@@ -29,7 +29,7 @@ fn mark_elems(marks: &mut Vec<bool>, elems: &[ElemSeg])
 }
 
 /// The functions of a segment.
-pub fn funcs_of_elem(elem: &ElemSeg) -> &[u32]
+fn funcs_of_elem(elem: &ElemSeg) -> &[u32]
     ensures { result.now ≡ elem_funcs elem.now }
 {
     match elem {

@@ -56,8 +56,9 @@ pub fn load<F: Files>(
         (λ told. limit < length (file_bytes told name.now)) }
 {
     let most = limit as usize;
-    let zeros = zeros(alloc, PIECE.min(most + 1));
-    let mut zeros = zeros.map_err(|_| LoadFault::Memory)?;
+    let Ok(mut zeros) = zeros(alloc, PIECE.min(most + 1)) else {
+        return Err(LoadFault::Memory);
+    };
     let piece = zeros.as_mut_slice();
     let mut bytes = Vec::new(alloc);
     'pieces: loop {

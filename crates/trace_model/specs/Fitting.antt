@@ -51,6 +51,8 @@ abbrev pub limits_import : (of_table : Bool) → ImportKind → Option Limits
 limits_import true = table_import
 limits_import false = memory_import
 
+-- what an effect changes is there and takes it: a size within the limits, bytes within the address space, a function
+-- that is there, a value of the global's type
 abbrev pub effect_fits : Module → Effect → Bool
 effect_fits m (Grow pages) = grows_within MOST_PAGES pages (slice_get (all_memories m) 0)
 effect_fits m (Table size) = grows_within MOST_ENTRIES size (slice_get (all_tables m) 0)
@@ -59,6 +61,7 @@ effect_fits m (Bytes addr bytes) =
 effect_fits m (Entry index func) = nat_lt 0 (length (all_tables m)) && names_function m func
 effect_fits m (Global global value) = takes_value value.ty (slice_get (all_globals m) global)
 
+-- the effects of a segment are in order, and each fits
 abbrev pub effects_fit : Module → List Effect → Bool
 effects_fit m effects = are_ordered effects && list_all (effect_fits m) effects
 

@@ -9,7 +9,7 @@ ghost use Rattle.wasm_syntax.specs.ValidityTests as decide;
 
 use crate::export_names::names_differ;
 use module_index::scope::Scope;
-use module_index::{funcs_of_elem, is_number, is_value, same_type};
+use module_index::{is_number, is_value, same_type};
 use no_memory::NoMemory;
 use std::alloc::Global;
 use wasm_syntax::{
@@ -229,10 +229,14 @@ fn is_elem(scope: &Scope, elem: &ElemSeg) -> bool
     ensures { result ≡ decide.is_elem scope.now elem.now }
 {
     match elem {
-        ElemSeg::Active { table, offset, .. } => {
+        ElemSeg::Active {
+            table,
+            offset,
+            funcs,
+        } => {
             scope.has_table(*table)
                 && is_constant_of(scope, ValType::I32, offset.as_slice())
-                && are_funcs(scope, funcs_of_elem(elem))
+                && are_funcs(scope, funcs.as_slice())
         }
         ElemSeg::Declared { funcs } => are_funcs(scope, funcs.as_slice()),
     }

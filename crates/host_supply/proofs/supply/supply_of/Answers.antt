@@ -17,8 +17,8 @@ returns-clause-ok c =
     ≡ cond (list_any (λ import. is_some (pick import.kind)) c.as_slice-imports.result.now) limits None =
     λ pick limits. imported_by_test pick m.imports limits
     ∙ ap (λ (list : List Import). cond (list_any (λ import. is_some (pick import.kind)) list) limits None) (sym c.as_slice-imports.ensures) in
-    let memory = tested memory_import script.memory ∙ ap (λ b. cond b script.memory None) (sym c.imports_memory.ensures) ∙ sym c.if_imported.ensures in
-    let table = tested table_import script.table ∙ ap (λ b. cond b script.table None) (sym c.imports_table.ensures) ∙ sym c.if_imported-2.ensures in
+    let memory = tested memory_import script.memory ∙ ap (λ b. cond b script.memory None) (sym c.imports_memory.ensures) ∙ sym c.limits_if.ensures in
+    let table = tested table_import script.table ∙ ap (λ b. cond b script.table None) (sym c.imports_table.ensures) ∙ sym c.limits_if-2.ensures in
     let globals = ap given_values (sym c.as_slice.ensures) ∙ sym c.in-Ok.ensures in
     ap (λ (list : List Import). supply_unless (first_fault script list 0 0) (supply_for m script)) (sym c.as_slice-imports.ensures)
     ∙ ap (λ fault. supply_unless fault (supply_for m script)) c.in_ok-check_imports.ensures.ok
