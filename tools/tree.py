@@ -4,6 +4,12 @@ import re
 import sys
 
 ROOT = os.path.dirname(os.path.dirname(os.path.abspath(__file__)))
+HEADING = "# ---- "
+
+# The line that begins a public definition, and its name.
+DEFINITION = re.compile(r"(?:abbrev pub|unfoldable pub|pub record|pub data|pub ruleset) ([^ :]+)")
+# The crates of tests, of their inputs and of measurements.
+TESTS = re.compile(r"(?:tests|sample|bench)_\w+")
 
 
 def read(path):
@@ -12,18 +18,32 @@ def read(path):
         return file.read()
 
 
-def crates():
-    """Each crate, lowest first, with its comment in crates.txt."""
-    listed, comment = [], []
+def families():
+    """The families of crates.txt in order, each as its heading and its crates, each of these with its comment."""
+    found, comment = [], []
     for line in read("crates.txt").splitlines():
-        if line.startswith("#"):
+        if line.startswith(HEADING):
+            found.append((line[len(HEADING) :].strip(), []))
+        elif line.startswith("#"):
             comment.append(line.lstrip("# ").rstrip())
+            continue
         elif ":" in line:
-            listed.append((line.split(":")[0].strip(), " ".join(comment)))
-            comment = []
-        if not line.strip() or comment == ["The crates, lowest first."]:
-            comment = []
-    return listed
+            if not found:
+                found.append(("", []))
+            found[-1][1].append((line.split(":")[0].split()[0], " ".join(comment)))
+        comment = []
+    return found
+
+
+def crates():
+    """Each crate in the order of crates.txt, with its comment there."""
+    return [crate for _, listed in families() for crate in listed]
+
+
+def libraries():
+    """The libraries that each crate's line lists, in the order of crates.txt; those of the kit are among them."""
+    lines = [line.partition("#")[0] for line in read("crates.txt").splitlines()]
+    return {line.split(":")[0].split()[0]: line.split(":")[1].split() for line in lines if ":" in line}
 
 
 def spec_files(crate):

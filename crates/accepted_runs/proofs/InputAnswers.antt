@@ -72,7 +72,7 @@ IsWhy module_bytes script_bytes Why fault =
 module _ (module_bytes script_bytes : List ℕ) (q : Result (Module × Script) Fault)
     (refused : (f : Fault) → AreRefused module_bytes script_bytes f → IsAnswer q f)
     (accepted : (m : Module) (script : Script) → AreInputs module_bytes script_bytes m script → (q ≡ Ok (m, script)) ⊎ (q ≡ Err Memory)) where
-  -- they are not taken, and the call passes the fault on
+  -- the module and the script are not accepted, and the call passes the fault on
   module _ (err : Fault) (is : q ≡ Err err) where
     pub inputs-memory : {T : Type 0} (r : Result T Fault) → IsErrAnd r (λ other. other ≡ err) → (m : Module) (script : Script) → AreInputs module_bytes script_bytes m script → IfErr r (λ other. other ≡ Memory)
     inputs-memory r passes m script inputs =
@@ -82,7 +82,7 @@ module _ (module_bytes script_bytes : List ℕ) (q : Result (Module × Script) F
     inputs-answer r passes Why fault (inl x) = answer-passed r err fault passes (answer-err q err fault is (refused fault x))
     inputs-answer r passes Why fault (inr why) = answer-passed r err fault passes (inr (memory-err q (why.0, why.1) err is (accepted why.0 why.1 why.2)))
 
-  -- they are taken
+  -- the module and the script are accepted
   module _ (checked : Module) (script : Script) (is : q ≡ Ok (checked, script)) where
     pub inputs-same : (P : Module → Script → Type 0) (m : Module) (other : Script) → AreInputs module_bytes script_bytes m other → P m other → P checked script
     inputs-same P m other inputs p =

@@ -5,7 +5,7 @@ use Rattle.host_script.specs.declared.scripts.Script.{Script}
 use Rattle.host_script.specs.declared.scripts.Supply.{Supply}
 use Rattle.host_script.specs.declared.scripts.LinkFault.{LinkFault}
 use Rattle.host_script.specs.Supply.{supply_of}
-use Rattle.run_outcomes.specs.declared.outcomes.Outcome.{Outcome}
+use Rattle.base.specs.declared.outcomes.Outcome.{Outcome}
 use Rattle.history_spec.specs.declared.entries.FaultKind.{FaultKind}
 use Rattle.history_spec.specs.Step.{StepResult, Progress, Finished, Faulted}
 use Rattle.history_spec.specs.Instantiation.{instantiate}
@@ -61,7 +61,7 @@ module _ (m : Module) (script : Script) where
   unlinked-run turns f g u (OfScript v) = unlinked-started f v.initial u v.starts
   unlinked-run turns f g u (OfTurns v) = unlinked-started f v.initial u v.starts
 
-  -- ---- where the module links
+  -- ---- if the module links
 
   pub linked-starts : (supply : Supply) (store : Store) → IsLinked m script supply store
       → run_start m script ≡ Ok (start_in_store m script store)
@@ -84,7 +84,7 @@ module _ (m : Module) (script : Script) where
   -- ---- its end
 
   module _ (turns : ℕ) (one : (initial : StepResult) → HasOneResultAtMost (run_from (program_of m script) all_one initial) all_one turns) where
-    -- of runs from two starts, which are the same
+    -- runs from two equal starts have the same result
     result-one : (a b : StepResult) (x y : budget.RunResult) → run_start m script ≡ Ok a → run_start m script ≡ Ok b
         → IsResult (run_from (program_of m script) all_one a) all_one turns x → IsResult (run_from (program_of m script) all_one b) all_one turns y → x ≡ y
     result-one a b x y e f is is_too =

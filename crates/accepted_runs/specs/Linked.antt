@@ -1,4 +1,4 @@
--- Where a module links with a script.
+-- A module that links with a script.
 use Rattle.std.specs.Prelude.{◌≡◌, Ok}
 use Rattle.wasm_syntax.specs.declared.modules.Module.{Module}
 use Rattle.host_script.specs.declared.scripts.Script.{Script}
@@ -7,7 +7,7 @@ use Rattle.host_script.specs.Supply.{supply_of}
 use Rattle.history_spec.specs.Instantiation.{instantiate}
 use Rattle.history_spec.specs.Store.{Store}
 
--- the script supplies so for the module's imports, and the module begins with this store
+-- the script gives this supply for the module's imports, and the module's run begins with this store
 pub record IsLinked (m : Module) (script : Script) (supply : Supply) (store : Store) : Type 0 where
   pub supplied : supply_of m script ≡ Ok supply
   pub begins : instantiate m supply ≡ Ok store

@@ -1,9 +1,9 @@
--- What a run asks for of a module, of a script and of the store that it starts with.
+-- What a run requires of a module, of a script and of the store that it starts with.
 use Rattle.std.specs.Prelude.{◌≡◌, ℕ, List, Ok, length}
 use Rattle.wasm_syntax.specs.declared.modules.Module.{Module}
 use Rattle.wasm_syntax.specs.Profile.{IsSupported}
 use Rattle.wasm_flat.specs.Sizes.{IsShort}
-use Rattle.encoding_sizes.specs.Within.{HasListsWithin}
+use Rattle.wasm_syntax.specs.ListsWithin.{HasListsWithin}
 use Rattle.host_script.specs.declared.scripts.Script.{Script}
 use Rattle.host_script.specs.Fits.{Fits}
 use Rattle.history_spec.specs.Run.{run_start, start_in_store}
@@ -23,8 +23,8 @@ pub record StartsWith (m : Module) (script : Script) (store : Store) : Type 0 wh
   pub typed : IsStore m store
   pub opened : run_start m script ≡ Ok (start_in_store m script store)
 
--- the module and the script that the bytes of two files are can run, the module's data are bytes, and none of its lists
--- has more items than the file has bytes
+-- the module and the script that the bytes of two files encode can run, the module's data are bytes, and each of its
+-- lists has at most as many items as the file has bytes
 pub record AreTaken (module_bytes script_bytes : List ℕ) (m : Module) (script : Script) : Type 0 where
   pub inputs : AreInputs module_bytes script_bytes m script
   pub can_run : CanRun m script

@@ -1,4 +1,4 @@
-// The module and the script that the bytes of two files are.
+// The module and the script that the bytes of two files encode.
 
 ghost use Rattle.std.specs.Prelude.{◌≡◌, ◌≤◌, ◌⊎◌, Ok, Err, IfErr, IfOk, length};
 ghost use Rattle.wasm_syntax.specs.declared.limits.TheConstants.{MOST_FILE_BYTES};
@@ -16,12 +16,12 @@ use std::alloc::Global;
 use wasm_validate::Checked;
 
 /// The module that the bytes of a file encode, of at most 8,388,608 bytes, and the script for it that
-/// the bytes of another are.
+/// the bytes of another encode.
 ///
 /// # Errors
 ///
-/// The fault names why the module is refused, or else why the script for it is; `Memory` where memory
-/// is out.
+/// The fault names why the module is refused, or else why the script for it is; `Memory` if memory
+/// is exhausted.
 pub fn inputs_of(alloc: Global, module: &[u8], script: &[u8]) -> Result<(Checked, Script), Fault>
     requires { length «module».now ≤ MOST_FILE_BYTES }
     ensures taken { IfOk result (λ inputs. AreTaken «module».now script.now inputs.0 inputs.1) }

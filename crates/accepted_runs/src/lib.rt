@@ -1,5 +1,5 @@
-//! The module and the script that bytes are, the run of the one under the other, and the fault of a call
-//! where there is none.
+//! The module and the script that bytes encode, the run of the one under the other, and the fault of a call
+//! without these.
 #![tactic(auto)]
 
 mod inputs;

@@ -39,8 +39,8 @@ pub fn start_store(alloc: Global, checked: &Checked, script: &Script) -> Result<
 ///
 /// # Errors
 ///
-/// `Missing`, `Mismatch` or `Segment` where the module does not link with the script; `Memory` where
-/// memory is out.
+/// `Missing`, `Mismatch` or `Segment` if the module does not link with the script; `Memory` if
+/// memory is exhausted.
 pub fn supply_and_store(
     alloc: Global,
     checked: &Checked,

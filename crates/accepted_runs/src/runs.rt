@@ -19,12 +19,12 @@ use wasm_store::Store;
 use wasm_validate::Checked;
 
 /// The run of a module under a script that fits it, from the store that it starts with, within a number
-/// of turns, with every entry of its history told.
+/// of turns, with every entry of its history printed.
 ///
 /// # Errors
 ///
-/// `Script` where the host cannot do what the script says, `Spent` where the run needs more turns,
-/// `Memory` where memory is out.
+/// `Script` if the host cannot do what the script says, `Spent` if the run needs more turns,
+/// `Memory` if memory is exhausted.
 pub fn told_run(
     alloc: Global,
     checked: &Checked,
@@ -59,7 +59,7 @@ fn fault_of(fault: PlayFault, turns: u64) -> Fault
     match fault {
         PlayFault::Fault { turn, kind } => Fault::Script { turn, kind },
         PlayFault::Spent => Fault::Spent { turns },
-        // a run without hooks never answers that one refused a call
+        // a run without hooks never returns that a hook refused a call
         PlayFault::Hook { .. } | PlayFault::Memory => Fault::Memory,
     }
 }

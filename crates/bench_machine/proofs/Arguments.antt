@@ -75,7 +75,7 @@ of_types_are (t ∷ ts) (v ∷ vs) h =
 one_type : (found : Option FuncType) (a b : FuncType) → Some a ≡ found → found ≡ Some b → b ≡ a
 one_type found a b e f = let same : Some a ≡ Some b = e ∙ f in cc
 
--- a defined function of a type is callable where its arguments pass the test
+-- a defined function of a type is callable if its arguments pass the test
 pub callable : (m : Module) (func : ℕ) (args : List Val) (ty : FuncType) (passes : Bool) → imported_funcs m ≤ func → Some ty ≡ func_type m func → passes ≡ are_of ty.params args
     → (IsTrue passes → IsCallable m func args) × (IsCallable m func args → IsTrue passes)
 callable m func args ty passes defined has_type is = (

@@ -1,4 +1,4 @@
--- Where a machine stands: before the host's first call, and at a pause.
+-- The position of a machine: before the host's first call, and at a pause.
 use Rattle.std.proofs.Common.{◌≡◌, ℕ, List, [], ◌∷◌, refl, ap, ◌∙◌, subst}
 use Rattle.std.specs.Prelude.{Option, None, Result, Ok, Err, IfOk, replicate, All, false, ◌≤◌, Some}
 use Rattle.std.proofs.lemmas.List.{length-replicate}
@@ -63,7 +63,7 @@ call_place m func args ty old new i defined has_type values invokes =
     let enters = invokes m i.run.heights i.run.counts host ty i.run.is_run.code tt i.stands defined has_type values in
     record { run = i.run; frame = enters.frame; below = host; stands = enters.stands; called = refl }
 
--- after a part of the run
+-- the position of a machine after a part of the run
 module _ (m : Module) (r : SomeRun m) (outside : List Activation) (is_host : outside ≡ host) (entries : List Entry) (new : State) (s : StepResult) where
   pub part_place : (end : Option Pause) → Comes m r.heights r.program outside r.counts end entries new s → ComesBy m end new
   part_place None e = record { running = record { run = r; frame = e.frame; below = e.below; stands = e.stands; called = e.same_outside ∙ is_host }; going = e.going }

@@ -1,4 +1,4 @@
--- The instance of a module under a script, or why there is none.
+-- The instance of a module under a script, or why it has no instance.
 use Rattle.std.specs.Prelude.{◌≡◌, ◌⊎◌, ℕ, List, [], Ok, Err, false}
 use Rattle.wasm_syntax.specs.declared.modules.Module.{Module}
 use Rattle.host_script.specs.declared.scripts.Script.{Script}
@@ -29,7 +29,7 @@ pub record IsUnlinked (module_bytes script_bytes : List ℕ) (found : LinkFault)
   pub inputs : AreInputs module_bytes script_bytes m script
   pub unlinked : run_start m script ≡ Err found
 
--- why there is no instance; that memory runs out has no cause
+-- why there is no instance; exhausted memory has no cause
 abbrev pub HasCause : (module_bytes script_bytes : List ℕ) → MachineFault → Type 0
 HasCause module_bytes script_bytes (machine.Input found) =
     (found ≡ fault.Memory) ⊎ AreRefused module_bytes script_bytes found

@@ -1,4 +1,4 @@
--- Where a machine stands in a run of a module whose host makes single calls.
+-- The position of a machine in a run of a module whose host makes single calls.
 use Rattle.std.specs.Prelude.{◌≡◌, ℕ, List, [], ◌∷◌, Option, Some, None}
 use Rattle.wasm_syntax.specs.declared.values.Val.{Val}
 use Rattle.wasm_syntax.specs.declared.signatures.FuncType.{FuncType}
@@ -56,19 +56,19 @@ pub record IsCalling (m : Module) (index : ℕ) (machine : State) : Type 0 where
       → StandsFor m run.heights (InImport index args actions «end» ∷ InModule frame ∷ below) machine
   pub called : outside_of below ≡ host
 
--- where the machine stands at a pause
+-- the position of the machine at a pause
 abbrev pub IsPaused : Module → Pause → State → Type 0
 IsPaused m (pause.Import index) machine = IsCalling m index machine
 IsPaused m pause.Returned machine = IsIdle m machine
 IsPaused m pause.Trapped machine = Unit {0}
 IsPaused m pause.Spent machine = IsRunning m machine
 
--- the machine stands at an instruction, no return is due
+-- the machine is at an instruction, and no return is due
 pub record IsStanding (m : Module) (machine : State) : Type 0 where
   pub running : IsRunning m machine
   pub going : IsGoing running.frame.at.rest
 
--- where it stands after a part of the run that ends with a pause, or with none
+-- the position of the machine after a part of the run that ends with or without a pause
 abbrev pub ComesBy : Module → Option Pause → State → Type 0
 ComesBy m None machine = IsStanding m machine
 ComesBy m (Some «end») machine = IsPaused m «end» machine

@@ -8,9 +8,9 @@ ghost use Rattle.bench_machine.specs.Arguments.{are_of, is_of};
 ghost use Rattle.bench_machine.specs.Positions.{IsIdle, IsPaused, IsRunning};
 
 use crate::instances::Instance;
+use base::NoMemory;
 use module_index::scope::Scope;
 use module_index::{is_value, same_type};
-use no_memory::NoMemory;
 use std::alloc::Global;
 use wasm_flat::Meter;
 use wasm_interp::{Pause, calls_are_ready, hosts_go_on};
@@ -52,7 +52,7 @@ fn is_callable(scope: &Scope, func: u32, args: &[Val]) -> bool
 }
 
 impl Instance {
-    /// Calls a function, where it is a defined one and takes these arguments; else nothing is
+    /// Calls a function, if it is a defined one and takes these arguments; else nothing is
     /// changed. Control is with the module then. Returns are left to `settle`.
     ///
     /// # Errors
@@ -77,7 +77,7 @@ impl Instance {
         Ok(true)
     }
 
-    /// Goes on until the machine pauses, for at most the given number of turns: where it pauses, and how
+    /// Goes on until the machine pauses, for at most the given number of turns; returns the pause, and how
     /// many turns are left.
     ///
     /// # Errors

@@ -12,10 +12,10 @@ ghost use Rattle.bench_machine.specs.declared.instances.MachineFault.TheVariants
 ghost use Rattle.bench_machine.specs.Instances.{HasCause, IsInstance};
 ghost use Rattle.bench_machine.specs.Positions.{IsIdle};
 
+use base::NoMemory;
 use flat_steps::stores_fit;
 use host_link::{LinkFault, link};
 use host_script::Script;
-use no_memory::NoMemory;
 use r3_faults::Fault;
 use r3_inputs::{module_of, script_of};
 use std::alloc::Global;
@@ -34,7 +34,7 @@ pub struct Instance {
     pub machine: Machine,
 }
 
-/// Why there is no instance. Each variant may come where memory runs out.
+/// Why there is no instance. Each variant may also come if memory runs out.
 #[derive(Debug, Drop, Error)]
 pub enum MachineFault {
     #[error("the module or the script is refused")]

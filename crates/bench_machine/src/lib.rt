@@ -6,5 +6,5 @@ mod calls;
 pub mod instances;
 mod turns;
 
+pub use base::NoMemory;
 pub use instances::{Instance, MachineFault, instance_of};
-pub use no_memory::NoMemory;

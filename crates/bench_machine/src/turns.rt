@@ -5,11 +5,11 @@ ghost use Rattle.wasm_interp.specs.Calls.{SettlesRun, TurnIsStep};
 ghost use Rattle.bench_machine.specs.Positions.{ComesBy, IsRunning, IsStanding};
 
 use crate::instances::Instance;
-use no_memory::NoMemory;
+use base::NoMemory;
 use wasm_interp::{Turn, calls_are_ready};
 
 impl Instance {
-    /// Makes the returns that are due.
+    /// Performs the returns that are due.
     ///
     /// # Errors
     ///
@@ -25,7 +25,7 @@ impl Instance {
         self.machine.settle()
     }
 
-    /// Does an instruction, and the returns that follow.
+    /// Executes an instruction, and the returns that follow.
     ///
     /// # Errors
     ///

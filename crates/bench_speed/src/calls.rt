@@ -3,7 +3,7 @@
 use r3_faults::Fault;
 
 /// What is to be run: the file of a module, a function by the name of its export or by its index, the
-/// number that is its argument, and for how many turns at most.
+/// number that is its argument, and the most turns.
 #[derive(Clone, Copy, Debug)]
 pub(crate) struct Call<'a> {
     pub(crate) module: &'a str,
@@ -12,7 +12,7 @@ pub(crate) struct Call<'a> {
     pub(crate) turns: u64,
 }
 
-/// The call that the words after the program's name say.
+/// The call that the words after the program's name give.
 ///
 /// # Errors
 ///

@@ -1,5 +1,5 @@
 //! A program that measures: it runs a function of a module by the machine alone for at most a given number of
-//! turns. It prints where the machine pauses and how many turns it took, and what takes the time is the run.
+//! turns. It prints where the machine pauses and how many turns it took; the run takes most of the time.
 #![tactic(auto)]
 
 ghost use Rattle.std.specs.Prelude.{◌≤◌, IfOk, length};
@@ -8,8 +8,8 @@ ghost use Rattle.wasm_syntax.specs.declared.limits.TheConstants.{MOST_FILE_BYTES
 mod calls;
 mod runs;
 
+use base::NoMemory;
 use calls::call_of;
-use no_memory::NoMemory;
 use program_words::words_of_call;
 use r3_faults::Fault;
 use r3_outside::{DiskFiles, Files, LoadFault, Sink, StdSink, load, put_all};
@@ -36,7 +36,7 @@ fn main(rt: HostRuntime) -> ExitCode {
     }
 }
 
-/// Runs what the words say, where memory was left for them, and prints the line.
+/// Runs what the words ask for, if memory was left for them, and prints the line.
 fn run<F: Files, O: Sink>(
     alloc: Global,
     words: Result<Vec<String>, NoMemory>,

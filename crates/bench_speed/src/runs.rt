@@ -34,7 +34,7 @@ pub(crate) fn line_of_run(alloc: Global, bytes: &[u8], call: &Call) -> Result<St
     }
 }
 
-/// Calls a function, where it takes the argument, and goes on for at most the given number of turns: where
+/// Calls a function, if it takes the argument, and goes on for at most the given number of turns; returns where
 /// the machine pauses, and how many turns it took.
 fn run(
     alloc: Global,

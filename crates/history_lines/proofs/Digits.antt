@@ -40,7 +40,7 @@ pair_at b within = pair_below 256 b refl within
 
 -- ---- digits of a number
 
--- none is made yet
+-- no digit is made yet
 pub digits-none : (count same size number : ℕ) (text : List ℕ) → count ≡ same → length text ≡ size → hex_digits count number ≡ hex_digits same number ++ drop size text
 digits-none count same size number text is long =
     ap (λ n. hex_digits n number) is

@@ -5,7 +5,7 @@ use Rattle.std.proofs.lemmas.Grind.{flat_map-append}
 use Rattle.wasm_syntax.specs.declared.values.Val.{Val}
 use Rattle.history_spec.specs.Line.{with_space, value_text, values_text}
 
--- those before it, its own, and those after it
+-- the text of the values before a value, its own text, and that of the values after it
 pub values-cut : (values : List Val) (index : ℕ) (none : Val) → index < length values
     → values_text (take index values) ++ (with_space (value_text (get_or values index none)) ++ values_text (drop (suc index) values)) ≡ values_text values
 values-cut values index none within =

@@ -1,7 +1,7 @@
--- How a list of bytes grows where no memory is left.
+-- How a list of bytes grows if memory runs out.
 use Rattle.std.specs.Prelude.{◌≡◌, ℕ, List, ◌++◌}
 
--- it grew by a first part of a text
+-- a list of bytes grew by a first part of a text
 pub record GrewByFirstPart (old new text : List ℕ) : Type 0 where
   pub part : List ℕ
   pub rest : List ℕ

@@ -4,9 +4,6 @@
 mod lines;
 mod words;
 
+pub use base::NoMemory;
 pub use lines::{print_entry, print_outcome, print_step, print_trap};
-pub use no_memory::NoMemory;
 pub use words::{put, put_number, put_value, put_values};
-
-#[cfg(test)]
-mod tests;

@@ -6,14 +6,14 @@ ghost use Rattle.history_spec.specs.declared.entries.Entry.TheVariants.{Step, Tr
 ghost use Rattle.history_lines.specs.Growth.{GrewByFirstPart};
 
 use crate::words::{put, put_found, put_number, put_values};
+use base::NoMemory;
 use history_spec::{Entry, Outcome, TrapKind};
-use no_memory::NoMemory;
 use wasm_syntax::Val;
 
 /// Appends the line of an entry, with its line feed.
 ///
 /// # Errors
-/// Where an allocation failed; a first part of the line may be appended then.
+/// If an allocation failed; a first part of the line may be appended then.
 pub fn print_entry(out: &mut Vec<u8>, entry: &Entry) -> Result<(), NoMemory>
     ensures ok { OnOk result (out.new.items ≡ out.old.items ++ line (entry_text entry.now)) }
     ensures refused { OnErr result
@@ -26,7 +26,7 @@ pub fn print_entry(out: &mut Vec<u8>, entry: &Entry) -> Result<(), NoMemory>
 /// Appends the line of an instruction, with its line feed.
 ///
 /// # Errors
-/// Where an allocation failed; a first part of the line may be appended then.
+/// If an allocation failed; a first part of the line may be appended then.
 pub fn print_step(
     out: &mut Vec<u8>,
     func: u32,
@@ -47,7 +47,7 @@ pub fn print_step(
 /// Appends the line of an instruction that traps, with its line feed.
 ///
 /// # Errors
-/// Where an allocation failed; a first part of the line may be appended then.
+/// If an allocation failed; a first part of the line may be appended then.
 pub fn print_trap(
     out: &mut Vec<u8>,
     func: u32,
@@ -68,7 +68,7 @@ pub fn print_trap(
 /// Appends the line of an outcome, with its line feed.
 ///
 /// # Errors
-/// Where an allocation failed; a first part of the line may be appended then.
+/// If an allocation failed; a first part of the line may be appended then.
 pub fn print_outcome(out: &mut Vec<u8>, outcome: Outcome) -> Result<(), NoMemory>
     ensures ok { OnOk result (out.new.items ≡ out.old.items ++ line (outcome_text outcome)) }
     ensures refused { OnErr result

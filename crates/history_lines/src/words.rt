@@ -4,8 +4,8 @@ ghost use Rattle.std.specs.Prelude.{◌≡◌, ◌+◌, ◌-◌, ◌%◌, ◌<�
 ghost use Rattle.history_spec.specs.Line.{found_text, hex_digits, number_text, with_space, value_text, values_text};
 ghost use Rattle.history_lines.specs.Growth.{GrewByFirstPart};
 
+use base::NoMemory;
 use itoa::Buffer;
-use no_memory::NoMemory;
 use wasm_syntax::{Val, ValType};
 
 /// The two hexadecimal digits of each byte.
@@ -29,7 +29,7 @@ static PAIRS: [u8; 512] = *b"000102030405060708090a0b0c0d0e0f\
 /// Appends bytes.
 ///
 /// # Errors
-/// Where an allocation failed; a first part of them may be appended then.
+/// If an allocation failed; a first part of them may be appended then.
 #[inline(always)]
 pub fn put(out: &mut Vec<u8>, bytes: &[u8]) -> Result<(), NoMemory>
     ensures ok { OnOk result (out.new.items ≡ out.old.items ++ bytes.now) }
@@ -53,7 +53,7 @@ fn put_pair(out: &mut Vec<u8>, first: &[u8], second: &[u8]) -> Result<(), NoMemo
 /// Appends a number in decimal, after a space.
 ///
 /// # Errors
-/// Where an allocation failed; a first part of its text may be appended then.
+/// If an allocation failed; a first part of its text may be appended then.
 pub fn put_number(out: &mut Vec<u8>, number: u32) -> Result<(), NoMemory>
     ensures ok { OnOk result (out.new.items ≡ out.old.items ++ number_text number) }
     ensures refused { OnErr result
@@ -113,8 +113,8 @@ fn digit(number: u32) -> u8
     b'0' + number as u8
 }
 
-/// Appends a number of any length in decimal, after a space. It stands apart, so that shorter numbers need no room
-/// for it.
+/// Appends a number of any length in decimal, after a space. It is never inlined, so that shorter numbers need
+/// no room for it.
 #[inline(never)]
 fn put_long_number(out: &mut Vec<u8>, number: u32) -> Result<(), NoMemory>
     ensures ok { OnOk result (out.new.items ≡ out.old.items ++ number_text number) }
@@ -125,7 +125,7 @@ fn put_long_number(out: &mut Vec<u8>, number: u32) -> Result<(), NoMemory>
     put_pair(out, b" ", buffer.format(number).as_bytes())
 }
 
-/// Appends what an instruction found, where it found something.
+/// Appends what an instruction found, if it found something.
 pub(crate) fn put_found(out: &mut Vec<u8>, found: Option<u32>) -> Result<(), NoMemory>
     ensures ok { OnOk result (out.new.items ≡ out.old.items ++ found_text found) }
     ensures refused { OnErr result
@@ -143,7 +143,7 @@ pub(crate) fn put_found(out: &mut Vec<u8>, found: Option<u32>) -> Result<(), NoM
 /// Appends values, each after a space.
 ///
 /// # Errors
-/// Where an allocation failed; a first part of their text may be appended then.
+/// If an allocation failed; a first part of their text may be appended then.
 pub fn put_values(out: &mut Vec<u8>, values: &[Val]) -> Result<(), NoMemory>
     ensures ok { OnOk result (out.new.items ≡ out.old.items ++ values_text values.now) }
     ensures refused { OnErr result
@@ -158,7 +158,7 @@ pub fn put_values(out: &mut Vec<u8>, values: &[Val]) -> Result<(), NoMemory>
 /// Appends a value after a space: its type, and its bits in hexadecimal.
 ///
 /// # Errors
-/// Where an allocation failed; a first part of its text may be appended then.
+/// If an allocation failed; a first part of its text may be appended then.
 pub fn put_value(out: &mut Vec<u8>, value: Val) -> Result<(), NoMemory>
     ensures ok { OnOk result (out.new.items ≡ out.old.items ++ with_space (value_text value)) }
     ensures refused { OnErr result

@@ -1,4 +1,4 @@
--- A run within a budget has one result at most, and one where each step is a turn.
+-- A run within a budget has at most one result, and exactly one if each step is a turn.
 use Rattle.std.proofs.Common.{◌≡◌, ℕ, zero, suc, ◌+◌, ◌<◌, ◌≤◌, refl, sym, ◌∙◌, ap, subst, arith, List, [], ◌∷◌}
 use Rattle.history_spec.specs.Configuration.{Config, Activation, InModule, InMain, InImport}
 use Rattle.history_spec.specs.Step.{Program, Progress, Running, Finished, Faulted, Stuck, StepResult, step}
@@ -24,11 +24,11 @@ same_end program meter (suc k) (suc l) (Finished outcome) a b = refl
 same_end program meter (suc k) (suc l) (Faulted kind) a b = refl
 same_end program meter (suc k) (suc l) Stuck a b = refl
 
--- what goes on is not over
+-- a run that goes on is not over
 pub not_over : (at : Progress) (config : Config) → at ≡ Running config → IsOver at → ⊥
 not_over at config e over = let P : Progress → Type 0 = λ p. IsOver p in subst P e over
 
--- the turns that the next step takes, and none where the run is over
+-- the turns that the next step takes, 0 if the run is over
 abbrev pub weight_at : Meter → Progress → ℕ
 weight_at meter (Running config) = weight meter config
 weight_at meter other = 0
@@ -92,7 +92,7 @@ one_at_most program meter initial budget (Over a) Spent p q = absurd (not_spent 
 one_at_most program meter initial budget Spent (Over b) p q = absurd (not_spent program meter initial budget b q p)
 one_at_most program meter initial budget Spent Spent p q = refl
 
--- ---- where each step is a turn
+-- ---- if each step is a turn
 
 pub takes_one : (stack : List Activation) → weight_of all_one stack ≡ 1
 takes_one [] = refl

@@ -13,29 +13,29 @@ use Rattle.wasm_syntax.specs.Alike.{same_types}
 use Rattle.history_spec.specs.Code.{Code, signature, types_of}
 
 -- the action changed the store; or it calls a function; or it cannot be done; or it does not fit the module,
--- which the reading of a script excludes
+-- which the reader of scripts excludes
 pub data ActionResult : Type 0 where
   Changes : (store : Store) → ActionResult
   Enters : (func : ℕ) (args : List Val) → ActionResult
   Fails : (kind : FaultKind) → ActionResult
   Unfit : ActionResult
 
--- goes on with what is there; where nothing is, the action does not fit
+-- goes on with a value if there is one; else the action does not fit
 abbrev pub on : {X : Type 0} → Option X → (X → ActionResult) → ActionResult
 on None go = Unfit
 on (Some x) go = go x
 
--- goes on with what is there; where nothing is, there is this fault
+-- goes on with a value if there is one; else there is this fault
 abbrev pub or_fault : {X : Type 0} → FaultKind → Option X → (X → ActionResult) → ActionResult
 or_fault kind None go = Fails kind
 or_fault kind (Some x) go = go x
 
--- a call, where its arguments have the types of the parameters
+-- a call, if its arguments have the types of the parameters
 abbrev pub if_fits : Bool → ActionResult → ActionResult
 if_fits true acted = acted
 if_fits false acted = Fails EntryType
 
--- an address as a number, given the arguments of the call that is answered; none where there is no such argument
+-- an address as a number, given the arguments of the call that is answered; None if there is no such argument
 abbrev pub address_of : List Val → Address → Option ℕ
 address_of args (Fixed address) = Some address
 address_of args (Arg number plus) = option_map (λ value. value.bits + plus) (slice_get args number)
@@ -44,18 +44,18 @@ address_of args (Arg number plus) = option_map (λ value. value.bits + plus) (sl
 abbrev pub with_new_bytes : Store → Memory → List ℕ → ActionResult
 with_new_bytes store memory bytes = Changes (with_memory store (record memory { bytes = bytes }))
 
--- a call of the function that a table entry holds, where it is a defined one and takes these arguments
+-- a call of the function that a table entry holds, if it is a defined one and takes these arguments
 abbrev pub calls_defined : Code → ℕ → List Val → Bool → ActionResult
 calls_defined code func args true = Fails CallsOwn
 calls_defined code func args false =
     on (signature code func) (λ ty. if_fits (same_types ty.params (types_of args)) (Enters func args))
 
--- the same, where the entry holds a function
+-- a call through a table entry, if the entry holds a function
 abbrev pub calls_entry : Code → List Val → Option ℕ → ActionResult
 calls_entry code args None = Fails EmptyEntry
 calls_entry code args (Some func) = calls_defined code func args (nat_lt func code.imported)
 
--- one action of the host, in the call of an import with these arguments; the host's own work has none
+-- one action of the host, in the call of an import with these arguments; the host's own work has no arguments
 abbrev pub perform : Code → Store → List Val → Action → ActionResult
 perform code store args (Write to bytes) =
     on store.memory (λ memory.

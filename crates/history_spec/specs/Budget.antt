@@ -1,4 +1,4 @@
--- The run within a budget of turns: a step is made only where the turns that it takes are left.
+-- The run within a budget of turns: a step is made only if the turns that it takes are left.
 use Rattle.std.specs.Prelude.{◌≡◌, ℕ, ◌<◌, ◌≤◌}
 use Rattle.history_spec.specs.Configuration.{Config}
 use Rattle.history_spec.specs.Step.{Program, Progress, Running, Finished, Faulted, Stuck, StepResult}
@@ -11,7 +11,7 @@ IsOver (Finished outcome) = Unit {0}
 IsOver (Faulted kind) = Unit {0}
 IsOver Stuck = Unit {0}
 
--- how a run within a budget comes out: it is over, with its history and the turns that it took (the turn of an
+-- the result of a run within a budget: it is over, with its history and the turns that it took (the turn of an
 -- action that cannot be done among them); or its turns are spent
 pub data RunResult : Type 0 where
   Over : (run : Run) → RunResult
@@ -32,17 +32,17 @@ pub record IsSpent (steps : ℕ → Run) (meter : Meter) (budget : ℕ) : Type 0
   pub used : (steps count).turns ≡ budget
   pub wants : 0 < weight meter config
 
--- that a run within a budget comes out so
+-- a run within a budget has this result
 abbrev pub IsResult : (ℕ → Run) → Meter → ℕ → RunResult → Type 0
 IsResult steps meter budget (Over run) = IsOverWithin steps budget run
 IsResult steps meter budget Spent = IsSpent steps meter budget
 
--- a run comes out in one way at most
+-- a run has at most one result
 abbrev pub HasOneResultAtMost : (ℕ → Run) → Meter → ℕ → Type 0
 HasOneResultAtMost steps meter budget =
     (a b : RunResult) → IsResult steps meter budget a → IsResult steps meter budget b → a ≡ b
 
--- a run comes out in some way
+-- a run has some result
 abbrev pub HasSomeResult : (ℕ → Run) → Meter → ℕ → Type 0
 HasSomeResult steps meter budget = (a : RunResult) × IsResult steps meter budget a
 
@@ -54,7 +54,7 @@ RunsHaveOneResultAtMost =
     (program : Program) (meter : Meter) (initial : StepResult) (budget : ℕ)
     → HasOneResultAtMost (run_from program meter initial) meter budget
 
--- where each step is a turn, it has some result within each budget
+-- if each step is a turn, a run has some result within each budget
 abbrev pub RunsHaveSomeResult : Type 0
 RunsHaveSomeResult =
     (program : Program) (initial : StepResult) (budget : ℕ)

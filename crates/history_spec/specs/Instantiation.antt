@@ -20,8 +20,8 @@ use Rattle.history_spec.specs.Code.{zero_of}
 
 -- ---- constant expressions (Core 1.0, 3.3.7)
 
--- the value of a constant expression, given those of the imported globals; for any other body, which validity
--- excludes, the value `other`
+-- the value of a constant expression, given the values of the imported globals; for any other body, which
+-- validity excludes, the value `other`
 abbrev pub constant : List Val → Val → List Instr → Val
 constant imported other (Const value ∷ End ∷ []) = value
 constant imported other (GlobalGet x ∷ End ∷ []) = unwrap_or (slice_get imported x) other
@@ -37,7 +37,7 @@ offset_of imported body = (constant imported (zero_of I32) body).bits
 
 -- ---- before the segments
 
--- the limits of a memory or table: those supplied where it is imported, else those declared
+-- the limits of a memory or table: the supplied ones if it is imported, else the declared ones
 abbrev pub limits_of : List Limits → Option Limits → List Limits → Option Limits
 limits_of [] supplied [] = None
 limits_of [] supplied (defined ∷ more) = Some defined
@@ -70,23 +70,23 @@ new_store m supply =
 
 -- ---- segments
 
--- how many bytes there are
+-- the number of bytes of a memory, 0 without one
 abbrev pub memory_length : Option Memory → ℕ
 memory_length None = 0
 memory_length (Some memory) = length memory.bytes
 
--- how many entries there are
+-- the number of entries of a table, 0 without one
 abbrev pub table_length : Option Table → ℕ
 table_length None = 0
 table_length (Some table) = length table.entries
 
--- an element segment is within the table; one that is only declared is nowhere (Core 1.0, 4.5.4)
+-- whether an element segment fits within the table; a segment that is only declared always fits (Core 1.0, 4.5.4)
 abbrev pub elem_fits : List Val → Store → ElemSeg → Bool
 elem_fits imported store (Active table offset funcs) =
     nat_le (offset_of imported offset + length funcs) (table_length store.table)
 elem_fits imported store (Declared funcs) = true
 
--- a data segment is within the memory (Core 1.0, 4.5.4)
+-- whether a data segment is within the memory (Core 1.0, 4.5.4)
 abbrev pub data_fits : List Val → Store → DataSeg → Bool
 data_fits imported store segment =
     nat_le (offset_of imported segment.offset + length segment.bytes) (memory_length store.memory)
@@ -112,15 +112,15 @@ with_elem imported entries (Declared funcs) = entries
 abbrev pub with_data : List Val → List ℕ → DataSeg → List ℕ
 with_data imported bytes segment = with_items_at bytes (offset_of imported segment.offset) segment.bytes
 
--- a memory with data segments written in order
+-- a memory with data segments written one after another
 abbrev pub with_datas : List Val → List DataSeg → Memory → Memory
 with_datas imported datas memory = record memory { bytes = fold (with_data imported) memory.bytes datas }
 
--- a table with element segments written in order
+-- a table with element segments written one after another
 abbrev pub with_elems : List Val → List ElemSeg → Table → Table
 with_elems imported elems table = record table { entries = fold (with_elem imported) table.entries elems }
 
--- the store with all segments written in order
+-- the store with all segments written one after another
 abbrev pub with_segments : Module → List Val → Store → Store
 with_segments m imported store =
     record store {
@@ -128,7 +128,7 @@ with_segments m imported store =
       table = option_map (with_elems imported m.elems) store.table;
     }
 
--- the store, or the fault of the segment that does not fit
+-- the store, or the fault of a segment that does not fit
 abbrev pub store_unless : Option ℕ → Store → Result Store LinkFault
 store_unless None store = Ok store
 store_unless (Some number) store = Err (Segment number)

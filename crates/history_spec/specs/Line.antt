@@ -4,8 +4,8 @@ use Rattle.std.specs.List.{flat_map}
 use Rattle.wasm_syntax.specs.declared.values.ValType.{ValType}
 use Rattle.wasm_syntax.specs.declared.values.ValType.TheVariants.{I32, I64, F32, F64, FuncRef}
 use Rattle.wasm_syntax.specs.declared.values.Val.{Val}
-use Rattle.run_outcomes.specs.declared.outcomes.Outcome.{Outcome}
-use Rattle.run_outcomes.specs.declared.outcomes.Outcome.TheVariants.{Ended, Trapped, HostTrapped}
+use Rattle.base.specs.declared.outcomes.Outcome.{Outcome}
+use Rattle.base.specs.declared.outcomes.Outcome.TheVariants.{Ended, Trapped, HostTrapped}
 use Rattle.history_spec.specs.declared.entries.TrapKind.{TrapKind}
 use Rattle.history_spec.specs.declared.entries.TrapKind.TheVariants.{Unreachable, DivideByZero, Overflow, Memory, Table, Empty, Signature}
 use Rattle.history_spec.specs.declared.entries.Entry.{Entry}
@@ -41,7 +41,7 @@ number_text number = with_space (decimal number)
 abbrev pub values_text : List Val → List ℕ
 values_text values = flat_map (λ value. with_space (value_text value)) values
 
--- what an instruction found, where it found something
+-- what an instruction found, if it found something
 abbrev pub found_text : Option ℕ → List ℕ
 found_text None = []
 found_text (Some found) = codes " found" ++ number_text found

@@ -1,19 +1,19 @@
 -- What the run of a module without imports shows of an original module: functions from n to n + m - 1 are the
--- original's, those below n stand for its imports, and all others are appended. The originals are inside; every
+-- original's, those below n replace its imports, and all others are appended. The originals are inside; every
 -- other function, and the caller of the exported one, is outside.
 use Rattle.std.specs.Prelude.{ℕ, ◌+◌, ◌-◌, List, [], ◌∷◌, ◌++◌, length, take, Option, Some, None, Bool, true, false, nat_lt}
 use Rattle.wasm_syntax.specs.declared.values.Val.{Val}
-use Rattle.run_outcomes.specs.declared.outcomes.Outcome.{Outcome}
-use Rattle.run_outcomes.specs.declared.outcomes.Outcome.TheVariants.{Trapped, HostTrapped}
+use Rattle.base.specs.declared.outcomes.Outcome.{Outcome}
+use Rattle.base.specs.declared.outcomes.Outcome.TheVariants.{Trapped, HostTrapped}
 use Rattle.history_spec.specs.declared.entries.Entry.{Entry}
 use Rattle.history_spec.specs.declared.entries.Entry.TheVariants.{HostCall, HostReturn, ImportCall, ImportReturn, Enter, Exit, Step, Trap, HostTrap}
 
--- how many functions the original imports and defines
+-- the numbers of functions that the original imports and defines
 pub record Layout : Type 0 where
   pub imports : ℕ
   pub defined : ℕ
 
--- what a function is: the body that stands for an import, an original, or one that is appended
+-- what a function is: the body that replaces an import, an original, or one that is appended
 pub data Side : Type 0 where
   Import : Side
   Original : Side
@@ -46,7 +46,7 @@ shown_call Original Appended func args = []
 shown_call caller Original func args = HostCall func args ∷ []
 shown_call caller callee func args = []
 
--- what is shown of its return
+-- what is shown of the return from a call
 abbrev pub shown_return : (caller callee : Side) → ℕ → List Val → List Entry
 shown_return Original Original func results = Exit func results ∷ []
 shown_return Original Import func results = ImportReturn func results ∷ []
@@ -54,17 +54,17 @@ shown_return Original Appended func results = []
 shown_return caller Original func results = HostReturn func results ∷ []
 shown_return caller callee func results = []
 
--- what is shown of a step: those of originals alone
+-- what is shown of a step: only steps of originals are shown
 abbrev pub shown_step : Side → Entry → List Entry
 shown_step Original entry = entry ∷ []
 shown_step other entry = []
 
--- what is shown of a trap: one outside is the host's
+-- what is shown of a trap: a trap outside the originals is the host's
 abbrev pub shown_trap : Side → Entry → Entry
 shown_trap Original entry = entry
 shown_trap other entry = HostTrap
 
--- the arguments among a call's operands: all but the index of a `call_indirect`, which alone of calls has found
+-- the arguments among a call's operands: all but the index of a `call_indirect`, the only call that has found
 -- a function
 abbrev pub call_args : List Val → Option ℕ → List Val
 call_args operands None = operands
@@ -99,18 +99,18 @@ shown_entries layout inside args (Trap func number kind operands found ∷ rest)
     ∷ shown_entries layout inside args rest
 shown_entries layout inside args (entry ∷ rest) = shown_entries layout inside args rest
 
--- whose trap it is, by the side of the function that traps
+-- the outcome of a trap, by the side of the function that traps
 abbrev pub trapped_on : Side → Outcome
 trapped_on Original = Trapped
 trapped_on other = HostTrapped
 
--- whose trap it is that a history ends with
+-- the outcome of a history that ends with a trap
 abbrev pub trap_outcome : Layout → List Entry → Outcome
 trap_outcome layout [] = Trapped
 trap_outcome layout (Trap func number kind operands found ∷ rest) = trapped_on (side layout func)
 trap_outcome layout (entry ∷ rest) = trap_outcome layout rest
 
--- the outcome that is shown
+-- the outcome that is shown of an outcome
 abbrev pub shown_outcome : Layout → List Entry → Outcome → Outcome
 shown_outcome layout history Trapped = trap_outcome layout history
 shown_outcome layout history outcome = outcome

@@ -1,5 +1,5 @@
 -- The run of a replay module: its start function, if it has one, then the function that it exports as `_start`.
--- Each instruction is a turn; these two calls are none.
+-- Each instruction is a turn; these two calls take no turn.
 use Rattle.std.specs.Prelude.{◌≡◌, ℕ, List, [], ◌∷◌, Option, Some, None, Result, Ok, Err, Bool, true, codes, bytes_eq}
 use Rattle.wasm_syntax.specs.declared.modules.Module.{Module}
 use Rattle.wasm_syntax.specs.declared.modules.Export.{Export}
@@ -8,7 +8,7 @@ use Rattle.wasm_syntax.specs.declared.modules.ExportKind.TheVariants.{Func}
 use Rattle.host_script.specs.declared.scripts.Action.TheVariants.{Call}
 use Rattle.host_script.specs.declared.scripts.LinkFault.{LinkFault}
 use Rattle.host_script.specs.declared.scripts.Supply.{Supply}
-use Rattle.run_outcomes.specs.declared.outcomes.Outcome.{Outcome}
+use Rattle.base.specs.declared.outcomes.Outcome.{Outcome}
 use Rattle.history_spec.specs.declared.entries.Entry.{Entry}
 use Rattle.history_spec.specs.Code.{code_of}
 use Rattle.history_spec.specs.Store.{Store}
@@ -17,33 +17,33 @@ use Rattle.history_spec.specs.Step.{Program, Finished, StepResult, start}
 use Rattle.history_spec.specs.Run.{Meter, Run, run_from}
 use Rattle.history_spec.specs.Projection.{Layout, projection}
 
--- the function of an export, where its name is the wanted one
+-- the function of an export, if its name is the wanted one
 abbrev pub func_of_start : Bool → ExportKind → Option ℕ
 func_of_start true (Func func) = Some func
 func_of_start named kind = None
 
--- the function of the one export, where that is named `_start`
+-- the function of the one export, if that is named `_start`
 abbrev pub func_of_exports : List Export → Option ℕ
 func_of_exports (export ∷ []) = func_of_start (bytes_eq export.name (codes "_start")) export.kind
 func_of_exports exports = None
 
--- the function that a replay module exports as `_start`, where it has this export alone
+-- the function that a replay module exports as `_start`, if this is its only export
 abbrev pub entry_function : Module → Option ℕ
 entry_function m = func_of_exports m.exports
 
--- each instruction is a turn; what the caller does is none
+-- the meter by which each instruction is a turn, and what the caller does takes no turn
 abbrev pub instructions : Meter
 instructions = record { instruction = λ func number. 1; action = 0 }
 
--- nothing is imported, so nothing is supplied and nothing is answered
+-- the supply of a module without imports
 abbrev pub alone : Supply
 alone = record { memory = None; table = None; globals = [] }
 
--- the module without answers
+-- the program of a module without answers
 abbrev pub program_alone : Module → Program
 program_alone m = record { code = code_of m; answers = [] }
 
--- the start of the run in a store, where the module instantiates
+-- the start of the run in a store, if the module instantiates
 abbrev pub start_alone_or_fault : Module → (entry : ℕ) → Result Store LinkFault → Result StepResult LinkFault
 start_alone_or_fault m entry (Ok store) = Ok (start (program_alone m) m.start store [] (Call entry [] ∷ []))
 start_alone_or_fault m entry (Err fault) = Err fault

@@ -4,7 +4,7 @@ use thiserror::Error;
 use wasm_syntax::{List, Vals};
 
 /// One entry of a history. Functions are named by their indices, and an instruction by its number
-/// in its body: how many instructions other than `else` and `end` stand before it.
+/// in its body: the number of instructions other than `else` and `end` before it.
 #[derive(Debug, Drop)]
 pub enum Entry {
     /// The host calls a function of the module.
@@ -12,7 +12,7 @@ pub enum Entry {
         func: u32,
         args: Vals,
     },
-    /// That function returns to the host.
+    /// A function that the host called returns to the host.
     HostReturn {
         func: u32,
         results: Vals,
@@ -22,7 +22,7 @@ pub enum Entry {
         import: u32,
         args: Vals,
     },
-    /// The host returns from that call.
+    /// The host returns from a call of an import.
     ImportReturn {
         import: u32,
         results: Vals,
@@ -31,12 +31,12 @@ pub enum Entry {
     Enter {
         func: u32,
     },
-    /// That function returns to the module.
+    /// A function that the module called returns to the module.
     Exit {
         func: u32,
         results: Vals,
     },
-    /// An instruction: what it takes and gives, and what it finds. `found` is the function that a
+    /// An instruction: its operands, its results, and what it finds. `found` is the function that a
     /// `call_indirect` finds, or the memory's size in pages that a `memory.grow` finds.
     Step {
         func: u32,
@@ -45,8 +45,8 @@ pub enum Entry {
         results: Vals,
         found: Option<u32>,
     },
-    /// An instruction that traps. `found` is the memory's size in pages or the table's size where
-    /// an access passes it, or the function whose type is another.
+    /// An instruction that traps. `found` is the memory's size in pages or the table's size if
+    /// an access passes it, or the function if its type is another.
     Trap {
         func: u32,
         number: u32,
@@ -54,7 +54,7 @@ pub enum Entry {
         operands: Vals,
         found: Option<u32>,
     },
-    /// The host traps in place of a return.
+    /// The host traps instead of returning.
     HostTrap,
 }
 
@@ -96,5 +96,5 @@ pub enum FaultKind {
     EntryType,
 }
 
-/// The entries of a history, or of a part of it, in order.
+/// The entries of a history, or of a part of it, one after another.
 pub type Entries = List<Entry>;

@@ -1,4 +1,4 @@
-// Laws of the definitions, each the contract of a function; the statements stand in `specs/Budget.antt`.
+// Laws of the definitions, each the contract of a function; the statements are in `specs/Budget.antt`.
 
 ghost use Rattle.history_spec.specs.Budget.{RunsHaveOneResultAtMost, RunsHaveSomeResult};
 
@@ -8,7 +8,7 @@ pub fn runs_have_one_result_at_most()
     ensures { RunsHaveOneResultAtMost }
 {}
 
-/// Where each step is a turn, a run has some result within each budget.
+/// If each step is a turn, a run has some result within each budget.
 pub fn runs_have_some_result()
     ensures { RunsHaveSomeResult }
 {}

@@ -5,7 +5,7 @@ use Rattle.wasm_syntax.specs.declared.instructions.Instr.{Instr}
 use Rattle.wasm_syntax.specs.Opcodes.{Access, access}
 use Rattle.module_index.specs.declared.opcodes.Transfer.{Transfer}
 use Rattle.module_index.specs.Tables.{Reach, reach_of, reach_of_transfer}
-use Rattle.hook_spec.specs.Hooks.{on}
+use Rattle.record_replay_spec.specs.Hooks.{on}
 
 pub told : (before : List Instr) (found : Option Access) (looked : Option Transfer) (transfer : Transfer)
     (make : Access → List Instr) (after : List Instr)
@@ -21,7 +21,7 @@ told before (Some a) looked transfer make after is same given =
     let reaches : reach_of_transfer transfer ≡ reach_of a = cc (ap (option_map reach_of_transfer) (sym is) ∙ same) in
     given a.signed ∙ ap (λ (r : Reach). before ++ make (access r.ty r.width a.signed)) reaches
 
--- what holds after success
+-- a consequence of what holds after success
 pub on_ok : {X E P Q : Type 0} (r : Result X E) → (P → Q) → OnOk r P → OnOk r Q
 on_ok (Ok x) leads holds = leads holds
 on_ok (Err e) leads holds = holds

@@ -1,4 +1,4 @@
--- The calls of a typed body are of functions that are there.
+-- The calls of a typed body are of functions that exist.
 use Rattle.std.proofs.Common.{◌≡◌, ℕ, ◌<◌, ◌≤◌, List, [], ◌∷◌, ◌++◌, length, Option, Some, None, IsTrue, All, refl, arith}
 use Rattle.std.specs.Prelude.{slice_get, option_map, option_and_then}
 use Rattle.std.proofs.lemmas.Bool.{lt-ltb}
@@ -23,7 +23,7 @@ module _ (count : ℕ) where
       All-cons Within opening (first ++ close ∷ rest) a
       (All-append Within first (close ∷ rest) firsts (All-cons Within close rest b rests))
 
-  -- a function that has a type is there
+  -- a function that has a type exists
   func_there : (ctx : Context) (func : ℕ) (index : Option ℕ) (ty : FuncType) → slice_get ctx.funcs func ≡ index
       → option_and_then (slice_get ctx.types) index ≡ Some ty → func < length ctx.funcs
   func_there ctx func None ty is found = cc

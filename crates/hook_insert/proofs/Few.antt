@@ -4,7 +4,7 @@ use Rattle.std.specs.Prelude.{filter_map, nat_lt}
 use Rattle.std.specs.List.{cons_option}
 use Rattle.std.proofs.lemmas.Bool.{ltb-false}
 use Rattle.std.proofs.lemmas.List.Elements.{All-nil, All-cons}
-use Rattle.list_laws.proofs.Lists.{nil_parts}
+use Rattle.base.proofs.Lists.{nil_parts}
 use Rattle.wasm_syntax.specs.declared.limits.TheConstants.{MOST_ENTRIES, MOST_LOCALS_HOOKED, MOST_PAGES, MOST_PARAMETERS}
 use Rattle.wasm_syntax.specs.declared.profile.Which.{Which}
 use Rattle.wasm_syntax.specs.declared.profile.Which.TheVariants.{Parameters, Table, Memory, Locals}
@@ -15,7 +15,7 @@ use Rattle.wasm_syntax.specs.declared.modules.Module.{Module}
 use Rattle.wasm_syntax.specs.Index.{all_tables, all_memories}
 use Rattle.wasm_syntax.specs.Profile.{Refusal, past, count_of_locals, quantities_past}
 
--- nothing was put in front of nothing
+-- a list with an optional front is empty only if both are
 cons_none : {X : Type 0} (front : Option X) (xs : List X) → cons_option front xs ≡ [] → (front ≡ None) × (xs ≡ [])
 cons_none None xs none = (refl, none)
 cons_none (Some x) xs none = cc
@@ -29,7 +29,7 @@ within most which value true over is = absurd (some over is)
     some over is = cc
 within most which value false under is = ltb-false most value under
 
--- where no quantity of these is past its limit, each is within
+-- if no quantity of the items is past its limit, each is within
 all_within : {X : Type 0} (most : ℕ) (which : Which) (quantity : X → ℕ) (xs : List X)
     → filter_map (λ x. past most which (quantity x)) xs ≡ [] → All (λ x. quantity x ≤ most) xs
 all_within most which quantity [] none = All-nil (λ x. quantity x ≤ most)

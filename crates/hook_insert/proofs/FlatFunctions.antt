@@ -8,7 +8,7 @@ use Rattle.wasm_syntax.specs.Index.{type_at}
 use Rattle.wasm_syntax.specs.Laws.{BodiesAreRead}
 use Rattle.wasm_syntax.specs.Nest.{Nest, nest_of}
 use Rattle.wasm_syntax.specs.Validity.{IsTypedFunc}
-use Rattle.hook_spec.specs.Instrumented.{instrumented_func, site_of, weights_of_func, with_added_locals}
+use Rattle.record_replay_spec.specs.Instrumented.{instrumented_func, site_of, weights_of_func, with_added_locals}
 use Rattle.hook_insert.specs.Rounds.{code_weights, instrumented_code}
 use Rattle.hook_insert.specs.Functions.{func_of_rounds, weights_of_rounds}
 use Rattle.hook_insert.proofs.Rounds.{code_of_body, weights_of_code}

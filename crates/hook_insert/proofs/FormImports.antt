@@ -10,8 +10,8 @@ use Rattle.wasm_syntax.specs.declared.modules.ImportKind.{ImportKind}
 use Rattle.wasm_syntax.specs.declared.modules.ImportKind.TheVariants.{Func, Table, Memory, Global}
 use Rattle.wasm_syntax.specs.declared.modules.Module.{Module}
 use Rattle.wasm_syntax.specs.Index.{func_import, of_kind}
-use Rattle.hook_spec.specs.declared.hooks.Hook.{Hook}
-use Rattle.hook_spec.specs.HookedForm.{are_hooks, is_from_hooks, is_func_kind, is_hook}
+use Rattle.record_replay_spec.specs.declared.hooks.Hook.{Hook}
+use Rattle.record_replay_spec.specs.HookedForm.{are_hooks, is_from_hooks, is_func_kind, is_hook}
 
 -- ---- counted
 
@@ -47,7 +47,7 @@ funcs_counted (import ∷ imports) =
 
 -- ---- one by one
 
--- what is left of the imports of functions, where some are skipped and then come hooks
+-- the imports of functions after the skipped ones are the hooks from a place on
 abbrev pub left_are_hooks : Module → (kinds : List Hook) → (place skipped : ℕ) → List Import → Bool
 left_are_hooks m kinds place skipped imports =
     are_hooks m (drop place kinds) (drop skipped (filter (λ (i : Import). is_func_kind i.kind) imports))

@@ -9,3 +9,10 @@ pub mod FlatFunctions
 pub mod SameTypes
 pub mod FormImports
 pub mod Sections
+mod Inserted
+mod Meters
+mod Words
+mod EncodedLocals
+mod Parts
+mod EncodedBodies
+mod Encodable

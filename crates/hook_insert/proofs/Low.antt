@@ -1,5 +1,5 @@
--- In a valid module with few functions all numbers of functions are low, and its functions leave room for what is
--- inserted.
+-- In a valid module with few functions, all indices of functions are low, and its functions leave room for the
+-- insertions.
 use Rattle.std.proofs.Common.{◌≡◌, ℕ, ◌+◌, ◌^◌, ◌<◌, ◌≤◌, List, [], ◌∷◌, length, Option, Some, None, IsTrue, All, refl, arith, subst}
 use Rattle.std.specs.Prelude.{slice_get, slice_index_or, option_and_then, sum_by, IfSome}
 use Rattle.std.proofs.lemmas.List.Elements.{All-nil, All-cons, All-weaker, All-append}
@@ -51,7 +51,7 @@ module _ (m : Module) (few : length (func_indices m) < list_limit) where
   low_elems : All (IsElem m) m.elems → All IsLowElem m.elems
   low_elems are = All-weaker (IsElem m) IsLowElem low_elem m.elems are
 
-  -- a function that has a type is there
+  -- a function that has a type exists
   typed_there : (func : ℕ) (index : Option ℕ) (ty : FuncType) → slice_get (func_indices m) func ≡ index
       → option_and_then (type_at m) index ≡ Some ty → func < list_limit
   typed_there func None ty is found = cc

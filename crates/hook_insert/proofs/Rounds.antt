@@ -8,8 +8,8 @@ use Rattle.wasm_syntax.specs.declared.instructions.Instr.{Instr}
 use Rattle.wasm_syntax.specs.declared.instructions.Instr.TheVariants.{Block, Loop, If, Else, End}
 use Rattle.wasm_syntax.specs.Nest.{Nest, Empty, Plain, InBlock, InLoop, InIf, InIfElse, is_plain, IsNest, flat}
 use Rattle.wasm_syntax.specs.Profile.{is_numbered}
-use Rattle.hook_spec.specs.Insertions.{Site, imports_at, inserted_after, inserted_at_end, inserted_at_enter, inserted_before}
-use Rattle.hook_spec.specs.Instrumented.{before_nest, instrumented_nest, instrumented_body, renumbered, weightless, weights_of_nest, weights_of_body}
+use Rattle.record_replay_spec.specs.Insertions.{Site, imports_at, inserted_after, inserted_at_end, inserted_at_enter, inserted_before}
+use Rattle.record_replay_spec.specs.Instrumented.{before_nest, instrumented_nest, instrumented_body, renumbered, weightless, weights_of_nest, weights_of_body}
 use Rattle.hook_insert.specs.Rounds.{round, weights_round, instrumented_code, code_weights}
 
 flat_before : (is : List Instr) (nest : Nest) → flat (before_nest is nest) ≡ is ++ flat nest
@@ -23,7 +23,7 @@ numbered Else plain = cc
 numbered i plain = refl
 
 module _ (s : Site) where
-  -- two passes, parted by an instruction that no other is inserted round
+  -- two passes, separated by an instruction around which none is inserted
   parted : (first second : List Instr) (i : Instr) (rest : List Instr) (made others : List Instr)
       → round s i ≡ i ∷ [] → made ≡ flat_map (round s) first → others ≡ flat_map (round s) rest
       → made ++ i ∷ others ≡ flat_map (round s) (first ++ i ∷ rest)
@@ -66,7 +66,7 @@ module _ (s : Site) where
       ∙ sym (append_assoc (flat_map (round s) (flat nest)) (End ∷ []) (left ++ End ∷ []))
       ∙ ap (λ l. l ++ (left ++ End ∷ [])) (sym (flat_map-append (round s) (flat nest) (End ∷ []))))
 
-  -- the weights of two passes, parted by an instruction without a number
+  -- the weights of two passes, separated by an instruction without a number
   weights_parted : (first : List Instr) (i : Instr) (rest : List Instr) (made others : List ℕ)
       → weights_round s i ≡ [] → made ≡ flat_map (weights_round s) first → others ≡ flat_map (weights_round s) rest
       → made ++ others ≡ flat_map (weights_round s) (first ++ i ∷ rest)

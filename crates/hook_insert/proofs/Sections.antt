@@ -4,19 +4,19 @@ use Rattle.std.proofs.lemmas.Bool.Decides.{nat_tests}
 use Rattle.std.specs.Prelude.{filter, bytes_eq}
 use Rattle.std.proofs.lemmas.List.{drop_more, drop_all, length-drop, length-take-le, take-append-drop}
 use Rattle.std.proofs.lemmas.Bool.{cases_lt}
-use Rattle.hook_spec.specs.HookedForm.{HookedForm}
+use Rattle.record_replay_spec.specs.HookedForm.{HookedForm}
 use Rattle.std.proofs.lemmas.Slice.Eq.{bytes_eq-Decides}
 use Rattle.wasm_syntax.specs.declared.modules.Custom.{Custom}
-use Rattle.hook_spec.specs.Instrumented.{section_name}
+use Rattle.record_replay_spec.specs.Instrumented.{section_name}
 use Rattle.leb_bytes.specs.Unsigned.{u32_bytes}
 use Rattle.leb_bytes.proofs.UnsignedLaws.{u32-last, u32-more}
 use Rattle.hook_insert.specs.Forms.{begins_with, left_after}
 
--- those of the name
+-- the custom sections of the name
 abbrev pub named : List Custom → List Custom
 named customs = filter (λ (custom : Custom). bytes_eq custom.name section_name) customs
 
--- what says this
+-- a form with these parts
 abbrev pub form : (digest : List ℕ) → (imports defined : ℕ) → HookedForm
 form digest imports defined = record { digest = digest; imports = imports; defined = defined }
 
@@ -57,7 +57,7 @@ module _ (n : ℕ) (bytes : List ℕ) (at : ℕ) (found : Bool) (within : at ≤
       ∙ first_byte n [] bytes at within
       ∙ ap (λ t. cond t (Some (drop (at + 1) bytes)) None) (sym is)
 
--- where there is something left, the bytes are both together, and the other way round
+-- bytes are left after a prefix if and only if the bytes are the prefix and those bytes
 pub both : (front bytes rest : List ℕ) → left_after front bytes ≡ Some rest → bytes ≡ front ++ rest
 both [] bytes rest h = cc
 both (f ∷ front) [] rest h = cc
@@ -81,13 +81,13 @@ none_some xs h = cc
 from_false : (b : Bool) → false ≡ true → b ≡ true
 from_false b h = cc
 
--- bytes that do not begin with a front are not it and others after it
+-- bytes that do not begin with a prefix are not the prefix and others
 pub eq_none : (front back bytes : List ℕ) → left_after front bytes ≡ None → false ≡ bytes_eq bytes (front ++ back)
 eq_none front back bytes none =
     same_bool false (bytes_eq bytes (front ++ back)) (from_false (bytes_eq bytes (front ++ back)))
     (λ e. none_some back (sym none ∙ ap (left_after front) ((bytes_eq-Decides bytes (front ++ back)).0 e) ∙ left_of front back))
 
--- those that do are it and others where what is left is these
+-- bytes that begin with a prefix are the prefix and others if and only if those others are left
 pub eq_some : (front back bytes rest : List ℕ) → left_after front bytes ≡ Some rest
     → bytes_eq rest back ≡ bytes_eq bytes (front ++ back)
 eq_some front back bytes rest some =
@@ -97,7 +97,7 @@ eq_some front back bytes rest some =
     (λ e. (bytes_eq-Decides rest back).1
     (same_some rest back (sym some ∙ ap (left_after front) ((bytes_eq-Decides bytes (front ++ back)).0 e) ∙ left_of front back)))
 
--- nothing is left behind the last byte alone
+-- a place is the length of the bytes if and only if no byte is left from there on
 pub eq_end : (bytes : List ℕ) («end» : ℕ) → «end» ≤ length bytes → nat_eq «end» (length bytes) ≡ bytes_eq (drop «end» bytes) []
 eq_end bytes «end» within =
     same_bool (nat_eq «end» (length bytes)) (bytes_eq (drop «end» bytes) [])
@@ -123,7 +123,7 @@ whole_section bytes numbers most found within is =
     long : nat_eq (length (take most bytes)) most ≡ true
     long = let l = length-take-le most bytes within in grind (arith, nat_tests, l)
 
--- what a section's bytes say
+-- what a section's bytes declare
 abbrev pub form_of_bytes : (bytes numbers : List ℕ) → (imports defined : ℕ) → Option HookedForm
 form_of_bytes bytes numbers imports defined =
     cond (nat_eq (length (take 32 bytes)) 32 && bytes_eq bytes (take 32 bytes ++ numbers))

@@ -1,16 +1,16 @@
--- The hooked form as it is read.
+-- The hooked form as the code reads it.
 use Rattle.std.specs.Prelude.{ℕ, List, [], ◌∷◌, Option, Some, None, Bool, false, cond, nat_eq}
 use Rattle.wasm_syntax.specs.declared.modules.Custom.{Custom}
-use Rattle.hook_spec.specs.HookedForm as model
+use Rattle.record_replay_spec.specs.HookedForm as model
 use Rattle.hook_insert.specs.declared.forms.HookedForm.{HookedForm}
 
--- what a form says, as the definition has it
+-- the form that the definitions use
 abbrev pub form_of : HookedForm → model.HookedForm
 form_of form = record { digest = form.digest; imports = form.imports; defined = form.defined }
 
 -- ---- the section
 
--- the one section of sections
+-- the only section of a list, if there is exactly one
 abbrev pub only : List Custom → Option Custom
 only (custom ∷ []) = Some custom
 only customs = None
@@ -22,7 +22,7 @@ abbrev pub begins_with : (byte : ℕ) → List ℕ → Bool
 begins_with byte [] = false
 begins_with byte (b ∷ bytes) = nat_eq b byte
 
--- what is left of bytes after others, where they begin with these
+-- the bytes after a prefix, if they begin with it
 abbrev pub left_after : (front bytes : List ℕ) → Option (List ℕ)
 left_after [] bytes = Some bytes
 left_after (f ∷ front) [] = None

@@ -1,4 +1,4 @@
--- Functions into whose bodies calls of hooks fit.
+-- Functions that can be instrumented.
 use Rattle.std.specs.Prelude.{◌≡◌, ℕ, ◌+◌, ◌^◌, ◌<◌, ◌≤◌, List, sum_by, All}
 use Rattle.wasm_syntax.specs.declared.limits.TheConstants.{MOST_LOCALS_HOOKED}
 use Rattle.wasm_syntax.specs.declared.modules.Run.{Run}
@@ -8,7 +8,7 @@ use Rattle.wasm_syntax.specs.Index.{type_at}
 use Rattle.wasm_syntax.specs.Nest.{nest_of}
 use Rattle.wasm_syntax.specs.Validity.{IsTypedFunc}
 use Rattle.wasm_syntax.specs.declared.signatures.FuncType.{FuncType}
-use Rattle.hook_spec.specs.Instrumented.{instrumented_func, site_of, weights_of_func, with_added_locals}
+use Rattle.record_replay_spec.specs.Instrumented.{instrumented_func, site_of, weights_of_func, with_added_locals}
 use Rattle.hook_insert.specs.Rounds.{AreCallsWithin, code_weights, instrumented_code}
 use Rattle.wasm_flat.specs.Sizes.{list_limit}
 
@@ -17,7 +17,7 @@ pub record AreRoomyRuns (runs : List Run) : Type 0 where
   pub few : sum_by (λ (run : Run). run.count) runs ≤ MOST_LOCALS_HOOKED
   pub each : All (λ (run : Run). run.count + 2 < 2 ^ 32) runs
 
--- a function that has a typing, few locals, and calls of low numbers alone
+-- a function that is well typed, has few locals, and calls only functions of low indices
 pub record IsInsertable (m : Module) (f : Func) : Type 0 where
   pub typed : IsTypedFunc m f
   pub runs : AreRoomyRuns f.locals
@@ -31,7 +31,7 @@ func_of_rounds m index ty f =
       body = instrumented_code (site_of m index ty f) ty f.body;
     }
 
--- its weights
+-- the weights of a function's instrumented body
 abbrev pub weights_of_rounds : Module → (index : ℕ) → FuncType → Func → List ℕ
 weights_of_rounds m index ty f = code_weights (site_of m index ty f) ty f.body
 

@@ -4,3 +4,4 @@ pub mod Rounds
 pub mod Functions
 pub mod Modules
 pub mod Forms
+pub mod EncodingLaws

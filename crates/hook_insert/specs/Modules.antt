@@ -9,7 +9,7 @@ use Rattle.hook_insert.specs.declared.modules.Hooking.{Hooking}
 use Rattle.hook_insert.specs.declared.modules.Kept.{Kept}
 use Rattle.hook_insert.specs.Sites.{IsLowElem, IsLowKind}
 
--- the numbers of a module leave room for the hooks
+-- the indices of a module leave room for the hooks
 pub record HasLowNumbers (m : Module) : Type 0 where
   pub types : length m.types < list_limit
   pub funcs : length (func_indices m) < list_limit
@@ -17,7 +17,7 @@ pub record HasLowNumbers (m : Module) : Type 0 where
   pub elems : All IsLowElem m.elems
   pub start : IfSome m.start (λ func. func < list_limit)
 
--- the module of these functions, of what it gets and of what it keeps
+-- the module with these functions, with the parts that it gets and the parts that it keeps
 abbrev pub module_of_parts : List Func → Hooking → Kept → Module
 module_of_parts funcs hooking kept = record {
   types = hooking.types;

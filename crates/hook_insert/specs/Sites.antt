@@ -8,14 +8,14 @@ use Rattle.wasm_syntax.specs.declared.modules.Module.{Module}
 use Rattle.wasm_syntax.specs.Index.{imported_funcs}
 use Rattle.wasm_flat.specs.Sizes.{list_limit}
 
--- the number of functions that the module imports, and that of a function's parameters and locals, leave room for
--- what is added
+-- the number of imported functions and the number of the function's parameters and locals leave room for what is
+-- added
 pub record IsSite (m : Module) (imports locals : ℕ) : Type 0 where
   pub count : imports ≡ imported_funcs m
   pub few_imports : imports < list_limit
   pub few_locals : locals < list_limit
 
--- functions whose numbers leave room for the hooks; those of a segment, that of an export
+-- the indices of functions leave room for the hooks; those of a segment; that of an export
 abbrev pub AreLow : List ℕ → Type 0
 AreLow funcs = All (λ func. func < list_limit) funcs
 

@@ -4,18 +4,18 @@ ghost use Rattle.std.specs.Prelude.{◌≡◌, ◌<◌, List, ◌++◌, ◌∷�
 ghost use Rattle.wasm_syntax.specs.declared.instructions.Instr.{Instr as Instruction};
 ghost use Rattle.wasm_syntax.specs.declared.instructions.Instr.TheVariants.{Block, End};
 ghost use Rattle.wasm_syntax.specs.Profile as profile;
-ghost use Rattle.hook_spec.specs.Insertions.{imports_at, inserted_at_end, inserted_at_enter, tells_params};
-ghost use Rattle.hook_spec.specs.Instrumented.{renumbered, weightless};
+ghost use Rattle.record_replay_spec.specs.Insertions.{imports_at, inserted_at_end, inserted_at_enter, tells_params};
+ghost use Rattle.record_replay_spec.specs.Instrumented.{renumbered, weightless};
 ghost use Rattle.hook_insert.specs.Rounds.{AreCallsWithin, code_weights, instrumented_code, is_call_within, round, weights_round};
 ghost use Rattle.wasm_flat.specs.Sizes.{list_limit};
 
 use crate::sites::BodySite;
-use hook_spec::Hook;
-use no_memory::NoMemory;
+use base::NoMemory;
+use record_replay_spec::Hook;
 use wasm_syntax::{FuncType, Instr, Item, ValType};
 
 impl<'a> BodySite<'a> {
-    /// The body of a function of this type.
+    /// Appends the instrumented body of a function of this type.
     pub(crate) fn push_body(
         &self,
         code: &mut Vec<Instr>,
@@ -33,7 +33,7 @@ impl<'a> BodySite<'a> {
         self.push_end(code, weights)
     }
 
-    /// What stands before a body: its parameters are told, and that the function is entered; then a block.
+    /// Appends what comes before a body: hook calls that report the parameters and the entry, and then a block.
     fn push_start(
         &self,
         code: &mut Vec<Instr>,
@@ -55,7 +55,7 @@ impl<'a> BodySite<'a> {
         Ok(())
     }
 
-    /// Tells the parameters, and that the function is entered.
+    /// Appends hook calls that report the parameters and the entry into the function.
     fn push_enter(&self, code: &mut Vec<Instr>, params: &[ValType]) -> Result<(), NoMemory>
         requires { length params.now < list_limit }
         ensures { OnOk result (code.new.items ≡ code.old.items ++ inserted_at_enter self.now params.now) }
@@ -64,7 +64,7 @@ impl<'a> BodySite<'a> {
         self.push_number(code, Hook::Enter, self.func())
     }
 
-    /// Tells parameters.
+    /// Appends hook calls that report the parameters.
     fn push_params(&self, code: &mut Vec<Instr>, params: &[ValType]) -> Result<(), NoMemory>
         requires { length params.now < list_limit }
         ensures { OnOk result (code.new.items ≡ code.old.items ++ tells_params self.now 0 params.now) }
@@ -75,7 +75,7 @@ impl<'a> BodySite<'a> {
         Ok(())
     }
 
-    /// The instructions of a body, each with what is inserted round it.
+    /// Appends the instructions of a body, each with the instructions inserted around it.
     fn push_rounds(
         &self,
         code: &mut Vec<Instr>,
@@ -93,7 +93,7 @@ impl<'a> BodySite<'a> {
         Ok(())
     }
 
-    /// An instruction with what is inserted round it.
+    /// Appends an instruction with the instructions inserted around it.
     fn push_round(
         &self,
         code: &mut Vec<Instr>,
@@ -127,7 +127,7 @@ impl<'a> BodySite<'a> {
         }
     }
 
-    /// What stands at the end of a body: that the function is left.
+    /// Appends what comes at the end of a body: a hook call that reports the exit.
     fn push_end(&self, code: &mut Vec<Instr>, weights: &mut Vec<u8>) -> Result<(), NoMemory>
         ensures code { OnOk result (code.new.items ≡ code.old.items ++ (inserted_at_end self.now ++ End ∷ [])) }
         ensures weights { OnOk result (weights.new.items ≡ weights.old.items ++ weightless (inserted_at_end self.now)) }
@@ -145,7 +145,7 @@ fn is_numbered(instr: &Instr) -> bool
     !matches!(instr, Instr::Else | Instr::End)
 }
 
-/// The weights of an instruction with `before` and `after` others inserted round it.
+/// Appends the weights of an instruction with `before` and `after` others inserted around it.
 fn push_weights(weights: &mut Vec<u8>, before: usize, after: usize) -> Result<(), NoMemory>
     ensures { (front back : List Instruction) → length front ≡ before → length back ≡ after → OnOk result
         (weights.new.items ≡ weights.old.items ++ (weightless front ++ 1 ∷ weightless back)) }
@@ -155,7 +155,7 @@ fn push_weights(weights: &mut Vec<u8>, before: usize, after: usize) -> Result<()
     push_zeros(weights, after)
 }
 
-/// The weights of `count` inserted instructions.
+/// Appends the weights of `count` inserted instructions.
 fn push_zeros(weights: &mut Vec<u8>, count: usize) -> Result<(), NoMemory>
     ensures { (is : List Instruction) → length is ≡ count
         → OnOk result (weights.new.items ≡ weights.old.items ++ weightless is) }

@@ -4,8 +4,8 @@ ghost use Rattle.std.specs.Prelude.{◌≡◌, ◌<◌, length, drop, filter};
 ghost use Rattle.wasm_syntax.specs.Alike.{same_signature, same_types};
 ghost use Rattle.wasm_syntax.specs.Index.{func_import, imported_funcs, of_kind};
 ghost use Rattle.wasm_flat.specs.Sizes.{list_limit};
-ghost use Rattle.hook_spec.specs.Hooks.{hook_params, hook_type, hooks};
-ghost use Rattle.hook_spec.specs.HookedForm.{are_hooks, brings, imports_hooks, is_from_hooks, is_func_kind, is_hook, own_imports};
+ghost use Rattle.record_replay_spec.specs.Hooks.{hook_params, hook_type, hooks};
+ghost use Rattle.record_replay_spec.specs.HookedForm.{are_hooks, brings, imports_hooks, is_from_hooks, is_func_kind, is_hook, own_imports};
 
 use crate::hook_imports::{HOOKS, hook_name};
 use hook_names::{HOOK_COUNT, Hook};
@@ -13,7 +13,7 @@ use module_index::same_type;
 use wasm_syntax::ValType::{I32, I64};
 use wasm_syntax::{FuncType, Import, ImportKind, Module, ValType};
 
-/// How many functions the original imports, where the last imports of functions are the hooks.
+/// The number of functions that the original imports, if the last imports of functions are the hooks.
 pub(crate) fn own_imports(module: &Module) -> u32
     requires { imported_funcs «module».now < list_limit }
     ensures { result ≡ own_imports «module».now }
@@ -21,7 +21,7 @@ pub(crate) fn own_imports(module: &Module) -> u32
     (func_imports(module.imports.as_slice()) as u32).saturating_sub(HOOK_COUNT)
 }
 
-/// How many imports are of functions.
+/// The number of imports of functions.
 #[tactic(auto, using(crate::proofs::FormImports::funcs_counted))]
 fn func_imports(imports: &[Import]) -> usize
     ensures { result ≡ length (of_kind func_import imports.now) }
@@ -46,7 +46,7 @@ pub(crate) fn imports_hooks(module: &Module, own: u32) -> bool
     are_hooks_after(module, imports, own) && from_hooks(imports) == HOOKS.len()
 }
 
-/// How many imports are from the hooks' module.
+/// The number of imports from the hooks' module.
 #[tactic(auto, using(crate::proofs::FormImports::hooks_counted))]
 fn from_hooks(imports: &[Import]) -> usize
     ensures { result ≡ length (filter is_from_hooks imports.now) }
@@ -57,7 +57,7 @@ fn from_hooks(imports: &[Import]) -> usize
         .count()
 }
 
-/// Whether imports of functions, but for the first `own`, are the hooks. Their types are those of the module.
+/// Whether the imports of functions after the first `own` are the hooks, with types of the module.
 fn are_hooks_after(module: &Module, imports: &[Import], own: u32) -> bool
     ensures { result ≡ are_hooks «module».now hooks
         (drop own (filter (λ import. is_func_kind import.kind) imports.now)) }
@@ -88,7 +88,7 @@ fn is_hook(module: &Module, kind: Hook, import: &Import) -> bool
         && brings(module, kind, import.kind)
 }
 
-/// Whether an import brings a function of a hook's type.
+/// Whether an import is of a function with a hook's type.
 fn brings(module: &Module, kind: Hook, import: ImportKind) -> bool
     ensures { result ≡ brings «module».now (hook_type kind) import }
 {
@@ -108,7 +108,7 @@ fn has_type(ty: &FuncType, kind: Hook) -> bool
     same_types(ty.params.as_slice(), hook_params(kind)) && same_types(ty.results.as_slice(), &[])
 }
 
-/// Whether types are the same, in order.
+/// Whether two lists of types are equal.
 fn same_types(types: &[ValType], others: &[ValType]) -> bool
     ensures { result ≡ same_types types.now others.now }
 {
@@ -123,7 +123,7 @@ fn same_types(types: &[ValType], others: &[ValType]) -> bool
     true
 }
 
-/// The types of what a hook is told.
+/// The types of a hook's parameters.
 fn hook_params(kind: Hook) -> &'static [ValType]
     ensures { result.now ≡ hook_params kind }
 {

@@ -1,10 +1,10 @@
-// The hooked form: whether a module says of itself that it is instrumented, and of what.
+// The hooked form: whether a module declares that it is instrumented, and the digest of its original.
 
 ghost use Rattle.std.specs.Prelude.{◌≡◌, ◌<◌, ◌≤◌, ◌++◌, [], ◌∷◌, length, drop, Some, None, IfOk, OnErr, MatchOption, option_map, bytes_eq};
 ghost use Rattle.leb_bytes.specs.Unsigned.{u32_bytes};
 ghost use Rattle.wasm_syntax.specs.Index.{imported_funcs};
 ghost use Rattle.wasm_flat.specs.Sizes.{IsShort, list_limit};
-ghost use Rattle.hook_spec.specs.HookedForm.{digest_length, form_of_sections, hooked_form, hooked_sections};
+ghost use Rattle.record_replay_spec.specs.HookedForm.{digest_length, form_of_sections, hooked_form, hooked_sections};
 ghost use Rattle.hook_insert.specs.Forms.{form_of, left_after, begins_with, only};
 
 use crate::form_imports::{imports_hooks, own_imports};
@@ -12,11 +12,11 @@ use thiserror::Error;
 use wasm_syntax::{Custom, Module};
 use wasm_validate::Checked;
 
-/// How many bytes a digest has.
+/// The length of a digest in bytes.
 const DIGEST_BYTES: usize = 32;
 
-/// What a module in the hooked form says: the digest of the original's bytes, and how many functions that imports and
-/// defines.
+/// What a module in the hooked form declares: the digest of the original's bytes, and the numbers of functions
+/// that the original imports and defines.
 #[derive(Clone, Copy, PartialEq, Eq, Debug)]
 pub struct HookedForm {
     pub digest: [u8; DIGEST_BYTES],
@@ -27,18 +27,19 @@ pub struct HookedForm {
 /// Why a module is refused as an instrumented one.
 #[derive(Clone, Copy, PartialEq, Eq, Debug, Error)]
 pub enum HookedFault {
-    /// Its hooks, or the section that marks it, are not there as they should be.
+    /// Its hooks, or the section that marks it, are missing or wrong.
     #[error("not hooked")]
     NotHooked,
 }
 
-/// What a module in the hooked form says of its original. Takes no memory, and time in the length of the module.
+/// What a module in the hooked form declares of its original. Takes no memory, and time in the length of the
+/// module.
 ///
 /// # Errors
 ///
-/// `NotHooked` exactly where the module does not have that form: where its last imports of functions are not the
-/// hooks, another import is from their module, or there is not just one section of the name, with the digest and the
-/// numbers of functions and nothing more.
+/// `NotHooked` if and only if the module does not have the form: its last imports of functions are not the
+/// hooks, another import is from their module, or there is not exactly one section of the name, with only the
+/// digest and the numbers of functions.
 pub fn hooked_form(checked: &Checked) -> Result<HookedForm, HookedFault>
     requires short { IsShort checked.now }
     ensures ok { IfOk result (λ form. hooked_form checked.now ≡ Some (form_of form)) }
@@ -51,7 +52,7 @@ pub fn hooked_form(checked: &Checked) -> Result<HookedForm, HookedFault>
     }
 }
 
-/// What a module says, where it has the hooked form.
+/// What a module declares, if it has the hooked form.
 fn form_in(module: &Module) -> Option<HookedForm>
     requires imports { imported_funcs «module».now < list_limit }
     requires defined { length «module».now.funcs < list_limit }
@@ -67,7 +68,7 @@ fn form_in(module: &Module) -> Option<HookedForm>
     }
 }
 
-/// The section of the name, where there is just one.
+/// The section of the name, if there is exactly one.
 fn only_section(module: &Module) -> Option<&Custom>
     ensures { MatchOption result
         (only (hooked_sections «module».now) ≡ None)
@@ -85,7 +86,7 @@ fn only_section(module: &Module) -> Option<&Custom>
     found
 }
 
-/// What a section says, where it is that of a module with so many imports and definitions.
+/// What a section declares, if it is that of a module with these numbers of imports and definitions.
 fn form_of_section(custom: &Custom, imports: u32, defined: u32) -> Option<HookedForm>
     ensures { option_map form_of result ≡ form_of_sections imports defined (custom.now ∷ []) }
 {
@@ -106,7 +107,7 @@ fn form_of_section(custom: &Custom, imports: u32, defined: u32) -> Option<Hooked
     }
 }
 
-/// Whether just these numbers stand after a digest.
+/// Whether exactly these numbers follow a digest.
 fn has_numbers(bytes: &[u8], imports: u32, defined: u32) -> bool
     requires { digest_length ≤ length bytes.now }
     ensures { result ≡ bytes_eq (drop digest_length bytes.now) (u32_bytes imports ++ u32_bytes defined) }
@@ -128,7 +129,7 @@ fn ends_with_u32(bytes: &[u8], at: usize, number: u32) -> bool
     }
 }
 
-/// The place after the shortest encoding of a number, where that stands at a place.
+/// The place after the shortest encoding of a number, if the encoding is at a place.
 fn after_u32(bytes: &[u8], at: usize, number: u32) -> Option<usize>
     requires { at ≤ length bytes.now }
     ensures { MatchOption result
@@ -152,7 +153,7 @@ fn after_u32(bytes: &[u8], at: usize, number: u32) -> Option<usize>
     }
 }
 
-/// Whether a byte stands at a place.
+/// Whether a byte is at a place.
 fn has_byte(bytes: &[u8], at: usize, byte: u8) -> bool
     requires { at ≤ length bytes.now }
     ensures { result ≡ begins_with byte (drop at bytes.now) }

@@ -1,12 +1,12 @@
-// The imports and types that an instrumented module gets.
+// The imports and types that are added to an instrumented module.
 
 ghost use Rattle.std.specs.Prelude.{◌≡◌, ◌+◌, ◌<◌, ◌++◌, ◌∷◌, [], length, map, IfOk, OnOk};
-ghost use Rattle.hook_spec.specs.Hooks.{hook_name, hook_type, hooks};
-ghost use Rattle.hook_spec.specs.Instrumented.{hook_import, hook_types, place_among};
+ghost use Rattle.record_replay_spec.specs.Hooks.{hook_name, hook_type, hooks};
+ghost use Rattle.record_replay_spec.specs.Instrumented.{hook_import, hook_types, place_among};
 ghost use Rattle.wasm_flat.specs.Sizes.{list_limit};
 
-use hook_spec::Hook;
-use no_memory::NoMemory;
+use base::NoMemory;
+use record_replay_spec::Hook;
 use std::alloc::Global;
 use wasm_syntax::ValType::{I32, I64};
 use wasm_syntax::{FuncType, FuncTypes, Import, ImportKind, Imports, List, Module, Name, ValType};
@@ -80,7 +80,7 @@ fn hook_import(alloc: Global, module: &Module, kind: Hook) -> Result<Import, NoM
     })
 }
 
-/// The place of a hook's type among those of all hooks.
+/// The index of a hook's type among the types of all hooks.
 fn type_place(kind: Hook) -> u32
     ensures place { result ≡ place_among hook_types (hook_type kind) }
     ensures within { result < 5 }

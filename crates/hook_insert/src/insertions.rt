@@ -1,21 +1,21 @@
-// What is inserted before and after an instruction.
+// The instructions inserted before and after an instruction.
 
 ghost use Rattle.std.specs.Prelude.{◌≡◌, ◌∷◌, [], ◌++◌, slice_get, cond, OnOk};
 ghost use Rattle.wasm_syntax.specs.Index.{all_globals, func_type as type_of_func, type_at};
 ghost use Rattle.wasm_syntax.specs.Opcodes.{load_of, store_of};
-ghost use Rattle.hook_spec.specs.declared.hooks.Hook.TheVariants.{Gget, Gset};
-ghost use Rattle.hook_spec.specs.Hooks.{on};
-ghost use Rattle.hook_spec.specs.Insertions.{after_call, calls, before_load, before_store, inserted_after, inserted_before, tells_global};
+ghost use Rattle.record_replay_spec.specs.declared.hooks.Hook.TheVariants.{Gget, Gset};
+ghost use Rattle.record_replay_spec.specs.Hooks.{on};
+ghost use Rattle.record_replay_spec.specs.Insertions.{after_call, calls, before_load, before_store, inserted_after, inserted_before, tells_global};
 ghost use Rattle.hook_insert.specs.declared.insertions.Over.TheVariants as over;
 ghost use Rattle.hook_insert.specs.Rounds.{over_piece};
 
 use crate::sites::BodySite;
-use hook_spec::Hook;
+use base::NoMemory;
 use module_index::opcodes::{load, store};
-use no_memory::NoMemory;
+use record_replay_spec::Hook;
 use wasm_syntax::{Instr, MemArg, ValType};
 
-/// A call that is over: of the function of an index, or one by the table.
+/// The call that ends: of the function of an index, or one by the table.
 #[derive(Clone, Copy)]
 pub(crate) enum Over {
     Direct(u32),
@@ -23,7 +23,7 @@ pub(crate) enum Over {
 }
 
 impl<'a> BodySite<'a> {
-    /// Before an instruction.
+    /// Appends what is inserted before an instruction.
     pub(crate) fn push_before(&self, code: &mut Vec<Instr>, instr: &Instr) -> Result<(), NoMemory>
         ensures { OnOk result (code.new.items ≡ code.old.items ++ inserted_before self.now instr.now) }
     {
@@ -41,7 +41,7 @@ impl<'a> BodySite<'a> {
         }
     }
 
-    /// A call of a hook that is told nothing.
+    /// Appends a call of a hook without parameters.
     fn push_call(&self, code: &mut Vec<Instr>, kind: Hook) -> Result<(), NoMemory>
         ensures { OnOk result (code.new.items ≡ code.old.items ++ calls self.now kind ∷ []) }
     {
@@ -49,7 +49,7 @@ impl<'a> BodySite<'a> {
         Ok(())
     }
 
-    /// Before a load, where its opcode is one.
+    /// Appends what is inserted before a load, if the opcode is one.
     fn push_before_load(&self, code: &mut Vec<Instr>, at: MemArg) -> Result<(), NoMemory>
         ensures { OnOk result (code.new.items ≡ code.old.items ++ on (load_of at.op) (before_load self.now at)) }
     {
@@ -59,7 +59,7 @@ impl<'a> BodySite<'a> {
         }
     }
 
-    /// Before a store, where its opcode is one.
+    /// Appends what is inserted before a store, if the opcode is one.
     fn push_before_store(&self, code: &mut Vec<Instr>, at: MemArg) -> Result<(), NoMemory>
         ensures { OnOk result (code.new.items ≡ code.old.items ++ on (store_of at.op) (before_store self.now at)) }
     {
@@ -69,7 +69,7 @@ impl<'a> BodySite<'a> {
         }
     }
 
-    /// Before a global is set, where it is there.
+    /// Appends what is inserted before a global is set, if the global exists.
     fn push_before_set(&self, code: &mut Vec<Instr>, global: u32) -> Result<(), NoMemory>
         ensures { OnOk result (code.new.items ≡ code.old.items
             ++ on (slice_get (all_globals self.now.m) global) (λ ty. tells_global self.now Gset global ty.ty)) }
@@ -80,7 +80,7 @@ impl<'a> BodySite<'a> {
         }
     }
 
-    /// After an instruction.
+    /// Appends what is inserted after an instruction.
     pub(crate) fn push_after(&self, code: &mut Vec<Instr>, instr: &Instr) -> Result<(), NoMemory>
         ensures { OnOk result (code.new.items ≡ code.old.items ++ inserted_after self.now instr.now) }
     {
@@ -93,7 +93,7 @@ impl<'a> BodySite<'a> {
         }
     }
 
-    /// After a call of the function of this index, where it is there.
+    /// Appends what is inserted after a call of the function of this index, if the function exists.
     fn push_after_direct(&self, code: &mut Vec<Instr>, func: u32) -> Result<(), NoMemory>
         ensures { OnOk result (code.new.items ≡ code.old.items
             ++ on (type_of_func self.now.m func)
@@ -105,7 +105,7 @@ impl<'a> BodySite<'a> {
         }
     }
 
-    /// After a call by the table of a function of this type, where the type is there.
+    /// Appends what is inserted after a call by the table of a function of this type, if the type exists.
     fn push_after_indirect(&self, code: &mut Vec<Instr>, ty: u32) -> Result<(), NoMemory>
         ensures { OnOk result (code.new.items ≡ code.old.items
             ++ on (type_at self.now.m ty)
@@ -117,7 +117,7 @@ impl<'a> BodySite<'a> {
         }
     }
 
-    /// After a read of a global, where it is there and mutable.
+    /// Appends what is inserted after a read of a global, if the global exists and is mutable.
     fn push_after_get(&self, code: &mut Vec<Instr>, global: u32) -> Result<(), NoMemory>
         ensures { OnOk result (code.new.items ≡ code.old.items
             ++ on (slice_get (all_globals self.now.m) global)
@@ -129,7 +129,7 @@ impl<'a> BodySite<'a> {
         }
     }
 
-    /// After a call with these results.
+    /// Appends what is inserted after a call with these results.
     fn push_after_call(
         &self,
         code: &mut Vec<Instr>,
@@ -145,7 +145,7 @@ impl<'a> BodySite<'a> {
         }
     }
 
-    /// After a call with a result: it is told and stays.
+    /// Appends what is inserted after a call with a result, which is passed to a hook and stays on the stack.
     fn push_result(&self, code: &mut Vec<Instr>, over: Over, ty: ValType) -> Result<(), NoMemory>
         ensures { OnOk result (code.new.items
             ≡ code.old.items ++ after_call self.now (over_piece self.now over) (ty ∷ [])) }
@@ -158,7 +158,7 @@ impl<'a> BodySite<'a> {
         Ok(())
     }
 
-    /// Tells that a call is over.
+    /// Appends a hook call that reports the end of a call.
     fn push_over(&self, code: &mut Vec<Instr>, over: Over) -> Result<(), NoMemory>
         ensures { OnOk result (code.new.items ≡ code.old.items ++ over_piece self.now over) }
     {

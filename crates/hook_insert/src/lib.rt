@@ -1,8 +1,9 @@
-//! Instrumented modules: the original with calls of hooks round its instructions, and the weights under which its
+//! Instrumented modules: the original with hook calls around its instructions, and the weights under which its
 //! run takes the original's turns.
 #![tactic(auto)]
 
 mod bodies;
+pub mod encoding_laws;
 mod form_imports;
 mod forms;
 mod functions;
@@ -14,6 +15,7 @@ mod pieces;
 mod renumbering;
 mod sites;
 
+pub use base::NoMemory;
+pub use encoding_laws::{files_are_of_words, instrumented_are_encodable, instrumented_meters_fit};
 pub use forms::{HookedFault, HookedForm, hooked_form};
 pub use modules::{Hooked, instrument};
-pub use no_memory::NoMemory;

@@ -3,11 +3,11 @@
 ghost use Rattle.std.specs.Prelude.{◌≡◌, ◌+◌, ◌^◌, ◌<◌, ◌++◌, ◌∷◌, [], All, IfOk, OnOk};
 ghost use Rattle.wasm_syntax.specs.declared.modules.Run.{Run as Several};
 ghost use Rattle.wasm_syntax.specs.declared.values.ValType.TheVariants.{I32};
-ghost use Rattle.hook_spec.specs.Instrumented.{locals_of, other_locals, with_added_locals};
+ghost use Rattle.record_replay_spec.specs.Instrumented.{locals_of, other_locals, with_added_locals};
 ghost use Rattle.hook_insert.specs.AddedLocals.{last_with_numbers, with_numbers};
 
+use base::NoMemory;
 use module_index::same_type;
-use no_memory::NoMemory;
 use std::alloc::Global;
 use wasm_syntax::{List, Run, Runs, ValType};
 
@@ -23,7 +23,7 @@ pub(crate) fn with_added_locals(alloc: Global, own: &[Run]) -> Result<Runs, NoMe
     Ok(List::from_vec(runs))
 }
 
-/// The function's runs and two locals of i32.
+/// Appends the function's runs and two i32 locals.
 fn push_own(runs: &mut Vec<Run>, own: &[Run]) -> Result<(), NoMemory>
     requires { All (λ (run : Several). run.count + 2 < 2 ^ 32) own.now }
     ensures { OnOk result (runs.new.items ≡ runs.old.items ++ with_numbers own.now) }
@@ -37,7 +37,7 @@ fn push_own(runs: &mut Vec<Run>, own: &[Run]) -> Result<(), NoMemory>
     }
 }
 
-/// The last run and two locals of i32: one run, where that is of i32 too.
+/// Appends the last run and two i32 locals: one run if the last run is of i32 too.
 fn push_last(runs: &mut Vec<Run>, last: Run) -> Result<(), NoMemory>
     requires { last.count + 2 < 2 ^ 32 }
     ensures { OnOk result (runs.new.items ≡ runs.old.items ++ last_with_numbers last) }
@@ -50,7 +50,7 @@ fn push_last(runs: &mut Vec<Run>, last: Run) -> Result<(), NoMemory>
     push_numbers(runs)
 }
 
-/// Two locals of i32.
+/// Appends two i32 locals.
 fn push_numbers(runs: &mut Vec<Run>) -> Result<(), NoMemory>
     ensures { OnOk result (runs.new.items ≡ runs.old.items ++ locals_of 2 I32 ∷ []) }
 {
@@ -58,7 +58,7 @@ fn push_numbers(runs: &mut Vec<Run>) -> Result<(), NoMemory>
     Ok(())
 }
 
-/// One local of each other type.
+/// Appends one local of each other type.
 fn push_others(runs: &mut Vec<Run>) -> Result<(), NoMemory>
     ensures { OnOk result (runs.new.items ≡ runs.old.items ++ other_locals) }
 {
@@ -68,7 +68,7 @@ fn push_others(runs: &mut Vec<Run>) -> Result<(), NoMemory>
     Ok(())
 }
 
-/// Neighbouring locals of one type.
+/// A run of locals of one type.
 fn locals_of(count: u32, ty: ValType) -> Run
     ensures { result ≡ locals_of count ty }
 {

@@ -5,19 +5,19 @@ ghost use Rattle.wasm_syntax.specs.Encoding.Forms.{IsCoreModule};
 ghost use Rattle.wasm_syntax.specs.Index.{imported_funcs};
 ghost use Rattle.wasm_syntax.specs.Validity.{IsValid};
 ghost use Rattle.wasm_flat.specs.Sizes.{IsShort, list_limit};
-ghost use Rattle.hook_spec.specs.Hooks.{hooks, renumber};
-ghost use Rattle.hook_spec.specs.Instrumented.{hook_import, hook_types, hooked_section, instrumented_module, instrumented_weights, renumbered_elem, renumbered_export, section_bytes, section_name};
-ghost use Rattle.instrumented_valid.specs.Laws.{HasWords};
+ghost use Rattle.record_replay_spec.specs.Hooks.{hooks, renumber};
+ghost use Rattle.record_replay_spec.specs.Instrumented.{hook_import, hook_types, hooked_section, instrumented_module, instrumented_weights, renumbered_elem, renumbered_export, section_bytes, section_name};
+ghost use Rattle.instrumented_module_laws.specs.Laws.{HasWords};
 ghost use Rattle.hook_insert.specs.Modules.{HasLowNumbers, module_of_parts};
 
 use crate::functions::{Functions, instrumented_funcs};
 use crate::hook_imports::{hooked_imports, hooked_types, name};
 use crate::renumbering::{renumbered_elems, renumbered_exports};
+use base::NoMemory;
 use hook_names::renumber;
-use instrumented_valid::instrumented_are_valid;
+use instrumented_module_laws::instrumented_are_valid;
 use leb_bytes::push_u32;
 use module_index::scope::Scope;
-use no_memory::NoMemory;
 use std::alloc::Global;
 use wasm_flat::Meter;
 use wasm_syntax::{
@@ -33,7 +33,7 @@ pub struct Hooked {
     pub meter: Meter,
 }
 
-/// What an instrumented module has besides its functions that the original does not have.
+/// The parts that an instrumented module gets in addition to its functions.
 #[derive(Drop)]
 pub(crate) struct Hooking {
     types: FuncTypes,
@@ -43,7 +43,7 @@ pub(crate) struct Hooking {
     customs: Customs,
 }
 
-/// What an instrumented module keeps of the original.
+/// The parts that an instrumented module keeps from the original.
 #[derive(Drop)]
 pub(crate) struct Kept {
     tables: LimitsList,
@@ -53,12 +53,12 @@ pub(crate) struct Kept {
     start: Option<u32>,
 }
 
-/// The instrumented module of a module of the form Core with this digest, and its meter. Takes time in the length of
-/// the module alone.
+/// The instrumented module of a module of the form Core with this digest, and its meter. Takes time in the
+/// length of the module alone.
 ///
 /// # Errors
 ///
-/// Where an allocation fails.
+/// `NoMemory` if an allocation failed.
 pub fn instrument(alloc: Global, checked: &Checked, digest: &[u8; 32]) -> Result<Hooked, NoMemory>
     requires short { IsShort checked.now }
     requires core { IsCoreModule checked.now }
@@ -66,7 +66,7 @@ pub fn instrument(alloc: Global, checked: &Checked, digest: &[u8; 32]) -> Result
     ensures module { IfOk result (λ hooked. hooked.«module» ≡ instrumented_module checked.now digest.now) }
     ensures meter { IfOk result (λ hooked. hooked.meter ≡ Some (instrumented_weights checked.now)) }
 {
-    // What is made is valid, so that it needs no test.
+    // An instrumented module is always valid and needs no validation.
     instrumented_are_valid();
     let original = checked.module();
     let (module, weights) = instrumented_parts(alloc, original, digest)?;
@@ -112,7 +112,7 @@ fn with_functions(
     Ok(joined_parts(functions, hooking, kept))
 }
 
-/// The instrumented module of its parts, and the weights of its functions.
+/// The instrumented module with these parts, and the weights of its functions.
 fn joined_parts(functions: Functions, hooking: Hooking, kept: Kept) -> (Module, Vec<Bytes>)
     ensures module { result.0 ≡ module_of_parts functions.funcs.items hooking kept }
     ensures weights { result.1.items ≡ functions.weights.items }
@@ -148,7 +148,7 @@ fn joined_parts(functions: Functions, hooking: Hooking, kept: Kept) -> (Module, 
     (module, weights)
 }
 
-/// What the instrumented module of a module gets.
+/// The parts that an instrumented module gets in addition.
 fn hooking_of(
     alloc: Global,
     module: &Module,
@@ -178,7 +178,7 @@ fn hooking_of(
     })
 }
 
-/// What it keeps.
+/// The parts that an instrumented module keeps from the original.
 fn kept_of(module: &Module, imports: u32) -> Result<Kept, NoMemory>
     requires low { HasLowNumbers «module».now }
     ensures tables { IfOk result (λ kept. kept.tables ≡ «module».now.tables) }
@@ -211,8 +211,8 @@ fn renumbered_start(imports: u32, start: Option<u32>) -> Option<u32>
     }
 }
 
-/// The section that marks an instrumented module: the digest of the original's bytes, and how many functions that
-/// imports and defines.
+/// The section that marks an instrumented module: the digest of the original's bytes, and the numbers of
+/// functions that the original imports and defines.
 fn hooked_sections(
     alloc: Global,
     digest: &[u8; 32],

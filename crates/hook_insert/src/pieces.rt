@@ -1,19 +1,20 @@
-// Pieces of code that are inserted. Each function appends its piece; where memory is out, the code holds a part of it.
+// The pieces of code that are inserted. Each function appends its piece; if memory is out, the code has only a
+// part of it.
 
 ghost use Rattle.std.specs.Prelude.{◌≡◌, ◌∷◌, [], ◌++◌, Bool, OnOk};
 ghost use Rattle.wasm_syntax.specs.Alike.{type_byte};
 ghost use Rattle.wasm_syntax.specs.Opcodes as accesses;
-ghost use Rattle.hook_spec.specs.Insertions.{before_load, before_store, bits_of_local, number, range_operands, tells_global, tells_index, tells_local, tells_number, tells_range, widened};
+ghost use Rattle.record_replay_spec.specs.Insertions.{before_load, before_store, bits_of_local, number, range_operands, tells_global, tells_index, tells_local, tells_number, tells_range, widened};
 
 use crate::sites::BodySite;
-use hook_spec::Hook;
+use base::NoMemory;
+use base::marks::{TYPE_F32, TYPE_F64, TYPE_FUNCREF, TYPE_I32, TYPE_I64};
+use base::opcodes::{I32_REINTERPRET_F32, I32_WRAP_I64, I64_EXTEND_I32_U, I64_REINTERPRET_F64};
 use module_index::opcodes::Transfer;
-use no_memory::NoMemory;
-use wasm_opcodes::marks::{TYPE_F32, TYPE_F64, TYPE_FUNCREF, TYPE_I32, TYPE_I64};
-use wasm_opcodes::{I32_REINTERPRET_F32, I32_WRAP_I64, I64_EXTEND_I32_U, I64_REINTERPRET_F64};
+use record_replay_spec::Hook;
 use wasm_syntax::{Instr, MemArg, Val, ValType};
 
-/// An i32.
+/// An instruction that pushes an i32.
 pub(crate) fn number(bits: u32) -> Instr
     ensures { result ≡ number bits }
 {
@@ -23,7 +24,7 @@ pub(crate) fn number(bits: u32) -> Instr
     })
 }
 
-/// Appends instructions that make a value on the stack its bits, as an i64.
+/// Appends instructions that turn a value on the stack into its bits, as an i64.
 fn push_widened(code: &mut Vec<Instr>, ty: ValType) -> Result<(), NoMemory>
     ensures { OnOk result (code.new.items ≡ code.old.items ++ widened ty) }
 {
@@ -48,7 +49,7 @@ fn push_bits(code: &mut Vec<Instr>, ty: ValType, local: u32) -> Result<(), NoMem
 }
 
 impl<'a> BodySite<'a> {
-    /// Tells a local as a value.
+    /// Appends a hook call that passes the value of a local.
     pub(crate) fn push_local(
         &self,
         code: &mut Vec<Instr>,
@@ -63,7 +64,7 @@ impl<'a> BodySite<'a> {
         Ok(())
     }
 
-    /// Tells a hook one number.
+    /// Appends a hook call that passes one number.
     pub(crate) fn push_number(
         &self,
         code: &mut Vec<Instr>,
@@ -77,7 +78,7 @@ impl<'a> BodySite<'a> {
         Ok(())
     }
 
-    /// Before a load: its base, offset and width.
+    /// Appends what is inserted before a load: a hook call with its base, offset and width.
     pub(crate) fn push_load(
         &self,
         code: &mut Vec<Instr>,
@@ -97,7 +98,7 @@ impl<'a> BodySite<'a> {
         Ok(())
     }
 
-    /// Before a store: its base, offset, width and bits.
+    /// Appends what is inserted before a store: a hook call with its base, offset, width and bits.
     pub(crate) fn push_store(
         &self,
         code: &mut Vec<Instr>,
@@ -121,7 +122,7 @@ impl<'a> BodySite<'a> {
         Ok(())
     }
 
-    /// Round a global's value that is on the stack.
+    /// Appends a hook call that passes a global's value, which is on the stack before and after.
     pub(crate) fn push_global(
         &self,
         code: &mut Vec<Instr>,
@@ -140,7 +141,7 @@ impl<'a> BodySite<'a> {
         Ok(())
     }
 
-    /// The operands of a copy or a fill, out of the locals that hold them.
+    /// Appends the operands of a copy or a fill, from the locals that hold them.
     fn push_operands(&self, code: &mut Vec<Instr>) -> Result<(), NoMemory>
         ensures { OnOk result (code.new.items ≡ code.old.items ++ range_operands self.now) }
     {
@@ -151,7 +152,8 @@ impl<'a> BodySite<'a> {
         Ok(())
     }
 
-    /// Round the operands of a copy or a fill.
+    /// Appends a hook call that passes the operands of a copy or a fill, which are on the stack before and
+    /// after.
     pub(crate) fn push_range(&self, code: &mut Vec<Instr>, kind: Hook) -> Result<(), NoMemory>
         ensures { OnOk result (code.new.items ≡ code.old.items ++ tells_range self.now kind) }
     {
@@ -164,7 +166,8 @@ impl<'a> BodySite<'a> {
         self.push_operands(code)
     }
 
-    /// Round an index, or the result of a growth, that is on the stack.
+    /// Appends a hook call that passes an index or the result of a growth, which is on the stack before and
+    /// after.
     pub(crate) fn push_index(&self, code: &mut Vec<Instr>, kind: Hook) -> Result<(), NoMemory>
         ensures { OnOk result (code.new.items ≡ code.old.items ++ tells_index self.now kind) }
     {

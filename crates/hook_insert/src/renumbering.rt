@@ -2,12 +2,12 @@
 
 ghost use Rattle.std.specs.Prelude.{◌≡◌, map, All, IfOk};
 ghost use Rattle.wasm_syntax.specs.declared.modules.Export.{Export as Exported};
-ghost use Rattle.hook_spec.specs.Hooks.{renumber};
-ghost use Rattle.hook_spec.specs.Instrumented.{renumbered_elem, renumbered_export, renumbered_kind};
+ghost use Rattle.record_replay_spec.specs.Hooks.{renumber};
+ghost use Rattle.record_replay_spec.specs.Instrumented.{renumbered_elem, renumbered_export, renumbered_kind};
 ghost use Rattle.hook_insert.specs.Sites.{AreLow, IsLowElem, IsLowKind};
 
+use base::NoMemory;
 use hook_names::renumber;
-use no_memory::NoMemory;
 use std::alloc::Global;
 use wasm_syntax::{ElemSeg, ElemSegs, Export, ExportKind, Exports, Indices, List};
 

@@ -3,16 +3,16 @@
 ghost use Rattle.std.specs.Prelude.{◌≡◌, ◌<◌};
 ghost use Rattle.wasm_syntax.specs.Index.{imported_funcs};
 ghost use Rattle.wasm_flat.specs.Sizes.{list_limit};
-ghost use Rattle.hook_spec.specs.Hooks.{hook_count, hook_place, renumber};
-ghost use Rattle.hook_spec.specs.Insertions.{Site, address_local as address_of, calls, imports_at, value_local as value_of};
+ghost use Rattle.record_replay_spec.specs.Hooks.{hook_count, hook_place, renumber};
+ghost use Rattle.record_replay_spec.specs.Insertions.{Site, address_local as address_of, calls, imports_at, value_local as value_of};
 
 use hook_names::{Hook, renumber};
 use module_index::scope::Scope;
 use std::marker::Model;
 use wasm_syntax::{Instr, ValType};
 
-/// A function whose body is instrumented: what is looked up in its module, how many functions that imports, its index,
-/// and how many parameters and locals it has.
+/// A function whose body is instrumented: what is looked up in its module, the number of functions that the
+/// module imports, the function's index, and the number of its parameters and locals.
 
 #[derive(Drop)]
 pub(crate) struct BodySite<'a> {
@@ -23,7 +23,7 @@ pub(crate) struct BodySite<'a> {
 }
 
 impl<'a> Model for BodySite<'a> {
-    ghost use Rattle.hook_spec.specs.Insertions.{Site};
+    ghost use Rattle.record_replay_spec.specs.Insertions.{Site};
     ghost use Rattle.hook_insert.specs.Sites.{IsSite};
 
     ghost Value = { Site };
@@ -34,7 +34,7 @@ impl<'a> Model for BodySite<'a> {
 }
 
 impl<'a> BodySite<'a> {
-    /// The function of this index, with as many parameters and locals. Takes no memory.
+    /// The function of this index, with this number of parameters and locals. Takes no memory.
     pub(crate) fn new(scope: &'a Scope<'a>, imports: u32, func: u32, locals: u32) -> BodySite<'a>
         requires imports { imports ≡ imported_funcs scope.now }
         requires few_imports { imports < list_limit }
@@ -70,7 +70,7 @@ impl<'a> BodySite<'a> {
         Instr::Call(self.imports + place_of(kind))
     }
 
-    /// A function of the original in the instrumented module.
+    /// The index in the instrumented module of a function of the original.
     pub(crate) fn renumbered(&self, func: u32) -> u32
         requires { func < list_limit }
         ensures { result ≡ renumber (imports_at self.now) func }
@@ -99,7 +99,7 @@ impl<'a> BodySite<'a> {
     }
 }
 
-/// The place of a hook among the imports of hooks.
+/// The index of a hook among the imports of hooks.
 pub(crate) fn place_of(kind: Hook) -> u32
     ensures place { result ≡ hook_place kind }
     ensures within { result < hook_count }

@@ -1,11 +1,11 @@
-// What takes the calls of hooks.
+// The receiver of hook calls.
 
 use crate::view::View;
-use hook_spec::Hook;
+use record_replay_spec::Hook;
 use thiserror::Error;
 use wasm_syntax::Val;
 
-/// Why a call of a hook is refused.
+/// Why a hook call is refused.
 #[derive(Clone, Copy, PartialEq, Eq, Debug, Error)]
 pub enum HookFault {
     /// The call, by its number from 0, is out of order.
@@ -15,21 +15,21 @@ pub enum HookFault {
     Memory,
 }
 
-/// What takes the calls of hooks, one after another. What a call does to it, and what it answers, is a relation.
+/// Takes hook calls, one after another. The effect and the answer of a call are a relation.
 pub trait Hooks {
     ghost use Rattle.std.specs.Prelude.{Result, ⊤};
-    ghost use Rattle.hook_spec.specs.Hooks.{HookCall};
+    ghost use Rattle.record_replay_spec.specs.Hooks.{HookCall};
     ghost use Rattle.hook_names.specs.declared.hooks.HookFault.{HookFault as Fault};
 
-    // from these hooks a call with this answer leads to those
+    // a call with this answer leads from the first hooks to the second
     ghost is_step: { Self → HookCall → Result ⊤ Fault → Self → Type 0 };
 
-    /// A hook is called with these arguments, where the store is as the view shows it. Each call is a step.
+    /// Calls a hook with these arguments, with the store as the view shows it. Each call is a step.
     ///
     /// # Errors
     ///
-    /// Where the implementing type's step says so: `Order` where the call is out of order, with its number, and
-    /// `Memory` where an allocation failed.
+    /// As the step of the implementing type defines: `Order` with the number of the call if it is out of order,
+    /// and `Memory` if an allocation failed.
     fn hook(&mut self, kind: Hook, args: &[Val], view: &View) -> Result<(), HookFault>
         ensures { is_step self.old (record { kind = kind; args = args.now; view = view.now }) result self.new };
 }

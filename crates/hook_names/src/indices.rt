@@ -1,12 +1,12 @@
-// Indices of functions in an instrumented module, where the hooks stand between imported and defined functions.
+// Indices of functions in an instrumented module, in which the hooks are between imported and defined functions.
 
 ghost use Rattle.std.specs.Prelude.{◌≡◌, ◌+◌, ◌^◌, ◌<◌};
-ghost use Rattle.hook_spec.specs.Hooks.{hook_count, original, renumber};
+ghost use Rattle.record_replay_spec.specs.Hooks.{hook_count, original, renumber};
 
-/// How many hooks there are.
+/// The number of hooks.
 pub const HOOK_COUNT: u32 = 15;
 
-/// A function of the original, which imports `imports` functions, in the instrumented module.
+/// The index in the instrumented module of a function of the original, which imports `imports` functions.
 pub fn renumber(imports: u32, func: u32) -> u32
     requires { func + hook_count < 2 ^ 32 }
     ensures { result ≡ renumber imports func }
@@ -18,7 +18,8 @@ pub fn renumber(imports: u32, func: u32) -> u32
     }
 }
 
-/// A function of the instrumented module in the original, which imports `imports` functions. None exactly for a hook.
+/// The index in the original, which imports `imports` functions, of a function of the instrumented module.
+/// `None` if and only if the function is a hook.
 pub fn original(imports: u32, func: u32) -> Option<u32>
     ensures { result ≡ original imports func }
 {

@@ -1,4 +1,4 @@
-// What a call of a hook sees.
+// What a hook call sees of the store.
 
 ghost use Rattle.std.specs.Prelude.{◌≡◌, ◌*◌, ◌≤◌, is_some, length, slice_get};
 ghost use Rattle.wasm_syntax.specs.declared.limits.TheConstants.{MOST_PAGES, PAGE_SIZE};
@@ -7,7 +7,7 @@ ghost use Rattle.wasm_store.specs.Calls.{bytes_in, entries_in, entry_at, pages_i
 use std::marker::Model;
 use wasm_store::Store;
 
-/// What a call of a hook sees: the memory and the table of a store as it is then. Contracts see the store.
+/// What a hook call sees: the memory and the table of a store at the time of the call. Contracts see the store.
 #[derive(Drop)]
 pub struct View<'a> {
     store: &'a Store,
@@ -29,7 +29,7 @@ impl<'a> View<'a> {
         View { store }
     }
 
-    /// The size of the memory in pages of 65,536 bytes, 0 where there is no memory.
+    /// The size of the memory in pages of 65,536 bytes, 0 if there is no memory.
     #[inline]
     pub fn pages(&self) -> u32
         ensures { result ≡ pages_in self.now }
@@ -45,7 +45,7 @@ impl<'a> View<'a> {
         self.store.has_memory()
     }
 
-    /// The bytes of the memory, none where there is no memory.
+    /// The bytes of the memory, empty if there is no memory.
     #[inline]
     pub fn bytes(&self) -> &[u8]
         ensures bytes { result.now ≡ bytes_in self.now }
@@ -55,7 +55,7 @@ impl<'a> View<'a> {
         self.store.bytes()
     }
 
-    /// How many entries the table has, 0 where there is no table.
+    /// The number of entries of the table, 0 if there is no table.
     #[inline]
     pub fn table_size(&self) -> u32
         ensures { result ≡ length (entries_in self.now) }
@@ -63,8 +63,8 @@ impl<'a> View<'a> {
         self.store.table_size()
     }
 
-    /// The function in an entry of the table, or none where the entry is empty. None exactly where the index is not
-    /// below the table's size, which is 0 where there is no table.
+    /// The function in an entry of the table, or `Some(None)` if the entry is empty. `None` if and only if the
+    /// index is not below the table's size, which is 0 without a table.
     #[inline]
     pub fn entry(&self, index: u32) -> Option<Option<u32>>
         ensures { result ≡ entry_at self.now index }
@@ -75,8 +75,8 @@ impl<'a> View<'a> {
         }
     }
 
-    /// A byte of the memory. None exactly where the address is not below the memory's length, which is 0 where there is
-    /// no memory.
+    /// A byte of the memory. `None` if and only if the address is not below the memory's length, which is 0
+    /// without a memory.
     #[inline]
     pub fn byte(&self, addr: u64) -> Option<u8>
         ensures { result ≡ slice_get (bytes_in self.now) addr }

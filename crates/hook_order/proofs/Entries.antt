@@ -1,10 +1,10 @@
--- Entries of a table that are there, and those past its end.
+-- Entries of a table that exist, and indices past its end.
 use Rattle.std.proofs.Common.{◌≡◌, ℕ, ◌≤◌, length, Option, Some, None, slice_get, refl, sym, ap, ◌∙◌}
 use Rattle.std.specs.Option.{option_flatten}
 use Rattle.std.proofs.lemmas.Option.{slice_get_past}
 use Rattle.history_spec.specs.Store.{Store, Table}
 use Rattle.wasm_store.specs.Calls.{entries_of_table, entries_in, entry_at}
-use Rattle.replay_spec.specs.Known.{entry_of}
+use Rattle.record_replay_spec.specs.Known.{entry_of}
 
 entry_is : (table : Option Table) (at : ℕ) → option_flatten (slice_get (entries_of_table table) at) ≡ entry_of table at
 entry_is None at = refl

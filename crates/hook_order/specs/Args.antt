@@ -6,7 +6,7 @@ use Rattle.wasm_syntax.specs.Alike.{same_types}
 use Rattle.history_spec.specs.Code.{types_of}
 use Rattle.history_spec.specs.Instruction.{bits_at}
 
--- the arguments from a place on have these bits
+-- the arguments from an index on have these bits
 abbrev pub HaveBits : (args : List Val) (at : ℕ) (bits : List ℕ) → Type 0
 HaveBits args at [] = Unit {0}
 HaveBits args at (b ∷ bits) = (bits_at args at ≡ b) × HaveBits args (suc at) bits

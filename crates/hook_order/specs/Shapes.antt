@@ -1,14 +1,14 @@
--- What the order of hook calls needs of a module in the hooked form, as a shape keeps it.
+-- What the order of hook calls needs of a module in the hooked form, in the parts that a shape holds.
 use Rattle.std.specs.Prelude.{ℕ, ◌+◌, ◌<◌, ◌^◌, List, length, Bool, slice_get, option_and_then}
 use Rattle.wasm_syntax.specs.declared.signatures.FuncType.{FuncType}
 use Rattle.wasm_syntax.specs.declared.signatures.GlobalType.{GlobalType}
 use Rattle.wasm_syntax.specs.declared.modules.Module.{Module}
 use Rattle.wasm_syntax.specs.Index.{func_indices, all_memories, all_globals}
-use Rattle.hook_spec.specs.Hooks.{hook_count, renumber}
-use Rattle.hook_spec.specs.Order.{HookedShape, is_some_there}
+use Rattle.record_replay_spec.specs.Hooks.{hook_count, renumber}
+use Rattle.record_replay_spec.specs.Order.{HookedShape, is_some_there}
 
--- how many functions the original imports and defines; the module's types, and the type index of each of its functions;
--- whether it has a memory; the types of its globals
+-- the numbers of functions that the original imports and defines; the module's types, and the type index of each
+-- of its functions; whether it has a memory; the types of its globals
 pub record ShapeParts : Type 0 where
   pub imports : ℕ
   pub defined : ℕ
@@ -29,7 +29,7 @@ parts_of n hooked =
       globals = all_globals hooked;
     }
 
--- the shape of these parts
+-- the shape that has these parts
 abbrev pub shape_from : ShapeParts → HookedShape
 shape_from parts =
     record {
@@ -40,7 +40,7 @@ shape_from parts =
       globals = parts.globals;
     }
 
--- functions, with the hooks among them, and globals are so few that each has an index
+-- every function, with the hooks among them, and every global has an index of 32 bits
 pub record HaveIndices (imports defined : ℕ) (globals : List GlobalType) : Type 0 where
   pub func : imports + defined + hook_count < 2 ^ 32
   pub global : length globals < 2 ^ 32

@@ -1,8 +1,8 @@
-// What hooks are told, read off their arguments.
+// What the arguments of hook calls report.
 
 use wasm_syntax::Val;
 
-/// Where the bytes of a load or a store stand, by a base and an offset, and how many these are.
+/// The address of a load or a store, as a base and an offset, and the number of its bytes.
 #[derive(Clone, Copy)]
 pub struct Access {
     pub base: u64,
@@ -10,8 +10,8 @@ pub struct Access {
     pub width: u64,
 }
 
-/// The index of an entry, which may not be there, and the function of the original that it holds, none where it holds
-/// none.
+/// The index of a table entry, which may not exist, and the function of the original in it, `None` if the entry
+/// is empty or does not exist.
 #[derive(Clone, Copy)]
 pub struct EntryCall {
     pub index: u64,

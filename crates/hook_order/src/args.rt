@@ -9,7 +9,7 @@ ghost use Rattle.hook_order.specs.Args.{AreArgs};
 use module_index::same_type;
 use wasm_syntax::{Val, ValType};
 
-/// Whether a value is of 32 bits, or of 64.
+/// Whether a value has this type.
 #[inline(always)]
 fn is(value: &Val, ty: ValType) -> bool
     ensures { result ≡ same_types (ty ∷ []) (types_of (value.now ∷ [])) }
@@ -17,7 +17,7 @@ fn is(value: &Val, ty: ValType) -> bool
     same_type(ty, value.ty)
 }
 
-/// No arguments.
+/// Whether there are no arguments.
 #[inline(always)]
 pub(crate) fn none(args: &[Val]) -> bool
     ensures { result ≡ same_types [] (types_of args.now) }
@@ -37,7 +37,7 @@ pub(crate) fn one(args: &[Val]) -> Option<u64>
     }
 }
 
-/// The bits of two arguments, of which the last has 64.
+/// The bits of two arguments; the second has 64 bits.
 #[inline(always)]
 pub(crate) fn two(args: &[Val]) -> Option<(u64, u64)>
     ensures { MatchOption result (same_types (I32 ∷ I64 ∷ []) (types_of args.now) ≡ false)
@@ -63,7 +63,7 @@ pub(crate) fn three(args: &[Val]) -> Option<(u64, u64, u64)>
     }
 }
 
-/// The bits of four arguments, of which the last has 64.
+/// The bits of four arguments; the last has 64 bits.
 #[inline(always)]
 pub(crate) fn four(args: &[Val]) -> Option<(u64, u64, u64, u64)>
     ensures { MatchOption result (same_types (I32 ∷ I32 ∷ I32 ∷ I64 ∷ []) (types_of args.now) ≡ false)

@@ -2,9 +2,9 @@
 
 ghost use Rattle.std.specs.Prelude.{◌≡◌, ◌&&◌, true, false, Some, None, IsTrue, MatchOption};
 ghost use Rattle.history_spec.specs.Instruction.{bits_at};
-ghost use Rattle.hook_spec.specs.declared.hooks.Hook.TheVariants.{Arg, Enter, Leave, Pre, Post, Ipre, Ipost};
-ghost use Rattle.replay_spec.specs.Known.{entry_of};
-ghost use Rattle.hook_spec.specs.Order.{may_be_over, may_enter, pending_are};
+ghost use Rattle.record_replay_spec.specs.declared.hooks.Hook.TheVariants.{Arg, Enter, Leave, Pre, Post, Ipre, Ipost};
+ghost use Rattle.record_replay_spec.specs.Known.{entry_of};
+ghost use Rattle.record_replay_spec.specs.Order.{may_be_over, may_enter, pending_are};
 ghost use Rattle.hook_order.specs.Orders.{callee_of, IsEntryCall, LeadsTo, parts_called, parts_closed, parts_entered, parts_pending, state_of, step_from};
 ghost use Rattle.hook_order.specs.Shapes.{shape_from};
 
@@ -18,7 +18,7 @@ use hook_names::{View, original};
 use wasm_syntax::Val;
 
 impl Order {
-    /// The value that `Arg` tells.
+    /// The value that `Arg` passes.
     #[inline]
     pub fn value(&self, args: &[Val]) -> Option<Val>
         ensures { MatchOption result (LeadsTo self.now Arg args.now None)
@@ -42,7 +42,7 @@ impl Order {
         }
     }
 
-    /// A function may be entered with the pending values.
+    /// Whether a function may be entered with the pending values.
     fn enters(&self, func: u32) -> bool
         ensures { result ≡ (pending_are (state_of 0 self.now) (λ ty. ty.params)
             ((shape_from self.now.shape).type_of func) && may_enter (shape_from self.now.shape) func self.now.frames) }
@@ -50,7 +50,7 @@ impl Order {
         self.takes(func) && self.may_enter(func)
     }
 
-    /// The pending values are those that a function takes.
+    /// Whether the pending values fit the parameters of a function.
     fn takes(&self, func: u32) -> bool
         ensures { result ≡ pending_are (state_of 0 self.now) (λ ty. ty.params)
             ((shape_from self.now.shape).type_of func) }
@@ -61,7 +61,7 @@ impl Order {
         }
     }
 
-    /// Those that it gives.
+    /// Whether the pending values fit the results of a function.
     fn gives(&self, func: u32) -> bool
         ensures { result ≡ pending_are (state_of 0 self.now) (λ ty. ty.results)
             ((shape_from self.now.shape).type_of func) }
@@ -72,7 +72,7 @@ impl Order {
         }
     }
 
-    /// A function may be entered in the innermost frame.
+    /// Whether a function may be entered in the innermost frame.
     fn may_enter(&self, func: u32) -> bool
         ensures { result ≡ may_enter (shape_from self.now.shape) func self.now.frames }
     {
@@ -89,7 +89,7 @@ impl Order {
         }
     }
 
-    /// A call of a function may be over with the pending values as its results.
+    /// Whether a call of a function may end with the pending values as its results.
     fn may_be_over(&self, callee: u32, entered: bool) -> bool
         ensures { result ≡ (pending_are (state_of 0 self.now) (λ ty. ty.results)
             ((shape_from self.now.shape).type_of callee) && may_be_over (shape_from self.now.shape) callee entered) }
@@ -112,7 +112,7 @@ impl Order {
         }
     }
 
-    /// The function that `Pre` tells.
+    /// The function that `Pre` reports.
     #[inline]
     pub fn called(&self, args: &[Val]) -> Option<u32>
         ensures { MatchOption result (LeadsTo self.now Pre args.now None)
@@ -169,8 +169,8 @@ impl Order {
         }
     }
 
-    /// The index that `Ipre` tells, and the function of the original that the entry holds, where the table is known to
-    /// have so many entries.
+    /// The index that `Ipre` reports, and the function of the original that the entry holds; the table is known
+    /// to have at least `known` entries.
     #[inline]
     pub fn called_by_table(&self, args: &[Val], known: u32, view: &View) -> Option<EntryCall>
         ensures { MatchOption result
@@ -185,7 +185,8 @@ impl Order {
         Some(EntryCall { index, callee })
     }
 
-    /// The function of the original that an entry holds, or none; None where it holds another.
+    /// The function of the original that an entry holds, or `Some(None)` if it holds no function; `None` if it
+    /// holds any other.
     fn callee_at(&self, index: u64, view: &View) -> Option<Option<u32>>
         ensures { result ≡ callee_of (shape_from self.now.shape) (entry_of view.now.table index) }
     {
@@ -199,7 +200,7 @@ impl Order {
     }
 }
 
-/// The function in an entry, none where the entry is empty or not there.
+/// The function in an entry, or `None` if the entry is empty or does not exist.
 #[tactic(auto, using(crate::proofs::Entries::entry_past, crate::proofs::Entries::entry_there))]
 fn entry_at(view: &View, index: u64) -> Option<u32>
     ensures { result ≡ entry_of view.now.table index }

@@ -1,15 +1,15 @@
-// What is open: functions, and calls.
+// The open functions and calls.
 
 ghost use Rattle.std.specs.Prelude.{◌≡◌, [], ◌∷◌, drop, MatchOption, OnOk};
-ghost use Rattle.hook_spec.specs.Order.{InFunction, with_entered};
+ghost use Rattle.record_replay_spec.specs.Order.{InFunction, with_entered};
 ghost use Rattle.hook_order.specs.Frames.{frame_of};
 
-use no_memory::NoMemory;
+use base::NoMemory;
 use std::alloc::Global;
 use std::marker::Model;
 
-/// A function that was entered; or a call that began, whether by the function's index or by the table, its function,
-/// none where the entry holds none, and whether that was entered.
+/// A function that was entered; or a call that began, by the function's index or by the table: its function,
+/// `None` if the entry is empty, and whether the function was entered.
 #[derive(Clone, Copy)]
 pub enum Frame {
     Function(u32),
@@ -20,7 +20,7 @@ pub enum Frame {
     },
 }
 
-/// The frames that are open. Contracts see the innermost first.
+/// The open frames. Contracts see the innermost first.
 #[derive(Drop)]
 pub struct Frames {
     items: Vec<Frame>,
@@ -28,7 +28,7 @@ pub struct Frames {
 
 impl Model for Frames {
     ghost use Rattle.std.specs.Prelude.{List, map, reverse};
-    ghost use Rattle.hook_spec.specs.Order.{OrderFrame};
+    ghost use Rattle.record_replay_spec.specs.Order.{OrderFrame};
     ghost use Rattle.hook_order.specs.Frames.{frame_of};
 
     ghost Value = { List OrderFrame };
@@ -57,7 +57,7 @@ impl Frames {
     /// Opens a frame within the others.
     ///
     /// # Errors
-    /// Where an allocation failed.
+    /// `NoMemory` if an allocation failed.
     #[inline]
     pub fn push(&mut self, frame: Frame) -> Result<(), NoMemory>
         ensures { OnOk result (self.new ≡ frame_of frame ∷ self.old) }
@@ -74,10 +74,10 @@ impl Frames {
         let _top = self.items.pop();
     }
 
-    /// Opens the frame of a function, which is entered in the innermost one.
+    /// Opens the frame of a function that is entered in the innermost frame.
     ///
     /// # Errors
-    /// Where an allocation failed.
+    /// `NoMemory` if an allocation failed.
     pub fn enter(&mut self, func: u32) -> Result<(), NoMemory>
         ensures { OnOk result (self.new ≡ InFunction func ∷ with_entered self.old) }
     {

@@ -1,4 +1,4 @@
-//! The order of hook calls, kept call by call: which call may come next, and where the calls stand then.
+//! The order of hook calls: which call may come next, and the state after each call.
 #![tactic(auto)]
 
 mod access;
@@ -12,6 +12,6 @@ mod told;
 mod types;
 
 pub use access::{Access, EntryCall, ToldGlobal};
-pub use no_memory::NoMemory;
+pub use base::NoMemory;
 pub use order::Order;
 pub use shape::Shape;

@@ -1,18 +1,18 @@
-// The order of hook calls. Each call is looked at first, which changes nothing, and taken then.
+// The order of hook calls. Each call is checked first, which changes nothing, and then taken.
 
 ghost use Rattle.std.specs.Prelude.{◌≡◌, OnOk};
-ghost use Rattle.hook_spec.specs.Order.{may_tell};
+ghost use Rattle.record_replay_spec.specs.Order.{may_tell};
 ghost use Rattle.hook_order.specs.Frames.{frame_of};
 ghost use Rattle.hook_order.specs.Orders.{parts_at_start, parts_called, parts_closed, parts_entered, parts_pending, state_of};
 
 use crate::frames::{Frame, Frames};
 use crate::shape::Shape;
-use no_memory::NoMemory;
+use base::NoMemory;
 use std::alloc::Global;
 use std::marker::Model;
 use wasm_syntax::Val;
 
-/// Where the calls of hooks stand: the frames that are open, and the values that are told for the next call.
+/// The state of the order of hook calls: the open frames, and the values that are pending for the next call.
 #[derive(Drop)]
 pub struct Order {
     pub(crate) shape: Shape,
@@ -33,7 +33,7 @@ impl Model for Order {
 }
 
 impl Order {
-    /// Before any call. Takes no memory.
+    /// The state before any call. Takes no memory.
     pub fn new(alloc: Global, shape: Shape) -> Order
         ensures { result ≡ parts_at_start shape }
     {
@@ -60,7 +60,7 @@ impl Order {
         self.pending.as_slice()
     }
 
-    /// A function stands on top, and nothing is pending.
+    /// Whether a function is on top and no value is pending.
     #[inline(always)]
     pub(crate) fn may_tell(&self) -> bool
         ensures { result ≡ may_tell (state_of 0 self.now) }
@@ -68,10 +68,10 @@ impl Order {
         matches!(self.frames.top(), Some(Frame::Function(_))) && self.pending.is_empty()
     }
 
-    /// Takes a value that is told.
+    /// Takes a value that is passed for the next call.
     ///
     /// # Errors
-    /// Where an allocation failed.
+    /// `NoMemory` if an allocation failed.
     #[inline]
     pub fn tell(&mut self, value: Val) -> Result<(), NoMemory>
         ensures ok { OnOk result (self.new ≡ parts_pending self.old value) }
@@ -84,7 +84,7 @@ impl Order {
     /// Enters a function.
     ///
     /// # Errors
-    /// Where an allocation failed.
+    /// `NoMemory` if an allocation failed.
     #[inline]
     pub fn enter(&mut self, func: u32) -> Result<(), NoMemory>
         ensures ok { OnOk result (self.new ≡ parts_entered self.old func) }
@@ -94,10 +94,10 @@ impl Order {
         self.frames.enter(func)
     }
 
-    /// Begins a call of a function, or of an entry that holds none.
+    /// Begins a call of a function, or of an empty table entry.
     ///
     /// # Errors
-    /// Where an allocation failed.
+    /// `NoMemory` if an allocation failed.
     #[inline]
     pub fn call(&mut self, direct: bool, callee: Option<u32>) -> Result<(), NoMemory>
         ensures ok { OnOk result (self.new ≡ parts_called self.old direct callee) }

@@ -2,19 +2,19 @@
 
 ghost use Rattle.std.specs.Prelude.{◌≡◌, ◌<◌, ◌^◌, IsTrue, IsSome, IfOk, slice_get};
 ghost use Rattle.std.specs.Option.{option_copied};
-ghost use Rattle.hook_spec.specs.Hooks.{renumber};
-ghost use Rattle.hook_spec.specs.Order.{is_defined, is_function};
+ghost use Rattle.record_replay_spec.specs.Hooks.{renumber};
+ghost use Rattle.record_replay_spec.specs.Order.{is_defined, is_function};
 ghost use Rattle.hook_order.specs.Shapes.{HaveIndices, parts_of, shape_from};
 
+use base::NoMemory;
 use hook_names::HOOK_COUNT;
 use module_index::scope::Scope;
-use no_memory::NoMemory;
 use std::alloc::Global;
 use std::marker::Model;
 use wasm_syntax::{FuncType, FuncTypes, GlobalType, Module};
 
-/// What the order of hook calls needs of a module in the hooked form: how many functions its original imports and
-/// defines, the types of its functions and globals, and whether it has a memory.
+/// What the order of hook calls needs of a module in the hooked form: the numbers of functions that its original
+/// imports and defines, the types of its functions and globals, and whether it has a memory.
 #[derive(Drop)]
 pub struct Shape {
     imports: u32,
@@ -42,10 +42,11 @@ impl Model for Shape {
     ghost invariant = { λ shape. HaveIndices shape.imports shape.defined shape.globals.items };
 }
 
-/// How many functions a module defines, where each function of it, each hook and each global has an index.
+/// The number of functions that a module defines, if each of its functions, each hook and each global has an
+/// index.
 ///
 /// # Errors
-/// Where there are more than memory can hold.
+/// `NoMemory` if there are more than memory can hold.
 fn defined_funcs(funcs: usize, imports: u32, globals: &[GlobalType]) -> Result<u32, NoMemory>
     ensures count { IfOk result (λ count. count ≡ funcs) }
     ensures indices { IfOk result (λ count. HaveIndices imports count globals.now) }
@@ -61,10 +62,10 @@ fn defined_funcs(funcs: usize, imports: u32, globals: &[GlobalType]) -> Result<u
 }
 
 impl Shape {
-    /// The shape of a module in the hooked form, whose original imports so many functions.
+    /// The shape of a module in the hooked form, whose original imports `imports` functions.
     ///
     /// # Errors
-    /// Where an allocation failed.
+    /// `NoMemory` if an allocation failed.
     pub fn of(alloc: Global, module: &Module, imports: u32) -> Result<Shape, NoMemory>
         ensures { IfOk result (λ shape. shape ≡ parts_of imports «module».now) }
     {
@@ -84,7 +85,7 @@ impl Shape {
         })
     }
 
-    /// How many functions the original imports.
+    /// The number of functions that the original imports.
     #[inline]
     pub fn imports(&self) -> u32
         ensures { result ≡ self.now.imports }
@@ -92,7 +93,7 @@ impl Shape {
         self.imports
     }
 
-    /// Whether there is a memory.
+    /// Whether the module has a memory.
     #[inline]
     pub fn has_memory(&self) -> bool
         ensures { result ≡ self.now.memory }
@@ -118,7 +119,7 @@ impl Shape {
         func < u64::from(self.imports) + u64::from(self.defined)
     }
 
-    /// Whether it defines it.
+    /// Whether the original defines a function of this index.
     #[inline]
     pub fn is_defined(&self, func: u64) -> bool
         ensures is { result ≡ is_defined (shape_from self.now) func }
@@ -127,7 +128,7 @@ impl Shape {
         u64::from(self.imports) <= func && self.is_function(func)
     }
 
-    /// The place of a function of the original among the module's.
+    /// The index in the module of a function of the original.
     #[inline]
     fn place_of(&self, func: u32) -> usize
         ensures { result ≡ renumber self.now.imports func }

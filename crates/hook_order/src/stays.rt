@@ -1,11 +1,11 @@
-// Which of the calls may come that leave all frames as they are.
+// The calls that leave all frames unchanged, and whether they may come.
 
 ghost use Rattle.std.specs.Prelude.{◌≡◌, ◌&&◌, ◌∷◌, [], true, false, Some, None, IsTrue, MatchOption, option_map, slice_get};
 ghost use Rattle.wasm_syntax.specs.declared.values.ValType.TheVariants.{I32};
-ghost use Rattle.hook_spec.specs.declared.hooks.Hook.TheVariants.{Load, Store as ToStore, Size, Grow, Gget, Gset, Copy, Fill};
+ghost use Rattle.record_replay_spec.specs.declared.hooks.Hook.TheVariants.{Load, Store as ToStore, Size, Grow, Gget, Gset, Copy, Fill};
 ghost use Rattle.history_spec.specs.Instruction.{bits_at};
-ghost use Rattle.hook_spec.specs.Order.{fits_global, may_tell};
-ghost use Rattle.hook_spec.specs.Logs.{value_of_global};
+ghost use Rattle.record_replay_spec.specs.Order.{fits_global, may_tell};
+ghost use Rattle.record_replay_spec.specs.Logs.{value_of_global};
 ghost use Rattle.hook_order.specs.Args.{AreArgs};
 ghost use Rattle.hook_order.specs.Orders.{IsAccess, IsGlobal, LeadsTo, state_of};
 
@@ -16,7 +16,7 @@ use crate::told::{fits_global, is_width};
 use wasm_syntax::Val;
 
 impl Order {
-    /// A call that needs a memory may come.
+    /// Whether a call that needs a memory may come.
     #[inline(always)]
     fn may_use_memory(&self) -> bool
         ensures { result ≡ (may_tell (state_of 0 self.now) && self.now.shape.memory) }
@@ -82,7 +82,7 @@ impl Order {
         args::one(args).is_some() && self.may_use_memory()
     }
 
-    /// The target, the source and the count that `Copy` tells.
+    /// The target, the source and the count that `Copy` reports.
     #[inline]
     pub fn copied(&self, args: &[Val]) -> Option<(u64, u64, u64)>
         ensures { MatchOption result (LeadsTo self.now Copy args.now None)
@@ -97,7 +97,7 @@ impl Order {
         }
     }
 
-    /// The target, the value and the count that `Fill` tells.
+    /// The target, the value and the count that `Fill` reports.
     #[inline]
     pub fn filled(&self, args: &[Val]) -> Option<(u64, u64, u64)>
         ensures { MatchOption result (LeadsTo self.now Fill args.now None)
@@ -112,7 +112,7 @@ impl Order {
         }
     }
 
-    /// The global, with its value, that `Gget` tells.
+    /// The global, with its value, that `Gget` reports.
     #[inline]
     pub fn read_global(&self, args: &[Val]) -> Option<ToldGlobal>
         ensures { MatchOption result (LeadsTo self.now Gget args.now None)
@@ -123,7 +123,7 @@ impl Order {
         self.told_global(global, bits)
     }
 
-    /// The global, with its value, that `Gset` tells.
+    /// The global, with its value, that `Gset` reports.
     #[inline]
     pub fn set_global(&self, args: &[Val]) -> Option<ToldGlobal>
         ensures { MatchOption result (LeadsTo self.now Gset args.now None)
@@ -134,7 +134,7 @@ impl Order {
         self.told_global(global, bits)
     }
 
-    /// A global with its bits, where it may be told.
+    /// A global with its bits, if it may be reported.
     fn told_global(&self, global: u64, bits: u64) -> Option<ToldGlobal>
         ensures { let ty = slice_get self.now.shape.globals global
             in MatchOption result ((may_tell (state_of 0 self.now) && fits_global ty bits) ≡ false)

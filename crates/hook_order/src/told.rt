@@ -1,12 +1,12 @@
-// Values as they are told.
+// Values as hook calls pass them.
 
 ghost use Rattle.std.specs.Prelude.{◌≡◌};
-ghost use Rattle.hook_spec.specs.Order.{bits_fit, fits_global, is_width, type_of_byte, value_told};
+ghost use Rattle.record_replay_spec.specs.Order.{bits_fit, fits_global, is_width, type_of_byte, value_told};
 
-use wasm_opcodes::marks::{TYPE_F32, TYPE_F64, TYPE_I32, TYPE_I64};
+use base::marks::{TYPE_F32, TYPE_F64, TYPE_I32, TYPE_I64};
 use wasm_syntax::{GlobalType, Val, ValType};
 
-/// The number type that a byte stands for (Core 1.0, 5.3.1).
+/// The number type that a byte encodes (Core 1.0, 5.3.1).
 fn type_of_byte(byte: u64) -> Option<ValType>
     ensures { result ≡ type_of_byte byte }
 {
@@ -34,7 +34,7 @@ fn bits_fit(ty: ValType, bits: u64) -> bool
     }
 }
 
-/// The value that a type's byte and bits tell.
+/// The value that a type's byte and bits give.
 pub(crate) fn value_told(byte: u64, bits: u64) -> Option<Val>
     ensures { result ≡ value_told byte bits }
 {
@@ -44,7 +44,7 @@ pub(crate) fn value_told(byte: u64, bits: u64) -> Option<Val>
     }
 }
 
-/// Whether bits fit a global that is there and is mutable.
+/// Whether bits fit a global that exists and is mutable.
 pub(crate) fn fits_global(ty: Option<GlobalType>, bits: u64) -> bool
     ensures { result ≡ fits_global ty bits }
 {

@@ -7,7 +7,7 @@ ghost use Rattle.history_spec.specs.Code.{types_of};
 use module_index::same_type;
 use wasm_syntax::{Val, ValType};
 
-/// The values have these types.
+/// Whether the values have these types.
 pub(crate) fn are_of_types(types: &[ValType], values: &[Val]) -> bool
     ensures { result ≡ same_types types.now (types_of values.now) }
 {

@@ -1,5 +1,5 @@
--- A script that fits a module has an answer for each imported function, and where the module has few functions, those that
--- the script names leave room for the hooks.
+-- A script that fits a module has an answer for each imported function; if the module has few functions, the
+-- indices of those that the script names leave room for the hooks.
 use Rattle.std.proofs.Common.{◌≡◌, ℕ, ◌<◌, List, [], ◌∷◌, ◌++◌, length, map, Option, Some, None, replicate, refl, ap, arith}
 use Rattle.std.specs.Prelude.{IfSome, option_and_then, slice_get}
 use Rattle.std.specs.List.{AllZip}
@@ -18,16 +18,16 @@ use Rattle.host_script.specs.declared.scripts.Answer.{Answer}
 use Rattle.host_script.specs.declared.scripts.Response.{Response}
 use Rattle.host_script.specs.declared.scripts.Script.{Script}
 use Rattle.host_script.specs.Fits.{FitActions, FitsAction, FitsAnswer, FitsImport, FitsResponse, Fits}
-use Rattle.hook_spec.specs.Hooks.{hook_count}
-use Rattle.hook_spec.specs.HookedRuns.{first_answers, hook_answer, with_hook_answers}
+use Rattle.record_replay_spec.specs.Hooks.{hook_count}
+use Rattle.record_replay_spec.specs.HookedRuns.{first_answers, hook_answer, with_hook_answers}
 use Rattle.hooked_scripts.specs.Low.{AreLowActions, AreLowAnswers, IsLowAction, IsLowAnswer, IsLowResponse, IsLowScript}
 
--- the first answers are all, where there are just as many
+-- the first answers are all answers, if their number is that of all
 pub first_are_all : (answers : List (Option Answer)) → first_answers (length answers) answers ≡ answers
 first_are_all [] = refl
 first_are_all (answer ∷ answers) = ap (λ (list : List (Option Answer)). answer ∷ list) (first_are_all answers)
 
--- the hooks' answers after all that are made of as many
+-- the hooks' answers after the converted answers of all imports
 pub hooks_after_all : (n : ℕ) (answers : List (Option Answer)) (made : Option Answer → Option Answer)
     → length answers ≡ n
     → map made answers ++ replicate hook_count (Some hook_answer) ≡ with_hook_answers n (map made answers)
@@ -36,12 +36,12 @@ hooks_after_all n answers made same =
     let long = length-map answers made in
     cc
 
--- there is an answer for each imported function
+-- each imported function has an answer
 pub imports_counted : (m : Module) (script : Script) → Fits m script → length script.imports ≡ imported_funcs m
 imports_counted m script fits = AllZip-long (FitsImport m) (of_kind func_import m.imports) script.imports fits.imports
 
 module _ (m : Module) (few : length (func_indices m) < list_limit) where
-  -- a function that has a type is there
+  -- a function that has a type has a low index
   typed_low : (func : ℕ) (index : Option ℕ) (ty : FuncType) → slice_get (func_indices m) func ≡ index
       → option_and_then (type_at m) index ≡ Some ty → func < list_limit
   typed_low func None ty is found = cc

@@ -1,4 +1,4 @@
--- Scripts that name no function whose index leaves no room for the hooks.
+-- Scripts that name only functions whose indices leave room for the hooks.
 use Rattle.std.specs.Prelude.{◌<◌, List, Option, IfSome, All}
 use Rattle.host_script.specs.declared.scripts.Action.{Action}
 use Rattle.host_script.specs.declared.scripts.Action.TheVariants.{Call, SetTable}
@@ -16,7 +16,7 @@ IsLowAction action = Unit {0}
 abbrev pub AreLowActions : List Action → Type 0
 AreLowActions actions = All IsLowAction actions
 
--- those of a response, of an answer
+-- the functions of a response; of an answer
 abbrev pub IsLowResponse : Response → Type 0
 IsLowResponse response = AreLowActions response.actions
 
@@ -27,7 +27,7 @@ pub record IsLowAnswer (answer : Answer) : Type 0 where
 abbrev pub AreLowAnswers : List (Option Answer) → Type 0
 AreLowAnswers answers = All (λ answer. IfSome answer IsLowAnswer) answers
 
--- those of a script
+-- the functions of a script
 pub record IsLowScript (script : Script) : Type 0 where
   pub imports : AreLowAnswers script.imports
   pub main : AreLowActions script.main

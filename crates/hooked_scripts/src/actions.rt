@@ -2,13 +2,13 @@
 
 ghost use Rattle.std.specs.Prelude.{◌≡◌, ◌<◌, IfOk, IfSome, map, option_map};
 ghost use Rattle.wasm_flat.specs.Sizes.{list_limit};
-ghost use Rattle.hook_spec.specs.Hooks.{renumber};
-ghost use Rattle.hook_spec.specs.HookedRuns.{renumbered_action};
+ghost use Rattle.record_replay_spec.specs.Hooks.{renumber};
+ghost use Rattle.record_replay_spec.specs.HookedRuns.{renumbered_action};
 ghost use Rattle.hooked_scripts.specs.Low.{AreLowActions, IsLowAction};
 
+use base::NoMemory;
 use hook_names::renumber;
 use host_script::{Action, Actions};
-use no_memory::NoMemory;
 use std::alloc::Global;
 use wasm_syntax::List;
 
@@ -47,7 +47,7 @@ fn renumbered_action(imports: u32, action: Action) -> Action
     }
 }
 
-/// The function of an entry, renumbered.
+/// The function of a table entry, renumbered.
 fn renumbered_entry(imports: u32, func: Option<u32>) -> Option<u32>
     requires { IfSome func (λ f. f < list_limit) }
     ensures { result ≡ option_map (renumber imports) func }

@@ -1,18 +1,19 @@
-// Answers to calls of imports with their functions renumbered, and those to calls of hooks.
+// Answers to calls of imports with their functions renumbered, and answers to hook calls.
 
 ghost use Rattle.std.specs.Prelude.{◌≡◌, ◌++◌, IfOk, IfSome, OnOk, Some, length, map, option_map, replicate, All};
-ghost use Rattle.hook_spec.specs.Hooks.{hook_count};
-ghost use Rattle.hook_spec.specs.HookedRuns.{hook_answer, renumbered_answer, renumbered_response, with_hook_answers};
+ghost use Rattle.record_replay_spec.specs.Hooks.{hook_count};
+ghost use Rattle.record_replay_spec.specs.HookedRuns.{hook_answer, renumbered_answer, renumbered_response, with_hook_answers};
 ghost use Rattle.hooked_scripts.specs.Low.{AreLowAnswers, IsLowAnswer, IsLowResponse};
 
 use crate::actions::renumbered_actions;
+use base::NoMemory;
 use hook_names::HOOK_COUNT;
 use host_script::{Answer, Answers, Response, ResponseEnd, Responses};
-use no_memory::NoMemory;
 use std::alloc::Global;
 use wasm_syntax::List;
 
-/// The answers of a script for a module that imports `imports` functions, renumbered, then those of the hooks.
+/// The answers of a script for a module that imports `imports` functions, renumbered, and then the answers of
+/// the hooks.
 pub(crate) fn hooked_answers(
     alloc: Global,
     imports: u32,
@@ -45,7 +46,7 @@ fn renumbered_answers(
     Ok(list)
 }
 
-/// An answer, renumbered, where there is one.
+/// An answer, renumbered, if there is one.
 fn renumbered_if_any(
     alloc: Global,
     imports: u32,
@@ -115,7 +116,7 @@ fn push_hook_answers(alloc: Global, answers: &mut Vec<Option<Answer>>) -> Result
     Ok(())
 }
 
-/// The answer to each call of a hook: nothing is done, and nothing returned. Takes no memory.
+/// The answer to each call of a hook: it does nothing and returns nothing. Takes no memory.
 fn hook_answer(alloc: Global) -> Answer
     ensures { result ≡ hook_answer }
 {

@@ -1,9 +1,10 @@
-//! Scripts for instrumented modules: those for the originals, with their functions renumbered and hooks answered.
+//! Scripts for instrumented modules: the scripts of the originals, with their functions renumbered and hooks
+//! answered.
 #![tactic(auto)]
 
 mod actions;
 mod answers;
 mod scripts;
 
-pub use no_memory::NoMemory;
+pub use base::NoMemory;
 pub use scripts::script_with_hooks;

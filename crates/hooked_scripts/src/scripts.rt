@@ -4,24 +4,24 @@ ghost use Rattle.std.specs.Prelude.{◌≡◌, ◌<◌, IfOk, length};
 ghost use Rattle.wasm_syntax.specs.Index.{func_indices};
 ghost use Rattle.wasm_flat.specs.Sizes.{list_limit};
 ghost use Rattle.host_script.specs.Fits.{Fits};
-ghost use Rattle.hook_spec.specs.HookedRuns.{hooked_script, renumbered_script};
-ghost use Rattle.instrumented_valid.specs.Links.{script_with_hooks};
+ghost use Rattle.record_replay_spec.specs.HookedRuns.{hooked_script, renumbered_script};
+ghost use Rattle.instrumented_module_laws.specs.Links.{script_with_hooks};
 ghost use Rattle.hooked_scripts.specs.Low.{IsLowScript};
 
 use crate::actions::renumbered_actions;
 use crate::answers::hooked_answers;
+use base::NoMemory;
 use host_script::Script;
 use module_index::scope::Scope;
-use no_memory::NoMemory;
 use std::alloc::Global;
 use wasm_syntax::Module;
 
-/// A script that fits a module, as one for its instrumented module: functions are renumbered, and each hook is answered
-/// by doing nothing. Values and bytes are moved and not copied.
+/// A script that fits a module, converted for its instrumented module: functions are renumbered, and each hook
+/// is answered by doing nothing. Values and bytes are moved and not copied.
 ///
 /// # Errors
 ///
-/// Where an allocation fails.
+/// `NoMemory` if an allocation failed.
 pub fn script_with_hooks(alloc: Global, module: &Module, script: Script) -> Result<Script, NoMemory>
     requires fits { Fits «module».now script }
     requires few { length (func_indices «module».now) < list_limit }
@@ -31,7 +31,7 @@ pub fn script_with_hooks(alloc: Global, module: &Module, script: Script) -> Resu
     hooked_script(alloc, imports, script)
 }
 
-/// The same for a module that imports `imports` functions.
+/// The converted script for a module that imports `imports` functions.
 fn hooked_script(alloc: Global, imports: u32, script: Script) -> Result<Script, NoMemory>
     requires same { length script.imports ≡ imports }
     requires low { IsLowScript script }

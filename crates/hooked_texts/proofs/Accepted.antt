@@ -2,11 +2,11 @@
 use Rattle.std.proofs.Common.{◌≡◌, ℕ, ◌+◌, List, [], ◌∷◌, ◌++◌, filter, filter_map, Some, None, Bool, true, false, cond, refl}
 use Rattle.std.specs.List.{cons_option, enumerate_from}
 use Rattle.std.specs.Str.{bytes_eq}
-use Rattle.list_laws.proofs.Lists.{nil_parts}
+use Rattle.base.proofs.Lists.{nil_parts}
 use Rattle.wasm_syntax.specs.declared.modules.Import.{Import}
 use Rattle.wasm_syntax.specs.Profile.{Reserved, quantities_past, refused_instructions, reserved_import, reserved_imports}
-use Rattle.hook_spec.specs.Hooks.{hook_module}
-use Rattle.hook_spec.specs.HookedForm.{is_from_hooks}
+use Rattle.record_replay_spec.specs.Hooks.{hook_module}
+use Rattle.record_replay_spec.specs.HookedForm.{is_from_hooks}
 use Rattle.hooked_texts.specs.Laws.{AcceptedImportNoHooks}
 
 none_reserved : (place : ℕ) (list : List Import) → filter_map reserved_import (enumerate_from place list) ≡ []

@@ -21,14 +21,14 @@ use Rattle.script_text.specs.declared.leads.Lead.TheVariants.{Write, Copy, SetTa
 use Rattle.script_text.specs.Actions.{Place, Target, address_of, fits_address, name_of, target_of, Exported, Imported, access_to, action_by, action_of, action_with, actions_under, are_arguments, call_of, call_table_of, copy_of, entry_named, fits_global, fits_params, func_named, global_at, global_from, grow_of, grow_table_of, index_or_unknown, is_defined, is_set_by, leads_in, memory_access, set_global_of, set_table_of, table_access, write_of}
 use Rattle.script_text.specs.Walk.{list_of, only, under}
 use Rattle.script_text.specs.Values.{bytes_of, text_of, text_or_null, u32_of, value_of, values_under}
-use Rattle.hook_spec.specs.Hooks.{renumber}
-use Rattle.hook_spec.specs.HookedRuns.{renumbered_action}
-use Rattle.hook_spec.specs.Instrumented.{instrumented_module}
-use Rattle.hook_spec.specs.Laws.{InstrumentedKeepIndices}
+use Rattle.record_replay_spec.specs.Hooks.{renumber}
+use Rattle.record_replay_spec.specs.HookedRuns.{renumbered_action}
+use Rattle.record_replay_spec.specs.Instrumented.{instrumented_module}
+use Rattle.record_replay_spec.specs.HookLaws.{InstrumentedKeepIndices}
 use Rattle.hooked_texts.proofs.Names.{exports_kept, func_renumbered, func_there, global_kept, globals_imported, imports_kept}
 use Rattle.hooked_texts.proofs.Steps.{bind_alike, bind_own, bind_same, list_alike, mapped, under_or_alike}
 
--- what is said of a function of a module's own, or of an imported one
+-- the check that a function is defined: an imported function is a fault
 abbrev defined_or : (is_imported : Bool) → List ℕ → Result ⊤ ScriptFault
 defined_or is_imported name = cond is_imported (Err (CallsOwn name)) (Ok tt)
 
@@ -58,7 +58,7 @@ module _ (keep : InstrumentedKeepIndices) (m : Module) (digest : List ℕ) (vali
   unfolding table_access
   table_same = ap (λ b. access_to b (codes "table")) table_kept
 
-  -- ---- what names stand for
+  -- ---- the functions that names denote
 
   func_alike : (name : List ℕ) → func_named hooked name ≡ mapped (renumber n) (func_named m name)
   unfolding func_named
@@ -68,7 +68,7 @@ module _ (keep : InstrumentedKeepIndices) (m : Module) (digest : List ℕ) (vali
       go None = refl
       go (Some f) = refl
 
-  -- a function that a name stands for has a type
+  -- a function that a name denotes has a type
   named_there : (name : List ℕ) (func : ℕ) → func_named m name ≡ Ok func → (ty : FuncType) × (func_type m func ≡ Some ty)
   unfolding func_named
   named_there name func is = func_there m digest valid name func (go (exported_func m name) is)

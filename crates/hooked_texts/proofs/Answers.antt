@@ -8,9 +8,9 @@ use Rattle.serde_json.specs.Data.{Data}
 use Rattle.script_text.specs.Walk.{list_of, only, under_if_there, under_or}
 use Rattle.script_text.specs.Actions.{InResponse, actions_under}
 use Rattle.script_text.specs.Texts.{answer_of, end_of, response_of}
-use Rattle.hook_spec.specs.HookedRuns.{renumbered_action, renumbered_answer, renumbered_response}
-use Rattle.hook_spec.specs.Instrumented.{instrumented_module}
-use Rattle.hook_spec.specs.Laws.{InstrumentedKeepIndices}
+use Rattle.record_replay_spec.specs.HookedRuns.{renumbered_action, renumbered_answer, renumbered_response}
+use Rattle.record_replay_spec.specs.Instrumented.{instrumented_module}
+use Rattle.record_replay_spec.specs.HookLaws.{InstrumentedKeepIndices}
 use Rattle.hooked_texts.proofs.Actions.{actions_alike}
 use Rattle.hooked_texts.proofs.Steps.{bind_alike, bind_own, if_there_alike, list_alike, mapped, under_or_alike}
 

@@ -1,11 +1,11 @@
--- What names stand for in an instrumented module.
+-- The functions that names denote in an instrumented module.
 use Rattle.std.proofs.Common.{◌≡◌, ℕ, ◌<◌, List, [], ◌∷◌, ◌++◌, map, length, filter, filter_map, find, Option, Some, None, option_map, option_and_then, is_some, Bool, true, false, cond, ◌&&◌, ◌||◌, All, refl, sym, ap, ◌∙◌, subst}
 use Rattle.std.specs.List.{AllByRecursion, list_any, cons_option}
 use Rattle.std.specs.Str.{bytes_eq}
 use Rattle.std.proofs.lemmas.List.{append-nil}
 use Rattle.std.proofs.lemmas.List.Elements.{All-append, All-filter, All-from_recursion, All-map, All-weaker, filter-append, recursion_from_All}
 use Rattle.std.proofs.lemmas.Slice.Eq.{bytes_eq-Decides}
-use Rattle.list_laws.proofs.Lists.{all_at, get_front, item_there}
+use Rattle.base.proofs.Lists.{all_at, get_front, item_there}
 use Rattle.wasm_syntax.specs.declared.signatures.FuncType.{FuncType}
 use Rattle.wasm_syntax.specs.declared.modules.Export.{Export}
 use Rattle.wasm_syntax.specs.declared.modules.ExportKind.{ExportKind}
@@ -20,10 +20,10 @@ use Rattle.wasm_syntax.specs.Validity.{IsDeclaredFunc, IsImport, IsThere, IsVali
 use Rattle.module_names.specs.Names.{index_in, export_of, exported_func, exported_global, exports_some, func_types_named, import_type, imports_from, imports_named, imports_some, imports_with, is_from, is_kind, is_named}
 use Rattle.module_names.specs.declared.index_spaces.Space.{Space}
 use Rattle.module_names.specs.declared.index_spaces.Space.TheVariants.{Funcs, Tables, Memories, Globals}
-use Rattle.hook_spec.specs.declared.hooks.Hook.{Hook}
-use Rattle.hook_spec.specs.Hooks.{hook_module, hooks, renumber}
-use Rattle.hook_spec.specs.HookedForm.{is_from_hooks}
-use Rattle.hook_spec.specs.Instrumented.{hook_import, hook_types, instrumented_module, renumbered_export, renumbered_kind}
+use Rattle.record_replay_spec.specs.declared.hooks.Hook.{Hook}
+use Rattle.record_replay_spec.specs.Hooks.{hook_module, hooks, renumber}
+use Rattle.record_replay_spec.specs.HookedForm.{is_from_hooks}
+use Rattle.record_replay_spec.specs.Instrumented.{hook_import, hook_types, instrumented_module, renumbered_export, renumbered_kind}
 use Rattle.hooked_texts.specs.Laws.{ImportsNoHooks}
 
 -- ---- lists
@@ -38,7 +38,7 @@ any_mapped : {X : Type 0} (test : X → Bool) (f : X → X) → ((x : X) → tes
 any_mapped test f same [] = refl
 any_mapped test f same (x ∷ xs) = (λ i. same x i || any_mapped test f same xs i)
 
--- where none passes a test, none of those that are kept does
+-- if no item passes a test, no kept item does
 none_kept : {X : Type 0} (test keep : X → Bool) (xs : List X) → filter test xs ≡ [] → list_any test (filter keep xs) ≡ false
 none_kept test keep [] none = refl
 none_kept {X} test keep (x ∷ xs) none = by (test x) refl (keep x) (λ h. none_kept test keep xs h) none
@@ -50,7 +50,7 @@ none_kept {X} test keep (x ∷ xs) none = by (test x) refl (keep x) (λ h. none_
     by false e true later h = ap (λ b. b || list_any test (filter keep xs)) e ∙ later h
     by false e false later h = later h
 
--- and each fails it
+-- each item of a list fails the test, if no item passes it
 pub each_fails : {X : Type 0} (test : X → Bool) (xs : List X) → filter test xs ≡ [] → AllByRecursion (λ x. test x ≡ false) xs
 each_fails test [] none = tt
 each_fails {X} test (x ∷ xs) none = by (test x) refl (λ h. each_fails test xs h) none
@@ -60,7 +60,7 @@ each_fails {X} test (x ∷ xs) none = by (test x) refl (λ h. each_fails test xs
     by true e later h = cc
     by false e later h = (e, later h)
 
--- what is found is one of the list
+-- an item that is found is one of the list
 find_holds : {X : Type 0} (P : X → Type 0) (test : X → Bool) (xs : List X) (x : X) → AllByRecursion P xs
     → find test xs ≡ Some x → P x
 find_holds P test [] x all is = cc
@@ -70,7 +70,7 @@ find_holds {X} P test (y ∷ xs) x all is = by (test y) (λ h. find_holds P test
     by true later h = let same : y ≡ x = cc h in subst P same all.0
     by false later h = later h
 
--- names that differ, the other way round
+-- names that differ, with the operands exchanged
 pub differ : (a b : List ℕ) → bytes_eq a b ≡ false → bytes_eq b a ≡ false
 differ a b h = by (bytes_eq b a) refl
   where
@@ -216,7 +216,7 @@ module _ (m : Module) (digest : List ℕ) where
       → list_any (is_kind pick) (map (hook_import m) hooks) ≡ false → imports_some pick hooked ≡ imports_some pick m
   imports_kept pick none = any_front (is_kind pick) m.imports (map (hook_import m) hooks) none
 
-  -- names that are not those of hooks
+  -- names other than those of hooks
   module _ (from : List ℕ) (other : bytes_eq hook_module from ≡ false) where
     none_from : (kinds : List Hook) → list_any (is_from from) (map (hook_import m) kinds) ≡ false
     none_from [] = refl

@@ -25,12 +25,12 @@ use Rattle.script_text.specs.Walk.{◌>>=◌, below, only, read_any, under_if_th
 use Rattle.script_text.specs.Values.{limits_of}
 use Rattle.script_text.specs.Actions.{InMain, actions_under}
 use Rattle.script_text.specs.Texts.{answer_for, answer_of, each_import, look_answer, look_value, member_for, script_in, script_of, script_of_text, value_for}
-use Rattle.hook_spec.specs.declared.hooks.Hook.{Hook}
-use Rattle.hook_spec.specs.Hooks.{hook_count, hook_module, hooks}
-use Rattle.hook_spec.specs.HookedForm.{is_from_hooks}
-use Rattle.hook_spec.specs.HookedRuns.{first_answers, hook_answer, renumbered_action, renumbered_answer, renumbered_script}
-use Rattle.hook_spec.specs.Instrumented.{hook_import, instrumented_module}
-use Rattle.hook_spec.specs.Laws.{InstrumentedKeepIndices}
+use Rattle.record_replay_spec.specs.declared.hooks.Hook.{Hook}
+use Rattle.record_replay_spec.specs.Hooks.{hook_count, hook_module, hooks}
+use Rattle.record_replay_spec.specs.HookedForm.{is_from_hooks}
+use Rattle.record_replay_spec.specs.HookedRuns.{first_answers, hook_answer, renumbered_action, renumbered_answer, renumbered_script}
+use Rattle.record_replay_spec.specs.Instrumented.{hook_import, instrumented_module}
+use Rattle.record_replay_spec.specs.HookLaws.{InstrumentedKeepIndices}
 use Rattle.hooked_texts.specs.Laws.{HooksAreUnanswered, ImportsNoHooks, MeansTheSame, TextsAreRenumbered, unanswered_script}
 use Rattle.hooked_texts.proofs.Actions.{actions_alike}
 use Rattle.hooked_texts.proofs.Answers.{answer_alike}
@@ -54,15 +54,16 @@ globals_text m d = under_or (codes "globals") tt (each_import global_import m lo
 abbrev imports_text : Module → Data → Result ⊤ ScriptFault
 imports_text m d = under_or (codes "imports") tt (each_import func_import m (look_answer m)) d
 
--- the values of imported globals, and a script of its parts
+-- the values of imported globals in a text
 abbrev given : Data → List Import → List (Option Val)
 given d list = map (value_for (get (codes "globals") d)) list
 
+-- a script of its parts
 abbrev written : Option Limits → Option Limits → List (Option Val) → List (Option Answer) → List Action → Script
 written memory table globals imports main =
     record { memory = memory; table = table; globals = globals; imports = imports; main = main }
 
--- the second reads what the first reads, with a function on it, unless the first meets the module of the hooks
+-- the second reading is the first with a function applied, unless the first meets the module of the hooks
 abbrev AreAlike : {A B : Type 0} → (A → B) → Result A ScriptFault → Result B ScriptFault → Type 0
 AreAlike f r other = (r ≡ Err (UnknownName hook_module)) ⊎ (other ≡ mapped f r)
 
@@ -241,7 +242,7 @@ first_front : (list more : List (Option Answer)) → first_answers (length list)
 first_front [] more = refl
 first_front (answer ∷ list) more = ap (λ (rest : List (Option Answer)). answer ∷ rest) (first_front list more)
 
--- there is an answer for each imported function
+-- each imported function has an answer
 pub answers_counted : (m : Module) (types : List ℕ) (answers : List (Option Answer)) → AllZip (FitsImport m) types answers
     → length answers ≡ length types
 answers_counted m [] [] fit = refl

@@ -1,16 +1,16 @@
--- Two walks that go alike: what the second reads is what the first reads, with a function on it.
+-- Two readings that go alike: the second gives what the first gives, with a function applied.
 use Rattle.std.proofs.Common.{◌≡◌, ℕ, ◌+◌, List, ◌∷◌, map, Option, Some, None, option_map, Result, Ok, Err, decimal, refl, ap, ◌∙◌}
 use Rattle.serde_json.specs.Data.{Data, Items, no_items, item}
 use Rattle.serde_json.specs.Find.{get, as_array}
 use Rattle.script_text.specs.declared.faults.ScriptFault.{ScriptFault}
 use Rattle.script_text.specs.Walk.{◌>>=◌, below, read_any, under_or, some_of, under_if_there, at_index, items_from, items_in, list_of}
 
--- what is read, with a function on it
+-- the result of a reading, with a function applied
 abbrev pub mapped : {A B : Type 0} → (A → B) → Result A ScriptFault → Result B ScriptFault
 mapped f (Ok a) = Ok (f a)
 mapped f (Err fault) = Err fault
 
--- a step that is the same
+-- a step that is equal in both readings
 pub bind_same : {A B C : Type 0} (f : B → C) (read other_read : Result A ScriptFault) (next : A → Result B ScriptFault)
     (other : A → Result C ScriptFault) → other_read ≡ read → ((a : A) → read ≡ Ok a → other a ≡ mapped f (next a))
     → (other_read >>= other) ≡ mapped f (read >>= next)
@@ -26,7 +26,7 @@ pub bind_own : {A B C : Type 0} (f : B → C) (read : Result A ScriptFault) (nex
     → (read >>= other) ≡ mapped f (read >>= next)
 bind_own f read next other h = bind_same f read read next other refl (λ a is. h a)
 
--- a step that goes alike
+-- a step that goes alike in both readings
 pub bind_alike : {A D B C : Type 0} (g : A → D) (f : B → C) (read : Result A ScriptFault) (other_read : Result D ScriptFault)
     (next : A → Result B ScriptFault) (other : D → Result C ScriptFault) → other_read ≡ mapped g read
     → ((a : A) → read ≡ Ok a → other (g a) ≡ mapped f (next a)) → (other_read >>= other) ≡ mapped f (read >>= next)

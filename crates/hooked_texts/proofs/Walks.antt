@@ -20,10 +20,10 @@ use Rattle.script_text.specs.declared.faults.ScriptFault.{ScriptFault}
 use Rattle.script_text.specs.declared.faults.ScriptFault.TheVariants.{UnknownName}
 use Rattle.script_text.specs.Walk.{◌>>=◌, below, read_any}
 use Rattle.script_text.specs.Texts.{answer_of, each_import, each_in, each_name, in_order, look_answer, look_value}
-use Rattle.hook_spec.specs.Hooks.{hook_module}
-use Rattle.hook_spec.specs.HookedRuns.{renumbered_answer}
-use Rattle.hook_spec.specs.Instrumented.{instrumented_module}
-use Rattle.hook_spec.specs.Laws.{InstrumentedKeepIndices}
+use Rattle.record_replay_spec.specs.Hooks.{hook_module}
+use Rattle.record_replay_spec.specs.HookedRuns.{renumbered_answer}
+use Rattle.record_replay_spec.specs.Instrumented.{instrumented_module}
+use Rattle.record_replay_spec.specs.HookLaws.{InstrumentedKeepIndices}
 use Rattle.hooked_texts.specs.Laws.{ImportsNoHooks}
 use Rattle.hooked_texts.proofs.Answers.{answer_alike}
 use Rattle.hooked_texts.proofs.Names.{from_kept, globals_imported, hooks_unknown, named_kept, types_kept}
@@ -39,11 +39,11 @@ Look = List ℕ → Data → Result ⊤ ScriptFault
 abbrev pub names_hooks : Result ⊤ ScriptFault
 names_hooks = Err (UnknownName hook_module)
 
--- what is read under a name
+-- the reading of the value under a name
 abbrev first_step : Known → Look → List ℕ → Data → Result ⊤ ScriptFault
 first_step known look name d = cond (known name) (below name (look name d)) (Err (UnknownName name))
 
--- ---- walks with the same tests
+-- ---- walks with equal tests
 
 each_same : (known others : Known) (look other_look : Look) → ((name : List ℕ) → others name ≡ known name)
     → ((name : List ℕ) (d : Data) → other_look name d ≡ look name d) → (ms : Members)
@@ -60,7 +60,7 @@ in_same : (known others : Known) (look other_look : Look) → ((name : List ℕ)
 in_same known others look other_look same looks None = refl
 in_same known others look other_look same looks (Some ms) = each_same known others look other_look same looks ms
 
--- ---- walks with the same tests but for the module of the hooks, which the first does not know
+-- ---- walks with equal tests but for the module of the hooks, which the first walk does not know
 
 module _ (known others : Known) (look other_look : Look) (unknown : known hook_module ≡ false)
     (same : (name : List ℕ) → bytes_eq hook_module name ≡ false → others name ≡ known name)
@@ -99,7 +99,7 @@ module _ (known others : Known) (look other_look : Look) (unknown : known hook_m
   walk_alike None = inr refl
   walk_alike (Some ms) = each_alike ms
 
--- a walk that ends without a fault has met no name that is not known
+-- a walk without a fault has met no unknown name
 module _ (known : Known) (look : Look) (unknown : known hook_module ≡ false) where
   not_member : (ms : Members) → each_name known look ms ≡ Ok tt → get_member hook_module ms ≡ None
   unfolding each_name
@@ -172,7 +172,7 @@ module _ (keep : InstrumentedKeepIndices) (m : Module) (digest : List ℕ) (vali
       (named_kept m digest from other) (look_same from other) (as_object names))
       (as_object d)
 
-  -- what stands under the key of the walk has no member of that name
+  -- the value under the key of the walk has no member with the name of the hooks' module
   pub hooks_unnamed : (o : Option Data)
       → read_any (codes "imports") tt (each_import func_import m (look_answer m)) o ≡ Ok tt
       → option_and_then (get hook_module) o ≡ None

@@ -1,5 +1,5 @@
 //! A script's text means the same for a module and for its instrumented module: laws about the definitions, whose
-//! statements stand in `specs/`; their functions do nothing.
+//! statements are in `specs/`; their functions do nothing.
 #![tactic(auto)]
 
 pub mod laws;

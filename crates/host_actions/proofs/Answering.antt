@@ -1,4 +1,4 @@
--- What an answer says, of an action in another spelling.
+-- What a result means, for an action in another spelling.
 use Rattle.std.proofs.Common.{◌≡◌, ℕ, List, Result, sym, subst}
 use Rattle.wasm_syntax.specs.declared.values.Val.{Val}
 use Rattle.host_script.specs.declared.scripts.Action.{Action}

@@ -1,6 +1,6 @@
--- What the result of `perform` says that an action of the host did.
+-- What an action of the host did, by the result of `perform`.
 use Rattle.std.specs.Prelude.{◌≡◌, ℕ, List, [], Option, Some, None, Bool, true, false, IsTrue, Result, Ok, Err}
-use Rattle.no_memory.specs.declared.NoMemory.{NoMemory}
+use Rattle.base.specs.declared.no_memory.NoMemory.{NoMemory}
 use Rattle.history_spec.specs.declared.entries.FaultKind.TheVariants.{GrowRefused}
 use Rattle.wasm_syntax.specs.declared.values.Val.{Val}
 use Rattle.host_script.specs.declared.scripts.Action.{Action}
@@ -14,7 +14,7 @@ use Rattle.host_actions.specs.declared.actions.Done.TheVariants.{Changed, Enters
 use Rattle.host_actions.specs.declared.actions.ActionFault.{ActionFault}
 use Rattle.host_actions.specs.declared.actions.ActionFault.TheVariants.{Fault, Memory}
 
--- the arguments of a call; other actions have none
+-- the arguments of a call, empty for other actions
 abbrev pub args_in : Action → List Val
 args_in (Write to bytes) = []
 args_in (Copy to source count) = []
@@ -36,13 +36,13 @@ takes_memory (GrowTable by) = true
 takes_memory (Call func given) = false
 takes_memory (CallTable index given) = false
 
--- what an answer of a growth comes to
+-- the result of an action that grows a memory or a table
 abbrev pub growth_result : Result (Option ℕ) NoMemory → Result Done ActionFault
 growth_result (Ok (Some size)) = Ok Changed
 growth_result (Ok None) = Err (Fault GrowRefused)
 growth_result (Err fault) = Err Memory
 
--- the store is changed as the action says; or it is as it was, and the host calls this function with the action's
+-- the store is changed by the action; or it is as it was, and the host calls this function with the action's
 -- arguments, or there is this fault, or an allocation failed
 abbrev pub Does : Code → List Val → Action → Result Done ActionFault → (old new : Store) → Type 0
 Does code args action (Ok Changed) old new = perform code old args action ≡ Changes new

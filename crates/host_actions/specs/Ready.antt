@@ -31,12 +31,12 @@ abbrev pub type_of : Functions → ℕ → Option FuncType
 type_of functions func =
     option_and_then (λ ty. slice_get functions.types ty) (slice_get functions.indices func)
 
--- an argument that an address names is there and has 32 bits
+-- an argument that an address names exists and has 32 bits
 abbrev pub IsThere : List Val → Address → Type 0
 IsThere args (Fixed address) = Unit {0}
 IsThere args (Arg number plus) = (value : Val) × (slice_get args number ≡ Some value) × (value.bits < 2 ^ 32)
 
--- so is each argument that an action names
+-- each argument that an action names exists and has 32 bits
 abbrev pub AreThere : List Val → Action → Type 0
 AreThere args (Write to bytes) = IsThere args to
 AreThere args (Copy to source count) = IsThere args to × IsThere args source
@@ -86,13 +86,13 @@ FittingActionsAreReady =
     → IsTypedCode m heights → IsStore m store → AreValues (func_count m) params args → FitsAction m params action
     → AreOf (code_of m) functions → IsReady functions store action
 
--- the arguments that such an action names are there and have 32 bits
+-- the arguments that an action that fits a module names exist and have 32 bits
 abbrev pub FittingArgumentsAreThere : Type 0
 FittingArgumentsAreThere =
     (m : Module) (params : List ValType) (args : List Val) (action : Action)
     → AreValues (func_count m) params args → FitsAction m params action → AreThere args action
 
--- so is the argument that one address names
+-- the argument that one address of an action that fits a module names exists and has 32 bits
 abbrev pub FittingArgumentIsThere : Type 0
 FittingArgumentIsThere =
     (funcs : ℕ) (params : List ValType) (args : List Val) (address : Address)

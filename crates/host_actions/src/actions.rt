@@ -11,9 +11,9 @@ ghost use Rattle.host_actions.specs.Does.{Does, growth_result};
 
 use crate::addresses::Addresses;
 use crate::calls::{Functions, call_table};
+use base::NoMemory;
 use history_spec::FaultKind;
 use host_script::Action;
-use no_memory::NoMemory;
 use thiserror::Error;
 use wasm_store::Store;
 use wasm_syntax::Val;
@@ -27,7 +27,7 @@ pub enum Done {
     Enters { func: u32 },
 }
 
-/// Why an action is not done.
+/// Why an action cannot be done.
 #[derive(Clone, Copy, PartialEq, Eq, Debug, Error)]
 pub enum ActionFault {
     /// The host cannot do it.
@@ -42,8 +42,8 @@ pub enum ActionFault {
 /// needs. For a call the store is as it was: the caller makes the call.
 ///
 /// # Errors
-/// `Fault` where the host cannot do it, `Memory` where an allocation failed, which a growth alone
-/// makes; the store is as it was then.
+/// `Fault` if the host cannot do it, `Memory` if an allocation failed, which a growth alone
+/// makes; the store is then as it was.
 pub fn perform(
     store: &mut Store,
     functions: &Functions,
@@ -143,7 +143,7 @@ fn grow_table(store: &mut Store, entries: u32) -> Result<Done, ActionFault>
     growth_result(store.grow_table(entries))
 }
 
-/// What an answer of a growth comes to.
+/// The result of an action that grows a memory or a table.
 fn growth_result(answer: Result<Option<u32>, NoMemory>) -> Result<Done, ActionFault>
     ensures { result ≡ growth_result answer }
 {

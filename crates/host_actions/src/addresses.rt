@@ -8,7 +8,7 @@ use host_script::{Action, Address};
 use wasm_syntax::Val;
 
 /// Where the ranges of an action begin, in bytes: the one that it writes, and the one that it
-/// copies. Each is 0 where the action has no such range.
+/// copies. Each is 0 if the action has no such range.
 #[derive(Clone, Copy, PartialEq, Eq, Debug)]
 pub struct Addresses {
     pub to: u64,
@@ -16,8 +16,8 @@ pub struct Addresses {
 }
 
 impl Addresses {
-    /// Those of an action, given the arguments of the call that is answered; the host's own work
-    /// has none. Each argument that is named is there and has 32 bits.
+    /// The addresses of an action, given the arguments of the call that is answered; the host's own work
+    /// has no arguments. Each argument that is named exists and has 32 bits.
     pub fn of(action: &Action, args: &[Val]) -> Addresses
         requires { AreThere args.now action.now }
         ensures { AreAddresses args.now action.now result }

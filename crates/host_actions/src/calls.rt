@@ -27,8 +27,8 @@ pub struct Functions {
 /// 1.0, 7.1.3).
 ///
 /// # Errors
-/// `TableOutside` where there is no such entry, `EmptyEntry` where it is empty, `CallsOwn` where it
-/// holds an import, `EntryType` where the function takes other arguments.
+/// `TableOutside` if there is no such entry, `EmptyEntry` if it is empty, `CallsOwn` if it
+/// holds an import, `EntryType` if the function takes other arguments.
 pub(crate) fn call_table(
     store: &Store,
     functions: &Functions,

@@ -8,9 +8,6 @@ mod laws;
 
 pub use actions::{ActionFault, Done, perform};
 pub use addresses::Addresses;
+pub use base::NoMemory;
 pub use calls::Functions;
 pub use laws::fitting_actions;
-pub use no_memory::NoMemory;
-
-#[cfg(test)]
-mod tests;

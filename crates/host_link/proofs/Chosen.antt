@@ -3,7 +3,7 @@ use Rattle.std.proofs.Common.{◌≡◌, ℕ, ◌≤◌, List, [], ◌∷◌, �
 use Rattle.std.specs.Prelude.{All, nat_le}
 use Rattle.std.proofs.lemmas.Bool.{leb-true}
 use Rattle.std.proofs.lemmas.List.Elements.{All-head}
-use Rattle.list_laws.proofs.Booleans.{and_right}
+use Rattle.base.proofs.Booleans.{and_right}
 use Rattle.wasm_syntax.specs.declared.limits.TheConstants.{MOST_ENTRIES, MOST_PAGES}
 use Rattle.wasm_syntax.specs.declared.signatures.Limits.{Limits}
 use Rattle.wasm_syntax.specs.declared.modules.Module.{Module}
@@ -53,7 +53,7 @@ are_chosen m script supply supported matches is =
           (small_tables m supported);
     }) matches
 
--- what a script supplies for a module, which stands under another name, matches its imports and is chosen
+-- what a script supplies for a module that has two names here matches its imports and is chosen
 pub supplied_there : (checked it : Module) (script : Script) (supply : Supply) → it ≡ checked → IsSupported checked
     → (supply_of checked script ≡ Ok supply → IsSupply checked supply) → supply_of it script ≡ Ok supply
     → IsSupply checked supply × HasLimits it supply

@@ -11,21 +11,21 @@ use Rattle.history_spec.specs.Instantiation.{data_fits, elem_fits, first_false, 
 use Rattle.instantiation_parts.proofs.Segments.{all_true}
 use Rattle.host_link.specs.Link.{with_elems_in}
 
--- one among the first
+-- the first false test of two lists, if the first list has one
 first_before : (at place : ℕ) (xs ys : List Bool) → first_false at xs ≡ Some place
     → first_false at (xs ++ ys) ≡ Some place
 first_before at place [] ys is = cc
 first_before at place (true ∷ xs) ys is = first_before (at + 1) place xs ys is
 first_before at place (false ∷ xs) ys is = is
 
--- none among the first
+-- the first false test of two lists, if the first list has no false test
 first_after : (at : ℕ) (xs ys : List Bool) → first_false at xs ≡ None
     → first_false at (xs ++ ys) ≡ first_false (at + length xs) ys
 first_after at [] ys is = ap (λ k. first_false k ys) (omega arith)
 first_after at (true ∷ xs) ys is = first_after (at + 1) xs ys is ∙ ap (λ k. first_false k ys) (omega arith)
 first_after at (false ∷ xs) ys is = cc
 
--- none at all
+-- if two lists have no false test, the first of them has no false test
 none_before : (at : ℕ) (xs ys : List Bool) → first_false at (xs ++ ys) ≡ None → first_false at xs ≡ None
 none_before at [] ys is = refl
 none_before at (true ∷ xs) ys is = none_before (at + 1) xs ys is
@@ -56,7 +56,7 @@ module _ (m : Module) (imported : List Val) (store : Store) (elems : List ElemSe
   pub elem_unfit : (place : ℕ) → Some place ≡ first_false 0 elem_tests → Some place ≡ first_unfit m imported store
   elem_unfit place is = sym (unfit_is m.datas refl ∙ first_before 0 place elem_tests (data_tests m.datas) (sym is))
 
-  -- they all fit, and so do the data segments, or one of those does not
+  -- all element segments fit, and so do the data segments, or one of the data segments does not
   pub data_unfit : (datas : List DataSeg) (place : Option ℕ) → datas ≡ m.datas → None ≡ first_false 0 elem_tests
       → place ≡ first_false 0 (data_tests datas)
       → option_map (λ k. length elems + k) place ≡ first_unfit m imported store
@@ -73,7 +73,7 @@ module _ (m : Module) (imported : List Val) (store : Store) (elems : List ElemSe
       all_true (elem_fits imported store) 0 elems
       (none_before 0 elem_tests (data_tests m.datas) (sym (unfit_is m.datas refl) ∙ none))
 
-  -- also after the writing of element segments, which leaves the memory as it is
+  -- data segments fit also after element segments are written, which leaves the memory as it is
   pub datas_fit : (datas : List DataSeg) (after : Store) → datas ≡ m.datas → after ≡ with_elems_in imported elems store
       → first_unfit m imported store ≡ None → All (λ segment. IsTrue (data_fits imported after segment)) datas
   datas_fit datas after f written none =

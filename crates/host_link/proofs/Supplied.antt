@@ -14,12 +14,12 @@ for_module : (o : Option LinkFault) (made supply : Supply) → supply_unless o m
 for_module None made supply is = cc
 for_module (Some fault) made supply is = cc
 
--- it is what is given
+-- the supply is the one that is given
 pub supply_is : (m : Module) (script : Script) (supply : Supply) → supply_of m script ≡ Ok supply
     → supply_for m script ≡ supply
 supply_is m script supply is = for_module _ (supply_for m script) supply is
 
--- the module, which stands in two places, links as it is instantiated with what the script supplies
+-- the module, which has two names here, links as it is instantiated with what the script supplies
 pub links_by : (m same : Module) (script : Script) (supply : Supply) (made : Result Store LinkFault) → same ≡ m
     → supply_of same script ≡ Ok supply → instantiate same supply ≡ made → link_result m script ≡ made
 links_by m same script supply made e supplies instantiates =
@@ -30,7 +30,7 @@ starts_with : (m : Module) (script : Script) (supplied : Result Supply LinkFault
 starts_with m script (Ok supply) = refl
 starts_with m script (Err fault) = refl
 
--- its run starts as it links
+-- the run of a module starts from the store that linking makes, or fails as linking does
 pub starts_by : (m : Module) (script : Script) (linked : Result Store LinkFault) → link_result m script ≡ linked
     → run_start m script ≡ start_or_fault m script linked
 starts_by m script linked links =

@@ -32,11 +32,11 @@ with_elems_in imported elems store = record store { table = option_map (with_ele
 abbrev pub with_datas_in : List Val → List DataSeg → Store → Store
 with_datas_in imported datas store = record store { memory = option_map (with_datas imported datas) store.memory }
 
--- what is supplied, or else what is declared first
+-- the limits that are supplied, or else those that are declared first
 abbrev pub first_of : Option Limits → List Limits → Option Limits
 first_of supplied declared = option_or supplied (slice_get declared 0)
 
--- memory and table are what is supplied, or else what is declared, and begin within the limits
+-- memory and table have the supplied limits, or else the declared ones, and begin within the most of any
 pub record HasLimits (m : Module) (supply : Supply) : Type 0 where
   pub memory : memory_limits m supply ≡ first_of supply.memory m.memories
   pub table : table_limits m supply ≡ first_of supply.table m.tables

@@ -4,9 +4,6 @@
 mod links;
 mod segments;
 
+pub use base::NoMemory;
 pub use host_script::LinkFault;
 pub use links::{link, link_with_supply};
-pub use no_memory::NoMemory;
-
-#[cfg(test)]
-mod tests;

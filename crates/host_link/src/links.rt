@@ -12,10 +12,10 @@ ghost use Rattle.type_safety.specs.Supplies.{HasBytes};
 ghost use Rattle.host_link.specs.Link.{HasLimits, first_of, link_result};
 
 use crate::segments::{first_unfit, write_segments};
+use base::NoMemory;
 use host_script::{LinkFault, Script, Supply};
 use host_supply::supply_of;
 use instantiation_parts::all_globals;
-use no_memory::NoMemory;
 use std::alloc::Global;
 use type_safety::typed_store;
 use wasm_store::Store;
@@ -26,9 +26,9 @@ use wasm_validate::Checked;
 /// the module is refused, its quantities are within their limits, and the script fits it.
 ///
 /// # Errors
-/// `Missing` or `Mismatch` for the first import in order that is not supplied or does not match;
+/// `Missing` or `Mismatch` for the first import that is not supplied or does not match;
 /// else `Segment` for the first segment that passes its table or memory, element segments before
-/// data segments; `Memory` where an allocation failed.
+/// data segments; `Memory` if an allocation failed.
 pub fn link(alloc: Global, checked: &Checked, script: &Script) -> Result<Store, LinkFault>
     requires supported { IsSupported checked.now }
     requires fits { Fits checked.now script.now }
@@ -45,7 +45,7 @@ pub fn link(alloc: Global, checked: &Checked, script: &Script) -> Result<Store, 
     Ok(store)
 }
 
-/// The same store, after what the script supplies for the module's imports.
+/// The store that the run begins with, and what the script supplies for the module's imports.
 ///
 /// # Errors
 /// As for `link`.
@@ -95,8 +95,8 @@ fn instantiate(alloc: Global, module: &Module, supply: &Supply) -> Result<Store,
     Ok(store)
 }
 
-/// The fault of the segment at a place, which does not fit. Segments that 32 bits do not count do
-/// not fit into memory either.
+/// The fault of the segment at a place, which does not fit. As many segments as 32 bits cannot count
+/// do not fit into memory either.
 fn unfit(place: u128) -> LinkFault
     ensures { (result ≡ NoMemoryLeft → ⊥) → result ≡ Segment place }
 {
@@ -117,7 +117,7 @@ fn new_store(alloc: Global, module: &Module, supply: &Supply) -> Result<Store, N
     Store::new(alloc, pages, entries, globals)
 }
 
-/// What is supplied, or else what is declared first.
+/// The limits that are supplied, or else those that are declared first.
 fn first_of(supplied: Option<Limits>, declared: &[Limits]) -> Option<Limits>
     ensures { result ≡ first_of supplied declared.now }
 {

@@ -34,7 +34,7 @@ fn first_unfit_elem(store: &Store, imported: &[Val], elems: &[ElemSeg]) -> Optio
     None
 }
 
-/// Whether an element segment is within the table. One that is only declared is nowhere.
+/// Whether an element segment fits within the table. A segment that is only declared always fits.
 fn elem_fits(store: &Store, imported: &[Val], elem: &ElemSeg) -> bool
     ensures { result ≡ elem_fits imported.now store.now elem.now }
 {
@@ -77,7 +77,7 @@ fn is_within(offset: u64, count: usize, size: usize) -> bool
     }
 }
 
-/// Writes all segments in order. They all fit.
+/// Writes all segments, one after another. They all fit.
 pub(crate) fn write_segments(store: &mut Store, imported: &[Val], module: &Module)
     requires { history.first_unfit «module».now imported.now store.old ≡ None }
     ensures { store.new ≡ history.with_segments «module».now imported.now store.old }
@@ -86,7 +86,7 @@ pub(crate) fn write_segments(store: &mut Store, imported: &[Val], module: &Modul
     write_datas(store, imported, module.datas.as_slice());
 }
 
-/// Writes element segments in order. They all fit.
+/// Writes element segments, one after another. They all fit.
 fn write_elems(store: &mut Store, imported: &[Val], elems: &[ElemSeg])
     requires { All (λ elem. IsTrue (elem_fits imported.now store.old elem)) elems.now }
     ensures { store.new ≡ with_elems_in imported.now elems.now store.old }
@@ -96,7 +96,7 @@ fn write_elems(store: &mut Store, imported: &[Val], elems: &[ElemSeg])
     }
 }
 
-/// Writes an element segment, which fits. One that is only declared is nowhere.
+/// Writes an element segment, which fits. A segment that is only declared is not written.
 fn write_elem(store: &mut Store, imported: &[Val], elem: &ElemSeg)
     requires { IsTrue (elem_fits imported.now store.old elem.now) }
     ensures { store.new ≡ with_elems_in imported.now (elem.now ∷ []) store.old }
@@ -110,7 +110,7 @@ fn write_elem(store: &mut Store, imported: &[Val], elem: &ElemSeg)
     }
 }
 
-/// Writes data segments in order. They all fit.
+/// Writes data segments, one after another. They all fit.
 fn write_datas(store: &mut Store, imported: &[Val], datas: &[DataSeg])
     requires { All (λ segment. IsTrue (data_fits imported.now store.old segment)) datas.now }
     ensures { store.new ≡ with_datas_in imported.now datas.now store.old }

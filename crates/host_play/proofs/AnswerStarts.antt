@@ -1,4 +1,4 @@
--- Where the machine comes to a call of an import, the host begins to answer it, or there is no response.
+-- If the machine comes to a call of an import, the host begins to answer it, or there is no response.
 use Rattle.std.proofs.Common.{◌≡◌, ℕ, ◌+◌, ◌<◌, List, [], ◌∷◌, length, map, Some, slice_set, refl, sym, ap, ◌∙◌, subst, arith}
 use Rattle.std.specs.Prelude.{slice_index}
 use Rattle.std.proofs.lemmas.List.{length-map, length-set}

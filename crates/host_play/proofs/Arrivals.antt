@@ -1,10 +1,10 @@
--- Where the machine comes to, the run goes on with what it told.
+-- The run goes on from the place to which the machine comes, after the machine's entries.
 use Rattle.std.proofs.Common.{◌≡◌, ℕ, List, [], ◌∷◌, ◌++◌, map, refl, sym, ap, ◌∙◌, subst}
 use Rattle.std.proofs.lemmas.List.{append-nil}
 use Rattle.std.proofs.Common.{append_assoc}
 use Rattle.wasm_syntax.specs.declared.modules.Module.{Module}
 use Rattle.host_script.specs.declared.scripts.Script.{Script}
-use Rattle.run_outcomes.specs.declared.outcomes.Outcome.TheVariants.{Trapped as ByTrap}
+use Rattle.base.specs.declared.outcomes.Outcome.TheVariants.{Trapped as ByTrap}
 use Rattle.history_spec.specs.declared.entries.Entry.{Entry}
 use Rattle.history_spec.specs.Configuration.{Activation, InModule}
 use Rattle.history_spec.specs.Code.{code_of}
@@ -22,14 +22,14 @@ use Rattle.host_play.specs.Hosts.{Plays, kept}
 use Rattle.host_play.specs.Stands.{GoesOn, Leads, StandsAt}
 use Rattle.host_play.proofs.Outside.{plays_same, plays_outside, awaits_outside}
 
--- entries that stand in front of none
+-- a step with entries, before whose entries there are no others
 pub with_none : (entries : List Entry) (next : Progress) → step_result entries next ≡ after_entries entries (step_result [] next)
 with_none entries next = ap (λ es. step_result es next) (sym (append-nil entries))
 
 pub after_both : (first second : List Entry) (s : StepResult) → after_entries (first ++ second) s ≡ after_entries first (after_entries second s)
 after_both first second s = ap (λ es. step_result es s.next) (append_assoc first second s.entries)
 
--- a run that stands somewhere stands somewhere else, with the same functions and counts
+-- a run that is at one place comes to another place, with the same functions and counts
 pub stands_then : (m : Module) (script : Script) (stand : Stand) (playing : PlayState) (s : StepResult) (standing : StandsAt m script stand playing s)
     (next_stand : Stand) (new_playing : PlayState) (next : StepResult) → new_playing.functions ≡ playing.functions → new_playing.counts.items ≡ playing.counts.items
     → GoesOn m standing.heights script standing.counts next_stand new_playing next → StandsAt m script next_stand new_playing next

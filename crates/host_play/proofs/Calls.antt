@@ -23,7 +23,7 @@ is_call (ImportCall import args) = true
 is_call (HostCall func args) = true
 is_call entry = false
 
--- how many calls entries have
+-- the number of calls among entries
 abbrev pub all_calls : List Entry → ℕ
 all_calls entries = length (filter is_call entries)
 

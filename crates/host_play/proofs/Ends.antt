@@ -11,7 +11,7 @@ use Rattle.host_script.specs.declared.scripts.ResponseEnd.{ResponseEnd}
 use Rattle.host_script.specs.declared.scripts.ResponseEnd.TheVariants.{Return, Trap}
 use Rattle.host_script.specs.declared.scripts.Script.{Script}
 use Rattle.host_script.specs.Fits.{AreOfTypes, FitsEnd}
-use Rattle.run_outcomes.specs.declared.outcomes.Outcome.TheVariants.{Ended, HostTrapped}
+use Rattle.base.specs.declared.outcomes.Outcome.TheVariants.{Ended, HostTrapped}
 use Rattle.history_spec.specs.declared.entries.Entry.TheVariants.{HostTrap, ImportReturn}
 use Rattle.history_spec.specs.Code.{code_of, signature}
 use Rattle.history_spec.specs.Configuration.{Activation, Frame, InModule, InMain, InImport}
@@ -37,7 +37,7 @@ drop_past [] (suc i) is = refl
 drop_past (x ∷ xs) zero is = cc
 drop_past (x ∷ xs) (suc i) is = drop_past xs i is
 
--- the activation that is at its end
+-- the activation of the host that is at its end
 pub record Done (m : Module) (heights : Heights) (script : Script) (counts : List ℕ) (playing : PlayState) (top : Host) (s : StepResult) : Type 0 where
   pub import : ℕ
   pub number : ℕ

@@ -1,11 +1,11 @@
--- How a script with hooks answers the imports after its own: hooks by doing nothing, and none past them.
+-- How a script with hooks answers the imports after its own: hooks by doing nothing, and imports past them not at all.
 use Rattle.std.proofs.Common.{◌≡◌, ℕ, zero, suc, ◌-◌, ◌<◌, ◌≤◌, List, [], ◌∷◌, Option, Some, None, slice_get, refl, sym, ap, ◌∙◌, arith}
 use Rattle.std.specs.Prelude.{replicate, option_and_then, MatchOption}
 use Rattle.host_script.specs.declared.scripts.Answer.{Answer}
 use Rattle.host_script.specs.declared.scripts.Script.{Script}
 use Rattle.history_spec.specs.Step.{response_of, response_to}
-use Rattle.hook_spec.specs.Hooks.{hook_count}
-use Rattle.hook_spec.specs.HookedRuns.{hook_answer, hooked_script, with_hook_answers}
+use Rattle.record_replay_spec.specs.Hooks.{hook_count}
+use Rattle.record_replay_spec.specs.HookedRuns.{hook_answer, hooked_script, with_hook_answers}
 use Rattle.host_play.specs.declared.responses.Reply.{Reply}
 use Rattle.host_play.specs.Hosts.{IsResponse}
 use Rattle.host_play.specs.Replies.{nothing_done, response_in}
@@ -40,7 +40,7 @@ unanswered n import number answers past above =
     ap (λ found. option_and_then (λ answer. response_of answer number) (option_and_then (λ a. a) found))
     (past_own n answers import past ∙ past_repeated (Some hook_answer) hook_count (import - n) above)
 
--- what the host does at a call of a hook is what the script with hooks says
+-- what the host does at a call of a hook is what the script with hooks has for it
 module _ (n import number : ℕ) (script : Script) (past : n ≤ import) where
   pub replies : (found : Option Reply) → MatchOption found (hook_count ≤ import - n) (λ reply. (import - n < hook_count) × (response_in reply ≡ nothing_done))
       → MatchOption found (response_to (hooked_script n script).imports import number ≡ None) (λ reply. response_to (hooked_script n script).imports import number ≡ Some (response_in reply))

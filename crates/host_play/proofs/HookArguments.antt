@@ -1,6 +1,6 @@
 -- The arguments of a hook's call, read one by one.
 use Rattle.std.proofs.Common.{◌≡◌, ℕ, zero, suc, ◌+◌, ◌≤◌, ◌<◌, List, [], ◌∷◌, length, take, Option, Some, slice_get, slice_set, refl, sym, ap, ◌∙◌, arith, ◌⊎◌, inl, inr}
-use Rattle.list_laws.proofs.Booleans.{below_cases}
+use Rattle.base.proofs.Booleans.{below_cases}
 
 set_here : {A : Type 0} (xs : List A) (i : ℕ) (x : A) → i < length xs → slice_get (slice_set xs i x) i ≡ Some x
 set_here [] i x there = absurd (omega (arith, there))
@@ -13,7 +13,7 @@ set_later (y ∷ xs) zero j x before = absurd (omega (arith, before))
 set_later (y ∷ xs) (suc i) zero x before = refl
 set_later (y ∷ xs) (suc i) (suc j) x before = set_later xs i j x (omega (arith, before))
 
--- one more item is as it must be
+-- one more item is the wanted one
 pub one_more_read : {A : Type 0} (want : ℕ → Option A) (xs : List A) (i : ℕ) (x : A) → i < length xs → want i ≡ Some x → ((j : ℕ) → j < i → want j ≡ slice_get xs j)
     → (j : ℕ) → j < i + 1 → want j ≡ slice_get (slice_set xs i x) j
 one_more_read want xs i x there is so_far j below = go (below_cases j i (omega (arith, below)))

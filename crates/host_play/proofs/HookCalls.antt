@@ -1,4 +1,4 @@
--- The calls of hooks in a run: in steps after steps, and where there are none.
+-- The calls of hooks in a run: in steps after steps, and in entries without such calls.
 use Rattle.std.proofs.Common.{◌≡◌, ℕ, zero, suc, ◌+◌, List, [], ◌∷◌, ◌++◌, length, Bool, true, false, cond, refl, sym, ap, ◌∙◌, subst, arith, append_assoc, zero-add}
 use Rattle.std.specs.Prelude.{filter, nat_lt, not, All, slice_get, ◌-◌}
 use Rattle.std.proofs.lemmas.List.Elements.{All-head, All-tail, filter-append}
@@ -7,12 +7,12 @@ use Rattle.history_spec.specs.declared.entries.Entry.TheVariants.{HostCall, Host
 use Rattle.history_spec.specs.Store.{Store}
 use Rattle.history_spec.specs.Step.{Program, Progress, Running, Finished, Faulted, Stuck, StepResult, step}
 use Rattle.history_spec.specs.Run.{Meter, steps}
-use Rattle.hook_spec.specs.Hooks.{hooks, on}
-use Rattle.hook_spec.specs.HookedRuns.{calls_among, hook_calls}
+use Rattle.record_replay_spec.specs.Hooks.{hooks, on}
+use Rattle.record_replay_spec.specs.HookedRuns.{calls_among, hook_calls}
 use Rattle.wasm_interp.specs.Calls.{IsOwn}
 use Rattle.host_play.proofs.Calls.{all_calls, is_call}
 
--- the call of an import, and of one that is none of the first `n`
+-- the call of an import, and of one that is not among the first `n`
 abbrev pub is_import_call : Entry → Bool
 is_import_call (ImportCall import args) = true
 is_import_call entry = false
@@ -23,7 +23,7 @@ is_hook_call n entry = false
 
 -- ---- entries without such calls
 
--- a test that no entry passes but a call
+-- a test that only calls pass
 abbrev pub IsOfCalls : (Entry → Bool) → Type 0
 IsOfCalls test = (e : Entry) → is_call e ≡ false → test e ≡ false
 
@@ -45,7 +45,7 @@ none_called test only (e ∷ es) none = go (none_called test only es) (is_call e
         ap (λ b. cond b (e ∷ filter test es) (filter test es)) (only e is)
         ∙ later (subst (λ b. length (cond b (e ∷ filter is_call es) (filter is_call es)) ≡ 0) is none)
 
--- where no entry passes a test, none passes a stricter one
+-- if no entry passes a test, no entry passes a stricter one
 pub none_stricter : (test strict : Entry → Bool) → ((e : Entry) → test e ≡ false → strict e ≡ false) → (es : List Entry) → filter test es ≡ [] → filter strict es ≡ []
 none_stricter test strict only [] none = refl
 none_stricter test strict only (e ∷ es) none = go (none_stricter test strict only es) (test e) refl
@@ -109,7 +109,7 @@ both_none (x ∷ xs) ys none = cc
 pub none_in_both : (test : Entry → Bool) (xs ys : List Entry) → filter test (xs ++ ys) ≡ [] → (filter test xs ≡ []) × (filter test ys ≡ [])
 none_in_both test xs ys none = both_none (filter test xs) (filter test ys) (sym (filter-append test xs ys) ∙ none)
 
--- steps without such calls
+-- steps without calls of hooks
 pub quiet : (n : ℕ) (program : Program) (meter : Meter) (k : ℕ) (at : Progress) → filter (is_hook_call n) (steps program meter k at).history ≡ [] → hook_calls n program k at ≡ []
 quiet n program meter zero at none = refl
 quiet n program meter (suc k) (Running config) none =

@@ -6,7 +6,7 @@ use Rattle.host_script.specs.declared.scripts.Script.{Script}
 use Rattle.history_spec.specs.declared.entries.Entry.TheVariants.{ImportReturn}
 use Rattle.history_spec.specs.Step.{StepResult, response_to}
 use Rattle.wasm_flat.specs.Meters.{Weighing}
-use Rattle.hook_spec.specs.HookedRuns.{call_of_hook}
+use Rattle.record_replay_spec.specs.HookedRuns.{call_of_hook}
 use Rattle.hook_names.specs.Steps.{IsRun, Steps}
 use Rattle.wasm_interp.specs.declared.machine.Pause.{Pause}
 use Rattle.wasm_interp.specs.declared.machine.Pause.TheVariants as pause

@@ -4,9 +4,9 @@ use Rattle.std.specs.Prelude.{Result, Ok, Err, ⊤, cond, slice_get}
 use Rattle.std.proofs.lemmas.Bool.{le-ltb}
 use Rattle.wasm_syntax.specs.declared.values.Val.{Val}
 use Rattle.history_spec.specs.Store.{Store}
-use Rattle.hook_spec.specs.declared.hooks.Hook.{Hook}
-use Rattle.hook_spec.specs.Hooks.{HookCall, hooks, on}
-use Rattle.hook_spec.specs.HookedRuns.{call_of_hook}
+use Rattle.record_replay_spec.specs.declared.hooks.Hook.{Hook}
+use Rattle.record_replay_spec.specs.Hooks.{HookCall, hooks, on}
+use Rattle.record_replay_spec.specs.HookedRuns.{call_of_hook}
 use Rattle.hook_names.specs.Steps.{IsRun, Steps}
 use Rattle.hook_names.specs.declared.hooks.HookFault.{HookFault}
 

@@ -6,8 +6,8 @@ use Rattle.std.specs.List.{AllZip, cons_option}
 use Rattle.std.proofs.lemmas.List.{length-drop}
 use Rattle.std.proofs.lemmas.Option.{slice_get_within}
 use Rattle.std.proofs.lemmas.List.Elements.{All-nil}
-use Rattle.list_laws.proofs.Booleans.{and_left, and_right}
-use Rattle.list_laws.proofs.Lists.{get_front}
+use Rattle.base.proofs.Booleans.{and_left, and_right}
+use Rattle.base.proofs.Lists.{get_front}
 use Rattle.wasm_syntax.specs.declared.values.Val.{Val}
 use Rattle.wasm_syntax.specs.declared.signatures.FuncType.{FuncType}
 use Rattle.wasm_syntax.specs.declared.modules.Import.{Import}
@@ -22,12 +22,12 @@ use Rattle.host_script.specs.declared.scripts.Script.{Script}
 use Rattle.host_script.specs.Fits.{Fits, FitsAction, FitsImport, FitsResponse}
 use Rattle.history_spec.specs.Code.{code_of, signature}
 use Rattle.wasm_flat.specs.Meters.{FitsMeter, Weighing}
-use Rattle.hook_spec.specs.declared.hooks.Hook.{Hook}
-use Rattle.hook_spec.specs.Hooks.{hooks, hook_count, hook_name, hook_type}
-use Rattle.hook_spec.specs.HookedForm.{HookedForm, are_hooks, brings, digest_length, form_of_sections, func_imports, hooked_sections, imports_hooks, is_from_hooks, is_func_kind, is_hook, is_of_type, own_imports}
-use Rattle.hook_spec.specs.Instrumented.{section_bytes}
+use Rattle.record_replay_spec.specs.declared.hooks.Hook.{Hook}
+use Rattle.record_replay_spec.specs.Hooks.{hooks, hook_count, hook_name, hook_type}
+use Rattle.record_replay_spec.specs.HookedForm.{HookedForm, are_hooks, brings, digest_length, form_of_sections, func_imports, hooked_sections, imports_hooks, is_from_hooks, is_func_kind, is_hook, is_of_type, own_imports}
+use Rattle.record_replay_spec.specs.Instrumented.{section_bytes}
 use Rattle.wasm_syntax.specs.declared.modules.Custom.{Custom}
-use Rattle.hook_spec.specs.HookedRuns.{first_answers, hook_answer, hooked_script}
+use Rattle.record_replay_spec.specs.HookedRuns.{first_answers, hook_answer, hooked_script}
 use Rattle.host_play.specs.HookedResults.{FormsHaveHooks, HasHooksAfter}
 use Rattle.host_play.specs.HooksSoFar.{CanPlay, HasHooks}
 use Rattle.host_play.proofs.HookAnswers.{hook_answered}

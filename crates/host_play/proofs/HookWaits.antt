@@ -1,4 +1,4 @@
--- Where the machine has come to a call of an import: its arguments, and how much is left to do.
+-- If the machine has come to a call of an import: its arguments, and how much is left to do.
 use Rattle.std.proofs.Common.{◌≡◌, ℕ, suc, ◌+◌, ◌<◌, ◌≤◌, [], ◌∷◌, length, Some, refl, sym, ap, ◌∙◌, subst, arith, ◌⊎◌, inl, inr, slice_get}
 use Rattle.std.proofs.Math.Nat.{eq-or-lt_of_le}
 use Rattle.wasm_syntax.specs.declared.signatures.FuncType.{FuncType}
@@ -15,8 +15,8 @@ use Rattle.type_safety.specs.Stores.{func_count}
 use Rattle.type_safety.specs.Values.{IsValue}
 use Rattle.wasm_flat.specs.Meters.{Weighing, meter_of}
 use Rattle.flat_steps.specs.Follows.{outside_of}
-use Rattle.hook_spec.specs.declared.hooks.Hook.{Hook}
-use Rattle.hook_spec.specs.Hooks.{hooks, hook_count, hook_params, hook_type}
+use Rattle.record_replay_spec.specs.declared.hooks.Hook.{Hook}
+use Rattle.record_replay_spec.specs.Hooks.{hooks, hook_count, hook_params, hook_type}
 use Rattle.wasm_interp.specs.declared.machine.Pause.{Pause}
 use Rattle.wasm_interp.specs.declared.machine.Pause.TheVariants as pause
 use Rattle.wasm_interp.specs.Advance.{Advances}

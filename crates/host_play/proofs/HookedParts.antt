@@ -18,7 +18,7 @@ use Rattle.history_spec.specs.Step.{Program, Running, StepResult, after_entries,
 use Rattle.history_spec.specs.Run.{Meter, Run, program_of, run_from, steps}
 use Rattle.wasm_flat.specs.Meters.{Weighing, meter_of}
 use Rattle.flat_steps.specs.Follows.{outside_of}
-use Rattle.hook_spec.specs.HookedRuns.{call_of_hook, hook_calls}
+use Rattle.record_replay_spec.specs.HookedRuns.{call_of_hook, hook_calls}
 use Rattle.wasm_interp.specs.declared.machine.Pause.{Pause}
 use Rattle.wasm_interp.specs.declared.machine.Pause.TheVariants as pause
 use Rattle.wasm_interp.specs.State.{State}
@@ -103,7 +103,7 @@ module _ (m : Module) (script : Script) (weighing : Weighing) (s : StepResult) (
   start_none : all_calls start.entries ≡ 0
   start_none = delivers_none stack []
 
-  -- where the host is not called, no hook is
+  -- if the host is not called, no hook is called
   no_calls : (n : ℕ) (entries : List Entry) → a.last.entries ≡ entries → filter (is_hook_call n) (a.before ++ entries) ≡ [] → hook_calls n (program_of m script) a.count start.next ≡ []
   no_calls n entries is none =
       quiet n (program_of m script) (meter_of m weighing) a.count start.next
@@ -134,7 +134,7 @@ module _ (m : Module) (script : Script) (weighing : Weighing) (s : StepResult) (
       no_calls n (a.entries ++ []) (ap (λ (t : StepResult). t.entries) ends.comes.same ∙ sym (append-nil a.entries))
       (own_none n [] refl (own_as m script weighing s playing standing left end new now run pause.Spent is))
 
-  -- ---- where an import is called
+  -- ---- if an import is called
 
   module _ (index : ℕ) (is : end ≡ pause.Import index) where
     abbrev to : ComesToImport m standing.heights (program_of m script) (outside_of standing.goes_on.below) standing.counts index a.entries new a.last
@@ -149,7 +149,7 @@ module _ (m : Module) (script : Script) (weighing : Weighing) (s : StepResult) (
     abbrev answer : Option Response → StepResult
     answer r = answer_call r new.store standing.counts index to.args (InModule to.frame ∷ to.below)
 
-    -- the import is none of the hooks
+    -- the import is not a hook
     own_answer : (n : ℕ) → nat_lt index n ≡ true → (r : Option Response) → filter (is_hook_call n) (answer r).entries ≡ []
     own_answer n below None = refl
     own_answer n below (Some r) =
@@ -166,7 +166,7 @@ module _ (m : Module) (script : Script) (weighing : Weighing) (s : StepResult) (
         ∙ ap (λ front. front ++ filter (is_hook_call n) (answer response).entries) (no_hooks n to.before before.more_imports)
         ∙ own_answer n below response)
 
-    -- it is a hook, which the host answers by a response
+    -- the import is a hook, which the host answers by a response
     module _ (r : Response) (answered : response ≡ Some r) where
       abbrev func : ℕ
       func = standing.goes_on.frame.func

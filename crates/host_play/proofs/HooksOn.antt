@@ -1,4 +1,4 @@
--- A run with hooks after what has come before.
+-- A run with hooks after its earlier steps.
 use Rattle.std.proofs.Common.{◌≡◌, ℕ, suc, ◌+◌, ◌-◌, ◌≤◌, ◌<◌, List, [], ◌∷◌, ◌++◌, Bool, true, false, refl, sym, ap, ◌∙◌, subst, arith, inl, inr}
 use Rattle.std.specs.Prelude.{Result, Ok, Err, ⊤, cond, nat_lt, slice_get, slice_index}
 use Rattle.std.proofs.lemmas.Bool.{ltb-false}
@@ -7,8 +7,8 @@ use Rattle.wasm_syntax.specs.declared.modules.Module.{Module}
 use Rattle.wasm_syntax.specs.Index.{imported_funcs}
 use Rattle.host_script.specs.declared.scripts.Script.{Script}
 use Rattle.host_script.specs.declared.scripts.ResponseEnd.TheVariants.{Trap}
-use Rattle.run_outcomes.specs.declared.outcomes.Outcome.{Outcome}
-use Rattle.run_outcomes.specs.declared.outcomes.Outcome.TheVariants.{Trapped as ByTrap}
+use Rattle.base.specs.declared.outcomes.Outcome.{Outcome}
+use Rattle.base.specs.declared.outcomes.Outcome.TheVariants.{Trapped as ByTrap}
 use Rattle.history_spec.specs.declared.entries.Entry.{Entry}
 use Rattle.history_spec.specs.Action.{ActionResult, Changes, Enters, Fails, Unfit, perform}
 use Rattle.history_spec.specs.Budget.{IsOver}
@@ -19,8 +19,8 @@ use Rattle.history_spec.specs.Step.{Program, Progress, Running, StepResult, afte
 use Rattle.history_spec.specs.Run.{Run, program_of, steps}
 use Rattle.wasm_flat.specs.Meters.{Weighing, meter_of}
 use Rattle.flat_steps.specs.Follows.{AwaitsHost, outside_of}
-use Rattle.hook_spec.specs.Hooks.{HookCall, hooks, on}
-use Rattle.hook_spec.specs.HookedRuns.{call_of_hook, calls_among, hook_calls}
+use Rattle.record_replay_spec.specs.Hooks.{HookCall, hooks, on}
+use Rattle.record_replay_spec.specs.HookedRuns.{call_of_hook, calls_among, hook_calls}
 use Rattle.hook_names.specs.Steps.{IsRun, Steps}
 use Rattle.hook_names.specs.declared.hooks.HookFault.{HookFault}
 use Rattle.hook_names.specs.declared.hooks.HookFault.TheVariants as hook
@@ -75,13 +75,13 @@ module _ (program : Program) (n : ℕ) where
   host_none c (InImport import args [] end ∷ below) awaits = refl
   host_none c (InImport import args (action ∷ actions) end ∷ below) awaits = acts_none c (InImport import args actions end ∷ below) (perform program.code c.store args action)
 
--- ---- where a run with hooks stands
+-- ---- the place of a run with hooks
 
 module _ {H : Type 0} (is_step : Steps H) (m : Module) (script : Script) (weighing : Weighing) (n : ℕ) (initial : StepResult) (budget : ℕ) (begun : H) where
   abbrev r : HookedRun
   r = run_in m script weighing n initial budget
 
-  -- with what the host did first
+  -- the run with hooks begins with what the host did first
   pub hooks_begun : (entries : List Entry) (stand : Stand) (playing : PlayState) → CanPlay m script weighing n → Leads m script initial entries stand playing
       → HooksSoFar is_step m script weighing n initial budget begun begun stand playing budget
   hooks_begun entries stand playing can_play leads = record {
@@ -92,7 +92,7 @@ module _ {H : Type 0} (is_step : Steps H) (m : Module) (script : Script) (weighi
   }
 
   module _ (now : H) (stand : Stand) (playing : PlayState) (left : ℕ) (t : HooksSoFar is_step m script weighing n initial budget begun now stand playing left) where
-    -- memory is out
+    -- memory is exhausted: the hooks took the calls so far
     pub taken_so_far : AnswersWithin is_step r (Ok tt) begun now
     taken_so_far =
         let spent : t.reached.used + left ≡ budget = t.reached.spent in

@@ -1,4 +1,4 @@
--- The host's part of a run, after what has come before.
+-- The host's part of a run, after the run's earlier steps.
 use Rattle.std.proofs.Common.{◌≡◌, ℕ, ◌+◌, ◌-◌, List, [], ◌++◌, sym, ap, ◌∙◌, subst, arith, inl, inr}
 use Rattle.std.specs.Prelude.{None, Result, Ok, Err}
 use Rattle.wasm_syntax.specs.declared.modules.Module.{Module}
@@ -27,7 +27,7 @@ use Rattle.host_play.proofs.Reaches.{goes_free, goes_step, host_weight, spends, 
 same_config : (s : StepResult) (a b : Config) → s ≡ step_result [] (Running a) → s ≡ step_result [] (Running b) → a ≡ b
 same_config s a b first second = let same : Running a ≡ Running b = ap (λ (t : StepResult). t.next) (sym first ∙ second) in cc
 
--- a step of the run that stands before one of the host
+-- a step of the run before a step of the host
 pub made_by_host : (m : Module) (script : Script) (s : StepResult) (result : Result PlayStep Refusal) (playing : PlayState) → BeforeHostStep s → MakesStep m script s result playing → MakesHostStep m script s result playing
 made_by_host m script s result playing before made = record {
   before = before;
@@ -45,7 +45,7 @@ action_stops m script s budget left now (unmade.Fault kind) playing one before m
     (one, same, made_by_host m script s (Err (unmade.Fault kind)) playing before made)
 action_stops m script s budget left now unmade.Memory playing one before made = tt
 
--- what the host did leads to where a part begins, or to the end
+-- what the host did leads to the beginning of a part, or to the end
 pub part_after : (did : HostStep) → BeginsPart (stand_after did)
 part_after host_step.Stays = tt
 part_after (host_step.Calls func args) = tt
@@ -53,7 +53,7 @@ part_after (host_step.Returns import value) = tt
 part_after host_step.Traps = tt
 part_after host_step.Ends = tt
 
--- ---- after what has come before
+-- ---- after the run's earlier steps
 
 pub host_comes : (m : Module) (script : Script) (weighing : Weighing) (initial : StepResult) (budget : ℕ) (history : List Entry) (playing : PlayState) (left : ℕ)
     → (r : ComesTo m script weighing initial budget history at.Host playing left) → (did : HostStep) (new_playing : PlayState) (now : ℕ)

@@ -1,5 +1,5 @@
--- The store in which a run calls a hook. The machine's part of a run says in which store the call is answered; that this
--- is the one in which the step began is seen by another run of the same code, in which the host answers by a call.
+-- The store in which a run calls a hook. The machine's part of a run shows in which store the call is answered; that
+-- this is the one in which the step began is seen by another run of the same code, whose host answers by a call.
 use Rattle.std.proofs.Common.{◌≡◌, ℕ, zero, suc, ◌+◌, List, [], ◌∷◌, ◌++◌, Option, Some, None, Bool, true, false, map, option_map, slice_get, refl, sym, ap, ◌∙◌, subst, ◌⊎◌, inl, inr}
 use Rattle.std.specs.Prelude.{filter, nat_lt, slice_index, slice_set, option_and_then}
 use Rattle.std.proofs.lemmas.List.{append-nil}
@@ -18,7 +18,7 @@ use Rattle.history_spec.specs.Instruction.{Control, Goes, Calls, Returns, Execut
 use Rattle.history_spec.specs.Settle.{settle, deliver, return_entry}
 use Rattle.history_spec.specs.Step.{Program, Progress, Running, Finished, Faulted, Stuck, StepResult, after_action, after_entries, after_instruction, after_settling, answer_call, call_function, enter_function, response_of, response_to, step, step_of}
 use Rattle.history_spec.specs.Run.{Meter, steps}
-use Rattle.hook_spec.specs.HookedRuns.{call_of_hook, calls_among, hook_calls}
+use Rattle.record_replay_spec.specs.HookedRuns.{call_of_hook, calls_among, hook_calls}
 use Rattle.host_play.proofs.Calls.{all_calls, delivers_none, enters_none, is_host_call, returns_none}
 use Rattle.host_play.proofs.HookCalls.{calls_none, import_is_call, is_import_call, none_called, none_in_both, no_hooks, quiet}
 
@@ -51,7 +51,7 @@ module _ (code : Code) (answers : List (Option Answer)) (func : ℕ) (given : Li
   abbrev pub other : Program
   other = record { code = code; answers = others }
 
-  -- ---- where a response is there, the other one is this call
+  -- ---- if there is a response, the other response is this call
 
   there_as : (items : List (Option Answer)) (import : ℕ) (number other_number : ℕ) (response : Response)
       → option_and_then (λ answer. response_of answer number) (option_and_then (λ a. a) (slice_get items import)) ≡ Some response
@@ -115,7 +115,7 @@ module _ (code : Code) (answers : List (Option Answer)) (func : ℕ) (given : Li
 
   -- ---- after the call
 
-  -- the other run stands where the host is to make its call
+  -- the other run is at the point where the host makes its call
   stays : (meter : Meter) (l : ℕ) (c d : Config) (import : ℕ) (args : List Val) (below : List Activation) → c.stack ≡ InImport import args (Call func given ∷ []) Trap ∷ below
       → hosts_in (steps other meter l (Running c)).history ≡ [] → (steps other meter l (Running c)).at ≡ Running d → c.store ≡ d.store
   stays meter zero c d import args below is none at = let same : c ≡ d = cc in ap (λ (x : Config). x.store) same

@@ -1,6 +1,6 @@
 -- Steps after steps of a run.
 use Rattle.std.proofs.Common.{◌≡◌, ℕ, suc, zero, ◌+◌, List, [], ◌++◌, refl, sym, ap, ◌∙◌, arith, append_assoc, zero-add}
-use Rattle.run_outcomes.specs.declared.outcomes.Outcome.{Outcome}
+use Rattle.base.specs.declared.outcomes.Outcome.{Outcome}
 use Rattle.history_spec.specs.declared.entries.Entry.{Entry}
 use Rattle.history_spec.specs.declared.entries.FaultKind.{FaultKind}
 use Rattle.history_spec.specs.Step.{Program, Progress, Running, Finished, Faulted, Stuck, StepResult, step}
@@ -47,7 +47,7 @@ joined program meter (suc k) n (Faulted kind) =
 joined program meter (suc k) n Stuck =
     ap (λ j. steps program meter j Stuck) (more_number k n) ∙ sym (ap (run_after [] 0) (stuck program meter n))
 
--- a run goes on from where it has come to
+-- a run goes on from the point to which it has come
 pub run_continued : (program : Program) (meter : Meter) (initial : StepResult) (k n : ℕ) (history entries : List Entry) (used taken : ℕ) (next last : Progress)
     → run_from program meter initial k ≡ run_of history used next → steps program meter n next ≡ run_of entries taken last
     → run_from program meter initial (k + n) ≡ run_of (history ++ entries) (used + taken) last
@@ -60,7 +60,7 @@ run_continued program meter initial k n history entries used taken next last fir
     ∙ ap (λ es. run_of es (0 + (inner.turns + taken)) last) (sym (append_assoc initial.entries inner.history entries) ∙ ap (λ es. es ++ entries) here)
     ∙ ap (λ t. run_of (history ++ entries) t last) (let sum : 0 + (inner.turns + taken) ≡ used + taken = omega (arith, spent) in sum)
 
--- a run goes on as from where it has come to
+-- a run goes on from a point as from a start
 pub run_joined : (program : Program) (meter : Meter) (initial pending last : StepResult) (k n : ℕ) (history before : List Entry) (used taken : ℕ)
     → run_from program meter initial k ≡ run_of (history ++ pending.entries) used pending.next
     → run_from program meter pending n ≡ run_of (before ++ last.entries) taken last.next

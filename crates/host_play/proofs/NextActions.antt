@@ -1,4 +1,4 @@
--- The host's next action, where it has one: the step that it is, and what the run goes on with after it.
+-- The host's next action, if it has one: its step, and what the run goes on with after it.
 use Rattle.std.proofs.Common.{◌≡◌, ℕ, suc, zero, ◌+◌, List, [], ◌∷◌, drop, Some, slice_get, refl, sym, ap, ◌∙◌, subst, arith}
 use Rattle.std.proofs.lemmas.List.Elements.{All-head}
 use Rattle.wasm_syntax.specs.declared.values.Val.{Val}
@@ -35,7 +35,7 @@ drop_at (a ∷ xs) (suc i) x is =
     let more : suc i + 1 ≡ suc (i + 1) = omega arith in
     drop_at xs i x is ∙ ap (λ n. x ∷ drop n (a ∷ xs)) (sym more)
 
--- what holds where the host's next action is this one
+-- what holds if the host's next action is this one
 pub record IsNext (m : Module) (heights : Heights) (script : Script) (counts : List ℕ) (playing : PlayState) (top : Host) (action : Action) (s : StepResult) : Type 0 where
   pub whole : List Activation
   pub left : List Activation
@@ -125,7 +125,7 @@ module _ (m : Module) (heights : Heights) (script : Script) (counts : List ℕ)
       subst (λ t. IsNext m heights script counts playing t action s) top_is
       (opened_answer import args actions «end» called number next below plays.0 (ap (action_at script) top_is ∙ there) (subst (λ hs. Plays script (InImport import args actions «end» ∷ below) (host.Answer called number next ∷ hs)) (sym (ap below_of are)) plays) stands same)
 
--- the run stands before that action
+-- the run before that action
 module _ (script : Script) (counts : List ℕ) (store : Store) (action : Action) (s : StepResult) where
   stands_main : (actions : List Action) (next : ℕ) (below : List Activation) → actions ≡ drop next script.main → slice_get script.main next ≡ Some action
       → s ≡ after_settling store counts (settle (InMain actions ∷ below)) → BeforeHostStep s

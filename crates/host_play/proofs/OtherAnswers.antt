@@ -1,4 +1,4 @@
--- The module that is run, under other answers: each answer that is there is a call of a function that is active, which
+-- The module that is run, under other answers: each answer that exists is a call of a function that is active, which
 -- fits every module.
 use Rattle.std.proofs.Common.{◌≡◌, ℕ, zero, suc, List, [], ◌∷◌, Option, Some, None, Bool, false, true, cond, map, option_map, refl, ap, subst}
 use Rattle.std.specs.Prelude.{All, IsTrue, nat_lt, option_and_then, slice_get, ◌-◌}

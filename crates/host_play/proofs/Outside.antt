@@ -18,12 +18,12 @@ plays_whole script (InModule frame ∷ below) hosts p = plays_whole script below
 plays_whole script (InMain actions ∷ below) hosts p = p
 plays_whole script (InImport import args actions «end» ∷ below) hosts p = p
 
--- two stacks with the same activations from there on
+-- two stacks with the same activations from the topmost of the host on
 pub plays_same : (script : Script) (stack other : List Activation) (hosts : List Host) → outside_of other ≡ outside_of stack → Plays script stack hosts → Plays script other hosts
 plays_same script stack other hosts same p =
     plays_whole script other hosts (subst (λ outside. Plays script outside hosts) (sym same) (plays_outside script stack hosts p))
 
--- there is one
+-- a stack that awaits the host has a topmost activation of the host
 pub awaits_outside : (script : Script) (stack : List Activation) (hosts : List Host) → Plays script stack hosts → AwaitsHost (outside_of stack)
 awaits_outside script [] hosts p = absurd p
 awaits_outside script (InModule frame ∷ below) hosts p = awaits_outside script below hosts p

@@ -4,7 +4,7 @@ use Rattle.std.specs.Prelude.{Some, None, Ok, Err}
 use Rattle.std.proofs.lemmas.List.{append-nil}
 use Rattle.wasm_syntax.specs.declared.modules.Module.{Module}
 use Rattle.host_script.specs.declared.scripts.Script.{Script}
-use Rattle.run_outcomes.specs.declared.outcomes.Outcome.{Outcome}
+use Rattle.base.specs.declared.outcomes.Outcome.{Outcome}
 use Rattle.history_spec.specs.declared.entries.Entry.{Entry}
 use Rattle.history_spec.specs.Budget.{IsOver, IsOverWithin, IsSpent}
 use Rattle.history_spec.specs.Configuration.{Activation, Config, InModule, InMain, InImport}
@@ -40,7 +40,7 @@ host_weight m (Some weights) (InModule frame ∷ below) awaits = absurd awaits
 host_weight m (Some weights) (InMain actions ∷ below) awaits = refl
 host_weight m (Some weights) (InImport import args actions «end» ∷ below) awaits = refl
 
--- after steps that go on, one more
+-- one more step after steps that go on
 more : (program : Program) (meter : Meter) (k : ℕ) (at : Progress) (config : Config) → (steps program meter k at).at ≡ Running config
     → steps program meter (suc k) at ≡ run_of ((steps program meter k at).history ++ (step program config).entries) ((steps program meter k at).turns + weight meter config) (step program config).next
 more program meter zero (Running c) config is =
@@ -73,7 +73,7 @@ one_more program meter initial k history turns config is =
     ∙ ap (λ es. run_of (es ++ (step program config).entries) (0 + (inner.turns + weight meter config)) (step program config).next) here
     ∙ ap (λ n. run_of (history ++ (step program config).entries) n (step program config).next) (omega arith)
 
--- ---- where a run comes to
+-- ---- the place to which a run comes
 
 module _ (m : Module) (script : Script) (weighing : Weighing) (initial : StepResult) (budget : ℕ) where
   abbrev meter : Meter
@@ -95,7 +95,7 @@ module _ (m : Module) (script : Script) (weighing : Weighing) (initial : StepRes
     standing = l.standing;
   }
 
-  -- what it begins with
+  -- what the run begins with
   abbrev pub begins : (entries : List Entry) (stand : Stand) (playing : PlayState) → Leads m script initial entries stand playing → ComesTo m script weighing initial budget ([] ++ entries) stand playing budget
   begins entries stand playing l = led stand playing 0 budget 0 [] entries initial (ap (λ es. run_of es 0 initial.next) (append-nil initial.entries)) (omega arith) l
 
@@ -103,14 +103,14 @@ module _ (m : Module) (script : Script) (weighing : Weighing) (initial : StepRes
     abbrev pub goes_free : (moved : PlayStep) (new_playing : PlayState) → Leads m script r.pending moved.entries moved.stand new_playing → ComesTo m script weighing initial budget (history ++ moved.entries) moved.stand new_playing left
     goes_free moved new_playing l = led moved.stand new_playing r.steps left r.used history moved.entries r.pending r.run r.spent l
 
-    -- where it stands before a step
+    -- a run that is before a step
     pub standing_run : (config : Config) → r.pending ≡ step_result [] (Running config) → run_from (program_of m script) meter initial r.steps ≡ run_of history r.used (Running config)
     standing_run config is =
         r.run
         ∙ ap (λ (t : StepResult). run_of (history ++ t.entries) r.used t.next) is
         ∙ ap (λ es. run_of es r.used (Running config)) (append-nil history)
 
-    -- after a step that takes a turn
+    -- the run after a step that takes a turn
     pub stepped : (config : Config) → r.pending ≡ step_result [] (Running config) → weight meter config ≡ 1
         → run_from (program_of m script) meter initial (suc r.steps) ≡ run_of (history ++ (step (program_of m script) config).entries) (r.used + 1) (step (program_of m script) config).next
     stepped config is one =
@@ -153,10 +153,10 @@ module _ (m : Module) (script : Script) (weighing : Weighing) (initial : StepRes
           in_budget = omega arith;
         }
 
--- ---- where each step takes a turn
+-- ---- if each step takes a turn
 
 module _ (m : Module) (script : Script) (initial : StepResult) (budget : ℕ) where
-  -- a fault of the script stops it
+  -- a fault of the script stops the run
   stopped : (count left used turn : ℕ) (history : List Entry) (s : StepResult) (refusal : Refusal)
       → run_from (program_of m script) all_one initial count ≡ run_of (history ++ s.entries) used s.next → used + left ≡ budget → turn + left ≡ budget
       → Stops refusal s → Refuses (program_of m script) initial budget (play_fault refusal turn)
@@ -176,7 +176,7 @@ module _ (m : Module) (script : Script) (initial : StepResult) (budget : ℕ) wh
         stopped (suc r.steps) now (r.used + 1) turn history (step (program_of m script) made.config) refusal
         (stepped m script None initial budget history stand playing left r made.config made.standing (weight_one made.config.stack)) (omega arith) is made.leads
 
-    -- without a turn a run stops only where memory is out, or by a fault of the script that there is not
+    -- without a turn a run stops only if memory is exhausted, or by a fault of the script, which is not possible here
     pub free_fails : (refusal : Refusal) (new_playing : PlayState) (turn : ℕ) → turn + left ≡ budget
         → LeadsBy m script r.pending (Err refusal) new_playing → Refuses (program_of m script) initial budget (play_fault refusal turn)
     free_fails refusal new_playing turn is leads = stopped r.steps left r.used turn history r.pending refusal r.run r.spent is leads

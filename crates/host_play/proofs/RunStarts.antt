@@ -35,7 +35,7 @@ use Rattle.host_play.specs.HostSteps.{stand_after, entries_of}
 use Rattle.host_play.specs.Hosts.{Plays, kept}
 use Rattle.host_play.specs.Stands.{Leads}
 
--- what is taken for granted, by another script that fits the module
+-- the assumptions of a run hold of any script that fits the module, if they hold of one
 pub begins_with : (play : Play) {first script : Script} → CanBegin play first → Fits play.code.now script
     → CanBegin play script
 begins_with play begins fits = record {
@@ -56,7 +56,7 @@ pub kept_zeros : (n : ℕ) → replicate n 0 ≡ map kept (replicate n 0)
 kept_zeros zero = refl
 kept_zeros (suc n) = ap (λ xs. 0 ∷ xs) (kept_zeros n)
 
--- the machine that a run begins with stands for the host at its own work
+-- the machine that a run begins with represents the host at its own work
 pub record IsFirst (m : Module) (heights : Heights) (script : Script) (store : Store) (first : PlayState) : Type 0 where
   pub stands : StandsFor m heights (InMain script.main ∷ []) first.machine
   pub same_store : first.machine.store ≡ store

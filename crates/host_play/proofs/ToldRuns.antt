@@ -1,4 +1,4 @@
--- A run that is told so far.
+-- A run whose history is printed so far.
 use Rattle.std.proofs.Common.{◌≡◌, ℕ, ◌+◌, ◌-◌, List, [], ◌∷◌, ◌++◌, length, refl, sym, ap, ◌∙◌, subst, arith, append_assoc, Result, Ok, Err, IfOk, IfErr, OnOk}
 use Rattle.std.specs.Prelude.{None}
 use Rattle.std.proofs.lemmas.List.{length-append}
@@ -42,7 +42,7 @@ tells_first (Ok x) told mid new_told entry entries first tells = record {
 }
 tells_first (Err refused) told mid new_told entry entries first tells = tt
 
--- the entries with which the run starts, by what the host did first, are told
+-- the entries with which the run starts, by what the host did first, are printed
 pub tells_begun : (m : Module) (script : Script) (initial : StepResult) (budget : ℕ) (told new_told : ToldLines) (did : HostStep) (stand : Stand) (playing : PlayState)
     → told ≡ record { text = []; entries = 0 } → Tells told new_told (entries_of did) → stand ≡ stand_after did
     → Leads m script initial (entries_of did) (stand_after did) playing → TellsSoFar m script initial budget new_told stand playing budget
@@ -54,7 +54,7 @@ tells_begun m script initial budget told new_told did stand playing none tells s
       tells = tells_more told new_told [] (entries_of did) (record { text_is = ap (λ (j : ToldLines). j.text) none; entries_are = ap (λ (j : ToldLines). j.entries) none }) tells;
     })
 
--- the run is over by an outcome, and all is told
+-- the run is over by an outcome, and its whole history is printed
 over : (m : Module) (script : Script) (initial : StepResult) (budget : ℕ) (e : RunEnd) (told : ToldLines) (playing : PlayState) (left : ℕ)
     → TellsSoFar m script initial budget told (at.Over e.outcome) playing left → e.turns ≡ budget - left
     → (result : Told) → result.text ≡ told.text ++ line (outcome_text e.outcome) → (result.entries ≡ told.entries) × (result.turns ≡ e.turns) × (result.outcome ≡ e.outcome)
@@ -71,7 +71,7 @@ over m script initial budget e told playing left t turns result text rest =
       turns = omega arith;
     }
 
--- the answer: the run that is told, or that memory is out
+-- the answer: the printed run, or that memory is exhausted
 pub told_or_refused : (m : Module) (script : Script) (initial : StepResult) (budget : ℕ) (e : RunEnd) (told : ToldLines) (playing : PlayState) (left : ℕ)
     → TellsSoFar m script initial budget told (at.Over e.outcome) playing left → e.turns ≡ budget - left
     → (result : Result Told PlayFault) → IfOk result (λ r. r.text ≡ told.text ++ line (outcome_text e.outcome))

@@ -3,7 +3,7 @@ use Rattle.std.proofs.Common.{◌≡◌, ℕ, ◌<◌, ◌∷◌, length, Option
 use Rattle.std.specs.Prelude.{Result, Ok, Err}
 use Rattle.wasm_syntax.specs.declared.modules.Module.{Module}
 use Rattle.host_script.specs.declared.scripts.Script.{Script}
-use Rattle.run_outcomes.specs.declared.outcomes.Outcome.TheVariants.{Trapped as ByTrap}
+use Rattle.base.specs.declared.outcomes.Outcome.TheVariants.{Trapped as ByTrap}
 use Rattle.history_spec.specs.Configuration.{Config, InModule}
 use Rattle.history_spec.specs.Step.{StepResult, step}
 use Rattle.history_spec.specs.Run.{program_of}
@@ -35,7 +35,7 @@ module _ (m : Module) (script : Script) (s : StepResult) (playing : PlayState) (
   unfolding ComesAs
   comes_as p is = subst ComesAs is (run m standing.heights (program_of m script) standing.counts standing.goes_on.frame standing.goes_on.below standing.is_run standing.goes_on.stack.machine standing.goes_on.going)
 
-  -- the step, where a part of the model's says what it leads to
+  -- the step is made, if the model's step leads to its result
   pub turns : (result : Result PlayStep Refusal) (after : PlayState) → LeadsBy m script (step (program_of m script) config) result after → MakesStep m script s result after
   turns result after leads = record {
     config = config;

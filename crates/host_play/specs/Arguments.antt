@@ -9,14 +9,14 @@ use Rattle.host_actions.specs.declared.addresses.Addresses.{Addresses}
 use Rattle.wasm_interp.specs.Frames.{argument_of}
 use Rattle.wasm_interp.specs.State.{State, IsWaiting}
 
--- an argument of the call at which the machine waits, of 32 bits
+-- the machine waits at a call that has this argument, of 32 bits
 pub record HasArgument (machine : State) (number : ℕ) : Type 0 where
   pub waits : IsWaiting machine.flat machine.frames
   pub value : Val
   pub there : argument_of machine.flat machine.frames machine.slots number ≡ Some value
   pub small : value.bits < 2 ^ 32
 
--- an address names such an argument, or none
+-- an address is a fixed one, or the argument that it names exists
 abbrev pub IsKnown : State → Address → Type 0
 IsKnown machine (Fixed at) = Unit {0}
 IsKnown machine (Arg number plus) = HasArgument machine number
@@ -26,7 +26,7 @@ AreKnown machine (Write to bytes) = IsKnown machine to
 AreKnown machine (Copy to source count) = IsKnown machine to × IsKnown machine source
 AreKnown machine other = Unit {0}
 
--- the address by that argument
+-- the address that an address of a script denotes, by that argument
 abbrev pub IsRead : State → Address → (at : ℕ) → Type 0
 IsRead machine (Fixed address) at = at ≡ address
 IsRead machine (Arg number plus) at =

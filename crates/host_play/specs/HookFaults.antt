@@ -1,4 +1,4 @@
--- Why hooks refuse a call, as the answer of a run.
+-- Why hooks refuse a call, as the result of a run.
 use Rattle.hook_names.specs.declared.hooks.HookFault.{HookFault}
 use Rattle.hook_names.specs.declared.hooks.HookFault.TheVariants as hook
 use Rattle.host_play.specs.declared.results.PlayFault.{PlayFault}

@@ -12,8 +12,8 @@ use Rattle.wasm_flat.specs.Meters.{FitsMeter, Weighing, meter_of}
 use Rattle.wasm_interp.specs.Ahead.{ahead}
 use Rattle.wasm_interp.specs.Frames.{argument_of}
 use Rattle.wasm_interp.specs.State.{IsWaiting, State}
-use Rattle.hook_spec.specs.declared.hooks.Hook.{Hook}
-use Rattle.hook_spec.specs.Hooks.{hooks, hook_count, hook_params, hook_type}
+use Rattle.record_replay_spec.specs.declared.hooks.Hook.{Hook}
+use Rattle.record_replay_spec.specs.Hooks.{hooks, hook_count, hook_params, hook_type}
 use Rattle.hook_names.specs.Steps.{Steps}
 use Rattle.host_play.specs.declared.play_state.PlayState.{PlayState}
 use Rattle.host_play.specs.declared.play_state.Stand.{Stand}
@@ -38,11 +38,11 @@ pub record HasArguments (machine : State) (args : List Val) : Type 0 where
   pub waits : IsWaiting machine.flat machine.frames
   pub each : (number : ℕ) → argument_of machine.flat machine.frames machine.slots number ≡ slice_get args number
 
--- they are as many as a hook takes
+-- the machine waits at a call with these arguments, as many as a hook takes
 abbrev pub AreArguments : State → Hook → List Val → Type 0
 AreArguments machine kind args = HasArguments machine args × (length args ≡ length (hook_params kind))
 
--- where the import is none of those that stand before the hooks, it is a hook that takes so many
+-- an import that is not before the hooks is a hook that takes this number of arguments
 pub record CallsHook (imports import : ℕ) (args : List Val) : Type 0 where
   pub there : imports ≤ import → import < imports + hook_count
   pub count : (place : ℕ) (kind : Hook) → slice_get hooks place ≡ Some kind → import ≡ imports + place
@@ -64,12 +64,12 @@ run_in m script weighing imports initial budget =
       budget = budget;
     }
 
--- what a run with hooks rests on
+-- what a run with hooks requires
 pub record CanPlay (m : Module) (script : Script) (weighing : Weighing) (imports : ℕ) : Type 0 where
   pub fits : FitsMeter m weighing
   pub hooks : HasHooks m script imports
 
--- it has come to here, and the hooks took its calls so far
+-- the run has come to this point, and the hooks took its calls so far
 pub record HooksSoFar {H : Type 0} (is_step : Steps H) (m : Module) (script : Script) (weighing : Weighing)
     (imports : ℕ) (initial : StepResult) (budget : ℕ) (begun now : H) (stand : Stand) (playing : PlayState)
     (left : ℕ) : Type 0 where
@@ -85,14 +85,14 @@ HooksOn is_step m script weighing imports initial budget begun now (Ok stand) pl
 HooksOn is_step m script weighing imports initial budget begun now (Err fault) playing left =
     RefusesWithHooks is_step (run_in m script weighing imports initial budget) fault begun now
 
--- some run with hooks stands here
+-- some run with hooks is at this point
 abbrev pub IsHooked : Script → Weighing → (imports : ℕ) → Stand → PlayState → Type 0
 IsHooked script weighing imports stand playing =
     (m : Module) × (s : StepResult) × StandsAt m script stand playing s × CanPlay m script weighing imports
 
--- ---- how much is left to do
+-- ---- how much a run has left to do
 
--- without a turn: the code that activations have ahead of them, and the host's activations
+-- what is left to do without a turn: the code that activations have ahead of them, and the host's activations
 abbrev pub free : Stand → PlayState → ℕ
 free stand playing = 2 * ahead playing.machine.flat playing.machine.frames + rest stand playing
 

@@ -1,5 +1,4 @@
--- The host's part of a run from where it stands: the next action, where a turn is left for it, or the end of what the
--- host has to do.
+-- The host's part of a run: its next action, if a turn is left for it, or the end of what the host has to do.
 use Rattle.std.specs.Prelude.{◌≡◌, ℕ, ◌+◌, ◌-◌, [], Result, Ok, Err, ◌⊎◌}
 use Rattle.wasm_syntax.specs.declared.modules.Module.{Module}
 use Rattle.host_script.specs.declared.scripts.Script.{Script}
@@ -17,25 +16,25 @@ use Rattle.host_play.specs.declared.results.PlayFault.TheVariants as refusal
 use Rattle.host_play.specs.HostSteps.{play_step_of, entries_of, stand_after}
 use Rattle.host_play.specs.Stands.{Leads, LeadsBy}
 
--- the run stands before a step of the host
+-- the run is before a step of the host
 pub record BeforeHostStep (s : StepResult) : Type 0 where
   pub config : Config
   pub standing : s ≡ step_result [] (Running config)
   pub awaits : AwaitsHost config.stack
 
--- a step of the host is made, and what follows without a turn
+-- a step of the host is made, with what follows without a turn
 pub record MakesHostStep (m : Module) (script : Script) (s : StepResult) (result : Result PlayStep Refusal)
     (playing : PlayState) : Type 0 where
   pub before : BeforeHostStep s
   pub leads : LeadsBy m script (step (program_of m script) before.config) result playing
 
--- the host did this, of so many turns that were left: its part ended without a turn, or an action took one
+-- the host did this with `left` turns: its part ended without a turn, or an action took one
 abbrev pub HostDid : Module → Script → StepResult → (left : ℕ) → HostStep → PlayState → (now : ℕ) → Type 0
 HostDid m script s left did playing now =
     ((now ≡ left) × Leads m script s (entries_of did) (stand_after did) playing)
     ⊎ ((now + 1 ≡ left) × MakesHostStep m script s (Ok (play_step_of did)) playing)
 
--- the host's action cannot be done, or no turn is left for it; that memory is out has no cause
+-- the host's action cannot be done, or no turn is left for it; exhausted memory has no cause
 abbrev pub HostStops : Module → Script → StepResult → (budget left : ℕ) → PlayFault → PlayState → (now : ℕ) → Type 0
 HostStops m script s budget left (refusal.Fault turn kind) playing now =
     (now + 1 ≡ left) × (turn ≡ budget - now) × MakesHostStep m script s (Err (unmade.Fault kind)) playing

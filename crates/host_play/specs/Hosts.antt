@@ -1,4 +1,4 @@
--- The activations of the host as code keeps them, by numbers into the script, and those that they are in the run.
+-- The activations of the host as code keeps them, by numbers into the script, and their activations in the run.
 use Rattle.std.specs.Prelude.{◌≡◌, ℕ, ◌+◌, ◌-◌, ◌^◌, min, List, [], ◌∷◌, drop, Option, Some, None, Result, Ok, Err, slice_get, slice_index, slice_set}
 use Rattle.host_script.specs.declared.scripts.Action.{Action}
 use Rattle.host_script.specs.declared.scripts.Response.{Response}
@@ -16,7 +16,7 @@ use Rattle.history_spec.specs.declared.entries.FaultKind.TheVariants.{NoResponse
 abbrev pub kept : ℕ → ℕ
 kept count = min count (2 ^ 64 - 1)
 
--- the numbers of calls of each import, after one more call of this one
+-- the numbers of calls of each import, after one more call of this import
 abbrev pub counts_after_call : List ℕ → (import : ℕ) → List ℕ
 counts_after_call counts import = slice_set counts import (kept (slice_index counts import + 1))
 
@@ -44,7 +44,7 @@ abbrev pub actions_of : Script → Host → List Action
 actions_of script (host.Main next) = script.main
 actions_of script (host.Answer import number next) = actions_in (response_to script.imports import number)
 
--- its next action
+-- the next action of an activation, if one is left
 abbrev pub action_at : Script → Host → Option Action
 action_at script h = slice_get (actions_of script h) (next_of h)
 
@@ -53,13 +53,13 @@ abbrev pub after_next_action : Host → Host
 after_next_action (host.Main next) = host.Main (next + 1)
 after_next_action (host.Answer import number next) = host.Answer import number (next + 1)
 
--- the host at its own work: what is left of it
+-- the host at its own work, with these actions left
 abbrev pub IsMain : Script → List Action → Host → Type 0
 IsMain script actions (host.Main next) = actions ≡ drop next script.main
 IsMain script actions (host.Answer import number next) = ⊥
 
--- the host in the answer to a call: to its import, by the response that was chosen when the call began; what is left
--- of it, and how it ends
+-- the host in the answer to a call: its import, by the response that was chosen when the call began; the actions that
+-- are left, and how the answer ends
 pub record IsChosen (script : Script) (import : ℕ) (actions : List Action) («end» : ResponseEnd)
     (called number next : ℕ) : Type 0 where
   pub same : called ≡ import
@@ -73,14 +73,14 @@ IsAnswer script import actions «end» (host.Main next) = ⊥
 IsAnswer script import actions «end» (host.Answer called number next) =
     IsChosen script import actions «end» called number next
 
--- the module is topmost
+-- the module's activation is topmost
 abbrev pub IsCaller : List Activation → Type 0
 IsCaller [] = ⊥
 IsCaller (InModule frame ∷ below) = Unit {0}
 IsCaller (InMain actions ∷ below) = ⊥
 IsCaller (InImport import args actions «end» ∷ below) = ⊥
 
--- the host's activations of a stack, the topmost first; the module has called what the host answers
+-- the host's activations of a stack, the topmost first; below each answer is the activation that made the call
 abbrev pub Plays : Script → List Activation → List Host → Type 0
 Plays script [] hosts = ⊥
 Plays script (InModule frame ∷ below) hosts = Plays script below hosts
@@ -90,7 +90,7 @@ Plays script (InImport import args actions «end» ∷ below) [] = ⊥
 Plays script (InImport import args actions «end» ∷ below) (top ∷ hosts) =
     IsAnswer script import actions «end» top × IsCaller below × Plays script below hosts
 
--- this is the response to a call of an import, whose number is kept as this
+-- the response to a call of an import, by the number of the call as it is kept
 abbrev pub IsResponse : Script → (import number : ℕ) → Option Response → Type 0
 IsResponse script import number found =
     (count : ℕ) → kept count ≡ number → response_to script.imports import count ≡ found
@@ -103,7 +103,7 @@ pub record BeginsAnswer (script : Script) (hosts : List Host) (counts : List ℕ
   pub pushed : new_hosts ≡ host.Answer import (slice_index counts import) 0 ∷ hosts
   pub counted : new_counts ≡ counts_after_call counts import
 
--- why this is not the case, where memory is not out
+-- why the host has no response, unless memory is exhausted
 abbrev pub HasNoResponse : Script → (counts : List ℕ) → (import : ℕ) → Refusal → Type 0
 HasNoResponse script counts import (refusal.Fault kind) =
     (kind ≡ NoResponse) × IsResponse script import (slice_index counts import) None

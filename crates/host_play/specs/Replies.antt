@@ -11,11 +11,11 @@ use Rattle.host_play.specs.Hosts.{IsResponse}
 abbrev pub response_in : Reply → Response
 response_in reply = record { actions = reply.actions.now; «end» = reply.«end» }
 
--- nothing is done and nothing returned
+-- the response that does nothing and returns nothing
 abbrev pub nothing_done : Response
 nothing_done = record { actions = []; «end» = Return None }
 
--- what the host does at the call of this number of an import is its script's response to it, where there is one
+-- what the host does at the call of this number of an import is its script's response to it, if there is one
 pub record IsReply (script : Script) (import number : ℕ) (reply : Option Reply) : Type 0 where
   pub own : MatchOption reply (response_to script.imports import number ≡ None)
       (λ reply. response_to script.imports import number ≡ Some (response_in reply))

@@ -1,4 +1,4 @@
--- What a run within a budget of turns answers.
+-- The result of a run within a budget of turns.
 use Rattle.std.specs.Prelude.{◌≡◌, ℕ, length, Result, Ok, Err}
 use Rattle.history_spec.specs.declared.entries.FaultKind.{FaultKind}
 use Rattle.history_spec.specs.Budget.{IsOverWithin, IsSpent}
@@ -27,18 +27,19 @@ pub record IsFault (program : Program) (initial : StepResult) (budget turn : ℕ
   pub kind_is : run.at ≡ Faulted kind
   pub turn_is : run.turns ≡ turn
 
--- why there is no outcome; that memory is out has no cause
+-- why there is no outcome; exhausted memory has no cause
 abbrev pub Refuses : Program → (initial : StepResult) → (budget : ℕ) → PlayFault → Type 0
 Refuses program initial budget (refusal.Fault turn kind) = IsFault program initial budget turn kind
 Refuses program initial budget refusal.Spent = IsSpent (run_from program all_one initial) all_one budget
 Refuses program initial budget (refusal.Hook number) = ⊥
 Refuses program initial budget refusal.Memory = Unit {0}
 
+-- the result of a run within a budget of turns: its history and outcome as lines, or why there is no outcome
 abbrev pub IsTold : Program → (initial : StepResult) → (budget : ℕ) → Result Told PlayFault → Type 0
 IsTold program initial budget (Ok told) = TellsRun program initial budget told
 IsTold program initial budget (Err fault) = Refuses program initial budget fault
 
--- the same, where a step is not made
+-- the fault of a run in which a step is refused
 abbrev pub play_fault : Refusal → (turn : ℕ) → PlayFault
 play_fault (unmade.Fault kind) turn = refusal.Fault turn kind
 play_fault unmade.Memory turn = refusal.Memory

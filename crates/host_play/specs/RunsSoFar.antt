@@ -28,14 +28,14 @@ pub record ComesTo (m : Module) (script : Script) (weighing : Weighing) (initial
   pub spent : used + left ≡ budget
   pub standing : StandsAt m script stand playing pending
 
--- the run has come on from such a history, each step by a turn, or there is no outcome
+-- the run has gone on from this history, each step by a turn, or there is no outcome
 abbrev pub GoesBy : Module → Script → (initial : StepResult) → (budget : ℕ) → (history : List Entry)
     → Result PlayStep PlayFault → PlayState → (left : ℕ) → Type 0
 GoesBy m script initial budget history (Ok step) playing left =
     ComesTo m script None initial budget (history ++ step.entries) step.stand playing left
 GoesBy m script initial budget history (Err fault) playing left = Refuses (program_of m script) initial budget fault
 
--- each run that has come to here goes on so
+-- each run that has come to this point goes on in this way
 abbrev pub GoesFrom : Script → (budget : ℕ) → Stand → PlayState → (left : ℕ)
     → Result PlayStep PlayFault → PlayState → (left : ℕ) → Type 0
 GoesFrom script budget stand playing left result after after_left =
@@ -45,7 +45,7 @@ GoesFrom script budget stand playing left result after after_left =
 
 -- ---- what is kept of the history
 
--- its lines are told
+-- the lines of the history so far are printed
 pub record TellsSoFar (m : Module) (script : Script) (initial : StepResult) (budget : ℕ) (told : ToldLines)
     (stand : Stand) (playing : PlayState) (left : ℕ) : Type 0 where
   pub history : List Entry
@@ -58,14 +58,14 @@ TellsOn m script initial budget (Ok stand) told playing left =
     TellsSoFar m script initial budget told stand playing left
 TellsOn m script initial budget (Err fault) told playing left = Refuses (program_of m script) initial budget fault
 
--- where the run is over, such a thing is kept of its whole history; or there is no outcome
+-- if the run is over, the property holds of its whole history; or there is no outcome
 abbrev pub UpToEnd : Program → (initial : StepResult) → (budget : ℕ) → (Kept : Stand → (left : ℕ) → Type 0)
     → Result RunEnd PlayFault → Type 0
 UpToEnd program initial budget Kept (Ok e) =
     (left : ℕ) × Kept (at.Over e.outcome) left × (e.turns ≡ budget - left)
 UpToEnd program initial budget Kept (Err fault) = Refuses program initial budget fault
 
--- ---- stands
+-- ---- places of control
 
 -- the run is not over
 abbrev pub IsOn : Stand → Type 0
@@ -76,7 +76,7 @@ abbrev pub IsOver : Stand → Type 0
 IsOver (at.Over outcome) = Unit {0}
 IsOver stand = ⊥
 
--- 1 where the run is not over
+-- 1 if the run is not over
 abbrev pub going : Stand → ℕ
 going (at.Over outcome) = 0
 going stand = 1

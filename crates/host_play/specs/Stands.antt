@@ -1,4 +1,4 @@
--- Where a run stands between its steps, as code keeps it, and how the run goes on from there.
+-- The place of control between the steps of a run, as code keeps it, and how the run goes on from there.
 use Rattle.std.specs.Prelude.{◌≡◌, ℕ, ◌+◌, ◌*◌, List, [], ◌∷◌, length, map, Result, Ok, Err}
 use Rattle.wasm_syntax.specs.declared.modules.Module.{Module}
 use Rattle.host_script.specs.declared.scripts.Script.{Script}
@@ -29,7 +29,7 @@ pub record IsStack (m : Module) (heights : Heights) (script : Script)
   pub machine : StandsFor m heights stack playing.machine
   pub hosts : Plays script stack playing.hosts
 
--- control stands at an instruction
+-- control is at an instruction
 pub record AtInstruction (m : Module) (heights : Heights) (script : Script)
     (counts : List ℕ) (playing : PlayState) (s : StepResult) : Type 0 where
   pub frame : Frame
@@ -38,7 +38,7 @@ pub record AtInstruction (m : Module) (heights : Heights) (script : Script)
   pub going : IsGoing frame.at.rest
   pub same : s ≡ step_result [] (Running (config_of playing.machine (InModule frame ∷ below) counts))
 
--- control has come to the module, and the returns that are due are not made yet
+-- control has come to the module, and the returns that are due are not performed yet
 pub record InsideModule (m : Module) (heights : Heights) (script : Script)
     (counts : List ℕ) (playing : PlayState) (s : StepResult) : Type 0 where
   pub frame : Frame
@@ -54,7 +54,7 @@ pub record AtHost (m : Module) (heights : Heights) (script : Script)
   pub awaits : AwaitsHost activations
   pub same : s ≡ after_settling playing.machine.store counts (settle activations)
 
--- how the run goes on
+-- how the run goes on from a place of control
 abbrev pub GoesOn : Module → Heights → Script → List ℕ → Stand → PlayState → StepResult → Type 0
 GoesOn m heights script counts at.Instruction playing s = AtInstruction m heights script counts playing s
 GoesOn m heights script counts at.Module playing s = InsideModule m heights script counts playing s
@@ -70,7 +70,7 @@ pub record StandsAt (m : Module) (script : Script) (stand : Stand) (playing : Pl
   pub counted : playing.counts.items ≡ map kept counts
   pub goes_on : GoesOn m heights script counts stand playing s
 
--- some run does
+-- some run is at this place and goes on from it
 abbrev pub IsPlayed : Script → Stand → PlayState → Type 0
 IsPlayed script stand playing = (m : Module) × (s : StepResult) × StandsAt m script stand playing s
 
@@ -90,7 +90,7 @@ abbrev pub LeadsBy : Module → Script → StepResult → Result PlayStep Refusa
 LeadsBy m script s (Ok moved) playing = Leads m script s moved.entries moved.stand playing
 LeadsBy m script s (Err refused) playing = Stops refused s
 
--- a step is made, and what follows without a turn
+-- a step is made, with what follows without a turn
 pub record MakesStep (m : Module) (script : Script) (s : StepResult)
     (result : Result PlayStep Refusal) (playing : PlayState) : Type 0 where
   pub config : Config

@@ -21,7 +21,7 @@ use Rattle.host_play.specs.declared.plays.Play.{Play}
 use Rattle.host_play.specs.HostSteps.{entries_of, stand_after}
 use Rattle.host_play.specs.Stands.{Leads}
 
--- what the run of a module under a script takes for granted, by its flat code and from the store that it starts with
+-- what the run of a module under a script requires of its flat code and of the store that it starts with
 pub record CanBegin (play : Play) (script : Script) : Type 0 where
   pub valid : IsValid play.code.now
   pub supported : IsSupported play.code.now
@@ -56,11 +56,11 @@ abbrev pub Starts : Option ℕ → PlayState → HostStep → PlayState → Type
 Starts None old did new = AtWork old did new
 Starts (Some func) old did new = StartsBy (nat_lt func old.functions.imported) func old did new
 
--- what flat code says of its functions
+-- the functions that flat code declares
 abbrev pub functions_in : Flat → Functions
 functions_in flat = record { types = flat.types; indices = flat.indices; imported = flat.imported }
 
--- the run of a module under a script, from the store that it starts with, goes on so after what the host did first
+-- the run of a module under a script, from the store that it starts with, goes on after the host's first step
 abbrev pub LeadsFirst : Module → Script → Store → HostStep → PlayState → Type 0
 LeadsFirst m script store did playing =
     Leads m script (start_in_store m script store) (entries_of did) (stand_after did) playing

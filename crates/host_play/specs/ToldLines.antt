@@ -1,4 +1,4 @@
--- The text of a history while it is told.
+-- The text of a history while it is printed.
 use Rattle.std.specs.Prelude.{◌≡◌, ℕ, ◌+◌, List, ◌++◌, length}
 use Rattle.std.specs.List.{flat_map}
 use Rattle.history_spec.specs.declared.entries.Entry.{Entry}
@@ -8,17 +8,17 @@ use Rattle.history_spec.specs.Line.{line, entry_text}
 abbrev pub lines : List Entry → List ℕ
 lines entries = flat_map (λ entry. line (entry_text entry)) entries
 
--- the lines so far, and how many entries they are of
+-- the lines so far, and the number of their entries
 pub record ToldLines : Type 0 where
   pub text : List ℕ
   pub entries : ℕ
 
--- the lines of entries were told after those
+-- the lines of entries were printed after the earlier ones
 pub record Tells (old new : ToldLines) (entries : List Entry) : Type 0 where
   pub lines_are : new.text ≡ old.text ++ lines entries
   pub count_is : new.entries ≡ old.entries + length entries
 
--- all entries of a history are told
+-- all entries of a history are printed
 pub record HasTold (told : ToldLines) (history : List Entry) : Type 0 where
   pub text_is : told.text ≡ lines history
   pub entries_are : told.entries ≡ length history

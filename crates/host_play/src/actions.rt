@@ -19,15 +19,15 @@ ghost use Rattle.host_play.specs.Stands.{IsPlayed, Leads, MakesStep, StandsAt, r
 use crate::host_steps::HostStep;
 use crate::play_state::{Host, PlayState, Refusal, Stand};
 use crate::scripted_host::ScriptedHost;
+use base::NoMemory;
 use host_actions::{ActionFault, Addresses, Done, Functions, fitting_actions, perform as do_act};
 use host_script::{Action, Address, ResponseEnd};
-use no_memory::NoMemory;
 use std::alloc::Global;
 use type_safety::rules_hold;
 use wasm_interp::{Machine, calls_are_ready, hosts_go_on, weightless_turns_end};
 use wasm_syntax::{List, Vals};
 
-/// An address, without wrapping; an argument that it names is that of the call that is answered.
+/// An address, without wrapping; an argument that it names is one of the call that is answered.
 fn address_of(machine: &Machine, address: Address) -> u64
     requires { IsKnown machine.now address }
     ensures { IsRead machine.now address result }
@@ -82,7 +82,7 @@ pub(crate) fn call(machine: &mut Machine, func: u32, args: &Vals) -> Result<(), 
     Ok(())
 }
 
-/// The arguments of the call that an action makes; none where it makes none.
+/// The arguments of the call that an action makes, empty if it makes no call.
 fn args_of(alloc: Global, action: &Action) -> Result<Vals, NoMemory>
     ensures { IfOk result (λ args. args ≡ args_in action.now) }
 {

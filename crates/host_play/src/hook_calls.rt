@@ -1,15 +1,15 @@
-// Calls of hooks: what the hooks are told of them.
+// Calls of hooks: what is passed to the hooks.
 
 ghost use Rattle.std.specs.Prelude.{◌≡◌, ℕ, ◌-◌, ◌<◌, ◌≤◌, List, Some, length, slice_get};
 ghost use Rattle.wasm_syntax.specs.declared.values.Val as vals;
 ghost use Rattle.hook_names.specs.Steps.{IsRun};
-ghost use Rattle.hook_spec.specs.Hooks.{hooks as all_hooks, hook_count, hook_params};
-ghost use Rattle.hook_spec.specs.HookedRuns.{call_of_hook};
+ghost use Rattle.record_replay_spec.specs.Hooks.{hooks as all_hooks, hook_count, hook_params};
+ghost use Rattle.record_replay_spec.specs.HookedRuns.{call_of_hook};
 ghost use Rattle.wasm_interp.specs.Frames.{argument_of};
 ghost use Rattle.host_play.specs.HooksSoFar.{AreArguments, AwaitsCall, HasArguments};
 
 use hook_names::{HookFault, Hooks, View};
-use hook_spec::Hook;
+use record_replay_spec::Hook;
 use wasm_interp::Machine;
 use wasm_syntax::{Val, ValType};
 
@@ -83,8 +83,8 @@ fn call_hook<H: Hooks>(hooks: &mut H, machine: &Machine, kind: Hook) -> Result<(
     hooks.hook(kind, &args[..count as usize], &View::of(machine.store()))
 }
 
-/// The hooks take the call of an import at which the machine waits, where it is a hook's: where it is none of a number
-/// of imports.
+/// The hooks take the call of an import at which the machine waits, if it is a hook's: an import past the
+/// given number of imports.
 pub(crate) fn take_call<H: Hooks>(
     hooks: &mut H,
     machine: &Machine,

@@ -101,7 +101,7 @@ fn go_on<H: Hooks>(
     }
 }
 
-/// Goes on from where control stands first until a turn is taken or the run is over.
+/// Goes on until a turn is taken or the run is over.
 fn go_until_turn<H: Hooks>(
     script: &ScriptedHost<'_>,
     alloc: Global,
@@ -142,7 +142,7 @@ fn go_until_turn<H: Hooks>(
     }
 }
 
-/// Goes on from where control stands first until the run is over.
+/// Goes on until the run is over.
 pub(crate) fn play_parts<H: Hooks>(
     script: &ScriptedHost<'_>,
     alloc: Global,

@@ -23,15 +23,15 @@ use std::alloc::Global;
 use wasm_flat::Meter;
 
 /// The run of a module whose last imported functions are the hooks, under a script and a meter, within a number of
-/// turns. A number of imports stand before the hooks. Each call of a hook goes to `hooks` with its arguments and a view
+/// turns. A number of imports are before the hooks. Each call of a hook goes to `hooks` with its arguments and a view
 /// of the store as it is then, and is answered by doing nothing, whatever the script has in the hooks' places; all else
-/// is as in `tell`. The script and the meter fit the module, no instruction of which is refused.
+/// is as in `tell`. The script and the meter fit the module, which has no refused instruction.
 ///
 /// # Errors
 ///
-/// `Fault` where the host cannot do what the script says, with the turn as in `tell`. `Spent` where the run needs more
-/// turns. `Hook` where the hooks find a call out of order, with its number; the run goes no further. `Memory` where
-/// memory is out, also where the hooks find none. Each of the calls of hooks up to there is a step of the hooks.
+/// `Fault` if the host cannot do what the script says, with the turn as in `tell`. `Spent` if the run needs more
+/// turns. `Hook` if the hooks find a call out of order, with its number; the run goes no further. `Memory` if memory
+/// is exhausted, also if the hooks cannot allocate. Each of the calls of hooks up to there is a step of the hooks.
 pub fn play<H: Hooks>(
     alloc: Global,
     play: Play,

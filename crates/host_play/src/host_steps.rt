@@ -1,11 +1,11 @@
-// What the host did in a step, and what a history says of it.
+// What the host did in a step, and its entry in a history.
 
 ghost use Rattle.std.specs.Prelude.{◌≡◌, ◌∷◌, [], IfOk, option_to_list};
 ghost use Rattle.host_play.specs.HostSteps.{play_step_of, stand_after};
 
 use crate::play_state::Stand;
+use base::NoMemory;
 use history_spec::{Entries, Entry, Outcome};
-use no_memory::NoMemory;
 use std::alloc::Global;
 use wasm_syntax::{List, Val, Vals};
 
@@ -14,17 +14,17 @@ use wasm_syntax::{List, Val, Vals};
 pub enum HostStep {
     /// Control stays with the host: an action changed the store, or nothing was to be done.
     Stays,
-    /// It calls a function of the module.
+    /// The host calls a function of the module.
     Calls { func: u32, args: Vals },
-    /// It returns from a call of an import.
+    /// The host returns from a call of an import.
     Returns { import: u32, value: Option<Val> },
-    /// It traps in place of a return.
+    /// The host traps instead of returning.
     Traps,
-    /// Its own work is over.
+    /// The host's own work is over.
     Ends,
 }
 
-/// A step of the run that is played: where control stands after it, and its entries.
+/// A step of the run that is played: the place of control after it, and its entries.
 #[derive(Drop)]
 pub struct PlayStep {
     pub(crate) stand: Stand,
@@ -32,7 +32,7 @@ pub struct PlayStep {
 }
 
 impl HostStep {
-    /// Where control stands after it.
+    /// The place of control after this step.
     pub(crate) fn stand(&self) -> Stand
         ensures { result ≡ stand_after self.now }
     {
@@ -48,7 +48,7 @@ impl HostStep {
         }
     }
 
-    /// The step of the run that it is, with its entry, where it has one.
+    /// Converts this host step to a step of the run, with its entry if it has one.
     pub(crate) fn play_step(self, alloc: Global) -> Result<PlayStep, NoMemory>
         ensures { IfOk result (λ moved. moved ≡ play_step_of self) }
     {
@@ -66,7 +66,7 @@ impl HostStep {
     }
 }
 
-/// One entry.
+/// A list of one entry.
 fn one(alloc: Global, entry: Entry) -> Result<Entries, NoMemory>
     ensures { IfOk result (λ entries. entries ≡ entry ∷ []) }
 {

@@ -2,7 +2,7 @@
 
 ghost use Rattle.host_play.specs.HookedResults.{FormsHaveHooks};
 
-/// In a module that has the hooked form the hooks stand after the imports of which the form says how many they are.
+/// In a module that has the hooked form the hooks are after the imports that the form counts.
 pub fn forms_have_hooks()
     ensures { FormsHaveHooks }
 {}

@@ -1,5 +1,5 @@
 //! The run of a module under a script, within a budget of turns: the machine does the module's part,
-//! and the script is the host, whose activations stand on a stack of their own.
+//! and the script is the host, whose activations are on a stack of their own.
 #![tactic(auto)]
 
 mod actions;
@@ -20,8 +20,8 @@ mod steps;
 mod tells;
 pub mod told_text;
 
+pub use base::NoMemory;
 pub use hooked_plays::play;
 pub use laws::forms_have_hooks;
-pub use no_memory::NoMemory;
 pub use plays::{Play, tell};
 pub use results::{PlayFault, Told};

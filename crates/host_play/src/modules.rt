@@ -15,7 +15,7 @@ use flat_steps::stores_fit;
 use history_spec::{FaultKind, Outcome};
 use wasm_interp::{Pause, TurnEntries};
 
-/// Makes the returns that are due.
+/// Performs the returns that are due.
 pub(crate) fn settle(
     script: &ScriptedHost<'_>,
     playing: &mut PlayState,
@@ -40,7 +40,7 @@ pub(crate) fn settle(
     }
 }
 
-/// The next instruction: where control stands after it.
+/// Executes the next instruction, and returns the place of control after it.
 pub(crate) fn turn(
     script: &ScriptedHost<'_>,
     playing: &mut PlayState,

@@ -5,9 +5,9 @@ ghost use Rattle.host_play.specs.RunsSoFar.{IsOn, IsOver};
 ghost use Rattle.host_play.specs.Hosts.{after_next_action, next_of, top_of, below_of};
 ghost use Rattle.host_play.specs.declared.play_state.Refusal.TheVariants.{Memory};
 
+use base::NoMemory;
 use history_spec::{FaultKind, Outcome};
 use host_actions::Functions;
-use no_memory::NoMemory;
 use std::alloc::Global;
 use std::marker::Model;
 use wasm_interp::Machine;
@@ -27,7 +27,7 @@ pub enum Host {
 }
 
 impl Host {
-    /// After its next action.
+    /// This activation after its next action.
     pub(crate) fn after_next_action(self) -> Host
         requires { next_of self < 2 ^ 63 }
         ensures { result ≡ after_next_action self }
@@ -47,7 +47,7 @@ impl Host {
     }
 }
 
-/// Where control stands between two steps.
+/// The place of control between two steps.
 #[derive(Clone, Copy)]
 pub enum Stand {
     /// At an instruction.
@@ -101,7 +101,7 @@ impl Model for Hosts {
 }
 
 impl Hosts {
-    /// The host at its own work, of which nothing is done yet.
+    /// The host at its own work, before its first action.
     pub(crate) fn new(alloc: Global) -> Result<Hosts, NoMemory>
         ensures { IfOk result (λ hosts. hosts ≡ Host.Main 0 ∷ []) }
     {
@@ -126,14 +126,14 @@ impl Hosts {
         Ok(())
     }
 
-    /// Removes the topmost activation, where there is one.
+    /// Removes the topmost activation, if there is one.
     pub(crate) fn pop(&mut self)
         ensures { self.new ≡ below_of self.old }
     {
         let _ = self.items.pop();
     }
 
-    /// Puts another activation in place of the topmost.
+    /// Replaces the topmost activation by another.
     pub(crate) fn replace_top(&mut self, host: Host)
         requires { IsSome (top_of self.old) }
         ensures { self.new ≡ host ∷ below_of self.old }

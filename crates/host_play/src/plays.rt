@@ -24,14 +24,14 @@ pub struct Play<'a> {
     pub store: Store,
 }
 
-/// The run of a module under a script within a number of turns, with every entry of its history told.
-/// The script fits the module, no instruction of which is refused, and the module links with it.
+/// The run of a module under a script within a number of turns, with every entry of its history printed.
+/// The script fits the module, which has no refused instruction and links with the script.
 ///
 /// # Errors
 ///
-/// `Fault` where the host cannot do what the script says: the turn is that of the action that cannot be
-/// done, or of the call that has no response. `Spent` where the run needs more turns. `Memory` where
-/// memory is out.
+/// `Fault` if the host cannot do what the script says: the turn is that of the action that cannot be
+/// done, or of the call that has no response. `Spent` if the run needs more turns. `Memory` if
+/// memory is exhausted.
 pub fn tell(alloc: Global, play: Play, turns: u64) -> Result<Told, PlayFault>
     requires begins { CanBegin play play.script.now }
     requires opened { run_start play.code.now play.script.now

@@ -1,7 +1,7 @@
-// What a script says of a call: the response; and the host's next action.
+// The response that a script has for a call; and the host's next action.
 
 ghost use Rattle.std.specs.Prelude.{◌≡◌, ◌<◌, ◌≤◌, ◌^◌, None, Some, IsSome, MatchOption, slice_get};
-ghost use Rattle.hook_spec.specs.Hooks.{hook_count};
+ghost use Rattle.record_replay_spec.specs.Hooks.{hook_count};
 ghost use Rattle.history_spec.specs.Step.{response_to};
 ghost use Rattle.host_play.specs.Hosts.{action_at, next_of, IsResponse};
 ghost use Rattle.host_play.specs.Replies.{IsReply, nothing_done, response_in};
@@ -11,7 +11,7 @@ use crate::scripted_host::ScriptedHost;
 use hook_names::HOOK_COUNT;
 use host_script::{Action, Response, ResponseEnd, Script};
 
-/// What the host does at a call of an import: actions in order, and how the call ends.
+/// What the host does at a call of an import: its actions, and how the call ends.
 #[derive(Clone, Copy)]
 pub struct Reply<'a> {
     pub actions: &'a [Action],
@@ -39,7 +39,7 @@ pub(crate) fn response_to(script: &Script, import: u32, number: u64) -> Option<&
     }
 }
 
-/// What the host does at that call by the script.
+/// What the host does at the call of this number of an import, by the script.
 pub(crate) fn reply_of(script: &Script, import: u32, number: u64) -> Option<Reply<'_>>
     ensures { IsReply script.now import number result }
 {
@@ -68,7 +68,7 @@ pub(crate) fn hook_reply(place: u32) -> Option<Reply<'static>>
     }
 }
 
-/// The next action of an activation of the host, where one is left.
+/// The next action of an activation of the host, if one is left.
 pub(crate) fn next_action<'a>(script: &ScriptedHost<'a>, host: Host) -> Option<&'a Action>
     ensures found { MatchOption result
         (action_at script.now host ≡ None)
@@ -88,7 +88,7 @@ pub(crate) fn next_action<'a>(script: &ScriptedHost<'a>, host: Host) -> Option<&
     }
 }
 
-/// An action by its number, where it is there.
+/// An action by its number, if it exists.
 fn action_in(actions: &[Action], number: usize) -> Option<&Action>
     ensures found { MatchOption result
         (slice_get actions.now number ≡ None)

@@ -1,12 +1,12 @@
-// What a run answers.
+// The result of a run.
 
 ghost use Rattle.std.specs.Prelude.{◌≡◌};
 ghost use Rattle.host_play.specs.declared.results.PlayFault.TheVariants.{Memory};
 ghost use Rattle.host_play.specs.HookFaults.{fault_of_hook};
 
+use base::NoMemory;
 use history_spec::{FaultKind, Outcome};
 use hook_names::HookFault;
-use no_memory::NoMemory;
 use thiserror::Error;
 use wasm_syntax::Bytes;
 

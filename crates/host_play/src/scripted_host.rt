@@ -1,15 +1,15 @@
 // The host that a script describes.
 
 ghost use Rattle.std.specs.Prelude.{◌≡◌};
-ghost use Rattle.hook_spec.specs.HookedRuns.{hooked_script};
+ghost use Rattle.record_replay_spec.specs.HookedRuns.{hooked_script};
 ghost use Rattle.host_play.specs.Replies.{IsReply};
 
 use crate::responses::{Reply, hook_reply, reply_of};
-use hook_spec::hooks_are_answered;
 use host_script::{Action, Script};
+use record_replay_spec::hooks_are_answered;
 use std::marker::Model;
 
-/// The host as a script describes it. Where hooks stand after a number of imports, it does nothing at their calls,
+/// The host as a script describes it. If there are hooks after a number of imports, it does nothing at their calls,
 /// whatever the script has in their places. Contracts see the script by which the host acts.
 #[derive(Drop)]
 pub struct ScriptedHost<'a> {
@@ -47,14 +47,14 @@ impl<'a> ScriptedHost<'a> {
         }
     }
 
-    /// What it does by itself.
+    /// What the host does by itself.
     pub(crate) fn main(&self) -> &'a [Action]
         ensures { result.now ≡ self.now.main }
     {
         self.script.main.as_slice()
     }
 
-    /// What it does at the call of this number, counted from 0, of an import.
+    /// What the host does at the call of this number, counted from 0, of an import.
     pub(crate) fn reply(&self, import: u32, number: u64) -> Option<Reply<'a>>
         ensures { IsReply self.now import number result }
     {

@@ -11,9 +11,9 @@ use crate::host_steps::HostStep;
 use crate::play_state::{Host, Hosts, PlayState};
 use crate::plays::Play;
 use crate::scripted_host::ScriptedHost;
+use base::NoMemory;
 use flat_steps::stores_fit;
 use host_actions::Functions;
-use no_memory::NoMemory;
 use std::alloc::Global;
 use type_safety::typed_code;
 use wasm_flat::Flat;
@@ -26,7 +26,7 @@ use wasm_syntax::{Indices, List};
 ///
 /// # Errors
 ///
-/// Where memory is out.
+/// If memory is exhausted.
 pub(crate) fn start(
     alloc: Global,
     play: Play,
@@ -62,7 +62,7 @@ fn with_first_step(
     }
 }
 
-/// What the host does first: its own work, or the call of the start function where the module
+/// What the host does first: its own work, or the call of the start function if the module
 /// defines it.
 fn first_step(
     alloc: Global,
@@ -121,7 +121,7 @@ fn with_machine(
     })
 }
 
-/// What flat code says of its functions.
+/// The functions that flat code declares.
 fn functions_of(alloc: Global, flat: &Flat) -> Result<Functions, NoMemory>
     ensures { IfOk result (λ functions. functions ≡ functions_in flat.now) }
 {

@@ -21,7 +21,7 @@ use crate::scripted_host::ScriptedHost;
 use std::alloc::Global;
 use wasm_interp::TurnEntries;
 
-/// Why a step is not made, with its turn: of a number of turns these are left.
+/// The fault of a step that is refused, with its turn: `left` of the turns are left.
 pub(crate) fn play_fault(refusal: Refusal, turns: u64, left: u64) -> PlayFault
     requires { left ≤ turns }
     ensures { result ≡ play_fault refusal (turns - left) }
@@ -35,7 +35,7 @@ pub(crate) fn play_fault(refusal: Refusal, turns: u64, left: u64) -> PlayFault
     }
 }
 
-/// The host's next action, where a turn is left for it, or the end of what it has to do.
+/// The host's next action, if a turn is left for it, or the end of what it has to do.
 pub(crate) fn go_host(
     script: &ScriptedHost<'_>,
     alloc: Global,
@@ -69,7 +69,7 @@ pub(crate) fn go_host(
     }
 }
 
-/// The next instruction, where a turn is left for it: where control stands after it.
+/// The next instruction, if a turn is left for it, and the place of control after it.
 pub(crate) fn go_instruction(
     script: &ScriptedHost<'_>,
     playing: &mut PlayState,
@@ -95,7 +95,7 @@ pub(crate) fn go_instruction(
     }
 }
 
-/// Where the module or the host begins its part: what follows without a turn, or the host's next action, where a
+/// The beginning of the module's or the host's part: what follows without a turn, or the host's next action, if a
 /// turn is left for it, with the entries.
 pub(crate) fn go(
     script: &ScriptedHost<'_>,

@@ -1,4 +1,4 @@
-// A run, told.
+// A run whose history is printed.
 
 ghost use Rattle.std.specs.Prelude.{◌≡◌, ◌+◌, ◌*◌, ◌<◌, ◌≤◌, ◌++◌, IfOk, IfErr};
 ghost use Rattle.wasm_syntax.specs.declared.modules.Module as syntax;
@@ -21,8 +21,8 @@ use crate::scripted_host::ScriptedHost;
 use crate::starts::start;
 use crate::steps::{go, go_instruction};
 use crate::told_text::ToldText;
+use base::NoMemory;
 use history_lines::print_outcome;
-use no_memory::NoMemory;
 use std::alloc::Global;
 use wasm_interp::TurnEntries;
 use wasm_syntax::List;
@@ -42,7 +42,7 @@ pub(crate) fn tell_from(
     tell_start(script, alloc, &mut playing, host_step, turns)
 }
 
-/// The run from its start, told, with what the host did first.
+/// The run from its start, with what the host did first, printed.
 fn tell_start(
     script: &ScriptedHost<'_>,
     alloc: Global,
@@ -73,7 +73,7 @@ fn tell_start(
     }
 }
 
-/// Tells what the host did first, and gives where control stands after it.
+/// Prints what the host did first, and returns the place of control after it.
 fn tell_first(
     alloc: Global,
     text_so_far: &mut ToldText,
@@ -87,7 +87,7 @@ fn tell_first(
     Ok(step.stand)
 }
 
-/// Goes on from where control stands first until the run is over, and tells the entries.
+/// Goes on until the run is over, and prints the entries.
 fn tell_steps(
     script: &ScriptedHost<'_>,
     alloc: Global,
@@ -129,7 +129,7 @@ fn tell_steps(
     }
 }
 
-/// Goes on from where control stands, and tells the entries.
+/// Goes on to the next place of control, and prints the entries.
 fn tell_on(
     script: &ScriptedHost<'_>,
     alloc: Global,
@@ -176,7 +176,7 @@ fn tell_on(
     }
 }
 
-/// Makes the next instruction, and tells it with the entries after its own.
+/// Executes the next instruction, and prints its entry and the entries after it.
 fn tell_instruction(
     script: &ScriptedHost<'_>,
     playing: &mut PlayState,
@@ -205,7 +205,7 @@ fn tell_instruction(
     }
 }
 
-/// Goes on where the module or the host begins its part, and tells the entries.
+/// Goes on from the beginning of the module's or the host's part, and prints the entries.
 fn tell_part(
     script: &ScriptedHost<'_>,
     alloc: Global,
@@ -237,7 +237,7 @@ fn tell_part(
     }
 }
 
-/// The run that was told, with the line of its outcome.
+/// The printed run, with the line of its outcome.
 fn told_run(text_so_far: ToldText, end: RunEnd) -> Result<Told, PlayFault>
     ensures text { IfOk result (λ told. told.text ≡ text_so_far.text ++ line (outcome_text end.outcome)) }
     ensures rest { IfOk result (λ told.

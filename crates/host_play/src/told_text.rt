@@ -1,4 +1,4 @@
-// The text of a history while it is told.
+// The text of a history while it is printed.
 
 ghost use Rattle.std.specs.Prelude.{◌≡◌, ◌∷◌, ◌++◌, [], OnOk, OnErr};
 ghost use Rattle.history_spec.specs.Line.{entry_text, line};
@@ -6,14 +6,14 @@ ghost use Rattle.history_lines.specs.Growth.{GrewByFirstPart};
 ghost use Rattle.wasm_interp.specs.InstrEntries.{as_entry, entries_of};
 ghost use Rattle.host_play.specs.ToldLines.{Tells};
 
+use base::NoMemory;
 use history_lines::{print_entry, print_step, print_trap};
 use history_spec::Entry;
-use no_memory::NoMemory;
 use std::alloc::Global;
 use std::marker::Model;
 use wasm_interp::{InstrEntry, TurnEntries};
 
-/// The lines of the entries so far, and how many these are.
+/// The lines of the entries so far, and the number of these entries.
 #[derive(Drop)]
 pub struct ToldText {
     pub(crate) text: Vec<u8>,
@@ -32,7 +32,7 @@ impl Model for ToldText {
 }
 
 impl ToldText {
-    /// Nothing told yet.
+    /// No entry printed yet.
     pub(crate) fn new(alloc: Global) -> ToldText
         ensures { result ≡ record { text = []; entries = 0 } }
     {
@@ -42,7 +42,7 @@ impl ToldText {
         }
     }
 
-    /// Tells an entry.
+    /// Prints an entry.
     pub(crate) fn tell(&mut self, entry: &Entry) -> Result<(), NoMemory>
         ensures { OnOk result (Tells self.old self.new (entry.now ∷ [])) }
     {
@@ -52,7 +52,7 @@ impl ToldText {
         Ok(())
     }
 
-    /// Tells an instruction.
+    /// Prints the entry of an instruction.
     fn tell_instr(&mut self, entry: &InstrEntry) -> Result<(), NoMemory>
         ensures { OnOk result (Tells self.old self.new (as_entry entry.now ∷ [])) }
     {
@@ -62,7 +62,7 @@ impl ToldText {
         Ok(())
     }
 
-    /// Tells a turn.
+    /// Prints the entries of a turn.
     pub(crate) fn tell_turn(&mut self, entries: &TurnEntries) -> Result<(), NoMemory>
         ensures { OnOk result (Tells self.old self.new (entries_of entries.now)) }
     {
@@ -73,7 +73,7 @@ impl ToldText {
         }
     }
 
-    /// Tells entries in order.
+    /// Prints entries one after another.
     pub(crate) fn tell_all(&mut self, entries: &[Entry]) -> Result<(), NoMemory>
         ensures { OnOk result (Tells self.old self.new entries.now) }
     {

@@ -1,4 +1,4 @@
--- What it is that a script fits a module, which its reading for the module sees to.
+-- A script fits a module; the reader of scripts accepts only scripts that fit.
 use Rattle.std.specs.Prelude.{◌≡◌, ℕ, ◌<◌, ◌≤◌, List, [], length, map, Option, Some, IsTrue, IfSome, slice_get, All}
 use Rattle.std.specs.List.{AllZip}
 use Rattle.std.specs.Option.{option_to_list}
@@ -24,7 +24,7 @@ use Rattle.host_script.specs.declared.scripts.Script.{Script}
 abbrev pub AreConstants : List Val → Type 0
 AreConstants values = All (λ value. IsTrue (is_constant value)) values
 
--- such values of these types
+-- values of number types, in their ranges, that have these types
 pub record AreOfTypes (types : List ValType) (values : List Val) : Type 0 where
   pub in_range : AreConstants values
   pub typed : map (λ value. value.ty) values ≡ types
@@ -35,12 +35,12 @@ HasMemory m = 0 < length (all_memories m)
 abbrev pub HasTable : Module → Type 0
 HasTable m = 0 < length (all_tables m)
 
--- an address may be an argument that is an i32, given the types of the arguments of the call that is answered
+-- whether an address may be used: an argument must be an i32, given the types of the arguments of the call
 abbrev pub FitsAddress : List ValType → Address → Type 0
 FitsAddress params (Fixed address) = Unit {0}
 FitsAddress params (Arg number plus) = slice_get params number ≡ Some I32
 
--- a global that the host sets is there, is mutable, and has the value's type
+-- a global that the host sets exists, is mutable, and has the value's type
 pub record IsSettable (m : Module) (global : ℕ) (value : Val) : Type 0 where
   pub in_range : IsTrue (is_constant value)
   pub ty : GlobalType
@@ -55,7 +55,7 @@ pub record IsCallable (m : Module) (func : ℕ) (args : List Val) : Type 0 where
   pub has_type : func_type m func ≡ Some ty
   pub fit : AreOfTypes ty.params args
 
--- an action, given the types of the arguments of the call that is answered; the host's own work has none
+-- an action fits, given the types of the arguments of the call that is answered; the host's own work has no arguments
 abbrev pub FitsAction : Module → List ValType → Action → Type 0
 FitsAction m params (Write to bytes) = HasMemory m × FitsAddress params to × All (λ byte. byte < 256) bytes
 FitsAction m params (Copy to source count) = HasMemory m × FitsAddress params to × FitsAddress params source
@@ -69,7 +69,7 @@ FitsAction m params (CallTable index args) = HasTable m × AreConstants args
 abbrev pub FitActions : Module → List ValType → List Action → Type 0
 FitActions m params actions = All (FitsAction m params) actions
 
--- a call of a function with these results ends with one where the function has one, or traps
+-- a call of a function with these results ends with a result if the function has one, or traps
 abbrev pub FitsEnd : List ValType → ResponseEnd → Type 0
 FitsEnd results (Return value) = AreOfTypes results (option_to_list value)
 FitsEnd results Trap = Unit {0}
@@ -83,7 +83,7 @@ pub record FitsAnswer (m : Module) (ty : FuncType) (answer : Answer) : Type 0 wh
   pub calls : All (FitsResponse m ty) answer.calls
   pub rest : IfSome answer.rest (FitsResponse m ty)
 
--- the answer, where there is one, for an imported function with this type index
+-- the answer, if there is one, for an imported function with this type index
 abbrev pub FitsImport : Module → ℕ → Option Answer → Type 0
 FitsImport m t answer = IfSome answer (λ a. (ty : FuncType) × (type_at m t ≡ Some ty) × FitsAnswer m ty a)
 
@@ -91,7 +91,7 @@ FitsImport m t answer = IfSome answer (λ a. (ty : FuncType) × (type_at m t ≡
 abbrev pub FitAnswers : Module → List (Option Answer) → Type 0
 FitAnswers m answers = AllZip (FitsImport m) (of_kind func_import m.imports) answers
 
--- a script, with one value for each imported global besides
+-- a script fits a module, and has one value for each imported global
 pub record Fits (m : Module) (script : Script) : Type 0 where
   pub globals : length script.globals ≡ length (imported_globals m)
   pub values : All (λ given. IfSome given (λ value. IsTrue (is_constant value))) script.globals

@@ -15,12 +15,12 @@ use Rattle.host_script.specs.declared.scripts.Supply.{Supply}
 use Rattle.host_script.specs.declared.scripts.LinkFault.{LinkFault}
 use Rattle.host_script.specs.declared.scripts.LinkFault.TheVariants.{Missing, Mismatch}
 
--- a size is at most a maximum, where there is one
+-- whether a size is at most a maximum, if there is one
 abbrev pub is_within : ℕ → Option ℕ → Bool
 is_within size None = true
 is_within size (Some max) = nat_le size max
 
--- a maximum is there and at most what an import wants, where it wants one
+-- whether there is a maximum of at most what an import wants, if the import wants one
 abbrev pub keeps_max : Option ℕ → Option ℕ → Bool
 keeps_max given None = true
 keeps_max None (Some wanted) = false
@@ -32,28 +32,28 @@ limits_match most given wanted =
     nat_le wanted.min given.min && keeps_max given.max wanted.max && is_within given.min given.max
     && nat_le given.min most
 
--- how what is supplied for an import matches it: nothing is supplied, or it is unlike the import, or alike
+-- how the supply for an import matches it: nothing is supplied, or it is unlike the import, or alike
 pub data ImportMatch : Type 0 where
   Nothing : ImportMatch
   Unlike : ImportMatch
   Alike : ImportMatch
 
--- by whether it matches
+-- the match of a supply that is alike or not
 abbrev pub alike_if : Bool → ImportMatch
 alike_if true = Alike
 alike_if false = Unlike
 
--- of limits for a memory or a table (Core 1.0, 4.5.2)
+-- the match of limits for a memory or a table (Core 1.0, 4.5.2)
 abbrev pub match_of_limits : ℕ → Option Limits → Limits → ImportMatch
 match_of_limits most None wanted = Nothing
 match_of_limits most (Some given) wanted = alike_if (limits_match most given wanted)
 
--- of a value for a global (Core 1.0, 4.5.2)
+-- the match of a value for a global (Core 1.0, 4.5.2)
 abbrev pub match_of_value : Option Val → GlobalType → ImportMatch
 match_of_value None wanted = Nothing
 match_of_value (Some value) wanted = alike_if (same_type value.ty wanted.ty)
 
--- of a script for an import that has `globals` imported globals before it; functions are always supplied
+-- how a script matches an import that has `globals` imported globals before it; functions are always supplied
 abbrev pub import_match : Script → (globals : ℕ) → ImportKind → ImportMatch
 import_match script globals (Func ty) = Alike
 import_match script globals (Table limits) = match_of_limits MOST_ENTRIES script.table limits
@@ -61,7 +61,7 @@ import_match script globals (Memory limits) = match_of_limits MOST_PAGES script.
 import_match script globals (Global ty) =
     match_of_value (option_and_then (λ value. value) (slice_get script.globals globals)) ty
 
--- how many globals an import brings
+-- the number of globals that an import adds: 1 for a global, else 0
 abbrev pub globals_in : ImportKind → ℕ
 globals_in (Func ty) = 0
 globals_in (Table limits) = 0
@@ -81,18 +81,18 @@ first_fault script (import ∷ imports) at globals =
     fault_or (import_match script globals import.kind) at
     (first_fault script imports (at + 1) (globals + globals_in import.kind))
 
--- the values that are given, in order
+-- the values that are given
 abbrev pub given_values : List (Option Val) → List Val
 given_values [] = []
 given_values (None ∷ rest) = given_values rest
 given_values (Some value ∷ rest) = value ∷ given_values rest
 
--- memory and table are supplied only where they are imported
+-- the limits of a memory or table, if it is imported
 abbrev pub if_imported : List Limits → Option Limits → Option Limits
 if_imported [] limits = None
 if_imported (import ∷ imports) limits = limits
 
--- what a script supplies where nothing is missing
+-- what a script supplies if nothing is missing
 abbrev pub supply_for : Module → Script → Supply
 supply_for m script =
     record {

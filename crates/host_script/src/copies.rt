@@ -3,14 +3,14 @@
 ghost use Rattle.std.specs.Prelude.{◌≡◌, IfOk};
 
 use crate::scripts::{Action, Answer, Response};
-use no_memory::NoMemory;
+use base::NoMemory;
 use wasm_syntax::Item;
 
 impl Action {
     /// An equal action.
     ///
     /// # Errors
-    /// Where an allocation failed.
+    /// If an allocation failed.
     pub fn clone(&self) -> Result<Action, NoMemory>
         ensures { IfOk result (λ copy. copy ≡ self.now) }
     {
@@ -59,7 +59,7 @@ impl Response {
     /// An equal response.
     ///
     /// # Errors
-    /// Where an allocation failed.
+    /// If an allocation failed.
     pub fn clone(&self) -> Result<Response, NoMemory>
         ensures { IfOk result (λ copy. copy ≡ self.now) }
     {
@@ -81,7 +81,7 @@ impl Answer {
     /// An equal answer.
     ///
     /// # Errors
-    /// Where an allocation failed.
+    /// If an allocation failed.
     pub fn clone(&self) -> Result<Answer, NoMemory>
         ensures { IfOk result (λ copy. copy ≡ self.now) }
     {

@@ -5,7 +5,7 @@ mod copies;
 pub mod scripts;
 mod types;
 
-pub use no_memory::NoMemory;
+pub use base::NoMemory;
 pub use scripts::{
     Action, Actions, Address, Answer, Answers, Given, LinkFault, Response, ResponseEnd, Responses,
     Script, Supply,

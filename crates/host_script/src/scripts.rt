@@ -5,7 +5,7 @@ use wasm_syntax::{Bytes, Limits, List, Val, Vals};
 
 /// A script for a module: what the host supplies, its answers to calls, and what it does by itself.
 /// `globals` has one item for each imported global, `imports` one for each imported function, both
-/// in order.
+/// in the module's order.
 #[derive(Debug, Drop)]
 pub struct Script {
     pub memory: Option<Limits>,
@@ -15,21 +15,21 @@ pub struct Script {
     pub main: Actions,
 }
 
-/// The answers to calls of one import: `calls` for the first ones in order, `rest` for all others.
+/// The answers to calls of one import: `calls` for the first calls, `rest` for all others.
 #[derive(Debug, Drop)]
 pub struct Answer {
     pub calls: Responses,
     pub rest: Option<Response>,
 }
 
-/// The answer to one call: actions in order, and how the call ends.
+/// The answer to one call: its actions, and how the call ends.
 #[derive(Debug, Drop)]
 pub struct Response {
     pub actions: Actions,
     pub end: ResponseEnd,
 }
 
-/// How the host ends a call: it returns a value where the function has a result, or it traps.
+/// How the host ends a call: it returns a value if the function has a result, or it traps.
 #[derive(Clone, Copy, PartialEq, Eq, Debug)]
 pub enum ResponseEnd {
     Return(Option<Val>),
@@ -83,17 +83,17 @@ pub enum Action {
 /// What a script gives for each imported global.
 pub type Given = List<Option<Val>>;
 
-/// What a script answers for each imported function.
+/// The answers of a script for each imported function.
 pub type Answers = List<Option<Answer>>;
 
-/// Answers to calls, in order.
+/// Answers to calls, the first call first.
 pub type Responses = List<Response>;
 
-/// Actions, in order.
+/// Actions, the first one first.
 pub type Actions = List<Action>;
 
 /// What the host supplies for imports: the limits of a memory of zeros and of an empty table, and
-/// the values of the imported globals in order.
+/// the values of the imported globals, by their indices.
 #[derive(Debug, Drop)]
 pub struct Supply {
     pub memory: Option<Limits>,

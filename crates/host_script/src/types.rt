@@ -5,7 +5,7 @@ ghost use Rattle.wasm_syntax.specs.Alike.{same_type};
 
 use wasm_syntax::ValType;
 
-/// Whether two value types are one.
+/// Whether two value types are the same.
 pub fn is_type(a: ValType, b: ValType) -> bool
     ensures { result ≡ same_type a b }
 {

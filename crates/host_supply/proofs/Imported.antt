@@ -1,4 +1,4 @@
--- Limits that are supplied where something of their kind is imported.
+-- Limits that are supplied if something of their kind is imported.
 use Rattle.std.proofs.Common.{◌≡◌, List, [], ◌∷◌, Option, Some, None, is_some, ◌||◌, cond, refl}
 use Rattle.std.specs.List.{list_any, cons_option}
 use Rattle.wasm_syntax.specs.declared.signatures.Limits.{Limits}

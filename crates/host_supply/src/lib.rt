@@ -4,5 +4,5 @@
 mod matches;
 mod supply;
 
-pub use no_memory::NoMemory;
+pub use base::NoMemory;
 pub use supply::{imports_memory, imports_table, supply_of};

@@ -6,7 +6,7 @@ ghost use Rattle.host_script.specs.Supply.{is_within as within, keeps_max as max
 use host_script::{LinkFault, is_type};
 use wasm_syntax::{GlobalType, Limits, Val};
 
-/// Whether a size is at most a maximum, where there is one.
+/// Whether a size is at most a maximum, if there is one.
 fn is_within(size: u32, most: Option<u32>) -> bool
     ensures { result ≡ within size most }
 {
@@ -16,7 +16,7 @@ fn is_within(size: u32, most: Option<u32>) -> bool
     }
 }
 
-/// Whether a maximum is there and at most what an import wants, where it wants one.
+/// Whether there is a maximum of at most what an import wants, if the import wants one.
 fn keeps_max(given: Option<u32>, wanted: Option<u32>) -> bool
     ensures { result ≡ max_kept given wanted }
 {
@@ -37,7 +37,7 @@ fn limits_match(most: u32, given: Limits, wanted: Limits) -> bool
         && given.min <= most
 }
 
-/// The fault of an imported memory or table, where there is one.
+/// The fault of an imported memory or table, if there is one.
 pub(crate) fn limits_fault(
     import: u32,
     most: u32,
@@ -53,7 +53,7 @@ pub(crate) fn limits_fault(
     }
 }
 
-/// The fault of an imported global, where there is one.
+/// The fault of an imported global, if there is one.
 pub(crate) fn value_fault(import: u32, given: Option<Val>, wanted: GlobalType) -> Option<LinkFault>
     ensures { result ≡ fault_or (match_of_value given wanted) import None }
 {

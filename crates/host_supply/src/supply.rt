@@ -7,8 +7,8 @@ ghost use Rattle.host_script.specs.Supply.{import_match, globals_in as global_co
 ghost use Rattle.wasm_syntax.specs.Index.{memory_import, table_import};
 
 use crate::matches::{limits_fault, value_fault};
+use base::NoMemory;
 use host_script::{LinkFault, Script, Supply};
-use no_memory::NoMemory;
 use std::alloc::Global;
 use wasm_syntax::limits::{MOST_ENTRIES, MOST_PAGES};
 use wasm_syntax::{Import, ImportKind, Limits, List, Module, Val, Vals};
@@ -35,7 +35,7 @@ fn import_fault(script: &Script, globals: usize, import: u32, kind: ImportKind) 
     }
 }
 
-/// How many globals an import brings.
+/// The number of globals that an import adds: 1 for a global, else 0.
 fn globals_in(kind: ImportKind) -> usize
     ensures value { result ≡ global_count kind }
     ensures bound { result ≤ 1 }
@@ -66,7 +66,7 @@ fn check_imports(imports: &[Import], script: &Script) -> Result<(), LinkFault>
     Ok(())
 }
 
-/// The values that are given, in order.
+/// The values that are given.
 fn given_values(alloc: Global, given: &[Option<Val>]) -> Result<Vals, NoMemory>
     ensures { IfOk result (λ values. values ≡ values_given given.now) }
 {
@@ -98,7 +98,7 @@ pub fn imports_table(imports: &[Import]) -> bool
         .any(|import| matches!(import.kind, ImportKind::Table(_)))
 }
 
-/// The limits that a script supplies, where something of their kind is imported.
+/// The limits that a script supplies, if something of their kind is imported.
 fn limits_if(is_imported: bool, limits: Option<Limits>) -> Option<Limits>
     ensures { result ≡ cond is_imported limits None }
 {
@@ -108,8 +108,8 @@ fn limits_if(is_imported: bool, limits: Option<Limits>) -> Option<Limits>
 /// What a script supplies for the imports of a module (Core 1.0, 4.5.2). The script fits the module.
 ///
 /// # Errors
-/// `Missing` or `Mismatch` with its place, for the first import in order that is not supplied or does
-/// not match; `Memory` where an allocation failed. Never `Segment`.
+/// `Missing` or `Mismatch` with its place, for the first import that is not supplied or does
+/// not match; `Memory` if an allocation failed. Never `Segment`.
 pub fn supply_of(alloc: Global, module: &Module, script: &Script) -> Result<Supply, LinkFault>
     ensures ok { IfOk result (λ supply. supply_meant «module».now script.now ≡ Ok supply) }
     ensures err { IfErr result (λ fault. (fault ≡ Memory → ⊥)

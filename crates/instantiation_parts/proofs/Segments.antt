@@ -1,4 +1,4 @@
--- Of an instantiated store all segments fit.
+-- All segments of an instantiated store fit.
 use Rattle.std.proofs.Common.{◌≡◌, ℕ, ◌+◌, List, [], ◌∷◌, ◌++◌, Option, Some, None, Bool, true, false, IsTrue, Ok, map, refl, sym, ap}
 use Rattle.std.specs.Prelude.{All}
 use Rattle.std.proofs.lemmas.List.Elements.{All-nil, All-cons}
@@ -8,14 +8,14 @@ use Rattle.history_spec.specs.Store.{Store}
 use Rattle.history_spec.specs.Instantiation.{data_fits, elem_fits, first_false, first_unfit, instantiate, new_store, store_unless, with_segments}
 use Rattle.instantiation_parts.specs.Parts.{HasParts}
 
--- where none of two lists is false, none of either is
+-- if two lists have no false test together, each of them has no false test
 none_false : (at : ℕ) (xs ys : List Bool) → first_false at (xs ++ ys) ≡ None
     → (first_false at xs ≡ None) × ((later : ℕ) × (first_false later ys ≡ None))
 none_false at [] ys is = (refl, (at, is))
 none_false at (true ∷ xs) ys is = none_false (at + 1) xs ys is
 none_false at (false ∷ xs) ys is = cc
 
--- where none is false, a test holds of all
+-- if no test is false, the test holds of all items
 pub all_true : {X : Type 0} (test : X → Bool) (at : ℕ) (xs : List X) → first_false at (map test xs) ≡ None
     → All (λ x. IsTrue (test x)) xs
 all_true test at [] is = All-nil (λ x. IsTrue (test x))

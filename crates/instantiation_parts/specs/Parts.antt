@@ -15,7 +15,7 @@ pub record HasParts (m : Module) (supply : Supply) (store : Store) : Type 0 wher
   pub datas_fit : All (λ segment. IsTrue (data_fits supply.globals (new_store m supply) segment)) m.datas
   pub elems_fit : All (λ segment. IsTrue (elem_fits supply.globals (new_store m supply) segment)) m.elems
 
--- so it is of each store that a module is instantiated with
+-- each store that a module is instantiated with has these parts
 abbrev pub InstantiatedStoresHaveParts : Type 0
 InstantiatedStoresHaveParts =
     (m : Module) (supply : Supply) (store : Store) → instantiate m supply ≡ Ok store → HasParts m supply store

@@ -4,7 +4,7 @@ ghost use Rattle.std.specs.Prelude.{◌≡◌, ◌++◌, map, IfOk};
 ghost use Rattle.history_spec.specs.Code.{zero_of};
 ghost use Rattle.history_spec.specs.Instantiation as history;
 
-use no_memory::NoMemory;
+use base::NoMemory;
 use std::alloc::Global;
 use wasm_syntax::{Global as GlobalDef, Instr, Val, ValType};
 
@@ -39,7 +39,7 @@ pub fn offset_of(imported: &[Val], body: &[Instr]) -> u64
 ///
 /// # Errors
 ///
-/// Where an allocation fails.
+/// If an allocation fails.
 pub fn all_globals(
     alloc: Global,
     imported: &[Val],

@@ -6,7 +6,7 @@ mod constants;
 mod laws;
 mod limits;
 
+pub use base::NoMemory;
 pub use constants::{all_globals, offset_of};
 pub use laws::instantiated_parts;
 pub use limits::{memory_limits, table_limits};
-pub use no_memory::NoMemory;

@@ -9,7 +9,7 @@ use Rattle.std.specs.Option.{option_map}
 use Rattle.std.specs.Prelude.{Ok, Err}
 use Rattle.std.proofs.Math.Facts.{Fits-of_z, sfits_to_z}
 use mir.Val.{bits, hbits}
-use Rattle.list_laws.proofs.Options.{map_some}
+use Rattle.base.proofs.Options.{map_some}
 use Rattle.leb_bytes.specs.Encoding.{IsPrefixFree, IsReadBy, IsShortest, IsEncoding, IsWithin}
 use Rattle.leb_bytes.specs.Place.{IsReadFrom}
 use Rattle.leb_bytes.specs.Signed.{EncodesBits, EncodesIn, first_i32, first_i64, first_signed, first_s32, first_s64, i32_bytes, i64_bytes, s64_bytes, signed_bytes}
@@ -130,7 +130,7 @@ module _ (w : Width) (is : IsNarrow w) where
     alone = λ bytes n h e. signed_shortest.alone bytes (cast_signed w n) h.signed e;
   }
 
--- all that holds of the encodings of a width, in at most so many bytes
+-- all that holds of the encodings of a width, in at most `most` bytes
 pub record AreLaws (w : Width) (most : ℕ) (first : List ℕ → Option (ℤ × List ℕ))
     (first_bits : List ℕ → Option (ℕ × List ℕ)) (bits_bytes : ℕ → List ℕ) : Type 0 where
   pub is : (input : List ℕ) → first_signed (bits w) input ≡ first input

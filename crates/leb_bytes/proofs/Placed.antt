@@ -45,7 +45,7 @@ module _ {A : Type 0} (Encodes : List ℕ → A → Type 0) (first : List ℕ �
   pub none_at : (next : ℕ) (x : A) → first (drop at bytes) ≡ None → IsEncodedAt Encodes bytes at next x → ⊥
   none_at next x none h = none-some _ (sym none ∙ read_at next x h)
 
-  -- the same, where the bytes from the place on are given as a list, and the rest by its own place
+  -- reading at a place, if the bytes from the place on are given as a list, and the rest by its own place
   pub front_at : (left : List ℕ) (taken : ℕ) (x : A) → left ≡ drop at bytes → at ≤ length bytes → taken ≤ length left
       → first left ≡ Some (x, drop taken left)
       → (at + taken ≤ length bytes) × (first (drop at bytes) ≡ Some (x, drop (at + taken) bytes))

@@ -8,7 +8,7 @@ use Rattle.std.proofs.Math.Nat.{mul-le-mul_left}
 use Rattle.std.proofs.lemmas.Nat.{shr_below}
 use Rattle.std.specs.Int.Signed.{mag, shr_z}
 use Rattle.std.specs.Option.{option_map}
-use Rattle.list_laws.proofs.Options.{map_some}
+use Rattle.base.proofs.Options.{map_some}
 use Rattle.leb_bytes.specs.Signed.{EncodesSigned, first_signed, signed_bytes, s64_bytes, low_bits, high_bits, fits_seven_bits}
 use Rattle.leb_bytes.proofs.SignedSteps.{signed-plus, signed-minus, signed-large, signed-small, signed-long, signed-more, minus, below_negative}
 

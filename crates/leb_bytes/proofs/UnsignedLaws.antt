@@ -6,7 +6,7 @@ use Rattle.std.proofs.lemmas.Option.{none-some, some_pair_parts}
 use Rattle.std.proofs.Math.Nat.{mul-le-mul_left, mul-suc}
 use Rattle.std.proofs.lemmas.Nat.{shr_below, mod_below}
 use Rattle.std.specs.Option.{option_map}
-use Rattle.list_laws.proofs.Options.{map_some}
+use Rattle.base.proofs.Options.{map_some}
 use Rattle.leb_bytes.specs.Unsigned.{EncodesUnsigned, first_unsigned, unsigned_bytes, u32_bytes}
 use Rattle.leb_bytes.proofs.UnsignedSteps.{first-last, first-large, first-long, first-more}
 

@@ -23,7 +23,7 @@ pub record IsShortest {A : Type 0} (Encodes : List ℕ → A → Type 0) (InRang
   pub least : (bytes : List ℕ) (n : A) → Encodes bytes n → length (shortest n) ≤ length bytes
   pub alone : (bytes : List ℕ) (n : A) → Encodes bytes n → length bytes ≡ length (shortest n) → bytes ≡ shortest n
 
--- all of an encoding: none begins another, `first` reads it, and each value in the range has its shortest one
+-- a whole encoding: no encoding begins another, `first` reads it, and each value in the range has its shortest one
 pub record IsEncoding {A : Type 0} (Encodes : List ℕ → A → Type 0) (first : List ℕ → Option (A × List ℕ))
     (InRange : A → Type 0) (short : A → List ℕ) : Type 0 where
   pub prefix_free : IsPrefixFree Encodes

@@ -60,6 +60,7 @@ pub record EncodesBits (w : Width) (bytes : List ℕ) (n : ℕ) : Type 0 where
 abbrev pub EncodesS32 : List ℕ → ℤ → Type 0
 EncodesS32 = EncodesIn w32
 
+-- the bytes encode the s64 (Core 1.0, 5.2.2)
 abbrev pub EncodesS64 : List ℕ → ℤ → Type 0
 EncodesS64 = EncodesIn w64
 
@@ -67,6 +68,7 @@ EncodesS64 = EncodesIn w64
 abbrev pub EncodesI32 : List ℕ → ℕ → Type 0
 EncodesI32 = EncodesBits w32
 
+-- the bytes encode the i64 with these bits (Core 1.0, 5.2.2)
 abbrev pub EncodesI64 : List ℕ → ℕ → Type 0
 EncodesI64 = EncodesBits w64
 
@@ -74,6 +76,7 @@ EncodesI64 = EncodesBits w64
 unfoldable pub first_s32 : List ℕ → Option (ℤ × List ℕ)
 first_s32 bytes = first_signed 32 bytes
 
+-- the s64 that a front of the bytes encodes, and the bytes after it (Core 1.0, 5.2.2)
 unfoldable pub first_s64 : List ℕ → Option (ℤ × List ℕ)
 first_s64 bytes = first_signed 64 bytes
 
@@ -81,16 +84,20 @@ first_s64 bytes = first_signed 64 bytes
 unfoldable pub first_i32 : List ℕ → Option (ℕ × List ℕ)
 first_i32 bytes = option_map (λ read. (cast_unsigned w32 read.0, read.1)) (first_s32 bytes)
 
+-- the bits of the i64 that a front of the bytes encodes, and the bytes after it (Core 1.0, 5.2.2)
 unfoldable pub first_i64 : List ℕ → Option (ℕ × List ℕ)
 first_i64 bytes = option_map (λ read. (cast_unsigned w64 read.0, read.1)) (first_s64 bytes)
 
 -- ---- the shortest encodings, of 32 and of 64 bits alike
 
+-- the shortest encoding of an s64, or of an s32 (Core 1.0, 5.2.2)
 unfoldable pub s64_bytes : ℤ → List ℕ
 s64_bytes z = signed_bytes 9 z
 
+-- the shortest encoding of the i32 with these bits (Core 1.0, 5.2.2)
 unfoldable pub i32_bytes : ℕ → List ℕ
 i32_bytes bits = s64_bytes (cast_signed w32 bits)
 
+-- the shortest encoding of the i64 with these bits (Core 1.0, 5.2.2)
 unfoldable pub i64_bytes : ℕ → List ℕ
 i64_bytes bits = s64_bytes (cast_signed w64 bits)

@@ -15,7 +15,7 @@ pub struct BadLeb;
 /// Reads the u32 at a place, and gives it with the place after it. It may be longer than needed.
 ///
 /// # Errors
-/// `BadLeb` where the bytes from there on begin with no encoding of a u32.
+/// `BadLeb` if the bytes from there on begin with no encoding of a u32.
 #[inline]
 pub fn read_u32(bytes: &[u8], at: usize) -> Result<(u32, usize), BadLeb>
     requires { at ≤ length bytes.now }
@@ -30,7 +30,7 @@ pub fn read_u32(bytes: &[u8], at: usize) -> Result<(u32, usize), BadLeb>
 /// Reads the s32 at a place, and gives it with the place after it. It may be longer than needed.
 ///
 /// # Errors
-/// `BadLeb` where the bytes from there on begin with no encoding of an s32.
+/// `BadLeb` if the bytes from there on begin with no encoding of an s32.
 #[inline]
 pub fn read_i32(bytes: &[u8], at: usize) -> Result<(i32, usize), BadLeb>
     requires { at ≤ length bytes.now }
@@ -45,7 +45,7 @@ pub fn read_i32(bytes: &[u8], at: usize) -> Result<(i32, usize), BadLeb>
 /// Reads the s64 at a place, and gives it with the place after it. It may be longer than needed.
 ///
 /// # Errors
-/// `BadLeb` where the bytes from there on begin with no encoding of an s64.
+/// `BadLeb` if the bytes from there on begin with no encoding of an s64.
 #[inline]
 pub fn read_i64(bytes: &[u8], at: usize) -> Result<(i64, usize), BadLeb>
     requires { at ≤ length bytes.now }

@@ -4,7 +4,7 @@ ghost use Rattle.std.specs.Prelude.{◌≡◌};
 ghost use Rattle.leb_bytes.specs.declared.unread.Unread.TheVariants.{NotThere, Memory};
 
 use crate::read::BadLeb;
-use no_memory::NoMemory;
+use base::NoMemory;
 use std::alloc::{AllocError, AllocFailed};
 
 /// Why a reader read nothing.

@@ -3,7 +3,7 @@ ghost use Rattle.std.specs.Prelude.{◌≡◌, ◌++◌, OnOk, OnErr};
 ghost use Rattle.leb_bytes.specs.Signed.{fits_seven_bits, low_bits, s64_bytes};
 ghost use Rattle.leb_bytes.specs.Unsigned.{u32_bytes};
 
-use no_memory::NoMemory;
+use base::NoMemory;
 
 /// The most bytes that a u32 needs.
 const MOST_U32: usize = 5;
@@ -14,7 +14,7 @@ const MOST_S64: usize = 10;
 /// Appends the shortest encoding of a u32.
 ///
 /// # Errors
-/// `NoMemory` where the list can't grow; it is then as it was.
+/// `NoMemory` if the list can't grow; it is then as it was.
 #[inline]
 pub fn push_u32(out: &mut Vec<u8>, number: u32) -> Result<(), NoMemory>
     ensures ok { OnOk result (out.new.items ≡ out.old.items ++ u32_bytes number) }
@@ -30,10 +30,10 @@ pub fn push_u32(out: &mut Vec<u8>, number: u32) -> Result<(), NoMemory>
     Ok(())
 }
 
-/// Appends the shortest encoding of an s64, which is that of an s32 where the number is one.
+/// Appends the shortest encoding of an s64, which is that of an s32 if the number is one.
 ///
 /// # Errors
-/// `NoMemory` where the list can't grow; it is then as it was.
+/// `NoMemory` if the list can't grow; it is then as it was.
 #[inline]
 pub fn push_i64(out: &mut Vec<u8>, number: i64) -> Result<(), NoMemory>
     ensures ok { OnOk result (out.new.items ≡ out.old.items ++ s64_bytes number) }
@@ -49,7 +49,7 @@ pub fn push_i64(out: &mut Vec<u8>, number: i64) -> Result<(), NoMemory>
     Ok(())
 }
 
-/// Whether a last byte has the number whole, with its sign.
+/// Whether a last byte can hold the whole number, with its sign.
 #[inline(always)]
 fn fits_seven_bits(number: i64) -> bool
     ensures { result ≡ fits_seven_bits number }

@@ -1,5 +1,5 @@
--- The script of a load: the host answers each call of the import by its number, after it has written a byte at the
--- address that it was given, and in each sixteenth call has called back.
+-- The script of a load: the host answers each call of the import with its number, after it has written a byte at
+-- the address that the call passes; in every sixteenth call it also calls back.
 use Rattle.std.specs.Prelude.{ℕ, zero, suc, ◌+◌, ◌*◌, ◌%◌, ◌==◌, List, [], ◌∷◌, ◌++◌, codes, decimal, if◌then◌else◌}
 use Rattle.hex.specs.Hex.{encode_lower}
 
@@ -7,22 +7,22 @@ use Rattle.hex.specs.Hex.{encode_lower}
 abbrev pub load_byte : (call : ℕ) → ℕ
 load_byte call = (7 * call + 3) % 256
 
--- the host calls back at the last of each sixteen calls
+-- the host calls back in the last of every sixteen calls
 abbrev pub tick_text : (call : ℕ) → List ℕ
 tick_text call = if call % 16 == 15 then codes ",{\"call\":\"tick\"}" else []
 
--- what the host does at a call, and what it answers
+-- what the host does in a call, and what it answers
 abbrev pub response_text : (call : ℕ) → List ℕ
 response_text call =
     codes "{\"do\":[{\"write\":{\"arg\":0},\"bytes\":\"" ++ (encode_lower (load_byte call ∷ []) ++ codes "\"}")
     ++ (tick_text call ++ (codes "],\"return\":{\"i32\":" ++ (decimal call ++ codes "}}")))
 
--- a comma before all responses but the first
+-- a comma before each response except the first
 abbrev pub comma_before : (call : ℕ) → List ℕ
 comma_before zero = []
 comma_before (suc call) = codes ","
 
--- the responses to a number of first calls
+-- the responses to the first calls, in this number
 abbrev pub responses_text : (count : ℕ) → List ℕ
 responses_text zero = []
 responses_text (suc call) = responses_text call ++ (comma_before call ++ response_text call)

@@ -4,5 +4,5 @@
 pub mod load_module;
 mod scripts;
 
-pub use no_memory::NoMemory;
+pub use base::NoMemory;
 pub use scripts::{MOST_CALLS, make_load};

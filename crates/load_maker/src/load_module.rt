@@ -1,8 +1,8 @@
 // The module of a load.
 
-/// Imports a function `h` `f`, and exports its memory `m`, and two functions. `run` calls the import with 0, 1 and so
-/// on, before the number that it is given, at least once, and gives the sum of what is answered and of the
-/// bytes at these addresses after each call. `tick` counts its calls in a global.
+/// The module imports a function `h` `f`, and exports its memory `m` and two functions. `run` calls the import
+/// with 0, 1 and so on, up to below its argument but at least once, and returns the sum of the answers and of
+/// the bytes at these addresses after each call. `tick` counts its calls in a global.
 pub const LOAD_MODULE: [u8; 116] = [
     // the preamble
     0x00, 0x61, 0x73, 0x6d, 0x01, 0x00, 0x00, 0x00,
@@ -14,7 +14,7 @@ pub const LOAD_MODULE: [u8; 116] = [
     0x03, 0x03, 0x02, 0x00, 0x01,
     // a memory of a page
     0x05, 0x03, 0x01, 0x00, 0x01,
-    // a mutable i32, at first 0
+    // a mutable i32 that begins with 0
     0x06, 0x06, 0x01, 0x7f, 0x01, 0x41, 0x00, 0x0b,
     // exports: run, tick, the memory m
     0x07, 0x12, 0x03, 0x03, 0x72, 0x75, 0x6e, 0x00, 0x01, 0x04, 0x74, 0x69, 0x63, 0x6b, 0x00, 0x02,

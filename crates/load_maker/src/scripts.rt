@@ -7,19 +7,19 @@ ghost use Rattle.load_maker.specs.Loads.{comma_before, load_byte, load_script, r
 ghost use Rattle.load_maker.specs.declared.load_module.TheConstants.{LOAD_MODULE};
 
 use crate::load_module::LOAD_MODULE;
+use base::NoMemory;
 use hex::encode_to_slice;
 use itoa::Buffer;
-use no_memory::NoMemory;
 use std::alloc::Global;
 
 /// The most calls of a load.
 pub const MOST_CALLS: u32 = 60_000;
 
-/// The bytes of a module and of a script for it, in which the module calls an import this number of times, at most
-/// 60,000. Both are within the limits of files.
+/// The bytes of a module and of a script for it, in which the module calls an import this number of times, at
+/// most 60,000. Both are within the limits of files.
 ///
 /// # Errors
-/// Where an allocation failed.
+/// `NoMemory` if an allocation failed.
 #[tactic(auto, using(crate::proofs::Sizes::short_script))]
 pub fn make_load(alloc: Global, number: u32) -> Result<(Vec<u8>, Vec<u8>), NoMemory>
     requires { number ≤ MOST_CALLS }
@@ -43,7 +43,7 @@ fn script_of(alloc: Global, number: u32) -> Result<Vec<u8>, NoMemory>
     Ok(text)
 }
 
-/// Appends the responses to a number of first calls.
+/// Appends the responses to the first calls, in this number.
 fn put_responses(text: &mut Vec<u8>, number: u32) -> Result<(), NoMemory>
     ensures { OnOk result (text.new.items ≡ text.old.items ++ responses_text number) }
 {
@@ -90,7 +90,7 @@ fn put_write(text: &mut Vec<u8>, call: u32) -> Result<(), NoMemory>
     put_between(text, before, &byte_digits(call), b"\"}")
 }
 
-/// Appends the call back, where there is one.
+/// Appends the call back, if there is one.
 fn put_tick(text: &mut Vec<u8>, call: u32) -> Result<(), NoMemory>
     ensures { OnOk result (text.new.items ≡ text.old.items ++ tick_text call) }
 {
@@ -100,7 +100,7 @@ fn put_tick(text: &mut Vec<u8>, call: u32) -> Result<(), NoMemory>
     Ok(())
 }
 
-/// Appends what a call is answered.
+/// Appends the answer to a call.
 fn put_answer(text: &mut Vec<u8>, call: u32) -> Result<(), NoMemory>
     ensures { OnOk result (text.new.items ≡ text.old.items
         ++ (codes "],\"return\":{\"i32\":" ++ (decimal call ++ codes "}}"))) }
@@ -156,7 +156,7 @@ fn load_byte(call: u32) -> u8
     ((7 * u64::from(call) + 3) % 256) as u8
 }
 
-/// Its two lower-case hexadecimal digits.
+/// The two lower-case hexadecimal digits of the byte that is written at a call.
 fn byte_digits(call: u32) -> [u8; 2]
     ensures { result ≡ encode_lower (load_byte call ∷ []) }
 {

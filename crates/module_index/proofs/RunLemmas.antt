@@ -101,13 +101,13 @@ run-over start (e ∷ ends) place (suc at) h low before behind =
     ∙ ap (slice_get (locals_from e.end ends)) (omega (arith, length-replicate (e.end - start) e.ty))
     ∙ sym (in-second (replicate (e.end - start) e.ty) (locals_from e.end ends) (place - start) (omega (arith, length-replicate (e.end - start) e.ty)))
 
--- no local is out of reach of an index, where runs after them are left
+-- no local is out of reach of an index, if runs after it are left
 kept-front : (kept : List ValType) (rest : List Run) (place : ℕ) → (0 < length rest → place < length kept)
     → slice_get kept place ≡ slice_get (kept ++ each_local rest) place
 kept-front kept [] place h = ap (λ l. slice_get l place) (sym (append-nil kept))
 kept-front kept (run ∷ rest) place h = sym (in-front kept (each_local (run ∷ rest)) place (h (omega arith)))
 
--- all runs, of which a given number is kept
+-- all runs, a given number of them kept
 pub kept-and_rest : (params : List ValType) (ends : List RunEnd) (count : ℕ) (runs : List Run)
     → AreEndsOf ends count runs
     → params ++ (locals_from 0 ends ++ each_local (take (length runs - count) (drop count runs))) ≡ params ++ each_local runs

@@ -5,7 +5,7 @@ use Rattle.std.proofs.lemmas.List.FromFn.{get_or-range_with_len, length-range_wi
 use Rattle.std.specs.List.{range_with_len}
 use Rattle.std.proofs.lemmas.Bool.{le-leb}
 use Rattle.std.proofs.lemmas.Option.{slice_get-map, slice_get-get_or}
-use Rattle.wasm_opcodes.specs.declared.TheConstants.{I32_EQZ, I32_LOAD}
+use Rattle.base.specs.declared.opcodes.TheConstants.{I32_EQZ, I32_LOAD}
 use Rattle.wasm_syntax.specs.Opcodes.{Shape, numeric_shape, load_of}
 use Rattle.module_index.specs.declared.opcodes.TheConstants.{NUMERIC, LOADS}
 use Rattle.module_index.specs.Tables.{Reach, shape_of, reach_of, reach_of_transfer}

@@ -1,4 +1,4 @@
--- The index spaces of a module (Core 1.0, 2.5.1): imports stand before definitions in each.
+-- The index spaces of a module (Core 1.0, 2.5.1): imports come before definitions in each.
 use Rattle.std.specs.Prelude.{◌≡◌, ℕ, List, [], ◌∷◌, ◌++◌, length, map, Bool}
 use Rattle.wasm_syntax.specs.declared.signatures.Limits.{Limits}
 use Rattle.wasm_syntax.specs.declared.signatures.GlobalType.{GlobalType}
@@ -21,31 +21,31 @@ abbrev pub spaces : List ℕ → (tables memories : List Limits) → List Global
 spaces funcs tables memories globals =
     record { funcs = funcs; tables = tables; memories = memories; globals = globals }
 
--- of the imports alone
+-- the index spaces of the imports alone
 abbrev pub imported_spaces : List Import → Spaces
 imported_spaces imports =
     spaces (of_kind func_import imports) (of_kind table_import imports) (of_kind memory_import imports)
     (of_kind global_import imports)
 
--- of a whole module
+-- the index spaces of a whole module
 abbrev pub spaces_of : Module → Spaces
 spaces_of m = spaces (func_indices m) (all_tables m) (all_memories m) (all_globals m)
 
--- one more import
+-- the index spaces with one more import
 abbrev pub with_import : ImportKind → Spaces → Spaces
 with_import (Func ty) s = record s { funcs = s.funcs ++ ty ∷ [] }
 with_import (Table limits) s = record s { tables = s.tables ++ limits ∷ [] }
 with_import (Memory limits) s = record s { memories = s.memories ++ limits ∷ [] }
 with_import (Global ty) s = record s { globals = s.globals ++ ty ∷ [] }
 
--- what a module defines, after what it imports
+-- index spaces with a module's definitions after the earlier items
 abbrev pub with_definitions : Module → Spaces → Spaces
 with_definitions m s =
     spaces (s.funcs ++ map (λ f. f.ty) m.funcs) (s.tables ++ m.tables) (s.memories ++ m.memories)
     (s.globals ++ map (λ g. g.ty) m.globals)
 
--- what is kept of a module to look things up in it: its index spaces, how many of its functions and of its globals
--- are imported, and which functions bodies may refer to
+-- what a scope keeps of a module: its index spaces, the numbers of its imported functions and globals, and which
+-- functions bodies may refer to
 pub record IsScope (m : Module) (all : Spaces) (outer_funcs outer_globals : ℕ) (marks : List Bool) : Type 0 where
   pub spaces : all ≡ spaces_of m
   pub funcs : outer_funcs ≡ imported_funcs m

@@ -1,4 +1,4 @@
--- The locals of a function that stand after its parameters, by where each run of them ends.
+-- The locals of a function after its parameters, by where each run of them ends.
 use Rattle.std.specs.Prelude.{◌≡◌, ℕ, ◌-◌, ◌^◌, ◌<◌, ◌≤◌, List, [], ◌∷◌, ◌++◌, length, replicate, take}
 use Rattle.wasm_syntax.specs.declared.values.ValType.{ValType}
 use Rattle.wasm_syntax.specs.declared.modules.Run.{Run}
@@ -27,7 +27,7 @@ pub record AreEndsOf (ends : List RunEnd) (count : ℕ) (runs : List Run) : Type
   pub rising : AreEnds 0 ends
   pub enough : count < length runs → 2 ^ 32 ≤ last_end 0 ends
 
--- what stands after the last end is out of reach
+-- the locals after the last end are out of reach
 pub record IsEnough (ends : List RunEnd) (rest : List Run) : Type 0 where
   pub rising : AreEnds 0 ends
   pub enough : 0 < length rest → 2 ^ 32 ≤ last_end 0 ends

@@ -1,4 +1,4 @@
--- What the tables of opcodes stand for.
+-- What the tables of opcodes mean.
 use Rattle.std.specs.Prelude.{ℕ, [], ◌∷◌}
 use Rattle.wasm_syntax.specs.declared.values.ValType.{ValType}
 use Rattle.wasm_syntax.specs.Opcodes.{Shape, Access}
@@ -19,8 +19,10 @@ pub record Reach : Type 0 where
 abbrev pub reach : ValType → ℕ → Reach
 reach ty width = record { ty = ty; width = width }
 
+-- the type and the width of an access to memory, without its sign (Core 1.0, 3.3.4)
 abbrev pub reach_of : Access → Reach
 reach_of a = reach a.ty a.width
 
+-- the type and the width of an access to memory, as a table of the code has them (Core 1.0, 3.3.4)
 abbrev pub reach_of_transfer : Transfer → Reach
 reach_of_transfer t = reach t.ty t.width

@@ -5,7 +5,7 @@ ghost use Rattle.wasm_syntax.specs.declared.modules.Func.{Func as Defined};
 ghost use Rattle.wasm_syntax.specs.declared.modules.Global.{Global as Item};
 ghost use Rattle.module_index.specs.IndexSpaces.{spaces, imported_spaces, with_import, with_definitions};
 
-use no_memory::NoMemory;
+use base::NoMemory;
 use std::alloc::Global;
 use std::marker::Model;
 use wasm_syntax::{Func, Global as Variable, GlobalType, Import, ImportKind, Limits, Module};
@@ -41,7 +41,7 @@ impl IndexSpaces {
         }
     }
 
-    /// The index spaces of what these imports are.
+    /// The index spaces of these imports.
     pub(crate) fn of_imports(alloc: Global, imports: &[Import]) -> Result<IndexSpaces, NoMemory>
         ensures { IfOk result (λ found. found ≡ imported_spaces imports.now) }
     {
@@ -52,7 +52,7 @@ impl IndexSpaces {
         Ok(found)
     }
 
-    /// Adds what is imported.
+    /// Adds an import.
     fn import(&mut self, kind: ImportKind) -> Result<(), NoMemory>
         ensures { OnOk result (self.new ≡ with_import kind self.old) }
     {
@@ -65,7 +65,7 @@ impl IndexSpaces {
         Ok(())
     }
 
-    /// Adds what a module defines.
+    /// Adds the definitions of a module.
     pub(crate) fn define(&mut self, module: &Module) -> Result<(), NoMemory>
         ensures { OnOk result (self.new ≡ with_definitions «module».now self.old) }
     {

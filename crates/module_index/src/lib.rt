@@ -9,6 +9,6 @@ pub mod opcodes;
 pub mod scope;
 mod types;
 
-pub use no_memory::NoMemory;
+pub use base::NoMemory;
 pub use opcodes::is_aligned;
 pub use types::{is_number, is_value, result_of, same_type};

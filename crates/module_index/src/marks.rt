@@ -5,11 +5,11 @@ ghost use Rattle.std.specs.List.{cons_option};
 ghost use Rattle.wasm_syntax.specs.Validity.{declared_funcs, elem_funcs, exported_func};
 ghost use Rattle.module_index.specs.Marks.{AreMarks, MarksMore};
 
-use no_memory::NoMemory;
+use base::NoMemory;
 use std::alloc::Global;
 use wasm_syntax::{ElemSeg, Export, ExportKind, Module};
 
-/// Which of a given number of functions stand in an element segment or an export.
+/// Which of a given number of functions are in an element segment or an export.
 pub(crate) fn marks_of(alloc: Global, module: &Module, count: usize) -> Result<Vec<bool>, NoMemory>
     ensures { IfOk result (λ marks. AreMarks marks.items count (declared_funcs «module».now)) }
 {
@@ -74,7 +74,7 @@ fn mark_some(marks: &mut Vec<bool>, func: Option<u32>)
     }
 }
 
-/// Marks a function, if it is there.
+/// Marks a function, if it exists.
 fn mark(marks: &mut Vec<bool>, func: u32)
     ensures { MarksMore marks.old.items marks.new.items (func ∷ []) }
 {

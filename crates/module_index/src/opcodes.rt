@@ -6,7 +6,7 @@ ghost use Rattle.wasm_syntax.specs.Opcodes.{numeric_shape as shape_of_opcode, lo
 ghost use Rattle.module_index.specs.Tables.{shape_of, reach_of, reach_of_transfer};
 
 use crate::opcodes::Operation::{One, Two};
-use wasm_opcodes::{I32_EQZ, I32_LOAD, I32_STORE};
+use base::opcodes::{I32_EQZ, I32_LOAD, I32_STORE};
 use wasm_syntax::ValType;
 use wasm_syntax::ValType::{F32, F64, I32, I64};
 

@@ -8,7 +8,7 @@ ghost use Rattle.wasm_syntax.specs.Validity.{declared_funcs};
 
 use crate::index::IndexSpaces;
 use crate::marks::marks_of;
-use no_memory::NoMemory;
+use base::NoMemory;
 use std::alloc::Global;
 use std::marker::Model;
 use wasm_syntax::{FuncType, GlobalType, Module};
@@ -36,11 +36,11 @@ impl<'a> Model for Scope<'a> {
 }
 
 impl<'a> Scope<'a> {
-    /// What is looked up in this module.
+    /// The scope of this module.
     ///
     /// # Errors
     ///
-    /// Where an allocation fails.
+    /// If an allocation fails.
     pub fn of(alloc: Global, module: &'a Module) -> Result<Scope<'a>, NoMemory>
         ensures { IfOk result (λ scope. scope ≡ «module».now) }
     {
@@ -114,63 +114,63 @@ impl<'a> Scope<'a> {
         }
     }
 
-    /// There is a function of this index.
+    /// Whether there is a function of this index.
     pub fn has_func(&self, func: u32) -> bool
         ensures { result ≡ nat_lt func (length (func_indices self.now)) }
     {
         (func as usize) < self.spaces.funcs.len()
     }
 
-    /// There is a table of this index.
+    /// Whether there is a table of this index.
     pub fn has_table(&self, table: u32) -> bool
         ensures { result ≡ nat_lt table (length (all_tables self.now)) }
     {
         (table as usize) < self.spaces.tables.len()
     }
 
-    /// There is a memory of this index.
+    /// Whether there is a memory of this index.
     pub fn has_memory(&self, memory: u32) -> bool
         ensures { result ≡ nat_lt memory (length (all_memories self.now)) }
     {
         (memory as usize) < self.spaces.memories.len()
     }
 
-    /// There is a type of this index.
+    /// Whether there is a type of this index.
     pub fn has_type(&self, ty: u32) -> bool
         ensures { result ≡ nat_lt ty (length self.now.types) }
     {
         (ty as usize) < self.module.types.as_slice().len()
     }
 
-    /// There is at most one table.
+    /// Whether there is at most one table.
     pub fn has_one_table(&self) -> bool
         ensures { result ≡ nat_le (length (all_tables self.now)) 1 }
     {
         self.spaces.tables.len() <= 1
     }
 
-    /// There is at most one memory.
+    /// Whether there is at most one memory.
     pub fn has_one_memory(&self) -> bool
         ensures { result ≡ nat_le (length (all_memories self.now)) 1 }
     {
         self.spaces.memories.len() <= 1
     }
 
-    /// There is a global of this index.
+    /// Whether there is a global of this index.
     pub fn has_global(&self, global: u32) -> bool
         ensures { result ≡ nat_lt global (length (all_globals self.now)) }
     {
         (global as usize) < self.spaces.globals.len()
     }
 
-    /// How many functions are imported.
+    /// The number of imported functions.
     pub fn imported_funcs(&self) -> usize
         ensures { result ≡ imported_funcs self.now }
     {
         self.imported_funcs
     }
 
-    /// Bodies may refer to the function of this index.
+    /// Whether bodies may refer to the function of this index.
     pub fn is_declared(&self, func: u32) -> bool
         ensures { result
             ≡ (nat_lt func (length (func_indices self.now)) && list_any (nat_eq func) (declared_funcs self.now)) }

@@ -6,7 +6,7 @@ ghost use Rattle.wasm_syntax.specs.Alike.{same_type as same_types_are};
 
 use wasm_syntax::{FuncType, Val, ValType};
 
-/// Whether the type is a number type (Core 1.0, 2.3.1); a reference type is none.
+/// Whether the type is a number type (Core 1.0, 2.3.1), not a reference type.
 pub fn is_number(ty: ValType) -> bool
     ensures { result ≡ is_number_type ty }
 {

@@ -1,3 +1,3 @@
-pub mod Merge
-pub mod Fits
-pub mod Size
+pub mod Offsets
+pub mod Generated
+pub mod Parts

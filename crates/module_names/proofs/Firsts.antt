@@ -9,7 +9,7 @@ module _ {X V Q : Type 0} (value : X → V) (test : Q → X → Bool) where
   abbrev pub first_in : List X → Q → Option V
   first_in xs q = option_map value (find (test q) xs)
 
-  -- an item whose names are there
+  -- an item that passes a test only if its value is known already
   pub passed : (L : Q → Option V) (xs : List X) (i : ℕ) (x : X) → i < length xs → x ≡ get_or xs i x
       → ((q : Q) → test q x ≡ true → is_some (L q) ≡ true)
       → (q : Q) → option_or (L q) (first_in (drop i xs) q) ≡ option_or (L q) (first_in (drop (i + 1) xs) q)

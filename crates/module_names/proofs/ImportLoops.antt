@@ -76,7 +76,7 @@ next_place from name imports i x lt is =
     let e = first_named-append from name 0 (seen imports i) x.now in
     rw (grows imports i x lt is) (e ∙ ap (λ n. option_or (first_named from name 0 (seen imports i)) (cond (is_named from name x.now) (Some n) None)) (length-seen imports i le))
 
--- a place that is there already
+-- a place that is in the index already
 pub place_kept : (from name : List ℕ) (imports : List (Bor Import)) (i : ℕ) (x : Bor Import)
     (found : List ℕ → List ℕ → Option ℕ)
     → i < length imports → x ≡ get_or imports i x
@@ -149,7 +149,7 @@ pub type_added : (m : Module) (from name : List ℕ) (imports : List (Bor Import
 type_added m from name imports i x was now ty lt is t so_far new =
     rw (grows imports i x lt is, type_next m from name (seen imports i) x.now, new, t, so_far) refl
 
--- a list of types taken out, and put back with one type more
+-- a list of types removed, and put back with one type more
 pub type_put_back : (old middle new : Types) (x : Import) (found : Vec (Bor FuncType) Global) (ty : Option FuncType)
     → ((from name : List ℕ) → under_names from name middle ≡ cond (is_named from name x) None (under_names from name old))
     → ((from name : List ℕ) → under_names from name new ≡ cond (is_named from name x) (Some found) (under_names from name middle))
@@ -184,7 +184,7 @@ first_is_there from name place (x ∷ xs) = by (is_named from name x) (first_is_
     by true h = refl
     by false h = h
 
--- the types under two names, none where no function has these
+-- the types under two names, an empty list if no function has these
 pub types_or_none : (m : Module) (from name : List ℕ) (imports : List Import)
     → unwrap_or (types_if_any m from name imports) [] ≡ filter_map (import_type m) (filter (is_named from name) imports)
 types_or_none m from name imports = by (list_any (is_named from name) imports) (none_named (is_named from name) imports)

@@ -11,43 +11,43 @@ use Rattle.wasm_syntax.specs.declared.modules.ExportKind.{ExportKind}
 use Rattle.wasm_syntax.specs.declared.modules.Import.{Import}
 use Rattle.module_names.specs.Names.{export_of, is_from, is_named, first_named, import_type}
 
--- under each name is what the module exports under it
+-- an index holds, under each name, what the module exports under that name
 pub record HoldsExports (entries : List (Bor (List ℕ) × ExportKind)) (m : Module) : Type 0 where
   pub holds : (name : List ℕ) → lookup (λ key. bytes_eq name key.now) entries ≡ export_of m name
 
--- the names of the modules of imports
+-- an index holds the names of the modules of imports
 pub record HoldsModules (names : List (Bor (List ℕ))) (imports : List Import) : Type 0 where
   pub holds : (from : List ℕ) → list_any (λ key. bytes_eq from key.now) names ≡ list_any (is_from from) imports
 
--- what stands under two names
+-- the value under two names
 abbrev pub under_names : {V : Type 0} → (from name : List ℕ) → List ((Bor (List ℕ) × Bor (List ℕ)) × V) → Option V
 under_names from name entries = lookup (λ key. bytes_eq from key.0.now && bytes_eq name key.1.now) entries
 
--- under two names is the place of the first import of those names
+-- an index holds, under two names, the place of the first import of those names
 pub record HoldsFirsts (entries : List ((Bor (List ℕ) × Bor (List ℕ)) × ℕ)) (imports : List Import) : Type 0 where
   pub holds : (from name : List ℕ) → under_names from name entries ≡ first_named from name 0 imports
 
--- the types under two names
+-- the index of types under two names
 abbrev pub Types : Type 0
 Types = List ((Bor (List ℕ) × Bor (List ℕ)) × Vec (Bor FuncType) Global)
 
 abbrev pub types_of : (from name : List ℕ) → Types → Option (List FuncType)
 types_of from name entries = option_map (λ types. map (λ ty. ty.now) types.items) (under_names from name entries)
 
--- a type more stands under the names of an import
+-- an index has one more type under the names of an import
 pub record AddsType (old new : Types) (import : Import) (ty : Option FuncType) : Type 0 where
   pub adds : (from name : List ℕ) → types_of from name new
       ≡ (if is_named from name import
       then Some (unwrap_or (types_of from name old) [] ++ option_to_list ty)
       else types_of from name old)
 
--- the types of the functions under two names, where there are any
+-- the types of the functions under two names, if there are any
 abbrev pub types_if_any : Module → (from name : List ℕ) → List Import → Option (List FuncType)
 types_if_any m from name imports =
     if list_any (is_named from name) imports
     then Some (filter_map (import_type m) (filter (is_named from name) imports))
     else None
 
--- under two names are these types
+-- an index holds the types of the functions imported under two names
 pub record HoldsTypes (entries : Types) (m : Module) (imports : List Import) : Type 0 where
   pub holds : (from name : List ℕ) → types_of from name entries ≡ types_if_any m from name imports

@@ -1,4 +1,4 @@
--- What the names of a module stand for: its imports of one kind by two names, its exports by one.
+-- What the names of a module refer to: its imports of one kind by two names, its exports by one.
 use Rattle.std.specs.Prelude.{ℕ, ◌+◌, ◌&&◌, ◌||◌, List, [], ◌∷◌, filter, filter_map, find, Bool, Option, Some, None, is_some, option_map, option_and_then, if◌then◌else◌}
 use Rattle.std.specs.Str.{bytes_eq}
 use Rattle.std.specs.List.{list_any}
@@ -14,7 +14,7 @@ use Rattle.wasm_syntax.specs.Index.{func_import, table_import, memory_import, gl
 
 -- ---- imports
 
--- whether something of a kind is imported
+-- whether an import is of a kind
 abbrev pub is_kind : {K : Type 0} → (ImportKind → Option K) → Import → Bool
 is_kind pick import = is_some (pick import.kind)
 
@@ -25,7 +25,7 @@ is_in Tables = is_kind table_import
 is_in Memories = is_kind memory_import
 is_in Globals = is_kind global_import
 
--- the imports of one kind, in order, with their names
+-- the imports of one kind, in the module's order, with their names
 abbrev pub imports_with : {K : Type 0} → (ImportKind → Option K) → Module → List Import
 imports_with pick m = filter (is_kind pick) m.imports
 
@@ -35,10 +35,11 @@ is_from from import = bytes_eq import.«module» from
 abbrev pub is_named : (from name : List ℕ) → Import → Bool
 is_named from name import = bytes_eq import.«module» from && bytes_eq import.name name
 
--- something of a kind is imported from a module; under two names
+-- whether something of a kind is imported from a module
 abbrev pub imports_from : {K : Type 0} → (ImportKind → Option K) → Module → List ℕ → Bool
 imports_from pick m from = list_any (is_from from) (imports_with pick m)
 
+-- whether something of a kind is imported under two names, that of a module and its own
 abbrev pub imports_named : {K : Type 0} → (ImportKind → Option K) → Module → (from name : List ℕ) → Bool
 imports_named pick m from name = list_any (is_named from name) (imports_with pick m)
 
@@ -46,7 +47,7 @@ imports_named pick m from name = list_any (is_named from name) (imports_with pic
 abbrev pub import_type : Module → Import → Option FuncType
 import_type m import = option_and_then (type_at m) (func_import import.kind)
 
--- the types of the functions imported under two names, in order
+-- the types of the functions imported under two names, in the module's order
 abbrev pub func_types_named : Module → (from name : List ℕ) → List FuncType
 func_types_named m from name = filter_map (import_type m) (filter (is_named from name) (imports_with func_import m))
 
@@ -62,7 +63,7 @@ imported_global m from name = first_named from name 0 (imports_with global_impor
 
 -- ---- exports
 
--- the index of what is exported, where it is in this space
+-- the index of what is exported, if it is in this space
 abbrev pub index_in : Space → ExportKind → Option ℕ
 index_in Funcs (Func index) = Some index
 index_in Tables (Table index) = Some index
@@ -74,24 +75,27 @@ index_in space kind = None
 abbrev pub export_of : Module → List ℕ → Option ExportKind
 export_of m name = option_map (λ export. export.kind) (find (λ export. bytes_eq export.name name) m.exports)
 
--- the function, the global of that name, by its index
+-- the index of the function that is exported under a name
 abbrev pub exported_func : Module → List ℕ → Option ℕ
 exported_func m name = option_and_then (index_in Funcs) (export_of m name)
 
+-- the index of the global that is exported under a name
 abbrev pub exported_global : Module → List ℕ → Option ℕ
 exported_global m name = option_and_then (index_in Globals) (export_of m name)
 
 -- ---- access
 
--- a memory, a table is imported or exported
+-- whether something in an index space is exported
 abbrev pub exports_some : Space → Module → Bool
 exports_some space m = list_any (λ export. is_some (index_in space export.kind)) m.exports
 
 abbrev pub imports_some : {K : Type 0} → (ImportKind → Option K) → Module → Bool
 imports_some pick m = list_any (is_kind pick) m.imports
 
+-- whether the host can access a memory: a memory is imported or exported
 abbrev pub reaches_memory : Module → Bool
 reaches_memory m = imports_some memory_import m || exports_some Memories m
 
+-- whether the host can access a table: a table is imported or exported
 abbrev pub reaches_table : Module → Bool
 reaches_table m = imports_some table_import m || exports_some Tables m

@@ -3,8 +3,8 @@
 ghost use Rattle.std.specs.Prelude.{◌≡◌, IfOk};
 ghost use Rattle.module_names.specs.Names.{export_of};
 
+use base::NoMemory;
 use indexmap::IndexMap;
-use no_memory::NoMemory;
 use std::alloc::Global;
 use std::marker::Model;
 use wasm_syntax::{ExportKind, Module};

@@ -6,8 +6,8 @@ ghost use Rattle.module_names.specs.Names.{imports_with, imports_from, imports_n
 
 use crate::imports::{TypesByNames, imports_of, modules_of, types_by_names};
 use crate::index_spaces::Space;
+use base::NoMemory;
 use indexmap::IndexSet;
-use no_memory::NoMemory;
 use std::alloc::Global;
 use std::marker::Model;
 use wasm_syntax::{FuncType, Import, Module};
@@ -54,7 +54,7 @@ impl<'a> ImportedFuncs<'a> {
         })
     }
 
-    /// The imported functions, in order.
+    /// The imported functions, in the module's order.
     pub(crate) fn imports(&self) -> &[&'a Import]
         ensures { map (λ import. import.now) result.now ≡ imports_with func_import self.now }
     {
@@ -82,7 +82,7 @@ impl<'a> ImportedFuncs<'a> {
         self.types.contains_key(&(from, name))
     }
 
-    /// The types of the functions imported under two names, where there are any.
+    /// The types of the functions imported under two names, if there are any.
     pub(crate) fn types(&self, from: &'a str, name: &'a str) -> Option<&Vec<&'a FuncType>>
         ensures { unwrap_or (option_map (λ types. map (λ ty. ty.now) types.now.items) result) []
             ≡ func_types_named self.now from.now name.now }

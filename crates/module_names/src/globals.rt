@@ -6,8 +6,8 @@ ghost use Rattle.module_names.specs.Names.{imports_with, imports_from, imports_n
 
 use crate::imports::{FirstsByNames, firsts_by_names, imports_of, modules_of};
 use crate::index_spaces::Space;
+use base::NoMemory;
 use indexmap::IndexSet;
-use no_memory::NoMemory;
 use std::alloc::Global;
 use std::marker::Model;
 use wasm_syntax::{Import, Module};
@@ -54,7 +54,7 @@ impl<'a> ImportedGlobals<'a> {
         })
     }
 
-    /// The imported globals, in order.
+    /// The imported globals, in the module's order.
     pub(crate) fn imports(&self) -> &[&'a Import]
         ensures { map (λ import. import.now) result.now ≡ imports_with global_import self.now }
     {

@@ -5,21 +5,21 @@ ghost use Rattle.module_names.specs.Indexes.{HoldsModules, HoldsTypes, HoldsFirs
 ghost use Rattle.module_names.specs.Names.{is_in, import_type as type_of_import};
 
 use crate::index_spaces::Space;
+use base::NoMemory;
 use indexmap::{IndexMap, IndexSet};
-use no_memory::NoMemory;
 use std::alloc::Global;
 use wasm_syntax::{FuncType, Import, ImportKind, Module};
 
 /// The names of an import: of its module, and its own.
 pub type Names<'a> = (&'a str, &'a str);
 
-/// The types of the functions imported under two names, in order.
+/// The types of the functions imported under two names, in the module's order.
 pub(crate) type TypesByNames<'a> = IndexMap<Names<'a>, Vec<&'a FuncType>>;
 
 /// The index of the first import under two names.
 pub type FirstsByNames<'a> = IndexMap<Names<'a>, usize>;
 
-/// The imports of one index space, in order.
+/// The imports of one index space, in the module's order.
 pub(crate) fn imports_of<'a>(
     alloc: Global,
     module: &'a Module,
@@ -57,7 +57,7 @@ pub(crate) fn modules_of<'a>(
 ///
 /// # Errors
 ///
-/// `NoMemory` where an allocation failed.
+/// `NoMemory` if an allocation failed.
 pub fn firsts_by_names<'a>(
     alloc: Global,
     imports: &[&'a Import],

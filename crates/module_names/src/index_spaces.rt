@@ -15,7 +15,7 @@ pub enum Space {
 }
 
 impl Space {
-    /// Whether an import is in it.
+    /// Whether an import is in this index space.
     pub(crate) fn has_import(self, import: &Import) -> bool
         ensures { result ≡ is_in self import.now }
     {
@@ -27,7 +27,7 @@ impl Space {
         }
     }
 
-    /// Whether what is exported is in it.
+    /// Whether what is exported is in this index space.
     pub(crate) fn has_export(self, kind: ExportKind) -> bool
         ensures { result ≡ is_some (index_in self kind) }
     {

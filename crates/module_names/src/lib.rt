@@ -9,6 +9,6 @@ pub mod imports;
 pub mod index_spaces;
 pub mod names;
 
+pub use base::NoMemory;
 pub use imports::{FirstsByNames, firsts_by_names};
 pub use names::ModuleNames;
-pub use no_memory::NoMemory;

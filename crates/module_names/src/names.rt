@@ -9,7 +9,7 @@ use crate::exports::Exports;
 use crate::funcs::ImportedFuncs;
 use crate::globals::ImportedGlobals;
 use crate::index_spaces::Space;
-use no_memory::NoMemory;
+use base::NoMemory;
 use std::alloc::Global;
 use std::marker::Model;
 use wasm_syntax::{Export, ExportKind, FuncType, GlobalType, Import, ImportKind, Module};
@@ -66,7 +66,7 @@ impl<'a> ModuleNames<'a> {
     ///
     /// # Errors
     ///
-    /// `NoMemory` where an allocation failed.
+    /// `NoMemory` if an allocation failed.
     pub fn of(alloc: Global, module: &'a Module) -> Result<ModuleNames<'a>, NoMemory>
         ensures { IfOk result (λ names. names ≡ «module».now) }
     {
@@ -97,14 +97,14 @@ impl<'a> ModuleNames<'a> {
         self.table
     }
 
-    /// The imported functions, in order.
+    /// The imported functions, in the module's order.
     pub fn funcs(&self) -> &[&'a Import]
         ensures { map (λ import. import.now) result.now ≡ imports_with func_import self.now }
     {
         self.funcs.imports()
     }
 
-    /// The imported globals, in order.
+    /// The imported globals, in the module's order.
     pub fn globals(&self) -> &[&'a Import]
         ensures { map (λ import. import.now) result.now ≡ imports_with global_import self.now }
     {
@@ -132,7 +132,7 @@ impl<'a> ModuleNames<'a> {
         self.funcs.has_names(from, name)
     }
 
-    /// The types of the functions imported under two names, in order, where there are any.
+    /// The types of the functions imported under two names, in the module's order, if there are any.
     pub fn func_types(&self, from: &'a str, name: &'a str) -> Option<&Vec<&'a FuncType>>
         ensures { unwrap_or (option_map (λ types. map (λ ty. ty.now) types.now.items) result) []
             ≡ func_types_named self.now from.now name.now }
@@ -208,7 +208,7 @@ fn type_of_defined(module: &Module, place: usize) -> Option<&FuncType>
     }
 }
 
-/// The type of a global, of which these are the imported ones.
+/// The type of a global, given the imported globals.
 fn type_of_global(module: &Module, globals: &[&Import], index: usize) -> Option<GlobalType>
     requires { map (λ import. import.now) globals.now ≡ imports_with global_import «module».now }
     ensures { result ≡ slice_get (all_globals «module».now) index }

@@ -6,12 +6,12 @@ ghost use Rattle.std.specs.Borrow.{sem};
 ghost use Rattle.page_arena.specs.Lending.{LendsPage};
 ghost use Rattle.page_arena.specs.Pages.{page_at};
 
-use no_memory::NoMemory;
+use base::NoMemory;
 use raw_page::RawPage;
 use std::alloc::Global;
 use std::marker::Model;
 
-/// How many bytes a page has.
+/// The number of bytes of a page.
 pub const PAGE_LENGTH: usize = raw_page::PAGE_LENGTH;
 
 /// A page of an arena, by its number: pages are counted from 0 in the order in which they are made.
@@ -45,7 +45,7 @@ impl PageArena {
         }
     }
 
-    /// How many pages there are.
+    /// The number of pages.
     pub fn count(&self) -> usize
         ensures { result ≡ length self.now }
     {
@@ -55,7 +55,7 @@ impl PageArena {
     /// Makes a page of zeros.
     ///
     /// # Errors
-    /// Where an allocation failed; all pages are as before then.
+    /// If an allocation failed; all pages are as before then.
     pub fn new_page(&mut self) -> Result<PageId, NoMemory>
         ensures number { IfOk result (λ id. id.number ≡ length self.old) }
         ensures ok { OnOk result (self.new ≡ self.old ++ replicate PAGE_LENGTH 0 ∷ []) }
@@ -68,7 +68,7 @@ impl PageArena {
     /// Makes a page that begins with the bytes of another. Writes to either do not show in the other.
     ///
     /// # Errors
-    /// Where an allocation failed; all pages are as before then.
+    /// If an allocation failed; all pages are as before then.
     pub fn copy_page(&mut self, id: PageId) -> Result<PageId, NoMemory>
         requires { id.number < length self.old }
         ensures number { IfOk result (λ copy. copy.number ≡ length self.old) }

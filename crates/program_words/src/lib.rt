@@ -1,12 +1,12 @@
 //! The words that a program is called with.
 #![tactic(auto)]
 
-use no_memory::NoMemory;
+use base::NoMemory;
 use std::io::ErrorKind;
 use std::rt::Env;
 use std::{env, io};
 
-/// The words after the program's name; none where a word is no text, which stands in no form of a call.
+/// The words after the program's name; an empty list, which is no form of a call, if a word is not text.
 ///
 /// # Errors
 ///
@@ -19,7 +19,7 @@ pub fn words_of_call<R: Env + AllocGlobal>(rt: &R) -> Result<Vec<String>, NoMemo
     }
 }
 
-/// The words after the program's name, each of which is a text.
+/// The words after the program's name, each a text.
 fn words<R: Env + AllocGlobal>(rt: &R) -> io::Result<Vec<String>> {
     Ok(env::args(rt)?.skip(1).collect(rt.alloc())?)
 }

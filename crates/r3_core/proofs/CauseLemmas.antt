@@ -13,7 +13,7 @@ use Rattle.r3_faults.specs.declared.faults.Fault.{Fault}
 use Rattle.r3_faults.specs.declared.faults.Fault.TheVariants as faults
 
 module _ {Y : Type 0} where
-  -- the files before one, that one, and those after it
+  -- the files before one, that one, and the files after it
   pub files-at : (names : List (String Y)) (limits : List ℕ) (i : ℕ) (d : String Y) (e : ℕ) → i < length names
       → length names ≡ length limits
       → take i (zip (texts names) limits) ++ ((
@@ -39,7 +39,7 @@ module _ {Y : Type 0} where
       ap (λ files. (string_bytes n, l) ∷ files) (files-more ns ls i d e (omega arith) (omega arith))
 
 module _ {X : Type 0} (p : X → Bool) where
-  -- still none
+  -- one more item that is not found leaves nothing found
   pub find-more : (xs : List X) (x : X) → find p xs ≡ None → find p (x ∷ []) ≡ None → find p (xs ++ x ∷ []) ≡ None
   find-more xs x none last =
       find-append p xs (x ∷ []) ∙ ap (λ found. option_or found (find p (x ∷ []))) none ∙ last
@@ -116,7 +116,7 @@ module _ (told : Option FileMap) (fb fm fn tb tm tn : List ℕ → ℕ) (before 
       ))
 
 module _ {Y : Type 0} (names : List (String Y)) (limits : List ℕ) where
-  -- the cause of a fault of the file at `i`, where those before it are not too long
+  -- the cause of a fault of the file at `i`, if the files before it are not too long
   pub IsLoadCause-at : (i : ℕ) (d : String Y) (told told' : Option FileMap) (fb fm fn tb tm tn : List ℕ → ℕ) (name : List ℕ)
       → i < length names → length names ≡ length limits → name ≡ string_bytes (get_or names i d) → told' ≡ told
       → NoneFell fb fm → NoneFell tb tm → ForSome told (λ told. first_longer told (take i (zip (texts names) limits)) ≡ None)

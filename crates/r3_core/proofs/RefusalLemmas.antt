@@ -1,4 +1,4 @@
--- The statuses of refused bytes: none is that of another cause.
+-- The statuses of refused bytes: no other cause has one of them.
 use Rattle.std.proofs.Common.{◌≡◌, ℕ, ◌-◌, ◌^◌, min, List, [], ◌∷◌, refl, sym, ◌∙◌, ap, subst, Option, Some, None, inl, inr, Bool, true, false, not, ◌||◌, ◌==◌, true≢false}
 use Rattle.r3_faults.specs.Lines.{status_of}
 use Rattle.r3_faults.specs.declared.faults.Fault.{Fault}
@@ -32,15 +32,15 @@ use Rattle.host_play.specs.declared.results.PlayFault.{PlayFault}
 use Rattle.host_play.specs.declared.results.PlayFault.TheVariants as play
 use Rattle.r3_instrument.specs.Hooked as hooked
 use Rattle.r3_instrument.specs.Hooked.{IsHookedRefusal}
-use Rattle.r3_record.specs.LogFiles as logs
-use Rattle.r3_record.specs.LogFiles.{HasNoModuleLog, IsLogRefusal, record_fault}
+use Rattle.r3_make.specs.LogFiles as logs
+use Rattle.r3_make.specs.LogFiles.{HasNoModuleLog, IsLogRefusal, record_fault}
 use Rattle.trace_model.specs.Weight.{tape_weight}
 use Rattle.r3_reduce.specs.Reduced.{IsReduceRefusal}
-use Rattle.r3_build.specs.Refusals as tapes
-use Rattle.r3_build.specs.Refusals.{IsBuildRefusal, IsUntaken}
+use Rattle.r3_make.specs.BuildRefusals as tapes
+use Rattle.r3_make.specs.BuildRefusals.{IsBuildRefusal, IsUntaken}
 use Rattle.load_maker.specs.Loads.{load_script}
 use Rattle.load_maker.specs.declared.load_module.TheConstants.{LOAD_MODULE}
-use Rattle.r3_load.specs.Summaries.{load_turns}
+use Rattle.r3_make.specs.Summaries.{load_turns}
 use Rattle.r3_core.specs.declared.words.Command.{Command}
 use Rattle.r3_core.specs.declared.words.Command.TheVariants.{Make, Instrument, Record, Reduce, Build, History, Replay, Show, Load}
 use Rattle.r3_core.specs.Words.{form}
@@ -48,11 +48,11 @@ use Rattle.r3_core.specs.Causes.{IsRefusal}
 
 -- ---- bytes that are refused
 
--- a status that none of the other causes has
+-- a status that no other cause has
 abbrev IsOther : ℕ → Type 0
 IsOther status = (status ≡ 2 → ⊥) × (status ≡ 3 → ⊥) × (status ≡ 4 → ⊥) × (status ≡ 13 → ⊥) × (status ≡ 14 → ⊥)
 
--- the same, as a test
+-- a test of such a status
 abbrev is_other : ℕ → Bool
 is_other status = not ((status == 2) || ((status == 3) || ((status == 4) || ((status == 13) || (status == 14)))))
 

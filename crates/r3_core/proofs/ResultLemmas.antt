@@ -5,7 +5,7 @@ use Rattle.r3_outside.specs.Count.{Rose}
 use Rattle.r3_outside.specs.Growth.{Grew, GrewByPrefix}
 use Rattle.r3_faults.specs.Lines.{IsTold}
 
--- what holds of the error that is passed on
+-- a property of an error that is passed on
 pub IfErr-from : {T E : Type 0} (r : Result T E) (e : E) (P : E → Type 0) → IsErrAnd r (λ y. y ≡ e) → P e → IfErr r P
 IfErr-from (Ok x) e P h p = tt
 IfErr-from (Err y) e P h p = subst P (sym h) p

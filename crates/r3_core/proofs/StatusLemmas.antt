@@ -33,7 +33,7 @@ module _ (reading : Reading) (files : List (List ℕ × ℕ)) where
       load-cases reading files (λ fault. status_of fault ≡ 3 → HasFailedRead)
       (λ name listed rose e. (name, listed, rose)) (λ name limit listed took first e. absurd (omega (arith, e)))
 
-  -- too long: the first file that is
+  -- the first file that is too long
   abbrev pub HasLongFile : Type 0
   HasLongFile =
       (file : List ℕ × ℕ) × Contains files file × Took (reading.taken_before file.0) (reading.taken_now file.0) (file.1 + 1)
@@ -56,7 +56,7 @@ load-contains reading files fault (inl memory) = (2, omega arith, sym (ap status
 load-contains reading files fault (inr cause) =
     elim (load-statuses reading files fault cause) [ inl three ↦ (0, omega arith, sym three) | inr four ↦ (1, omega arith, sym four) ]
 
--- the same, where no file is too long
+-- no file is too long if none is found
 none-differs : (file : List ℕ × ℕ) (found : Option (List ℕ × ℕ)) → found ≡ None → found ≡ Some file → ⊥
 none-differs file None none some = cc some
 none-differs file (Some other) none some = cc none
@@ -142,7 +142,7 @@ IsCause-printing words command names given says reading before now fault (Refuse
     Refused (record { command = command; loaded = loaded; number = given; call = record { names = names; says = says; bytes = bytes }; refusal = refusal })
 IsCause-printing words command names given says reading before now fault (NoMemoryLeft is) = OutOfMemory is (command, names, given, says)
 
--- the answer to a refusal, where memory lasts
+-- the result for a refusal, unless memory is out
 pub IsErrAnd-refused : {T : Type 0} (r : Result T Fault) (fault : Fault) → (r ≡ Err fault) ⊎ (r ≡ Err faults.Memory)
     → IsErrAnd r (λ other. Contains (status_of fault ∷ 3 ∷ 14 ∷ []) (status_of other))
 IsErrAnd-refused r fault (inl e) = subst (λ r. IsErrAnd r (λ other. Contains (status_of fault ∷ 3 ∷ 14 ∷ []) (status_of other))) (sym e) (0, omega arith, refl)
@@ -160,7 +160,7 @@ done-after status (suc zero, h, e) = (2, omega arith, e)
 done-after status (suc (suc zero), h, e) = (3, omega arith, e)
 done-after status (suc (suc (suc k)), h, e) = absurd (omega (arith, h))
 
--- the cause of what is answered for the bytes of files
+-- the cause of the result for the bytes of files
 pub IfErr-bytes : {T : Type 0} (r : Result T Fault) (reading : Reading) (command : Command) (names loaded : List (List ℕ)) (number : Option ℕ)
     → AreBytesOf reading.contents names loaded
     → IfErr r (λ fault. (fault ≡ faults.Memory) ⊎ IsRefusal command loaded number fault)
@@ -251,7 +251,7 @@ module _ (words : List (List ℕ)) (command : Command) (names : List (List ℕ))
       (subst (λ after. IsAfterFiles (form command).most after number') (sym same-after)
       (subst (λ c. IsAfterFiles (form c).most again.after number') same-command again.number))
 
-  -- a refusal by one reading of the words is one by another
+  -- a refusal for one reading of the words is one for another
   pub IsRefusal-said : (told : FileMap) (fault : Fault)
       → IsRefusal command' (map (file_bytes told) names') number' fault
       → IsRefusal command (map (file_bytes told) names) number fault
@@ -260,7 +260,7 @@ module _ (words : List (List ℕ)) (command : Command) (names : List (List ℕ))
       (subst (λ ns. IsRefusal command' (map (file_bytes told) ns) number fault) same-names
       (subst (λ k. IsRefusal command' (map (file_bytes told) names') k fault) same-number sure))
 
-  -- so is a job that can be done
+  -- a job that can be done for one reading of the words can be done for another
   pub IsDoable-said : (told : FileMap) → IsDoable command' (map (file_bytes told) names') number'
       → IsDoable command (map (file_bytes told) names) number
   IsDoable-said told done =
@@ -287,7 +287,7 @@ names-none words command names number says none =
     zip-none names (form command).limits says.all_files
     (sym (files_of-Says words command names number says) ∙ none)
 
--- why a command over files prints nothing is neither that words are not listed nor that a write failed
+-- the fault of a command over files that prints nothing is neither `Usage` nor `Write`
 pub print-other : (reading : Reading) (command : Command) (names : List (List ℕ)) (number : Option ℕ) (fault : Fault)
     → IsPrintCause reading command names number fault → (fault ≡ faults.Usage → ⊥) × (fault ≡ faults.Write → ⊥)
 print-other reading command names number fault (UnloadedFile cause) =

@@ -14,7 +14,7 @@ bytes_eq-false xs ys differ =
     elim (bytes_eq xs ys) as (λ b. (b ≡ true → xs ≡ ys) → b ≡ false)
     [ true ↦ (λ same. absurd (differ (sym (same refl)))) | false ↦ (λ same. refl) ] (bytes_eq-Decides xs ys).0
 
--- a text is itself
+-- a text is equal to itself
 pub bytes_eq-same : (xs ys : List ℕ) → xs ≡ ys → bytes_eq xs ys ≡ true
 bytes_eq-same xs ys e = (bytes_eq-Decides xs ys).1 e
 
@@ -27,7 +27,7 @@ module _ (name : List ℕ) (rest : List (List ℕ)) (command : Command) (named :
       let e : Some other ≡ Some command = sym says.is_command ∙ ap command_of_name head ∙ named in
       cc e
 
-  -- the words after the name are the files and what stands after them
+  -- the words after the name are the files and what follows them
   pub Says-rest : rest ≡ files ++ says.after
   Says-rest = cc says.parts
 
@@ -70,12 +70,12 @@ module _ {Y : Type 0} (words : List (String Y)) (name : String Y) (rest : List (
       let same : drop count (texts rest) ≡ texts after = drop-map string_bytes count rest ∙ ap texts (sym cut) in
       unfit listed.2 (subst (λ words. IsAfterFiles (form command).most words listed.2) same (Says-after _ _ command named _ _ _ says))
 
--- what holds of any error
+-- a property of any error
 pub IfErr-always : {T E P : Type 0} (r : Result T E) → P → IfErr r (λ _. P)
 IfErr-always (Ok x) p = tt
 IfErr-always (Err e) p = p
 
--- what one reading of words says of the words
+-- one reading of words, compared with others
 module _ (words : List (List ℕ)) (command : Command) (files : List (List ℕ)) (given : Option ℕ)
     (says : Says words command files given) where
   -- another reading has the same command

@@ -1,4 +1,4 @@
--- Why a call ends with a fault, and what it prints where it ends without one.
+-- Why a call ends with a fault, and what it prints if it ends without one.
 use Rattle.std.specs.Prelude.{◌≡◌, ℕ, ◌+◌, ◌≤◌, nat_lt, List, [], ◌∷◌, length, map, find, zip, Contains, Option, Some, None, Vec}
 use Rattle.std.specs.Option.{ForSome}
 use Rattle.r3_outside.specs.Count.{Rose, Took}
@@ -8,27 +8,27 @@ use Rattle.r3_faults.specs.declared.faults.Fault.TheVariants.{Usage, Read, TooLo
 use Rattle.r3_make.specs.Refusals.{AreReplayable, IsMakeRefusal}
 use Rattle.r3_make.specs.Printed.{IsPrinted}
 use Rattle.r3_instrument.specs.Hooked.{IsHookedOf, IsHookedRefusal}
-use Rattle.r3_record.specs.LogFiles.{IsLogFile, IsLogRefusal}
+use Rattle.r3_make.specs.LogFiles.{IsLogFile, IsLogRefusal}
 use Rattle.r3_reduce.specs.Reduced.{IsReduced, IsReduceRefusal}
-use Rattle.r3_build.specs.Refusals.{IsBuildRefusal}
-use Rattle.r3_build.specs.Printed as built
+use Rattle.r3_make.specs.BuildRefusals.{IsBuildRefusal}
+use Rattle.r3_make.specs.BuiltReplays as built
 use Rattle.r3_history.specs.Histories.{IsHistory, IsHistoryRefusal}
 use Rattle.r3_replay.specs.ReplayTexts.{IsReplayText, IsReplayRefusal}
 use Rattle.r3_show.specs.Shown.{IsShown, IsShowRefusal}
 use Rattle.load_maker.specs.Loads.{load_script}
 use Rattle.load_maker.specs.declared.load_module.TheConstants.{LOAD_MODULE}
-use Rattle.r3_load.specs.Summaries.{IsSummary, load_turns}
+use Rattle.r3_make.specs.Summaries.{IsSummary, load_turns}
 use Rattle.r3_core.specs.declared.words.Command.{Command}
 use Rattle.r3_core.specs.declared.words.Command.TheVariants.{Make, Instrument, Record, Reduce, Build, History, Replay, Show, Load}
 use Rattle.r3_core.specs.Words.{form, IsListed, Says, files_of}
 
 -- ---- the files of a call
 
--- the first of these files, each with its limit, that is longer
+-- the first of these files, each with its limit, that is longer than its limit
 abbrev pub first_longer : FileMap → List (List ℕ × ℕ) → Option (List ℕ × ℕ)
 first_longer told files = find (λ file. nat_lt file.1 (length (file_bytes told file.0))) files
 
--- what files told when a call began, and their counts by name then and now
+-- what the files contained when a call began, and their counts by name then and now
 pub record Reading : Type 0 where
   pub contents : Option FileMap
   pub faults_before : List ℕ → ℕ
@@ -36,6 +36,7 @@ pub record Reading : Type 0 where
   pub taken_before : List ℕ → ℕ
   pub taken_now : List ℕ → ℕ
 
+-- the record of what the files contained when a call began, and of their counts by name then and now
 abbrev pub reading_of : Option FileMap → (faults_before faults_now taken_before taken_now : List ℕ → ℕ) → Reading
 reading_of contents faults_before faults_now taken_before taken_now = record {
   contents = contents;
@@ -45,7 +46,7 @@ reading_of contents faults_before faults_now taken_before taken_now = record {
   taken_now = taken_now;
 }
 
--- why one of these files, each with its limit, was not loaded, by the counts of this very file
+-- why one of these files, each with its limit, was not loaded, by the counts of that file
 abbrev pub IsLoadCause : Reading → List (List ℕ × ℕ) → Fault → Type 0
 IsLoadCause reading files (Read name) =
     Contains (map (λ file. file.0) files) name × Rose (reading.faults_before name) (reading.faults_now name)
@@ -54,7 +55,7 @@ IsLoadCause reading files (TooLong name limit) =
     × ForSome reading.contents (λ told. first_longer told files ≡ Some (name, limit))
 IsLoadCause reading files fault = ⊥
 
--- the bytes of the files of these names, where the files tell what they hold
+-- the bytes of the files of these names, if the contents of files are known
 abbrev pub AreBytesOf : Option FileMap → (names loaded : List (List ℕ)) → Type 0
 AreBytesOf contents names loaded = ForSome contents (λ told. loaded ≡ map (file_bytes told) names)
 
@@ -70,7 +71,7 @@ AreWithin (bytes ∷ lists) (limit ∷ limits) = (length bytes ≤ limit) × Are
 
 -- ---- commands over the bytes of their files
 
--- a command refuses them
+-- a command refuses the bytes of its files
 abbrev pub IsRefusal : Command → (loaded : List (List ℕ)) → (number : Option ℕ) → Fault → Type 0
 IsRefusal Make (module_bytes ∷ script_bytes ∷ []) (Some turns) fault =
     IsMakeRefusal module_bytes script_bytes turns fault
@@ -87,7 +88,7 @@ IsRefusal Show (trace ∷ []) None fault = IsShowRefusal trace fault
 IsRefusal Load [] (Some number) fault = IsMakeRefusal LOAD_MODULE (load_script number) load_turns fault
 IsRefusal command loaded number fault = ⊥
 
--- a command does its job for them
+-- a command can do its job for the bytes of its files
 abbrev pub IsDoable : Command → (loaded : List (List ℕ)) → (number : Option ℕ) → Type 0
 IsDoable Make (module_bytes ∷ script_bytes ∷ []) (Some turns) = AreReplayable module_bytes script_bytes turns
 IsDoable Instrument (module_bytes ∷ []) None = (hooked : List ℕ) × IsHookedOf module_bytes hooked
@@ -103,7 +104,7 @@ IsDoable Show (trace ∷ []) None = (text : List ℕ) × IsShown trace text
 IsDoable Load [] (Some number) = AreReplayable LOAD_MODULE (load_script number) load_turns
 IsDoable command loaded number = ⊥
 
--- a command prints these bytes for them
+-- a command prints these bytes for the bytes of its files
 abbrev pub Prints : Command → (loaded : List (List ℕ)) → (number : Option ℕ) → (printed : List ℕ) → Type 0
 Prints Make (module_bytes ∷ script_bytes ∷ []) (Some turns) printed =
     IsPrinted module_bytes script_bytes turns printed
@@ -137,7 +138,7 @@ pub record IsRefused (words : List (List ℕ)) (contents : Option FileMap) (faul
   pub call : IsCall words contents command loaded number
   pub refusal : IsRefusal command loaded number fault
 
--- the command of the words prints these bytes for those of its files
+-- the command of the words prints these bytes for the bytes of its files
 pub record IsPrintedFor (words : List (List ℕ)) (contents : Option FileMap) (printed : List ℕ) : Type 0 where
   pub command : Command
   pub loaded : List (List ℕ)

@@ -9,30 +9,30 @@ module_bytes = MOST_FILE_BYTES
 abbrev pub script_bytes : ℕ
 script_bytes = MOST_FILE_BYTES
 
--- of a module with hooks
+-- the most bytes of a module with hooks
 abbrev pub hooked_bytes : ℕ
 hooked_bytes = MOST_INSTRUMENTED_BYTES
 
--- of a log, a tape or a trace
+-- the most bytes of a log, a tape or a trace
 abbrev pub trace_bytes : ℕ
 trace_bytes = 268435456
 
--- of a module that is replayed, and of any file
+-- the most bytes of a module that is replayed, and of any file
 abbrev pub binary_bytes : ℕ
 binary_bytes = MOST_REPLAY_BYTES
 
--- of `make`
+-- the most turns of `make`
 abbrev pub most_turns : ℕ
 most_turns = MOST_TURNS
 
--- of `history`
+-- the most turns of `history`
 abbrev pub most_turns_told : ℕ
 most_turns_told = MOST_TURNS_TOLD
 
--- of `record` and `replay`
+-- the most turns of `record` and `replay`
 abbrev pub most_record_turns : ℕ
 most_record_turns = 20000000
 
--- of `load`
+-- the greatest number of `load`
 abbrev pub most_load : ℕ
 most_load = 60000

@@ -1,4 +1,4 @@
--- The words of a call: a command's name, its files, each with a limit in bytes, and after them a number.
+-- The words of a call: a command's name, its files, each with a limit in bytes, and a number after them.
 use Rattle.std.specs.Prelude.{◌≡◌, ℕ, ◌≤◌, List, [], ◌∷◌, ◌++◌, length, map, find, Option, Some, None, codes, decimal, String, string_bytes}
 use Rattle.std.specs.List.{zip}
 use Rattle.std.specs.Option.{option_map_or}
@@ -7,7 +7,7 @@ use Rattle.r3_core.specs.declared.words.Command.{Command}
 use Rattle.r3_core.specs.declared.words.Command.TheVariants.{Make, Instrument, Record, Reduce, Build, History, Replay, Show, Load}
 use Rattle.r3_core.specs.Limits.{module_bytes, script_bytes, hooked_bytes, trace_bytes, binary_bytes, most_turns, most_turns_told, most_record_turns, most_load}
 
--- a command's name, the limit of each of its files, and the greatest number where it takes one
+-- a command's name, the limit of each of its files, and the greatest number if the command takes one
 pub record Form : Type 0 where
   pub name : List ℕ
   pub limits : List ℕ
@@ -40,13 +40,13 @@ pub record IsNumber (most : ℕ) (word : List ℕ) (number : ℕ) : Type 0 where
   pub low : 1 ≤ number
   pub high : number ≤ most
 
--- the words after the files: one number where the command takes one, else none
+-- the words after the files: one number if the command takes one, otherwise no words
 abbrev pub IsAfterFiles : Option ℕ → List (List ℕ) → Option ℕ → Type 0
 IsAfterFiles None [] None = Unit {0}
 IsAfterFiles (Some most) (word ∷ []) (Some number) = IsNumber most word number
 IsAfterFiles most words number = ⊥
 
--- what words say: a command by its name, its files in order, any words, and the number after them
+-- what words say: a command by its name, its files in sequence, and the number after them
 pub record Says (words : List (List ℕ)) (command : Command) (files : List (List ℕ)) (given : Option ℕ)
     : Type 0 where
   pub name : List ℕ
@@ -56,11 +56,12 @@ pub record Says (words : List (List ℕ)) (command : Command) (files : List (Lis
   pub all_files : length files ≡ length (form command).limits
   pub number : IsAfterFiles (form command).most after given
 
+-- the words are a listed call: a command by its name, its files in sequence, and one number if the command takes one
 abbrev pub IsListed : List (List ℕ) → Type 0
 IsListed words =
     (command : Command) × (files : List (List ℕ)) × (number : Option ℕ) × Says words command files number
 
--- the files that the words name, in order, each with its limit
+-- the files that the words name, in sequence, each with its limit
 abbrev pub files_of : List (List ℕ) → List (List ℕ × ℕ)
 files_of [] = []
 files_of (name ∷ words) = option_map_or (λ command. zip words (form command).limits) (command_of_name name) []

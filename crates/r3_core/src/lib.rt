@@ -1,4 +1,4 @@
-//! The commands of r3 and the call that does them.
+//! The commands of r3 and the call that runs them.
 #![tactic(auto)]
 
 ghost use Rattle.std.specs.Prelude.{◌≡◌, ◌≢◌, ℕ, ◌+◌, ◌≤◌, ◌⊎◌, ◌↔◌, true, false, List, [], ◌∷◌, length, map, zip, Contains, Option, Some, None, IsSome, OnOk, IfOk, IfErr, IsErrAnd, Err};
@@ -22,23 +22,19 @@ mod loads;
 mod sure;
 mod words;
 
-pub use r3_build::build;
 pub use r3_faults::Fault;
 pub use r3_history::history;
 pub use r3_instrument::hooked;
-pub use r3_load::load_summary;
-pub use r3_make::make;
-pub use r3_record::log_run;
+pub use r3_make::{build, load_summary, log_run, make};
 pub use r3_reduce::reduce_log;
 pub use r3_replay::replay_text;
 pub use r3_show::show;
 pub use sure::r3_in_memory;
 
-/// Does what the words after the program's name say, and answers the status that the program ends
-/// with.
+/// Does what the words after the program's name say, and returns the status that the program ends with.
 ///
-/// Nothing is written to `out` before all other work is done. A status other than 0 writes one line
-/// to `err`; a fault of `err` changes no status.
+/// Nothing is written to `out` before all other work is done. A status other than 0 writes one line to `err`; a
+/// fault of `err` changes no status.
 pub fn r3<F: Files, O: Sink, E: Sink>(
     alloc: Global,
     words: &[String],
@@ -46,12 +42,12 @@ pub fn r3<F: Files, O: Sink, E: Sink>(
     out: &mut O,
     err: &mut E,
 ) -> u8
-    // The words are no listed ones: no file is read, nor is one where the words name none.
+    // The words are not a listed call. No file is read then, nor if the words name no file.
     ensures usage { (result ≡ 2) ↔ (¬ (IsListed (texts words.now))) }
     ensures listed { result ≢ 2 → IsListed (texts words.now) }
     ensures unread { (result ≡ 2) ⊎ (files_of (texts words.now) ≡ []) → files.new ≡ files.old }
 
-    // A file was not loaded: one of those that the words name; one that is too long is the first such one.
+    // A file was not loaded: it is named by the words; a file that is too long is the first such one.
     ensures contents_unchanged { F.contents files.new ≡ F.contents files.old }
     ensures read { result ≡ 3 → (name : List ℕ)
         × Contains (map (λ file. file.0) (files_of (texts words.now))) name
@@ -64,7 +60,7 @@ pub fn r3<F: Files, O: Sink, E: Sink>(
         (λ told. IsSome (first_longer told (files_of (texts words.now)))
         → Contains (3 ∷ 4 ∷ 14 ∷ []) result) }
 
-    // The bytes of the files are refused, in the order of the refusals.
+    // The bytes of the files are refused, by the first cause that applies.
     ensures refused { (command : Command) (names : List (List ℕ)) (number : Option ℕ) (fault : Fault)
         → Says (texts words.now) command names number
         → ForSome (F.contents files.old) (λ told. first_longer told (files_of (texts words.now)) ≡ None
@@ -88,7 +84,7 @@ pub fn r3<F: Files, O: Sink, E: Sink>(
         × GrewByPrefix (O.written out.old) (O.written out.new) bytes }
     ensures nothing_printed { result ≢ 0 → result ≢ 13 → out.new ≡ out.old }
 
-    // The line of error.
+    // The line that reports the fault.
     ensures silent { result ≡ 0 → err.new ≡ err.old }
     ensures told { result ≢ 0 → (fault : Fault) × (status_of fault ≡ result)
         × IsCause (texts words.now)
@@ -107,7 +103,7 @@ pub fn r3<F: Files, O: Sink, E: Sink>(
     }
 }
 
-/// Does the job, with its fault in place of a status.
+/// Does the job, and returns its fault in place of a status.
 fn run<F: Files, O: Sink>(
     alloc: Global,
     words: &[String],

@@ -14,7 +14,7 @@ use r3_outside::{Files, LoadFault, load};
 use std::alloc::Global;
 use wasm_syntax::Name;
 
-/// Loads files in order, each within its limit in bytes.
+/// Loads files one after another, each within its limit in bytes.
 pub(crate) fn load_files<F: Files>(
     alloc: Global,
     files: &mut F,

@@ -13,9 +13,9 @@ use crate::r3;
 use r3_outside::{SureFiles, SureSink};
 use std::alloc::Global;
 
-/// [`r3`] over files and sinks in memory, which never fail: no status speaks of a fault of theirs. Where
-/// the words are listed and their files are within their limits, the status is 0
-/// where the job can be done and that of the refusal where it can't, and 14 only where an allocation failed.
+/// [`r3`] over files and sinks in memory, which never fail: no status reports a fault of theirs. If the words
+/// are listed and their files are within their limits, the status is 0 if the job can be done and that of the
+/// refusal if it can't, and 14 only if an allocation failed.
 pub fn r3_in_memory(
     alloc: Global,
     words: &[String],

@@ -1,4 +1,4 @@
-// What the words of a call say.
+// The meaning of a call's words.
 
 ghost use Rattle.std.specs.Prelude.{◌≡◌, ℕ, Option, IfOk, IfErr, MatchOption};
 ghost use Rattle.r3_core.specs.Words.{form, texts, command_of_name, IsNumber, IsAfterFiles, IsListed, Says};
@@ -43,7 +43,7 @@ impl Command {
         }
     }
 
-    /// The most bytes of each file that the command names, in order.
+    /// The most bytes of each file that the command names, in sequence.
     pub(crate) fn limits(self) -> &'static [u64]
         ensures { result.now ≡ (form self).limits }
     {
@@ -58,7 +58,7 @@ impl Command {
         }
     }
 
-    /// The greatest number that the command takes after its files, where it takes one.
+    /// The greatest number that the command takes after its files, if it takes one.
     fn most(self) -> Option<u64>
         ensures { result ≡ (form self).most }
     {
@@ -72,7 +72,7 @@ impl Command {
     }
 }
 
-/// A call of the program: a command, the names of its files in order, and its number.
+/// A call of the program: a command, the names of its files in sequence, and its number.
 #[derive(Drop)]
 pub(crate) struct Call<'a> {
     pub(crate) command: Command,
@@ -106,7 +106,7 @@ pub(crate) fn call_of(words: &[String]) -> Result<Call<'_>, Fault>
     })
 }
 
-/// Reads the words after the files: one number where the command takes one, else none.
+/// Reads the words after the files: one number if the command takes one, otherwise no words.
 fn number_after(words: &[String], most: Option<u64>) -> Result<Option<u64>, Fault>
     ensures fits { IfOk result (λ number. IsAfterFiles most (texts words.now) number) }
     ensures usage { IfErr result (λ fault. fault ≡ Fault.Usage) }

@@ -39,7 +39,7 @@ escaped-more text done count =
     sym (flat_map-append escaped_byte (take done text) (take count (drop done text)))
     ∙ ap escaped (sym (take-add done count text))
 
--- no plain byte stands in front
+-- the first byte is not plain
 pub not-plain_first : (text : List ℕ) (count : ℕ) → count ≤ 0 → 0 < length text
     → (count < length text → is_plain (get_or text count 0) ≡ false) → is_plain (get_or text 0 0) ≡ false
 not-plain_first text count none some ends =

@@ -1,4 +1,4 @@
--- What an answer with its cause says of other causes and other results, where there is one of them at most.
+-- What a result with its cause implies if there is at most one cause or one text.
 use Rattle.std.proofs.Common.{◌≡◌, ◌⊎◌, ℕ, List, Vec, inl, inr, Result, Ok, Err, IfOk, IfErr, ap}
 use Rattle.r3_faults.specs.Answers.{IsCaused, IsExact}
 use Rattle.r3_faults.specs.declared.faults.Fault.{Fault}
@@ -28,7 +28,7 @@ module _ {T R : Type 0} (IsResult : R → Type 0) (IsRefusal : Fault → Type 0)
       go (Err f) is (inl memory) = (tt, memory)
       go (Err f) is (inr other) = absurd (apart x f result other)
 
--- an answer with its cause is exact where one text is printed at most, one fault refuses at most, and never both
+-- a result with its cause is exact if at most one text is printed, at most one fault refuses, and never both
 pub exact_answer : {Z : Type 0} (Printed : List ℕ → Type 0) (Refusal : Fault → Type 0)
     → ((x : List ℕ) (fault : Fault) → Printed x → Refusal fault → ⊥)
     → ((x y : List ℕ) → Printed x → Printed y → x ≡ y)

@@ -1,16 +1,16 @@
--- What a call that prints bytes answers.
+-- What a call that prints bytes returns.
 use Rattle.std.specs.Prelude.{◌≡◌, ◌⊎◌, ℕ, List, Vec, Result, Err, IfOk, IfErr}
 use Rattle.r3_faults.specs.declared.faults.Fault.{Fault}
 use Rattle.r3_faults.specs.declared.faults.Fault.TheVariants.{Memory}
 
--- with its cause: bytes that may be printed, or a fault that refuses them, out of memory apart
+-- the result has its cause: bytes that may be printed, or a fault that refuses them, or out of memory
 pub record IsCaused {Z : Type 0} (Printed : List ℕ → Type 0) (Refusal : Fault → Type 0)
     (result : Result (Vec ℕ Z) Fault) : Type 0 where
   pub cause : IfErr result (λ fault. (fault ≡ Memory) ⊎ Refusal fault)
   pub printed : IfOk result (λ bytes. Printed bytes.items)
 
--- and exactly: a fault that refuses them is the answer, and so are the bytes that may be printed, out of memory
--- apart
+-- the result is exact: it has its cause; except for out of memory, a fault that refuses is returned, and bytes
+-- that may be printed are returned
 pub record IsExact {Z : Type 0} (Printed : List ℕ → Type 0) (Refusal : Fault → Type 0)
     (result : Result (Vec ℕ Z) Fault) : Type 0 where
   pub cause : IfErr result (λ fault. (fault ≡ Memory) ⊎ Refusal fault)

@@ -1,4 +1,4 @@
--- What each fault is answered by: a status, and a line on the error stream.
+-- The status and the line on the error stream for each fault.
 use Rattle.std.specs.Prelude.{ℕ, ◌+◌, ◌/◌, ◌%◌, ◌==◌, ◌&&◌, Bool, not, nat_lt, List, [], ◌∷◌, ◌++◌, flat_map, codes, decimal, if◌then◌else◌, ◌⊎◌, Option}
 use Rattle.r3_outside.specs.Count.{Rose}
 use Rattle.r3_outside.specs.Growth.{Grew, GrewByPrefix}
@@ -12,6 +12,7 @@ use Rattle.r3_faults.specs.declared.faults.Fault.{Fault}
 use Rattle.r3_faults.specs.declared.faults.Fault.TheVariants.{Usage, Read, TooLong, Malformed, InvalidFunction, InvalidModule, Unsupported, Limit, Reserved, NotJson, Shape, UnknownName, WrongType, NoAccess, CallsOwn, Missing, Mismatch, Segment, Script, Spent, Write, Memory, BadTrace, TraceVersion, OtherModule, NotHooked, HookOrder, Unbalanced, Unfit, NoLayout, NoImports, NoEntry, TapeLimit, HookedLimit}
 use Rattle.hex.specs.Hex.{encode_lower}
 
+-- the status with which the program ends after the fault
 abbrev pub status_of : Fault → ℕ
 status_of Usage = 2
 status_of (Read name) = 3
@@ -48,21 +49,21 @@ status_of NoEntry = 17
 status_of (TapeLimit weight) = 18
 status_of HookedLimit = 23
 
--- a byte that is printed as it is: from the space to `~`, but for `\`
+-- a byte that is printed as it is: from the space to `~`, except `\`
 abbrev pub is_plain : ℕ → Bool
 is_plain byte = nat_lt 31 byte && nat_lt byte 127 && not (byte == 92)
 
 abbrev pub hex_digit : ℕ → ℕ
 hex_digit digit = if nat_lt digit 10 then 48 + digit else 87 + digit
 
--- any other byte is `\` and two lower-case hexadecimal digits
+-- the escape of any other byte: `\` and two lower-case hexadecimal digits
 abbrev pub escaped_byte : ℕ → List ℕ
 escaped_byte byte = if is_plain byte then byte ∷ [] else 92 ∷ hex_digit (byte / 16) ∷ hex_digit (byte % 16) ∷ []
 
 abbrev pub escaped : List ℕ → List ℕ
 escaped bytes = flat_map escaped_byte bytes
 
--- a line of a text and a number, or a name
+-- a line of a text and a number; a line of a text and a name
 abbrev pub with_number : List ℕ → ℕ → List ℕ
 with_number text number = text ++ (decimal number ++ codes "\n")
 
@@ -89,6 +90,7 @@ limit_text Table = codes "limit: table "
 limit_text MemoryPages = codes "limit: memory "
 limit_text Locals = codes "limit: locals "
 
+-- the line that is written on the error stream for the fault
 abbrev pub line_of : Fault → List ℕ
 line_of Usage = codes "usage\n"
 line_of (Read name) = with_name (codes "read: ") name
@@ -128,7 +130,7 @@ line_of NoEntry = codes "replay: entry\n"
 line_of (TapeLimit weight) = with_number (codes "tape limit: ") weight
 line_of HookedLimit = codes "hooked limit: 134217728\n"
 
--- the line was written whole, or a first part of it and the count of faults rose
+-- the line was written whole, or a first part of it was written and the count of faults rose
 abbrev pub IsTold : (before now : Option (List ℕ)) (faults_before faults_now : ℕ) → List ℕ → Type 0
 IsTold before now faults_before faults_now line =
     Grew before now line ⊎ (GrewByPrefix before now line × Rose faults_before faults_now)

@@ -4,21 +4,20 @@ ghost use Rattle.std.specs.Prelude.{◌≡◌};
 ghost use Rattle.r3_faults.specs.Lines.{status_of};
 ghost use Rattle.r3_faults.specs.declared.faults.Fault.TheVariants.{Memory, Write as WriteFault};
 
+use base::NoMemory;
 use history_spec::FaultKind;
-use no_memory::NoMemory;
 use r3_outside::PutFault;
 use std::alloc::{AllocError, AllocFailed};
 use std::error::Error;
 use std::fmt;
 use wasm_syntax::{Feature, Name, Which};
 
-/// Why a call ends without its job done: one variant for each line of error, in the order of their
-/// statuses. Functions, imports, segments and instructions are named by their numbers from 0 on; `at`
-/// is a number of bytes, `turn` and `turns` are numbers of turns, `limit` and `value` are in the
-/// unit of what they limit.
+/// Why a call ends without its job done: one variant for each line of error, in the order of their statuses.
+/// Functions, imports, segments and instructions are given by their numbers from 0 on; `at` is a number of
+/// bytes, `turn` and `turns` are numbers of turns, `limit` and `value` are in the unit of what they limit.
 #[derive(Drop)]
 pub enum Fault {
-    /// The words have no listed form.
+    /// The words are not a listed call.
     Usage,
     /// A read of a file failed.
     Read {
@@ -29,11 +28,11 @@ pub enum Fault {
         name: Name,
         limit: u64,
     },
-    /// The bytes encode no module.
+    /// The bytes do not encode a module.
     Malformed {
         at: u64,
     },
-    /// A function's body has no typing.
+    /// A function's body is not well typed.
     InvalidFunction {
         func: u64,
     },
@@ -54,17 +53,17 @@ pub enum Fault {
     Reserved {
         import: u64,
     },
-    /// The script is no JSON text.
+    /// The script is not a JSON text.
     NotJson,
-    /// A value of the script has another form.
+    /// A value of the script has a wrong form.
     Shape {
         path: Name,
     },
-    /// The script names what is not there.
+    /// The script uses an unknown name.
     UnknownName {
         name: Name,
     },
-    /// A value of the script has another type.
+    /// A value of the script has a wrong type.
     WrongType {
         name: Name,
     },
@@ -80,11 +79,11 @@ pub enum Fault {
     Missing {
         import: u64,
     },
-    /// What is supplied for an import does not match it.
+    /// The supply for an import does not match it.
     Mismatch {
         import: u64,
     },
-    /// A segment passes its table or memory.
+    /// A segment does not fit into its table or memory.
     Segment {
         number: u64,
     },
@@ -101,26 +100,26 @@ pub enum Fault {
     Write,
     /// Out of memory.
     Memory,
-    /// A file spells no log and no tape.
+    /// A file does not encode a log or a tape.
     BadTrace {
         at: u64,
     },
-    /// A file of a log or of a tape is of another version.
+    /// The version of a log's or a tape's file is not known.
     TraceVersion {
         found: u64,
     },
-    /// The tape is of another module: the digest of the tape's, and that of the module that is given.
+    /// The tape is of another module: the digest in the tape, and that of the given module.
     OtherModule {
         tape: [u8; 32],
         given: [u8; 32],
     },
-    /// The module has not the form of an instrumented one.
+    /// The module does not have the form of an instrumented one.
     NotHooked,
     /// A hook is called out of order.
     HookOrder {
         number: u64,
     },
-    /// An event of the log, or its outcome, is out of order.
+    /// An event of the log, or its outcome, is not allowed.
     Unbalanced {
         event: u64,
     },
@@ -132,18 +131,18 @@ pub enum Fault {
     NoLayout,
     /// The replay module has an import.
     NoImports,
-    /// The replay module has another export than its entry.
+    /// The replay module does not export exactly its entry.
     NoEntry,
     /// The tape weighs more than it may.
     TapeLimit {
         weight: u64,
     },
-    /// The instrumented module is longer than a file of one may be.
+    /// The instrumented module is too long for a file of one.
     HookedLimit,
 }
 
-// What a failed test shows. The program prints a fault by its line; derived texts of each variant
-// would be proved for nothing.
+// A failed test prints the variant. The program prints a fault by its line; a derived implementation would need
+// a proof for each variant.
 impl fmt::Debug for Fault {
     fn fmt<W: fmt::Write>(&self, f: &mut fmt::Formatter<W>) -> fmt::Result {
         let status = self.status();

@@ -18,7 +18,7 @@ impl Fault {
     ///
     /// # Errors
     ///
-    /// `Failed` where a write to `err` failed; a first part of the line is then written.
+    /// `Failed` if a write to `err` failed; a first part of the line is then written.
     pub fn put_line<E: Sink>(&self, err: &mut E) -> Result<(), PutFault>
         ensures faults_never_fall { E.faults err.old ≤ E.faults err.new }
         ensures failed { OnErr result (Rose (E.faults err.old) (E.faults err.new)) }
@@ -168,7 +168,7 @@ fn put_script<E: Sink>(err: &mut E, turn: u64, kind: FaultKind) -> Result<(), Pu
     )
 }
 
-/// The end of the line of such an action.
+/// The end of the line of an action that the host cannot do.
 fn kind_text(kind: FaultKind) -> &'static [u8]
     ensures { result.now ≡ kind_text kind }
 {
@@ -225,7 +225,7 @@ fn put_name<E: Sink>(
     put_parts(err, after)
 }
 
-/// Writes a text in runs: plain bytes as they are, any other one escaped.
+/// Writes a text in runs: plain bytes as they are, other bytes escaped.
 fn put_escaped<E: Sink>(err: &mut E, text: &[u8]) -> Result<(), PutFault>
     ensures faults_never_fall { E.faults err.old ≤ E.faults err.new }
     ensures failed { OnErr result (Rose (E.faults err.old) (E.faults err.new)) }
@@ -241,8 +241,8 @@ fn put_escaped<E: Sink>(err: &mut E, text: &[u8]) -> Result<(), PutFault>
     Ok(())
 }
 
-/// Writes the plain bytes that a text begins with, or else its first byte escaped, and answers how
-/// many bytes of the text these are.
+/// Writes the plain bytes that a text begins with, or its first byte escaped, and returns the number of bytes of
+/// the text that were written.
 fn put_run<E: Sink>(err: &mut E, text: &[u8]) -> Result<usize, PutFault>
     requires { 0 < length text.now }
     ensures faults_never_fall { E.faults err.old ≤ E.faults err.new }
@@ -263,7 +263,7 @@ fn put_run<E: Sink>(err: &mut E, text: &[u8]) -> Result<usize, PutFault>
     Ok(1)
 }
 
-/// How many plain bytes a text begins with.
+/// The number of plain bytes that a text begins with.
 fn plain_count(text: &[u8]) -> usize
     ensures within { result ≤ length text.now }
     ensures plain { escaped (take result text.now) ≡ take result text.now }

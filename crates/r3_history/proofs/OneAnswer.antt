@@ -1,4 +1,4 @@
--- A run under a script has one answer.
+-- A run under a script has at most one result.
 use Rattle.std.proofs.Common.{◌≡◌, ℕ, List, Vec, Result, sym, ◌∙◌, ap}
 use Rattle.wasm_syntax.specs.declared.modules.Module.{Module}
 use Rattle.host_script.specs.declared.scripts.Script.{Script}
@@ -30,7 +30,7 @@ module _ (m : Module) (script : Script) (turns : ℕ) (one : (initial : StepResu
       ∙ ap (history_text i.run.history) (outcome-one m script turns one h.run i.run h.outcome i.outcome h.ends i.ends)
       ∙ sym i.lines
 
-  -- an answer with its cause is exact
+  -- a result with its cause is exact
   pub exact : {Z : Type 0} (r : Result (Vec ℕ Z) Fault)
       → IsCaused (IsHistoryOf m script turns) (IsUntold m script turns) r
       → IsExact (IsHistoryOf m script turns) (IsUntold m script turns) r

@@ -1,8 +1,8 @@
--- The history that a module's run under a script has within a budget of turns, or why there is none.
+-- The history of a module's run under a script within a budget of turns, or why there is none.
 use Rattle.std.specs.Prelude.{◌≡◌, ℕ, List}
 use Rattle.wasm_syntax.specs.declared.modules.Module.{Module}
 use Rattle.host_script.specs.declared.scripts.Script.{Script}
-use Rattle.run_outcomes.specs.declared.outcomes.Outcome.{Outcome}
+use Rattle.base.specs.declared.outcomes.Outcome.{Outcome}
 use Rattle.history_spec.specs.Run.{Run}
 use Rattle.history_spec.specs.Line.{history_text}
 use Rattle.accepted_runs.specs.Unlinked.{IsUnlinkedFor}
@@ -12,28 +12,28 @@ use Rattle.r3_inputs.specs.Inputs.{AreInputs, AreRefused}
 
 -- ---- the run of a module under a script
 
--- the run is over within the turns by an outcome, and these are its lines
+-- the run ends with an outcome within the turns, and these are its lines
 pub record IsHistoryOf (m : Module) (script : Script) (turns : ℕ) (text : List ℕ) : Type 0 where
   pub run : Run
   pub outcome : Outcome
   pub ends : HasOutcome m script turns run outcome
   pub lines : text ≡ history_text run.history outcome
 
--- why there is no history of it: it does not link, or its run has no outcome
+-- why a run has no history: the module does not link, or its run has no outcome
 pub data IsUntold (m : Module) (script : Script) (turns : ℕ) (fault : Fault) : Type 0 where
   OfLink : (unlinked : IsUnlinkedFor m script fault) → IsUntold m script turns fault
   OfOutcome : (none : HasNoOutcome m script turns fault) → IsUntold m script turns fault
 
 -- ---- the bytes of a module and of a script
 
--- they are a module and a script whose run has this history
+-- the bytes are a module and a script whose run has this history
 pub record IsHistory (module_bytes script_bytes : List ℕ) (turns : ℕ) (text : List ℕ) : Type 0 where
   pub m : Module
   pub script : Script
   pub inputs : AreInputs module_bytes script_bytes m script
   pub history : IsHistoryOf m script turns text
 
--- they are refused, or there is no history of the run
+-- the module or the script is refused, or the run has no history
 pub data IsHistoryRefusal (module_bytes script_bytes : List ℕ) (turns : ℕ) (fault : Fault) : Type 0 where
   OfInputs : (refused : AreRefused module_bytes script_bytes fault)
       → IsHistoryRefusal module_bytes script_bytes turns fault

@@ -10,14 +10,14 @@ use accepted_runs::inputs_of;
 use r3_faults::Fault;
 use std::alloc::Global;
 
-/// The lines of the history and of the outcome of the run of a module with a script, within a number of
-/// turns. The module has at most 8,388,608 bytes.
+/// The lines of the history and of the outcome of the run of a module with a script, within a number of turns.
+/// The module has at most 8,388,608 bytes.
 ///
 /// # Errors
 ///
-/// The fault names why there are none: the module or the script is refused, the module does not
-/// link, the host cannot do what the script says, or the run needs more turns. Each comes exactly
-/// where it stands and none before it does. `Memory` comes where memory is out.
+/// The fault names the cause: the module or the script is refused, the module does not link, the host cannot do
+/// what the script says, or the run needs more turns. Each is reported if and only if it is the first cause that
+/// applies. `Memory` if memory is out.
 pub fn history(alloc: Global, module: &[u8], script: &[u8], turns: u64) -> Result<Vec<u8>, Fault>
     requires { length «module».now ≤ MOST_FILE_BYTES }
     ensures { IsExact (IsHistory «module».now script.now turns)

@@ -27,7 +27,7 @@ pub(crate) fn history_of(
     lines_of(alloc, checked, script, turns)
 }
 
-/// The same, with what is printed or why nothing is.
+/// The lines of a run, or a fault with its cause.
 fn lines_of(alloc: Global, checked: &Checked, script: &Script, turns: u64) -> Result<Vec<u8>, Fault>
     requires runnable { CanRun checked.now script.now }
     requires bytes { HasBytes checked.now }

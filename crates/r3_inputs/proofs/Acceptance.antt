@@ -1,10 +1,10 @@
--- What holds of an accepted module that few bytes encode: running asks for it, and so does accepting.
+-- Properties of an accepted module that few bytes encode, which running and accepting need.
 use Rattle.std.proofs.Common.{◌≡◌, ℕ, ◌≤◌, ◌<◌, ◌^◌, List, [], ◌∷◌, ◌++◌, length, All, Option, Some, None, Bool, true, false, cond, refl, arith}
 use Rattle.std.specs.Prelude.{filter_map, nat_lt}
 use Rattle.std.specs.List.{AllByRecursion, cons_option}
 use Rattle.std.proofs.lemmas.Bool.{ltb-false, ltb-true}
 use Rattle.std.proofs.lemmas.List.Elements.{All-head, All-tail, All-weaker}
-use Rattle.list_laws.proofs.Lists.{nil_parts}
+use Rattle.base.proofs.Lists.{nil_parts}
 use Rattle.wasm_syntax.specs.declared.limits.TheConstants.{MOST_LOCALS, MOST_LOCALS_HOOKED}
 use Rattle.wasm_syntax.specs.declared.signatures.FuncType.{FuncType}
 use Rattle.wasm_syntax.specs.declared.profile.Which.TheVariants.{Locals}
@@ -14,7 +14,7 @@ use Rattle.wasm_syntax.proofs.Quantities.{parameters_past, tables_past, memories
 use Rattle.wasm_syntax.specs.Profile.{Refusal, Limit, past, count_of_locals, refused_instructions, quantities_past, reserved_imports, IsAccepted, IsSupported}
 use Rattle.wasm_profile.specs.Sizes.{HasShortLists, IsShortFunc}
 use Rattle.wasm_flat.specs.Sizes.{IsShort}
-use Rattle.encoding_sizes.specs.Within.{HasListsWithin}
+use Rattle.wasm_syntax.specs.ListsWithin.{HasListsWithin}
 use Rattle.r3_inputs.specs.declared.module_files.ModuleFile.{ModuleFile}
 use Rattle.r3_inputs.specs.declared.module_files.ModuleFile.TheVariants.{Original, Instrumented, Replay}
 use Rattle.r3_inputs.specs.declared.module_files.TheConstants.{MOST_REPLAY_BYTES}
@@ -26,7 +26,7 @@ fewer_bytes Original count h = omega (arith, h)
 fewer_bytes Instrumented count h = omega (arith, h)
 fewer_bytes Replay count h = h
 
--- ---- what accepting asks for
+-- ---- what accepting needs
 
 abbrev HasFew : ℕ → (Func → ℕ) → List Func → Type 0
 HasFew most count funcs = All (λ (func : Func). count func ≤ most) funcs
@@ -50,7 +50,7 @@ short_lists most m h within = record {
   each_func = funcs_short most m.funcs (omega (arith, h)) within.locals within.bodies;
 }
 
--- ---- what running asks for
+-- ---- what running needs
 
 nil_both : {X : Type 0} (xs ys : List X) → xs ≡ [] → ys ≡ [] → xs ++ ys ≡ []
 nil_both [] ys e h = h
@@ -85,7 +85,7 @@ locals_within_more (f ∷ funcs) h =
 abbrev locals_past : ℕ → Module → List Refusal
 locals_past most m = filter_map (λ f. past most Locals (count_of_locals f)) m.funcs
 
--- quantities that are within their limits in a module as it was made are within those of an instrumented one
+-- quantities within their limits in an original module are within those of an instrumented one
 more_quantities : (hooked : Bool) (m : Module) → quantities_past hooked m ≡ [] → quantities_past true m ≡ []
 more_quantities true m few = few
 more_quantities false m few =
@@ -93,7 +93,7 @@ more_quantities false m few =
     nil_both (parameters_past m ++ tables_past m ++ memories_past m) (locals_past MOST_LOCALS_HOOKED m) parts.0 (locals_within_more m.funcs parts.1)
 
 module _ (hooked : Bool) (m : Module) (accepted : IsAccepted hooked m) where
-  -- none is refused, of the three kinds
+  -- an accepted module has no cause of refusal, of the three kinds
   by_kind : ((refused_instructions m ≡ []) × (quantities_past hooked m ≡ [])) × (reserved_imports hooked m ≡ [])
   by_kind =
       let both = nil_parts (refused_instructions m ++ quantities_past hooked m) (reserved_imports hooked m)
@@ -107,7 +107,7 @@ module _ (hooked : Bool) (m : Module) (accepted : IsAccepted hooked m) where
   pub supported_when_accepted : IsSupported m
   supported_when_accepted = record { instructions = by_kind.0.0; quantities = quantities }
 
-  -- the lists are short where few bytes encode the module
+  -- the lists are short if few bytes encode the module
   pub short_when_accepted : (most : ℕ) → most ≤ MOST_REPLAY_BYTES → HasListsWithin most m → IsShort m
   short_when_accepted most few within = record {
     types = omega (arith, few, within.parts);

@@ -1,11 +1,11 @@
--- What an answer that is a fault, or a value, says of another answer.
+-- What a fault, or a value, implies for another result.
 use Rattle.std.proofs.Common.{◌≡◌, ◌⊎◌, inl, inr, ℕ, List, Vec, Result, Ok, Err, IfOk, IfErr, sym, ◌∙◌, ap, subst}
 use Rattle.std.specs.Result.{IsErrAnd}
 use Rattle.r3_faults.specs.Answers.{IsExact}
 use Rattle.r3_faults.specs.declared.faults.Fault.{Fault}
 use Rattle.r3_faults.specs.declared.faults.Fault.TheVariants.{Memory}
 
--- the answer is this fault, or memory is out
+-- the result is this fault, or memory is out
 abbrev pub IsAnswer : {T : Type 0} → Result T Fault → Fault → Type 0
 IsAnswer r fault = (r ≡ Err fault) ⊎ (r ≡ Err Memory)
 
@@ -36,13 +36,13 @@ pub value-no : {U : Type 0} (s : Result U Fault) (x : U) (fault : Fault) → s �
 value-no s x fault is (inl same) = ok-err x fault (sym is ∙ same)
 value-no s x fault is (inr memory) = ok-err x Memory (sym is ∙ memory)
 
--- what holds of the fault that is passed on
+-- a property of a fault that is passed on
 pub passed : {T : Type 0} (r : Result T Fault) (fault : Fault) (P : Fault → Type 0)
     → IsErrAnd r (λ other. other ≡ fault) → P fault → IfErr r P
 passed (Ok x) fault P e p = tt
 passed (Err other) fault P e p = subst P (sym e) p
 
--- what holds of values alone holds of it
+-- a property of values holds of a result that is a fault
 pub not-printed : {T : Type 0} (r : Result T Fault) (fault : Fault) (P : T → Type 0)
     → IsErrAnd r (λ other. other ≡ fault) → IfOk r P
 not-printed (Ok x) fault P e = absurd e
@@ -54,8 +54,8 @@ answer-passed (Ok x) fault wanted e either = absurd e
 answer-passed (Err other) fault wanted e (inl same) = inl (ap Err (e ∙ same))
 answer-passed (Err other) fault wanted e (inr memory) = inr (ap Err (e ∙ memory))
 
--- a call whose first step answers a fault, which it passes on, is exact: the step is asked for a value by each text that
--- may be printed
+-- a call that passes on the fault of its first step is exact: each text that may be printed needs a value of the
+-- step
 pub passed_exact : {U Z : Type 0} (q : Result U Fault) (err : Fault) → q ≡ Err err
     → (Printed : List ℕ → Type 0) (Refusal : Fault → Type 0) (r : Result (Vec ℕ Z) Fault)
     → IsErrAnd r (λ other. other ≡ err) → (err ≡ Memory) ⊎ Refusal err

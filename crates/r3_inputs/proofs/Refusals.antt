@@ -1,4 +1,4 @@
--- Bytes are one accepted module, or refused for one fault.
+-- Bytes encode at most one accepted module, and are otherwise refused for one fault.
 use Rattle.std.proofs.Common.{◌≡◌, ◌≢◌, ◌↔◌, ◌⊎◌, inl, inr, ℕ, ◌+◌, ◌<◌, ◌≤◌, ◌^◌, List, [], ◌∷◌, Option, Some, None, Result, Ok, Err, IfOk, IfErr, length, All, get_or, refl, sym, ◌∙◌, ap, subst, arith, Bool}
 use Rattle.std.specs.List.{slice_get, AllByRecursion}
 use Rattle.std.proofs.lemmas.List.Elements.{All-head, All-tail}
@@ -32,12 +32,12 @@ module _ (file : ModuleFile) (one : (form : Form) (bytes : List ℕ) (m n : Modu
     ≡ b)
     (valid-decided : (m : Module) → IsValid m ↔ (invalid_at m ≡ None))
     (invalid-decided : (m : Module) (place : Option ℕ) → IsInvalidAt m place ↔ (invalid_at m ≡ Some place)) where
-  -- a valid module is invalid nowhere
+  -- a valid module has no invalid place
   not-both : (m : Module) (place : Option ℕ) → IsValid m → IsInvalidAt m place → ⊥
   not-both m place valid invalid =
       none-some (invalid_at m) place ((valid-decided m).0 valid) ((invalid-decided m place).0 invalid)
 
-  -- a refused module is not taken
+  -- a refused module is not accepted
   refused-not_taken : (bytes : List ℕ) (fault : Fault) (m : Module) → IsRefusedIn file bytes fault → IsModuleIn file bytes m
       → ⊥
   refused-not_taken bytes fault m (ByBytes malformed) taken = malformed.none m taken.encoded
@@ -48,7 +48,7 @@ module _ (file : ModuleFile) (one : (form : Form) (bytes : List ℕ) (m n : Modu
       no-refusal (is_instrumented file) n refused.refusal
       (subst (IsAccepted (is_instrumented file)) (one (form_of file) bytes m n taken.encoded encoded) taken.accepted) refused.first
 
-  -- a module is refused for one fault
+  -- a module is refused for at most one fault
   refusal-one : (bytes : List ℕ) (f g : Fault) → IsRefusedIn file bytes f → IsRefusedIn file bytes g → f ≡ g
   refusal-one bytes f g (ByBytes a) (ByBytes b) =
       a.named ∙ ap Malformed (place-one (form_of file) bytes a.at b.at a.place b.place) ∙ sym b.named
@@ -70,7 +70,7 @@ module _ (file : ModuleFile) (one : (form : Form) (bytes : List ℕ) (m n : Modu
       let same = subst (λ m. first_refusal (is_instrumented file) m ≡ Some a.refusal) (one (form_of file) bytes m n encoded other) a.first in
       a.named ∙ ap refusal_fault (some-one (first_refusal (is_instrumented file) n) a.refusal b.refusal same b.first) ∙ sym b.named
 
-  -- what an answer with its cause says of a refusal, and of a module that is taken
+  -- a result with its cause, for a refusal; for an accepted module
   pub refused-answered : (r : Result Module Fault) (bytes : List ℕ) (fault : Fault) → IfOk r (λ m. IsModuleIn file bytes m)
       → IfErr r (λ f. (f ≡ Memory) ⊎ IsRefusedIn file bytes f) → IsRefusedIn file bytes fault
       → (r ≡ Err fault) ⊎ (r ≡ Err Memory)

@@ -1,4 +1,5 @@
--- What a file of a module is to hold: the form that it is read in, what its module may have, and how long it may be.
+-- The kinds of module files: the form of their encoding, whether the module is instrumented, and how long they
+-- may be.
 use Rattle.std.specs.Prelude.{ℕ, Bool, true, false}
 use Rattle.wasm_syntax.specs.declared.forms.Form.{Form}
 use Rattle.wasm_syntax.specs.declared.forms.Form.TheVariants as form
@@ -13,13 +14,13 @@ form_of Original = form.Core
 form_of Instrumented = form.Core
 form_of Replay = form.Replay
 
--- whether the profile takes it as an instrumented module
+-- whether the profile treats the module as an instrumented one
 abbrev pub is_instrumented : ModuleFile → Bool
 is_instrumented Original = false
 is_instrumented Instrumented = true
 is_instrumented Replay = false
 
--- how many bytes it has at most
+-- the most bytes of the file
 abbrev pub most_bytes : ModuleFile → ℕ
 most_bytes Original = MOST_FILE_BYTES
 most_bytes Instrumented = MOST_INSTRUMENTED_BYTES

@@ -1,11 +1,11 @@
-// Bytes as modules and scripts.
+// Modules and scripts from bytes.
 
 ghost use Rattle.std.specs.Prelude.{◌≡◌, ◌<◌, ◌≤◌, ◌⊎◌, ◌^◌, Ok, Err, length, All, IfOk, IfErr, OnOk};
 ghost use Rattle.wasm_syntax.specs.declared.limits.TheConstants.{MOST_FILE_BYTES};
 ghost use Rattle.wasm_syntax.specs.Encoding.Modules.{Encodes};
 ghost use Rattle.wasm_syntax.specs.Index.{func_indices};
 ghost use Rattle.wasm_syntax.specs.Profile.{IsAccepted, IsSupported};
-ghost use Rattle.encoding_sizes.specs.Within.{HasListsWithin};
+ghost use Rattle.wasm_syntax.specs.ListsWithin.{HasListsWithin};
 ghost use Rattle.wasm_flat.specs.Sizes.{IsShort};
 ghost use Rattle.wasm_profile.specs.Sizes.{HasShortLists};
 ghost use Rattle.wasm_syntax.specs.declared.modules.Module.{Module};
@@ -19,31 +19,30 @@ ghost use Rattle.r3_inputs.specs.Inputs.{IsModuleIn, IsModuleOf, IsMalformedIn, 
 ghost use Rattle.r3_inputs.specs.ModuleFiles.{form_of, is_instrumented, most_bytes};
 
 use crate::module_files::ModuleFile;
-use fitting_scripts::scripts_that_are_read_fit;
 use host_script::Script;
 use r3_faults::Fault;
-use script_text::{ScriptFault, read_script};
+use script_text::{ScriptFault, read_script, scripts_that_are_read_fit};
 use std::alloc::Global;
 use wasm_decode::{DecodeFault, decode};
 use wasm_profile::{ProfileFault, accept};
 use wasm_syntax::{Module, fault_places, module_encoding, validity_is_decided};
 use wasm_validate::{Checked, InvalidFault, validate};
 
-/// The module as it was made that bytes encode, where it is valid and accepted. There are at most
-/// `MOST_FILE_BYTES` of them.
+/// The original module that bytes encode, if it is valid and accepted. There are at most `MOST_FILE_BYTES`
+/// bytes.
 ///
 /// # Errors
 ///
-/// Why the bytes are refused, the first of: they are malformed, the module is invalid, it is not
-/// accepted. `Memory` where memory runs out.
+/// Why the bytes are refused, by the first cause that applies: they are malformed, the module is invalid, or it
+/// is not accepted. `Memory` if memory is out.
 pub fn module_of(alloc: Global, bytes: &[u8]) -> Result<Checked, Fault>
     requires { length bytes.now ≤ MOST_FILE_BYTES }
     ensures taken { IfOk result (λ checked. IsModuleOf bytes.now checked) }
     ensures bytes { IfOk result (λ checked. All (λ segment. All (λ byte. byte < 256) segment.bytes) checked.datas) }
-    // What running asks for: no instruction is refused, and its lists are short.
+    // A run needs this: no instruction is refused, and the module's lists are short.
     ensures supported { IfOk result (λ checked. IsSupported checked) }
     ensures short { IfOk result (λ checked. IsShort checked) }
-    // No list of it is longer than the bytes.
+    // No list of the module is longer than the bytes.
     ensures within { IfOk result (λ checked. HasListsWithin (length bytes.now) checked) }
     ensures cause { IfErr result (λ fault. (fault ≡ Memory) ⊎ IsRefusedModule bytes.now fault) }
     ensures refused { (fault : Fault) → IsRefusedModule bytes.now fault
@@ -54,12 +53,12 @@ pub fn module_of(alloc: Global, bytes: &[u8]) -> Result<Checked, Fault>
     module_in(alloc, ModuleFile::Original, bytes)
 }
 
-/// The module of a file that is to hold such a module, where it is valid and accepted. It has at most
-/// `MOST_FILE_BYTES`, `MOST_INSTRUMENTED_BYTES` or `MOST_REPLAY_BYTES` bytes.
+/// The module of a file of this kind, if it is valid and accepted. The file has at most `MOST_FILE_BYTES`,
+/// `MOST_INSTRUMENTED_BYTES` or `MOST_REPLAY_BYTES` bytes.
 ///
 /// # Errors
 ///
-/// As of `module_of`.
+/// The faults of `module_of`.
 pub fn module_in(alloc: Global, file: ModuleFile, bytes: &[u8]) -> Result<Checked, Fault>
     requires { length bytes.now ≤ most_bytes file }
     ensures taken { IfOk result (λ checked. IsModuleIn file bytes.now checked) }
@@ -73,14 +72,14 @@ pub fn module_in(alloc: Global, file: ModuleFile, bytes: &[u8]) -> Result<Checke
     ensures accepted { (m : Module) → IsModuleIn file bytes.now m
         → (result ≡ Ok m) ⊎ (result ≡ Err Memory) }
 {
-    // Bytes encode one module at most, and are refused for one fault at most.
+    // Bytes encode at most one module, and are refused for at most one fault.
     module_encoding();
     fault_places();
     validity_is_decided();
     accepted_module(alloc, file, bytes)
 }
 
-/// The same, with what it is or why it is refused.
+/// The accepted module of a file, or a fault with its cause.
 fn accepted_module(alloc: Global, file: ModuleFile, bytes: &[u8]) -> Result<Checked, Fault>
     requires { length bytes.now ≤ most_bytes file }
     ensures taken { IfOk result (λ checked. IsModuleIn file bytes.now checked) }
@@ -110,7 +109,7 @@ fn decoded_module(alloc: Global, file: ModuleFile, bytes: &[u8]) -> Result<Modul
     }
 }
 
-/// A module, with the knowledge that it is valid.
+/// A module, known to be valid.
 fn valid_module(alloc: Global, module: Module) -> Result<Checked, Fault>
     requires { length (func_indices «module») < 2 ^ 32 }
     ensures same { IfOk result (λ checked. checked ≡ «module») }
@@ -127,7 +126,7 @@ fn valid_module(alloc: Global, module: Module) -> Result<Checked, Fault>
     }
 }
 
-/// Whether a valid module is accepted in such a file, and why it is not.
+/// Tests that a valid module is accepted in a file of this kind.
 fn acceptance(file: ModuleFile, checked: &Checked) -> Result<(), Fault>
     requires { HasShortLists checked.now }
     ensures taken { OnOk result (IsAccepted (is_instrumented file) checked.now) }
@@ -153,11 +152,11 @@ fn acceptance(file: ModuleFile, checked: &Checked) -> Result<(), Fault>
     }
 }
 
-/// The script that bytes are for a module, which fits the module.
+/// The script that bytes encode for a module, which fits the module.
 ///
 /// # Errors
 ///
-/// The first fault of the walk over the text, or `Memory` where memory runs out.
+/// The first fault of the walk over the text, or `Memory` if memory is out.
 pub fn script_of(alloc: Global, bytes: &[u8], checked: &Checked) -> Result<Script, Fault>
     ensures taken { IfOk result (λ script. script_of_text checked.now bytes.now ≡ Ok script) }
     ensures fits { IfOk result (λ script. Fits checked.now script) }

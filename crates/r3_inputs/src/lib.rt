@@ -1,4 +1,4 @@
-//! The module and the script that bytes are, or why they are refused.
+//! The module and the script that bytes encode, or why they are refused.
 #![tactic(auto)]
 
 mod inputs;

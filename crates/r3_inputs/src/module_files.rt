@@ -1,4 +1,4 @@
-// What a file that holds a module is to hold.
+// The kinds of module files.
 
 ghost use Rattle.std.specs.Prelude.{◌≡◌};
 ghost use Rattle.r3_inputs.specs.ModuleFiles.{form_of, is_instrumented};
@@ -11,7 +11,7 @@ pub const MOST_INSTRUMENTED_BYTES: u64 = 134_217_728;
 /// The most bytes of a replay module.
 pub const MOST_REPLAY_BYTES: u64 = 536_870_912;
 
-/// What a file of a module is to hold: a module as it was made, an instrumented one, or a replay module.
+/// What a module file contains: an original module, an instrumented one, or a replay module.
 #[derive(Clone, Copy, PartialEq, Eq, Debug)]
 pub enum ModuleFile {
     Original,
@@ -20,7 +20,7 @@ pub enum ModuleFile {
 }
 
 impl ModuleFile {
-    /// The form of the binary format that it is read in.
+    /// The form of the binary format.
     pub(crate) fn form(self) -> Form
         ensures { result ≡ form_of self }
     {
@@ -30,7 +30,8 @@ impl ModuleFile {
         }
     }
 
-    /// Whether it may have what instrumented modules have: more locals, and imports that are reserved otherwise.
+    /// Whether the module may have what instrumented modules have: more locals, and imports that are otherwise
+    /// reserved.
     pub(crate) fn is_instrumented(self) -> bool
         ensures { result ≡ is_instrumented self }
     {

@@ -1,4 +1,4 @@
--- Bytes have one instrumented module, or one reason why they have none.
+-- Bytes have at most one instrumented module, and otherwise one fault.
 use Rattle.std.proofs.Common.{◌≡◌, ◌⊎◌, inl, inr, ℕ, ◌<◌, ◌≤◌, List, length, Result, Ok, Err, IfOk, IfErr, sym, ◌∙◌, ap, subst, arith}
 use Rattle.wasm_syntax.specs.declared.modules.Module.{Module}
 use Rattle.r3_faults.specs.declared.faults.Fault.{Fault}
@@ -28,7 +28,7 @@ too_long bytes m text fault is long = least (length (hooked_bytes bytes m)) is.w
 module _ (bytes : List ℕ) (found : Result Module Fault)
     (refused : (fault : Fault) → IsRefusedModule bytes fault → (found ≡ Err fault) ⊎ (found ≡ Err Memory))
     (accepted : (m : Module) → IsModuleOf bytes m → (found ≡ Ok m) ⊎ (found ≡ Err Memory)) where
-  -- where the module is refused
+  -- the module is refused
   module _ {T : Type 0} (err : Fault) (is : found ≡ Err err) where
     pub refusal_refused : (fault : Fault) → IsHookedRefusal bytes fault
         → (◌≡◌ {A = Result T Fault} (Err err) (Err fault)) ⊎ (◌≡◌ {A = Result T Fault} (Err err) (Err Memory))
@@ -41,7 +41,7 @@ module _ (bytes : List ℕ) (found : Result Module Fault)
       | inr e ↦ inr (ap Err (err_same err Memory (sym is ∙ e)))
     ]
 
-  -- where it is taken: what is known of an answer with its cause
+  -- the module is accepted; what is known of a result with its cause
   module _ {T : Type 0} (lines : T → List ℕ) (m : Module) (is : found ≡ Ok m) (r : Result T Fault)
       (printed : IfOk r (λ x. IsHooked bytes m (lines x)))
       (cause : IfErr r (λ f. (f ≡ Memory) ⊎ IsTooLong bytes m f)) where

@@ -7,15 +7,14 @@ ghost use Rattle.wasm_syntax.specs.declared.forms.Form.TheVariants.{Replay};
 ghost use Rattle.wasm_syntax.specs.Encoding.Encodable.{IsEncodable};
 ghost use Rattle.wasm_syntax.specs.Encoding.Shortest.{encoding_of};
 ghost use Rattle.wasm_flat.specs.Sizes.{IsShort};
-ghost use Rattle.hook_spec.specs.Instrumented.{instrumented_module};
+ghost use Rattle.record_replay_spec.specs.Instrumented.{instrumented_module};
 ghost use Rattle.r3_faults.specs.declared.faults.Fault.{Fault};
 ghost use Rattle.r3_faults.specs.declared.faults.Fault.TheVariants.{HookedLimit, Memory};
 ghost use Rattle.r3_inputs.specs.declared.module_files.TheConstants.{MOST_INSTRUMENTED_BYTES};
 ghost use Rattle.r3_inputs.specs.Inputs.{IsModuleOf};
 ghost use Rattle.r3_instrument.specs.Hooked.{IsHooked, IsHookedOf, IsHookedRefusal, IsTooLong};
 
-use hook_insert::instrument;
-use instrumented_encoding::{files_are_of_words, instrumented_are_encodable};
+use hook_insert::{files_are_of_words, instrument, instrumented_are_encodable};
 use r3_faults::Fault;
 use r3_inputs::{MOST_INSTRUMENTED_BYTES, module_of};
 use sha2::{Digest, Sha256};
@@ -24,13 +23,13 @@ use wasm_encode::{EncodeFault, encode};
 use wasm_syntax::shortest_encoding;
 use wasm_validate::Checked;
 
-/// The shortest encoding of the instrumented module of a module, which tells the SHA-256 digest of the module's bytes.
-/// The module has at most 8,388,608 bytes.
+/// The shortest encoding of the instrumented module of a module, which declares the SHA-256 digest of the
+/// module's bytes. The module has at most 8,388,608 bytes.
 ///
 /// # Errors
 ///
-/// Why the bytes are no accepted module; or `HookedLimit`, exactly where the encoding has more than 134,217,728 bytes.
-/// `Memory` comes where memory is out.
+/// Why the bytes are not an accepted module; or `HookedLimit`, if and only if the encoding has more than
+/// 134,217,728 bytes. `Memory` if memory is out.
 pub fn hooked(alloc: Global, module: &[u8]) -> Result<Vec<u8>, Fault>
     requires { length «module».now ≤ MOST_FILE_BYTES }
     ensures cause { IfErr result (λ fault. (fault ≡ Memory) ⊎ IsHookedRefusal «module».now fault) }
@@ -46,7 +45,7 @@ pub fn hooked(alloc: Global, module: &[u8]) -> Result<Vec<u8>, Fault>
     }
 }
 
-/// The same of the module that the bytes encode.
+/// The encoding of the instrumented module of the module that the bytes encode.
 fn hooked_of(alloc: Global, bytes: &[u8], checked: Checked) -> Result<Vec<u8>, Fault>
     requires few { length bytes.now ≤ MOST_FILE_BYTES }
     requires is_module { IsModuleOf bytes.now checked }
@@ -76,7 +75,7 @@ fn hooked_module(alloc: Global, bytes: &[u8], checked: Checked) -> Result<Checke
     Ok(hooked.module)
 }
 
-/// A module's encoding, where it fits a file of an instrumented module.
+/// A module's encoding, if it fits into a file of an instrumented module.
 fn encoded(alloc: Global, hooked: &Checked) -> Result<Vec<u8>, Fault>
     requires { IsEncodable Replay hooked.now }
     ensures shortest { IfOk result (λ bytes. bytes.items ≡ encoding_of hooked.now) }

@@ -3,3 +3,11 @@ mod Originals
 mod Recordings
 mod LogTapes
 mod Shown
+mod OneSummary
+mod OneTape
+mod OneBuilt
+mod Sized
+mod Playable
+mod OneLog
+mod ModuleAnswers
+pub mod Forms

@@ -1,7 +1,7 @@
 -- The tape of the log of a run is the one that the run needs.
 use Rattle.std.proofs.Common.{◌≡◌, ◌⊎◌, inl, inr, ℕ, ◌≤◌, List, Result, Ok, Err, IfOk, IfErr, refl, sym, ◌∙◌, subst}
 use Rattle.wasm_syntax.specs.Index.{imported_funcs}
-use Rattle.run_outcomes.specs.declared.outcomes.Outcome.{Outcome}
+use Rattle.base.specs.declared.outcomes.Outcome.{Outcome}
 use Rattle.trace_model.specs.declared.events.Event.{Event}
 use Rattle.trace_model.specs.declared.events.Log.{Log}
 use Rattle.trace_model.specs.declared.tapes.Tape.{Tape}
@@ -12,21 +12,21 @@ use Rattle.history_spec.specs.Budget.{IsOver, IsSpent}
 use Rattle.history_spec.specs.Run.{all_one, program_of, start_in_store}
 use Rattle.history_spec.specs.Step.{Progress, Finished}
 use Rattle.history_spec.specs.Store.{Store}
-use Rattle.hook_spec.specs.LogTapes.{IsLogTape}
-use Rattle.hook_spec.specs.Logs.{log_with}
+use Rattle.record_replay_spec.specs.LogTapes.{IsLogTape}
+use Rattle.record_replay_spec.specs.Logs.{log_with}
 use Rattle.host_play.specs.Results.{IsFault}
-use Rattle.calls_follow.specs.Laws.{OriginalRun}
-use Rattle.logs_follow.specs.Laws.{LogsAreBalanced, log_of_run}
-use Rattle.instrumented_follows.specs.Laws.{original_run}
-use Rattle.tape_follows.specs.NeededTape.{IsOneNeededTape}
+use Rattle.tape_laws.specs.CallLaws.{OriginalRun}
+use Rattle.tape_laws.specs.LogLaws.{LogsAreBalanced, log_of_run}
+use Rattle.instrumented_run_laws.specs.Laws.{original_run}
+use Rattle.tape_laws.specs.NeededTape.{IsOneNeededTape}
 use Rattle.trace_reduce.specs.declared.reducer.Reducer.{Reducer}
 use Rattle.trace_reduce.specs.Reducer.{HasTaken}
 use Rattle.run_recorder.specs.Records.{HasTakenLog, IsLog}
-use Rattle.recorded_results.specs.Laws.{IsLogOfRun, TellsOriginal, record_of}
+use Rattle.replay_theorem.specs.RecordedOriginalLaws.{IsLogOfRun, TellsOriginal, record_of}
 use Rattle.accepted_runs.specs.Linked.{IsLinked}
 use Rattle.accepted_runs.specs.Runs.{OfScript, OfTurns}
 use Rattle.accepted_runs.proofs.OneResult.{linked-starts}
-use Rattle.binary_follows.specs.Playable.{most_weight}
+use Rattle.generated_code_laws.specs.Playable.{most_weight}
 use Rattle.r3_faults.specs.declared.faults.Fault.{Fault}
 use Rattle.r3_faults.specs.declared.faults.Fault.TheVariants.{Memory, Script as ScriptFault, Spent}
 use Rattle.r3_make.specs.Answers.{IsHeavyLog, IsLightTape}
@@ -47,7 +47,7 @@ over_at at outcome e = subst IsOver (sym e) tt
 
 module _ (run : OriginalRun) (turns : ℕ) (tells : TellsOriginal run turns)
     (linked : IsLinked run.m run.script run.supply run.store) where
-  -- a log of the record is that of its events and its outcome
+  -- a log of the record has the record's imports, its own events and the outcome
   pub log_parts : (outcome : Outcome) (log : Log) → IsLog (record_of run turns) outcome log
       → log ≡ log_for (imported_funcs run.m) log.events outcome
   log_parts outcome log is = log_is (imported_funcs run.m) outcome _ log is.logged

@@ -1,4 +1,4 @@
--- A run under a script has one answer.
+-- A run under a script has at most one result.
 use Rattle.std.proofs.Common.{◌≡◌, ◌⊎◌, inl, inr, ℕ, ◌^◌, ◌-◌, List, Result, Ok, Err, IfOk, IfErr, Vec, sym, ◌∙◌, ap, subst, arith}
 use Rattle.std.specs.Prelude.{min}
 use Rattle.wasm_syntax.specs.declared.modules.Module.{Module}
@@ -10,7 +10,7 @@ use Rattle.history_spec.specs.Budget.{HasOneResultAtMost}
 use Rattle.history_spec.specs.Run.{all_one, program_of, run_from, start_in_store}
 use Rattle.history_spec.specs.Step.{StepResult}
 use Rattle.history_spec.specs.Store.{Store}
-use Rattle.replay_spec.specs.Needed.{IsNeededTape}
+use Rattle.record_replay_spec.specs.Needed.{IsNeededTape}
 use Rattle.accepted_runs.proofs.OneResult.{linked-unlinked, none-one, one-store, outcome-none, unlinked-one, unlinked-run}
 use Rattle.r3_faults.specs.declared.faults.Fault.{Fault}
 use Rattle.r3_faults.specs.declared.faults.Fault.TheVariants.{Memory, TapeLimit}
@@ -21,7 +21,7 @@ use Rattle.r3_make.specs.Tapes.{NeedsLightTape, NeedsTape}
 module _ (m : Module) (script : Script) (turns : ℕ)
     (one : (initial : StepResult) → HasOneResultAtMost (run_from (program_of m script) all_one initial) all_one turns)
   where
-    -- the tapes that are needed weigh the same
+    -- all needed tapes have the same weight
     weight-one : (supply other : Supply) (store another : Store) (tape second : Tape)
         → NeedsTape m script turns supply store tape → NeedsTape m script turns other another second
         → tape_weight tape ≡ tape_weight second
@@ -64,7 +64,7 @@ module _ (m : Module) (script : Script) (turns : ℕ)
         light-unmade fault
         (record { supply = is.supply; store = is.store; tape = is.tape; needed = is.needed; light = is.light }) unmade
 
-    -- what an answer with its cause says of a reason why there is no replay module, and where there is one
+    -- if there is a cause, the answer reports it; if there is a replay module, the answer is that module
     pub refused_answer : {Z : Type 0} (r : Result (Vec ℕ Z) Fault) (fault : Fault)
         → IfOk r (λ printed. IsReplayFor m script turns printed.items)
         → IfErr r (λ f. (f ≡ Memory) ⊎ IsUnmade m script turns f) → IsUnmade m script turns fault

@@ -1,17 +1,17 @@
--- The run of a module that bytes encode, as the laws of instrumented modules speak of it.
+-- The run of a module that bytes encode, in the form of the laws on instrumented modules.
 use Rattle.std.proofs.Common.{◌≡◌, ℕ, ◌≤◌, List, length, refl}
 use Rattle.sha2.specs.Sha256.{sha256}
 use Rattle.wasm_syntax.specs.declared.limits.TheConstants.{MOST_FILE_BYTES}
 use Rattle.wasm_syntax.specs.declared.modules.Module.{Module}
 use Rattle.wasm_syntax.specs.Encoding.Forms.{IsCoreModule}
-use Rattle.encoding_sizes.specs.Within.{HasListsWithin}
+use Rattle.wasm_syntax.specs.ListsWithin.{HasListsWithin}
 use Rattle.host_script.specs.declared.scripts.Script.{Script}
 use Rattle.host_script.specs.declared.scripts.Supply.{Supply}
 use Rattle.history_spec.specs.Store.{Store}
 use Rattle.type_safety.specs.Supplies.{HasBytes}
-use Rattle.calls_follow.specs.Laws.{OriginalRun}
-use Rattle.instrumented_valid.specs.Laws.{HasWords}
-use Rattle.instrumented_sizes.specs.Laws.{EncodedHaveWords}
+use Rattle.tape_laws.specs.CallLaws.{OriginalRun}
+use Rattle.instrumented_module_laws.specs.Laws.{HasWords}
+use Rattle.instrumented_module_laws.specs.SizeLaws.{EncodedHaveWords}
 use Rattle.r3_inputs.specs.Inputs.{IsModuleOf}
 use Rattle.accepted_runs.specs.Linked.{IsLinked}
 use Rattle.accepted_runs.specs.Runnable.{CanRun}
@@ -50,7 +50,7 @@ module _ (words : EncodedHaveWords) (bytes : List ℕ) (m : Module) (script : Sc
         few = small;
       }
 
-  -- it, with all that its record is made with
+  -- the run, with all that its record needs
   abbrev pub recorded_original : (inputs : HookedInputs)
       → ((run : OriginalRun) → run.m ≡ m → run.digest ≡ sha256 bytes → run.script ≡ script → AreHooked run inputs)
       → (run : OriginalRun) × IsRecordable run inputs supply

@@ -1,4 +1,4 @@
--- The recorded run of an instrumented module, with what it is recorded with.
+-- The recorded run of an instrumented module, with what it needs.
 use Rattle.std.proofs.Common.{◌≡◌, ℕ, Some, Ok, Err, Result, sym, ◌∙◌, ap}
 use Rattle.wasm_syntax.specs.declared.modules.Module.{Module}
 use Rattle.wasm_syntax.specs.Index.{imported_funcs}
@@ -13,22 +13,22 @@ use Rattle.type_safety.specs.Stores.{IsStore}
 use Rattle.type_safety.specs.Supplies.{IsRunnable}
 use Rattle.wasm_flat.specs.Meters.{FitsMeter, Weighing}
 use Rattle.wasm_flat.specs.Sizes.{IsShort}
-use Rattle.hook_spec.specs.Hooks.{renumbered_view}
-use Rattle.hook_spec.specs.Instrumented.{instrumented_weights}
-use Rattle.hook_spec.specs.Order.{shape_of}
+use Rattle.record_replay_spec.specs.Hooks.{renumbered_view}
+use Rattle.record_replay_spec.specs.Instrumented.{instrumented_weights}
+use Rattle.record_replay_spec.specs.Order.{shape_of}
 use Rattle.host_link.specs.Link.{link_result, with_supply}
 use Rattle.host_play.specs.HookedResults.{HasHooksAfter, hooked_run}
-use Rattle.calls_follow.specs.Laws.{OriginalRun}
-use Rattle.instrumented_encoding.specs.Laws.{InstrumentedMetersFit}
-use Rattle.instrumented_sizes.specs.Laws.{InstrumentedAreShort, InstrumentedHaveStores, InstrumentedImportHooks}
-use Rattle.instrumented_valid.specs.Links.{InstrumentedAreFitted, InstrumentedAreInstantiated, InstrumentedAreRunnable, InstrumentedAreSupplied, renumbered_link, script_with_hooks}
-use Rattle.instrumented_follows.specs.Laws.{instrumented_of}
+use Rattle.tape_laws.specs.CallLaws.{OriginalRun}
+use Rattle.hook_insert.specs.EncodingLaws.{InstrumentedMetersFit}
+use Rattle.instrumented_module_laws.specs.SizeLaws.{InstrumentedAreShort, InstrumentedHaveStores, InstrumentedImportHooks}
+use Rattle.instrumented_module_laws.specs.Links.{InstrumentedAreFitted, InstrumentedAreInstantiated, InstrumentedAreRunnable, InstrumentedAreSupplied, renumbered_link, script_with_hooks}
+use Rattle.instrumented_run_laws.specs.Laws.{instrumented_of}
 use Rattle.run_recorder.specs.Records.{RecordedRun}
-use Rattle.record_laws.specs.Laws.{recorded_run}
-use Rattle.recorded_results.specs.Laws.{record_of}
+use Rattle.replay_theorem.specs.RecordLaws.{recorded_run}
+use Rattle.replay_theorem.specs.RecordedOriginalLaws.{record_of}
 use Rattle.r3_make.specs.Records.{IsOriginal}
 
--- with what the instrumented module of a run's original is recorded with, it is that of the run
+-- the run recorded with these inputs is the record of the original's run
 pub recorded_same : (run : OriginalRun) (turns : ℕ) (hooked : Module) (script : Script) (store : Store)
     (meter : Weighing) (imports : ℕ)
     → hooked ≡ instrumented_of run → script ≡ script_with_hooks run.m run.script
@@ -45,7 +45,7 @@ recorded_same run turns hooked script store meter imports a b c d e =
     (λ imports. recorded_run (instrumented_of run) (script_with_hooks run.m run.script)
     (renumbered_view (imported_funcs run.m) run.store) (Some (instrumented_weights run.m)) imports turns) e
 
--- ---- a link has one answer
+-- ---- a link has one result
 
 pub one_link : (r : Result Store LinkFault) (a b : Store) → r ≡ Ok a → r ≡ Ok b → a ≡ b
 one_link r a b e f = cc (sym e ∙ f)
@@ -97,7 +97,7 @@ module _ (run : OriginalRun) (is : IsOriginal run) where
       ap (λ hooked. link_result hooked script) a ∙ ap (link_result (instrumented_of run)) b
       ∙ ap (with_supply (instrumented_of run)) (hooked_supplied supplied) ∙ hooked_begins begins
 
-  -- so linking it never fails, but where memory is out
+  -- linking it fails only if memory is out
   pub never_unlinked : InstrumentedAreSupplied → InstrumentedAreInstantiated → (hooked : Module) (script : Script)
       → hooked ≡ instrumented_of run → script ≡ script_with_hooks run.m run.script → (fault : LinkFault)
       → ((fault ≡ Memory → ⊥) → link_result hooked script ≡ Err fault) → (fault ≡ Memory → ⊥) → ⊥

@@ -11,13 +11,13 @@ use Rattle.history_spec.specs.Run.{Run, all_one, program_of, run_from, run_start
 use Rattle.history_spec.specs.Step.{StepResult}
 use Rattle.history_spec.specs.Store.{Store}
 use Rattle.type_safety.specs.Supplies.{IsRunnable}
-use Rattle.tape_follows.specs.Dropped.{HasNothingToSpare, NothingCanBeDropped}
-use Rattle.replay_modules.specs.Written.{IsConstantTape}
-use Rattle.binary_follows.specs.Playable.{most_weight}
-use Rattle.run_replays.specs.Laws.{IsShownByReplay, RunsAreReplayed}
-use Rattle.needed_constants.specs.Laws.{NeededTapesAreConstant}
+use Rattle.tape_laws.specs.Dropped.{HasNothingToSpare, NothingCanBeDropped}
+use Rattle.replay_module_laws.specs.Written.{IsConstantTape}
+use Rattle.generated_code_laws.specs.Playable.{most_weight}
+use Rattle.replay_theorem.specs.Laws.{IsShownByReplay, RunsAreReplayed}
+use Rattle.replay_theorem.specs.ConstantLaws.{NeededTapesAreConstant}
 use Rattle.accepted_runs.proofs.OneResult.{linked-starts}
-use Rattle.r3_build.specs.Printed.{IsReplayOf}
+use Rattle.r3_make.specs.BuiltReplays.{IsReplayOf}
 use Rattle.r3_make.specs.Printed.{IsReplayFor}
 use Rattle.r3_make.specs.Tapes.{NeedsTape}
 

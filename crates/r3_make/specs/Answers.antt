@@ -1,21 +1,21 @@
--- What is answered of the log of a run, as the answer of a call.
+-- What a call returns for the log of a run.
 use Rattle.std.specs.Prelude.{◌≡◌, ◌<◌, ◌≤◌, ◌-◌, ◌^◌, ◌⊎◌, min, Result, Ok, Err}
 use Rattle.trace_model.specs.declared.events.Log.{Log}
 use Rattle.trace_model.specs.declared.tapes.Tape.{Tape}
 use Rattle.trace_model.specs.Weight.{tape_weight}
-use Rattle.hook_spec.specs.LogTapes.{IsLogTape}
-use Rattle.binary_follows.specs.Playable.{most_weight}
+use Rattle.record_replay_spec.specs.LogTapes.{IsLogTape}
+use Rattle.generated_code_laws.specs.Playable.{most_weight}
 use Rattle.r3_faults.specs.declared.faults.Fault.{Fault}
 use Rattle.r3_faults.specs.declared.faults.Fault.TheVariants.{Memory, TapeLimit}
 
--- its tape is heavier than one may be of which a replay module is made
+-- the log's tape is heavier than the tape of a replay module may be
 pub record IsHeavyLog (log : Log) (fault : Fault) : Type 0 where
   pub tape : Tape
   pub is_tape : IsLogTape log tape
   pub heavy : most_weight < tape_weight tape
   pub named : fault ≡ TapeLimit (min (tape_weight tape) (2 ^ 64 - 1))
 
--- its tape, or why there is none
+-- the log's tape, or why it is refused
 abbrev pub IsLightTape : Log → Result Tape Fault → Type 0
 IsLightTape log (Ok tape) = IsLogTape log tape × (tape_weight tape ≤ most_weight)
 IsLightTape log (Err fault) = (fault ≡ Memory) ⊎ IsHeavyLog log fault

@@ -3,3 +3,7 @@ pub mod Tapes
 pub mod Records
 pub mod Refusals
 pub mod Printed
+pub mod Summaries
+pub mod BuildRefusals
+pub mod BuiltReplays
+pub mod LogFiles

@@ -7,19 +7,19 @@ use Rattle.trace_model.specs.declared.tapes.Tape.{Tape}
 use Rattle.trace_model.specs.Weight.{tape_weight}
 use Rattle.history_spec.specs.Replay.{Replays}
 use Rattle.history_spec.specs.Store.{Store}
-use Rattle.tape_follows.specs.Dropped.{HasNothingToSpare}
-use Rattle.replay_gen.specs.Fragments.{start_index}
-use Rattle.module_merge.specs.Merge.{layout_of}
-use Rattle.binary_follows.specs.Playable.{most_weight, replay_of}
-use Rattle.run_replays.specs.Laws.{MakesEffectsOf}
-use Rattle.r3_build.specs.Printed.{IsReplayOf}
+use Rattle.tape_laws.specs.Dropped.{HasNothingToSpare}
+use Rattle.replay_module_spec.specs.Fragments.{start_index}
+use Rattle.replay_module_spec.specs.Merge.{layout_of}
+use Rattle.generated_code_laws.specs.Playable.{most_weight, replay_of}
+use Rattle.replay_theorem.specs.Laws.{MakesEffectsOf}
+use Rattle.r3_make.specs.BuiltReplays.{IsReplayOf}
 use Rattle.r3_inputs.specs.Inputs.{AreInputs}
 use Rattle.r3_make.specs.Tapes.{NeedsTape}
 
--- The run of the module under the script has an outcome within the turns, and the bytes that are printed encode the
--- replay module of the one tape that it needs, out of which nothing can be taken: a valid module without imports that
--- keeps the original's functions, whose run shows exactly the history and the outcome of that run, and makes just the
--- effects of the tape.
+-- The run of the module under the script has an outcome within the turns, and the printed bytes encode the
+-- replay module of the one tape that it needs; no part of that tape can be left out. The replay module is a
+-- valid module without imports that keeps the original's functions; its run shows exactly the history and the
+-- outcome of that run, and makes exactly the effects of the tape.
 pub record IsReplayFor (m : Module) (script : Script) (turns : ℕ) (printed : List ℕ) : Type 0 where
   pub supply : Supply
   pub store : Store
@@ -31,7 +31,7 @@ pub record IsReplayFor (m : Module) (script : Script) (turns : ℕ) (printed : L
   pub shows : Replays (replay_of m supply tape) (layout_of m) (start_index m) needed.run.history needed.outcome
   pub makes : MakesEffectsOf m supply tape
 
--- the same, of the module and the script that the bytes of two files are
+-- `make` prints this for the bytes of a module and a script
 pub record IsPrinted (module_bytes script_bytes : List ℕ) (turns : ℕ) (printed : List ℕ) : Type 0 where
   pub m : Module
   pub script : Script

@@ -3,17 +3,17 @@ use Rattle.std.specs.Prelude.{◌≡◌, ℕ, ◌≤◌, Some, false}
 use Rattle.wasm_syntax.specs.declared.limits.TheConstants.{MOST_FILE_BYTES}
 use Rattle.wasm_syntax.specs.Index.{imported_funcs}
 use Rattle.wasm_syntax.specs.Profile.{IsAccepted}
-use Rattle.encoding_sizes.specs.Within.{HasListsWithin}
+use Rattle.wasm_syntax.specs.ListsWithin.{HasListsWithin}
 use Rattle.host_script.specs.declared.scripts.Supply.{Supply}
 use Rattle.type_safety.specs.Supplies.{HasBytes}
-use Rattle.hook_spec.specs.Instrumented.{instrumented_weights}
-use Rattle.calls_follow.specs.Laws.{OriginalRun}
-use Rattle.instrumented_valid.specs.Laws.{HasWords}
-use Rattle.instrumented_valid.specs.Links.{script_with_hooks}
-use Rattle.instrumented_follows.specs.Laws.{instrumented_of}
+use Rattle.record_replay_spec.specs.Instrumented.{instrumented_weights}
+use Rattle.tape_laws.specs.CallLaws.{OriginalRun}
+use Rattle.instrumented_module_laws.specs.Laws.{HasWords}
+use Rattle.instrumented_module_laws.specs.Links.{script_with_hooks}
+use Rattle.instrumented_run_laws.specs.Laws.{instrumented_of}
 use Rattle.r3_make.specs.declared.records.HookedInputs.{HookedInputs}
 
--- what the original's module is known for
+-- assumptions on the original's module
 pub record IsOriginal (run : OriginalRun) : Type 0 where
   pub accepted : IsAccepted false run.m
   pub bytes : HasBytes run.m
@@ -29,7 +29,7 @@ pub record AreHooked (run : OriginalRun) (inputs : HookedInputs) : Type 0 where
   pub script : inputs.script ≡ script_with_hooks run.m run.script
   pub imports : inputs.imports ≡ imported_funcs run.m
 
--- all that the record of a run is made with
+-- assumptions under which a run is recorded
 pub record IsRecordable (run : OriginalRun) (inputs : HookedInputs) (supply : Supply) : Type 0 where
   pub original : IsOriginal run
   pub inputs_are : AreHooked run inputs

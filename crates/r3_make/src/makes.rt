@@ -12,14 +12,14 @@ use accepted_runs::inputs_of;
 use r3_faults::Fault;
 use std::alloc::Global;
 
-/// Makes the replay module of the run of a module with a script, within a number of turns, in its binary
-/// format. The module has at most 8,388,608 bytes, and the turns are at most 1,000,000,000.
+/// Makes the replay module of the run of a module with a script, within a number of turns, in its binary format.
+/// The module has at most 8,388,608 bytes, and the turns are at most 1,000,000,000.
 ///
 /// # Errors
 ///
-/// The fault names why there is none: the module or the script is refused, the module does not link, the host cannot do
-/// what the script says, the run needs more turns, or it needs a tape that weighs more than 2,000,000. Each comes
-/// exactly where it stands and none before it does. `Memory` comes where memory is out.
+/// The fault names the cause: the module or the script is refused, the module does not link, the host cannot do
+/// what the script says, the run needs more turns, or it needs a tape that weighs more than 2,000,000. Each is
+/// reported if and only if it is the first cause that applies. `Memory` if memory is out.
 pub fn make(alloc: Global, module: &[u8], script: &[u8], turns: u64) -> Result<Vec<u8>, Fault>
     requires small { length «module».now ≤ MOST_FILE_BYTES }
     requires few { turns ≤ MOST_TURNS }

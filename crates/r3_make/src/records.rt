@@ -1,40 +1,37 @@
-// The record of a run: the instrumented module is run, and what its hooks are told goes to a reducer.
+// The record of a run: the instrumented module is run, and its hook calls are passed to a reducer.
 
 ghost use Rattle.std.specs.Prelude.{◌≡◌, ◌≤◌, ◌⊎◌, IfErr, IfOk, length};
 ghost use Rattle.sha2.specs.Sha256.{sha256};
 ghost use Rattle.wasm_syntax.specs.declared.limits.TheConstants.{MOST_FILE_BYTES};
-ghost use Rattle.encoding_sizes.specs.Within.{HasListsWithin};
+ghost use Rattle.wasm_syntax.specs.ListsWithin.{HasListsWithin};
 ghost use Rattle.host_script.specs.Fits.{Fits};
 ghost use Rattle.wasm_flat.specs.Bounds.{IsBound};
 ghost use Rattle.wasm_flat.specs.FlatCode.{flat_of};
 ghost use Rattle.wasm_flat.specs.Sizes.{IsShort};
 ghost use Rattle.history_spec.specs.Store.{Store};
-ghost use Rattle.calls_follow.specs.Laws.{OriginalRun};
-ghost use Rattle.hook_spec.specs.Hooks.{renumbered_view};
+ghost use Rattle.tape_laws.specs.CallLaws.{OriginalRun};
+ghost use Rattle.record_replay_spec.specs.Hooks.{renumbered_view};
 ghost use Rattle.wasm_syntax.specs.Index.{imported_funcs};
 ghost use Rattle.trace_reduce.specs.Reducer.{HasTaken};
 ghost use Rattle.run_recorder.specs.Records.{IsRecordedInto};
-ghost use Rattle.recorded_results.specs.Laws.{record_of};
+ghost use Rattle.replay_theorem.specs.RecordedOriginalLaws.{record_of};
 ghost use Rattle.r3_inputs.specs.Inputs.{IsModuleOf};
 ghost use Rattle.r3_faults.specs.declared.faults.Fault.TheVariants.{Memory};
 ghost use Rattle.r3_make.specs.Records.{AreHooked, IsRecordable};
 
+use base::NoMemory;
 use history_spec::Outcome;
-use hook_insert::instrument;
+use hook_insert::{instrument, instrumented_meters_fit};
 use hooked_scripts::script_with_hooks;
 use host_link::{LinkFault, link};
 use host_play::{Play, PlayFault};
 use host_script::{Script, Supply};
-use instrumented_encoding::instrumented_meters_fit;
-use instrumented_sizes::{
-    encoded_have_words, instrumented_are_short, instrumented_have_stores, instrumented_import_hooks,
-};
-use instrumented_valid::{
-    instrumented_are_fitted, instrumented_are_instantiated, instrumented_are_runnable,
-    instrumented_are_supplied,
+use instrumented_module_laws::{
+    encoded_have_words, instrumented_are_fitted, instrumented_are_instantiated,
+    instrumented_are_runnable, instrumented_are_short, instrumented_are_supplied,
+    instrumented_have_stores, instrumented_import_hooks,
 };
 use module_index::scope::Scope;
-use no_memory::NoMemory;
 use run_recorder::record_into;
 use sha2::{Digest, Sha256};
 use std::alloc::Global;
@@ -45,11 +42,11 @@ use wasm_flatten::flatten;
 use wasm_store::Store;
 use wasm_validate::Checked;
 
-/// The most that the tape of a replay module may weigh.
+/// The limit of the weight of a replay module's tape.
 pub(crate) const MOST_WEIGHT: u64 = 2_000_000;
 
-/// An instrumented module, the meter under which its run takes the turns of the original's, the script for it, and how
-/// many functions the original imports.
+/// An instrumented module, the meter under which its run takes the turns of the original's, the script for it,
+/// and the number of functions that the original imports.
 #[derive(Drop)]
 pub struct HookedInputs {
     pub(crate) hooked: Checked,
@@ -58,7 +55,7 @@ pub struct HookedInputs {
     pub(crate) imports: u32,
 }
 
-/// The instrumented module of a module that `bytes` encode, and what its run needs beside it.
+/// The instrumented module of a module that `bytes` encode, and what its run needs besides.
 pub(crate) fn hooked_inputs(
     alloc: Global,
     bytes: &[u8],
@@ -99,7 +96,7 @@ fn hooked_store(alloc: Global, inputs: &HookedInputs, _supply: &Supply) -> Resul
     match link(alloc, &inputs.hooked, &inputs.script) {
         Ok(store) => Ok(store),
         Err(LinkFault::Memory) => Err(NoMemory),
-        // What links with the script links instrumented.
+        // If the original links with the script, its instrumented module does.
         Err(LinkFault::Missing { .. }) => unreachable!(),
         Err(LinkFault::Mismatch { .. }) => unreachable!(),
         Err(LinkFault::Segment { .. }) => unreachable!(),
@@ -129,7 +126,7 @@ pub(crate) fn recorded_run(
     record_play(alloc, inputs, supply, play, turns)
 }
 
-/// The same from the instantiation of the instrumented module.
+/// Records the run from the instantiation of the instrumented module on.
 fn record_play(
     alloc: Global,
     inputs: &HookedInputs,

@@ -2,7 +2,7 @@
 
 ghost use Rattle.std.specs.Prelude.{◌≡◌, ◌≤◌, ◌⊎◌, Err, IfErr, IfOk, OnOk, length};
 ghost use Rattle.wasm_syntax.specs.declared.limits.TheConstants.{MOST_FILE_BYTES};
-ghost use Rattle.encoding_sizes.specs.Within.{HasListsWithin};
+ghost use Rattle.wasm_syntax.specs.ListsWithin.{HasListsWithin};
 ghost use Rattle.type_safety.specs.Supplies.{HasBytes};
 ghost use Rattle.accepted_runs.specs.Runnable.{CanRun};
 ghost use Rattle.r3_inputs.specs.Inputs.{IsModuleOf};
@@ -12,16 +12,15 @@ ghost use Rattle.r3_make.specs.Printed.{IsReplayFor};
 ghost use Rattle.r3_make.specs.Refusals.{IsUnmade};
 ghost use Rattle.r3_make.specs.Tapes.{NeedsLightTape};
 
+use crate::replay_bytes;
 use crate::tapes::needed_tape;
 use accepted_runs::supply_and_store;
 use history_spec::runs_have_one_result_at_most;
 use host_script::Script;
-use needed_constants::needed_tapes_are_constant;
-use r3_build::replay_bytes;
 use r3_faults::Fault;
-use run_replays::{needed_tapes_are_playable, runs_are_replayed};
+use replay_theorem::{needed_tapes_are_constant, needed_tapes_are_playable, runs_are_replayed};
 use std::alloc::Global;
-use tape_follows::nothing_can_be_dropped;
+use tape_laws::nothing_can_be_dropped;
 use type_safety::typed_store;
 use wasm_validate::Checked;
 
@@ -48,7 +47,7 @@ pub(crate) fn replay_of(
     made_replay(alloc, bytes, checked, script, turns)
 }
 
-/// The same, with what is printed or why nothing is.
+/// The bytes of the replay module of a run, or a fault with its cause.
 fn made_replay(
     alloc: Global,
     bytes: &[u8],

@@ -2,14 +2,14 @@
 
 ghost use Rattle.std.specs.Prelude.{◌≡◌, ◌≤◌, ◌⊎◌, List, IfErr, IfOk, length};
 ghost use Rattle.wasm_syntax.specs.declared.limits.TheConstants.{MOST_FILE_BYTES};
-ghost use Rattle.encoding_sizes.specs.Within.{HasListsWithin};
+ghost use Rattle.wasm_syntax.specs.ListsWithin.{HasListsWithin};
 ghost use Rattle.trace_model.specs.declared.events.Event.{Event};
 ghost use Rattle.trace_model.specs.Weight.{tape_weight};
 ghost use Rattle.history_spec.specs.Store.{Store};
 ghost use Rattle.type_safety.specs.Supplies.{HasBytes};
 ghost use Rattle.trace_model.specs.Balance.{IsBalanced};
 ghost use Rattle.trace_reduce.specs.Reducer.{HasTaken};
-ghost use Rattle.binary_follows.specs.Playable.{most_weight};
+ghost use Rattle.generated_code_laws.specs.Playable.{most_weight};
 ghost use Rattle.accepted_runs.specs.Runnable.{CanRun};
 ghost use Rattle.r3_inputs.specs.Inputs.{IsModuleOf};
 ghost use Rattle.accepted_runs.specs.Linked.{IsLinked};
@@ -22,23 +22,23 @@ use crate::records::{MOST_WEIGHT, hooked_inputs, recorded_run};
 use history_spec::Outcome;
 use host_play::PlayFault;
 use host_script::{Script, Supply};
-use instrumented_sizes::encoded_have_words;
-use logs_follow::logs_are_balanced;
+use instrumented_module_laws::encoded_have_words;
 use r3_faults::Fault;
-use recorded_results::records_tell_originals;
 use replay_laws::tape_from;
+use replay_theorem::records_tell_originals;
 use std::alloc::Global;
+use tape_laws::logs_are_balanced;
 use trace_model::Tape;
 use trace_reduce::{Reducer, ReducerFault};
 use wasm_validate::Checked;
 
-/// The tape that the run of a module under a script needs, where the run has an outcome within the turns; `bytes`
-/// encode the module, which links with the script and is supplied with this.
+/// The tape that the run of a module under a script needs, if the run has an outcome within the turns; `bytes`
+/// encode the module, which links with the script and has this supply.
 ///
 /// # Errors
 ///
-/// `Script` where the host cannot do what the script says, `Spent` where the run needs more turns, `TapeLimit` where
-/// the tape weighs more than 2,000,000. `Memory` where memory is out.
+/// `Script` if the host cannot do what the script says, `Spent` if the run needs more turns, `TapeLimit` if the
+/// tape weighs more than 2,000,000. `Memory` if memory is out.
 pub fn needed_tape(
     alloc: Global,
     bytes: &[u8],
@@ -77,7 +77,7 @@ fn tape_of(reducer: Reducer, imports: u32, outcome: Outcome) -> Result<Tape, Fau
     ensures { (taken : List Event) → HasTaken reducer taken
         → IsLightTape (record { imports = imports; events = taken; outcome = outcome }) result }
 {
-    // What a sink has taken does not tell that it is the reducer that was given.
+    // The contract on what a sink has taken does not say that the sink is the reducer that was passed in.
     if !reducer.is_for(imports, MOST_WEIGHT) {
         return Err(Fault::Memory);
     }

@@ -58,7 +58,7 @@ module _ (counts : NameCounts) (name : List ℕ) (more : ℕ) where
   abbrev number : ℕ
   number = saturating_add (listed_under counts name) more
 
-  -- the number under the name, where more is counted for it
+  -- the number under the name, if more is counted for it
   listed_under-name : listed_under now name ≡ number
   listed_under-name =
       ap (λ found. unwrap_or found 0) (map.get-insert nat_list_cmp_total counts.listed name number name)

@@ -41,7 +41,7 @@ Grew-more before between now bytes done count p q =
     subst (Grew before now) (sym (take-add done count bytes))
     (Grew-append before between now (take done bytes) (take count (drop done bytes)) p q)
 
--- a write that failed leaves the first part that stood before it
+-- a write that failed leaves the first part that was written before it
 pub GrewByPrefix-failed : (before between now : Option (List ℕ)) (bytes : List ℕ) (done : ℕ)
     → Grew before between (take done bytes) → now ≡ between → GrewByPrefix before now bytes
 GrewByPrefix-failed before between now bytes done p same = record {

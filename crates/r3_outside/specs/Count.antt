@@ -1,11 +1,11 @@
 -- Counts that 64 bits keep: of the faults of files and of sinks, and of the bytes taken from files.
 use Rattle.std.specs.Prelude.{ℕ, ◌+◌, ◌-◌, ◌^◌, ◌≤◌, List, min}
 
--- the count rose between two moments, or stands at the greatest number of 64 bits
+-- the count rose between two moments, or is the greatest number of 64 bits
 abbrev pub Rose : ℕ → ℕ → Type 0
 Rose before now = min (before + 1) (2 ^ 64 - 1) ≤ now
 
--- at least this number of bytes was taken between two moments, or the count stands at the greatest number of 64 bits
+-- at least this number of bytes was taken between two moments, or the count is the greatest number of 64 bits
 abbrev pub Took : ℕ → ℕ → ℕ → Type 0
 Took before now bytes = min (before + bytes) (2 ^ 64 - 1) ≤ now
 

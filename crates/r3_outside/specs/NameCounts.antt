@@ -1,4 +1,4 @@
--- Counts by name, which go on where there is no memory for a name.
+-- Counts by name, which go on if there is no memory for a name.
 use Rattle.std.specs.Prelude.{◌≡◌, ℕ, ◌⊎◌, List, refl, unwrap_or}
 use Rattle.std.specs.Coded.{Coded, code_by, coded×, coded_list, coded_ℕ}
 use Rattle.std.specs.Ordering.{nat_cmp}
@@ -20,7 +20,7 @@ name_counts_code =
 abbrev pub no_counts : NameCounts
 no_counts = record { listed = map.empty; unlisted = 0 }
 
--- the number under a name, 0 where it isn't listed
+-- the number under a name, 0 if it is not listed
 abbrev pub listed_under : NameCounts → List ℕ → ℕ
 listed_under counts name = unwrap_or (map.get counts.listed name) 0
 
@@ -28,16 +28,16 @@ listed_under counts name = unwrap_or (map.get counts.listed name) 0
 abbrev pub count_of : NameCounts → List ℕ → ℕ
 count_of counts name = saturating_add (listed_under counts name) counts.unlisted
 
--- so much more is counted for a name that is listed
+-- the counts with `more` added for a name that is listed
 abbrev pub with_listed : NameCounts → List ℕ → ℕ → NameCounts
 with_listed counts name more = record counts {
   listed = map.insert counts.listed name (saturating_add (listed_under counts name) more);
 }
 
--- so much more is counted for a name that could not be listed, and so for every name
+-- the counts with `more` added for a name that could not be listed, and so for every name
 abbrev pub with_unlisted : NameCounts → ℕ → NameCounts
 with_unlisted counts more = record counts { unlisted = saturating_add counts.unlisted more }
 
--- so much more was counted for a name
+-- `more` was counted for a name
 abbrev pub IsCountedFor : (name : List ℕ) → (more : ℕ) → (before now : NameCounts) → Type 0
 IsCountedFor name more before now = (now ≡ with_listed before name more) ⊎ (now ≡ with_unlisted before more)

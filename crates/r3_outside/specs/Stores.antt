@@ -12,7 +12,7 @@ use Rattle.r3_outside.specs.NameCounts.{NameCounts, name_counts_code}
 abbrev pub file_map_code : Coded FileMap
 file_map_code = files.code (coded_list coded_ℕ) (coded_list coded_ℕ)
 
--- what entries hold, each as it is shown, by the bytes of their names
+-- the values of entries, each as it is shown, by the bytes of their names
 abbrev pub by_name : {Y V X : Type 0} → (shown : V → X) → List (String Y × V) → files.FinMap (slice_cmp nat_cmp) X
 by_name shown entries = files.from_entries (map (λ entry. (string_bytes entry.0, shown entry.1)) entries)
 
@@ -44,7 +44,7 @@ mem_store_code =
     (λ p. record { files = p.0; failing = p.1.0; calls = p.1.1.0; faults = p.1.1.1.0; taken = p.1.1.1.1 })
     (λ _. refl)
 
--- whether the next call on a name fails: by its number, or since the name isn't there
+-- whether the next call on a name fails: by its number, or since the name is unknown
 abbrev pub is_failing_read : MemStore → List ℕ → Bool
 is_failing_read s name = list_any (λ n. n == s.calls) s.failing || not (files.contains_key s.files name)
 
@@ -69,7 +69,7 @@ mem_output_code =
 abbrev pub is_failing_write : MemOutput → Bool
 is_failing_write s = list_any (λ n. n == s.calls) s.failing
 
--- files of which no more is known than, by name, how many calls failed and how many bytes were taken
+-- files that show only, by name, how many calls failed and how many bytes were taken
 pub record DiskCounts : Type 0 where
   pub faults : NameCounts
   pub taken : NameCounts

@@ -13,7 +13,7 @@ use std::marker::Model;
 #[cfg(test)]
 mod tests;
 
-/// Counts by name. What is counted where there is no memory for its name counts for every name.
+/// Counts by name. What is counted without memory for its name counts for every name.
 #[derive(Drop)]
 pub(crate) struct Counts {
     alloc: Global,
@@ -44,7 +44,7 @@ impl Counts {
         }
     }
 
-    /// Adds to the count of a name, and where there is no memory for the name to every count.
+    /// Adds to the count of a name, or to every count if there is no memory for the name.
     pub(crate) fn add(&mut self, name: &str, more: u64)
         ensures counted { IsCountedFor name.now more self.old self.new }
         ensures count { count_of self.new name.now ≡ saturating_add (count_of self.old name.now) more }
@@ -59,7 +59,7 @@ impl Counts {
         }
     }
 
-    /// Lists a name with its number. Where memory runs out the counts are as they were.
+    /// Lists a name with its number. If memory runs out the counts are as they were.
     fn list(&mut self, name: &str, count: u64) -> Result<(), NoMemory>
         ensures ok { OnOk result
             (self.new ≡ record self.old { listed = map.insert self.old.listed name.now count }) }

@@ -16,25 +16,23 @@ mod reading;
 mod sure;
 mod system;
 mod table;
-#[cfg(test)]
-mod tests;
 mod writing;
 
+pub use base::NoMemory;
 pub use memory::{MemFiles, MemSink};
-pub use no_memory::NoMemory;
 pub use reading::{LoadFault, load};
 pub use sure::{SureFiles, SureSink};
 pub use system::{DiskFiles, StdSink};
 pub use writing::{PutFault, put_all, put_parts};
 
-/// A call on the world outside failed. The count of faults, for files that of the name, rose.
+/// A call on the world outside failed. The count of faults rose; for files, that of the name.
 #[derive(Clone, Copy, PartialEq, Eq, Debug, Error)]
 #[error("a read or a write failed")]
 pub struct Failed;
 
 /// Files that are read by name and place.
 pub trait Files {
-    // The bytes under each name, where these files tell them.
+    // The bytes under each name, if these files show them.
     ghost contents: { Self → Option FileMap };
 
     // How many calls on each name failed.
@@ -44,17 +42,17 @@ pub trait Files {
     ghost taken: { Self → List ℕ → ℕ };
 
     /// Reads at most `into.len()` bytes of a file, from its byte `at` on (counted from 0), into the
-    /// front of `into`, and answers how many. It reads none only where no byte stands at `at`.
+    /// front of `into`, and returns how many. It reads 0 bytes only if there is no byte at `at`.
     ///
     /// # Errors
     ///
-    /// `Failed` where the read failed; `into` may then hold any bytes.
+    /// `Failed` if the read failed; `into` may then hold any bytes.
     fn read_at(&mut self, name: &str, at: u64, into: &mut [u8]) -> Result<usize, Failed>
         requires { 0 < length into.old }
 
         ensures contents_unchanged { contents self.new ≡ contents self.old }
 
-        // Where there is no memory for a name, what is counted for it may count for others too.
+        // If there is no memory for a name, what is counted for it may count for others too.
         ensures faults_never_fall { NoneFell (faults self.old) (faults self.new) }
         ensures failed { OnErr result (Rose (faults self.old name.now) (faults self.new name.now)) }
 
@@ -64,24 +62,24 @@ pub trait Files {
         ensures took_none { OnErr result ((other : List ℕ) → taken self.new other ≡ taken self.old other) }
 
         ensures within_buffer { IfOk result (λ k. k ≤ length into.new) }
-        // A name that isn't there is read as an empty file, where it doesn't fail.
+        // An unknown name is read as an empty file, if the read does not fail.
         ensures piece { IfOk result (λ k. ForSome (contents self.old)
             (λ files. IsPiece (file_bytes files name.now) at k into.new)) };
 }
 
 /// Where bytes are written, one after the other.
 pub trait Sink {
-    // All bytes that were written, where this sink tells them.
+    // All bytes that were written, if this sink shows them.
     ghost written: { Self → Option (List ℕ) };
 
     // How many calls failed.
     ghost faults: { Self → ℕ };
 
-    /// Writes the first bytes of `piece`, at least one, and answers how many.
+    /// Writes the first bytes of `piece`, at least one, and returns how many.
     ///
     /// # Errors
     ///
-    /// `Failed` where the write failed; nothing of `piece` is then written.
+    /// `Failed` if the write failed; nothing of `piece` is then written.
     fn write(&mut self, piece: &[u8]) -> Result<usize, Failed>
         requires { 0 < length piece.now }
 

@@ -1,4 +1,4 @@
-// Files and a sink in memory, of whose calls some fail.
+// Files and a sink in memory, some of whose calls fail.
 
 ghost use Rattle.std.specs.Prelude.{◌≡◌, ℕ, ◌+◌, ◌<◌, ◌≤◌, List, [], ◌++◌, length, min, take, Some, OnOk, OnErr, IfOk, IsErr, IsTrue, ◌↔◌};
 ghost use Rattle.std.specs.FinMap as map;
@@ -13,10 +13,10 @@ use crate::{Failed, Files, NoMemory, Sink};
 use std::alloc::Global;
 use std::marker::Model;
 
-/// Files in memory, of whose calls some fail.
+/// Files in memory, some of whose calls fail.
 ///
-/// The calls of `read_at` are numbered from 0. Those with a number among the failing ones answer
-/// `Failed`, and so does a call on a name that isn't there.
+/// The calls of `read_at` are numbered from 0. Those with a number among the failing ones return
+/// `Failed`, and so does a call on an unknown name.
 #[derive(Drop)]
 pub struct MemFiles {
     table: Table,
@@ -62,11 +62,11 @@ impl MemFiles {
         }
     }
 
-    /// Adds a file, in place of one of the same name.
+    /// Adds a file, which replaces one of the same name.
     ///
     /// # Errors
     ///
-    /// `NoMemory` where memory runs out; the files are then as they were.
+    /// `NoMemory` if memory runs out; the files are then as they were.
     pub fn add(&mut self, name: &str, bytes: &[u8]) -> Result<(), NoMemory>
         ensures ok { OnOk result
             (self.new ≡ record self.old { files = map.insert self.old.files name.now bytes.now }) }
@@ -122,9 +122,9 @@ impl Files for MemFiles {
     }
 }
 
-/// A sink in memory, of whose calls some fail.
+/// A sink in memory, some of whose calls fail.
 ///
-/// The calls of `write` are numbered from 0. Those with a number among the failing ones answer
+/// The calls of `write` are numbered from 0. Those with a number among the failing ones return
 /// `Failed`, and so does a call for whose bytes there is no memory.
 #[derive(Drop)]
 pub struct MemSink {

@@ -27,8 +27,8 @@ const PIECE: usize = 65_536;
 ///
 /// # Errors
 ///
-/// `Failed` where a read of this file failed, `TooLong` where `limit + 1` bytes were taken from it,
-/// `Memory` where memory runs out.
+/// `Failed` if a read of this file failed, `TooLong` if `limit + 1` bytes were taken from it,
+/// `Memory` if memory runs out.
 pub fn load<F: Files>(
     alloc: Global,
     files: &mut F,

@@ -14,7 +14,7 @@ use crate::{Failed, Files, NoMemory, Sink};
 use std::alloc::Global;
 use std::marker::Model;
 
-/// Files in memory that never fail. A name that isn't there is read as an empty file.
+/// Files in memory that never fail. An unknown name is read as an empty file.
 #[derive(Drop)]
 pub struct SureFiles {
     table: Table,
@@ -42,11 +42,11 @@ impl SureFiles {
         }
     }
 
-    /// Adds a file, in place of one of the same name.
+    /// Adds a file, which replaces one of the same name.
     ///
     /// # Errors
     ///
-    /// `NoMemory` where memory runs out; the files are then as they were.
+    /// `NoMemory` if memory runs out; the files are then as they were.
     pub fn add(&mut self, name: &str, bytes: &[u8]) -> Result<(), NoMemory>
         ensures ok { OnOk result
             (self.new ≡ record self.old { files = map.insert self.old.files name.now bytes.now }) }
@@ -80,7 +80,7 @@ impl Files for SureFiles {
     }
 }
 
-/// A sink in memory that never fails. Where memory runs out, it drops its bytes and no longer tells
+/// A sink in memory that never fails. If memory runs out, it drops its bytes and no longer shows
 /// them.
 #[derive(Drop)]
 pub struct SureSink {

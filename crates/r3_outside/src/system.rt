@@ -9,11 +9,11 @@ use std::io::{Read, Seek, SeekFrom, Write};
 use std::marker::Model;
 use std::{fs, io, rt};
 
-/// The files of the system, by the paths that their names are.
+/// The files of the system, whose names are their paths.
 ///
 /// The last file that was read stays open, so that a file read front to back is opened once and
 /// never sought in. A file for whose name there is no memory is opened anew for each read. One that
-/// is missing, may not be read or is a directory answers `Failed`.
+/// is missing, may not be read or is a directory gives `Failed`.
 #[derive(Drop)]
 pub struct DiskFiles<R: rt::Files + AllocGlobal + Drop> {
     reader: Reader<R>,
@@ -74,7 +74,7 @@ struct Reader<R: rt::Files + AllocGlobal + Drop> {
 }
 
 impl<R: rt::Files + AllocGlobal + Drop> Reader<R> {
-    /// Reads from the open file where it has this name. It is closed where that fails.
+    /// Reads from the open file if it has this name. It is closed if that fails.
     fn read_at(&mut self, name: &str, at: u64, into: &mut [u8]) -> io::Result<usize>
         ensures { IfOk result (λ k. k ≤ length into.new) }
     {
@@ -97,7 +97,7 @@ impl<R: rt::Files + AllocGlobal + Drop> Reader<R> {
     }
 }
 
-/// A file of the system with the place at which it goes on, and with its name where there was memory
+/// A file of the system with the place at which it goes on, and with its name if there was memory
 /// for it.
 #[derive(Drop)]
 struct OpenFile<F: Read + Seek + Drop> {
@@ -107,12 +107,12 @@ struct OpenFile<F: Read + Seek + Drop> {
 }
 
 impl<F: Read + Seek + Drop> OpenFile<F> {
-    /// Whether it is known to have this name.
+    /// Whether the open file is known to have this name.
     fn is_named(&self, name: &str) -> bool {
         self.name.as_deref() == Some(name)
     }
 
-    /// Reads at a place, which is sought only where the file stands elsewhere.
+    /// Reads at a place, which is sought only if the file is elsewhere.
     fn read_at(&mut self, at: u64, into: &mut [u8]) -> io::Result<usize>
         ensures { IfOk result (λ k. k ≤ length into.new) }
     {

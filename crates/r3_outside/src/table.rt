@@ -39,7 +39,7 @@ impl Table {
         }
     }
 
-    /// Puts bytes under a name, in place of those that may stand there. Where memory runs out the
+    /// Puts bytes under a name, instead of any earlier ones. If memory runs out the
     /// table is as it was.
     pub(crate) fn insert(&mut self, name: &str, bytes: &[u8]) -> Result<(), NoMemory>
         ensures ok { OnOk result (self.new ≡ map.insert self.old name.now bytes.now) }
@@ -51,7 +51,7 @@ impl Table {
         Ok(())
     }
 
-    /// The bytes under a name; none where there are none.
+    /// The bytes under a name; None if the name is unknown.
     pub(crate) fn get(&self, name: &str) -> Option<&[u8]>
         ensures { option_copied result ≡ map.get self.now name.now }
     {
@@ -62,8 +62,8 @@ impl Table {
     }
 }
 
-/// Copies what stands from `at` on to the front of `into`, as much as there is room for, and
-/// answers how many bytes these are.
+/// Copies the bytes from `at` on to the front of `into`, as many as there is room for, and
+/// returns how many bytes these are.
 pub(crate) fn copy_piece(bytes: &[u8], at: u64, into: &mut [u8]) -> usize
     requires { 0 < length into.old }
     ensures count { result ≡ piece_length bytes.now at (length into.old) }

@@ -19,7 +19,7 @@ pub enum PutFault {
 ///
 /// # Errors
 ///
-/// `Failed` where a write failed; a first part of the bytes is then written.
+/// `Failed` if a write failed; a first part of the bytes is then written.
 pub fn put_all<S: Sink>(sink: &mut S, bytes: &[u8]) -> Result<(), PutFault>
     ensures faults_never_fall { S.faults sink.old ≤ S.faults sink.new }
     ensures failed { OnErr result (Rose (S.faults sink.old) (S.faults sink.new)) }
@@ -40,7 +40,7 @@ pub fn put_all<S: Sink>(sink: &mut S, bytes: &[u8]) -> Result<(), PutFault>
 ///
 /// # Errors
 ///
-/// `Failed` where a write failed; a first part of all their bytes is then written.
+/// `Failed` if a write failed; a first part of all their bytes is then written.
 pub fn put_parts<S: Sink>(sink: &mut S, parts: &[&[u8]]) -> Result<(), PutFault>
     ensures faults_never_fall { S.faults sink.old ≤ S.faults sink.new }
     ensures failed { OnErr result (Rose (S.faults sink.old) (S.faults sink.new)) }

@@ -1,4 +1,4 @@
--- Bytes are reduced in one way, or refused in one way.
+-- Bytes have at most one reduction, and otherwise one fault.
 use Rattle.std.proofs.Common.{◌≡◌, ℕ, inl, inr, List, Option, Some, None, false, refl, sym, ◌∙◌, ap, subst}
 use Rattle.trace_model.specs.Balance.{first_unbalanced}
 use Rattle.trace_model.specs.declared.events.Log.{Log}
@@ -7,8 +7,8 @@ use Rattle.trace_bytes.specs.Spelling.{tape_bytes}
 use Rattle.trace_format.specs.Faults.{IsLogOf}
 use Rattle.trace_format.specs.Laws.{LogsAreToldApart}
 use Rattle.trace_format.specs.Text.{log_text}
-use Rattle.hook_spec.specs.LogTapes.{IsLogTape}
-use Rattle.hook_spec.specs.Laws.{LogTapeIsOne}
+use Rattle.record_replay_spec.specs.LogTapes.{IsLogTape}
+use Rattle.record_replay_spec.specs.HookLaws.{LogTapeIsOne}
 use Rattle.r3_faults.specs.declared.faults.Fault.{Fault}
 use Rattle.r3_faults.specs.declared.faults.Fault.TheVariants.{Unbalanced}
 use Rattle.r3_show.specs.Shown.{IsUnshownAs}

@@ -1,7 +1,7 @@
 -- The events of a log's file, taken by a reducer.
 use Rattle.std.proofs.Common.{◌≡◌, ℕ, List, [], ◌∷◌, ◌++◌, Result, Ok, Err, ap, sym, ◌∙◌, subst, append_assoc}
 use Rattle.std.proofs.lemmas.List.{append-nil}
-use Rattle.run_outcomes.specs.declared.outcomes.Outcome.{Outcome}
+use Rattle.base.specs.declared.outcomes.Outcome.{Outcome}
 use Rattle.trace_model.specs.declared.events.Event.{Event}
 use Rattle.trace_model.specs.declared.events.Log.{Log}
 use Rattle.trace_bytes.specs.Spelling.{log_bytes}
@@ -12,7 +12,7 @@ use Rattle.trace_reduce.specs.Reducer.{HasTaken, imports_of}
 use Rattle.r3_reduce.specs.Reduced.{IsTaken, TakesNext}
 use Rattle.r3_reduce.specs.declared.reducer_sink.ReducerSink.{ReducerSink}
 
--- what is told of a header
+-- the result for a header
 abbrev pub told : List ℕ → ℕ → Result (List ℕ × ℕ) FormatFault
 told digest imports = Ok (digest, imports)
 
@@ -43,7 +43,7 @@ all_taken before now (event ∷ later) taken all has =
       rest.1 ∙ all.1.imports,
     )
 
--- a log that the bytes spell begins with its header
+-- a log that the bytes encode begins with its header
 log_begins : (bytes digest : List ℕ) (log : Log) → IsLogOf bytes digest log → BeginsLog bytes digest log.imports
 unfolding log_bytes
 log_begins bytes digest log is = record {

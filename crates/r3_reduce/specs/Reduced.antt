@@ -1,6 +1,6 @@
--- What the log of a file is reduced to, and why it is not.
+-- The file that the log of a file is reduced to, or why there is none.
 use Rattle.std.specs.Prelude.{◌≡◌, ◌⊎◌, ℕ, List, [], ◌∷◌, Some, false}
-use Rattle.run_outcomes.specs.declared.outcomes.Outcome.{Outcome}
+use Rattle.base.specs.declared.outcomes.Outcome.{Outcome}
 use Rattle.trace_model.specs.Sink.{TookAlso}
 use Rattle.trace_model.specs.declared.events.Event.{Event}
 use Rattle.trace_model.specs.Balance.{IsBalanced, first_unbalanced}
@@ -9,7 +9,7 @@ use Rattle.trace_model.specs.declared.tapes.Tape.{Tape}
 use Rattle.trace_bytes.specs.declared.tags.TheConstants.{VERSION_2}
 use Rattle.trace_bytes.specs.Spelled.{SpellsTape}
 use Rattle.trace_format.specs.Faults.{IsLogOf}
-use Rattle.hook_spec.specs.LogTapes.{IsLogTape}
+use Rattle.record_replay_spec.specs.LogTapes.{IsLogTape}
 use Rattle.trace_reduce.specs.Reducer.{HasTaken, imports_of}
 use Rattle.trace_reduce.specs.declared.reducer.Reducer.{Reducer}
 use Rattle.r3_faults.specs.declared.faults.Fault.{Fault}
@@ -23,7 +23,7 @@ pub record IsTapeFile (digest : List ℕ) (log : Log) (file : List ℕ) : Type 0
   pub of_log : IsLogTape log tape
   pub spelled : SpellsTape VERSION_2 file digest tape
 
--- so it is of the log that the bytes spell, with its digest
+-- the file has the tape of the log that the bytes encode, with the log's digest
 pub record IsReduced (bytes file : List ℕ) : Type 0 where
   pub digest : List ℕ
   pub log : Log
@@ -32,18 +32,18 @@ pub record IsReduced (bytes file : List ℕ) : Type 0 where
 
 -- ---- the reducer
 
--- a reducer takes one event more
+-- a reducer takes one more event
 pub record TakesNext (before : Reducer) (event : Event) (now : Reducer) : Type 0 where
   pub took : TookAlso HasTaken before now (event ∷ [])
   pub imports : imports_of now ≡ imports_of before
 
--- it has taken the events of a log, whose run ended so
+-- a reducer has taken the events of a log, whose run ended with this outcome
 pub record HasTakenLog (reducer : Reducer) (outcome : Outcome) (log : Log) : Type 0 where
   pub taken : HasTaken reducer log.events
   pub imports : imports_of reducer ≡ log.imports
   pub ended : outcome ≡ log.outcome
 
--- so it is of the log that the bytes spell, with its digest
+-- a reducer has taken the events of the log that the bytes encode with this digest
 pub record IsTaken (bytes digest : List ℕ) (reducer : Reducer) (outcome : Outcome) : Type 0 where
   pub log : Log
   pub read : IsLogOf bytes digest log
@@ -51,19 +51,20 @@ pub record IsTaken (bytes digest : List ℕ) (reducer : Reducer) (outcome : Outc
 
 -- ---- refusals
 
--- the first event that is out of order is named, or the number of events where only the outcome is
+-- the fault names the first event that is not allowed, or the number of events if only the outcome is not
+-- allowed
 pub record IsUnbalanced (log : Log) (fault : Fault) : Type 0 where
   pub event : ℕ
   pub first : first_unbalanced log ≡ Some event
   pub named : fault ≡ Unbalanced event
 
--- so it is in the log that the bytes spell
+-- the log that the bytes encode is not balanced, and the fault names the first event or the number of events
 pub record IsUnbalancedFile (bytes : List ℕ) (fault : Fault) : Type 0 where
   pub digest : List ℕ
   pub log : Log
   pub read : IsLogOf bytes digest log
   pub unbalanced : IsUnbalanced log fault
 
--- the bytes spell no log, or one that is not balanced
+-- the bytes do not encode a log, or the log is not balanced
 abbrev pub IsReduceRefusal : List ℕ → Fault → Type 0
 IsReduceRefusal bytes fault = IsUnshownAs false bytes fault ⊎ IsUnbalancedFile bytes fault

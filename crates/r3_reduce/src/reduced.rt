@@ -11,9 +11,9 @@ ghost use Rattle.r3_reduce.specs.Reduced.{HasTakenLog, IsReduced, IsReduceRefusa
 
 use crate::reducer_sink::ReducerSink;
 use crate::writable::is_writable;
-use hook_spec::log_tape_is_one;
 use r3_faults::Fault;
 use r3_show::fault_of;
+use record_replay_spec::log_tape_is_one;
 use std::alloc::Global;
 use trace_format::{Digest, FormatFault, log_events, log_files, log_header, write_tape};
 use trace_model::{Outcome, Tape};
@@ -23,9 +23,9 @@ use trace_reduce::{Reducer, ReducerFault};
 ///
 /// # Errors
 ///
-/// `TraceVersion` and `BadTrace` name why the bytes spell no log, `Unbalanced` the first of its events
-/// that is out of order, or their number where only the outcome is; each exactly where it stands.
-/// `Memory` comes where memory is out.
+/// `TraceVersion` and `BadTrace` name why the bytes do not encode a log, `Unbalanced` the first event that is
+/// not allowed, or the number of events if only the outcome is not allowed; each is reported if and only if it
+/// applies. `Memory` if memory is out.
 pub fn reduce_log(alloc: Global, log: &[u8]) -> Result<Vec<u8>, Fault>
     ensures { IsExact (IsReduced log.now) (IsReduceRefusal log.now) result }
 {
@@ -34,7 +34,7 @@ pub fn reduce_log(alloc: Global, log: &[u8]) -> Result<Vec<u8>, Fault>
     reduced_file(alloc, log)
 }
 
-/// The same, with what is printed or why nothing is.
+/// The file of the tape of a log's file, or a fault with its cause.
 fn reduced_file(alloc: Global, bytes: &[u8]) -> Result<Vec<u8>, Fault>
     ensures { IsCaused (IsReduced bytes.now) (IsReduceRefusal bytes.now) result }
 {
@@ -73,7 +73,7 @@ fn tape_file(
     match reducer.finish(outcome) {
         Ok(tape) => file_of_tape(alloc, digest, &tape),
         Err(ReducerFault::Unbalanced { event }) => Err(Fault::Unbalanced { event }),
-        // A tape that weighs 2^64 is in no memory.
+        // No memory holds a tape of the weight 2^64.
         Err(ReducerFault::TooHeavy { .. } | ReducerFault::Memory) => Err(Fault::Memory),
     }
 }
@@ -83,7 +83,7 @@ fn file_of_tape(alloc: Global, digest: &Digest, tape: &Tape) -> Result<Vec<u8>, 
     ensures cause { IfErr result (λ fault. fault ≡ Memory) }
     ensures printed { IfOk result (λ file. SpellsTape VERSION_2 file.items digest.now tape.now) }
 {
-    // The tape of a log that was read is, unless it has 2^32 bytes in a row: no file is as long.
+    // The tape of a log that was read is writable, unless it has 2^32 adjacent bytes, which no file allows.
     if !is_writable(tape) {
         return Err(Fault::Memory);
     }

@@ -1,22 +1,23 @@
-// A reducer that the events of a log's file are handed to.
+// A reducer as the sink of a log's events.
 
 ghost use Rattle.std.specs.Prelude.{◌≡◌, []};
 ghost use Rattle.trace_reduce.specs.Reducer.{HasTaken, imports_of};
 
-use no_memory::NoMemory;
+use base::NoMemory;
 use std::alloc::Global;
 use trace_format::LogSink;
 use trace_model::Event;
 use trace_reduce::Reducer;
 
-/// Takes events as its reducer does. The tape may weigh anything that a memory holds.
+/// Takes events as its reducer does. The weight of the tape is limited only by memory.
 #[derive(Drop)]
 pub(crate) struct ReducerSink {
     pub(crate) reducer: Reducer,
 }
 
 impl ReducerSink {
-    /// Has taken no event of the log of a module with so many imported functions. Takes no memory.
+    /// A sink that has taken no event, for a log of a module with this number of imported functions. Takes no
+    /// memory.
     pub(crate) fn new(alloc: Global, imports: u32) -> ReducerSink
         ensures taken { HasTaken result.reducer [] }
         ensures imports { imports_of result.reducer ≡ imports }

@@ -9,10 +9,10 @@ ghost use Rattle.trace_bytes.specs.Spelled.{FitBytes, FitSegments, FitVals, Fits
 use trace_model::{Effect, Next, Origin, Segment, Tape};
 use wasm_syntax::{Val, ValType};
 
-/// From how many items on a list has no spelling.
+/// The least number of items with which a list has no encoding.
 const TOO_MANY: u64 = 1 << 32;
 
-/// A value is a number whose bits have its width.
+/// Whether a value is a number whose bits have its width.
 fn value_fits(value: &Val) -> bool
     ensures { result ≡ true → FitsVal value.now }
 {
@@ -24,7 +24,7 @@ fn value_fits(value: &Val) -> bool
     }
 }
 
-/// Each value does, and there are few.
+/// Whether each value is a number whose bits have its width, and there are fewer values than `TOO_MANY`.
 fn values_fit(values: &[Val]) -> bool
     ensures { result ≡ true → FitVals values.now }
 {
@@ -36,7 +36,7 @@ fn values_fit(values: &[Val]) -> bool
     (values.len() as u64) < TOO_MANY
 }
 
-/// Bytes are some, and few.
+/// Whether bytes are at least one, and few enough.
 fn bytes_fit(addr: u32, bytes: &[u8]) -> bool
     ensures { result ≡ true → FitBytes addr bytes.now }
 {
@@ -44,7 +44,7 @@ fn bytes_fit(addr: u32, bytes: &[u8]) -> bool
     !bytes.is_empty() && (bytes.len() as u64) < TOO_MANY
 }
 
-/// An entry's numbers are of 32 bits, as their types have it.
+/// The numbers of a table entry are of 32 bits, by their types.
 fn entry_fits(index: u32, func: Option<u32>) -> bool
     ensures { result ≡ true → FitsU32 index × IfSome func FitsU32 }
 {
@@ -55,7 +55,7 @@ fn entry_fits(index: u32, func: Option<u32>) -> bool
     true
 }
 
-/// An effect has a spelling.
+/// Whether an effect has an encoding.
 fn effect_fits(effect: &Effect) -> bool
     ensures { result ≡ true → FitsEffect VERSION_2 effect.now }
 {
@@ -73,7 +73,7 @@ fn effect_fits(effect: &Effect) -> bool
     }
 }
 
-/// Each effect has one, and there are few.
+/// Whether each effect has an encoding, and there are fewer effects than `TOO_MANY`.
 fn effects_fit(effects: &[Effect]) -> bool
     ensures few { result ≡ true → length effects.now < 2 ^ 32 }
     ensures all { result ≡ true → AllByRecursion (FitsEffect VERSION_2) effects.now }
@@ -86,7 +86,7 @@ fn effects_fit(effects: &[Effect]) -> bool
     (effects.len() as u64) < TOO_MANY
 }
 
-/// How control leaves has a spelling.
+/// Whether the end of a segment, by which control leaves the host, has an encoding.
 fn next_fits(next: &Next) -> bool
     ensures { result ≡ true → FitsNext next.now }
 {
@@ -102,7 +102,7 @@ fn next_fits(next: &Next) -> bool
     }
 }
 
-/// How control came has one.
+/// Whether the origin of a segment has an encoding.
 fn origin_fits(origin: Origin) -> bool
     ensures { result ≡ true → FitsOrigin origin }
 {
@@ -112,7 +112,7 @@ fn origin_fits(origin: Origin) -> bool
     true
 }
 
-/// A segment has one.
+/// Whether a segment has an encoding.
 fn segment_fits(segment: &Segment) -> bool
     ensures { result ≡ true → FitsSegment VERSION_2 segment.now }
 {
@@ -121,7 +121,7 @@ fn segment_fits(segment: &Segment) -> bool
         && next_fits(&segment.next)
 }
 
-/// A tape has a file.
+/// Whether a tape has a file.
 pub(crate) fn is_writable(tape: &Tape) -> bool
     ensures { result ≡ true → FitSegments VERSION_2 tape.now.segments }
 {

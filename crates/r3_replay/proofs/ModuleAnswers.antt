@@ -1,4 +1,4 @@
--- What the answer for a module says of the answer of a call that begins with it.
+-- What the result for a module implies for the result of a call that begins with it.
 use Rattle.std.proofs.Common.{◌≡◌, ◌⊎◌, inr, ℕ, List, Result, Ok, Err, subst}
 use Rattle.std.specs.Result.{IsErrAnd}
 use Rattle.wasm_syntax.specs.declared.modules.Module.{Module}
@@ -11,13 +11,13 @@ use Rattle.r3_replay.specs.ReplayTexts.{HasNoReplayText, HasReplayText, IsReplay
 
 module _ (bytes : List ℕ) (q : Result Module Fault) (refused : (fault : Fault) → IsRefusedIn Replay bytes fault → IsAnswer q fault)
     (accepted : (m : Module) → IsModuleIn Replay bytes m → (q ≡ Ok m) ⊎ (q ≡ Err Memory)) where
-  -- the module is not taken, and the call passes the fault on
+  -- the module is refused, and the call passes the fault on
   module _ (err : Fault) (is : q ≡ Err err) where
     pub refusal-answer : {T : Type 0} (r : Result T Fault) → IsErrAnd r (λ other. other ≡ err) → (turns : ℕ) (fault : Fault) → IsReplayRefusal bytes turns fault → IsAnswer r fault
     refusal-answer r passes turns fault (OfModule found) = answer-passed r err fault passes (answer-err q err fault is (refused fault found))
     refusal-answer r passes turns fault (OfRun m taken none) = answer-passed r err fault passes (inr (memory-err q m err is (accepted m taken)))
 
-  -- the module is taken
+  -- the module is accepted
   module _ (checked : Module) (is : q ≡ Ok checked) where
     pub none-same : (turns : ℕ) (fault : Fault) → IsReplayRefusal bytes turns fault → HasNoReplayText checked turns fault
     none-same turns fault (OfModule found) = absurd (value-no q checked fault is (refused fault found))

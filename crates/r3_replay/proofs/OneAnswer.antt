@@ -1,4 +1,4 @@
--- The run of a replay module has one answer.
+-- The run of a replay module has at most one result.
 use Rattle.std.proofs.Common.{◌≡◌, ◌≢◌, ℕ, List, Vec, Option, Some, Result, Ok, Err, refl, sym, ◌∙◌, ap, subst}
 use Rattle.wasm_syntax.specs.declared.modules.Module.{Module}
 use Rattle.host_script.specs.declared.scripts.LinkFault.{LinkFault}
@@ -88,7 +88,7 @@ module _ (m : Module) (turns : ℕ) (layout-one : (a b : Layout) → HasLayout m
 
   -- ---- the lines
 
-  -- of runs from two starts, which are the same
+  -- runs from two starts that are equal
   result-one : (a b : ℕ) (i j : StepResult) (x y : budget.RunResult) → HasEntry m a → HasEntry m b → run_start_alone m a ≡ Ok i → run_start_alone m b ≡ Ok j
       → IsResult (run_from (program_alone m) instructions i) instructions turns x → IsResult (run_from (program_alone m) instructions j) instructions turns y → x ≡ y
   result-one a b i j x y p q e f is is_too =
@@ -125,7 +125,7 @@ module _ (m : Module) (turns : ℕ) (layout-one : (a b : Layout) → HasLayout m
   text-none : (text : List ℕ) (fault : Fault) → HasReplayText m turns text → HasNoReplayText m turns fault → ⊥
   text-none text fault x y = told-none x.told y.found y.differs x.tells y.refused
 
-  -- an answer with its cause is exact
+  -- a result with its cause is exact
   pub exact : {Z : Type 0} (r : Result (Vec ℕ Z) Fault)
       → IsCaused (HasReplayText m turns) (HasNoReplayText m turns) r → IsExact (HasReplayText m turns) (HasNoReplayText m turns) r
   exact = exact_answer (HasReplayText m turns) (HasNoReplayText m turns) text-none text-one none-one

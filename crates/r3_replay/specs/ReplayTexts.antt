@@ -12,7 +12,7 @@ use Rattle.r3_inputs.specs.Inputs.{IsModuleIn, IsRefusedIn}
 
 -- ---- the run of a replay module
 
--- the fault of a call that names why a run shows nothing
+-- a call's fault for a run that shows nothing
 abbrev pub replay_fault : (turns : ℕ) → ReplayFault → Fault
 replay_fault turns replay.NoLayout = NoLayout
 replay_fault turns replay.Imports = NoImports
@@ -27,7 +27,8 @@ pub record HasReplayText (m : Module) (turns : ℕ) (text : List ℕ) : Type 0 w
   pub tells : TellsReplay m turns told
   pub lines : text ≡ told.text
 
--- why there are none: the module has not the form of a replay module, a segment does not fit, or the turns are spent
+-- why there are no lines: the module does not have the form of a replay module, a segment does not fit, or the
+-- turns are spent
 pub record HasNoReplayText (m : Module) (turns : ℕ) (fault : Fault) : Type 0 where
   pub found : ReplayFault
   pub named : fault ≡ replay_fault turns found
@@ -36,13 +37,13 @@ pub record HasNoReplayText (m : Module) (turns : ℕ) (fault : Fault) : Type 0 w
 
 -- ---- the bytes of a replay module
 
--- they are an accepted module whose run shows this
+-- the bytes are an accepted module whose run shows these lines
 pub record IsReplayText (bytes : List ℕ) (turns : ℕ) (text : List ℕ) : Type 0 where
   pub m : Module
   pub is_module : IsModuleIn Replay bytes m
   pub shown : HasReplayText m turns text
 
--- they are refused, or the run of the module shows nothing
+-- the bytes are refused, or the run of the module shows nothing
 pub data IsReplayRefusal (bytes : List ℕ) (turns : ℕ) (fault : Fault) : Type 0 where
   OfModule : (refused : IsRefusedIn Replay bytes fault) → IsReplayRefusal bytes turns fault
   OfRun : (m : Module) (is_module : IsModuleIn Replay bytes m) (none : HasNoReplayText m turns fault)

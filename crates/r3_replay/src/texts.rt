@@ -26,7 +26,7 @@ pub(crate) fn text_of(alloc: Global, checked: &Checked, turns: u64) -> Result<Ve
     told_text(alloc, checked, turns)
 }
 
-/// The same, with what is shown or why nothing is.
+/// The lines of the run of a module, or a fault with its cause.
 fn told_text(alloc: Global, checked: &Checked, turns: u64) -> Result<Vec<u8>, Fault>
     requires supported { IsSupported checked.now }
     requires short { IsShort checked.now }
@@ -39,7 +39,7 @@ fn told_text(alloc: Global, checked: &Checked, turns: u64) -> Result<Vec<u8>, Fa
     }
 }
 
-/// Why a run within a number of turns shows nothing, as the fault of a call.
+/// The call's fault for a run within a number of turns that shows nothing.
 fn fault_of(found: ReplayFault, turns: u64) -> Fault
     ensures { result ≡ replay_fault turns found }
 {

@@ -1,4 +1,4 @@
--- Bytes are shown in one way, or refused in one way.
+-- Bytes have at most one text, and otherwise one fault.
 use Rattle.std.proofs.Common.{◌≡◌, ℕ, inl, inr, List, Bool, true, false, Result, Vec, refl, sym, ◌∙◌, ap, arith}
 use Rattle.trace_model.specs.declared.events.Log.{Log}
 use Rattle.trace_model.specs.declared.tapes.Tape.{Tape}
@@ -72,7 +72,7 @@ shown_apart false bytes text fault shown refused =
     no_cause LOG_MAGIC bytes (λ (content : List ℕ × Log). IsLogOf bytes content.0 content.1) (IsLogFront bytes) (log_version bytes)
     (shown.digest, shown.log) refused.found refused.differs shown.spelled refused.cause
 
--- so an answer with its cause is exact
+-- a result with its cause is exact
 pub shown_exactly : {Z : Type 0} → LogsAreToldApart → TapesAreToldApart → (is_tape : Bool) (bytes : List ℕ)
     (answer : Result (Vec ℕ Z) Fault) → IsCaused (IsShownAs is_tape bytes) (IsUnshownAs is_tape bytes) answer
     → IsExact (IsShownAs is_tape bytes) (IsUnshownAs is_tape bytes) answer

@@ -1,4 +1,4 @@
-//! The lines of the log or of the tape that the bytes of a file spell.
+//! The lines of the log or of the tape that the bytes of a file encode.
 #![tactic(auto)]
 
 mod shown;

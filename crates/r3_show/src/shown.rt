@@ -9,13 +9,13 @@ use std::alloc::Global;
 use trace_bytes::tags::TAPE_MAGIC;
 use trace_format::{FormatFault, lines_of_log, lines_of_tape, log_files, tape_files};
 
-/// The lines of a file: of the tape that its bytes spell where it begins as a tape does, else of the log.
-/// Beside the file and the lines, one event or segment at a time is in memory.
+/// The lines of a file: of the tape that its bytes encode if it begins as a tape does, otherwise of the log.
+/// Besides the file and the lines, one event or segment at a time is in memory.
 ///
 /// # Errors
 ///
-/// `TraceVersion` and `BadTrace` name why the bytes spell none, each exactly where it stands. `Memory`
-/// comes where memory is out.
+/// `TraceVersion` and `BadTrace` name why the bytes encode neither; each is reported if and only if it applies.
+/// `Memory` if memory is out.
 pub fn show(alloc: Global, trace: &[u8]) -> Result<Vec<u8>, Fault>
     ensures { IsExact (IsShown trace.now) (IsShowRefusal trace.now) result }
 {

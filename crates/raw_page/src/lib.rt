@@ -4,7 +4,7 @@
 ghost use Rattle.std.specs.Prelude.{◌≡◌, ℕ, List, length, replicate, IfOk};
 ghost use Rattle.raw_page.specs.Ownership.{page_owns, page_shares};
 
-use no_memory::NoMemory;
+use base::NoMemory;
 use parts::BoxParts;
 use std::alloc::Global;
 use std::marker::Model;
@@ -12,7 +12,7 @@ use std::marker::Model;
 mod lending;
 mod parts;
 
-/// How many bytes a page has.
+/// The number of bytes of a page.
 pub const PAGE_LENGTH: usize = 4_096;
 
 /// The owner of one page: a pointer to its block, and the right to give that block back, which its drop
@@ -33,7 +33,7 @@ impl RawPage {
     /// A page of zeros.
     ///
     /// # Errors
-    /// Where an allocation failed.
+    /// If an allocation failed.
     pub fn new(alloc: Global) -> Result<RawPage, NoMemory>
         ensures { IfOk result (λ page. page.bytes ≡ replicate PAGE_LENGTH 0) }
     {
@@ -43,7 +43,7 @@ impl RawPage {
     /// A page apart from this one that begins with its bytes.
     ///
     /// # Errors
-    /// Where an allocation failed.
+    /// If an allocation failed.
     pub fn copy(&self, alloc: Global) -> Result<RawPage, NoMemory>
         ensures { IfOk result (λ page. page.bytes ≡ self.now.bytes) }
     {
@@ -91,7 +91,7 @@ impl Drop for RawPage {
     }
 }
 
-/// All bytes of an array of a page's length, which its type alone tells.
+/// All bytes of an array of a page's length, which is in its type alone.
 #[inline(always)]
 fn all_bytes(page: &[u8; 4096]) -> &[u8]
     ensures value { result.now ≡ page.now }

@@ -1,4 +1,4 @@
--- What a recording is after each kind of call.
+-- A recording after each kind of call.
 use Rattle.std.proofs.Common.{◌≡◌, List, [], ◌++◌, length, Option, Some, None, Result, Ok, Err, Bool, true, false, cond, nat_eq, refl, sym, ap, ◌∙◌, subst}
 use Rattle.std.specs.Prelude.{IfNone, IfSome, IsOk, IsSome, OnErr, OnOk, is_some}
 use Rattle.std.proofs.lemmas.List.{append-nil}
@@ -8,11 +8,11 @@ use Rattle.trace_model.specs.declared.events.Event.TheVariants as events
 use Rattle.trace_model.specs.Sink.{TookAlso}
 use Rattle.history_spec.specs.Store.{Store, Memory}
 use Rattle.wasm_store.specs.Calls.{pages_in, pages_of_memory}
-use Rattle.replay_spec.specs.Observations.{Observation}
-use Rattle.replay_spec.specs.Known.{pages_of}
-use Rattle.hook_spec.specs.declared.hooks.Hook.{Hook}
-use Rattle.hook_spec.specs.Hooks.{HookCall}
-use Rattle.hook_spec.specs.Logs.{LogState, unless, own_events, notices_size, grown_events, observed_by, call_observations, call_events, all_observed_events, log_after_all, log_after_call}
+use Rattle.record_replay_spec.specs.Observations.{Observation}
+use Rattle.record_replay_spec.specs.Known.{pages_of}
+use Rattle.record_replay_spec.specs.declared.hooks.Hook.{Hook}
+use Rattle.record_replay_spec.specs.Hooks.{HookCall}
+use Rattle.record_replay_spec.specs.Logs.{LogState, unless, own_events, notices_size, grown_events, observed_by, call_observations, call_events, all_observed_events, log_after_all, log_after_call}
 use Rattle.hook_order.specs.Orders.{OrderParts, LeadsTo, state_of}
 use Rattle.hook_order.specs.Shapes.{shape_from}
 use Rattle.shadow_memory.specs.Shadow.{Shadow}
@@ -30,14 +30,14 @@ module _ {S : Type 0} (has_taken : S → List Event → Type 0) (before : Record
   abbrev call : HookCall
   call = record { kind = kind; args = args; view = view }
 
-  -- what it observes, and the events that are its own
+  -- the observations of the call, and its own events
   abbrev seen : List Observation
   seen = call_observations (shape_from before.order.shape) call
 
   abbrev own : List Event
   own = own_events before.order.shape.imports before.order.pending kind args view
 
-  -- the log after it, and its events, by whether it notices the size
+  -- the log after the call, and the call's events, by whether the call notices the size
   log_by : (state : LogState) (b : Bool) → notices_size kind ≡ b
       → log_after_call (shape_from before.order.shape) state call
       ≡ cond b (record (log_after_all state seen) { noticed = pages_of view.memory }) (log_after_all state seen)
@@ -74,7 +74,7 @@ module _ {S : Type 0} (has_taken : S → List Event → Type 0) (before : Record
         logged = logged;
       }
 
-  -- it is only observed
+  -- the call is only observed
   logs_observed : (after : Recording S) → own ≡ []
       → notices_size kind ≡ false
       → Tells has_taken before.order.shape.imports
@@ -93,7 +93,7 @@ module _ {S : Type 0} (has_taken : S → List Event → Type 0) (before : Record
             ∙ append-nil (all_observed_events before.order.shape.imports state seen))) told.1,
       )
 
-  -- of the memory alone, or of the tables alone
+  -- observations of only the memory; of only the tables
   pub takes_memory : (memory : Shadow) (sink : S) → LeadsTo before.order kind args (Some before.order)
       → own ≡ [] → notices_size kind ≡ false
       → TellsOfMemory has_taken before.memory before.sink (observed_by (shape_from before.order.shape) kind args view)
@@ -198,7 +198,7 @@ module _ {S : Type 0} (has_taken : S → List Event → Type 0) (before : Record
             (took_both has_taken before.sink middle sink own _ told grown),
       )
 
--- where memory is out, the call was in order
+-- if memory is out, the call was in order
 is_err : {A E P : Type 0} (result : Result A E) → P → OnErr result P
 is_err (Ok x) h = tt
 is_err (Err e) h = h
@@ -206,12 +206,12 @@ is_err (Err e) h = h
 pub err_led : {A E X : Type 0} (result : Result A E) {o : Option X} {x : X} → o ≡ Some x → OnErr result (IsSome o)
 err_led result is = is_err result (ap is_some is)
 
--- what follows from what holds where memory was enough
+-- a consequence of what holds if memory was enough
 pub on_ok : {A E P Q : Type 0} (result : Result A E) → (P → Q) → OnOk result P → OnOk result Q
 on_ok (Ok x) f h = f h
 on_ok (Err e) f h = tt
 
--- what is there
+-- the value of an option has what the option promises
 pub if_some : {X : Type 0} (o : Option X) (P : X → Type 0) (x : X) → o ≡ Some x → IfSome o P → P x
 if_some o P x is h = subst (λ o. IfSome o P) is h
 

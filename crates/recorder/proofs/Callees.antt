@@ -1,4 +1,4 @@
--- Calls by the table: the entry is reached, and is read where it is there.
+-- Calls by the table: the entry is reached, and is read if it exists.
 use Rattle.std.proofs.Common.{◌≡◌, ℕ, ◌<◌, ◌≤◌, List, [], ◌∷◌, length, Option, Some, None, Bool, true, false, cond, nat_eq, nat_lt, slice_get, slice_index_or, refl, sym, ap, ◌∙◌, subst, arith}
 use Rattle.std.specs.Option.{option_flatten}
 use Rattle.std.proofs.lemmas.Bool.Decides.{nat_tests}
@@ -9,11 +9,11 @@ use Rattle.trace_model.specs.declared.events.Event.TheVariants.{Table as TableEv
 use Rattle.history_spec.specs.Store.{Store, Table}
 use Rattle.history_spec.specs.Instantiation.{table_length}
 use Rattle.wasm_store.specs.Calls.{entries_of_table, entries_in}
-use Rattle.replay_spec.specs.Observations as observed
-use Rattle.replay_spec.specs.Observations.{Observation, ReachesEntry, ReadsEntry, entry_observations}
-use Rattle.replay_spec.specs.Known.{entry_of, entries_after}
-use Rattle.hook_spec.specs.Hooks.{on}
-use Rattle.hook_spec.specs.Logs.{unless, all_observed_events}
+use Rattle.record_replay_spec.specs.Observations as observed
+use Rattle.record_replay_spec.specs.Observations.{Observation, ReachesEntry, ReadsEntry, entry_observations}
+use Rattle.record_replay_spec.specs.Known.{entry_of, entries_after}
+use Rattle.record_replay_spec.specs.Hooks.{on}
+use Rattle.record_replay_spec.specs.Logs.{unless, all_observed_events}
 use Rattle.shadow_tables.specs.Tables.{Tables}
 use Rattle.recorder.specs.Known.{TellsOfTables}
 use Rattle.recorder.proofs.Kit.{tells_then, took_same}
@@ -33,7 +33,7 @@ below_after known index found below = go (nat_lt index known) refl
     go false p = below
 
 module _ {S : Type 0} (has_taken : S → List Event → Type 0) (n : ℕ) (a b : Tables) (s t : S) (index : ℕ) where
-  -- of a table that is not there nothing is observed
+  -- nothing is observed of a missing table
   reaches_none : length a.entries ≡ 0 → TellsOfTables has_taken n a s (ReachesEntry index 0 ∷ []) b t
       → TellsOfTables has_taken n a s [] b t
   reaches_none empty tells memory state shows =
@@ -96,7 +96,7 @@ module _ {S : Type 0} (has_taken : S → List Event → Type 0) (n : ℕ) (a b :
       (ReachesEntry index (length table.entries))
       (ReadsEntry index func ∷ []) (reach memory) (reads memory))
 
--- ---- entries that are there
+-- ---- entries that exist
 
 pub not_none : (entries : List (Option ℕ)) (index : ℕ) → index < length entries → slice_get entries index ≡ None → ⊥
 not_none entries index below none = apart (slice_get-get_or entries index None below)

@@ -1,19 +1,19 @@
--- The longest runs of bytes that are not the known ones: how the first of them is told before the others.
+-- The longest runs of bytes that are not the known ones: how the first run is reported before the others.
 use Rattle.std.proofs.Common.{◌≡◌, ℕ, zero, suc, ◌+◌, ◌-◌, ◌<◌, ◌≤◌, List, [], ◌∷◌, length, take, drop, Bool, true, false, cond, nat_eq, slice_index, refl, sym, ap, ◌∙◌, subst, arith}
 use Rattle.std.proofs.lemmas.Bool.Decides.{nat_tests}
 use Rattle.std.proofs.lemmas.List.{get_or-drop, drop-drop, length-drop}
 use Rattle.trace_model.specs.declared.events.Event.{Event}
 use Rattle.trace_model.specs.declared.events.Event.TheVariants.{Bytes}
-use Rattle.hook_spec.specs.Logs.{with_first_byte, differing_runs}
+use Rattle.record_replay_spec.specs.Logs.{with_first_byte, differing_runs}
 
--- bytes are the known ones, or others, at each place of so many
+-- the first `count` bytes are the known ones; none of the first `count` bytes is the known one
 abbrev AreAll : (known : ℕ → ℕ) (address : ℕ) (bytes : List ℕ) (count : ℕ) → Type 0
 AreAll known address bytes count = (k : ℕ) → k < count → known (address + k) ≡ slice_index bytes k
 
 abbrev AreNone : (known : ℕ → ℕ) (address : ℕ) (bytes : List ℕ) (count : ℕ) → Type 0
 AreNone known address bytes count = (k : ℕ) → k < count → known (address + k) ≡ slice_index bytes k → ⊥
 
--- those after the first
+-- the bytes after the first are the known ones; they are different
 all_later : (known : ℕ → ℕ) (address byte : ℕ) (bytes : List ℕ) (count : ℕ)
     → AreAll known address (byte ∷ bytes) (suc count) → AreAll known (address + 1) bytes count
 all_later known address byte bytes count h k below =
@@ -55,7 +55,7 @@ module _ (known : ℕ → ℕ) where
       (with_first_byte address byte (differing_runs known (address + 1) bytes)))
       p
 
-  -- known bytes tell nothing
+  -- known bytes have no runs
   pub known_runs : (address : ℕ) (bytes : List ℕ) → AreAll known address bytes (length bytes)
       → differing_runs known address bytes ≡ []
   known_runs address [] h = refl
@@ -63,7 +63,7 @@ module _ (known : ℕ → ℕ) where
       by_first address byte bytes true (first_known known address byte bytes (length bytes) h)
       ∙ known_runs (address + 1) bytes (all_later known address byte bytes (length bytes) h)
 
-  -- those before others are skipped
+  -- known bytes before others are skipped
   skipped : (start address : ℕ) (bytes : List ℕ) → start ≤ length bytes → AreAll known address bytes start
       → differing_runs known address bytes ≡ differing_runs known (address + start) (drop start bytes)
   skipped zero address bytes within h =
@@ -75,7 +75,7 @@ module _ (known : ℕ → ℕ) where
       ∙ skipped start (address + 1) bytes (omega (arith, within)) (all_later known address byte bytes start h)
       ∙ ap (λ at. differing_runs known at (drop start bytes)) e
 
-  -- runs stand from an address on
+  -- all runs begin at an address or after it
   abbrev AreFrom : (address : ℕ) → List Event → Type 0
   AreFrom address [] = Unit {0}
   AreFrom address (Bytes at bytes ∷ runs) = address ≤ at
@@ -109,7 +109,7 @@ module _ (known : ℕ → ℕ) where
       go rest true = earlier address (differing_runs known (address + 1) bytes) rest
       go rest false = first_from address byte (differing_runs known (address + 1) bytes) rest
 
-  -- a byte that is not next to the first run stands alone
+  -- a byte that is not directly before the first run is a run by itself
   alone : (address byte : ℕ) (runs : List Event) → AreFrom (address + 1 + 1) runs
       → with_first_byte address byte runs ≡ Bytes address (byte ∷ []) ∷ runs
   alone address byte [] h = refl
@@ -118,7 +118,7 @@ module _ (known : ℕ → ℕ) where
       ap (λ b. cond b (Bytes address (byte ∷ bytes) ∷ runs) (Bytes address (byte ∷ []) ∷ Bytes at bytes ∷ runs)) p
   alone address byte (event ∷ runs) h = absurd h
 
-  -- nothing stands right after a known byte
+  -- no run begins directly after a known byte
   apart : (address : ℕ) (bytes : List ℕ)
       → (0 < length bytes → known address ≡ slice_index bytes 0)
       → AreFrom (address + 1) (differing_runs known address bytes)
@@ -128,7 +128,7 @@ module _ (known : ℕ → ℕ) where
       let p : nat_eq byte (known address) ≡ true = grind (arith, nat_tests, same) in
       subst (AreFrom (address + 1)) (sym (by_first address byte bytes true p)) (runs_from (address + 1) bytes)
 
-  -- the first bytes differ, as many as stand in a row
+  -- the first bytes differ, up to a known byte or the end
   run_first : (more address : ℕ) (bytes : List ℕ) → suc more ≤ length bytes → AreNone known address bytes (suc more)
       → (suc more < length bytes → known (address + suc more) ≡ slice_index bytes (suc more))
       → differing_runs known address bytes

@@ -9,9 +9,9 @@ use Rattle.wasm_syntax.specs.declared.values.Val.{Val}
 use Rattle.trace_model.specs.declared.events.Event.{Event}
 use Rattle.trace_model.specs.declared.events.Event.TheVariants.{Table, Entry, Global}
 use Rattle.trace_model.specs.Sink.{TookAlso}
-use Rattle.replay_spec.specs.Observations.{ReachesEntry, ReadsEntry, ReadsGlobal, WritesGlobal}
-use Rattle.hook_spec.specs.Hooks.{original}
-use Rattle.hook_spec.specs.Logs.{LogState, unless, same_entry, same_bits, all_observed_events}
+use Rattle.record_replay_spec.specs.Observations.{ReachesEntry, ReadsEntry, ReadsGlobal, WritesGlobal}
+use Rattle.record_replay_spec.specs.Hooks.{original}
+use Rattle.record_replay_spec.specs.Logs.{LogState, unless, same_entry, same_bits, all_observed_events}
 use Rattle.shadow_tables.specs.Tables.{Tables}
 use Rattle.recorder.specs.Known.{TellsOfTables}
 use Rattle.recorder.proofs.Kit.{took_none, took_same, with_entries, with_globals}
@@ -22,7 +22,7 @@ or_none (Some x) = refl
 
 -- ---- the table's size
 
--- entries that are empty are as if they were not there
+-- empty entries are like missing ones
 padded : (entries : List (Option ℕ)) (count at : ℕ)
     → slice_index_or entries at None ≡ slice_index_or (entries ++ replicate count None) at None
 padded [] zero at = refl
@@ -72,7 +72,7 @@ module _ {S : Type 0} (has_taken : S → List Event → Type 0) (n : ℕ) (table
 pub true_false : true ≡ false → ⊥
 true_false e = cc
 
--- two entries hold the same exactly where the test says so
+-- two entries are equal if and only if the test says so
 same_is : (a b : Option ℕ) → same_entry a b ≡ true → a ≡ b
 same_is None None h = refl
 same_is None (Some b) h = cc
@@ -166,7 +166,7 @@ module _ {S : Type 0} (has_taken : S → List Event → Type 0) (n : ℕ) (table
 
 -- ---- globals
 
--- a value of the same type is another one exactly where its bits differ
+-- a value of the same type differs if and only if its bits differ
 module _ (globals : List Val) (global : ℕ) (value : Val)
     (typed : option_map (λ known. known.ty) (slice_get globals global) ≡ Some value.ty) where
   bits_differ : slice_get globals global ≢ Some value → same_bits (slice_get globals global) value ≡ false
@@ -220,7 +220,7 @@ module _ (globals : List Val) (global : ℕ) (value : Val)
       go None is h = cc
       go (Some known) is h = slice_get_within globals global known is
 
-  -- the types stay where it is set
+  -- the types stay the same if a global is set
   pub types_stay : map (λ known. known.ty) (slice_set globals global value) ≡ map (λ known. known.ty) globals
   types_stay = go globals global typed
     where
@@ -231,7 +231,7 @@ module _ (globals : List Val) (global : ℕ) (value : Val)
           let e : x.ty ≡ value.ty = cc in ap (λ t. t ∷ map (λ known. known.ty) xs) (sym e)
       go (x ∷ xs) (suc index) h = ap (λ types. x.ty ∷ types) (go xs index h)
 
--- a global that is set, and the others
+-- a global after it is set; the other globals
 set_here : (globals : List Val) (index : ℕ) (value : Val) → index < length globals
     → slice_get (slice_set globals index value) index ≡ Some value
 set_here [] index value below = absurd (omega (arith, below))

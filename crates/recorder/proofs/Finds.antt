@@ -1,4 +1,4 @@
--- Bytes that are found: each run as it is told and taken, and what is shown then.
+-- Bytes that are found: how each run is reported and taken, and what is shown after it.
 use Rattle.std.proofs.Common.{◌≡◌, ℕ, ◌+◌, ◌-◌, ◌≤◌, List, [], ◌∷◌, ◌++◌, length, take, drop, Option, Some, None, Bool, true, false, cond, nat_eq, nat_le, replicate, slice_index, refl, sym, ap, ◌∙◌, subst, arith}
 use Rattle.std.specs.Prelude.{unwrap_or}
 use Rattle.std.specs.Option.{option_or}
@@ -6,8 +6,8 @@ use Rattle.std.proofs.lemmas.Bool.{eqb-true}
 use Rattle.std.proofs.lemmas.Bool.Decides.{nat_tests}
 use Rattle.std.proofs.lemmas.List.{append-nil, get_or-drop, get_or-take, length-drop, length-take-le, length-append, length-replicate, replicate-append-replicate, take_at, drop_at}
 use Rattle.trace_model.specs.declared.events.Event.{Event}
-use Rattle.replay_spec.specs.Observations.{Reads, Writes}
-use Rattle.hook_spec.specs.Logs.{differing_runs, all_observed_events, log_after}
+use Rattle.record_replay_spec.specs.Observations.{Reads, Writes}
+use Rattle.record_replay_spec.specs.Logs.{differing_runs, all_observed_events, log_after}
 use Rattle.shadow_memory.specs.Shadow.{Shadow, byte_among, HasTaken}
 use Rattle.shadow_memory.specs.declared.runs.Difference.{Difference}
 use Rattle.shadow_memory.proofs.Written.{among_there, among_below, among_past, Among, Below, There, Past, where_among}
@@ -36,7 +36,7 @@ module _ (address : ℕ) (bytes : List ℕ) (cut : ℕ) (within : cut ≤ length
   rest_long : length (drop cut bytes) ≡ length bytes - cut
   rest_long = length-drop cut bytes
 
-  -- the byte at an address is the one of the part that it is in
+  -- the byte at an address is the byte of the part that the address is in
   pub in_parts : unwrap_or (byte_among (address + cut) (drop cut bytes) at) first ≡ or_old (byte_among address bytes at)
   in_parts = go (where_among address bytes at) (where_among address (take cut bytes) at)
     where

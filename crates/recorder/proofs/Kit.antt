@@ -4,8 +4,8 @@ use Rattle.std.proofs.lemmas.List.{append_assoc, append-nil}
 use Rattle.wasm_syntax.specs.declared.values.Val.{Val}
 use Rattle.trace_model.specs.declared.events.Event.{Event}
 use Rattle.trace_model.specs.Sink.{TookAlso}
-use Rattle.replay_spec.specs.Observations.{Observation}
-use Rattle.hook_spec.specs.Logs.{LogState, observed_events, all_observed_events, log_after}
+use Rattle.record_replay_spec.specs.Observations.{Observation}
+use Rattle.record_replay_spec.specs.Logs.{LogState, observed_events, all_observed_events, log_after}
 use Rattle.shadow_memory.specs.Shadow.{Shadow}
 use Rattle.shadow_tables.specs.Tables.{Tables}
 use Rattle.recorder.specs.Known.{Keeper, Show, Tells}

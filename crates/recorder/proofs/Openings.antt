@@ -1,4 +1,4 @@
--- What a recorder knows where a run begins.
+-- What a recorder knows at the beginning of a run.
 use Rattle.std.proofs.Common.{◌≡◌, ℕ, zero, suc, List, [], ◌∷◌, length, map, false, Option, Some, None, slice_get, slice_index, slice_index_or, refl, sym, ap, ◌∙◌}
 use Rattle.std.specs.Option.{option_flatten}
 use Rattle.wasm_syntax.specs.declared.modules.Module.{Module}
@@ -8,9 +8,9 @@ use Rattle.wasm_store.specs.Calls.{bytes_of_memory, entries_of_table}
 use Rattle.type_safety.specs.Stores.{func_count, global_types}
 use Rattle.type_safety.specs.Values.{AreValues}
 use Rattle.type_safety.proofs.Values.{types_values}
-use Rattle.replay_spec.specs.Known.{byte_of, entry_of}
-use Rattle.hook_spec.specs.Order.{order_start, shape_of}
-use Rattle.hook_spec.specs.Logs.{log_start}
+use Rattle.record_replay_spec.specs.Known.{byte_of, entry_of}
+use Rattle.record_replay_spec.specs.Order.{order_start, shape_of}
+use Rattle.record_replay_spec.specs.Logs.{log_start}
 use Rattle.hook_order.specs.Orders.{parts_at_start}
 use Rattle.hook_order.specs.Shapes.{ShapeParts, parts_of, shape_from}
 use Rattle.shadow_memory.specs.Shadow.{Shadow}

@@ -5,9 +5,9 @@ use Rattle.trace_model.specs.Sink.{TookAlso}
 use Rattle.hook_names.specs.declared.hooks.HookFault.TheVariants.{Order}
 use Rattle.hook_names.specs.Steps.{IsRun}
 use Rattle.history_spec.specs.Instantiation.{table_length}
-use Rattle.hook_spec.specs.Hooks.{HookCall}
-use Rattle.hook_spec.specs.Order.{HookedShape, OrderState, ordered_step, number_or, first_disorder, order_start}
-use Rattle.hook_spec.specs.Logs.{LogState, call_events, log_after_call, after_events, events_or, events_from, log_with, log_start}
+use Rattle.record_replay_spec.specs.Hooks.{HookCall}
+use Rattle.record_replay_spec.specs.Order.{HookedShape, OrderState, ordered_step, number_or, first_disorder, order_start}
+use Rattle.record_replay_spec.specs.Logs.{LogState, call_events, log_after_call, after_events, events_or, events_from, log_with, log_start}
 use Rattle.hook_order.specs.Orders.{state_of}
 use Rattle.hook_order.specs.Shapes.{shape_from}
 use Rattle.recorder.specs.Known.{Show}
@@ -17,7 +17,7 @@ use Rattle.recorder.specs.Laws.{RunsAreRecorded, LogsAreRecorded}
 use Rattle.recorder.proofs.Kit.{took_none, took_both}
 
 module _ {S : Type 0} (has_taken : S → List Event → Type 0) (shape : HookedShape) where
-  -- the order after a call, as the recorder's parts say it
+  -- the order after a call, in terms of the recorder's parts
   same_order : (before : Recorded S) (order : OrderState) (log : LogState) (number : ℕ) (call : HookCall)
       → StandsAt before shape order log number
       → ordered_step shape order call ≡ order_after before.recording call
@@ -25,7 +25,7 @@ module _ {S : Type 0} (has_taken : S → List Event → Type 0) (shape : HookedS
       ap (λ s. ordered_step s order call) (sym stands.shaped)
       ∙ ap (λ o. ordered_step (shape_from before.recording.order.shape) o call) (sym stands.ordered)
 
-  -- where a call is taken, the recorder stands at the next state, and its sink took the call's events
+  -- if a call is taken, the recorder is at the next state, and its sink took the call's events
   record IsNext (before : Recorded S) (order : OrderState) (log : LogState) (number : ℕ) (call : HookCall)
       (after : Recorded S) : Type 0 where
     next : OrderState

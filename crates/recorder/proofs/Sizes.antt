@@ -7,23 +7,23 @@ use Rattle.wasm_syntax.specs.declared.limits.TheConstants.{PAGE_SIZE}
 use Rattle.trace_model.specs.declared.events.Event.{Event}
 use Rattle.trace_model.specs.declared.events.Event.TheVariants.{Seen}
 use Rattle.trace_model.specs.Sink.{TookAlso}
-use Rattle.replay_spec.specs.Observations.{Reaches, Resizes, Writes}
-use Rattle.replay_spec.specs.Known.{byte_among}
-use Rattle.hook_spec.specs.Logs.{LogState, unless, seen_events, all_observed_events}
+use Rattle.record_replay_spec.specs.Observations.{Reaches, Resizes, Writes}
+use Rattle.record_replay_spec.specs.Known.{byte_among}
+use Rattle.record_replay_spec.specs.Logs.{LogState, unless, seen_events, all_observed_events}
 use Rattle.shadow_memory.specs.Shadow.{Shadow, HasTaken}
 use Rattle.shadow_tables.specs.Tables.{Tables}
 use Rattle.recorder.specs.Known.{Show, TellsOfMemory}
 use Rattle.recorder.proofs.Kit.{resized, took_none, took_same}
 
 module _ {S : Type 0} (has_taken : S → List Event → Type 0) (memory : Shadow) where
-  -- the event of a size that is seen, by what the shadow says
+  -- the event of a size that is read, in terms of the shadow
   seen_same : (tables : Tables) (state : LogState) → Show memory tables state
       → unless (nat_eq memory.known memory.noticed) Seen ≡ seen_events state
   seen_same tables state shows =
       ap (λ known. unless (nat_eq known memory.noticed) Seen) (sym shows.pages)
       ∙ ap (λ noticed. unless (nat_eq state.known.pages noticed) Seen) (sym shows.noticed)
 
-  -- an access within the known size sees nothing
+  -- an access within the known size has no event
   pub reaches_near : (sink : S) (last found : ℕ) → last ≤ memory.known * PAGE_SIZE
       → TellsOfMemory has_taken memory sink (Reaches last found ∷ []) memory sink
   reaches_near sink last found near n tables state shows =
@@ -36,7 +36,7 @@ module _ {S : Type 0} (has_taken : S → List Event → Type 0) (memory : Shadow
             (sym (ap (λ b. (cond (cond b false true) (seen_events state) [] ++ []) ++ []) p)) (took_none has_taken sink),
       )
 
-  -- one past it sees the size
+  -- an access past the known size reads the size
   pub reaches_far : (sink sink' : S) (last found : ℕ) → memory.known * PAGE_SIZE < last
       → TookAlso has_taken sink sink' (unless (nat_eq memory.known memory.noticed) Seen)
       → TellsOfMemory has_taken memory sink (Reaches last found ∷ [])
@@ -54,7 +54,7 @@ module _ {S : Type 0} (has_taken : S → List Event → Type 0) (memory : Shadow
             ∙ sym (ap (λ b. (cond (cond b false true) (seen_events state) [] ++ []) ++ []) p)) told,
       )
 
-  -- so does what reads the size or grows it
+  -- a call that reads the size or grows the memory reads the size
   pub resizes : (sink sink' : S) (found left : ℕ)
       → TookAlso has_taken sink sink' (unless (nat_eq memory.known memory.noticed) Seen)
       → TellsOfMemory has_taken memory sink (Resizes found left ∷ [])

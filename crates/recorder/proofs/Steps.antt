@@ -1,4 +1,4 @@
--- What a recording is after each hook's call.
+-- A recording after each hook call.
 use Rattle.std.proofs.Common.{◌≡◌, ℕ, List, [], ◌∷◌, ◌++◌, length, Some, true, false, nat_eq, slice_get, slice_set, option_and_then, refl, sym, ap, ◌∙◌, subst}
 use Rattle.wasm_syntax.specs.declared.values.Val.{Val}
 use Rattle.trace_model.specs.declared.events.Event.{Event}
@@ -8,12 +8,12 @@ use Rattle.history_spec.specs.Store.{Store}
 use Rattle.history_spec.specs.Instantiation.{table_length}
 use Rattle.history_spec.specs.Instruction.{bits_at}
 use Rattle.wasm_store.specs.Calls.{pages_in}
-use Rattle.replay_spec.specs.Observations.{Observation, ReachesEntry, ReadsGlobal, entry_observations}
-use Rattle.replay_spec.specs.Known.{entry_of, entries_after}
-use Rattle.hook_spec.specs.declared.hooks.Hook.{Hook}
-use Rattle.hook_spec.specs.declared.hooks.Hook.TheVariants.{Arg, Enter, Leave, Pre, Ipre, Gget, Gset}
-use Rattle.hook_spec.specs.Hooks.{original, on}
-use Rattle.hook_spec.specs.Logs.{LogState, unless, all_observed_events, call_events, log_after_all, notices_size, observed_by, own_events}
+use Rattle.record_replay_spec.specs.Observations.{Observation, ReachesEntry, ReadsGlobal, entry_observations}
+use Rattle.record_replay_spec.specs.Known.{entry_of, entries_after}
+use Rattle.record_replay_spec.specs.declared.hooks.Hook.{Hook}
+use Rattle.record_replay_spec.specs.declared.hooks.Hook.TheVariants.{Arg, Enter, Leave, Pre, Ipre, Gget, Gset}
+use Rattle.record_replay_spec.specs.Hooks.{original, on}
+use Rattle.record_replay_spec.specs.Logs.{LogState, unless, all_observed_events, call_events, log_after_all, notices_size, observed_by, own_events}
 use Rattle.hook_order.specs.Orders.{OrderParts, LeadsTo, IsGlobal, IsEntryCall, parts_pending, parts_entered, parts_called, parts_closed, state_of, step_from}
 use Rattle.hook_order.specs.Shapes.{shape_from}
 use Rattle.hook_order.specs.declared.access.EntryCall.{EntryCall}
@@ -26,7 +26,7 @@ use Rattle.recorder.proofs.Arms.{takes_memory, takes_tables, takes_told, takes_n
 use Rattle.recorder.proofs.Told.{read_is, write_is, known_typed}
 use Rattle.recorder.proofs.Entries.{writes_global}
 
--- with another sink and where the calls stand then; with another memory as well
+-- the recording with another sink and state of the order; the recording with another memory as well
 abbrev told_after : {S : Type 0} (before : Recording S) (order : OrderParts) → S → Recording S
 told_after before order sink = record { order = order; memory = before.memory; tables = before.tables; sink = sink }
 
@@ -77,7 +77,7 @@ module _ {S : Type 0} {has_taken : S → List Event → Type 0} {before : Record
         takes_told has_taken before Pre args view order (parts_called before.order true (Some func)) sink h same refl refl
         refl (took_same has_taken before.sink sink _ _ (ap (λ f. events.Pre (Some f) ∷ []) (sym is)) told)
 
-    -- a call ends, by one of two hooks, which observe nothing, notice the size and tell the value that is pending
+    -- a call ends, by one of two hooks, which observe nothing, notice the size and report the pending value
     pub take_end : {kind : Hook} {order : OrderParts} {memory : Shadow} {pending : List Val} (middle : S) {sink : S}
         → LeadsTo before.order kind args (Some (parts_closed before.order))
         → observed_by (shape_from before.order.shape) kind args view ≡ [] → notices_size kind ≡ true
@@ -148,7 +148,7 @@ module _ {S : Type 0} {has_taken : S → List Event → Type 0} {before : Record
 
     -- ---- the memory
 
-    -- it alone is observed, and nothing else is told
+    -- only the memory is observed, and nothing else is reported
     pub take_memory : {kind : Hook} {memory : Shadow} {sink : S} {seen : List Observation}
         → LeadsTo before.order kind args (Some before.order)
         → seen ≡ observed_by (shape_from before.order.shape) kind args view

@@ -1,4 +1,4 @@
--- What accesses and globals observe, by what the order reads off their arguments.
+-- What accesses and globals observe, by the arguments that the order reads.
 use Rattle.std.proofs.Common.{◌≡◌, ℕ, ◌+◌, ◌%◌, List, [], ◌∷◌, Option, Some, None, replicate, slice_get, option_map, refl, sym, ap, ◌∙◌}
 use Rattle.std.proofs.lemmas.Option.{slice_get-map}
 use Rattle.wasm_syntax.specs.declared.values.Val.{Val}
@@ -6,10 +6,10 @@ use Rattle.wasm_syntax.specs.declared.values.ValType.TheVariants.{I32}
 use Rattle.wasm_syntax.specs.declared.signatures.GlobalType.{GlobalType}
 use Rattle.history_spec.specs.Store.{Store, bytes_of}
 use Rattle.history_spec.specs.Instruction.{bits_at}
-use Rattle.replay_spec.specs.Observations.{Observation, ReadsGlobal, WritesGlobal, load_observations, store_observations, copy_observations}
-use Rattle.hook_spec.specs.declared.hooks.Hook.TheVariants.{Gget, Gset}
-use Rattle.hook_spec.specs.Hooks.{on}
-use Rattle.hook_spec.specs.Logs.{observed_by, value_of_global}
+use Rattle.record_replay_spec.specs.Observations.{Observation, ReadsGlobal, WritesGlobal, load_observations, store_observations, copy_observations}
+use Rattle.record_replay_spec.specs.declared.hooks.Hook.TheVariants.{Gget, Gset}
+use Rattle.record_replay_spec.specs.Hooks.{on}
+use Rattle.record_replay_spec.specs.Logs.{observed_by, value_of_global}
 use Rattle.hook_order.specs.Args.{AreArgs}
 use Rattle.hook_order.specs.Orders.{OrderParts, IsAccess, IsGlobal}
 use Rattle.hook_order.specs.Shapes.{shape_from}

@@ -1,11 +1,11 @@
--- Loads, stores, copies and fills: what they reach, and what they read and write where that is within the memory.
+-- Loads, stores, copies and fills: what they reach, and what they read and write if that is within the memory.
 use Rattle.std.proofs.Common.{◌≡◌, ℕ, zero, suc, ◌+◌, ◌/◌, List, [], ◌∷◌, length, take, drop, Option, Some, None, Bool, true, false, cond, nat_le, is_some, refl, sym, ap, ◌∙◌, subst}
 use Rattle.trace_model.specs.declared.events.Event.{Event}
 use Rattle.history_spec.specs.Store.{Store, Memory, pages, bytes_at, bytes_of, with_bytes_at, with_items_at}
 use Rattle.wasm_store.specs.Calls.{bytes_in, bytes_of_memory, pages_in, pages_of_memory}
-use Rattle.replay_spec.specs.Observations as observed
-use Rattle.replay_spec.specs.Observations.{Observation, Reads, Copies, Writes, Reaches, Resizes, load_observations, store_observations, copy_observations}
-use Rattle.hook_spec.specs.Hooks.{on}
+use Rattle.record_replay_spec.specs.Observations as observed
+use Rattle.record_replay_spec.specs.Observations.{Observation, Reads, Copies, Writes, Reaches, Resizes, load_observations, store_observations, copy_observations}
+use Rattle.record_replay_spec.specs.Hooks.{on}
 use Rattle.shadow_memory.specs.Shadow.{Shadow, HasTaken}
 use Rattle.recorder.specs.Known.{TellsOfMemory}
 use Rattle.recorder.proofs.Kit.{tells_none, tells_then}
@@ -14,7 +14,7 @@ use Rattle.recorder.proofs.Sizes.{writes}
 true_false : true ≡ false → ⊥
 true_false e = cc
 
--- ---- bytes that are there
+-- ---- bytes within the memory
 
 module _ (bytes : List ℕ) (address count : ℕ) where
   is_there : (part : List ℕ) → bytes_at bytes address count ≡ Some part
@@ -32,7 +32,7 @@ module _ (bytes : List ℕ) (address count : ℕ) where
       go true h = cc
       go false h = refl
 
--- what is written, by whether as many bytes are there
+-- what is written, by whether the range is within the memory
 on_written : (bytes : List ℕ) (address count : ℕ) (news : List ℕ) (seen : List Observation) → length news ≡ count
     → (b : Bool) → nat_le (address + count) (length bytes) ≡ b
     → observed.on (with_bytes_at bytes address news) (λ all. seen) ≡ cond b seen []
@@ -56,13 +56,13 @@ number_length zero number = refl
 number_length (suc width) number = ap suc (number_length width (number / 256))
 
 module _ {S : Type 0} (has_taken : S → List Event → Type 0) where
-  -- of a memory that is not there nothing is observed
+  -- nothing is observed of a missing memory
   pub tells_nowhere : (memory : Option Memory) (make : Memory → List Observation) (shadow : Shadow) (sink : S)
       → is_some memory ≡ false → TellsOfMemory has_taken shadow sink (on memory make) shadow sink
   tells_nowhere None make shadow sink h = λ n tables. tells_none has_taken n _
   tells_nowhere (Some memory) make shadow sink h = absurd (true_false h)
 
-  -- the size is seen, and more then
+  -- one observation, and later ones after it
   reaches_then : (a b c : Shadow) (s t u : S) (o : Observation) (later : List Observation)
       → TellsOfMemory has_taken a s (o ∷ []) b t → TellsOfMemory has_taken b t later c u
       → TellsOfMemory has_taken a s (o ∷ later) c u
@@ -237,7 +237,7 @@ module _ {S : Type 0} (has_taken : S → List Event → Type 0) where
         (reaches_then a b c s t t (Copies source part) (Writes to part ∷ []) reads
         (writes has_taken b t to part c taken))
 
--- ---- the same, by other names of what is equal
+-- ---- facts in terms of other equal values
 
 module _ {S : Type 0} (has_taken : S → List Event → Type 0) (view : Store) (a b : Shadow) (s t : S)
     (there : is_some view.memory ≡ true) (address count start last found : ℕ) (bytes : List ℕ) (starts : start ≡ address)

@@ -1,4 +1,4 @@
--- The first bytes that are not the known ones, told.
+-- The first bytes that are not the known ones, and the event that reports them.
 use Rattle.std.specs.Prelude.{ℕ, ◌+◌, ◌-◌, List, [], ◌∷◌, take, drop}
 use Rattle.trace_model.specs.declared.events.Event.{Event}
 use Rattle.trace_model.specs.declared.events.Event.TheVariants.{Bytes}
@@ -12,7 +12,7 @@ abbrev pub run_event : (address : ℕ) → List ℕ → Difference → Event
 run_event address bytes run =
     Bytes (address + run.start) (take (run.«end» - run.start) (drop run.start bytes))
 
--- a run of bytes is found and told, up to where it ends; or all bytes are known
+-- a run of bytes is found and reported, and the bytes up to its end are taken; or all bytes are known
 pub record FindsRun {S : Type 0} (has_taken : S → List Event → Type 0) (before : Shadow) (sink : S) (address : ℕ)
     (bytes : List ℕ) (run : Difference) (after : Shadow) (sink' : S) : Type 0 where
   pub first : IsFirstDifference before.bytes address bytes run

@@ -4,8 +4,8 @@ use Rattle.wasm_syntax.specs.declared.values.Val.{Val}
 use Rattle.wasm_syntax.specs.declared.signatures.GlobalType.{GlobalType}
 use Rattle.trace_model.specs.declared.events.Event.{Event}
 use Rattle.trace_model.specs.Sink.{TookAlso}
-use Rattle.replay_spec.specs.Observations.{Observation}
-use Rattle.hook_spec.specs.Logs.{LogState, all_observed_events, log_after_all}
+use Rattle.record_replay_spec.specs.Observations.{Observation}
+use Rattle.record_replay_spec.specs.Logs.{LogState, all_observed_events, log_after_all}
 use Rattle.shadow_memory.specs.Shadow.{Shadow}
 use Rattle.shadow_tables.specs.Tables.{Tables}
 
@@ -13,7 +13,8 @@ use Rattle.shadow_tables.specs.Tables.{Tables}
 abbrev pub HaveTypes : List GlobalType → List Val → Type 0
 HaveTypes types values = map (λ value. value.ty) values ≡ map (λ ty. ty.ty) types
 
--- shadows show what the log knows: each byte, entry and global, the sizes, and the memory's size that was noticed last
+-- shadows agree with the log's state: each known byte, entry and global, the sizes, and the memory size noticed
+-- last
 pub record Show (memory : Shadow) (tables : Tables) (state : LogState) : Type 0 where
   pub byte : (at : ℕ) → state.known.byte at ≡ slice_index memory.bytes at
   pub entry : (at : ℕ) → state.known.entry at ≡ slice_index_or tables.entries at None
@@ -22,13 +23,14 @@ pub record Show (memory : Shadow) (tables : Tables) (state : LogState) : Type 0 
   pub entries : state.known.entries ≡ length tables.entries
   pub noticed : state.noticed ≡ memory.noticed
 
--- shadows, and a sink of events
+-- the shadows of a recorder, and a sink of events
 pub record Keeper (S : Type 0) : Type 0 where
   pub memory : Shadow
   pub tables : Tables
   pub sink : S
 
--- from what a keeper shows, these observations lead to what it shows afterwards, and its sink took their events
+-- these observations lead from any state that a keeper shows to the state that it shows after, and its sink took
+-- their events
 abbrev pub Tells : {S : Type 0} → (has_taken : S → List Event → Type 0) → (n : ℕ) → Keeper S → List Observation
     → Keeper S → Type 0
 Tells has_taken n before seen after =
@@ -36,7 +38,7 @@ Tells has_taken n before seen after =
     → Show after.memory after.tables (log_after_all state seen)
     × TookAlso has_taken before.sink after.sink (all_observed_events n state seen)
 
--- the same of observations of the memory, whatever is known of the table and of globals
+-- observations of the memory lead from one keeper to the next, whatever is known of the table and of globals
 abbrev pub TellsOfMemory : {S : Type 0} → (has_taken : S → List Event → Type 0) → (before : Shadow) → S
     → List Observation → (after : Shadow) → S → Type 0
 TellsOfMemory has_taken before sink seen after sink' =
@@ -44,7 +46,7 @@ TellsOfMemory has_taken before sink seen after sink' =
     → Tells has_taken n (record { memory = before; tables = tables; sink = sink }) seen
     (record { memory = after; tables = tables; sink = sink' })
 
--- of observations of the table or of globals, whatever is known of the memory
+-- observations of the table or of globals lead from one keeper to the next, whatever is known of the memory
 abbrev pub TellsOfTables : {S : Type 0} → (has_taken : S → List Event → Type 0) → (n : ℕ) → (before : Tables) → S
     → List Observation → (after : Tables) → S → Type 0
 TellsOfTables has_taken n before sink seen after sink' =

@@ -1,21 +1,21 @@
--- What the runs of a recorder come to.
+-- What the runs of a recorder give.
 use Rattle.std.specs.Prelude.{◌≡◌, ℕ, List, [], Ok, Err, Some, false}
 use Rattle.trace_model.specs.declared.events.Event.{Event}
 use Rattle.trace_model.specs.declared.events.Log.{Log}
 use Rattle.trace_model.specs.Sink.{TookAlso}
-use Rattle.run_outcomes.specs.declared.outcomes.Outcome.{Outcome}
+use Rattle.base.specs.declared.outcomes.Outcome.{Outcome}
 use Rattle.history_spec.specs.Store.{Store}
 use Rattle.history_spec.specs.Instantiation.{table_length}
 use Rattle.hook_names.specs.declared.hooks.HookFault.TheVariants.{Order}
 use Rattle.hook_names.specs.Steps.{IsRun}
-use Rattle.hook_spec.specs.Hooks.{HookCall}
-use Rattle.hook_spec.specs.Order.{HookedShape, OrderState, order_start, first_disorder}
-use Rattle.hook_spec.specs.Logs.{LogState, log_start, log_of, events_from}
+use Rattle.record_replay_spec.specs.Hooks.{HookCall}
+use Rattle.record_replay_spec.specs.Order.{HookedShape, OrderState, order_start, first_disorder}
+use Rattle.record_replay_spec.specs.Logs.{LogState, log_start, log_of, events_from}
 use Rattle.hook_order.specs.Shapes.{shape_from}
 use Rattle.recorder.specs.Recorders.{Recorded, IsRecorderStep, StandsAt}
 
--- a run of calls from where a recorder stands: where all are accepted, its sink took just the events of their log;
--- where one is out of order, it is the first one that is, and its number is told
+-- a run of calls from a recorder's state: if all are accepted, its sink took exactly the events of their log; if
+-- one is refused as out of order, it is the first such call, and its number is reported
 pub record RunsRecord {S : Type 0} (has_taken : S → List Event → Type 0) (before : Recorded S) (shape : HookedShape)
     (order : OrderState) (log : LogState) (number : ℕ) : Type 0 where
   pub accepted : (calls : List HookCall) (after : Recorded S)
@@ -27,13 +27,16 @@ pub record RunsRecord {S : Type 0} (has_taken : S → List Event → Type 0) (be
       → IsRun (IsRecorderStep has_taken) before calls (Err (Order at)) after
       → first_disorder shape order number calls ≡ Some at
 
+-- from each state of a recorder, a run of calls that are all accepted gives its sink exactly the events of their log;
+-- if a call is refused as out of order, it is the first such call
 abbrev pub RunsAreRecorded : {S : Type 0} → (has_taken : S → List Event → Type 0) → Type 0
 RunsAreRecorded {S} has_taken =
     (before : Recorded S) (shape : HookedShape) (order : OrderState) (log : LogState) (number : ℕ)
     → StandsAt before shape order log number → RunsRecord has_taken before shape order log number
 
--- the same from a new recorder on, whose sink has taken nothing: its sink has then taken the events of the calls' log,
--- whatever their outcome; or there is no log, since the call of this number is the first one out of order
+-- a run of calls from a new recorder, whose sink has taken nothing: if all are accepted, its sink has taken the
+-- events of the calls' log, for any outcome; otherwise there is no log, since the call of this number is the
+-- first out of order
 pub record RunsGiveLogs {S : Type 0} (has_taken : S → List Event → Type 0) (before : Recorded S) (shape : HookedShape)
     (opened : Store) : Type 0 where
   pub accepted : (calls : List HookCall) (outcome : Outcome) (after : Recorded S)
@@ -45,6 +48,8 @@ pub record RunsGiveLogs {S : Type 0} (has_taken : S → List Event → Type 0) (
       → (log_of shape opened calls outcome ≡ Err at)
       × (first_disorder shape (order_start (table_length opened.table)) 0 calls ≡ Some at)
 
+-- from a new recorder, whose sink has taken nothing, a run of calls that are all accepted gives its sink exactly the
+-- events of the calls' log; if a call is refused as out of order, it is the first such call, and there is no log
 abbrev pub LogsAreRecorded : {S : Type 0} → (has_taken : S → List Event → Type 0) → Type 0
 LogsAreRecorded {S} has_taken =
     (before : Recorded S) (shape : HookedShape) (opened : Store)

@@ -1,24 +1,24 @@
--- A recorder: its steps, and what it stands at.
+-- A recorder: its state and its steps.
 use Rattle.std.specs.Prelude.{◌≡◌, ℕ, ◌+◌, List, length, None, Bool, true, false, Result, Ok, Err, ⊤, IsSome}
 use Rattle.trace_model.specs.declared.events.Event.{Event}
 use Rattle.hook_names.specs.declared.hooks.HookFault.{HookFault}
 use Rattle.hook_names.specs.declared.hooks.HookFault.TheVariants.{Order, Memory}
-use Rattle.hook_spec.specs.Hooks.{HookCall}
-use Rattle.hook_spec.specs.Order.{HookedShape, OrderState}
-use Rattle.hook_spec.specs.Logs.{LogState}
+use Rattle.record_replay_spec.specs.Hooks.{HookCall}
+use Rattle.record_replay_spec.specs.Order.{HookedShape, OrderState}
+use Rattle.record_replay_spec.specs.Logs.{LogState}
 use Rattle.hook_order.specs.Orders.{state_of}
 use Rattle.hook_order.specs.Shapes.{shape_from}
 use Rattle.recorder.specs.Known.{Show}
 use Rattle.recorder.specs.Recordings.{Recording, Takes, order_after}
 
--- a recording; how many calls it took; whether memory was out
+-- a recording; the number of calls taken; whether memory was out
 pub record Recorded (S : Type 0) : Type 0 where
   pub recording : Recording S
   pub calls : ℕ
   pub broken : Bool
 
--- a recorder that is not broken answers a call: it takes it, says that it is out of order, where nothing changes, or is
--- broken from then on
+-- how a recorder that is not broken answers a call: it takes the call; it reports that the call is out of order,
+-- and nothing changes; or it is broken from then on
 abbrev pub IsAnswer : {S : Type 0} → (has_taken : S → List Event → Type 0) → Recorded S → HookCall → Result ⊤ HookFault
     → Recorded S → Type 0
 IsAnswer has_taken before call (Ok done) after =
@@ -28,15 +28,15 @@ IsAnswer has_taken before call (Err (Order number)) after =
 IsAnswer has_taken before call (Err Memory) after =
     IsSome (order_after before.recording call) × (after.broken ≡ true)
 
--- a broken one answers that memory is out, and nothing changes
+-- a step of a recorder: a broken one reports that memory is out, and nothing changes
 abbrev pub IsRecorderStep : {S : Type 0} → (has_taken : S → List Event → Type 0) → Recorded S → HookCall
     → Result ⊤ HookFault → Recorded S → Type 0
 IsRecorderStep has_taken before call answer after =
     (before.broken ≡ false → IsAnswer has_taken before call answer after)
     × (before.broken ≡ true → (answer ≡ Err Memory) × (after ≡ before))
 
--- a recorder that is not broken stands at this state of the order and of the log of a module of this shape, after so
--- many calls
+-- a recorder that is not broken is at this state of the order and of the log of a module of this shape, after
+-- this number of calls
 pub record StandsAt {S : Type 0} (recorder : Recorded S) (shape : HookedShape) (order : OrderState) (log : LogState)
     (number : ℕ) : Type 0 where
   pub whole : recorder.broken ≡ false

@@ -2,9 +2,9 @@
 use Rattle.std.specs.Prelude.{◌≡◌, List, length, Option, Some, None, Bool, true, false}
 use Rattle.trace_model.specs.declared.events.Event.{Event}
 use Rattle.trace_model.specs.Sink.{TookAlso}
-use Rattle.hook_spec.specs.Hooks.{HookCall}
-use Rattle.hook_spec.specs.Order.{OrderState}
-use Rattle.hook_spec.specs.Logs.{LogState, call_events, log_after_call}
+use Rattle.record_replay_spec.specs.Hooks.{HookCall}
+use Rattle.record_replay_spec.specs.Order.{OrderState}
+use Rattle.record_replay_spec.specs.Logs.{LogState, call_events, log_after_call}
 use Rattle.hook_order.specs.Orders.{OrderParts, state_of, step_from}
 use Rattle.hook_order.specs.Shapes.{shape_from}
 use Rattle.shadow_memory.specs.Shadow.{Shadow}
@@ -12,19 +12,20 @@ use Rattle.shadow_tables.specs.Tables.{Tables}
 use Rattle.recorder.specs.Known.{Show}
 use Rattle.recorder.specs.declared.recording.Recording as recording
 
--- where the calls stand, what is known, and the sink of the events
+-- the state of the order of calls, what is known of the store, and the sink of the events
 pub record Recording (S : Type 0) : Type 0 where
   pub order : OrderParts
   pub memory : Shadow
   pub tables : Tables
   pub sink : S
 
--- these, of the fields
+-- the recording that has these fields
 abbrev pub recording_of : {S : Type 0} → recording.Recording S → Recording S
 recording_of fields =
     record { order = fields.order; memory = fields.memory; tables = fields.tables; sink = fields.sink }
 
--- from whatever a recording shows, a call leads to what it shows afterwards, and its sink took the call's events
+-- a call leads from any state that a recording shows to the state that it shows after, and its sink took the
+-- call's events
 abbrev pub Logs : {S : Type 0} → (has_taken : S → List Event → Type 0) → Recording S → HookCall → Recording S → Type 0
 Logs has_taken before call after =
     (state : LogState) → Show before.memory before.tables state
@@ -32,11 +33,11 @@ Logs has_taken before call after =
     × TookAlso has_taken before.sink after.sink
     (call_events (shape_from before.order.shape) state before.order.pending call)
 
--- the order after a call; none where the call is out of order
+-- the order after a call, or `None` if the call is out of order
 abbrev pub order_after : {S : Type 0} → Recording S → HookCall → Option OrderState
 order_after recording call = step_from (length recording.tables.entries) recording.order call
 
--- a call in order is taken
+-- a call that is in order is taken
 pub record Takes {S : Type 0} (has_taken : S → List Event → Type 0) (before : Recording S) (call : HookCall)
     (after : Recording S) : Type 0 where
   pub shape : after.order.shape ≡ before.order.shape

@@ -1,19 +1,19 @@
-// Calls by which the memory and globals are read and written.
+// Hook calls that report how the memory and globals are read and written.
 
 ghost use Rattle.std.specs.Prelude.{IfOk, IsSome, OnErr};
-ghost use Rattle.hook_spec.specs.declared.hooks.Hook.TheVariants as hooks;
+ghost use Rattle.record_replay_spec.specs.declared.hooks.Hook.TheVariants as hooks;
 ghost use Rattle.recorder.specs.Recordings.{order_after, recording_of, IsTaken};
 
 use crate::memory;
 use crate::recording::Recording;
 use crate::tables::find_global;
+use base::NoMemory;
 use hook_names::View;
-use no_memory::NoMemory;
 use trace_model::EventSink;
 use wasm_syntax::Val;
 
 impl<S: EventSink> Recording<S> {
-    /// A load.
+    /// Takes a load.
     #[inline]
     pub(crate) fn load(&mut self, args: &[Val], view: &View) -> Result<bool, NoMemory>
         ensures ok { IfOk result (λ may. IsTaken S.has_taken (recording_of self.old)
@@ -28,7 +28,7 @@ impl<S: EventSink> Recording<S> {
         Ok(true)
     }
 
-    /// A store.
+    /// Takes a store.
     #[inline]
     pub(crate) fn store(&mut self, args: &[Val], view: &View) -> Result<bool, NoMemory>
         ensures ok { IfOk result (λ may. IsTaken S.has_taken (recording_of self.old)
@@ -43,7 +43,7 @@ impl<S: EventSink> Recording<S> {
         Ok(true)
     }
 
-    /// The memory's size is read.
+    /// Takes a read of the memory's size.
     #[inline]
     pub(crate) fn size(&mut self, args: &[Val], view: &View) -> Result<bool, NoMemory>
         ensures ok { IfOk result (λ may. IsTaken S.has_taken (recording_of self.old)
@@ -58,7 +58,7 @@ impl<S: EventSink> Recording<S> {
         Ok(true)
     }
 
-    /// The memory was grown.
+    /// Takes a growth of the memory.
     #[inline]
     pub(crate) fn grow(&mut self, args: &[Val], view: &View) -> Result<bool, NoMemory>
         ensures ok { IfOk result (λ may. IsTaken S.has_taken (recording_of self.old)
@@ -73,7 +73,7 @@ impl<S: EventSink> Recording<S> {
         Ok(true)
     }
 
-    /// A global was read.
+    /// Takes a read of a global.
     #[inline]
     pub(crate) fn gget(&mut self, args: &[Val], _view: &View) -> Result<bool, NoMemory>
         ensures ok { IfOk result (λ may. IsTaken S.has_taken (recording_of self.old)
@@ -88,7 +88,7 @@ impl<S: EventSink> Recording<S> {
         Ok(true)
     }
 
-    /// A global is set.
+    /// Takes a write of a global.
     #[inline]
     pub(crate) fn gset(&mut self, args: &[Val], _view: &View) -> Result<bool, NoMemory>
         ensures ok { IfOk result (λ may. IsTaken S.has_taken (recording_of self.old)
@@ -103,7 +103,7 @@ impl<S: EventSink> Recording<S> {
         Ok(true)
     }
 
-    /// Bytes are copied.
+    /// Takes a copy of bytes.
     #[inline]
     pub(crate) fn copy(&mut self, args: &[Val], view: &View) -> Result<bool, NoMemory>
         ensures ok { IfOk result (λ may. IsTaken S.has_taken (recording_of self.old)
@@ -118,7 +118,7 @@ impl<S: EventSink> Recording<S> {
         Ok(true)
     }
 
-    /// Bytes are filled.
+    /// Takes a fill of bytes.
     #[inline]
     pub(crate) fn fill(&mut self, args: &[Val], view: &View) -> Result<bool, NoMemory>
         ensures ok { IfOk result (λ may. IsTaken S.has_taken (recording_of self.old)

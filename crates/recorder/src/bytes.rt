@@ -2,21 +2,21 @@
 
 ghost use Rattle.std.specs.Prelude.{◌+◌, ◌≤◌, ◌∷◌, [], length, replicate, IfOk, OnOk, IfNone, IfSome, IsTrue};
 ghost use Rattle.history_spec.specs.Store.{bytes_of};
-ghost use Rattle.hook_spec.specs.Order.{is_width};
-ghost use Rattle.replay_spec.specs.Observations.{Reads};
+ghost use Rattle.record_replay_spec.specs.Order.{is_width};
+ghost use Rattle.record_replay_spec.specs.Observations.{Reads};
 ghost use Rattle.shadow_memory.specs.Shadow.{HasTaken};
 ghost use Rattle.trace_model.specs.Sink.{TookAlso};
 ghost use Rattle.trace_model.specs.declared.events.Event.TheVariants.{Bytes as FoundBytes};
 ghost use Rattle.recorder.specs.Bytes.{FindsNothing, FindsRun};
 ghost use Rattle.recorder.specs.Known.{TellsOfMemory};
 
-use no_memory::NoMemory;
+use base::NoMemory;
 use shadow_memory::{Difference, ShadowMemory};
 use std::alloc::Global;
 use trace_model::{Event, EventSink};
 use wasm_syntax::Bytes;
 
-/// Tells bytes that are found from an address on.
+/// Passes the event of bytes found from an address on to the sink.
 #[cold]
 fn tell_bytes<S: EventSink>(
     alloc: Global,
@@ -33,11 +33,11 @@ fn tell_bytes<S: EventSink>(
     })
 }
 
-/// Tells the first bytes that are not the known ones, as many as stand in a row, and takes them. Answers which these
-/// are; None where all are known.
+/// Finds the first run of bytes that are not the known ones, passes its event to the sink, and takes the bytes
+/// up to its end. Returns the run; `None` if all bytes are known.
 ///
 /// # Errors
-/// Where an allocation failed.
+/// `NoMemory` if an allocation failed.
 #[inline]
 fn find_run<S: EventSink>(
     alloc: Global,
@@ -60,10 +60,11 @@ fn find_run<S: EventSink>(
     Ok(Some(run))
 }
 
-/// Tells the longest runs of those bytes that are not the known ones, in order, and takes them.
+/// Passes the events of the longest runs of bytes that are not the known ones to the sink, by ascending
+/// addresses, and takes these bytes.
 ///
 /// # Errors
-/// Where an allocation failed.
+/// `NoMemory` if an allocation failed.
 #[inline]
 pub(crate) fn find_bytes<S: EventSink>(
     alloc: Global,
@@ -89,7 +90,7 @@ pub(crate) fn find_bytes<S: EventSink>(
 /// Takes the lowest bytes of a number.
 ///
 /// # Errors
-/// Where an allocation failed.
+/// `NoMemory` if an allocation failed.
 #[inline]
 pub(crate) fn take_number(
     memory: &mut ShadowMemory,
@@ -113,7 +114,7 @@ pub(crate) fn take_number(
 /// Takes a byte at each address of a range.
 ///
 /// # Errors
-/// Where an allocation failed.
+/// `NoMemory` if an allocation failed.
 #[tactic(auto, using(crate::proofs::Finds::taken_none))]
 pub(crate) fn take_same(
     memory: &mut ShadowMemory,

@@ -1,28 +1,28 @@
-// Calls by which functions and calls begin and end.
+// Hook calls that report how functions and calls begin and end.
 
 ghost use Rattle.std.specs.Prelude.{◌≡◌, ℕ, ◌∷◌, [], true, IfOk, IsSome, OnOk, OnErr, length, nat_le, option_and_then, slice_get};
-ghost use Rattle.hook_spec.specs.declared.hooks.Hook.TheVariants as hooks;
+ghost use Rattle.record_replay_spec.specs.declared.hooks.Hook.TheVariants as hooks;
 ghost use Rattle.trace_model.specs.Sink.{TookAlso};
 ghost use Rattle.trace_model.specs.declared.events.Event.TheVariants as events;
 ghost use Rattle.history_spec.specs.Instantiation.{table_length};
-ghost use Rattle.replay_spec.specs.Observations.{ReachesEntry, entry_observations};
-ghost use Rattle.replay_spec.specs.Known.{entry_of, entries_after};
-ghost use Rattle.hook_spec.specs.Hooks.{on, original};
+ghost use Rattle.record_replay_spec.specs.Observations.{ReachesEntry, entry_observations};
+ghost use Rattle.record_replay_spec.specs.Known.{entry_of, entries_after};
+ghost use Rattle.record_replay_spec.specs.Hooks.{on, original};
 ghost use Rattle.recorder.specs.Known.{TellsOfTables};
 ghost use Rattle.recorder.specs.Recordings.{order_after, recording_of, IsTaken};
 
 use crate::memory::notice;
 use crate::recording::Recording;
 use crate::tables::{find_entry, reach_entry};
+use base::NoMemory;
 use hook_names::View;
 use hook_order::EntryCall;
-use no_memory::NoMemory;
 use shadow_tables::ShadowTables;
 use std::alloc::Global;
 use trace_model::{Event, EventSink};
 use wasm_syntax::{Val, Vals};
 
-/// Tells that a function is entered with these values.
+/// Passes the event of a function that is entered with these values to the sink.
 fn tell_entry<S: EventSink>(
     alloc: Global,
     sink: &mut S,
@@ -35,7 +35,7 @@ fn tell_entry<S: EventSink>(
     sink.event(Event::Enter { func, args })
 }
 
-/// Tells that a call is over with these values, of which there is one at most.
+/// Passes the event of a call that ends with these values, at most one, to the sink.
 fn tell_post<S: EventSink>(sink: &mut S, values: &[Val]) -> Result<(), NoMemory>
     ensures { OnOk result (TookAlso S.has_taken sink.old sink.new (events.Post (slice_get values.now 0) ∷ [])) }
 {
@@ -45,7 +45,7 @@ fn tell_post<S: EventSink>(sink: &mut S, values: &[Val]) -> Result<(), NoMemory>
 }
 
 impl<S: EventSink> Recording<S> {
-    /// A value is told.
+    /// Takes a value that is passed for the next call.
     #[inline]
     pub(crate) fn arg(&mut self, args: &[Val], _view: &View) -> Result<bool, NoMemory>
         ensures ok { IfOk result (λ may. IsTaken S.has_taken (recording_of self.old)
@@ -60,7 +60,7 @@ impl<S: EventSink> Recording<S> {
         Ok(true)
     }
 
-    /// A function is entered.
+    /// Takes the entry into a function.
     #[inline]
     pub(crate) fn enter(&mut self, args: &[Val], view: &View) -> Result<bool, NoMemory>
         ensures ok { IfOk result (λ may. IsTaken S.has_taken (recording_of self.old)
@@ -77,7 +77,7 @@ impl<S: EventSink> Recording<S> {
         Ok(true)
     }
 
-    /// A function is left.
+    /// Takes the exit of a function.
     #[inline]
     pub(crate) fn leave(&mut self, args: &[Val], _view: &View) -> Result<bool, NoMemory>
         ensures ok { IfOk result (λ may. IsTaken S.has_taken (recording_of self.old)
@@ -93,7 +93,7 @@ impl<S: EventSink> Recording<S> {
         Ok(true)
     }
 
-    /// A call by a function's index begins.
+    /// Takes the beginning of a call by a function's index.
     #[inline]
     pub(crate) fn pre(&mut self, args: &[Val], _view: &View) -> Result<bool, NoMemory>
         ensures ok { IfOk result (λ may. IsTaken S.has_taken (recording_of self.old)
@@ -109,7 +109,7 @@ impl<S: EventSink> Recording<S> {
         Ok(true)
     }
 
-    /// It ends.
+    /// Takes the end of a call by a function's index.
     #[inline]
     pub(crate) fn post(&mut self, args: &[Val], view: &View) -> Result<bool, NoMemory>
         ensures ok { IfOk result (λ may. IsTaken S.has_taken (recording_of self.old)
@@ -126,7 +126,7 @@ impl<S: EventSink> Recording<S> {
         Ok(true)
     }
 
-    /// A call by the table begins.
+    /// Takes the beginning of a call by the table.
     #[inline]
     pub(crate) fn ipre(&mut self, args: &[Val], view: &View) -> Result<bool, NoMemory>
         ensures ok { IfOk result (λ may. IsTaken S.has_taken (recording_of self.old)
@@ -148,7 +148,7 @@ impl<S: EventSink> Recording<S> {
         Ok(true)
     }
 
-    /// It ends.
+    /// Takes the end of a call by the table.
     #[inline]
     pub(crate) fn ipost(&mut self, args: &[Val], view: &View) -> Result<bool, NoMemory>
         ensures ok { IfOk result (λ may. IsTaken S.has_taken (recording_of self.old)
@@ -166,10 +166,10 @@ impl<S: EventSink> Recording<S> {
     }
 }
 
-/// The module sees the entry that it calls.
+/// The module reads the entry that it calls.
 ///
 /// # Errors
-/// Where an allocation failed.
+/// `NoMemory` if an allocation failed.
 #[tactic(auto, using(crate::proofs::Callees::size_same, crate::proofs::Callees::below_after))]
 fn find_callee<S: EventSink>(
     tables: &mut ShadowTables,

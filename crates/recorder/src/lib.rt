@@ -1,4 +1,4 @@
-//! The recorder: from the calls of hooks that an instrumented module makes to the events of their log.
+//! The recorder: from the hook calls that an instrumented module makes to the events of their log.
 #![tactic(auto)]
 
 mod accesses;
@@ -10,6 +10,6 @@ mod recorder;
 mod recording;
 mod tables;
 
+pub use base::NoMemory;
 pub use laws::{logs_are_recorded, runs_are_recorded};
-pub use no_memory::NoMemory;
 pub use recorder::Recorder;

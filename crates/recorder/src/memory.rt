@@ -1,30 +1,30 @@
-// What the module sees of its memory and does to it.
+// How the module reads and writes its memory.
 
 ghost use Rattle.std.specs.Prelude.{◌≡◌, ℕ, ◌+◌, ◌%◌, ◌^◌, ◌≤◌, ◌∷◌, [], Some, None, IsTrue, OnOk, MatchOption, length, nat_eq, replicate};
 ghost use Rattle.trace_model.specs.Sink.{TookAlso};
 ghost use Rattle.trace_model.specs.declared.events.Event.TheVariants.{Grow as Grew, Seen};
 ghost use Rattle.history_spec.specs.Store.{Memory, bytes_at, bytes_of, pages, with_bytes_at};
 ghost use Rattle.wasm_store.specs.Calls.{pages_in};
-ghost use Rattle.replay_spec.specs.Observations as observed;
-ghost use Rattle.replay_spec.specs.Observations.{Copies, Reaches, Resizes, Writes, copy_observations, load_observations, store_observations};
-ghost use Rattle.hook_spec.specs.Hooks.{on};
-ghost use Rattle.hook_spec.specs.Logs.{unless};
-ghost use Rattle.hook_spec.specs.Order.{is_width};
+ghost use Rattle.record_replay_spec.specs.Observations as observed;
+ghost use Rattle.record_replay_spec.specs.Observations.{Copies, Reaches, Resizes, Writes, copy_observations, load_observations, store_observations};
+ghost use Rattle.record_replay_spec.specs.Hooks.{on};
+ghost use Rattle.record_replay_spec.specs.Logs.{unless};
+ghost use Rattle.record_replay_spec.specs.Order.{is_width};
 ghost use Rattle.recorder.specs.Known.{TellsOfMemory};
 
 use crate::bytes::{find_bytes, take_number, take_same};
+use base::NoMemory;
 use hook_names::View;
 use hook_order::Access;
-use no_memory::NoMemory;
 use shadow_memory::ShadowMemory;
 use std::alloc::Global;
 use trace_model::{Event, EventSink};
 use wasm_syntax::limits::PAGE_SIZE;
 
-/// The module sees the memory's size.
+/// The module reads the memory's size.
 ///
 /// # Errors
-/// Where an allocation failed.
+/// `NoMemory` if an allocation failed.
 fn see<S: EventSink>(memory: &mut ShadowMemory, sink: &mut S, found: u32) -> Result<(), NoMemory>
     ensures known { OnOk result (memory.new ≡ record memory.old { known = found; noticed = found }) }
     ensures told { OnOk result (TookAlso S.has_taken sink.old sink.new
@@ -38,10 +38,10 @@ fn see<S: EventSink>(memory: &mut ShadowMemory, sink: &mut S, found: u32) -> Res
     Ok(())
 }
 
-/// An access ends at an address, in a memory of so many pages.
+/// An access ends at an address, in a memory of this number of pages.
 ///
 /// # Errors
-/// Where an allocation failed.
+/// `NoMemory` if an allocation failed.
 #[inline]
 fn reach<S: EventSink>(
     memory: &mut ShadowMemory,
@@ -58,10 +58,10 @@ fn reach<S: EventSink>(
     Ok(())
 }
 
-/// The memory's size is noticed, and told where it is another than the one that was.
+/// Notices the memory's size, and passes its event to the sink if it is not the size noticed last.
 ///
 /// # Errors
-/// Where an allocation failed.
+/// `NoMemory` if an allocation failed.
 #[inline]
 pub(crate) fn notice<S: EventSink>(
     memory: &mut ShadowMemory,
@@ -80,7 +80,7 @@ pub(crate) fn notice<S: EventSink>(
     Ok(())
 }
 
-/// The bytes from an address on, as many as are counted; None where they are not all there.
+/// The bytes from an address on, in this number; `None` if they are not all in the memory.
 #[inline]
 fn range(bytes: &[u8], start: u128, count: u64) -> Option<&[u8]>
     requires { start ≤ 2 ^ 65 }
@@ -104,7 +104,7 @@ fn address_of(access: Access) -> u128
     u128::from(access.base) + u128::from(access.offset)
 }
 
-/// The address after the last of so many bytes.
+/// The address after the last of `count` bytes.
 #[inline]
 fn end_of(start: u64, count: u64) -> u128
     ensures { result ≡ start + count }
@@ -112,10 +112,10 @@ fn end_of(start: u64, count: u64) -> u128
     u128::from(start) + u128::from(count)
 }
 
-/// A load.
+/// Takes a load.
 ///
 /// # Errors
-/// Where an allocation failed.
+/// `NoMemory` if an allocation failed.
 #[tactic(auto, using(crate::proofs::Within::tells_nowhere))]
 #[inline]
 pub(crate) fn load<S: EventSink>(
@@ -141,10 +141,10 @@ pub(crate) fn load<S: EventSink>(
     find_bytes(alloc, memory, sink, start as u64, bytes)
 }
 
-/// A store.
+/// Takes a store.
 ///
 /// # Errors
-/// Where an allocation failed.
+/// `NoMemory` if an allocation failed.
 #[tactic(auto, using(crate::proofs::Within::tells_nowhere))]
 #[inline]
 pub(crate) fn store<S: EventSink>(
@@ -171,10 +171,10 @@ pub(crate) fn store<S: EventSink>(
     take_number(memory, start as u64, access.width, bits)
 }
 
-/// The memory's size is read, or was grown; what it found then makes no difference.
+/// Takes a read of the memory's size, or a growth, for which the size found makes no difference.
 ///
 /// # Errors
-/// Where an allocation failed.
+/// `NoMemory` if an allocation failed.
 pub(crate) fn resize<S: EventSink>(
     memory: &mut ShadowMemory,
     sink: &mut S,
@@ -189,10 +189,10 @@ pub(crate) fn resize<S: EventSink>(
     see(memory, sink, view.pages())
 }
 
-/// A copy, by its target, source and count.
+/// Takes a copy, by its target, source and count.
 ///
 /// # Errors
-/// Where an allocation failed.
+/// `NoMemory` if an allocation failed.
 #[tactic(auto, using(crate::proofs::Within::tells_nowhere))]
 pub(crate) fn copy<S: EventSink>(
     alloc: Global,
@@ -213,10 +213,10 @@ pub(crate) fn copy<S: EventSink>(
     copy_bytes(alloc, memory, sink, told, view.bytes())
 }
 
-/// What a copy reads and writes, where both are within these bytes.
+/// Takes what a copy reads and writes, if both ranges are within these bytes.
 ///
 /// # Errors
-/// Where an allocation failed.
+/// `NoMemory` if an allocation failed.
 #[tactic(auto, using(crate::proofs::Within::copies_nothing, crate::proofs::Within::copies_nowhere))]
 fn copy_bytes<S: EventSink>(
     alloc: Global,
@@ -242,10 +242,10 @@ fn copy_bytes<S: EventSink>(
     memory.take_run(to, part)
 }
 
-/// A fill, by its target, value and count.
+/// Takes a fill, by its target, value and count.
 ///
 /// # Errors
-/// Where an allocation failed.
+/// `NoMemory` if an allocation failed.
 #[tactic(auto, using(crate::proofs::Within::tells_nowhere))]
 pub(crate) fn fill<S: EventSink>(
     memory: &mut ShadowMemory,

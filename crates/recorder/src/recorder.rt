@@ -6,16 +6,15 @@ ghost use Rattle.history_spec.specs.Store.{Store};
 ghost use Rattle.history_spec.specs.Instantiation.{instantiate, table_length};
 ghost use Rattle.type_safety.specs.Stores.{func_count, global_types};
 ghost use Rattle.type_safety.specs.Values.{AreValues};
-ghost use Rattle.hook_spec.specs.Order.{order_start, shape_of};
-ghost use Rattle.hook_spec.specs.Logs.{log_start};
+ghost use Rattle.record_replay_spec.specs.Order.{order_start, shape_of};
+ghost use Rattle.record_replay_spec.specs.Logs.{log_start};
 ghost use Rattle.recorder.specs.Recorders.{StandsAt};
 
 use crate::recording::Recording;
+use base::{NoMemory, Outcome};
 use hook_names::{Hook, HookFault, Hooks, View};
 use hook_order::{Order, Shape};
 use host_script::Supply;
-use no_memory::NoMemory;
-use run_outcomes::Outcome;
 use shadow_memory::ShadowMemory;
 use shadow_tables::ShadowTables;
 use std::alloc::Global;
@@ -24,7 +23,7 @@ use trace_model::{EventSink, Events, Log};
 use wasm_syntax::Val;
 use wasm_validate::Checked;
 
-/// Takes the calls of hooks that a module in the hooked form makes, and gives a sink the events of their log.
+/// Takes the hook calls of a module in the hooked form, and passes the events of their log to a sink.
 #[derive(Drop)]
 pub struct Recorder<S> {
     recording: Recording<S>,
@@ -46,11 +45,11 @@ impl<S> Model for Recorder<S> {
 }
 
 impl<S: EventSink + Drop> Recorder<S> {
-    /// Before any call of a module in the hooked form, whose original imports so many functions. The module links with
-    /// the supply, and its globals are well typed then. The sink has taken no event.
+    /// A recorder before any call of a module in the hooked form, whose original imports `imports` functions.
+    /// The module links with the supply, and its globals are well typed then. The sink has taken no event.
     ///
     /// # Errors
-    /// Where an allocation failed.
+    /// `NoMemory` if an allocation failed.
     pub fn into_sink(
         alloc: Global,
         checked: &Checked,
@@ -93,10 +92,10 @@ impl<S: EventSink + Drop> Recorder<S> {
 }
 
 impl Recorder<Events> {
-    /// The same, with a list of events as the sink.
+    /// A recorder before any call, with a list of events as its sink.
     ///
     /// # Errors
-    /// Where an allocation failed.
+    /// `NoMemory` if an allocation failed.
     pub fn new(
         alloc: Global,
         checked: &Checked,
@@ -132,10 +131,10 @@ impl Recorder<Events> {
 }
 
 impl<S> Recorder<S> {
-    /// One more call is taken.
+    /// Counts one more call.
     ///
     /// # Errors
-    /// Where there are more calls than 64 bits count, which is no number that memory or time can hold.
+    /// `Memory` if there are more calls than 64 bits count, a number that neither memory nor time allows.
     fn count(&mut self) -> Result<(), HookFault>
         ensures ok { OnOk result (self.new ≡ record self.old { calls = self.old.calls + 1 }) }
         ensures err { OnErr result (self.new ≡ record self.old { broken = true }) }

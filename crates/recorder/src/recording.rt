@@ -1,17 +1,18 @@
-// Hook calls one after another: each is looked at by the order, and what it observes is told.
+// Hook calls one after another: the order checks each call, and the sink takes the events of what the call
+// observes.
 
 ghost use Rattle.recorder.specs.Known.{HaveTypes};
 
+use base::NoMemory;
 use hook_names::{Hook, View};
 use hook_order::Order;
-use no_memory::NoMemory;
 use shadow_memory::ShadowMemory;
 use shadow_tables::ShadowTables;
 use std::alloc::Global;
 use trace_model::EventSink;
 use wasm_syntax::Val;
 
-/// Where the calls stand, what is known, and the sink of the events.
+/// The state of the order of calls, what is known of the store, and the sink of the events.
 #[derive(Drop)]
 pub(crate) struct Recording<S> {
     pub(crate) order: Order,
@@ -26,10 +27,10 @@ impl<S: EventSink> Recording<S> {
     ghost use Rattle.std.specs.Prelude.{IfOk, IsSome, OnErr};
     ghost use Rattle.recorder.specs.Recordings.{order_after, recording_of, IsTaken};
 
-    /// Takes a call. Answers whether it is in order; nothing changes where it is not.
+    /// Takes a call. Returns whether it is in order; if it is not, nothing changes.
     ///
     /// # Errors
-    /// Where an allocation failed.
+    /// `NoMemory` if an allocation failed.
     pub(crate) fn take(&mut self, kind: Hook, args: &[Val], view: &View) -> Result<bool, NoMemory>
         ensures ok { IfOk result (λ may. IsTaken S.has_taken (recording_of self.old)
             (record { kind = kind; args = args.now; view = view.now }) may (recording_of self.new)) }

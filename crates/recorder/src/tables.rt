@@ -1,20 +1,20 @@
-// What the module sees of its table and its globals and does to globals.
+// How the module reads its table and its globals, and writes globals.
 
 ghost use Rattle.std.specs.Prelude.{◌≡◌, ℕ, ◌≤◌, ◌<◌, ◌∷◌, [], Some, OnOk, length, map, nat_eq, option_map, option_and_then, slice_get};
-ghost use Rattle.hook_spec.specs.Hooks.{original};
-ghost use Rattle.replay_spec.specs.Observations.{ReachesEntry, ReadsEntry, ReadsGlobal};
-ghost use Rattle.replay_spec.specs.Known.{entries_after};
-ghost use Rattle.hook_spec.specs.Logs.{unless};
+ghost use Rattle.record_replay_spec.specs.Hooks.{original};
+ghost use Rattle.record_replay_spec.specs.Observations.{ReachesEntry, ReadsEntry, ReadsGlobal};
+ghost use Rattle.record_replay_spec.specs.Known.{entries_after};
+ghost use Rattle.record_replay_spec.specs.Logs.{unless};
 ghost use Rattle.trace_model.specs.Sink.{TookAlso};
 ghost use Rattle.trace_model.specs.declared.events.Event.TheVariants.{Table as FoundTable};
 ghost use Rattle.recorder.specs.Known.{TellsOfTables};
 
-use no_memory::NoMemory;
+use base::NoMemory;
 use shadow_tables::ShadowTables;
 use trace_model::{Event, EventSink};
 use wasm_syntax::Val;
 
-/// Tells the table's size, where it is another than the known one.
+/// Passes the event of the table's size to the sink, if it is not the known size.
 fn tell_size<S: EventSink>(sink: &mut S, known: u32, found: u32) -> Result<(), NoMemory>
     ensures { OnOk result (TookAlso S.has_taken sink.old sink.new (unless (nat_eq found known) (FoundTable found))) }
 {
@@ -24,10 +24,10 @@ fn tell_size<S: EventSink>(sink: &mut S, known: u32, found: u32) -> Result<(), N
     Ok(())
 }
 
-/// An access reaches an entry, in a table of so many, which are not fewer than known.
+/// An access reaches an entry, in a table of `found` entries, which are at least the known ones.
 ///
 /// # Errors
-/// Where an allocation failed.
+/// `NoMemory` if an allocation failed.
 #[tactic(auto, using(crate::proofs::Entries::reaches_known, crate::proofs::Entries::reaches_past))]
 #[inline]
 pub(crate) fn reach_entry<S: EventSink>(
@@ -51,11 +51,11 @@ pub(crate) fn reach_entry<S: EventSink>(
     tables.set_known_size(found)
 }
 
-/// An entry within the table is read, which holds a function or none; `callee` is that function in the original, where
-/// it is there.
+/// An entry within the table is read, which holds a function or is empty; `callee` is the index of that function
+/// in the original, if it has one.
 ///
 /// # Errors
-/// Where an allocation failed.
+/// `NoMemory` if an allocation failed.
 #[tactic(auto, using(crate::proofs::Entries::finds_entry))]
 #[inline]
 pub(crate) fn find_entry<S: EventSink>(
@@ -81,10 +81,10 @@ pub(crate) fn find_entry<S: EventSink>(
     Ok(())
 }
 
-/// A global is read, of which a value of the same type is known.
+/// A global is read, for which a value of the same type is known.
 ///
 /// # Errors
-/// Where an allocation failed.
+/// `NoMemory` if an allocation failed.
 #[tactic(auto, using(crate::proofs::Entries::finds_global, crate::proofs::Entries::knows_global, crate::proofs::Entries::is_below))]
 #[inline]
 pub(crate) fn find_global<S: EventSink>(

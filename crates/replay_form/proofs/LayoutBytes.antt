@@ -1,4 +1,4 @@
--- The two numbers of a layout are read in one way.
+-- The two numbers of a layout have one reading.
 use Rattle.std.proofs.Common.{◌≡◌, ℕ, ◌+◌, ◌<◌, ◌≤◌, ◌^◌, List, [], ◌∷◌, ◌++◌, length, drop, Option, Some, None, sym, ◌∙◌, ap, subst, arith}
 use Rattle.std.proofs.lemmas.List.{append-nil}
 use Rattle.leb_bytes.specs.Encoding.{IsEncoding}
@@ -10,7 +10,7 @@ use Rattle.history_spec.specs.Projection.{Layout}
 use Rattle.replay_form.specs.Forms.{AreLayoutBytes, HasLayout, layout_sections}
 use Rattle.replay_form.specs.Laws.{LayoutBytesAreOne}
 
--- what is read of a number, and what follows it
+-- a number that is read, and the bytes after it
 abbrev Read : Type 0
 Read = Option (ℕ × List ℕ)
 
@@ -35,13 +35,13 @@ same-section : (l : List Custom) (a b : Custom) → l ≡ a ∷ [] → l ≡ b �
 same-section l a b e f = cc (sym e ∙ f)
 
 module _ (encoding : IsEncoding EncodesU32 first_u32 (λ n. n < 2 ^ 32) u32_bytes) where
-  -- the first number is at the front
+  -- the bytes begin with the first number
   first_read : (bytes : List ℕ) (layout : Layout) → AreLayoutBytes bytes layout → first_u32 bytes ≡ Some (layout.imports, u32_bytes layout.defined)
   first_read bytes layout h =
       ap first_u32 h.written
       ∙ encoding.read.only (u32_bytes layout.imports) (u32_bytes layout.defined) layout.imports (encoding.shortest.encodes layout.imports h.small_imports)
 
-  -- the second is all that follows
+  -- the second number is all that follows
   second_read : (defined : ℕ) → defined < 2 ^ 32 → first_u32 (u32_bytes defined) ≡ Some (defined, [])
   second_read defined small =
       ap first_u32 (sym (append-nil (u32_bytes defined))) ∙ encoding.read.only (u32_bytes defined) [] defined (encoding.shortest.encodes defined small)
@@ -90,7 +90,7 @@ module _ (encoding : IsEncoding EncodesU32 first_u32 (λ n. n < 2 ^ 32) u32_byte
       let same : x.section ≡ y.section = same-section (layout_sections m) x.section y.section x.only y.only in
       bytes-one y.section.bytes a b (subst (λ (section : Custom). AreLayoutBytes section.bytes a) same x.bytes) y.bytes
 
--- a layout of more functions than there are is told by no module
+-- no module declares a layout of more functions than it has
 pub too-many : (one : LayoutBytesAreOne) (m : Module) (section : Custom) (own layout : Layout) → layout_sections m ≡ section ∷ []
     → AreLayoutBytes section.bytes own → length (func_indices m) < own.imports + own.defined → HasLayout m layout → ⊥
 too-many one m section own layout only bytes many h =

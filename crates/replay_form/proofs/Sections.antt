@@ -1,4 +1,4 @@
--- That an item passes a test beside an earlier one.
+-- An item passes a test after an earlier one that passes.
 use Rattle.std.proofs.Common.{◌≡◌, ℕ, ◌<◌, List, [], ◌∷◌, ◌++◌, length, Option, Some, None, get_or, suc, take, drop, Bool, true, cond, refl, sym, ◌∙◌, ap, drop-cons}
 use Rattle.std.specs.Borrow.{Bor}
 use Rattle.std.specs.Prelude.{filter, is_some}
@@ -6,7 +6,7 @@ use Rattle.std.specs.Option.{option_copied, option_to_list}
 use Rattle.std.proofs.lemmas.List.{take-append-drop}
 use Rattle.std.proofs.lemmas.List.Elements.{filter-append}
 
--- where there is a reference, it shows something
+-- the list of an option with a reference has one item
 pub shown : {X : Type 0} (o : Option (Bor X)) → is_some o ≡ true → (x : X) × (option_to_list (option_copied o) ≡ x ∷ [])
 shown None e = absurd (cc e)
 shown (Some x) e = (x.now, refl)
@@ -15,7 +15,7 @@ module _ {X : Type 0} (test : X → Bool) where
   kept : (x : X) (later : List X) → test x ≡ true → filter test (x ∷ later) ≡ x ∷ filter test later
   kept x later passes = ap (λ b. cond b (x ∷ filter test later) (filter test later)) passes
 
-  -- where one of the first items passes, and so does the next, no item passes alone
+  -- if one of the first items passes and the next item passes, no item is the only one that passes
   pub not_alone : (xs : List X) (i : ℕ) (d first one : X) → i < length xs → filter test (take i xs) ≡ first ∷ []
       → test (get_or xs i d) ≡ true → filter test xs ≡ one ∷ [] → ⊥
   not_alone xs i d first one within before passes alone =

@@ -7,7 +7,7 @@ ghost use Rattle.replay_form.specs.Forms.{HasEntry};
 use module_index::scope::Scope;
 use wasm_syntax::{ExportKind, FuncType, Module};
 
-/// The function of the one export, where that is named `_start`.
+/// The function of the only export, if its name is `_start`.
 fn exported_function(module: &Module) -> Option<u32>
     ensures { result ≡ entry_function «module».now }
 {
@@ -23,15 +23,15 @@ fn exported_function(module: &Module) -> Option<u32>
     }
 }
 
-/// A type of functions that take nothing and give nothing.
+/// Whether a function type has no parameters and no results.
 fn is_empty_type(ty: &FuncType) -> bool
     ensures { IsTrue result ↔ ty.now ≡ record { params = []; results = [] } }
 {
     ty.params.as_slice().is_empty() && ty.results.as_slice().is_empty()
 }
 
-/// The function that the run of a replay module calls: that of its one export, which is named `_start`, where it
-/// takes nothing and gives nothing.
+/// The function that the run of a replay module calls: that of its only export, if its name is `_start` and it
+/// has no parameters and results.
 pub fn entry_of(scope: &Scope) -> Option<u32>
     ensures found { IfSome result (λ entry. HasEntry scope.now entry) }
     ensures absent { IfNone result ((entry : ℕ) → HasEntry scope.now entry → ⊥) }

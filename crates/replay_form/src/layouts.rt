@@ -1,4 +1,4 @@
-// The layout that a replay module tells, and the sides of its functions.
+// The layout that a replay module declares, and the sides of its functions.
 
 ghost use Rattle.std.specs.Prelude.{◌≡◌, ℕ, ◌+◌, ◌<◌, ◌^◌, [], ◌∷◌, length, IfOk, IfSome, IfNone};
 ghost use Rattle.wasm_syntax.specs.Index.{func_indices};
@@ -8,19 +8,19 @@ ghost use Rattle.replay_form.specs.Forms.{AreLayoutBytes, HasLayout, layout_sect
 ghost use Rattle.replay_form.specs.Sides.{as_layout, side_of};
 
 use crate::laws::layouts_are_one;
+use base::NoMemory;
 use leb_bytes::{push_u32, read_u32, u32_encoding};
-use no_memory::NoMemory;
 use std::alloc::Global;
 use wasm_syntax::{Custom, Module};
 
-/// How many functions the original imports, and how many it defines.
+/// The number of functions that the original imports, and the number that it defines.
 #[derive(Clone, Copy)]
 pub struct Layout {
     pub imports: u32,
     pub defined: u32,
 }
 
-/// What a function is: the body that stands for an import, an original, or one that is appended.
+/// What a function is: the body in place of an import, an original, or an appended function.
 #[derive(Clone, Copy, PartialEq, Eq)]
 pub enum Side {
     Import,
@@ -43,7 +43,7 @@ impl Layout {
     }
 }
 
-/// The one custom section with the layout's name.
+/// The only custom section with the layout's name.
 fn layout_section(module: &Module) -> Option<&Custom>
     ensures found { IfSome result (λ section. layout_sections «module».now ≡ section.now ∷ []) }
     ensures absent { IfNone result
@@ -61,7 +61,7 @@ fn layout_section(module: &Module) -> Option<&Custom>
     found
 }
 
-/// Two numbers, where bytes are these two in shortest form and nothing else.
+/// The two numbers, if the bytes are their shortest encodings and nothing else.
 fn numbers_in(alloc: Global, bytes: &[u8]) -> Result<Option<Layout>, NoMemory>
     ensures found { IfOk result (λ found. IfSome found (λ layout. AreLayoutBytes bytes.now (as_layout layout))) }
     ensures absent { IfOk result (λ found. IfNone found
@@ -84,12 +84,13 @@ fn numbers_in(alloc: Global, bytes: &[u8]) -> Result<Option<Layout>, NoMemory>
     }
 }
 
-/// The layout that a module with so many functions tells, imported functions among them: the two numbers of its one
-/// custom section `r3.layout`, each in shortest form, and nothing else stands there. There are as many functions.
+/// The layout that a module with `funcs` functions declares, imported functions among them: the two numbers in
+/// its only custom section `r3.layout`, each in its shortest encoding, and nothing else. The module has at least
+/// their sum of functions.
 ///
 /// # Errors
 ///
-/// Where memory is out.
+/// `NoMemory` if memory is out.
 pub fn layout_of(alloc: Global, module: &Module, funcs: usize) -> Result<Option<Layout>, NoMemory>
     requires { funcs ≡ length (func_indices «module».now) }
     ensures found { IfOk result (λ found. IfSome found (λ layout. HasLayout «module».now (as_layout layout))) }

@@ -1,4 +1,4 @@
-//! What a replay module tells of its original, and the function that it exports.
+//! What a replay module declares of its original, and the function that it exports.
 #![tactic(auto)]
 
 mod entry_functions;

@@ -1,1 +1,4 @@
-pub mod Widths
+mod Widths
+mod Blocks
+mod Groups
+mod Marks

@@ -1,5 +1,2 @@
-pub mod Effects
-pub mod Segments
-pub mod Dispatch
-pub mod Functions
-pub mod Fragments
+pub mod Pieces
+pub mod Bounds

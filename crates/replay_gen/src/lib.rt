@@ -1,9 +1,17 @@
-//! The generated part of a replay module of any module: functions that do what a plan has the host do. `Functions` and
-//! `Fragments` in specs define it, and `fragment_maker` makes it.
+//! The generated part of a replay module, made of a plan.
 #![tactic(auto)]
 
-pub mod fragments;
-pub mod groups;
+mod bodies;
+mod dispatch;
+mod effects;
+mod fragments;
+mod funcs;
+mod imports;
+mod parts;
+mod references;
+mod segments;
+mod stores;
 
-pub use fragments::Fragment;
-pub use groups::GROUP_CALLS;
+pub use base::NoMemory;
+pub use fragments::generate;
+pub use replay_module_spec::Fragment;

@@ -1,19 +1,19 @@
 -- The tape of a run's log is the one that the run needs.
 use Rattle.std.proofs.Common.{◌≡◌, ℕ, Option, Some, None, Result, Ok, Err, IfOk, sym, subst}
-use Rattle.run_outcomes.specs.declared.outcomes.Outcome.{Outcome}
+use Rattle.base.specs.declared.outcomes.Outcome.{Outcome}
 use Rattle.trace_model.specs.Balance.{first_unbalanced}
 use Rattle.trace_model.specs.declared.events.Log.{Log}
 use Rattle.trace_model.specs.declared.tapes.Tape.{Tape}
-use Rattle.hook_spec.specs.LogTapes.{IsLogTape}
+use Rattle.record_replay_spec.specs.LogTapes.{IsLogTape}
 use Rattle.trace_reduce.specs.Answers.{IsAnswer, IsReduction}
 use Rattle.trace_reduce.specs.declared.faults.ReduceFault.{ReduceFault}
 use Rattle.trace_reduce.specs.declared.faults.ReduceFault.TheVariants as faults
 use Rattle.trace_reduce.specs.declared.faults.ReducerFault.{ReducerFault}
 use Rattle.trace_reduce.specs.declared.faults.ReducerFault.TheVariants.{Unbalanced}
 use Rattle.history_spec.specs.Run.{all_one, program_of, start_in_store, run_from}
-use Rattle.tape_follows.specs.NeededTape.{IsOneNeededTape, RunsHaveOneNeededTape}
-use Rattle.calls_follow.specs.Laws.{OriginalRun}
-use Rattle.logs_follow.specs.Laws.{LogsAreBalanced, LogsGiveNeededTapes}
+use Rattle.tape_laws.specs.NeededTape.{IsOneNeededTape, RunsHaveOneNeededTape}
+use Rattle.tape_laws.specs.CallLaws.{OriginalRun}
+use Rattle.tape_laws.specs.LogLaws.{LogsAreBalanced, LogsGiveNeededTapes}
 use Rattle.replay_laws.specs.Tapes.{HasLog, IsTapeOfRuns}
 
 same_log : (o : Result Log ℕ) (a b : Log) → o ≡ Ok a → o ≡ Ok b → a ≡ b

@@ -1,27 +1,28 @@
--- What the run of the replay module of a tape is to the run of the tape.
+-- The run of the replay module of a tape, compared with the run of the tape.
 use Rattle.std.specs.Prelude.{◌≡◌, ℕ, Ok}
 use Rattle.wasm_syntax.specs.declared.modules.Module.{Module}
 use Rattle.wasm_syntax.specs.Index.{imported_funcs}
 use Rattle.host_script.specs.declared.scripts.Supply.{Supply}
-use Rattle.run_outcomes.specs.declared.outcomes.Outcome.{Outcome}
+use Rattle.base.specs.declared.outcomes.Outcome.{Outcome}
 use Rattle.trace_model.specs.declared.tapes.Tape.{Tape}
 use Rattle.history_spec.specs.Store.{Store}
 use Rattle.history_spec.specs.Code.{code_of}
 use Rattle.history_spec.specs.Step.{StepResult}
 use Rattle.history_spec.specs.Replay.{Replays, run_start_alone}
-use Rattle.replay_spec.specs.TapeRun.{Over, tape_run}
-use Rattle.replay_plan.specs.Plans.{plan_of}
-use Rattle.replay_gen.specs.Fragments.{start_index}
-use Rattle.outside_spec.specs.Stretches.{stretches}
-use Rattle.outside_spec.specs.Steps.{AreWithinBound, call_steps}
-use Rattle.module_merge.specs.Merge.{layout_of}
-use Rattle.binary_follows.specs.Playable.{GrowsAlways, IsPlayable, replay_of, shown_run}
-use Rattle.binary_follows.specs.Laws.{AreBothOver, AreEffectsOfFirst, ShowsHistory}
+use Rattle.record_replay_spec.specs.TapeRun.{Over, tape_run}
+use Rattle.replay_module_spec.specs.Plans.{plan_of}
+use Rattle.replay_module_spec.specs.Fragments.{start_index}
+use Rattle.replay_run_spec.specs.Stretches.{stretches}
+use Rattle.replay_run_spec.specs.Steps.{AreWithinBound, call_steps}
+use Rattle.replay_module_spec.specs.Merge.{layout_of}
+use Rattle.generated_code_laws.specs.Playable.{GrowsAlways, IsPlayable, replay_of, shown_run}
+use Rattle.generated_code_laws.specs.Laws.{AreBothOver, AreEffectsOfFirst, ShowsHistory}
 
--- It is instantiated without a fault. It shows each history that the tape's run comes to, where this disagrees in the
--- end those before that; and where the tape's run has an outcome, just that history and that outcome. Once both are
--- over, what functions outside the original changed is, stretch by stretch, the effects of the tape's first segments,
--- where no effect gives a size that is there already; and each call of an import took no more steps than its bound.
+-- The replay module of a tape is instantiated without a fault. It shows each history of the tape's run, or the
+-- histories before if that run disagrees at last; and if the tape's run has an outcome, exactly its history and
+-- outcome. Once both runs are over, the changes of functions outside the original are the effects of the tape's first
+-- segments, one stretch for each segment, if each effect that gives a size gives a greater one; and each call of an
+-- import took at most as many steps as its bound.
 pub record FollowsTape (m : Module) (supply : Supply) (store : Store) (tape : Tape) : Type 0 where
   pub begins : (initial : StepResult) × (run_start_alone (replay_of m supply tape) (start_index m) ≡ Ok initial)
   pub histories : (initial : StepResult) (k : ℕ)
@@ -37,7 +38,7 @@ pub record FollowsTape (m : Module) (supply : Supply) (store : Store) (tape : Ta
       → AreWithinBound (plan_of (imported_funcs m) tape).imports
       (call_steps (imported_funcs m) (shown_run m (replay_of m supply tape) initial count))
 
--- so it is of each tape that a replay module can be made of
+-- the replay module follows the tape, for each tape from which a replay module can be made
 abbrev pub ReplayModulesFollowTapes : Type 0
 ReplayModulesFollowTapes =
     (m : Module) (supply : Supply) (store : Store) (tape : Tape) → IsPlayable m supply store tape

@@ -5,29 +5,29 @@ ghost use Rattle.wasm_syntax.specs.Index.{imported_funcs};
 ghost use Rattle.history_spec.specs.Store.{Store};
 ghost use Rattle.type_safety.specs.Supplies.{IsSupply};
 ghost use Rattle.trace_model.specs.Fitting.{IsFitting};
-ghost use Rattle.replay_plan.specs.Plans.{plan_of};
-ghost use Rattle.replay_modules.specs.Written.{IsConstantTape};
-ghost use Rattle.fragment_maker.specs.Bounds.{FitsIndices};
-ghost use Rattle.binary_follows.specs.Playable.{IsPlayable, replay_of};
+ghost use Rattle.replay_module_spec.specs.Plans.{plan_of};
+ghost use Rattle.replay_module_laws.specs.Written.{IsConstantTape};
+ghost use Rattle.replay_gen.specs.Bounds.{FitsIndices};
+ghost use Rattle.generated_code_laws.specs.Playable.{IsPlayable, replay_of};
 ghost use Rattle.replay_laws.specs.Follows.{FollowsTape};
 
 use crate::laws::replay_modules_follow_tapes;
-use fragment_maker::generate;
+use base::NoMemory;
 use host_script::Supply;
-use module_merger::merge;
-use no_memory::NoMemory;
-use plan_maker::plan;
+use module_merge::merge;
+use replay_gen::generate;
+use replay_plan::plan;
 use std::alloc::Global;
 use trace_model::Tape;
 use wasm_validate::Checked;
 
-/// The replay module of a tape, for a module and what is supplied for its imports. The tape fits the module, its values
-/// are constants, and all that is generated has indices of 32 bits. Where the module begins with a store, and the tape
+/// The replay module of a tape, for a module and a supply for its imports. The tape fits the module, its values
+/// are constants, and all indices of the generated parts have 32 bits. If the module begins with a store, and the tape
 /// weighs at most 2,000,000, the run of the replay module follows that of the tape from this store.
 ///
 /// # Errors
 ///
-/// Where memory is out.
+/// If an allocation failed.
 pub fn build_binary(
     alloc: Global,
     module: Checked,
@@ -46,7 +46,7 @@ pub fn build_binary(
     merged_binary(alloc, module, supply, tape)
 }
 
-/// The same, by the plan of the tape and what is generated of it.
+/// The replay module of a tape, from its plan and generated parts.
 fn merged_binary(
     alloc: Global,
     module: Checked,

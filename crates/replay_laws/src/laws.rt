@@ -3,11 +3,11 @@
 ghost use Rattle.replay_laws.specs.Follows.{ReplayModulesFollowTapes};
 ghost use Rattle.replay_laws.specs.Stands.{ReplayModulesOfTapesStand};
 
-use binary_follows::{replays_are_within_bound, replays_begin, replays_show_runs};
-use replay_modules::replay_modules_stand;
+use generated_code_laws::{replays_are_within_bound, replays_begin, replays_show_runs};
+use replay_module_laws::replay_modules_stand;
 
-/// The replay module of a tape that fits shows each history that the tape's run comes to, and its outcome, makes just
-/// the tape's effects, and takes no more steps for that than the bound allows.
+/// The replay module of a tape that fits shows each history of the tape's run, and its outcome, makes exactly the
+/// tape's effects, and takes at most as many steps for that as the bound allows.
 pub fn replay_modules_follow_tapes()
     ensures { ReplayModulesFollowTapes }
 {

@@ -1,7 +1,9 @@
-//! The plan of a replay: what a tape has its host do, by the activations in which the host does it.
+//! The plan of a replay, made from a tape, whose segments are moved into it.
 #![tactic(auto)]
 
-pub mod plans;
+mod plans;
+mod prepended;
 
-pub use plans::{Calls, Plan};
-pub use trace_model::{Segment, Segments};
+pub use base::NoMemory;
+pub use plans::plan;
+pub use replay_module_spec::{Calls, Plan};

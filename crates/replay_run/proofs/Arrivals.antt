@@ -1,4 +1,4 @@
--- Where the machine comes to, as a call by the host stands.
+-- Where the machine arrives, and where a call by the host is then.
 use Rattle.std.proofs.Common.{◌≡◌, ◌≢◌, ℕ, ◌<◌, List, [], ◌∷◌, ◌++◌, refl, sym, ap, ◌∙◌, subst, arith, ◌⊎◌, inl, inr}
 use Rattle.std.specs.Prelude.{Option, Some, None}
 use Rattle.std.proofs.lemmas.List.{append-nil}
@@ -8,7 +8,7 @@ use Rattle.wasm_syntax.specs.Nest.{Empty, InBlock, InIf, InIfElse, InLoop, Nest,
 use Rattle.wasm_syntax.specs.declared.values.Val.{Val}
 use Rattle.host_script.specs.declared.scripts.Action.{Action}
 use Rattle.host_script.specs.declared.scripts.ResponseEnd.TheVariants.{Trap}
-use Rattle.run_outcomes.specs.declared.outcomes.Outcome.TheVariants.{Trapped as ByTrap}
+use Rattle.base.specs.declared.outcomes.Outcome.TheVariants.{Trapped as ByTrap}
 use Rattle.history_spec.specs.declared.entries.Entry.{Entry}
 use Rattle.history_spec.specs.Store.{Store}
 use Rattle.history_spec.specs.Configuration.{Activation, Frame, InModule, Label, leave, point, with_results}
@@ -57,10 +57,10 @@ pub going_settles : (frame : Frame) (below : List Activation) → IsGoing frame.
 going_settles frame below going =
     ap (λ f. return_from (at_end f) f below (deliver below)) (unchanged frame going) ∙ ap (λ e. return_from e frame below (deliver below)) (going_within frame.at.rest frame going)
 
--- ---- where the machine comes to
+-- ---- where the machine arrives
 
 module _ (m : Module) (heights : Heights) (actions : List Action) (outside : List Activation) (is_run : IsRun m heights (program_alone m) []) (called : outside ≡ host actions) (entries : List Entry) (machine : State) (s : StepResult) where
-  -- a module without imports calls none
+  -- a module without imports calls no import
   pub own_pause : (where_to : Option Pause) → Comes m heights (program_alone m) outside [] where_to entries machine s → IsOwnPause where_to
   own_pause None comes = tt
   own_pause (Some (pause.Import index)) comes =
@@ -72,7 +72,7 @@ module _ (m : Module) (heights : Heights) (actions : List Action) (outside : Lis
   own_pause (Some pause.Trapped) comes = tt
   own_pause (Some pause.Spent) comes = absurd comes
 
-  -- without a trap: the entries are the step's, and the call stands so after every history that has none
+  -- without a trap: the entries are the step's, and the call is at its place after every history without a trap
   pub arrives_on : (shown : ShownLines) (where_to : Option Pause) → IsReturnPause where_to → Comes m heights (program_alone m) outside [] where_to entries machine s
       → (s.entries ≡ entries) × ((history told : List Entry) → AreNoTraps history → GoesOn m heights actions (stand_of shown.layout where_to told) shown history machine s.next)
   arrives_on shown None own comes = (
@@ -91,7 +91,7 @@ module _ (m : Module) (heights : Heights) (actions : List Action) (outside : Lis
   arrives_on shown (Some (pause.Import index)) own comes = absurd own
   arrives_on shown (Some pause.Spent) own comes = absurd own
 
-  -- a step that does not end by a trap has none
+  -- a step that does not end by a trap has no trap
   untrapped : (where_to : Option Pause) → IsReturnPause where_to → Comes m heights (program_alone m) outside [] where_to entries machine s → s.next ≢ Finished ByTrap
   untrapped None own comes trapped = let bad : Running (config_of machine (InModule comes.frame ∷ comes.below) []) ≡ Finished ByTrap = sym (ap (λ (r : StepResult). r.next) comes.same) ∙ trapped in cc
   untrapped (Some pause.Returned) own comes trapped =
@@ -105,7 +105,7 @@ module _ (m : Module) (heights : Heights) (actions : List Action) (outside : Lis
   no_traps where_to own comes (inl none) = none
   no_traps where_to own comes (inr trapped) = absurd (untrapped where_to own comes trapped)
 
-  -- of a step: the entries are the step's, and the call stands so
+  -- for a step: the entries are the step's, and the call is at its place
   pub arrives : (shown : ShownLines) (where_to : Option Pause) → Comes m heights (program_alone m) outside [] where_to entries machine s → AreNoTraps s.entries ⊎ (s.next ≡ Finished ByTrap)
       → (s.entries ≡ entries) × GoesOn m heights actions (stand_of shown.layout where_to entries) shown s.entries machine s.next
   arrives shown None comes traps = let a = arrives_on shown None tt comes in (a.0, a.1 s.entries entries (no_traps None tt comes traps))

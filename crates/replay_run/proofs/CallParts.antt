@@ -18,8 +18,8 @@ use Rattle.type_safety.specs.Heights.{Heights}
 use Rattle.type_safety.specs.Stores.{func_count}
 use Rattle.type_safety.specs.Values.{AreValues}
 use Rattle.flat_steps.specs.Follows.{outside_of}
-use Rattle.outside_spec.specs.Inside.{args_after_all}
-use Rattle.outside_spec.specs.Laws.{ProjectionsRunAlong}
+use Rattle.replay_run_spec.specs.Inside.{args_after_all}
+use Rattle.replay_run_spec.specs.Laws.{ProjectionsRunAlong}
 use Rattle.host_play.proofs.Joins.{run_of}
 use Rattle.shown_lines.specs.ShownLines.{AreNoTraps, IsNoTrap, IsReturn, SetArguments, ShownLines, Shows}
 use Rattle.wasm_interp.specs.Calls.{Comes, Enters, InvokesRun, SettlesRun, TurnIsStep, WalksRun, config_of}

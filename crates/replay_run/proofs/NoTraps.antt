@@ -1,4 +1,4 @@
--- A trap is the last of a run: no other step has the entry of one.
+-- A trap is the last entry of a run: no other step has a trap's entry.
 use Rattle.std.proofs.Common.{◌≡◌, ℕ, List, [], ◌∷◌, refl, ◌⊎◌, inl, inr}
 use Rattle.std.specs.Prelude.{Bool, Option, Some, None, nat_lt, true, false}
 use Rattle.std.specs.Option.{option_to_list}
@@ -7,7 +7,7 @@ use Rattle.wasm_syntax.specs.declared.values.Val.{Val}
 use Rattle.wasm_syntax.specs.declared.signatures.FuncType.{FuncType}
 use Rattle.host_script.specs.declared.scripts.Response.{Response}
 use Rattle.host_script.specs.declared.scripts.ResponseEnd.TheVariants as by
-use Rattle.run_outcomes.specs.declared.outcomes.Outcome.TheVariants.{Trapped as ByTrap}
+use Rattle.base.specs.declared.outcomes.Outcome.TheVariants.{Trapped as ByTrap}
 use Rattle.history_spec.specs.declared.entries.Entry.TheVariants.{Enter, HostTrap, ImportCall, ImportReturn, Step}
 use Rattle.history_spec.specs.Store.{Store}
 use Rattle.history_spec.specs.Code.{Code, Definition, definition, signature}
@@ -73,14 +73,14 @@ control_none program config frame below (Calls waiting func args) = call_none pr
 control_none program config frame below (Returns results) =
     All-cons IsNoTrap (return_entry frame.func results below) (deliver below results).entries (return_entry_none frame.func results below) (deliver_none below results)
 
--- it has no trap, or ends the run by it
+-- an instruction has no trap, or ends the run by it
 pub step_none : (program : Program) (config : Config) (frame : Frame) (below : List Activation) (exec : Execution) → AreNoTraps (after_instruction program config frame below exec).entries ⊎ ((after_instruction program config frame below exec).next ≡ Finished ByTrap)
 step_none program config frame below (Did operands results found effect) =
     inl (All-cons IsNoTrap (Step frame.func frame.at.number operands results found) (after_control program config frame below effect).entries tt (control_none program config frame below effect))
 step_none program config frame below (Traps kind operands found) = inr refl
 step_none program config frame below NoRule = inl none
 
--- its entries set the latest call's arguments
+-- the entries of an instruction set the latest call's arguments
 pub step_sets : (program : Program) (config : Config) (frame : Frame) (below : List Activation) (exec : Execution) → SetArguments (after_instruction program config frame below exec).entries
 step_sets program config frame below (Did operands results found effect) = tt
 step_sets program config frame below (Traps kind operands found) = refl

@@ -9,8 +9,8 @@ use Rattle.history_spec.specs.declared.entries.Entry.{Entry}
 use Rattle.history_spec.specs.declared.entries.Entry.TheVariants.{Exit, HostCall, HostReturn, Step, Trap}
 use Rattle.history_spec.specs.Line.{entry_text, line}
 use Rattle.history_spec.specs.Projection.{Appended, Import, Layout, Original, Side, call_args, caller_side, shown_entries, shown_return, shown_step, shown_trap, side, trap_outcome, without_innermost}
-use Rattle.outside_spec.specs.Inside.{args_after_all, inside_after, inside_after_all}
-use Rattle.outside_spec.specs.Laws.{ProjectionsRunAlong}
+use Rattle.replay_run_spec.specs.Inside.{args_after_all, inside_after, inside_after_all}
+use Rattle.replay_run_spec.specs.Laws.{ProjectionsRunAlong}
 use Rattle.shown_lines.specs.ShownLines.{AreNoTraps, HasShown, IsNoTrap, IsReturn, SetArguments, ShownLines, Shows, lines}
 use Rattle.wasm_interp.specs.OwnSteps.{IsStepOf}
 
@@ -45,7 +45,7 @@ sets_shown layout inside args (entry ∷ later) sets = returns_show layout insid
 -- ---- parts after one another
 
 module _ (law : ProjectionsRunAlong) (old mid new : ShownLines) (first second : List Entry) where
-  -- what two parts show, told after one another
+  -- the lines of two parts, written one after the other
   pub shows_joined : Shows old mid [] first → Shows mid new [] second → ((inside : List ℕ) → shown_entries old.layout inside (args_after_all [] first) second ≡ shown_entries old.layout inside [] second) → Shows old new [] (first ++ second)
   shows_joined a b same =
       let l : Layout = old.layout in

@@ -10,7 +10,7 @@ use Rattle.wasm_syntax.specs.Typing.{is_constant}
 use Rattle.wasm_syntax.specs.Validity.{IsValid}
 use Rattle.host_script.specs.declared.scripts.Action.TheVariants.{Call}
 use Rattle.host_script.specs.Fits.{FitActions, FitAnswers, FitsAction, IsCallable}
-use Rattle.run_outcomes.specs.declared.outcomes.Outcome.{Outcome}
+use Rattle.base.specs.declared.outcomes.Outcome.{Outcome}
 use Rattle.history_spec.specs.declared.entries.Entry.{Entry}
 use Rattle.history_spec.specs.Line.{line, outcome_text}
 use Rattle.history_spec.specs.Projection.{Layout, projection, shown_entries, shown_outcome}
@@ -65,7 +65,7 @@ ready_in hosts there typed m other layout entry store machine same valid support
           (subst (IsReady m found.0 m.start entry) (sym is) (ready_of hosts m found.0 layout entry store own (typed m found.0 own supported found.1) form is_store)),
     )
 
--- the start of the run, by what the machine and the module have that are these
+-- the start of the run, in terms of the parts of the machine and the module
 pub starts_in : (m other : Module) (entry : ℕ) (store : Store) (machine : State) → other ≡ m → instantiate m alone ≡ Ok store → machine ≡ state (flat_of m) store [] [] false
     → run_start_alone m entry ≡ Ok (start (program_alone m) other.start machine.store [] (main_of entry))
 starts_in m other entry store machine same opened is =
@@ -81,7 +81,7 @@ form_refused m turns (fault.Link segment) refuses = absurd refuses
 form_refused m turns fault.Spent refuses = absurd refuses
 form_refused m turns fault.Memory refuses = tt
 
--- and so is where the run stops
+-- `replay` reports why the run stopped
 pub run_stopped : (m : Module) (turns : ℕ) (layout : Layout) (entry : ℕ) (initial : StepResult) (found : ReplayFault) → IsReplayable m layout entry → run_start_alone m entry ≡ Ok initial → StopsBy m initial turns found → RefusesReplay m turns found
 run_stopped m turns layout entry initial fault.NoLayout form starts stops = absurd stops
 run_stopped m turns layout entry initial fault.Imports form starts stops = absurd stops
@@ -90,7 +90,7 @@ run_stopped m turns layout entry initial (fault.Link segment) form starts stops 
 run_stopped m turns layout entry initial fault.Spent form starts stops = record { layout = layout; entry = entry; form = form; initial = initial; starts = starts; spent = stops }
 run_stopped m turns layout entry initial fault.Memory form starts stops = tt
 
--- what is told of a run that is over
+-- `replay` reports a run that is over
 pub run_told : (m : Module) (turns left : ℕ) (layout : Layout) (entry : ℕ) (initial : StepResult) (outcome : Outcome) (shown : ShownLines) (told : Told) → IsReplayable m layout entry → run_start_alone m entry ≡ Ok initial → EndsBy m initial turns outcome shown left → shown.layout ≡ layout
     → told.text ≡ shown.text ++ line (outcome_text outcome) → (told.entries ≡ shown.entries) × (told.turns ≡ turns - left) × (told.outcome ≡ outcome) → TellsReplay m turns told
 run_told m turns left layout entry initial outcome shown told form starts ends same text rest =

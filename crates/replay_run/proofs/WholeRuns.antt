@@ -7,14 +7,14 @@ use Rattle.wasm_syntax.specs.declared.modules.Module.{Module}
 use Rattle.wasm_syntax.specs.Index.{imported_funcs}
 use Rattle.host_script.specs.declared.scripts.Action.{Action}
 use Rattle.host_script.specs.declared.scripts.Action.TheVariants.{Call}
-use Rattle.run_outcomes.specs.declared.outcomes.Outcome.{Outcome}
-use Rattle.run_outcomes.specs.declared.outcomes.Outcome.TheVariants.{Ended, Trapped as ByTrap}
+use Rattle.base.specs.declared.outcomes.Outcome.{Outcome}
+use Rattle.base.specs.declared.outcomes.Outcome.TheVariants.{Ended, Trapped as ByTrap}
 use Rattle.history_spec.specs.Configuration.{InMain}
 use Rattle.history_spec.specs.Replay.{instructions, program_alone}
 use Rattle.history_spec.specs.Run.{steps}
 use Rattle.history_spec.specs.Step.{Finished, StepResult, start, start_with_call}
 use Rattle.type_safety.specs.Heights.{Heights}
-use Rattle.outside_spec.specs.Laws.{ProjectionsRunAlong}
+use Rattle.replay_run_spec.specs.Laws.{ProjectionsRunAlong}
 use Rattle.host_play.proofs.Joins.{run_of}
 use Rattle.shown_lines.specs.ShownLines.{HasShown, ShownLines}
 use Rattle.wasm_interp.specs.Laws.{HostsGoOn}

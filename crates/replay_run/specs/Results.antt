@@ -1,8 +1,8 @@
--- What the run of a replay module answers within a number of turns, of which each of its instructions takes one.
+-- What the run of a replay module returns within a number of turns; each of its instructions takes one turn.
 use Rattle.std.specs.Prelude.{◌≡◌, ℕ, [], length, Result, Ok, Err}
 use Rattle.wasm_syntax.specs.declared.modules.Module.{Module}
 use Rattle.host_script.specs.declared.scripts.LinkFault.TheVariants.{Segment}
-use Rattle.run_outcomes.specs.declared.outcomes.Outcome.{Outcome}
+use Rattle.base.specs.declared.outcomes.Outcome.{Outcome}
 use Rattle.history_spec.specs.Budget.{IsOverWithin, IsSpent}
 use Rattle.history_spec.specs.Instantiation.{instantiate}
 use Rattle.history_spec.specs.Line.{history_text}
@@ -15,8 +15,8 @@ use Rattle.replay_run.specs.declared.results.ReplayFault.{ReplayFault}
 use Rattle.replay_run.specs.declared.results.ReplayFault.TheVariants as fault
 use Rattle.replay_form.specs.Forms.{HasEntry, HasLayout, IsReplayable}
 
--- the run of the module has an outcome within the turns, and this is told of it: what it shows of the original, as
--- lines, how many entries that has, and the turns that the run took
+-- the run of the module ends with an outcome within the turns, and the result reports it: the projection as
+-- lines, the number of its entries, and the turns that the run took
 pub record TellsReplay (m : Module) (turns : ℕ) (told : Told) : Type 0 where
   pub layout : Layout
   pub entry : ℕ
@@ -43,14 +43,14 @@ pub record IsSpentReplay (m : Module) (turns : ℕ) : Type 0 where
   pub starts : run_start_alone m entry ≡ Ok initial
   pub spent : IsSpent (run_from (program_alone m) instructions initial) instructions turns
 
--- a segment passes its table or memory; element segments count before data segments
+-- a segment does not fit into its table or memory; element segments are checked before data segments
 pub record IsUnlinked (m : Module) (segment : ℕ) : Type 0 where
   pub layout : Layout
   pub entry : ℕ
   pub form : IsReplayable m layout entry
   pub unfit : instantiate m alone ≡ Err (Segment segment)
 
--- why there is no outcome, in the order in which causes count; that memory is out has no cause
+-- the cause of each fault: it is the first cause that applies; out of memory has no cause
 abbrev pub RefusesReplay : Module → (turns : ℕ) → ReplayFault → Type 0
 RefusesReplay m turns fault.NoLayout = (layout : Layout) → HasLayout m layout → ⊥
 RefusesReplay m turns fault.Imports = ((layout : Layout) × HasLayout m layout) × (m.imports ≡ [] → ⊥)
@@ -60,18 +60,20 @@ RefusesReplay m turns (fault.Link segment) = IsUnlinked m segment
 RefusesReplay m turns fault.Spent = IsSpentReplay m turns
 RefusesReplay m turns fault.Memory = Unit {0}
 
--- a segment is refused, or memory is out
+-- the faults of making the store: a segment does not fit, or memory is out
 abbrev pub RefusesStore : Module → ReplayFault → Type 0
 RefusesStore m (fault.Link segment) = instantiate m alone ≡ Err (Segment segment)
 RefusesStore m fault.Memory = Unit {0}
 RefusesStore m found = ⊥
 
--- the layout, the imports or the exports are refused, or memory is out
+-- the faults of the module's form: in the layout, the imports or the exports, or memory is out
 abbrev pub RefusesForm : Module → ReplayFault → Type 0
 RefusesForm m (fault.Link segment) = ⊥
 RefusesForm m fault.Spent = ⊥
 RefusesForm m found = RefusesReplay m 0 found
 
+-- the result of running a replay module within a number of turns: the projection of the run as lines, or a fault with
+-- its cause
 abbrev pub IsReplay : Module → (turns : ℕ) → Result Told ReplayFault → Type 0
 IsReplay m turns (Ok told) = TellsReplay m turns told
 IsReplay m turns (Err found) = RefusesReplay m turns found

@@ -1,10 +1,10 @@
--- How far the run of a replay module has come within its turns, while it is told.
+-- How far the run of a replay module has come within its turns, while its lines are written.
 use Rattle.std.specs.Prelude.{◌≡◌, ◌≢◌, ℕ, ◌+◌, ◌≤◌, List, [], ◌∷◌, Option, Some, Result, Ok, Err, IfSome}
 use Rattle.wasm_syntax.specs.declared.modules.Module.{Module}
 use Rattle.host_script.specs.declared.scripts.Action.{Action}
 use Rattle.host_script.specs.declared.scripts.Action.TheVariants.{Call}
-use Rattle.run_outcomes.specs.declared.outcomes.Outcome.{Outcome}
-use Rattle.run_outcomes.specs.declared.outcomes.Outcome.TheVariants.{Trapped as ByTrap}
+use Rattle.base.specs.declared.outcomes.Outcome.{Outcome}
+use Rattle.base.specs.declared.outcomes.Outcome.TheVariants.{Trapped as ByTrap}
 use Rattle.wasm_syntax.specs.declared.signatures.FuncType.{FuncType}
 use Rattle.wasm_syntax.specs.Index.{imported_funcs}
 use Rattle.history_spec.specs.declared.entries.Entry.{Entry}
@@ -32,12 +32,12 @@ use Rattle.replay_run.specs.declared.results.ReplayFault.{ReplayFault}
 use Rattle.replay_run.specs.declared.results.ReplayFault.TheVariants as fault
 use Rattle.shown_lines.specs.ShownLines.{AreNoTraps, HasShown, SetArguments, ShownLines, Shows}
 
--- ---- a call that the host makes, with what it has left to do after it
+-- ---- a call by the host, which has further actions after the call
 
 abbrev pub host : List Action → List Activation
 host actions = InMain actions ∷ []
 
--- control stands at an instruction
+-- control is at an instruction
 pub record AtInstruction (m : Module) (heights : Heights) (actions : List Action) (machine : State) (next : Progress)
     : Type 0 where
   pub frame : Frame
@@ -53,7 +53,7 @@ pub record AtHost (m : Module) (heights : Heights) (actions : List Action) (mach
   pub stands : StandsFor m heights (host actions) machine
   pub same : next ≡ progress_of machine.store [] (settle (host actions)).next
 
--- where a call stands, by what its history is, and how the run goes on; a trap is the last entry of all
+-- where a call is, by the history so far, and how the run goes on; a trap is the last entry of a history
 abbrev pub GoesOn : Module → Heights → List Action → CallStand → ShownLines → List Entry → State → Progress → Type 0
 GoesOn m heights actions at.Instruction shown history machine next =
     AtInstruction m heights actions machine next × AreNoTraps history
@@ -62,7 +62,7 @@ GoesOn m heights actions at.Returned shown history machine next =
 GoesOn m heights actions (at.Trapped outcome) shown history machine next =
     (next ≡ Finished ByTrap) × (outcome ≡ trap_outcome shown.layout history)
 
--- a number of steps is made, which left so many of the turns; what they show is told, and the call stands so
+-- the run has made some steps and has `left` turns left; what they show is written, and the call is at `stand`
 pub record ShowsSoFar (m : Module) (actions : List Action) (initial : StepResult) (turns : ℕ) (stand : CallStand)
     (shown : ShownLines) (machine : State) (left : ℕ) : Type 0 where
   pub heights : Heights
@@ -77,26 +77,26 @@ pub record ShowsSoFar (m : Module) (actions : List Action) (initial : StepResult
   pub tells : HasShown shown history
   pub goes_on : GoesOn m heights actions stand shown history machine next
 
--- some call does
+-- some run has come to this state of its call
 abbrev pub IsShown : CallStand → ShownLines → State → Type 0
 IsShown stand shown machine =
     (m : Module) × (actions : List Action) × (initial : StepResult) × (turns : ℕ) × (left : ℕ)
     × ShowsSoFar m actions initial turns stand shown machine left
 
--- the run is spent; that memory is out has no cause; nothing else comes while the module runs
+-- the run is spent; out of memory has no cause; no other fault occurs while the module runs
 abbrev pub StopsBy : Module → (initial : StepResult) → (turns : ℕ) → ReplayFault → Type 0
 StopsBy m initial turns fault.Spent = IsSpent (run_from (program_alone m) instructions initial) instructions turns
 StopsBy m initial turns fault.Memory = Unit {0}
 StopsBy m initial turns found = ⊥
 
--- the call stands so after more steps, or there is no outcome
+-- the call is at `stand` after further steps, or there is no outcome
 abbrev pub ShowsOn : Module → List Action → (initial : StepResult) → (turns : ℕ) → Result CallStand ReplayFault
     → ShownLines → State → (left : ℕ) → Type 0
 ShowsOn m actions initial turns (Ok stand) shown machine left =
     ShowsSoFar m actions initial turns stand shown machine left
 ShowsOn m actions initial turns (Err found) shown machine left = StopsBy m initial turns found
 
--- every run that has come to the one place has come so to the other
+-- every run that has come to the first state goes on to the second, or stops
 abbrev pub GoesFrom : (stand : CallStand) → (shown : ShownLines) → State → (left : ℕ) → Result CallStand ReplayFault
     → ShownLines → State → (left : ℕ) → Type 0
 GoesFrom stand shown machine left result after_shown after after_left =
@@ -106,21 +106,21 @@ GoesFrom stand shown machine left result after_shown after after_left =
 
 -- ---- parts of a run
 
--- what a part of the run leads to: its entries are told, and the call stands so
+-- a part of a run: its lines are written, and the call is at `stand` after it
 pub record Leads (m : Module) (heights : Heights) (actions : List Action) (stand : CallStand) (old new : ShownLines)
     (machine : State) (entries : List Entry) (next : Progress) : Type 0 where
   pub shows : Shows old new [] entries
   pub sets : SetArguments entries
   pub goes_on : GoesOn m heights actions stand new entries machine next
 
--- a function that the module defines takes nothing
+-- a function that the module defines has no parameters
 pub record TakesNothing (m : Module) (func : ℕ) : Type 0 where
   pub defined : imported_funcs m ≤ func
   pub ty : FuncType
   pub has_type : signature (code_of m) func ≡ Some ty
   pub none : ty.params ≡ []
 
--- the host, which has this left to do then, may call such a function
+-- the host may call a function without parameters, with these actions to do after the call
 pub record CanCall (m : Module) (heights : Heights) (actions : List Action) (machine : State) (func : ℕ)
     : Type 0 where
   pub is_run : IsRun m heights (program_alone m) []
@@ -131,19 +131,19 @@ abbrev pub IsCalled : State → (func : ℕ) → Type 0
 IsCalled machine func =
     (m : Module) × (heights : Heights) × (actions : List Action) × CanCall m heights actions machine func
 
--- the result of its call
+-- the step in which the host calls the function
 abbrev pub call_by_host : Module → Store → (func : ℕ) → List Action → StepResult
 call_by_host m store func actions =
     after_entries (HostCall func [] ∷ []) (enter_function (code_of m) store [] func [] (host actions))
 
--- it is called
+-- the host calls the function
 abbrev pub BeginsCall : ShownLines → State → (func : ℕ) → CallStand → ShownLines → State → Type 0
 BeginsCall old machine func stand new after =
     (m : Module) (heights : Heights) (actions : List Action) → CanCall m heights actions machine func
     → Leads m heights actions stand old new after (call_by_host m machine.store func actions).entries
     (call_by_host m machine.store func actions).next
 
--- a machine stands at an instruction of a run
+-- a machine is at an instruction of a run
 pub record StandsAt (m : Module) (heights : Heights) (actions : List Action) (machine : State) (frame : Frame)
     (below : List Activation) : Type 0 where
   pub is_run : IsRun m heights (program_alone m) []
@@ -151,7 +151,7 @@ pub record StandsAt (m : Module) (heights : Heights) (actions : List Action) (ma
   pub going : IsGoing frame.at.rest
   pub called : outside_of below ≡ host actions
 
--- the next instruction of each configuration that the machine stands for is made
+-- the next instruction of each configuration that the machine represents is executed
 abbrev pub MakesStep : ShownLines → State → CallStand → ShownLines → State → Type 0
 MakesStep old machine stand new after =
     (m : Module) (heights : Heights) (actions : List Action) (frame : Frame) (below : List Activation)
@@ -164,7 +164,7 @@ MakesStep old machine stand new after =
 abbrev pub IsOutside : Layout → State → Type 0
 IsOutside layout machine = (func : ℕ) → func_of machine.frames ≡ Some func → side layout func ≢ Original
 
--- a number of steps, which leave so many of the turns
+-- a part of a run in steps, with the turns left after it
 pub record LeadsOn (m : Module) (heights : Heights) (actions : List Action) (first : Progress) (turns : ℕ)
     (stand : CallStand) (old new : ShownLines) (machine : State) (left : ℕ) : Type 0 where
   pub count : ℕ
@@ -176,22 +176,22 @@ pub record LeadsOn (m : Module) (heights : Heights) (actions : List Action) (fir
   pub all : used + left ≡ turns
   pub leads : Leads m heights actions stand old new machine entries next
 
--- instructions outside the original, from each configuration that the machine stands for
+-- instructions outside the original are executed, from each configuration that the machine represents
 abbrev pub WalksOutside : ShownLines → State → (turns : ℕ) → CallStand → ShownLines → State → (left : ℕ) → Type 0
 WalksOutside old machine turns stand new after left =
     (m : Module) (heights : Heights) (actions : List Action) (frame : Frame) (below : List Activation)
     → StandsAt m heights actions machine frame below
     → LeadsOn m heights actions (Running (config_of machine (InModule frame ∷ below) [])) turns stand old new after left
 
--- ---- stands
+-- ---- places of calls
 
--- the call has returned, or trapped
+-- the call has returned or trapped
 abbrev pub IsOver : CallStand → Type 0
 IsOver at.Instruction = ⊥
 IsOver stand = Unit {0}
 
--- where a call stands after a part of the run, by the pause that this ends with and its entries; a module without
--- imports calls none, and a turn is always made
+-- where a call is after a part of the run, by the pause that ended the part and its entries; the pause is not an
+-- import's, since the module has no imports, and not one for want of turns
 abbrev pub stand_of : Layout → Option Pause → List Entry → CallStand
 stand_of layout (Some pause.Returned) entries = at.Returned
 stand_of layout (Some pause.Trapped) entries = at.Trapped (trap_outcome layout entries)
@@ -204,11 +204,11 @@ IsOwnPause other = Unit {0}
 
 -- ---- the whole run
 
--- what the host does after the start function: it calls the entry
+-- the actions of the host after the start function: it calls the entry
 abbrev pub main_of : (entry : ℕ) → List Action
 main_of entry = Call entry [] ∷ []
 
--- the machine is that of a module whose host calls the entry after the start function
+-- the machine is ready for a module whose host calls the entry after the start function
 pub record IsReady (m : Module) (heights : Heights) (start : Option ℕ) (entry : ℕ) (machine : State) : Type 0 where
   pub is_run : IsRun m heights (program_alone m) []
   pub starts : m.start ≡ start
@@ -216,27 +216,27 @@ pub record IsReady (m : Module) (heights : Heights) (start : Option ℕ) (entry 
   pub entry_function : TakesNothing m entry
   pub stands : StandsFor m heights (host (main_of entry)) machine
 
--- the run has begun; with a start function that is called, else the host has control as after a return
+-- the run begins with a call of the start function; without one, control is at the host as after a return
 abbrev pub BeginsRun : Option ℕ → (entry : ℕ) → ShownLines → State → CallStand → ShownLines → State → Type 0
 BeginsRun first entry old machine stand new after =
     (m : Module) (heights : Heights) (turns : ℕ) → IsReady m heights first entry machine → HasShown old []
     → ShowsSoFar m (main_of entry) (start (program_alone m) first machine.store [] (main_of entry)) turns stand new
     after turns
 
--- after the start function the entry is called
+-- the entry is called after the start function
 abbrev pub EntersEntry : (entry : ℕ) → ShownLines → State → CallStand → ShownLines → State → Type 0
 EntersEntry entry old machine stand new after =
     (m : Module) (initial : StepResult) (turns left : ℕ) → TakesNothing m entry
     → ShowsSoFar m (main_of entry) initial turns at.Returned old machine left
     → ShowsSoFar m [] initial turns stand new after left
 
--- a run stands before that call
+-- some run has come to the state directly before the call of the entry
 abbrev pub EntryIsNext : (entry : ℕ) → ShownLines → State → Type 0
 EntryIsNext entry shown machine =
     (m : Module) × (initial : StepResult) × (turns : ℕ) × (left : ℕ) × TakesNothing m entry
     × ShowsSoFar m (main_of entry) initial turns at.Returned shown machine left
 
--- the run is over by an outcome; what it shows of it is told, with this outcome
+-- the run ended with an outcome; what it shows of the original is written, with this outcome
 pub record EndsBy (m : Module) (initial : StepResult) (turns : ℕ) (outcome : Outcome) (shown : ShownLines) (left : ℕ)
     : Type 0 where
   pub run : Run
@@ -252,7 +252,7 @@ abbrev pub EndsOrStops : Module → (initial : StepResult) → (turns : ℕ) →
 EndsOrStops m initial turns (Ok outcome) shown left = EndsBy m initial turns outcome shown left
 EndsOrStops m initial turns (Err found) shown left = StopsBy m initial turns found
 
--- the run of each such module comes out so, of which nothing is shown before
+-- every ready module whose run has shown nothing yet runs to this result
 abbrev pub RunsFrom : Option ℕ → (entry : ℕ) → ShownLines → State → (turns : ℕ) → Result Outcome ReplayFault
     → ShownLines → (left : ℕ) → Type 0
 RunsFrom first entry old machine turns result new left =

@@ -1,31 +1,31 @@
-// Calls that the host makes of functions without parameters, and how they go on.
+// Calls by the host of functions without parameters, and how they go on.
 
 ghost use Rattle.std.specs.Prelude.{◌≡◌, ◌≤◌, ◌<◌, [], Ok, IfOk, OnOk};
 ghost use Rattle.shown_lines.specs.ShownLines.{Shows};
 ghost use Rattle.replay_run.specs.RunsSoFar.{BeginsCall, GoesFrom, IsCalled, IsOutside, IsOver, IsOwnPause, IsShown, MakesStep, stand_of, WalksOutside};
 
 use crate::results::ReplayFault;
+use base::NoMemory;
 use history_spec::{Entry, Outcome};
-use no_memory::NoMemory;
-use outside_spec::projections_run_along;
 use replay_form::Side;
+use replay_run_spec::projections_run_along;
 use shown_lines::{ShownText, trap_outcome};
 use std::alloc::Global;
 use wasm_interp::{Machine, Pause, Turn, calls_are_ready};
 use wasm_syntax::List;
 
-/// Where a call by the host stands.
+/// Where a call by the host is.
 #[derive(Clone, Copy)]
 pub(crate) enum CallStand {
     /// At an instruction.
     Instruction,
     /// The function has returned.
     Returned,
-    /// It has trapped: an original, or a function outside, which is shown as the host's trap.
+    /// An original function has trapped, or a function outside, which is shown as a trap of the host.
     Trapped { outcome: Outcome },
 }
 
-/// Where a call stands after a part of the run.
+/// Where a call is after a part of the run.
 fn stand_of(shown: &ShownText, turn: &Turn) -> CallStand
     requires { IsOwnPause turn.now.pause }
     ensures { result ≡ stand_of shown.now.layout turn.now.pause turn.now.entries }
@@ -42,7 +42,7 @@ fn stand_of(shown: &ShownText, turn: &Turn) -> CallStand
     }
 }
 
-/// Tells what a part of the run shows, and gives where the call stands after it.
+/// Writes the lines of a part of the run, and returns where the call is after it.
 fn show_turn(shown: &mut ShownText, turn: &Turn) -> Result<CallStand, NoMemory>
     requires { IsOwnPause turn.now.pause }
     ensures shows { OnOk result (Shows shown.old shown.new [] turn.now.entries) }
@@ -52,7 +52,7 @@ fn show_turn(shown: &mut ShownText, turn: &Turn) -> Result<CallStand, NoMemory>
     Ok(stand_of(shown, turn))
 }
 
-/// The host calls a function that takes nothing.
+/// Begins a call by the host of a function without parameters.
 pub(crate) fn begin_call(
     alloc: Global,
     shown: &mut ShownText,
@@ -76,7 +76,7 @@ pub(crate) fn begin_call(
     Ok(stand)
 }
 
-/// The next instruction.
+/// Executes the next instruction.
 fn make_step(shown: &mut ShownText, machine: &mut Machine) -> Result<CallStand, NoMemory>
     requires { IsShown CallStand.Instruction shown.old machine.old }
     ensures makes { IfOk result (λ stand. MakesStep shown.old machine.old stand shown.new machine.new) }
@@ -88,7 +88,7 @@ fn make_step(shown: &mut ShownText, machine: &mut Machine) -> Result<CallStand, 
     Ok(stand)
 }
 
-/// Instructions of the topmost activation in a row, which are outside the original and show nothing.
+/// Executes instructions of the topmost activation in a row; they are outside the original and show nothing.
 fn walk_outside(
     shown: &mut ShownText,
     machine: &mut Machine,
@@ -108,7 +108,7 @@ fn walk_outside(
     Ok(stand)
 }
 
-/// Where control stands outside the original, the instructions that follow in the same activation.
+/// If control is outside the original, executes the instructions that follow in the same activation.
 fn go_outside(
     shown: &mut ShownText,
     machine: &mut Machine,
@@ -132,7 +132,7 @@ fn go_outside(
     Ok(stand)
 }
 
-/// The next instruction, and outside the original those that follow it, where a turn is left for each.
+/// Executes the next instruction, and outside the original those that follow it, if a turn is left for each.
 fn go_on(
     shown: &mut ShownText,
     machine: &mut Machine,
@@ -153,7 +153,7 @@ fn go_on(
     Ok(after)
 }
 
-/// Goes on with a call until it has returned or trapped.
+/// Continues a call until it has returned or trapped.
 pub(crate) fn finish_call(
     shown: &mut ShownText,
     machine: &mut Machine,

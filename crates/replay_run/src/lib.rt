@@ -1,12 +1,12 @@
-//! What a replay module shows of its original: its run within a budget of turns, told line by line, or why
-//! it has none.
+//! Runs a replay module within a budget of turns and writes what the run shows of the original, line by line, or
+//! reports why there is nothing to show.
 #![tactic(auto)]
 
 mod calls;
 mod replays;
 mod results;
 
+pub use base::NoMemory;
 pub use host_play::Told;
-pub use no_memory::NoMemory;
 pub use replays::replay;
 pub use results::ReplayFault;

@@ -20,6 +20,7 @@ ghost use Rattle.replay_run.specs.RunsSoFar.{BeginsRun, EntersEntry, EntryIsNext
 
 use crate::calls::{CallStand, begin_call, finish_call};
 use crate::results::ReplayFault;
+use base::NoMemory;
 use flat_steps::stores_fit;
 use history_lines::print_outcome;
 use history_spec::Outcome;
@@ -27,9 +28,8 @@ use host_link::{LinkFault, link};
 use host_play::Told;
 use host_script::Script;
 use module_index::scope::Scope;
-use no_memory::NoMemory;
-use outside_spec::projections_run_along;
 use replay_form::{Layout, entry_of, layout_of};
+use replay_run_spec::projections_run_along;
 use shown_lines::ShownText;
 use std::alloc::Global;
 use type_safety::typed_code;
@@ -39,7 +39,7 @@ use wasm_store::Store;
 use wasm_syntax::{List, Module};
 use wasm_validate::Checked;
 
-/// What a replay module's run needs to know of it.
+/// What the run of a replay module needs of the module's form.
 #[derive(Clone, Copy)]
 pub(crate) struct Form {
     pub(crate) layout: Layout,
@@ -77,7 +77,7 @@ fn empty_script(alloc: Global) -> Script
     }
 }
 
-/// The store that the run begins with.
+/// The store at the beginning of the run.
 fn store_of(alloc: Global, binary: &Checked) -> Result<Store, ReplayFault>
     requires supported { IsSupported binary.now }
     requires bytes { HasBytes binary.now }
@@ -95,7 +95,7 @@ fn store_of(alloc: Global, binary: &Checked) -> Result<Store, ReplayFault>
     }
 }
 
-/// The machine in that store, without activations.
+/// The machine with that store, without activations.
 fn machine_of(alloc: Global, binary: &Checked, store: Store) -> Result<Machine, NoMemory>
     requires short { IsShort binary.now }
     requires typed { IsStore binary.now store }
@@ -107,7 +107,7 @@ fn machine_of(alloc: Global, binary: &Checked, store: Store) -> Result<Machine, 
     Ok(machine)
 }
 
-/// The run begins: with the call of the start function, where there is one.
+/// Begins the run: with the call of the start function, if there is one.
 fn begin_run(
     alloc: Global,
     shown: &mut ShownText,
@@ -127,7 +127,7 @@ fn begin_run(
     Ok(stand)
 }
 
-/// The entry is called, after the start function.
+/// Calls the entry, after the start function.
 fn begin_entry(
     alloc: Global,
     shown: &mut ShownText,
@@ -144,7 +144,7 @@ fn begin_entry(
     Ok(stand)
 }
 
-/// Runs the start function, where there is one, and then the entry: how the run ends.
+/// Runs the start function, if there is one, and then the entry; returns the outcome.
 fn run_calls(
     alloc: Global,
     shown: &mut ShownText,
@@ -177,7 +177,7 @@ fn run_calls(
     }
 }
 
-/// What was told, with the line of the outcome.
+/// The written lines with the line of the outcome, and their counts.
 fn told_of(shown: ShownText, outcome: Outcome, turns: u64) -> Result<Told, NoMemory>
     ensures text { IfOk result (λ told. told.text ≡ shown.text ++ line (outcome_text outcome)) }
     ensures rest { IfOk result (λ told.
@@ -199,8 +199,8 @@ fn told_of(shown: ShownText, outcome: Outcome, turns: u64) -> Result<Told, NoMem
 ///
 /// # Errors
 ///
-/// Of these the first that stands: `NoLayout`, `Imports`, `NoEntry`, `Link` with the first segment that passes
-/// its table or memory, `Spent` where the run needs more turns. `Memory` where memory is out.
+/// The first of these that applies: `NoLayout`, `Imports`, `NoEntry`, `Link` with the first segment that does
+/// not fit into its table or memory, `Spent` if the run needs more turns. `Memory` if memory is out.
 pub fn replay(alloc: Global, binary: &Checked, turns: u64) -> Result<Told, ReplayFault>
     requires supported { IsSupported binary.now }
     requires short { IsShort binary.now }

@@ -3,22 +3,23 @@
 ghost use Rattle.std.specs.Prelude.{◌≡◌};
 ghost use Rattle.replay_run.specs.declared.results.ReplayFault.TheVariants.{Memory};
 
-use no_memory::NoMemory;
+use base::NoMemory;
 use thiserror::Error;
 
-/// Why nothing is shown; of several causes the first counts.
+/// Why nothing is shown: the first cause that applies.
 #[derive(Clone, Copy, PartialEq, Eq, Debug, Error)]
 pub enum ReplayFault {
-    /// There is not one custom section `r3.layout` of two numbers, or there are fewer functions.
+    /// There is no single custom section `r3.layout` of two numbers, or the module has fewer functions than they
+    /// say.
     #[error("no layout")]
     NoLayout,
-    /// Something is imported.
+    /// The module has imports.
     #[error("there are imports")]
     Imports,
-    /// The exports are not one function `_start` that takes and gives nothing.
+    /// The exports are not exactly one function `_start` without parameters and results.
     #[error("no entry")]
     NoEntry,
-    /// This segment passes its table or memory; element segments count before data segments.
+    /// This segment does not fit into its table or memory; element segments are checked before data segments.
     #[error("segment {segment} does not fit")]
     Link { segment: u32 },
     /// All turns are used, and the next instruction takes one.

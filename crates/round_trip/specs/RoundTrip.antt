@@ -19,6 +19,8 @@ IsRoundTrip form m = EncodesJust form (encoding_of m) m × (read_module form (en
 abbrev pub EncodedRoundTrips : Type 0
 EncodedRoundTrips = (form : Form) (bytes : List ℕ) (m : Module) → Encodes form bytes m → IsRoundTrip form m
 
+-- if the shortest encoding of an encodable module has fewer than 2^32 bytes, it encodes this module alone and is
+-- decoded to it
 abbrev pub EncodableRoundTrips : Type 0
 EncodableRoundTrips =
     (form : Form) (m : Module) → IsEncodable form m → length (encoding_of m) < 2 ^ 32 → IsRoundTrip form m

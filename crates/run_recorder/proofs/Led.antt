@@ -1,12 +1,12 @@
--- A recorder that a run has led on.
+-- A recorder after the hook calls of a run.
 use Rattle.std.proofs.Common.{◌≡◌, ℕ, ◌+◌, List, [], ◌∷◌, Option, Some, None, Result, Ok, Err, refl, sym, ap, ◌∙◌, subst}
-use Rattle.run_outcomes.specs.declared.outcomes.Outcome.{Outcome}
+use Rattle.base.specs.declared.outcomes.Outcome.{Outcome}
 use Rattle.trace_model.specs.declared.events.Event.{Event}
 use Rattle.trace_model.specs.declared.events.Log.{Log}
 use Rattle.history_spec.specs.Instantiation.{table_length}
-use Rattle.hook_spec.specs.Hooks.{HookCall}
-use Rattle.hook_spec.specs.Order.{HookedShape, OrderState, order_start, ordered_step, first_disorder, number_or}
-use Rattle.hook_spec.specs.Logs.{LogState, log_start, call_events, log_after_call, events_from, events_or, after_events, log_with}
+use Rattle.record_replay_spec.specs.Hooks.{HookCall}
+use Rattle.record_replay_spec.specs.Order.{HookedShape, OrderState, order_start, ordered_step, first_disorder, number_or}
+use Rattle.record_replay_spec.specs.Logs.{LogState, log_start, call_events, log_after_call, events_from, events_or, after_events, log_with}
 use Rattle.host_play.specs.HookedResults.{IsPlayedWithHooks}
 use Rattle.host_play.specs.declared.results.PlayFault.{PlayFault}
 use Rattle.host_play.specs.declared.results.PlayFault.TheVariants as refusal
@@ -19,13 +19,13 @@ abbrev IsNumber : Result (List Event) ℕ → Type 0
 IsNumber (Ok events) = ⊥
 IsNumber (Err number) = Unit {0}
 
--- events after others are there where these are
+-- if there are events of two parts, there are events of the second part
 later_events : (first : List Event) (later : Result (List Event) ℕ) (told : List Event) → after_events first later ≡ Ok told
     → (rest : List Event) × (later ≡ Ok rest)
 later_events first (Ok rest) told is = (rest, refl)
 later_events first (Err number) told is = absurd (subst IsNumber is tt)
 
--- calls whose events are told are in order
+-- if calls have events, each of the calls is in order
 in_order : (shape : HookedShape) (order : OrderState) (log : LogState) (at : ℕ) (calls : List HookCall) (told : List Event)
     → events_from shape order log at calls ≡ Ok told → first_disorder shape order at calls ≡ None
 in_order shape order log at [] told is = refl

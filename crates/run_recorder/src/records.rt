@@ -8,7 +8,7 @@ ghost use Rattle.type_safety.specs.Stores.{IsStore};
 ghost use Rattle.wasm_flat.specs.Bounds.{IsBound};
 ghost use Rattle.wasm_flat.specs.FlatCode.{flat_of};
 ghost use Rattle.wasm_flat.specs.Meters.{FitsMeter};
-ghost use Rattle.hook_spec.specs.Order.{shape_of};
+ghost use Rattle.record_replay_spec.specs.Order.{shape_of};
 ghost use Rattle.host_play.specs.HookedResults.{HasHooksAfter, hooked_run};
 ghost use Rattle.run_recorder.specs.Records.{IsLed, IsRecord, IsRecordedInto, RecordedRun};
 
@@ -21,14 +21,14 @@ use trace_model::{EventSink, Events, Log};
 use wasm_flat::Meter;
 use wasm_validate::Checked;
 
-/// The run of a module in the hooked form, before whose hooks this number of imports stands, under a meter, within a
-/// number of turns. The sink has taken no event; it takes the events of the log of the calls of hooks that the run
-/// makes. `play` is the module's instantiation with the supply.
+/// The run of a module in the hooked form, under a meter, within a number of turns; `imports` imports come
+/// before the module's hooks. The sink has taken no event; it takes the events of the log of the run's hook
+/// calls. `play` is the module's instantiation with the supply.
 ///
 /// # Errors
 ///
-/// `Hook` exactly where a call of a hook is the first one out of order, with its number from 0; before any such call
-/// `Fault` where the host cannot do what the script says, and `Spent` where the run needs more turns. `Memory` where
+/// `Hook` if and only if a hook call is the first one out of order, with its number from 0; before any such call
+/// `Fault` if the host cannot do what the script says, and `Spent` if the run needs more turns. `Memory` if
 /// memory is out.
 pub fn record_into<S: EventSink + Drop>(
     alloc: Global,
@@ -64,7 +64,7 @@ pub fn record_into<S: EventSink + Drop>(
     recorded_sink(recorder, answer)
 }
 
-/// The sink of a recorder, with how the run ended that led it on.
+/// The sink of a recorder, after the run that made its calls, with the outcome.
 fn recorded_sink<S: EventSink + Drop>(
     recorder: Recorder<S>,
     answer: Result<Outcome, PlayFault>,
@@ -81,7 +81,7 @@ fn recorded_sink<S: EventSink + Drop>(
 ///
 /// # Errors
 ///
-/// As of `record_into`.
+/// The faults of `record_into`.
 pub fn record_log(
     alloc: Global,
     hooked: &Checked,

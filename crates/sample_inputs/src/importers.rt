@@ -1,6 +1,6 @@
 // Modules that import functions and are not in `examples/`.
 
-/// A function that divides 100 by what a call of its import gives.
+/// A function that divides 100 by the result of its import.
 pub const DIVISION: &str =
     // (module (import "h" "f" (func (result i32))) (func (export "g") (result i32) i32.const 100 call 0 i32.div_u))
     "0061736d010000000105016000017f02070101680166000003020100070501016700010a0a01080041e40010006e0b";
@@ -24,7 +24,7 @@ pub const EVERY_KIND: &str =
      072607037461620100036d656d020001780303017903040372756e000602676f0007036f776e0000\
      0a0902040041000b02000b";
 
-/// `examples/two_answers.wat`, but that its export `g` is the import.
+/// `examples/two_answers.wat`, except that its export `g` is the import.
 pub const EXPORTED_IMPORT: &str =
     // (module (import "h" "f" (func (result i32))) (func (result i32) call 0 call 0 i32.add)
     //   (export "g" (func 0)))
@@ -37,7 +37,7 @@ pub const IN_TURN: &str =
     "0061736d010000000105016000017f020d02016801660000016801670000030201000707010372756e0002\
      0a0f010d0010001001100010016b6b6b0b";
 
-/// A loop that adds what 200 calls of its import give.
+/// A loop that adds the results of 200 calls of its import.
 pub const LOOP: &str =
     // (module (import "h" "f" (func (result i32)))
     //   (func (export "g") (result i32) (local i32 i32) loop local.get 0 call 0 i32.add local.set 0

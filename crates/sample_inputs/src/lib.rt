@@ -1,4 +1,4 @@
-//! For tests: modules, scripts, and what logs and tapes hold, that several crates of tests take. Bytes are in
+//! For tests: modules, scripts, and contents of logs and tapes, used by several test crates. Bytes are in
 //! hexadecimal.
 #![tactic(auto)]
 
@@ -14,7 +14,7 @@ pub mod traces;
 use std::alloc::Global;
 use wasm_syntax::Module;
 
-/// The module that has nothing. Takes no memory.
+/// The empty module. Takes no memory.
 pub fn module_without_parts(alloc: Global) -> Module
     ensures { result ≡ empty_module }
 {

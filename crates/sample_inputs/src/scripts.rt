@@ -2,7 +2,7 @@
 
 use std::alloc::{AllocError, Global};
 
-/// The import `h.f` of two answers, `examples/two_answers.wat`, answers 5 and 7.
+/// A script for `examples/two_answers.wat`: the import `h.f` answers 5 and 7.
 pub const ANSWERS: &str =
     r#"{"imports":{"h":{"f":{"calls":[{"return":{"i32":5}},{"return":{"i32":7}}]}}},"main":[{"call":"g"}]}"#;
 
@@ -12,11 +12,12 @@ pub const COLLATZ_NUMBERS: &str = concat!(
     r#"{"return":{"i32":0}}]}}},"main":[{"call":"run"}]}"#
 );
 
-/// A script that answers the import `h.f` by these numbers and then by those from 0 to below `count`, and calls `g`.
+/// A script that answers the import `h.f` with these numbers and then with those from 0 to below `count`, and
+/// calls `g`.
 ///
 /// # Errors
 ///
-/// When memory runs out.
+/// An error if memory runs out.
 pub fn script_of_answers(alloc: Global, first: &[u32], count: u32) -> Result<String, AllocError> {
     let mut script = String::from_str(alloc, r#"{"imports":{"h":{"f":{"calls":["#)?;
     for (index, number) in first.iter().copied().chain(0..count).enumerate() {

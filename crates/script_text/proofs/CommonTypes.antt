@@ -21,7 +21,7 @@ kept_past test count number le =
     let le' : length (map test (range_with_len 0 count)) ≤ number = rw (length-map-range_with_len test 0 count) le in
     slice_get_past (map test (range_with_len 0 count)) number le'
 
--- what is kept for the parameters of the first type tells of every number
+-- the flags of the parameters of the first type hold for every parameter number
 pub kept_for_first : (types : List FuncType)
     → HoldsFlags (map (λ number. list_all (takes_i32 number) types) (range_with_len 0 (params_of_first types))) types
 kept_for_first [] = record { takes = λ number. refl }

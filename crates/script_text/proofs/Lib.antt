@@ -6,3 +6,10 @@ pub mod Loops
 pub mod Listed
 pub mod Members
 pub mod Examples
+pub mod Steps
+pub mod Tests
+pub mod FittingValues
+pub mod Reach
+pub mod FittingActions
+pub mod Answers
+pub mod FittingScripts

@@ -1,4 +1,4 @@
--- The members of an object beside the entries of a map.
+-- The members of an object in terms of the entries of a map.
 use Rattle.std.proofs.Common.{◌≡◌, suc, List, [], ◌∷◌, length, String, Global, refl, ap}
 use Rattle.serde_json.specs.declared.value.Value.{Value}
 use Rattle.serde_json.specs.View.{members_view}

@@ -1,4 +1,4 @@
--- What follows from the names of an import alone is the same for each import of those names.
+-- What depends only on the names of an import is the same for each import of those names.
 use Rattle.std.proofs.Common.{◌≡◌, ℕ, suc, ◌+◌, ◌-◌, ◌≤◌, List, [], ◌∷◌, map, take, drop, Option, Some, None, option_map, option_and_then, option_copied, IfSome, slice_get, Bor, Bool, true, false, cond, sym, ap, ap₂, refl, subst, ◌∙◌, arith}
 use Rattle.std.proofs.lemmas.List.{map-append, take-append-drop}
 use Rattle.std.proofs.lemmas.Option.{slice_get-map, slice_get_within}

@@ -1,6 +1,6 @@
--- What an action of the host is, by its lead key. Of one action the faults come in this order: of its
--- form; a memory or a table that can't be reached; an unknown name; a call of an import; a global that
--- can't be changed; a wrong type.
+-- How the text of an action of the host is read, by its lead key. The faults of one action come in this order:
+-- its form; a memory or a table that can't be reached; an unknown name; a call of an import; a global that can't
+-- be changed; a wrong type.
 use Rattle.std.specs.Prelude.{ℕ, List, [], ◌∷◌, map, codes, filter, Bool, true, false, nat_lt, Option, Some, None, is_some, slice_get, Result, Ok, Err, if◌then◌else◌, ⊤}
 use Rattle.std.specs.List.{list_all}
 use Rattle.wasm_syntax.specs.declared.values.ValType.{ValType}
@@ -25,8 +25,8 @@ use Rattle.script_text.specs.Walk.{◌>>=◌, below, only, under, under_or, list
 use Rattle.script_text.specs.Values.{u32_of, value_of, values_under, text_of, text_or_null, bytes_of}
 use Rattle.module_names.specs.Names.{imports_from, imported_global, exported_func, exported_global, reaches_memory, reaches_table}
 
--- where an action stands: in `main`, or in a response to calls of the functions imported under two names,
--- of which these are the second name and the types
+-- the place of an action: in `main`, or in a response to calls of the functions imported under two names; `name`
+-- is the second name, `types` has the types of these functions
 pub data Place : Type 0 where
   InMain : Place
   InResponse : (name : List ℕ) (types : List FuncType) → Place
@@ -46,7 +46,7 @@ fixed_of d = do
   address ← u32_of d
   Ok (Fixed address)
 
--- an object is an address in responses only
+-- an address; an object is an address only in a response
 unfoldable pub address_of : Place → Data → Result Address ScriptFault
 address_of InMain d = fixed_of d
 address_of (InResponse name types) d = if is_some (as_object d) then argument_of d else fixed_of d
@@ -57,18 +57,18 @@ abbrev pub is_i32 : Option ValType → Bool
 is_i32 None = false
 is_i32 (Some ty) = same_type ty I32
 
--- a function with this parameter, an i32
+-- this parameter of the function exists and is an i32
 abbrev pub takes_i32 : ℕ → FuncType → Bool
 takes_i32 number ty = is_i32 (slice_get ty.params number)
 
--- an argument is there, and is an i32, for each of the functions that are answered
+-- the argument exists and is an i32, for each of the functions that are answered
 unfoldable pub fits_address : Place → Address → Result ⊤ ScriptFault
 fits_address place (Fixed address) = Ok tt
 fits_address InMain (Arg number plus) = Err (Shape [])
 fits_address (InResponse name types) (Arg number plus) =
     if list_all (takes_i32 number) types then Ok tt else Err (WrongType name)
 
--- what is reached or not, and its name
+-- access to what has this name, if the host reaches it
 abbrev pub access_to : Bool → List ℕ → Result ⊤ ScriptFault
 access_to reached name = if reached then Ok tt else Err (NoAccess name)
 
@@ -100,16 +100,16 @@ copy_of m place d = do
   _ ← fits_address place source
   Ok (actions.Copy to source count)
 
--- what a name stands for
+-- the index that a name has, or a fault if the name is unknown
 abbrev pub index_or_unknown : List ℕ → Option ℕ → Result ℕ ScriptFault
 index_or_unknown name None = Err (UnknownName name)
 index_or_unknown name (Some index) = Ok index
 
--- the function of a name
+-- the function that is exported under a name
 unfoldable pub func_named : Module → List ℕ → Result ℕ ScriptFault
 func_named m name = index_or_unknown name (exported_func m name)
 
--- a function, or none to empty an entry
+-- the function of a table entry, or no function, which empties the entry
 unfoldable pub entry_named : Module → Option (List ℕ) → Result (Option ℕ) ScriptFault
 entry_named m None = Ok None
 entry_named m (Some name) = do
@@ -130,7 +130,7 @@ pub data Target : Type 0 where
   Exported : (name : List ℕ) → Target
   Imported : (from name : List ℕ) → Target
 
--- two texts, in a list of two items
+-- the names of an import: a list of two texts
 abbrev pub two_names : Option Items → Result Target ScriptFault
 two_names (Some (item a (item b no_items))) = do
   from ← below (codes "0") (text_of a)
@@ -151,11 +151,11 @@ exported_target d = do
   name ← text_of d
   Ok (Exported name)
 
--- an object names an import
+-- a global's names: an object names an import, a text names an export
 unfoldable pub target_of : Data → Result Target ScriptFault
 target_of d = if is_some (as_object d) then import_target d else exported_target d
 
--- the global of a target
+-- the index of the global that an import's names give; the flag says whether its module's name is known
 abbrev pub global_from : Bool → (from name : List ℕ) → Option ℕ → Result ℕ ScriptFault
 global_from true from name global = index_or_unknown name global
 global_from false from name global = Err (UnknownName from)
@@ -165,12 +165,12 @@ global_at m (Exported name) = index_or_unknown name (exported_global m name)
 global_at m (Imported from name) =
     global_from (imports_from global_import m from) from name (imported_global m from name)
 
--- the name that a fault of a target gives
+-- the name that is reported in a fault of a target
 abbrev pub name_of : Target → List ℕ
 name_of (Exported name) = name
 name_of (Imported from name) = name
 
--- a global that can be changed, to a value of its type
+-- a global can be set to a value: it is mutable and has the value's type
 abbrev pub is_set_by : Option GlobalType → List ℕ → Val → Result ⊤ ScriptFault
 is_set_by None name value = Err (UnknownName name)
 is_set_by (Some ty) name value =
@@ -190,7 +190,7 @@ set_global_of m d = do
   _ ← fits_global m global (name_of target) value
   Ok (actions.SetGlobal global value)
 
--- growth by the number under a key, of what has to be reached
+-- an action that grows a memory or a table by the number under a key, if the host reaches it
 abbrev pub growth_of : List ℕ → Result ⊤ ScriptFault → (ℕ → Action) → Data → Result Action ScriptFault
 growth_of key access action d = do
   _ ← only (key ∷ []) d
@@ -205,11 +205,11 @@ grow_of m d = growth_of (codes "grow") (memory_access m) actions.Grow d
 unfoldable pub grow_table_of : Module → Data → Result Action ScriptFault
 grow_table_of m d = growth_of (codes "grow_table") (table_access m) actions.GrowTable d
 
--- a function that the module defines
+-- the module defines the function; it is not an import
 unfoldable pub is_defined : Module → ℕ → List ℕ → Result ⊤ ScriptFault
 is_defined m func name = if nat_lt func (imported_funcs m) then Err (CallsOwn name) else Ok tt
 
--- values of the types of a function's parameters
+-- the values have the types of a function's parameters
 abbrev pub are_arguments : Option FuncType → List ℕ → List Val → Result ⊤ ScriptFault
 are_arguments None name args = Err (WrongType name)
 are_arguments (Some ty) name args =
@@ -264,7 +264,7 @@ action_with m place GrowTable d = grow_table_of m d
 action_with m place Call d = call_of m d
 action_with m place CallTable d = call_table_of m d
 
--- an object with exactly one lead key
+-- the action with its lead key, if it has exactly one
 abbrev pub action_by : Module → Place → List Lead → Data → Result Action ScriptFault
 action_by m place (lead ∷ []) d = action_with m place lead d
 action_by m place leads d = Err (Shape [])
@@ -272,6 +272,6 @@ action_by m place leads d = Err (Shape [])
 unfoldable pub action_of : Module → Place → Data → Result Action ScriptFault
 action_of m place d = action_by m place (leads_in d) d
 
--- actions under a key, none where the key is missing
+-- the actions under a key; an empty list if the key is missing
 abbrev pub actions_under : Module → Place → List ℕ → Data → Result (List Action) ScriptFault
 actions_under m place key d = under_or key [] (list_of (action_of m place)) d

@@ -5,3 +5,4 @@ pub mod Places
 pub mod Texts
 pub mod ImportTexts
 pub mod CommonTypes
+pub mod FittingScripts

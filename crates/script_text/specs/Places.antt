@@ -1,4 +1,4 @@
--- Where an action stands, what a global is named by, and what is wrong with a name, as code says it.
+-- The definitions that code has for the place of an action, for a global's names, and for a name's fault.
 use Rattle.std.specs.Prelude.{ℕ, List, Option, Some, None}
 use Rattle.std.specs.Borrow.{Bor}
 use Rattle.wasm_syntax.specs.declared.signatures.FuncType.{FuncType}
@@ -10,7 +10,7 @@ use Rattle.script_text.specs.declared.places.Place as code
 use Rattle.script_text.specs.declared.targets.Target as named
 use Rattle.script_text.specs.Actions.{Place, InMain, InResponse, Target, Exported, Imported}
 
--- in a response where types are there
+-- the place is in a response if there are types
 abbrev pub place_at : List ℕ → Option (Bor (List FuncType)) → Place
 place_at name None = InMain
 place_at name (Some types) = InResponse name types.now
@@ -25,7 +25,7 @@ target_by (Some from) name = Imported from.now name.now
 abbrev pub target_from : named.Target → Target
 target_from target = target_by target.from target.name
 
--- the fault of a name
+-- the fault of this kind, with the name
 abbrev pub fault_of_name : NameFault → List ℕ → ScriptFault
 fault_of_name kind.Unknown name = UnknownName name
 fault_of_name kind.WrongType name = WrongType name

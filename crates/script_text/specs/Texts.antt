@@ -1,6 +1,6 @@
--- What the text of a script means for a module. The keys of the script are walked in the order in which
--- they stand here, names in the order of their bytes, and lists in order. In each object a key that is
--- not listed comes first.
+-- What the text of a script means for a module. The keys of the script are walked in the order of `script_of`,
+-- names in the order of their bytes, and the items of a list by index. In each object a key that is not listed
+-- is the first fault.
 use Rattle.std.specs.Prelude.{ℕ, List, [], ◌∷◌, map, codes, Bool, true, Option, Some, None, option_and_then, Result, Ok, Err, if◌then◌else◌, ⊤}
 use Rattle.std.specs.Str.{is_utf8}
 use Rattle.std.specs.Result.{result_ok}
@@ -30,11 +30,11 @@ use Rattle.script_text.specs.Actions.{InMain, InResponse, actions_under}
 
 -- ---- responses
 
--- a function returns values of this type, or none
+-- the function returns one value of this type, or nothing if there is no value
 abbrev pub returns : Option Val → FuncType → Bool
 returns value ty = same_types (map (λ v. v.ty) (option_to_list value)) ty.results
 
--- the value that is returned, or none, is what each of the functions that are answered returns
+-- each of the functions that are answered returns a value of this type, or nothing if there is no value
 unfoldable pub fits_results : (name : List ℕ) (types : List FuncType) → Option Val → Result ⊤ ScriptFault
 fits_results name types value =
     if list_all (returns value) types
@@ -51,7 +51,7 @@ return_of name types d = do
   _ ← fits_results name types value
   Ok (Return value)
 
--- by what stands under `return` and under `trap`: not both
+-- the end of a response, by the texts under `return` and under `trap`, which exclude each other
 abbrev pub end_by : (name : List ℕ) (types : List FuncType) → (returned trapped : Option Data) → Data
     → Result ResponseEnd ScriptFault
 end_by name types (Some r) (Some t) d = Err (Shape [])
@@ -61,7 +61,7 @@ end_by name types returned None d = return_of name types d
 unfoldable pub end_of : (name : List ℕ) (types : List FuncType) → Data → Result ResponseEnd ScriptFault
 end_of name types d = end_by name types (get (codes "return") d) (get (codes "trap") d) d
 
--- a response to calls of the functions imported under two names, the second of which this is, of these types
+-- a response to calls of the functions of these types, whose imports have `name` as their second name
 unfoldable pub response_of : Module → (name : List ℕ) (types : List FuncType) → Data → Result Response ScriptFault
 response_of m name types d = do
   _ ← only (codes "do" ∷ codes "return" ∷ codes "trap" ∷ []) d
@@ -69,7 +69,7 @@ response_of m name types d = do
   «end» ← end_of name types d
   Ok (record { actions = actions; «end» = «end» })
 
--- the answers to their calls
+-- the answers to calls of the functions of these types, whose imports have `name` as their second name
 unfoldable pub answer_of : Module → (name : List ℕ) (types : List FuncType) → Data → Result Answer ScriptFault
 answer_of m name types d = do
   _ ← only (codes "calls" ∷ codes "rest" ∷ []) d
@@ -79,8 +79,8 @@ answer_of m name types d = do
 
 -- ---- globals and imports
 
--- names in the order of their bytes, in which `serde_json` has an object's members: each is one that is
--- known, and what stands under it is looked at
+-- the walk over an object's members in the order of their names' bytes, which is the order of `serde_json`: each
+-- name is known, and `look` finds no fault in its value
 unfoldable pub each_name : (List ℕ → Bool) → (List ℕ → Data → Result ⊤ ScriptFault) → Members → Result ⊤ ScriptFault
 each_name is_known look no_members = Ok tt
 each_name is_known look (member name d ms) = do
@@ -91,12 +91,12 @@ abbrev pub each_in : (List ℕ → Bool) → (List ℕ → Data → Result ⊤ S
 each_in is_known look None = Err (Shape [])
 each_in is_known look (Some ms) = each_name is_known look ms
 
--- what is read is in order, whatever it is
+-- the first fault of what is read, if there is one
 abbrev pub in_order : {A : Type 0} → Result A ScriptFault → Result ⊤ ScriptFault
 in_order (Ok a) = Ok tt
 in_order (Err fault) = Err fault
 
--- the names of imports of one kind, under the names of their modules
+-- the walk over an object of modules' names, each with an object of the names of imports of one kind
 abbrev pub each_import : {K : Type 0} → (ImportKind → Option K) → Module
     → (look : (from name : List ℕ) → Data → Result ⊤ ScriptFault) → Data → Result ⊤ ScriptFault
 each_import pick m look d =
@@ -104,18 +104,18 @@ each_import pick m look d =
     (λ from names. each_in (imports_named pick m from) (look from) (as_object names))
     (as_object d)
 
--- a value of a global; the answers to calls of functions
+-- the walk over the value of a global; over the answers to calls of a function
 abbrev pub look_value : (from name : List ℕ) → Data → Result ⊤ ScriptFault
 look_value from name d = in_order (value_of d)
 
 abbrev pub look_answer : Module → (from name : List ℕ) → Data → Result ⊤ ScriptFault
 look_answer m from name d = in_order (answer_of m name (func_types_named m from name) d)
 
--- what a JSON value holds under the names of an import
+-- the member of a JSON value under the two names of an import
 abbrev pub member_for : Option Data → Import → Option Data
 member_for d import = option_and_then (get import.name) (option_and_then (get import.«module») d)
 
--- an imported global takes the value under its names, and an imported function the answers
+-- the value of an imported global; the answers of an imported function
 abbrev pub value_for : Option Data → Import → Option Val
 value_for d import = option_and_then (λ v. result_ok (value_of v)) (member_for d import)
 
@@ -147,6 +147,6 @@ abbrev pub script_in : Module → Option Data → Result Script ScriptFault
 script_in m None = Err NotJson
 script_in m (Some d) = script_of m d
 
--- the script that bytes are for a module, or the first fault of the walk
+-- the script that bytes mean for a module, or the first fault of the walk
 abbrev pub script_of_text : Module → List ℕ → Result Script ScriptFault
 script_of_text m bytes = if is_utf8 bytes then script_in m (read bytes) else Err NotJson

@@ -14,11 +14,11 @@ use Rattle.script_text.specs.Walk.{◌>>=◌, below, or_shape, only, under, unde
 
 -- ---- numbers
 
--- the integer that a JSON value is: one for which `as_i64` or `as_u64` answers
+-- the integer that a JSON value is, if `as_i64` or `as_u64` gives one
 abbrev pub integer_of : Data → Option ℤ
 integer_of d = option_and_then as_integer (as_number d)
 
--- the bits of an integer from a least one on that is below 2 ^ width, a negative one in two's complement
+-- the bits of an integer that is at least `least` and below 2 ^ width; a negative integer is in two's complement
 abbrev pub bits_from : (least : ℤ) (width : ℕ) → ℤ → Option ℕ
 bits_from least width (pos n) = if nat_lt n (2 ^ width) then Some n else None
 bits_from least width (negsuc n) = if int_le least (negsuc n) then Some (2 ^ width - suc n) else None
@@ -32,14 +32,14 @@ u32_of d = bits_of (pos 0) 32 d
 
 -- ---- values
 
--- the bits under the name of a type
+-- a value of a type, of the number under the type's name
 abbrev pub val_of_type : List ℕ → ValType → (least : ℤ) (width : ℕ) → Data → Result Val ScriptFault
 val_of_type key ty least width d = do
   bits ← below key (bits_of least width d)
   Ok (record { ty = ty; bits = bits })
 
--- by what stands under the name of each type; an i32 is from -2 ^ 31 on, an i64 from -2 ^ 63 on, and
--- bits stand for an f32 or an f64
+-- a value, by the text under the name of each type: an i32 is at least -2 ^ 31, an i64 at least -2 ^ 63, and an
+-- f32 or an f64 is given by its bits
 abbrev pub value_by : (i32 i64 f32 f64 : Option Data) → Result Val ScriptFault
 value_by (Some d) i64 f32 f64 = val_of_type (codes "i32") I32 (negsuc (2 ^ 31 - 1)) 32 d
 value_by None (Some d) f32 f64 = val_of_type (codes "i64") I64 (negsuc (2 ^ 63 - 1)) 64 d
@@ -47,19 +47,19 @@ value_by None None (Some d) f64 = val_of_type (codes "f32") F32 (pos 0) 32 d
 value_by None None None (Some d) = val_of_type (codes "f64") F64 (pos 0) 64 d
 value_by None None None None = Err (Shape [])
 
--- an object with one key
+-- an object with exactly one key
 abbrev pub has_one_key : Option Members → Bool
 has_one_key None = false
 has_one_key (Some ms) = length (keys_of ms) == 1
 
--- a value is an object with one key, the name of its type
+-- a value: an object whose one key is the name of the value's type
 unfoldable pub value_of : Data → Result Val ScriptFault
 value_of d =
     if has_one_key (as_object d)
     then value_by (get (codes "i32") d) (get (codes "i64") d) (get (codes "f32") d) (get (codes "f64") d)
     else Err (Shape [])
 
--- values under a key, none where the key is missing
+-- the values under a key; an empty list if the key is missing
 abbrev pub values_under : List ℕ → Data → Result (List Val) ScriptFault
 values_under key d = under_or key [] (list_of value_of) d
 
@@ -80,7 +80,7 @@ bytes_of d = or_shape (option_and_then (λ text. result_ok (decode_of text)) (as
 
 -- ---- limits
 
--- of a memory or a table, by the key of its minimum
+-- the limits of a memory or a table, with the key of the minimum
 abbrev pub limits_of : List ℕ → Data → Result Limits ScriptFault
 limits_of least d = do
   _ ← only (least ∷ codes "max" ∷ []) d

@@ -1,4 +1,4 @@
--- How a walk over a JSON value goes: its parts in order, up to the first fault.
+-- How a JSON value is walked: its parts in sequence, up to the first fault.
 use Rattle.std.specs.Prelude.{◌≡◌, ℕ, ◌+◌, ◌==◌, Bool, false, List, [], ◌∷◌, ◌++◌, flat_map, codes, decimal, Option, Some, None, Result, Ok, Err, ⊤, if◌then◌else◌}
 use Rattle.std.specs.Str.{bytes_eq}
 use Rattle.std.specs.List.{list_any, list_all}
@@ -7,16 +7,17 @@ use Rattle.serde_json.specs.Find.{get, as_array, as_object}
 use Rattle.script_text.specs.declared.faults.ScriptFault.{ScriptFault}
 use Rattle.script_text.specs.declared.faults.ScriptFault.TheVariants.{Shape, Memory}
 
--- one thing is read and then another, up to the first fault
+-- reads one thing and then another, up to the first fault
 infixl 10 ◌>>=◌
 abbrev pub ◌>>=◌ : {A B : Type 0} → Result A ScriptFault → (A → Result B ScriptFault) → Result B ScriptFault
 (Ok a) >>= next = next a
 (Err fault) >>= next = Err fault
 
--- what a call answers is what is meant, unless an allocation failed
+-- a call returns the fault that is meant, unless an allocation failed
 abbrev pub Fails : {B : Type 0} → ScriptFault → Result B ScriptFault → Type 0
 Fails fault meant = (fault ≡ Memory → ⊥) → meant ≡ Err fault
 
+-- a call returns the meant result, seen through `view`, unless an allocation failed
 abbrev pub Gives : {A B : Type 0} → (A → B) → Result A ScriptFault → Result B ScriptFault → Type 0
 Gives view (Ok a) meant = meant ≡ Ok (view a)
 Gives view (Err fault) meant = Fails fault meant
@@ -31,7 +32,7 @@ escape_of byte = if byte == 126 then codes "~0" else if byte == 47 then codes "~
 abbrev pub part : List ℕ → List ℕ
 part step = 47 ∷ flat_map escape_of step
 
--- a fault of what stands under a key or an index: its path begins there
+-- a fault found under a key or an index: its path begins with the key or the index
 abbrev pub fault_below : List ℕ → ScriptFault → ScriptFault
 fault_below step (Shape path) = Shape (part step ++ path)
 fault_below step fault = fault
@@ -42,12 +43,12 @@ below step (Err fault) = Err (fault_below step fault)
 
 -- ---- forms
 
--- a value that is read, or is of the wrong form itself
+-- a value that is read, or the fault of its form
 abbrev pub or_shape : {A : Type 0} → Option A → Result A ScriptFault
 or_shape None = Err (Shape [])
 or_shape (Some a) = Ok a
 
--- what stands under a key that is needed, where a missing key is a fault of the object's form
+-- what is read under a key; a missing key is a fault of the object's form
 abbrev pub read_some : {A : Type 0} → List ℕ → (Data → Result A ScriptFault) → Option Data → Result A ScriptFault
 read_some key read None = Err (Shape [])
 read_some key read (Some d) = below key (read d)
@@ -55,7 +56,7 @@ read_some key read (Some d) = below key (read d)
 abbrev pub under : {A : Type 0} → List ℕ → (Data → Result A ScriptFault) → Data → Result A ScriptFault
 under key read d = read_some key read (get key d)
 
--- what stands under a key, or another thing where the key is missing
+-- what is read under a key, or `missing` if the key is missing
 abbrev pub read_any : {A : Type 0} → List ℕ → A → (Data → Result A ScriptFault) → Option Data → Result A ScriptFault
 read_any key missing read None = Ok missing
 read_any key missing read (Some d) = below key (read d)
@@ -63,7 +64,7 @@ read_any key missing read (Some d) = below key (read d)
 abbrev pub under_or : {A : Type 0} → List ℕ → A → (Data → Result A ScriptFault) → Data → Result A ScriptFault
 under_or key missing read d = read_any key missing read (get key d)
 
--- the same, with no thing in place of another
+-- what is read under a key, or `None` if the key is missing
 abbrev pub some_of : {A : Type 0} → Result A ScriptFault → Result (Option A) ScriptFault
 some_of (Ok a) = Ok (Some a)
 some_of (Err fault) = Err fault
@@ -76,7 +77,7 @@ abbrev pub keys_of : Members → List (List ℕ)
 keys_of no_members = []
 keys_of (member key d ms) = key ∷ keys_of ms
 
--- an object, with no other keys than these
+-- an object that has no other keys than these
 abbrev pub are_listed : List (List ℕ) → Option Members → Bool
 are_listed listed None = false
 are_listed listed (Some ms) = list_all (λ key. list_any (bytes_eq key) listed) (keys_of ms)
@@ -86,11 +87,11 @@ only listed d = if are_listed listed (as_object d) then Ok tt else Err (Shape []
 
 -- ---- lists
 
--- what stands at an index
+-- what is read at an index of a list
 abbrev pub at_index : {A : Type 0} → ℕ → (Data → Result A ScriptFault) → Data → Result A ScriptFault
 at_index index read d = below (decimal index) (read d)
 
--- the items of a list from this index on, in order
+-- the items of a list from this index on
 unfoldable pub items_from : {A : Type 0} → (Data → Result A ScriptFault) → ℕ → Items → Result (List A) ScriptFault
 items_from read index no_items = Ok []
 items_from read index (item d ds) = do
@@ -98,7 +99,7 @@ items_from read index (item d ds) = do
   others ← items_from read (index + 1) ds
   Ok (first ∷ others)
 
--- a list
+-- what is read from the items of a list; a value that is not a list has the wrong form
 abbrev pub items_in : {A : Type 0} → (Data → Result A ScriptFault) → Option Items → Result (List A) ScriptFault
 items_in read None = Err (Shape [])
 items_in read (Some ds) = items_from read 0 ds

@@ -18,7 +18,7 @@ use serde_json::Value;
 use std::alloc::Global;
 use wasm_syntax::Vals;
 
-/// Tests that what has this name is reached.
+/// Tests that the host reaches the memory or the table of this name.
 fn access_to(alloc: Global, reached: bool, name: &str) -> Result<(), ScriptFault>
     ensures { Gives (λ u. u) result (access_where reached name.now) }
 {
@@ -90,7 +90,7 @@ fn func_named(alloc: Global, names: &ModuleNames<'_>, name: &str) -> Result<u32,
     }
 }
 
-/// The exported function of a name, or none where there is no name.
+/// The exported function of a name, or `None` if there is no name.
 #[tactic(auto, unfolding(crate::specs::Actions::entry_named))]
 fn entry_named(
     alloc: Global,
@@ -149,7 +149,7 @@ pub(crate) fn read_grow_table(
     Ok(Action::GrowTable { entries })
 }
 
-/// Tests that a function is none of the imports.
+/// Tests that the module defines a function.
 #[tactic(auto, unfolding(crate::specs::Actions::is_defined))]
 fn is_defined(
     alloc: Global,

@@ -7,18 +7,18 @@ ghost use Rattle.script_text.specs.Texts.{returns as type_returns};
 ghost use Rattle.script_text.specs.CommonTypes.{params_of_first, value_of_types as value_of_few, HoldsFlags, HoldsReturns};
 
 use crate::types::are_of_types;
+use base::NoMemory;
 use host_script::is_type;
-use no_memory::NoMemory;
 use std::alloc::Global;
 use std::marker::Model;
 use wasm_syntax::{FuncType, Val, ValType};
 
-/// The types of several functions, with what all of them have in common, so that no test goes through
-/// them one by one.
+/// The types of several functions, with what all of them have in common, so that no test goes through them one
+/// by one.
 #[derive(Drop)]
 pub(crate) struct CommonTypes<'l, 't> {
     types: &'l [&'t FuncType],
-    /// Of each parameter of the first type, whether it is an i32 in all of them.
+    /// For each parameter of the first type, whether it is an i32 in all types.
     i32_flags: Vec<bool>,
     /// Whether all of them return what the first returns.
     same_returns: bool,
@@ -54,7 +54,7 @@ impl<'l, 't> CommonTypes<'l, 't> {
         })
     }
 
-    /// Whether each of the functions has this parameter, an i32.
+    /// Whether this parameter of each function is an i32.
     pub(crate) fn take_i32(&self, number: u32) -> bool
         ensures { result ≡ list_all (type_takes_i32 number) self.now }
     {
@@ -84,7 +84,7 @@ fn takes_i32(ty: &FuncType, number: usize) -> bool
     }
 }
 
-/// Whether each of these functions has this parameter, an i32.
+/// Whether this parameter is an i32 in each of these types.
 fn all_take_i32(types: &[&FuncType], number: usize) -> bool
     ensures { result ≡ list_all (type_takes_i32 number) (map (λ ty. ty.now) types.now) }
 {
@@ -96,7 +96,7 @@ fn all_take_i32(types: &[&FuncType], number: usize) -> bool
     true
 }
 
-/// For a given number of parameters, whether each is an i32 in all of these types.
+/// For each number below a count, whether the parameter of this number is an i32 in all of these types.
 fn flags_up_to(alloc: Global, types: &[&FuncType], count: usize) -> Result<Vec<bool>, NoMemory>
     ensures { IfOk result (λ flags. flags.items
         ≡ map (λ number. list_all (type_takes_i32 number) (map (λ ty. ty.now) types.now)) (range_with_len 0 count)) }
@@ -108,7 +108,7 @@ fn flags_up_to(alloc: Global, types: &[&FuncType], count: usize) -> Result<Vec<b
     Ok(flags)
 }
 
-/// How many parameters the first of these types has.
+/// The number of parameters of the first of these types.
 fn count_of_first(types: &[&FuncType]) -> usize
     ensures { result ≡ params_of_first (map (λ ty. ty.now) types.now) }
 {
@@ -118,7 +118,7 @@ fn count_of_first(types: &[&FuncType]) -> usize
     }
 }
 
-/// Of each parameter of the first of these types, whether it is an i32 in all of them.
+/// For each parameter of the first of these types, whether it is an i32 in all of them.
 fn common_flags(alloc: Global, types: &[&FuncType]) -> Result<Vec<bool>, NoMemory>
     ensures { IfOk result (λ flags. HoldsFlags flags.items (map (λ ty. ty.now) types.now)) }
 {
@@ -146,7 +146,7 @@ fn all_return(types: &[&FuncType], value: Option<Val>) -> bool
     true
 }
 
-/// A value of these types, or none, where they are no more than one.
+/// A value of these types, or no value if the list is empty; `None` if the list has more than one type.
 fn value_of_types(types: &[ValType]) -> Option<Option<Val>>
     ensures { result ≡ value_of_few types.now }
 {

@@ -1,4 +1,4 @@
-// Why a text is no script for a module.
+// Why a text is not a script for a module.
 
 ghost use Rattle.std.specs.Prelude.{◌≡◌, ◌++◌, ◌∷◌, [], OnOk, IfErr, IfOk};
 ghost use Rattle.script_text.specs.declared.faults.ScriptFault.TheVariants.{Memory};
@@ -11,30 +11,30 @@ use wasm_syntax::Name;
 /// The first fault of a script's text.
 #[derive(Debug, Drop, Error)]
 pub enum ScriptFault {
-    /// The bytes are no JSON text.
+    /// The bytes are not a JSON text.
     #[error("not json")]
     NotJson,
-    /// A value has none of the forms that may stand in its place. The path is the JSON Pointer
-    /// (RFC 6901) of the innermost such value.
+    /// A value does not have a form that is allowed at its place. The path is the JSON Pointer (RFC 6901) of the
+    /// innermost such value.
     #[error("a value of the wrong form")]
     Shape { path: Name },
-    /// Nothing of this name is there.
+    /// The name is not known.
     #[error("an unknown name")]
     UnknownName { name: Name },
-    /// What is given for this name has the wrong type.
+    /// A value for this name has the wrong type.
     #[error("a value of the wrong type")]
     WrongType { name: Name },
-    /// What this name stands for can't be reached, or not be changed.
+    /// What has this name can't be reached or can't be changed.
     #[error("no access")]
     NoAccess { name: Name },
-    /// This name is that of an import, which the host can't call.
+    /// The function of this name is an import, which the host can't call.
     #[error("a call of an import")]
     CallsOwn { name: Name },
     #[error("out of memory")]
     Memory,
 }
 
-/// What is wrong with what a name stands for.
+/// The kind of a fault that has a name.
 #[derive(Clone, Copy)]
 pub(crate) enum NameFault {
     Unknown,

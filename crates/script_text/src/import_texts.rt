@@ -1,4 +1,4 @@
-// What a script says under the names of imports: looked at in the order of the names' bytes.
+// The walk over a script's texts under the names of imports, in the order of the names' bytes.
 
 ghost use Rattle.std.specs.Prelude.{◌≡◌};
 ghost use Rattle.serde_json.specs.Find.{as_object};
@@ -16,14 +16,14 @@ use module_names::ModuleNames;
 use serde_json::{Map, Value};
 use std::alloc::Global;
 
-/// What stands under the names of imports: values of globals, or answers to the calls of functions.
+/// The kind of the texts under the names of imports: values of globals, or answers to calls of functions.
 #[derive(Clone, Copy)]
 pub(crate) enum ImportTexts {
     Values,
     Answers,
 }
 
-/// Whether such imports are imported from a module of this name.
+/// Whether some import of this kind has this module name.
 fn has_module(names: &ModuleNames<'_>, texts: ImportTexts, from: &str) -> bool
     ensures { result ≡ is_module texts names.now from.now }
 {
@@ -33,7 +33,7 @@ fn has_module(names: &ModuleNames<'_>, texts: ImportTexts, from: &str) -> bool
     }
 }
 
-/// Whether such imports are imported under two names.
+/// Whether some import of this kind has these two names.
 fn has_names<'a>(names: &ModuleNames<'a>, texts: ImportTexts, from: &'a str, name: &'a str) -> bool
     ensures { result ≡ are_names texts names.now from.now name.now }
 {
@@ -63,7 +63,7 @@ fn look_at_answer<'a>(
     Ok(())
 }
 
-/// Looks at one value, or at the answers of one function.
+/// Walks over one value, or over the answers of one function.
 fn look_at_text<'a>(
     alloc: Global,
     names: &ModuleNames<'a>,
@@ -80,7 +80,7 @@ fn look_at_text<'a>(
     }
 }
 
-/// Looks at what stands under the name of an import.
+/// Walks over the text under the name of an import.
 fn look_at_name<'a>(
     alloc: Global,
     names: &ModuleNames<'a>,
@@ -134,7 +134,7 @@ fn look_at_names_in<'a>(
     }
 }
 
-/// Looks at what stands under the name of a module.
+/// Walks over the texts under the name of a module.
 fn look_at_module<'a>(
     alloc: Global,
     names: &ModuleNames<'a>,
@@ -170,7 +170,7 @@ fn look_at_modules<'a>(
     Ok(())
 }
 
-/// Looks at all that stands under the names of such imports.
+/// Walks over all texts under the names of imports of one kind.
 pub(crate) fn look_at_imports<'a>(
     alloc: Global,
     names: &ModuleNames<'a>,

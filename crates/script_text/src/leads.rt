@@ -1,4 +1,4 @@
-// The keys that tell one action from another.
+// The keys that distinguish the actions.
 
 /// The lead key of an action.
 #[derive(Clone, Copy)]

@@ -1,10 +1,11 @@
-//! The text of a script, read for a module: the script that it is, or the first fault of its form,
-//! its names and its types.
+//! Reads the text of a script for a module: returns the script, or the first fault of its form, its names and
+//! its types.
 #![tactic(auto)]
 
 mod actions;
 mod common_types;
 pub mod faults;
+mod fitting_scripts;
 mod import_texts;
 pub mod leads;
 mod objects;
@@ -16,7 +17,8 @@ mod targets;
 mod types;
 mod values;
 
+pub use base::NoMemory;
 pub use faults::ScriptFault;
+pub use fitting_scripts::scripts_that_are_read_fit;
 pub use leads::Lead;
-pub use no_memory::NoMemory;
 pub use scripts::read_script;

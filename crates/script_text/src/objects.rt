@@ -1,4 +1,4 @@
-// Objects with listed keys, and what stands under them: texts, bytes, limits.
+// Objects with listed keys, and the texts, bytes and limits under their keys.
 
 ghost use Rattle.std.specs.Prelude.{◌≡◌, map, option_map, List};
 ghost use Rattle.std.specs.List.{list_any, list_all};
@@ -58,7 +58,7 @@ pub(crate) fn read_text(alloc: Global, value: &Value) -> Result<&str, ScriptFaul
     }
 }
 
-/// A text under a key that is needed.
+/// The text under a required key.
 pub(crate) fn text_under<'v>(
     alloc: Global,
     object: &'v Value,
@@ -82,7 +82,7 @@ fn read_text_or_null(alloc: Global, value: &Value) -> Result<Option<&str>, Scrip
     }
 }
 
-/// A text or null under a key that is needed.
+/// The text, or null, under a required key.
 pub(crate) fn text_or_null_under<'v>(
     alloc: Global,
     object: &'v Value,
@@ -111,7 +111,7 @@ fn read_bytes(alloc: Global, value: &Value) -> Result<Bytes, ScriptFault>
     }
 }
 
-/// The bytes of a hexadecimal text under a key that is needed.
+/// The bytes of a hexadecimal text under a required key.
 pub(crate) fn bytes_under(alloc: Global, object: &Value, key: &str) -> Result<Bytes, ScriptFault>
     ensures { Gives (λ bytes. bytes) result (under key.now bytes_of (view object.now)) }
 {
@@ -121,7 +121,7 @@ pub(crate) fn bytes_under(alloc: Global, object: &Value, key: &str) -> Result<By
     }
 }
 
-/// The limits of a memory or a table, by the key of the minimum.
+/// The limits of a memory or a table, with the key of the minimum.
 fn read_limits(alloc: Global, value: &Value, least: &str) -> Result<Limits, ScriptFault>
     ensures { Gives (λ limits. limits) result (limits_of least.now (view value.now)) }
 {
@@ -131,7 +131,7 @@ fn read_limits(alloc: Global, value: &Value, least: &str) -> Result<Limits, Scri
     Ok(Limits { min, max })
 }
 
-/// Limits under a key, or none where the key is missing.
+/// The limits under a key, or `None` if the key is missing.
 pub(crate) fn limits_if_there(
     alloc: Global,
     object: &Value,

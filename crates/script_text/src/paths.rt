@@ -1,16 +1,16 @@
-// The paths of faults, which grow on the way out of the values that they stand in.
+// The paths of faults: each enclosing value puts its key or index in front.
 
 ghost use Rattle.std.specs.Prelude.{◌≡◌, [], ◌++◌, decimal, OnOk, IfOk};
 ghost use Rattle.script_text.specs.Walk.{Gives, part, fault_below as fault_under, below as result_below};
 ghost use Rattle.script_text.specs.declared.faults.ScriptFault.TheVariants.{Shape, Memory};
 
 use crate::faults::ScriptFault;
+use base::NoMemory;
 use itoa::Buffer;
-use no_memory::NoMemory;
 use std::alloc::Global;
 use wasm_syntax::Name;
 
-/// The fault of a value of the wrong form itself. Takes no memory.
+/// The fault of a value's own form, with an empty path. Takes no memory.
 pub(crate) fn shape(alloc: Global) -> ScriptFault
     ensures { result ≡ Shape [] }
 {
@@ -46,7 +46,7 @@ fn path_below(alloc: Global, step: &str, path: &Name) -> Result<Name, NoMemory>
     }
 }
 
-/// The fault of what stands under a key or an index.
+/// The fault that was found under a key or an index.
 fn fault_below(alloc: Global, step: &str, fault: ScriptFault) -> ScriptFault
     ensures { (result ≡ Memory → ⊥) → result ≡ fault_under step.now fault }
 {

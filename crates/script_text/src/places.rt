@@ -1,4 +1,4 @@
-// Where actions stand, and the addresses in them.
+// The places of actions, and the addresses in actions.
 
 ghost use Rattle.serde_json.specs.View.{view};
 ghost use Rattle.script_text.specs.Walk.{Gives, under};
@@ -14,8 +14,8 @@ use host_script::Address;
 use serde_json::Value;
 use std::alloc::Global;
 
-/// Where an action stands: in `main`, or in a response to calls of the functions imported under two
-/// names, of which these are the second name and the types.
+/// The place of an action: in `main`, or in a response to calls of the functions imported under two names.
+/// `name` is the second name, and `types` has the types of these functions.
 #[derive(Clone, Copy)]
 pub(crate) struct Place<'n, 's, 'l, 't> {
     pub(crate) name: &'n str,
@@ -46,7 +46,7 @@ fn read_address(
     Ok(Address::Fixed(read_u32(alloc, value)?))
 }
 
-/// An address under a key that is needed.
+/// The address under a required key.
 pub(crate) fn address_under(
     alloc: Global,
     place: &Place<'_, '_, '_, '_>,
@@ -62,7 +62,7 @@ pub(crate) fn address_under(
     }
 }
 
-/// Tests that an argument is there and an i32, for each of the functions that are answered.
+/// Tests that an argument exists and is an i32, for each of the functions that are answered.
 #[tactic(auto, unfolding(crate::specs::Actions::fits_address))]
 pub(crate) fn fits_address(
     alloc: Global,

@@ -26,7 +26,7 @@ use serde_json::Value;
 use std::alloc::Global;
 use wasm_syntax::{FuncType, List, Val};
 
-/// An action with this lead key.
+/// Reads an action that has this lead key.
 fn read_with<'a>(
     alloc: Global,
     names: &ModuleNames<'a>,
@@ -48,7 +48,7 @@ fn read_with<'a>(
     }
 }
 
-/// The keys that lead actions are known by.
+/// The text of a lead key.
 fn key_text(lead: Lead) -> &'static str
     ensures { result.now ≡ key_of lead }
 {
@@ -82,7 +82,7 @@ fn has_lead(value: &Value, lead: Lead) -> bool
     value.get(key_text(lead)).is_some()
 }
 
-/// The lead keys that are there.
+/// The lead keys of an object.
 fn leads_of(alloc: Global, value: &Value) -> Result<Vec<Lead>, ScriptFault>
     ensures { Gives (λ leads. leads.items) result (Ok (leads_in (view value.now))) }
 {
@@ -143,7 +143,7 @@ fn read_actions<'a>(
     Ok(List::from_vec(found))
 }
 
-/// Actions under a key, none where the key is missing.
+/// The actions under a key, or an empty list if the key is missing.
 pub(crate) fn actions_under<'a>(
     alloc: Global,
     names: &ModuleNames<'a>,
@@ -167,7 +167,7 @@ pub(crate) fn actions_under<'a>(
     }
 }
 
-/// Tests that a value, or none, is what each of the functions that are answered returns.
+/// Tests that each of the functions that are answered returns a value of this type, or nothing without a value.
 #[tactic(auto, unfolding(crate::specs::Texts::fits_results))]
 fn fits_results(
     alloc: Global,
@@ -229,7 +229,7 @@ fn read_end(
     }
 }
 
-/// A response to calls of the functions imported under two names, the second of which this is.
+/// A response to calls of the functions imported under two names; `name` is the second.
 #[tactic(auto, unfolding(crate::specs::Texts::response_of))]
 fn read_response<'a>(
     alloc: Global,
@@ -288,7 +288,7 @@ fn read_responses<'a>(
     Ok(List::from_vec(found))
 }
 
-/// Responses under `calls`, none where the key is missing.
+/// The responses under `calls`, or an empty list if the key is missing.
 fn read_calls<'a>(
     alloc: Global,
     names: &ModuleNames<'a>,
@@ -313,7 +313,7 @@ fn read_calls<'a>(
     }
 }
 
-/// The response under `rest`, or none.
+/// The response under `rest`, or `None` if the key is missing.
 fn read_rest<'a>(
     alloc: Global,
     names: &ModuleNames<'a>,
@@ -335,7 +335,7 @@ fn read_rest<'a>(
     }
 }
 
-/// The answers to the calls of the functions imported under two names, the second of which this is.
+/// The answers to the calls of the functions imported under two names; `name` is the second.
 #[tactic(auto, unfolding(crate::specs::Texts::answer_of))]
 fn read_answer<'a>(
     alloc: Global,

@@ -1,4 +1,4 @@
-// Scripts: what each import takes of a text, and the whole.
+// Scripts: the values and answers that imports take from a text, and the whole script.
 
 ghost use Rattle.std.specs.Prelude.{◌≡◌, map, option_map, option_and_then, option_copied, slice_get, codes, IfSome};
 ghost use Rattle.serde_json.specs.View.{view};
@@ -21,7 +21,7 @@ use serde_json::Value;
 use std::alloc::Global;
 use wasm_syntax::{Import, List, Module, Val};
 
-/// What stands under the names of an import.
+/// The text under the two names of an import.
 fn member_for<'v>(texts: Option<&'v Value>, import: &Import) -> Option<&'v Value>
     ensures { option_map (λ v. view v.now) result
         ≡ member_under (option_map (λ v. view v.now) texts.entry) import.now }
@@ -71,7 +71,7 @@ fn answer_for<'a>(
     }
 }
 
-/// What each imported global takes.
+/// The value of each imported global.
 fn values_for(
     alloc: Global,
     texts: Option<&Value>,
@@ -89,7 +89,7 @@ fn values_for(
     Ok(List::from_vec(given))
 }
 
-/// The answers that an import before this one takes under the same names.
+/// The answers of an earlier import under the same names.
 fn earlier_answer<'a, 's>(
     firsts: &FirstsByNames<'a>,
     answers: &'s [Option<Answer>],
@@ -102,7 +102,7 @@ fn earlier_answer<'a, 's>(
     answers.get(*first)
 }
 
-/// The answers that an imported function takes, or a copy of those of an import before it.
+/// The answers that an imported function takes, or a copy of the answers of an earlier import.
 fn answer_or_copy<'a>(
     alloc: Global,
     names: &ModuleNames<'a>,
@@ -122,7 +122,7 @@ fn answer_or_copy<'a>(
     }
 }
 
-/// What each imported function takes, with the index of the first import under two names.
+/// The answers of each imported function, with the index of the first import under two names.
 fn answers_by<'a>(
     alloc: Global,
     names: &ModuleNames<'a>,
@@ -145,7 +145,7 @@ fn answers_by<'a>(
     Ok(List::from_vec(answers))
 }
 
-/// What each imported function takes. Of imports under the same names the first one's answers are read,
+/// The answers of each imported function. Among imports under the same names, the answers of the first are read,
 /// and the others take copies.
 fn answers_for<'a>(
     alloc: Global,
@@ -161,7 +161,7 @@ fn answers_for<'a>(
     answers_by(alloc, names, texts, imports, &firsts)
 }
 
-/// Looks at what stands under the names of imports, where the script has a key for it.
+/// Walks over the texts under the names of imports, if the script has a key for them.
 fn look_if_there<'a>(
     alloc: Global,
     names: &ModuleNames<'a>,
@@ -193,7 +193,7 @@ fn read_main<'a>(
     actions_under(alloc, names, &place, object, "main")
 }
 
-/// The script that a JSON value is for a module.
+/// The script that a JSON value means for a module.
 #[tactic(auto, unfolding(crate::specs::Texts::script_of))]
 fn read_value_of_script<'a>(
     alloc: Global,
@@ -236,11 +236,11 @@ fn read_for_module<'a>(
     }
 }
 
-/// The script that a text, in JSON, is for a module.
+/// The script that a JSON text means for a module.
 ///
 /// # Errors
 ///
-/// The first fault of the walk over the text, or `Memory` where an allocation failed.
+/// The first fault of the walk over the text, or `Memory` if an allocation failed.
 pub fn read_script(alloc: Global, bytes: &[u8], module: &Module) -> Result<Script, ScriptFault>
     ensures { Gives (λ script. script) result (script_of_text «module».now bytes.now) }
 {

@@ -15,14 +15,14 @@ use serde_json::Value;
 use std::alloc::Global;
 use wasm_syntax::Val;
 
-/// The names of a global: of an export, or, with the name of its module, of an import.
+/// The names of a global: the name of an export, or the module name and the name of an import.
 #[derive(Clone, Copy)]
 pub(crate) struct Target<'v> {
     pub(crate) from: Option<&'v str>,
     pub(crate) name: &'v str,
 }
 
-/// The names of an import, in a list of two texts.
+/// The names of an import, from a list of two texts.
 fn read_names(alloc: Global, value: &Value) -> Result<Target<'_>, ScriptFault>
     ensures { Gives target_from result (import_names (view value.now)) }
 {
@@ -44,7 +44,7 @@ fn read_names(alloc: Global, value: &Value) -> Result<Target<'_>, ScriptFault>
     }
 }
 
-/// The names of an import, in an object.
+/// The names of an import, from an object.
 fn read_import_target(alloc: Global, value: &Value) -> Result<Target<'_>, ScriptFault>
     ensures { Gives target_from result (import_target (view value.now)) }
 {

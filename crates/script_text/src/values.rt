@@ -12,7 +12,7 @@ use serde_json::{Map, Value};
 use std::alloc::Global;
 use wasm_syntax::{List, Val, ValType, Vals};
 
-/// The bits of an integer, from a least one on and below 2^width, a negative one in two's complement.
+/// The bits of an integer that is at least `least` and below 2^width; a negative integer is in two's complement.
 fn bits_of_integer(number: i128, least: i128, width: u32) -> Option<u64>
     requires width { width ≤ 64 }
     requires least { negsuc (2 ^ width - 1) ≤ℤ least }
@@ -67,7 +67,7 @@ pub(crate) fn read_u32(alloc: Global, value: &Value) -> Result<u32, ScriptFault>
     Ok(bits as u32)
 }
 
-/// A number below 2^32 under a key that is needed.
+/// The number below 2^32 under a required key.
 pub(crate) fn u32_under(alloc: Global, object: &Value, key: &str) -> Result<u32, ScriptFault>
     ensures { Gives (λ n. n) result (under key.now u32_of (view object.now)) }
 {
@@ -77,7 +77,7 @@ pub(crate) fn u32_under(alloc: Global, object: &Value, key: &str) -> Result<u32,
     }
 }
 
-/// A number below 2^32 under a key, or none where the key is missing.
+/// The number below 2^32 under a key, or `None` if the key is missing.
 pub(crate) fn u32_if_there(
     alloc: Global,
     object: &Value,
@@ -91,7 +91,7 @@ pub(crate) fn u32_if_there(
     }
 }
 
-/// A value, under the name of its type.
+/// A value of the type whose name is the key.
 fn read_typed(
     alloc: Global,
     value: &Value,
@@ -125,7 +125,7 @@ fn has_one_key(value: &Value) -> bool
     }
 }
 
-/// A value: an object with one key, the name of its type.
+/// A value: an object whose one key is the name of the value's type.
 #[tactic(auto, unfolding(crate::specs::Values::value_of))]
 pub(crate) fn read_value(alloc: Global, value: &Value) -> Result<Val, ScriptFault>
     ensures { Gives (λ v. v) result (value_of (view value.now)) }
@@ -173,7 +173,7 @@ fn read_values(alloc: Global, values: &[Value]) -> Result<Vals, ScriptFault>
     Ok(List::from_vec(found))
 }
 
-/// Values under a key, none where the key is missing.
+/// The values under a key, or an empty list if the key is missing.
 pub(crate) fn values_under(alloc: Global, object: &Value, key: &str) -> Result<Vals, ScriptFault>
     ensures { Gives (λ v. v) result (values_below key.now (view object.now)) }
 {
@@ -186,7 +186,7 @@ pub(crate) fn values_under(alloc: Global, object: &Value, key: &str) -> Result<V
     }
 }
 
-/// A value under a key that is needed.
+/// The value under a required key.
 pub(crate) fn value_under(alloc: Global, object: &Value, key: &str) -> Result<Val, ScriptFault>
     ensures { Gives (λ v. v) result (under key.now value_of (view object.now)) }
 {
@@ -196,7 +196,7 @@ pub(crate) fn value_under(alloc: Global, object: &Value, key: &str) -> Result<Va
     }
 }
 
-/// A value under a key, or none where the key is missing.
+/// The value under a key, or `None` if the key is missing.
 pub(crate) fn value_if_there(
     alloc: Global,
     object: &Value,

@@ -17,7 +17,7 @@ module _ (kept : Kept) (address : ℕ) (bytes page : List ℕ) (count part : ℕ
   abbrev offset : ℕ
   offset = (address + count) % PAGE_LENGTH
 
-  -- as many known bytes, and those of the run, in this page
+  -- the known bytes in this page; the bytes of the run in this page
   abbrev known_part : List ℕ
   known_part = take (offset + part - offset) (drop offset page)
 

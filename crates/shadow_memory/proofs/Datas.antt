@@ -131,7 +131,7 @@ new_same imported limits kept zero at = zero at ∙ sym (go (cases_lt at (minimu
     go (inl below) = get_or-replicate (minimum_of limits * PAGE_SIZE) at 0 0 below
     go (inr past) = get_or_past (new_bytes imported limits) at 0 (omega (arith, past, new_length imported limits))
 
--- of a module that links, all segments end within any size that its memory is within
+-- if a module links, all its segments end within any size that its memory fits into
 pub links_within : (m : Module) (supply : Supply) (size : ℕ) → InstantiatedStoresHaveParts
     → IsOk (instantiate m supply) → minimum_of (memory_limits m supply) * PAGE_SIZE ≤ size
     → EndWithin supply.globals size m.datas

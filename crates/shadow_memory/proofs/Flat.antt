@@ -4,7 +4,7 @@ use Rattle.std.specs.Prelude.{slice_index_or}
 use Rattle.std.specs.List.{flat_map}
 use Rattle.std.proofs.lemmas.List.{get_or_append_left, get_or-append-add}
 
--- an item of such a list; past the end it is zero
+-- an item of the joined lists, by its list and its place in it; it is zero past the end
 pub flat_item : {X : Type 0} (f : X → List ℕ) (n : ℕ) (d : X) (xs : List X) (i k : ℕ)
     → ((j : ℕ) → j < length xs → length (f (slice_index_or xs j d)) ≡ n) → slice_index (f d) k ≡ 0 → k < n
     → slice_index (flat_map f xs) (i * n + k) ≡ slice_index (f (slice_index_or xs i d)) k

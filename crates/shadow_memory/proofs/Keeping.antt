@@ -3,7 +3,7 @@ use Rattle.std.proofs.Common.{◌≡◌, ℕ, ◌+◌, ◌-◌, ◌*◌, ◌/◌
 use Rattle.std.specs.Prelude.{is_some, slice_set, unwrap_or}
 use Rattle.std.proofs.lemmas.Bool.{cases_eq, cases_order}
 use Rattle.std.proofs.lemmas.List.{drop-drop, get_or-replicate, length-replicate}
-use Rattle.list_laws.proofs.Lists.{mapped_item}
+use Rattle.base.proofs.Lists.{mapped_item}
 use Rattle.page_arena.specs.declared.TheConstants.{PAGE_LENGTH}
 use Rattle.page_arena.specs.declared.PageId.{PageId}
 use Rattle.page_arena.specs.Pages.{page_at}
@@ -30,7 +30,7 @@ module _ (places : List (Option PageId)) (pages : List (List ℕ)) (kept : AreKe
       flat_item (bytes_of_place pages) PAGE_LENGTH None places place k (λ j h. whole_place j)
       (get_or-replicate PAGE_LENGTH k 0 0 below) below
 
-  -- the page of a place, or zeros where there is none, are its bytes
+  -- the page of a place, or zeros without a page, has the bytes of the place
   pub bytes_there : (place : ℕ) → AreBytesOf (kept_of places pages) place (bytes_of_place pages (page_of places place))
   bytes_there place = record { size = whole_place place; byte = λ k below. sym (kept_byte place k below) }
 
@@ -97,7 +97,7 @@ module _ (places : List (Option PageId)) (pages : List (List ℕ)) (kept : AreKe
       go number (inr other) below =
           ap length (get_or-set_other pages id.number number page [] other) ∙ kept.whole number below
 
-  -- seen by place and offset
+  -- a byte by its place and its offset
   pub written_byte : (place from : ℕ) (bytes : List ℕ) → page_of places place ≡ Some id
       → AreWritten (page_at pages id.number) from bytes page → from + length bytes ≤ PAGE_LENGTH
       → (other k : ℕ) → k < PAGE_LENGTH

@@ -1,4 +1,4 @@
--- The byte at an address, among bytes that were written from another on.
+-- The byte at an address, among bytes that were written from another address on.
 use Rattle.std.proofs.Common.{◌≡◌, ℕ, ◌+◌, ◌-◌, ◌≤◌, ◌<◌, List, ◌++◌, length, take, drop, Option, Some, None, Bool, true, false, cond, nat_le, slice_get, slice_index, refl, sym, ap, ◌∙◌, arith, length-append, length-take-le}
 use Rattle.std.specs.Prelude.{unwrap_or}
 use Rattle.std.proofs.lemmas.Bool.{eqb-true}
@@ -25,7 +25,7 @@ among_past address bytes at past =
     let e : nat_le address at ≡ true = grind (arith, nat_tests) in
     ap (λ b. cond b (slice_get bytes (at - address)) None) e ∙ slice_get_past bytes (at - address) (omega arith)
 
--- among these, below them or past them
+-- an address is within the bytes, below them or past them
 pub data Among (address : ℕ) (bytes : List ℕ) (at : ℕ) : Type 0 where
   Below : at < address → Among address bytes at
   There : address ≤ at → at < address + length bytes → Among address bytes at
@@ -40,7 +40,7 @@ where_among address bytes at = go (nat_le address at) refl (nat_le (address + le
     go true p true q = Past (grind (arith, nat_tests, q))
     go true p false q = There (grind (arith, nat_tests, p)) (grind (arith, nat_tests, q))
 
--- seen from so many addresses before
+-- the byte at an address stays the same if both addresses are moved by the same number
 pub among_moved : (more address : ℕ) (bytes : List ℕ) (at : ℕ)
     → byte_among (more + address) bytes (more + at) ≡ byte_among address bytes at
 among_moved more address bytes at =
@@ -63,7 +63,7 @@ replaced_length items address bytes fits =
       length-take-le address items (omega arith),
     )
 
--- a list with a part replaced holds the new bytes there, and else the old ones
+-- a list with a part replaced has the new bytes in that part, and the old ones elsewhere
 pub replaced_part : (items : List ℕ) (address : ℕ) (bytes : List ℕ) → address + length bytes ≤ length items
     → AreWritten items address bytes (take address items ++ (bytes ++ drop (address + length bytes) items))
 replaced_part items address bytes fits at = go (where_among address bytes at)
@@ -95,7 +95,7 @@ replaced_part items address bytes fits at = go (where_among address bytes at)
         ∙ ap (slice_index items) here
         ∙ sym (ap or_old (among_past address bytes at past))
 
--- the known bytes before those of a run that are taken need not be taken too
+-- known bytes before the bytes that are taken need not be taken
 module _ (before after : List ℕ) (address : ℕ) (bytes : List ℕ) (start count : ℕ)
     (fits : start + count ≤ length bytes) (known : (k : ℕ) → k < start → is_known before address bytes k ≡ true)
     (written : AreWritten before (address + start) (take count (take (length bytes - start) (drop start bytes))) after)

@@ -5,7 +5,7 @@ use Rattle.page_arena.specs.declared.TheConstants.{PAGE_LENGTH}
 use Rattle.page_arena.specs.declared.PageId.{PageId}
 use Rattle.page_arena.specs.Pages.{page_at}
 
--- bytes, and which places were touched: a place is the bytes of one page
+-- bytes, and flags of the places that were touched; a place is the bytes of one page
 pub record Kept : Type 0 where
   pub bytes : List ℕ
   pub touched : List Bool
@@ -14,7 +14,7 @@ pub record Kept : Type 0 where
 abbrev pub is_touched : Kept → ℕ → Bool
 is_touched kept place = slice_index_or kept.touched place false
 
--- the bytes of a place: zeros where it was not touched
+-- the bytes of a place: zeros if it was not touched
 abbrev pub bytes_of_place : List (List ℕ) → Option PageId → List ℕ
 bytes_of_place pages None = replicate PAGE_LENGTH 0
 bytes_of_place pages (Some id) = page_at pages id.number
@@ -23,12 +23,12 @@ bytes_of_place pages (Some id) = page_at pages id.number
 abbrev pub page_of : List (Option PageId) → ℕ → Option PageId
 page_of places place = slice_index_or places place None
 
--- what is kept by these pages
+-- the bytes and flags that these pages keep
 abbrev pub kept_of : List (Option PageId) → List (List ℕ) → Kept
 kept_of places pages =
     record { bytes = flat_map (bytes_of_place pages) places; touched = map is_some places }
 
--- pages are whole, those of places are there, and no two places have the same
+-- pages are whole, the pages of places exist, and no two places have the same page
 pub record AreKept (places : List (Option PageId)) (pages : List (List ℕ)) : Type 0 where
   pub whole : (number : ℕ) → number < length pages → length (page_at pages number) ≡ PAGE_LENGTH
   pub there : (place : ℕ) (id : PageId) → page_of places place ≡ Some id → id.number < length pages
@@ -40,7 +40,7 @@ pub record AreBytesOf (kept : Kept) (place : ℕ) (bytes : List ℕ) : Type 0 wh
   pub size : length bytes ≡ PAGE_LENGTH
   pub byte : (k : ℕ) → k < PAGE_LENGTH → slice_index bytes k ≡ slice_index kept.bytes (place * PAGE_LENGTH + k)
 
--- other pages keep the same bytes, for all places that were touched and maybe for more
+-- other pages keep the same bytes, with all touched places and possibly more
 pub record AreExtended (places : List (Option PageId)) (pages : List (List ℕ))
     (more_places : List (Option PageId)) (more_pages : List (List ℕ)) : Type 0 where
   pub kept : AreKept more_places more_pages

@@ -1,4 +1,4 @@
--- A shadow as a finite map of what was taken, over the opening.
+-- A shadow as a finite map of the bytes taken, over the opening.
 use Rattle.std.specs.Prelude.{◌≡◌, ℕ, List, [], ◌∷◌, Option, None, slice_index, unwrap_or}
 use Rattle.std.specs.Option.{option_or}
 use Rattle.history_spec.specs.Store.{Store}
@@ -6,7 +6,7 @@ use Rattle.wasm_store.specs.Calls.{bytes_in}
 use Rattle.shadow_memory.specs.Shadow.{Shadow, byte_among, known_byte, HasTaken}
 use Rattle.shadow_memory.specs.Opening.{IsOpening}
 
--- the byte that was taken last at an address, of runs that were taken one after another, each from an address on
+-- the byte taken last at an address, if runs were taken one after another, each from an address on
 abbrev pub taken_byte : List (ℕ × List ℕ) → (at : ℕ) → Option ℕ
 taken_byte [] at = None
 taken_byte (run ∷ later) at = option_or (taken_byte later at) (byte_among run.0 run.1 at)
@@ -16,7 +16,7 @@ abbrev pub IsAfter : Shadow → List (ℕ × List ℕ) → Shadow → Type 0
 IsAfter before [] after = before ≡ after
 IsAfter before (run ∷ later) after = (next : Shadow) × (HasTaken before run.0 run.1 next × IsAfter next later after)
 
--- at each address the byte is known that was taken last there, else that of the opening, which is 0 past its memory
+-- the known byte at each address is the one taken last there, or that of the opening, which is 0 past its memory
 abbrev pub TakingsAreAMap : Type 0
 TakingsAreAMap =
     (store : Store) (opening after : Shadow) (runs : List (ℕ × List ℕ)) → IsOpening store opening

@@ -1,12 +1,12 @@
-// Known bytes in pages, one for each place that was touched. A place is the bytes of one page; of one
-// that was not touched all bytes are zero.
+// Known bytes in pages, one for each place that was touched. A place is the bytes of one page; all bytes of a
+// place that was not touched are zero.
 
 ghost use Rattle.std.specs.Prelude.{◌≡◌, ℕ, ◌+◌, ◌*◌, ◌<◌, ◌≤◌, length, true, Some, None, OnOk, IsSome, replicate, slice_index};
 ghost use Rattle.page_arena.specs.declared.TheConstants.{PAGE_LENGTH};
 ghost use Rattle.shadow_memory.specs.Kept.{is_touched, page_of, AreBytesOf, AreExtended, AreKept};
 ghost use Rattle.shadow_memory.specs.Shadow.{AreSame, AreWritten};
 
-use no_memory::NoMemory;
+use base::NoMemory;
 use page_arena::{PAGE_LENGTH, PageArena, PageId};
 use std::alloc::Global;
 use std::marker::Model;
@@ -71,7 +71,7 @@ impl KeptBytes {
     /// Makes sure that a place has a page.
     ///
     /// # Errors
-    /// Where an allocation failed; all bytes are as before in any case.
+    /// `NoMemory` if an allocation failed; all bytes are as before in any case.
     #[inline(always)]
     pub(crate) fn touch(&mut self, place: usize) -> Result<(), NoMemory>
         requires { place < usize.MAX }
@@ -108,7 +108,7 @@ fn zeros() -> &'static [u8]
 /// Gives a place that was not touched a page of zeros.
 ///
 /// # Errors
-/// Where an allocation failed; all bytes are as before in any case.
+/// `NoMemory` if an allocation failed; all bytes are as before in any case.
 #[cold]
 #[inline(never)]
 fn make_page(

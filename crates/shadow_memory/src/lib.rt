@@ -7,7 +7,7 @@ mod opening;
 mod runs;
 mod shadow;
 
+pub use base::NoMemory;
 pub use laws::takings_are_a_map;
-pub use no_memory::NoMemory;
 pub use runs::Difference;
 pub use shadow::ShadowMemory;

@@ -1,4 +1,4 @@
-// What is known of the memory where a run begins.
+// What is known of the memory at the beginning of a run.
 
 ghost use Rattle.std.specs.Prelude.{◌≡◌, ◌*◌, Ok, IfOk, IsOk, OnOk};
 ghost use Rattle.history_spec.specs.Store.{Store};
@@ -10,18 +10,18 @@ ghost use Rattle.shadow_memory.specs.Shadow.{AreSame};
 
 use crate::kept::KeptBytes;
 use crate::runs::take_run;
+use base::NoMemory;
 use host_script::Supply;
 use instantiation_parts::{instantiated_parts, memory_limits, offset_of};
-use no_memory::NoMemory;
 use std::alloc::Global;
 use wasm_syntax::limits::PAGE_SIZE;
 use wasm_syntax::{DataSeg, Limits, Module, Val};
 
-/// The bytes of the memory that a module is instantiated with, and how many pages it has. The module
-/// links with the supply.
+/// The bytes of the memory that a module is instantiated with, and its number of pages. The module links with
+/// the supply.
 ///
 /// # Errors
-/// Where an allocation failed.
+/// `NoMemory` if an allocation failed.
 pub(crate) fn opening(
     alloc: Global,
     module: &Module,
@@ -57,7 +57,7 @@ fn opening_bytes(alloc: Global, module: &Module, supply: &Supply) -> Result<Kept
     Ok(kept)
 }
 
-/// Takes the bytes of data segments, in order.
+/// Takes the bytes of data segments, one after another.
 fn take_datas(kept: &mut KeptBytes, imported: &[Val], datas: &[DataSeg]) -> Result<(), NoMemory>
     requires { EndWithin imported.now usize.MAX datas.now }
     ensures { OnOk result (HoldDatas imported.now datas.now kept.old.bytes kept.new.bytes) }
@@ -69,7 +69,7 @@ fn take_datas(kept: &mut KeptBytes, imported: &[Val], datas: &[DataSeg]) -> Resu
     Ok(())
 }
 
-/// How many pages a memory begins with.
+/// The number of pages that a memory begins with.
 fn page_count(limits: Option<Limits>) -> u32
     ensures { result ≡ minimum_of limits }
 {
@@ -79,7 +79,7 @@ fn page_count(limits: Option<Limits>) -> u32
     }
 }
 
-/// How many bytes it begins with.
+/// The number of bytes that a memory begins with.
 fn byte_count(limits: Option<Limits>) -> u64
     ensures { result ≡ minimum_of limits * PAGE_SIZE }
 {

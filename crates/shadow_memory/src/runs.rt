@@ -7,18 +7,18 @@ ghost use Rattle.shadow_memory.specs.Runs.{compared, is_alike, is_known, IsCompa
 ghost use Rattle.shadow_memory.specs.Shadow.{AreSame, AreWritten};
 
 use crate::kept::KeptBytes;
-use no_memory::NoMemory;
+use base::NoMemory;
 use page_arena::PAGE_LENGTH;
 
-/// Bytes of a run that are not the known ones, by their places in the run: from `start` on, up to
-/// before `end`.
+/// Bytes of a run that are not the known ones, by their places in the run: from `start` on, up to but without
+/// `end`.
 #[derive(Clone, Copy, PartialEq, Eq, Debug)]
 pub struct Difference {
     pub start: usize,
     pub end: usize,
 }
 
-/// How many of the bytes that are left stand in the same page from an address on.
+/// The number of the bytes left that are in the same page, from an address on.
 #[inline(always)]
 fn count_in_page(addr: usize, left: usize) -> usize
     ensures page { addr % PAGE_LENGTH + result ≤ PAGE_LENGTH }
@@ -28,7 +28,7 @@ fn count_in_page(addr: usize, left: usize) -> usize
     left.min(PAGE_LENGTH - addr % PAGE_LENGTH)
 }
 
-/// How many bytes from the first on are those beside them, or are not.
+/// The number of bytes, from the first on, that are all equal to the known ones, or all different.
 #[inline(always)]
 fn leading_count(known: &[u8], bytes: &[u8], alike: bool) -> usize
     requires { length known.now ≡ length bytes.now }
@@ -53,7 +53,7 @@ pub(crate) fn byte_at(kept: &KeptBytes, addr: usize) -> u8
     kept.page(addr / PAGE_LENGTH)[addr % PAGE_LENGTH]
 }
 
-/// How many bytes of a run from the first on are the known ones, or are not.
+/// The number of bytes of a run, from the first on, that are all the known ones, or all different.
 pub(crate) fn known_count(kept: &KeptBytes, addr: usize, bytes: &[u8], known: bool) -> usize
     requires { addr + length bytes.now ≤ usize.MAX }
     ensures { IsLeadingCount (is_known kept.now.bytes addr bytes.now) known (length bytes.now) result }
@@ -76,7 +76,7 @@ pub(crate) fn known_count(kept: &KeptBytes, addr: usize, bytes: &[u8], known: bo
 /// Takes a byte as the known one at an address.
 ///
 /// # Errors
-/// Where an allocation failed; all known bytes are as before then.
+/// `NoMemory` if an allocation failed; all known bytes are as before then.
 #[inline(always)]
 pub(crate) fn take_byte(kept: &mut KeptBytes, addr: usize, byte: u8) -> Result<(), NoMemory>
     ensures ok { OnOk result (AreWritten kept.old.bytes addr (byte ∷ []) kept.new.bytes) }
@@ -91,7 +91,7 @@ pub(crate) fn take_byte(kept: &mut KeptBytes, addr: usize, byte: u8) -> Result<(
 /// Takes the bytes of a run, each as the known one at its address.
 ///
 /// # Errors
-/// Where an allocation failed; all known bytes are as before then.
+/// `NoMemory` if an allocation failed; all known bytes are as before then.
 #[inline(always)]
 pub(crate) fn take_run(kept: &mut KeptBytes, addr: usize, bytes: &[u8]) -> Result<(), NoMemory>
     requires { addr + length bytes.now ≤ usize.MAX }
@@ -108,7 +108,7 @@ pub(crate) fn take_run(kept: &mut KeptBytes, addr: usize, bytes: &[u8]) -> Resul
     Ok(())
 }
 
-/// The same for bytes of several pages. Nothing is written before each has a page.
+/// Takes the bytes of a run in several pages. Nothing is written before each place has a page.
 fn take_pages(kept: &mut KeptBytes, addr: usize, bytes: &[u8]) -> Result<(), NoMemory>
     requires { addr + length bytes.now ≤ usize.MAX }
     ensures ok { OnOk result (AreWritten kept.old.bytes addr bytes.now kept.new.bytes) }
@@ -124,7 +124,7 @@ fn take_pages(kept: &mut KeptBytes, addr: usize, bytes: &[u8]) -> Result<(), NoM
 /// Makes sure that each place of a range has a page.
 ///
 /// # Errors
-/// Where an allocation failed; all bytes are as before in any case.
+/// `NoMemory` if an allocation failed; all bytes are as before in any case.
 fn touch_all(kept: &mut KeptBytes, first: usize, end: usize) -> Result<(), NoMemory>
     requires { first ≤ «end» }
     ensures ok { OnOk result ((place : ℕ) → first ≤ place → place < «end» → is_touched kept.new place ≡ true) }
@@ -156,10 +156,10 @@ fn put_all(kept: &mut KeptBytes, addr: usize, bytes: &[u8])
     }
 }
 
-/// Takes the first bytes of a run that are not the known ones, as many as stand in a row.
+/// Takes the first run of bytes that are not the known ones.
 ///
 /// # Errors
-/// Where an allocation failed; all known bytes are as before then.
+/// `NoMemory` if an allocation failed; all known bytes are as before then.
 #[inline(always)]
 pub(crate) fn take_difference(
     kept: &mut KeptBytes,

@@ -10,14 +10,14 @@ ghost use Rattle.shadow_memory.specs.Runs.{compared, IsComparison};
 use crate::kept::KeptBytes;
 use crate::opening::opening;
 use crate::runs::{Difference, byte_at, take_byte, take_difference, take_run};
+use base::NoMemory;
 use host_script::Supply;
-use no_memory::NoMemory;
 use std::alloc::Global;
 use std::marker::Model;
 use wasm_validate::Checked;
 
-/// What is known of a memory: the byte at each address, and how many pages there are. Beside it, how
-/// many pages were noticed.
+/// What is known of a memory: the byte at each address, and the number of pages. In addition, the number of
+/// pages noticed.
 #[derive(Drop)]
 pub struct ShadowMemory {
     bytes: KeptBytes,
@@ -38,11 +38,11 @@ impl Model for ShadowMemory {
 }
 
 impl ShadowMemory {
-    /// What is known where the run of a module begins that links with a supply: the memory that it is
+    /// What is known at the beginning of a run of a module that links with a supply: the memory that it is
     /// instantiated with (Core 1.0, 4.5.4).
     ///
     /// # Errors
-    /// Where an allocation failed.
+    /// `NoMemory` if an allocation failed.
     pub fn of_opening(
         alloc: Global,
         checked: &Checked,
@@ -71,7 +71,7 @@ impl ShadowMemory {
     /// Takes a byte as the known one at an address.
     ///
     /// # Errors
-    /// Where an allocation failed; what is known is as before then.
+    /// `NoMemory` if an allocation failed; what is known is as before then.
     #[inline]
     pub fn take(&mut self, addr: u64, byte: u8) -> Result<(), NoMemory>
         ensures ok { OnOk result (HasTaken self.old addr (byte ∷ []) self.new) }
@@ -83,7 +83,7 @@ impl ShadowMemory {
     /// Takes the bytes of a run, each as the known one at its address.
     ///
     /// # Errors
-    /// Where an allocation failed; what is known is as before then.
+    /// `NoMemory` if an allocation failed; what is known is as before then.
     #[inline]
     pub fn take_run(&mut self, addr: u64, bytes: &[u8]) -> Result<(), NoMemory>
         requires { addr + length bytes.now ≤ u64.MAX }
@@ -93,11 +93,11 @@ impl ShadowMemory {
         take_run(&mut self.bytes, addr as usize, bytes)
     }
 
-    /// Compares the bytes of a run with those that are known. Takes the first that are not known, as
-    /// many as stand in a row, and answers which these are; None where all are known.
+    /// Compares the bytes of a run with the known ones. Takes the first run of bytes that differ, and returns
+    /// it; `None` if all are known.
     ///
     /// # Errors
-    /// Where an allocation failed; what is known is as before then.
+    /// `NoMemory` if an allocation failed; what is known is as before then.
     #[inline]
     pub fn take_difference(
         &mut self,
@@ -113,28 +113,28 @@ impl ShadowMemory {
         take_difference(&mut self.bytes, addr as usize, bytes)
     }
 
-    /// How many pages are known.
+    /// The number of known pages.
     pub fn known_pages(&self) -> u32
         ensures { result ≡ self.now.known }
     {
         self.known
     }
 
-    /// How many pages were noticed.
+    /// The number of noticed pages.
     pub fn noticed(&self) -> u32
         ensures { result ≡ self.now.noticed }
     {
         self.noticed
     }
 
-    /// Sets how many pages are known.
+    /// Sets the number of known pages.
     pub fn set_known(&mut self, pages: u32)
         ensures { self.new ≡ record self.old { known = pages } }
     {
         self.known = pages;
     }
 
-    /// Sets how many pages were noticed.
+    /// Sets the number of noticed pages.
     pub fn set_noticed(&mut self, pages: u32)
         ensures { self.new ≡ record self.old { noticed = pages } }
     {

@@ -5,7 +5,7 @@ use Rattle.wasm_syntax.specs.declared.modules.ElemSeg.{ElemSeg}
 use Rattle.wasm_syntax.specs.declared.modules.ElemSeg.TheVariants.{Active, Declared}
 use Rattle.history_spec.specs.Instantiation.{offset_of}
 
--- an element segment ends within so many entries; one that is only declared is nowhere
+-- an element segment ends within `size` entries; a declared segment has no place in the table
 abbrev pub is_within : List Val → (size : ℕ) → ElemSeg → Bool
 is_within imported size (Active table offset funcs) = nat_le (offset_of imported offset + length funcs) size
 is_within imported size (Declared funcs) = true

@@ -4,7 +4,7 @@ use Rattle.wasm_syntax.specs.declared.values.Val.{Val}
 use Rattle.history_spec.specs.Store.{Store}
 use Rattle.wasm_store.specs.Calls.{entries_in}
 
--- the known entries, as many as the table is known to have, and the known globals
+-- the known entries, in the number that the table is known to have, and the known globals
 pub record Tables : Type 0 where
   pub entries : List (Option ℕ)
   pub globals : List Val

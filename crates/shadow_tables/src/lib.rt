@@ -4,5 +4,5 @@
 mod opening;
 mod tables;
 
-pub use no_memory::NoMemory;
+pub use base::NoMemory;
 pub use tables::ShadowTables;

@@ -1,4 +1,4 @@
-// The entries of the table where a run begins.
+// The entries of the table at the beginning of a run.
 
 ghost use Rattle.std.specs.Prelude.{◌≡◌, ◌≤◌, IsTrue, Ok, IsOk, IfOk, Some, fold, length, map};
 ghost use Rattle.history_spec.specs.Store.{Store};
@@ -7,17 +7,17 @@ ghost use Rattle.wasm_store.specs.Calls.{entries_in};
 ghost use Rattle.wasm_store.specs.Parts.{minimum_of};
 ghost use Rattle.shadow_tables.specs.Segments.{is_within, AreWithin};
 
+use base::NoMemory;
 use host_script::Supply;
 use instantiation_parts::{instantiated_parts, offset_of, table_limits};
-use no_memory::NoMemory;
 use std::alloc::Global;
 use wasm_syntax::{ElemSeg, Limits, Module, Val};
 
-/// The entries of the table that a module is instantiated with, none where there is no table. The
-/// module links with the supply.
+/// The entries of the table that a module is instantiated with, empty if there is no table. The module links
+/// with the supply.
 ///
 /// # Errors
-/// Where an allocation failed.
+/// `NoMemory` if an allocation failed.
 pub(crate) fn opening_entries(
     alloc: Global,
     module: &Module,
@@ -40,7 +40,7 @@ pub(crate) fn opening_entries(
     Ok(entries)
 }
 
-/// How many entries a table begins with.
+/// The number of entries that a table begins with.
 fn entry_count(limits: Option<Limits>) -> u32
     ensures { result ≡ minimum_of limits }
 {
@@ -50,7 +50,7 @@ fn entry_count(limits: Option<Limits>) -> u32
     }
 }
 
-/// Writes element segments in order. They all end within the entries.
+/// Writes element segments one after another. They all end within the entries.
 fn write_elems(entries: &mut [Option<u32>], imported: &[Val], elems: &[ElemSeg])
     requires { AreWithin imported.now (length entries.old) elems.now }
     ensures { entries.new ≡ fold (history.with_elem imported.now) entries.old elems.now }
@@ -60,7 +60,7 @@ fn write_elems(entries: &mut [Option<u32>], imported: &[Val], elems: &[ElemSeg])
     }
 }
 
-/// Writes an element segment, which ends within the entries. One that is only declared is nowhere.
+/// Writes an element segment, which ends within the entries. A declared segment is not written.
 fn write_elem(entries: &mut [Option<u32>], imported: &[Val], elem: &ElemSeg)
     requires { IsTrue (is_within imported.now (length entries.old) elem.now) }
     ensures { entries.new ≡ history.with_elem imported.now entries.old elem.now }
@@ -72,7 +72,7 @@ fn write_elem(entries: &mut [Option<u32>], imported: &[Val], elem: &ElemSeg)
     }
 }
 
-/// Puts functions in the place of as many entries.
+/// Replaces all entries by functions.
 fn put_funcs(entries: &mut [Option<u32>], funcs: &[u32])
     requires { length entries.old ≡ length funcs.now }
     ensures { entries.new ≡ map (λ func. Some func) funcs.now }

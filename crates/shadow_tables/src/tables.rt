@@ -6,15 +6,15 @@ ghost use Rattle.history_spec.specs.Instantiation as history;
 ghost use Rattle.shadow_tables.specs.Tables.{IsOpening};
 
 use crate::opening::opening_entries;
+use base::NoMemory;
 use host_script::Supply;
 use instantiation_parts::{all_globals, instantiated_parts};
-use no_memory::NoMemory;
 use std::alloc::Global;
 use std::marker::Model;
 use wasm_syntax::Val;
 use wasm_validate::Checked;
 
-/// What is known of a table, its entries and how many these are, and of globals.
+/// What is known of a table, its entries and their number, and of globals.
 #[derive(Drop)]
 pub struct ShadowTables {
     entries: Vec<Option<u32>>,
@@ -36,11 +36,11 @@ impl Model for ShadowTables {
 }
 
 impl ShadowTables {
-    /// What is known where the run of a module begins that links with a supply: the table and the
-    /// globals that it is instantiated with (Core 1.0, 4.5.4).
+    /// What is known at the beginning of a run of a module that links with a supply: the table and the globals that
+    /// it is instantiated with (Core 1.0, 4.5.4).
     ///
     /// # Errors
-    /// Where an allocation failed.
+    /// `NoMemory` if an allocation failed.
     pub fn of_opening(
         alloc: Global,
         checked: &Checked,
@@ -57,7 +57,7 @@ impl ShadowTables {
         Ok(ShadowTables { entries, globals })
     }
 
-    /// Whether a function, or none, is not what is known of an entry. The index is below the known
+    /// Whether a function, or an empty entry, is not what is known of an entry. The index is below the known
     /// size.
     #[inline]
     pub fn entry_differs(&self, index: u32, func: Option<u32>) -> bool
@@ -67,7 +67,7 @@ impl ShadowTables {
         self.entries[index as usize] != func
     }
 
-    /// Takes a function, or none, as what is known of an entry. The index is below the known size.
+    /// Takes a function, or an empty entry, as what is known of an entry. The index is below the known size.
     #[inline]
     pub fn take_entry(&mut self, index: u32, func: Option<u32>)
         requires { index < length self.old.entries }
@@ -76,7 +76,7 @@ impl ShadowTables {
         self.entries[index as usize] = func;
     }
 
-    /// Whether a value is not the one that is known of a global, which is there.
+    /// Whether a value is not the known value of a global, which exists.
     #[inline]
     pub fn global_differs(&self, global: u32, value: Val) -> bool
         requires { global < length self.now.globals }
@@ -85,7 +85,7 @@ impl ShadowTables {
         self.globals[global as usize] != value
     }
 
-    /// Takes a value as the one that is known of a global, which is there.
+    /// Takes a value as the known value of a global, which exists.
     #[inline]
     pub fn take_global(&mut self, global: u32, value: Val)
         requires { global < length self.old.globals }
@@ -94,7 +94,7 @@ impl ShadowTables {
         self.globals[global as usize] = value;
     }
 
-    /// How many entries the table is known to have.
+    /// The number of entries that the table is known to have.
     #[inline]
     pub fn known_size(&self) -> u32
         ensures { result ≡ length self.now.entries }
@@ -102,11 +102,11 @@ impl ShadowTables {
         self.entries.len() as u32
     }
 
-    /// Sets how many entries the table is known to have, at least as many as before; more are known as
-    /// empty.
+    /// Sets the number of entries that the table is known to have, at least as many as before; further entries
+    /// are known as empty.
     ///
     /// # Errors
-    /// Where an allocation failed; nothing has changed then.
+    /// `NoMemory` if an allocation failed; nothing has changed then.
     pub fn set_known_size(&mut self, size: u32) -> Result<(), NoMemory>
         requires { length self.old.entries ≤ size }
         ensures ok { OnOk result (self.new ≡ record self.old {

@@ -1,4 +1,4 @@
--- What is told of entries, and then of others after them.
+-- The lines of entries, and then of others after them.
 use Rattle.std.proofs.Common.{◌≡◌, ℕ, List, [], ◌∷◌, ◌++◌, length, refl, sym, ◌∙◌, ap, append_assoc, length-append, arith}
 use Rattle.std.proofs.lemmas.List.{append-nil}
 use Rattle.std.proofs.lemmas.Grind.{flat_map-append}
@@ -6,8 +6,8 @@ use Rattle.wasm_syntax.specs.declared.values.Val.{Val}
 use Rattle.history_spec.specs.declared.entries.Entry.{Entry}
 use Rattle.history_spec.specs.Line.{line, entry_text}
 use Rattle.history_spec.specs.Projection.{Layout, shown_entries}
-use Rattle.outside_spec.specs.Inside.{args_after, args_after_all, inside_after, inside_after_all}
-use Rattle.outside_spec.specs.Laws.{ProjectionsRunAlong}
+use Rattle.replay_run_spec.specs.Inside.{args_after, args_after_all, inside_after, inside_after_all}
+use Rattle.replay_run_spec.specs.Laws.{ProjectionsRunAlong}
 use Rattle.shown_lines.specs.ShownLines.{ShownLines, Shows, lines}
 
 inside_over : (inside : List ℕ) (first second : List Entry)
@@ -23,7 +23,7 @@ args_over args (entry ∷ first) second = args_over (args_after args entry) firs
 lines_over : (first second : List Entry) → lines (first ++ second) ≡ lines first ++ lines second
 lines_over first second = flat_map-append (λ entry. line (entry_text entry)) first second
 
--- no entry, and nothing is told
+-- no entries have no lines
 pub shows_none : (shown : ShownLines) (args : List Val) → Shows shown shown args []
 shows_none shown args = record {
   same_layout = refl;

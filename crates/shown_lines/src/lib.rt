@@ -1,4 +1,4 @@
-//! The lines of what the run of a replay module shows of its original, while it is told.
+//! Writes the lines of what the run of a replay module shows of its original, while it runs.
 #![tactic(auto)]
 
 mod shown_text;

@@ -1,23 +1,23 @@
-// The text of what a run shows, while it is told.
+// The text of what a run shows, while it is written.
 
 ghost use Rattle.std.specs.Prelude.{◌≡◌, ◌+◌, ◌++◌, [], ◌∷◌, length, IfOk, OnOk};
 ghost use Rattle.std.specs.Option.{option_to_list};
 ghost use Rattle.history_spec.specs.Projection as projection;
 ghost use Rattle.shown_lines.specs.ShownLines.{lines, Shows, nothing_shown};
-ghost use Rattle.outside_spec.specs.Inside as inside;
+ghost use Rattle.replay_run_spec.specs.Inside as inside;
 ghost use Rattle.replay_form.specs.Sides.{as_layout, side_of};
 
+use base::NoMemory;
 use history_lines::print_entry;
 use history_spec::{Entry, Outcome};
-use no_memory::NoMemory;
-use outside_spec::projections_run_along;
 use replay_form::{Layout, Side};
+use replay_run_spec::projections_run_along;
 use std::alloc::Global;
 use std::marker::Model;
 use wasm_syntax::{List, Val, Vals};
 
-/// The lines of what the entries so far show, how many entries these are of, and the functions that control is
-/// in, the innermost last.
+/// The lines of what the entries so far show, the number of shown entries, and the functions that control is in,
+/// the innermost last.
 #[derive(Drop)]
 pub struct ShownText {
     layout: Layout,
@@ -51,7 +51,7 @@ fn copied(alloc: Global, values: &[Val]) -> Result<Vals, NoMemory>
     Ok(List::from_vec(items))
 }
 
-/// What is shown of a call from one side to a function of another.
+/// The entry shown for a call from one side to a function of another.
 fn shown_call(
     alloc: Global,
     caller: Side,
@@ -76,7 +76,7 @@ fn shown_call(
     }
 }
 
-/// What is shown of its return.
+/// The entry shown for the return of a call from one side to a function of another.
 fn shown_return(
     alloc: Global,
     caller: Side,
@@ -104,8 +104,8 @@ fn shown_return(
     }
 }
 
-/// The arguments among a call's operands: all but the index of a `call_indirect`, which alone of calls has found
-/// a function.
+/// The arguments among a call's operands: all but the index of a `call_indirect`; only such a call has found a
+/// function.
 fn call_args(operands: &[Val], found: Option<u32>) -> &[Val]
     ensures { result.now ≡ projection.call_args operands.now found }
 {
@@ -115,7 +115,8 @@ fn call_args(operands: &[Val], found: Option<u32>) -> &[Val]
     }
 }
 
-/// Whose trap it is that a history ends with: `Trapped` where it is an original's, `HostTrapped` where it is outside.
+/// The outcome of a history that ends with a trap: `Trapped` if an original traps, `HostTrapped` if a function
+/// outside does.
 pub fn trap_outcome(layout: Layout, entries: &[Entry]) -> Outcome
     ensures { result ≡ projection.trap_outcome (as_layout layout) entries.now }
 {
@@ -131,7 +132,7 @@ pub fn trap_outcome(layout: Layout, entries: &[Entry]) -> Outcome
 }
 
 impl ShownText {
-    /// Nothing yet; control is outside all functions. Takes no memory.
+    /// No lines yet; control is outside all functions. Takes no memory.
     pub fn new(alloc: Global, layout: Layout) -> ShownText
         ensures { result ≡ nothing_shown (as_layout layout) }
     {
@@ -150,7 +151,7 @@ impl ShownText {
         self.layout
     }
 
-    /// How many entries are told.
+    /// The number of entries written.
     pub fn entries(&self) -> u64
         ensures { result ≡ self.now.entries }
     {
@@ -175,7 +176,7 @@ impl ShownText {
         }
     }
 
-    /// Tells an entry as it is.
+    /// Appends the line of an entry.
     fn tell(&mut self, entry: &Entry) -> Result<(), NoMemory>
         ensures text { OnOk result (self.new.text ≡ self.old.text ++ lines (entry.now ∷ [])) }
         ensures count { OnOk result (self.new.entries ≡ self.old.entries + 1) }
@@ -188,7 +189,7 @@ impl ShownText {
         Ok(())
     }
 
-    /// Tells an entry, where there is one.
+    /// Appends the line of an entry, if there is one.
     fn tell_some(&mut self, entry: Option<Entry>) -> Result<(), NoMemory>
         ensures text { OnOk result (self.new.text ≡ self.old.text ++ lines (option_to_list entry)) }
         ensures count { OnOk result (self.new.entries ≡ self.old.entries + length (option_to_list entry)) }
@@ -201,7 +202,7 @@ impl ShownText {
         }
     }
 
-    /// Control enters a function.
+    /// Shows that control enters a function.
     fn enter(&mut self, func: u32, args: &[Val]) -> Result<(), NoMemory>
         ensures layout { self.new.layout ≡ self.old.layout }
         ensures inside { OnOk result (self.new.inside ≡ func ∷ self.old.inside) }
@@ -220,7 +221,7 @@ impl ShownText {
         Ok(())
     }
 
-    /// Control leaves the innermost function.
+    /// Shows that control leaves the innermost function.
     fn leave(&mut self, func: u32, results: &[Val]) -> Result<(), NoMemory>
         ensures layout { self.new.layout ≡ self.old.layout }
         ensures inside { OnOk result (self.new.inside ≡ projection.without_innermost self.old.inside) }
@@ -240,7 +241,7 @@ impl ShownText {
         self.tell_some(shown)
     }
 
-    /// A step of an original is shown.
+    /// Shows a step of an original.
     fn step(&mut self, func: u32, entry: &Entry) -> Result<(), NoMemory>
         ensures layout { self.new.layout ≡ self.old.layout }
         ensures inside { self.new.inside ≡ self.old.inside }
@@ -255,7 +256,7 @@ impl ShownText {
         }
     }
 
-    /// A trap is an original's, or else the host's.
+    /// Shows a trap, as one of the original or of the host.
     fn trap(&mut self, func: u32, entry: &Entry) -> Result<(), NoMemory>
         ensures layout { self.new.layout ≡ self.old.layout }
         ensures inside { self.new.inside ≡ self.old.inside }
@@ -269,7 +270,7 @@ impl ShownText {
         }
     }
 
-    /// Tells what an entry shows, after the latest call's arguments.
+    /// Appends the lines of what an entry shows, with the latest call's arguments.
     fn show(&mut self, entry: &Entry, args: &[Val]) -> Result<(), NoMemory>
         ensures { OnOk result (Shows self.old self.new args.now (entry.now ∷ [])) }
     {
@@ -284,13 +285,13 @@ impl ShownText {
         }
     }
 
-    /// Tells what entries in order show. They are the whole of what a run makes from where no arguments are known:
-    /// the first of them that enters a function without telling its arguments stands after the instruction that
-    /// calls it.
+    /// Appends the lines of what entries show. The entries are all that a run makes from a point where no
+    /// arguments are known: before the first entry that enters a function without its arguments comes the
+    /// instruction that calls it.
     ///
     /// # Errors
     ///
-    /// Where memory is out; some of the lines are told then.
+    /// `NoMemory` if memory is out; some of the lines are written then.
     pub fn show_all(&mut self, entries: &[Entry]) -> Result<(), NoMemory>
         ensures { OnOk result (Shows self.old self.new [] entries.now) }
     {

@@ -1,4 +1,4 @@
-//! Tests alone: replay modules that are built of tapes, and what their runs show; and tapes that are refused.
+//! Tests alone: replay modules that are built from tapes, and what their runs show; and tapes that are refused.
 #![tactic(auto)]
 
 #[cfg(test)]

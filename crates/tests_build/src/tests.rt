@@ -1,4 +1,4 @@
-//! Tapes, their replay modules, and what makes them.
+//! Tapes, their replay modules, and the code that makes them.
 
 mod builds;
 mod limits;

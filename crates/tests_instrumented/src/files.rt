@@ -6,7 +6,7 @@ use std::alloc::Global;
 use std::test::Fail;
 use wasm_syntax::limits::MOST_FILE_BYTES;
 
-/// What `TWO_ANSWERS` is instrumented to, with the SHA-256 digest of its bytes.
+/// The instrumented module of `TWO_ANSWERS`, with the SHA-256 digest of its bytes.
 const INSTRUMENTED: &str =
     "0061736d01000000011e066000017f60027f7e0060017f0060000060037f7f7f0060047f7f7f7e00029f0110016801660000\
      02723303617267000102723305656e7465720002027233056c65617665000202723303707265000202723304706f73740002\
@@ -16,7 +16,7 @@ const INSTRUMENTED: &str =
      10052001410010041000210141ff002001ad10014100100520016a0b410110030b002c0972332e686f6f6b6564b2538ff913\
      99e7d320488dc89f451e77f282ba4c55a7d9c9187b9918b441ef840101";
 
-/// A file that is refused: what it shows, its bytes in hexadecimal, and the status of the fault.
+/// A file that is refused: what the row tests, its bytes in hexadecimal, and the status of the fault.
 type Row = (&'static str, &'static str, u8);
 
 const ROWS: &[Row] = &[
@@ -66,7 +66,7 @@ fn is_hooked_to(alloc: Global, text: &str, want: &[u8]) -> Result<bool, Fail> {
     }
 }
 
-/// The status that a file is refused with, 0 where it is instrumented.
+/// The status that a file is refused with, 0 if it is instrumented.
 fn status_of_file(alloc: Global, text: &str) -> Result<u8, Fail> {
     match hooked_file(alloc, text)? {
         Ok(_bytes) => Ok(0),

@@ -6,13 +6,13 @@ use sample_inputs::{examples, hooked};
 use std::alloc::Global;
 use std::test::Fail;
 
-/// The custom section with which `hooked::TWO_ANSWERS` ends: the digest, and how many functions the original imports
-/// and defines.
+/// The custom section at the end of `hooked::TWO_ANSWERS`: the digest, and the numbers of functions that the
+/// original imports and defines.
 const SECTION: &str =
     "002c0972332e686f6f6b656407070707070707070707070707070707070707070707070707070707070707070101";
 
-/// A module: what it shows, its bytes in hexadecimal, whose last section is left out if it is that one, the sections
-/// that come then, and whether it has the form.
+/// A module: what the row tests, its bytes in hexadecimal, without their last section if it is `SECTION`, the
+/// sections that follow, and whether the module has the form.
 type Row = (&'static str, &'static str, &'static [&'static str], bool);
 
 const ROWS: &[Row] = &[

@@ -1,5 +1,4 @@
-use hook_insert::{Hooked, instrument};
-use instrumented_encoding::files_are_of_words;
+use hook_insert::{Hooked, files_are_of_words, instrument};
 use r3_inputs::module_of;
 use sample_inputs::examples::{
     C_BUFFERS, COLLATZ, COPY_LOAD, FILL_PAST, FLOAT_GLOBAL, NESTED_CALL, TABLE_ENTRY, TWO_ANSWERS,
@@ -8,8 +7,8 @@ use std::alloc::Global;
 use std::test::Fail;
 use wasm_syntax::limits::MOST_FILE_BYTES;
 
-/// A module: its name, its bytes in hexadecimal; how many instructions its instrumented bodies have, ends of blocks
-/// among them, how many of them take a turn, and how many types and imports it has then.
+/// A module: its name, its bytes in hexadecimal; and for its instrumented module the number of instructions in
+/// its bodies, ends of blocks among them, of those that take a turn, of types, and of imports.
 type Row = (&'static str, &'static str, [usize; 4]);
 
 const ROWS: &[Row] = &[
@@ -48,7 +47,7 @@ fn hooked(alloc: Global, text: &str) -> Result<Hooked, Fail> {
     }
 }
 
-/// What a row says of an instrumented module.
+/// The figures of an instrumented module, as a row has them.
 fn figures(hooked: &Hooked) -> [usize; 4] {
     let mut instructions = 0;
     let mut turns = 0;

@@ -3,9 +3,9 @@
 ghost use Rattle.std.specs.Prelude.{◌≡◌, Ok, IfOk, true};
 ghost use Rattle.bench_machine.specs.Positions.{IsIdle, IsRunning};
 
+use base::NoMemory;
 use bench_machine::{Instance, instance_of};
 use history_lines::print_entry;
-use no_memory::NoMemory;
 use std::alloc::Global;
 use std::test::Fail;
 use wasm_flat::Meter;
@@ -24,14 +24,14 @@ pub(crate) struct Case {
 }
 
 impl Case {
-    /// The same with another function and its arguments.
+    /// This case with another function and its arguments.
     pub(crate) fn call(self, func: u32, args: &'static [u64]) -> Case {
         Case { func, args, ..self }
     }
 }
 
-/// Where a call comes to: where the machine pauses, how many turns it took, and the line of the last
-/// entry, where there are entries; the bytes of the memory.
+/// The result of a call: where the machine pauses, how many turns it took, and the line of the last
+/// entry, if there are entries; the bytes of the memory.
 #[derive(Drop)]
 pub(crate) struct CallOutcome {
     pub(crate) pause: Pause,
@@ -86,7 +86,7 @@ pub(crate) fn outcome_by_advance(
     advance_outcome(alloc, &mut instance, turns)
 }
 
-/// What is left of a call by `advance`.
+/// The outcome of a call that goes on by `advance`.
 fn advance_outcome(alloc: Global, instance: &mut Instance, turns: u64) -> Result<CallOutcome, Fail>
     requires { IsRunning instance.old.«module» instance.old.machine }
 {
@@ -100,13 +100,13 @@ fn advance_outcome(alloc: Global, instance: &mut Instance, turns: u64) -> Result
     })
 }
 
-/// The same turn by turn.
+/// The outcome of a case, turn by turn.
 pub(crate) fn outcome_by_turns(alloc: Global, case: Case, turns: u64) -> Result<CallOutcome, Fail> {
     let mut instance = running_instance(alloc, case)?;
     turns_outcome(alloc, &mut instance, turns)
 }
 
-/// What is left of it, turn by turn.
+/// The outcome of a call that goes on turn by turn.
 fn turns_outcome(alloc: Global, instance: &mut Instance, turns: u64) -> Result<CallOutcome, Fail>
     requires { IsRunning instance.old.«module» instance.old.machine }
 {
@@ -139,7 +139,7 @@ fn end_by_turns(
     Ok((pause, turns, last_line(alloc, &turn)?))
 }
 
-/// The line of the last entry of a turn, where it has entries.
+/// The line of the last entry of a turn, if it has entries.
 fn last_line(alloc: Global, turn: &Turn) -> Result<Vec<u8>, NoMemory> {
     let mut line = Vec::new(alloc);
     if let Some(entry) = turn.entries.as_slice().last() {

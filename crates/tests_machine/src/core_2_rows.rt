@@ -1,4 +1,4 @@
-//! The same of instructions of Core 2.0: `memory.copy`, `memory.fill` and the sign extensions.
+//! Rows for instructions of Core 2.0: `memory.copy`, `memory.fill` and the sign extensions.
 
 use crate::both_ways::Case;
 use crate::rows::{NOTHING, Row, first_other};

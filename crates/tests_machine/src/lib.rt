@@ -1,4 +1,4 @@
-//! Tests alone: what calls of functions come to with the machine alone, by many turns at once and turn by turn,
+//! Tests alone: the results of calls of functions with the machine alone, by many turns at once and turn by turn,
 //! worked out by hand from the standard.
 #![tactic(auto)]
 

@@ -1,4 +1,4 @@
-//! Calls with what they come to, worked out by hand from the standard, in both ways.
+//! Calls with their results, worked out by hand from the standard, in both ways.
 
 use crate::both_ways::{Case, outcome_by_advance, outcome_by_turns, running_instance};
 use sample_inputs::examples::C_BUFFERS;
@@ -338,7 +338,7 @@ fn are_spent(alloc: Global, case: Case, given: u64) -> Result<bool, Fail> {
 }
 
 /// Whether a row holds within just the turns that it takes and within one more, and all turns are
-/// spent where there is one less.
+/// spent with one turn less.
 fn takes_its_turns(alloc: Global, case: Case, row: Row) -> Result<bool, Fail> {
     let turns = row.3;
     let just = holds(alloc, case, row, turns)?;

@@ -1,4 +1,4 @@
-//! The same of branches by a table and of calls through the table.
+//! Rows for branches by a table and for calls through the table.
 
 use crate::both_ways::Case;
 use crate::rows::{NOTHING, Row, first_other};
@@ -18,8 +18,8 @@ const SWITCHES: &str =
      6a0b0c00024020000e00000b41090b1a01017f02400340200141016a220120004f0e0100010b0b20010b";
 
 /// The entries of the table: 0 a function whose type has the index of the call's; 1 one whose type is equal to
-/// that; 2 one of another type; 3 an import; 4 none; 5 function 6. Function 4 calls an entry with an argument; 5 calls
-/// entry 2 with two; 6 calls itself through the table as often as its argument says.
+/// that; 2 one of another type; 3 an import; 4 empty; 5 function 6. Function 4 calls an entry with an argument; 5
+/// calls entry 2 with two; 6 calls itself through the table as often as its argument says.
 const INDIRECT: &str =
     // (module (type (func (param i32) (result i32))) (type (func (param i32 i32) (result i32)))
     //   (type (func (param i32) (result i32))) (import "h" "f" (func (type 0))) (table 6 funcref)

@@ -3,6 +3,7 @@
 mod answers;
 mod bodies;
 mod jumps;
+mod limits;
 mod memory;
 mod numeric;
 mod opcode_numbers;

@@ -1,4 +1,4 @@
-// A module that is instrumented, and played under the meter that it comes with.
+// A module that is instrumented, and played under its meter.
 
 ghost use Rattle.std.specs.Prelude.{◌≤◌, IfOk, length};
 ghost use Rattle.wasm_syntax.specs.declared.limits.TheConstants.{MOST_FILE_BYTES};
@@ -8,12 +8,12 @@ ghost use Rattle.type_safety.specs.Supplies.{IsRunnable};
 
 use crate::plays::played;
 use history_spec::Outcome;
-use hook_insert::{Hooked, instrument};
+use hook_insert::{Hooked, instrument, instrumented_meters_fit};
 use hook_names::NoHooks;
 use host_play::PlayFault;
-use instrumented_encoding::instrumented_meters_fit;
-use instrumented_sizes::{encoded_have_words, instrumented_are_short};
-use instrumented_valid::instrumented_are_runnable;
+use instrumented_module_laws::{
+    encoded_have_words, instrumented_are_runnable, instrumented_are_short,
+};
 use r3_inputs::module_of;
 use sample_inputs::examples::C_BUFFERS;
 use std::alloc::Global;
@@ -25,7 +25,7 @@ const SCRIPT: &str = "{\"imports\":{\"env\":{\"read\":{\"calls\":[{\"do\":[\
     {\"write\":{\"arg\":0},\"bytes\":\"68690a00\"},{\"write\":{\"arg\":2},\"bytes\":\"03000000\"}],\
     \"return\":{\"i32\":0}}]}}},\"main\":[{\"call\":\"run\"}]}";
 
-/// The module that bytes encode, instrumented, with this digest.
+/// The instrumented module of the module that bytes encode, with this digest.
 fn hooked_of(alloc: Global, bytes: &[u8], digest: &[u8; 32]) -> Result<Hooked, Fail>
     requires { length bytes.now ≤ MOST_FILE_BYTES }
     ensures short { IfOk result (λ hooked. IsShort hooked.«module») }
@@ -42,7 +42,7 @@ fn hooked_of(alloc: Global, bytes: &[u8], digest: &[u8; 32]) -> Result<Hooked, F
     }
 }
 
-/// The module, instrumented.
+/// The instrumented module of `C_BUFFERS`.
 fn hooked_buffers(alloc: Global) -> Result<Hooked, Fail>
     ensures short { IfOk result (λ hooked. IsShort hooked.«module») }
     ensures runnable { IfOk result (λ hooked. IsRunnable hooked.«module») }
@@ -55,7 +55,7 @@ fn hooked_buffers(alloc: Global) -> Result<Hooked, Fail>
     hooked_of(alloc, bytes.as_slice(), &[7; 32])
 }
 
-// The functions take 23 and 3 turns, the host one for the call and one for each write; calls of hooks take none.
+// The functions take 23 and 3 turns, the host one for the call and one for each write; hook calls take none.
 #[test]
 fn instrumented_modules_take_the_turns_of_their_originals(rt: HostRuntime) -> Result<(), Fail> {
     let alloc = rt.alloc();

@@ -1,5 +1,5 @@
-//! Tests alone: runs of modules in the hooked form, with hooks that take their calls or refuse one. One module was
-//! instrumented by hand; turns and calls were counted by hand.
+//! Tests alone: runs of modules in the hooked form, with hooks that accept their calls or refuse one. One module
+//! was instrumented by hand; turns and calls were counted by hand.
 #![tactic(auto)]
 
 #[cfg(test)]

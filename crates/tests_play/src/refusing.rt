@@ -5,8 +5,8 @@ ghost use Rattle.std.specs.Prelude.{⊤};
 use hook_names::{Hook, HookFault, Hooks, View};
 use wasm_syntax::Val;
 
-/// Hooks that find the call of a number out of order, and remember how many they took, how many arguments these had,
-/// and the last one's bits.
+/// Hooks that refuse the call of a given number as out of order, and count the calls that they took and the
+/// arguments of these, and keep the bits of the last argument.
 #[derive(Drop)]
 pub(crate) struct Refusing {
     pub(crate) at: u64,

@@ -10,12 +10,12 @@ use std::alloc::Global;
 use std::test::Fail;
 use wasm_flat::Meter;
 
-// the same, with answers in the hooks' places, which are not looked at
+// a script with the answers of `ANSWERS`, and with answers for the hooks, which are never used
 const HOOKS_ANSWERED: &str = "{\"imports\":{\"h\":{\"f\":{\"calls\":[{\"return\":{\"i32\":5}},\
     {\"return\":{\"i32\":7}}]}},\"r3\":{\"enter\":{\"rest\":{\"trap\":true}},\
     \"leave\":{\"rest\":{\"do\":[{\"call\":\"g\"}]}}}},\"main\":[{\"call\":\"g\"}]}";
 
-/// The run within a number of turns, where each instruction takes one.
+/// The run within a number of turns; each instruction takes one.
 fn run_of<H: Hooks>(
     alloc: Global,
     script: &str,

@@ -1,4 +1,4 @@
--- The module of these tests links, and has no globals then.
+-- The module of these tests links, and its store has no globals.
 use Rattle.std.proofs.Common.{◌≡◌, ◌<◌, ◌≤◌, ◌^◌, List, [], ◌++◌, arith, length, map, Result, Ok, Err, IsOk, refl, sym, ap, ◌∙◌, subst}
 use Rattle.std.proofs.lemmas.List.{length-map}
 use Rattle.wasm_syntax.specs.declared.values.Val.{Val}

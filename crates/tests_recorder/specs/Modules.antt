@@ -10,6 +10,6 @@ pub record IsBare (m : Module) : Type 0 where
   pub elems : m.elems ≡ []
   pub datas : m.datas ≡ []
 
--- nothing is supplied
+-- a supply without parts
 abbrev pub nothing : Supply
 nothing = record { memory = None; table = None; globals = [] }

@@ -2,9 +2,9 @@
 
 use crate::rows::{OUT_OF_ORDER, ROWS};
 use crate::steps::{Step, call, new_store, recorder_after};
+use base::Outcome;
 use hook_names::{Hook, HookFault};
 use recorder::Recorder;
-use run_outcomes::Outcome;
 use std::alloc::Global;
 use std::test::Fail;
 use trace_format::{Digest, show_log};
@@ -20,7 +20,7 @@ const BEFORE: &[Step] = &[
     Step::Call(Hook::Load, &[0, 0, 1]),
 ];
 
-/// The log's lines are these.
+/// Whether the log has these lines.
 fn has_lines(alloc: Global, recorder: Recorder<Events>, lines: &str) -> Result<bool, Fail> {
     let log = recorder.finish(Outcome::Ended);
     let text = show_log(alloc, &Digest::of([0; 32]), &log)?;
@@ -41,7 +41,7 @@ fn logs_have_these_lines(rt: HostRuntime) -> Result<(), Fail> {
     Ok(())
 }
 
-/// After some of the first steps a call is out of order, and is told by its number.
+/// Whether a call after these steps is refused as out of order, with its number.
 fn is_disorder(alloc: Global, before: &[Step], kind: Hook, bits: &[u64]) -> Result<bool, Fail> {
     let mut recorder = recorder_after(alloc, before)?;
     let store = new_store(alloc)?;

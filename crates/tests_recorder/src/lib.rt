@@ -1,4 +1,4 @@
-//! Tests alone: hook calls made by hand, and the lines of their logs, which were worked out by hand as well.
+//! Tests alone: hook calls made by hand, and the lines of their logs, which were also worked out by hand.
 #![tactic(auto)]
 
 #[cfg(test)]

@@ -1,4 +1,4 @@
-//! A module that a recorder stands for.
+//! A module whose hook calls a recorder takes.
 
 ghost use Rattle.std.specs.Prelude.{IfOk};
 ghost use Rattle.tests_recorder.specs.Modules.{IsBare};
@@ -7,10 +7,10 @@ use sample_inputs::module_without_parts;
 use std::alloc::{AllocError, Global};
 use wasm_syntax::{Func, FuncType, Instr, Limits, List, Module, Val, ValType};
 
-/// How many functions the module has: an import of the original, the hooks, and a function of the original.
+/// The number of the module's functions: an import of the original, the hooks, and a function of the original.
 const FUNCS: usize = 17;
 
-/// A function without parameters that gives a number.
+/// A function without parameters that returns a number.
 fn number_func(alloc: Global) -> Result<Func, AllocError> {
     let zero = Val {
         ty: ValType::I32,
@@ -33,7 +33,7 @@ fn all_funcs(alloc: Global) -> Result<Vec<Func>, AllocError> {
     Ok(funcs)
 }
 
-/// Their type.
+/// The type of all functions.
 fn number_type(alloc: Global) -> Result<FuncType, AllocError> {
     let results = Vec::from_array(alloc, [ValType::I32])?;
     Ok(FuncType {

@@ -1,10 +1,10 @@
-// Steps, and the lines of the log that they have.
+// Steps, and the lines of their log.
 
 use crate::steps::Step;
 use crate::steps::Step::{Call, Grow, SetEntry, Write};
 use hook_names::Hook;
 
-/// What it shows, the steps, and the lines.
+/// What a row tests, the steps, and the lines.
 type Row = (&'static str, &'static [Step], &'static str);
 
 pub(crate) const ROWS: &[Row] = &[
@@ -30,11 +30,11 @@ pub(crate) const ROWS: &[Row] = &[
             Write(10, &[0xcc, 0xdd]),
             Call(Hook::Load, &[8, 0, 4]),
             Call(Hook::Load, &[8, 0, 4]),
-            // one byte is stored, of which the next is none
+            // only the lowest byte of the number is stored
             Call(Hook::Store, &[8, 2, 1, 0x0011]),
             Write(10, &[0x11]),
             Call(Hook::Load, &[8, 0, 4]),
-            // two runs, the second up to the end
+            // two runs; the second is at the end of the load
             Write(8, &[1, 0, 2, 3]),
             Call(Hook::Load, &[8, 0, 4]),
             Call(Hook::Leave, &[1]),
@@ -64,7 +64,7 @@ pub(crate) const ROWS: &[Row] = &[
             Call(Hook::Enter, &[1]),
             Call(Hook::Fill, &[0, 0x105, 600]),
             Call(Hook::Copy, &[1_000, 300, 2]),
-            // the fill was told, but is not in this store: all else differs from it
+            // the fill was reported, but this store was not filled: its bytes differ from the filled ones
             Write(1_000, &[9, 0, 1]),
             Call(Hook::Load, &[1_000, 0, 4]),
             Call(Hook::Leave, &[1]),
@@ -93,7 +93,7 @@ pub(crate) const ROWS: &[Row] = &[
     ),
 ];
 
-/// What may not come, and a call that is out of order once a function is entered.
+/// What is not allowed, and a call that is out of order after a function is entered.
 type Disorder = (&'static str, Hook, &'static [u64]);
 
 pub(crate) const OUT_OF_ORDER: &[Disorder] = &[

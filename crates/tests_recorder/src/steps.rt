@@ -1,4 +1,4 @@
-//! Steps one after another: calls of hooks, and what the host does between them.
+//! Steps one after another: hook calls, and what the host does between them.
 
 ghost use Rattle.std.specs.Prelude.{◌≡◌};
 ghost use Rattle.tests_recorder.specs.Modules.{nothing};
@@ -17,8 +17,8 @@ use wasm_validate::validate;
 /// More functions than the module has.
 const MOST_FUNCS: usize = 1_000;
 
-/// A call of a hook with the bits of its arguments; or the host writes bytes from an address on, grows the memory by a
-/// page, or sets the first entry of the table to the last function.
+/// A hook call with the bits of its arguments; or the host writes bytes from an address on, grows the memory by
+/// a page, or sets the first entry of the table to the last function.
 #[derive(Clone, Copy)]
 pub(crate) enum Step {
     Call(Hook, &'static [u64]),
@@ -27,7 +27,7 @@ pub(crate) enum Step {
     SetEntry,
 }
 
-/// Nothing.
+/// A supply without parts.
 fn no_supply(alloc: Global) -> Supply
     ensures { result ≡ nothing }
 {
@@ -38,7 +38,7 @@ fn no_supply(alloc: Global) -> Supply
     }
 }
 
-/// A recorder before any call, where the original imports one function.
+/// A recorder before any call; the original imports one function.
 #[tactic(auto, using(crate::proofs::Linking::few, crate::proofs::Linking::links, crate::proofs::Linking::typed))]
 pub(crate) fn new_recorder(alloc: Global) -> Result<Recorder<Events>, Fail> {
     let module = module_of(alloc)?;
@@ -52,14 +52,14 @@ pub(crate) fn new_recorder(alloc: Global) -> Result<Recorder<Events>, Fail> {
     Ok(Recorder::new(alloc, &checked, &supply, 1)?)
 }
 
-/// The store that its module opens with.
+/// The store at the beginning of the module's run.
 pub(crate) fn new_store(alloc: Global) -> Result<Store, Fail> {
     let memory = Limits { min: 1, max: None };
     let table = Limits { min: 2, max: None };
     Ok(Store::new(alloc, Some(memory), Some(table), Vec::new(alloc))?)
 }
 
-/// The type of an argument of a hook by its place.
+/// The type of a hook's parameter, by its index.
 fn type_of(kind: Hook, at: usize) -> ValType {
     match kind {
         Hook::Arg | Hook::Gget | Hook::Gset if at == 1 => ValType::I64,
@@ -68,7 +68,7 @@ fn type_of(kind: Hook, at: usize) -> ValType {
     }
 }
 
-/// Calls a hook with arguments by their bits, of which there are four at most.
+/// Calls a hook with arguments by their bits; there are at most four.
 pub(crate) fn call(
     recorder: &mut Recorder<Events>,
     store: &Store,
@@ -104,7 +104,7 @@ fn take(recorder: &mut Recorder<Events>, store: &mut Store, step: Step) -> Resul
     }
 }
 
-/// A recorder after steps, all of which can be taken.
+/// A recorder after steps that can all be taken.
 pub(crate) fn recorder_after(alloc: Global, steps: &[Step]) -> Result<Recorder<Events>, Fail> {
     let mut recorder = new_recorder(alloc)?;
     let mut store = new_store(alloc)?;

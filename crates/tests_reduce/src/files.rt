@@ -5,10 +5,10 @@ use sample_inputs::traces::{DIGEST, LOG, LOG_OF_TWO_ANSWERS, TAPE, TAPE_OF_TWO_A
 use std::alloc::Global;
 use std::test::Fail;
 
-/// Where an event of `LOG_OF_TWO_ANSWERS` ends, or the header.
+/// The places at which the header of `LOG_OF_TWO_ANSWERS` ends, and each of its events.
 const ENDS: [u64; 7] = [38, 41, 44, 51, 54, 61, 63];
 
-/// A file that begins so, in a version, with the digest and what comes after it.
+/// A file with these first bytes, in a version, with the digest and the bytes after it.
 fn file(alloc: Global, magic: &str, version: u8, body: &str) -> Result<Vec<u8>, Fail> {
     let mut bytes = hex::decode(alloc, magic)?;
     bytes.push(version)?;
@@ -22,7 +22,7 @@ fn log_file(alloc: Global, version: u8, body: &str) -> Result<Vec<u8>, Fail> {
     file(alloc, LOG, version, body)
 }
 
-/// Where the fault of a cut log is.
+/// The place of the fault of a cut log.
 fn place(length: u64) -> u64 {
     let mut at = 0;
     for end in ENDS {

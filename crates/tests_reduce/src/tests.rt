@@ -1,6 +1,6 @@
 //! Logs, and the tapes that they are reduced to.
 
-use run_outcomes::Outcome;
+use base::Outcome;
 use sample_inputs::traces::{LINES_OF_NESTED_CALL, LOG_OF_TWO_ANSWERS, TAPE_LINES_OF_TWO_ANSWERS};
 use std::alloc::Global;
 use std::test::Fail;
@@ -9,14 +9,14 @@ use trace_model::{Event, EventSink, Tape};
 use trace_reduce::{NoMemory, ReduceFault, Reducer, ReducerFault, reduce};
 use wasm_syntax::{Bytes, Val, ValType, Vals};
 
-/// A log's file as far as its digest, in hexadecimal.
+/// A log's file up to its digest, in hexadecimal.
 const HEADER: &str = "72336c6702000102030405060708090a0b0c0d0e0f101112131415161718191a1b1c1d1e1f";
 
 /// The first line of a tape.
 const FIRST_LINE: &str = "tape 000102030405060708090a0b0c0d0e0f101112131415161718191a1b1c1d1e1f\n";
 
-/// Logs in which function 0 is imported: what stands after the digest, and the lines of the tape or why
-/// there is none.
+/// Logs in which function 0 is imported: the bytes after the digest, and the lines of the tape or why there is
+/// none.
 const ROWS: &[(&str, &str, Result<&str, ReduceFault>)] = &[
     (
         "two answers",
@@ -114,7 +114,7 @@ const ROWS: &[(&str, &str, Result<&str, ReduceFault>)] = &[
     ),
 ];
 
-/// A tape is the one that these lines show.
+/// Whether a tape has these lines.
 fn is_shown(alloc: Global, digest: &Digest, tape: &Tape, text: &str) -> Result<bool, Fail> {
     let mut lines = Vec::new(alloc);
     lines.extend_from_slice(FIRST_LINE.as_bytes())?;
@@ -122,7 +122,7 @@ fn is_shown(alloc: Global, digest: &Digest, tape: &Tape, text: &str) -> Result<b
     Ok(show_tape(alloc, digest, tape)?.as_slice() == lines.as_slice())
 }
 
-/// What a row asks for is answered.
+/// Whether a row has the expected result.
 fn check_row(alloc: Global, body: &str, want: Result<&str, ReduceFault>) -> Result<bool, Fail> {
     let mut bytes = hex::decode(alloc, HEADER)?;
     bytes.extend_from_slice(hex::decode(alloc, body)?.as_slice())?;
@@ -183,7 +183,7 @@ fn take_nested_call(alloc: Global, reducer: &mut Reducer) -> Result<(), NoMemory
     reducer.event(Event::Leave { func: 1 })
 }
 
-/// What is answered of these events where the tape may weigh so much at most.
+/// The result for these events with this limit of the tape's weight.
 fn nested_call(alloc: Global, most: u64) -> Result<Tape, ReducerFault> {
     let mut reducer = Reducer::new(alloc, 1, most);
     take_nested_call(alloc, &mut reducer).map_err(|_| ReducerFault::Memory)?;

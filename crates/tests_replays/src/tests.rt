@@ -1,4 +1,4 @@
-//! Runs whose replay modules are run, and what runs them.
+//! Tests of replay modules by their runs, and the code that runs them.
 
 mod by_hand;
 mod handmade;

@@ -1,4 +1,4 @@
--- The module of these tests links, where its bytes end within its memory.
+-- The module of these tests links if its bytes end within its memory.
 use Rattle.std.proofs.Common.{◌≡◌, ℕ, ◌+◌, ◌*◌, ◌≤◌, List, [], ◌∷◌, length, true, nat_le, IsOk, refl, sym, subst, arith}
 use Rattle.std.proofs.lemmas.Bool.{le-leb}
 use Rattle.std.proofs.lemmas.List.{length-replicate}

@@ -6,7 +6,7 @@ use Rattle.wasm_syntax.specs.EmptyModule.{empty_module}
 use Rattle.wasm_syntax.specs.declared.modules.Module.{Module}
 use Rattle.host_script.specs.declared.scripts.Supply.{Supply}
 
--- a memory of so many pages in which bytes stand from an offset on, and a table of so many empty entries
+-- a memory of `pages` pages with bytes from an offset on, and a table of `entries` empty entries
 abbrev pub module_with : (pages entries offset : ℕ) → List ℕ → Module
 module_with pages entries offset bytes =
     record empty_module {
@@ -15,6 +15,6 @@ module_with pages entries offset bytes =
       datas = record { memory = 0; offset = Const (record { ty = I32; bits = offset }) ∷ End ∷ []; bytes = bytes } ∷ [];
     }
 
--- nothing is supplied
+-- a supply without parts
 abbrev pub nothing : Supply
 nothing = record { memory = None; table = None; globals = [] }

@@ -8,10 +8,10 @@ use shadow_memory::{Difference, ShadowMemory};
 use std::alloc::Global;
 use std::test::Fail;
 
-/// The bytes that stand in the memory, around the end of its first 4,096.
+/// The bytes in the memory, around the end of its first 4,096 bytes.
 const BYTES: [u8; 8] = [1, 2, 3, 4, 5, 6, 7, 8];
 
-/// What is known where bytes stand in a memory of one page from an offset on.
+/// What is known of a memory of one page with bytes from an offset on.
 #[tactic(auto, using(crate::proofs::Linking::links))]
 fn shadow_of(alloc: Global, offset: u32, bytes: &[u8]) -> Result<ShadowMemory, Fail>
     requires { offset + length bytes.now ≤ PAGE_SIZE }

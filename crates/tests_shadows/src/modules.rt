@@ -1,4 +1,4 @@
-//! A module with a memory and a table, and what is supplied for it.
+//! A module with a memory and a table, and its supply.
 
 ghost use Rattle.std.specs.Prelude.{◌≡◌, [], ◌∷◌, IfOk};
 ghost use Rattle.tests_shadows.specs.Modules.{module_with, nothing};
@@ -10,7 +10,7 @@ use std::test::Fail;
 use wasm_syntax::{DataSeg, Instr, Limits, List, Module, Val, ValType};
 use wasm_validate::{Checked, validate};
 
-/// A memory of one page in which bytes stand from an offset on, and a table of two empty entries.
+/// A memory of one page with bytes from an offset on, and a table of two empty entries.
 fn module_of(alloc: Global, offset: u32, bytes: &[u8]) -> Result<Module, AllocError>
     ensures { IfOk result (λ m. m ≡ module_with 1 2 offset bytes.now) }
 {
@@ -26,7 +26,7 @@ fn module_of(alloc: Global, offset: u32, bytes: &[u8]) -> Result<Module, AllocEr
     module_of_segment(alloc, segment)
 }
 
-/// The same module, given its data segment.
+/// The same memory and table, with this data segment.
 fn module_of_segment(alloc: Global, segment: DataSeg) -> Result<Module, AllocError>
     ensures { IfOk result (λ m. m ≡ record (module_with 1 2 0 []) { datas = segment ∷ [] }) }
 {
@@ -43,7 +43,7 @@ fn module_of_segment(alloc: Global, segment: DataSeg) -> Result<Module, AllocErr
     })
 }
 
-/// That module, which is valid.
+/// The module with these bytes, which is valid.
 pub(crate) fn checked_module(alloc: Global, offset: u32, bytes: &[u8]) -> Result<Checked, Fail>
     ensures { IfOk result (λ checked. checked ≡ module_with 1 2 offset bytes.now) }
 {
@@ -53,7 +53,7 @@ pub(crate) fn checked_module(alloc: Global, offset: u32, bytes: &[u8]) -> Result
     }
 }
 
-/// Nothing.
+/// A supply without parts.
 pub(crate) fn no_supply(alloc: Global) -> Supply
     ensures { result ≡ nothing }
 {

@@ -5,7 +5,7 @@ use shadow_tables::ShadowTables;
 use std::alloc::Global;
 use std::test::Fail;
 
-/// What is known where a table of two empty entries stands.
+/// What is known of a table of two empty entries.
 #[tactic(auto, using(crate::proofs::Linking::links))]
 fn tables_of(alloc: Global) -> Result<ShadowTables, Fail> {
     let checked = checked_module(alloc, 0, &[1])?;

@@ -1,9 +1,10 @@
-//! Tables of files by what they are about, and what is asked of them.
+//! Tables of files by subject, and the tests over them.
 
 mod balances;
 mod damages;
 mod files;
 mod fits;
 mod lines;
+mod plans;
 mod prefixes;
 mod written;

@@ -1,4 +1,4 @@
--- Which logs and tapes are spelled, and by which bytes: the grammar of the files.
+-- The logs and tapes that have an encoding, and the bytes that encode them: the grammar of the files.
 use Rattle.std.specs.Prelude.{◌≡◌, ℕ, ◌<◌, ◌^◌, ◌⊎◌, List, length, IfSome}
 use Rattle.std.specs.List.{AllByRecursion}
 use Rattle.wasm_syntax.specs.Encoding.Encodable.{FitsU32, FitsConst}
@@ -17,8 +17,8 @@ use Rattle.trace_model.specs.declared.tapes.Tape.{Tape}
 use Rattle.trace_bytes.specs.declared.tags.TheConstants.{VERSION_1, VERSION_2, DIGEST_BYTES}
 use Rattle.trace_bytes.specs.Spelling.{log_bytes, tape_bytes}
 
--- ---- what has a spelling: numbers of 32 bits, values of number types with bits of their width, at least one byte,
--- fewer than 2^32 items; a table's size in the second version alone
+-- ---- what has an encoding: numbers of 32 bits, values of number types with bits of their width, at least one
+-- byte, fewer than 2^32 items; a table's size only in the second version
 
 abbrev pub FitsVal : Val → Type 0
 FitsVal value = FitsConst value.ty value.bits
@@ -67,13 +67,15 @@ pub record FitsSegment (version : ℕ) (segment : Segment) : Type 0 where
   pub effects : AllByRecursion (FitsEffect version) segment.effects
   pub next : FitsNext segment.next
 
+-- each event of a list has an encoding in this version of the file format
 abbrev pub FitEvents : (version : ℕ) → List Event → Type 0
 FitEvents version = AllByRecursion (FitsEvent version)
 
+-- each segment of a list has an encoding in this version of the file format
 abbrev pub FitSegments : (version : ℕ) → List Segment → Type 0
 FitSegments version = AllByRecursion (FitsSegment version)
 
--- ---- spellings
+-- ---- encodings
 
 abbrev pub IsVersion : ℕ → Type 0
 IsVersion version = (version ≡ VERSION_1) ⊎ (version ≡ VERSION_2)
@@ -81,7 +83,7 @@ IsVersion version = (version ≡ VERSION_1) ⊎ (version ≡ VERSION_2)
 abbrev pub IsDigest : List ℕ → Type 0
 IsDigest digest = length digest ≡ DIGEST_BYTES
 
--- the bytes are a spelling of the log with the digest, of this version
+-- the bytes are the encoding, in this version, of the log with the digest; of the tape with the digest
 pub record SpellsLog (version : ℕ) (bytes digest : List ℕ) (log : Log) : Type 0 where
   pub is_version : IsVersion version
   pub is_digest : IsDigest digest
@@ -89,6 +91,7 @@ pub record SpellsLog (version : ℕ) (bytes digest : List ℕ) (log : Log) : Typ
   pub events : FitEvents version log.events
   pub spelled : bytes ≡ log_bytes version digest log
 
+-- the bytes are the encoding, in this version, of the tape with the digest
 pub record SpellsTape (version : ℕ) (bytes digest : List ℕ) (tape : Tape) : Type 0 where
   pub is_version : IsVersion version
   pub is_digest : IsDigest digest

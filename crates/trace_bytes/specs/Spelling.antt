@@ -1,4 +1,4 @@
--- The bytes of logs and tapes. Each number stands in its shortest encoding, so a value has one spelling of a version.
+-- The bytes of logs and tapes. Each number has its shortest encoding, so a value has one encoding in a version.
 use Rattle.std.specs.Prelude.{ℕ, List, [], ◌∷◌, ◌++◌, flat_map, Option, Some, None}
 use Rattle.std.specs.Int.{w32, w64, to_le_bytes}
 use Rattle.leb_bytes.specs.Unsigned.{u32_bytes}
@@ -7,8 +7,8 @@ use Rattle.wasm_syntax.specs.Encoding.Shortest.{sized_bytes, vector_bytes}
 use Rattle.wasm_syntax.specs.declared.values.ValType.{ValType}
 use Rattle.wasm_syntax.specs.declared.values.ValType.TheVariants.{I32, I64, F32, F64, FuncRef}
 use Rattle.wasm_syntax.specs.declared.values.Val.{Val}
-use Rattle.run_outcomes.specs.declared.outcomes.Outcome.{Outcome}
-use Rattle.run_outcomes.specs.declared.outcomes.Outcome.TheVariants.{Ended, Trapped, HostTrapped}
+use Rattle.base.specs.declared.outcomes.Outcome.{Outcome}
+use Rattle.base.specs.declared.outcomes.Outcome.TheVariants.{Ended, Trapped, HostTrapped}
 use Rattle.trace_model.specs.declared.events.Event.{Event}
 use Rattle.trace_model.specs.declared.events.Event.TheVariants.{Enter, Leave, Pre, Post, Grow, Seen, Table, Bytes, Entry, Global}
 use Rattle.trace_model.specs.declared.events.Log.{Log}
@@ -24,7 +24,7 @@ use Rattle.trace_bytes.specs.declared.tags.TheConstants.{LOG_MAGIC, TAPE_MAGIC, 
 
 -- ---- values, options
 
--- the bits of a value, the lowest byte first; references are not spelled
+-- the bits of a value, the lowest byte first; references have no encoding
 abbrev pub bits_bytes : ValType → ℕ → List ℕ
 bits_bytes I32 bits = to_le_bytes w32 bits
 bits_bytes I64 bits = to_le_bytes w64 bits
@@ -43,7 +43,7 @@ option_bytes spell (Some x) = OPTION_SOME ∷ spell x
 abbrev pub call_bytes : (func : ℕ) → List Val → List ℕ
 call_bytes func args = u32_bytes func ++ vector_bytes val_bytes args
 
--- ---- what the host changed, or what is seen of it
+-- ---- what the host changed, or what the module observed of it
 
 abbrev pub entry_bytes : (index : ℕ) → Option ℕ → List ℕ
 entry_bytes index func = TAG_ENTRY ∷ (u32_bytes index ++ option_bytes u32_bytes func)
@@ -73,7 +73,7 @@ outcome_byte Ended = TAG_ENDED
 outcome_byte Trapped = TAG_TRAPPED
 outcome_byte HostTrapped = TAG_HOST_TRAPPED
 
--- what every file begins with, and what a log's file does
+-- the start of every file; the start of a log's file
 abbrev pub header_bytes : (magic : List ℕ) (version : ℕ) (digest : List ℕ) → List ℕ
 header_bytes magic version digest = magic ++ (version ∷ digest)
 

@@ -4,22 +4,22 @@ ghost use Rattle.std.specs.Prelude.{◌≡◌, ◌^◌, ◌<◌, ◌++◌, lengt
 ghost use Rattle.std.specs.List.{AllByRecursion};
 ghost use Rattle.wasm_syntax.specs.Encoding.Shortest.{vector_bytes};
 
+use base::NoMemory;
 use leb_bytes::push_u32;
-use no_memory::NoMemory;
 
-/// How the items of a list are spelled.
+/// How the items of a list are encoded.
 pub(crate) trait Spelling {
     ghost use Rattle.std.specs.Prelude.{◌≡◌, ℕ, ◌++◌, List, OnOk};
 
     type Item;
 
-    // the spelling of an item
+    // the encoding of an item
     ghost bytes: { Self.Item → List ℕ };
 
-    // what an item needs for it
+    // what an item needs to have an encoding
     ghost fits: { Self.Item → Type 0 };
 
-    /// Appends the spelling of an item.
+    /// Appends the encoding of an item.
     fn write(item: &Self::Item, out: &mut Vec<u8>) -> Result<(), NoMemory>
         requires { fits item.now }
         ensures { OnOk result (out.new.items ≡ out.old.items ++ bytes item.now) };
@@ -36,7 +36,7 @@ pub(crate) fn write_items<S: Spelling>(items: &[S::Item], out: &mut Vec<u8>) -> 
     Ok(())
 }
 
-/// Appends how many items there are, and the items.
+/// Appends the number of items, and the items.
 pub(crate) fn write_counted<S: Spelling>(
     items: &[S::Item],
     out: &mut Vec<u8>,

@@ -1,9 +1,9 @@
-//! The bytes of logs and tapes: what they are, and writing them.
+//! The bytes of logs and tapes: their grammar, and how they are written.
 #![tactic(auto)]
 
 mod items;
 mod spellings;
 pub mod tags;
 
-pub use no_memory::NoMemory;
+pub use base::NoMemory;
 pub use spellings::{write_log, write_tape};

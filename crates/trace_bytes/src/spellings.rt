@@ -13,8 +13,8 @@ use crate::tags::{
     TAG_IMPORT, TAG_LEAVE, TAG_POST, TAG_PRE, TAG_RETURN, TAG_SEEN, TAG_TABLE, TAG_TRAP,
     TAG_TRAPPED, TAPE_MAGIC, VERSION_2,
 };
+use base::NoMemory;
 use leb_bytes::push_u32;
-use no_memory::NoMemory;
 use std::alloc::Global;
 use trace_model::{Effect, Event, Log, Next, Origin, Outcome, Segment, Tape};
 use wasm_syntax::{Val, ValType, Vals};
@@ -82,7 +82,7 @@ impl Spelling for SegmentItems {
 /// The file of a log, in the second version.
 ///
 /// # Errors
-/// Where an allocation failed.
+/// `NoMemory` if an allocation failed.
 #[tactic(auto, unfolding(crate::specs::Spelling::log_bytes))]
 pub fn write_log(alloc: Global, digest: &[u8; DIGEST_BYTES], log: &Log) -> Result<Vec<u8>, NoMemory>
     requires { FitEvents VERSION_2 log.now.events }
@@ -101,7 +101,7 @@ pub fn write_log(alloc: Global, digest: &[u8; DIGEST_BYTES], log: &Log) -> Resul
 /// The file of a tape, in the second version.
 ///
 /// # Errors
-/// Where an allocation failed.
+/// `NoMemory` if an allocation failed.
 #[tactic(auto, unfolding(crate::specs::Spelling::tape_bytes))]
 pub fn write_tape(
     alloc: Global,
@@ -189,7 +189,7 @@ fn write_segment(segment: &Segment, out: &mut Vec<u8>) -> Result<(), NoMemory>
     write_next(&segment.next, out)
 }
 
-/// Appends how control comes to the host.
+/// Appends how control reaches the host.
 fn write_origin(origin: Origin, out: &mut Vec<u8>) -> Result<(), NoMemory>
     ensures { OnOk result (out.new.items ≡ out.old.items ++ origin_bytes origin) }
 {
@@ -224,7 +224,7 @@ fn write_call(mark: u8, func: u32, args: &Vals, out: &mut Vec<u8>) -> Result<(),
     write_counted::<Values>(args.as_slice(), out)
 }
 
-/// Appends a function, or none, after a mark.
+/// Appends a mark and an optional function.
 fn write_func(mark: u8, func: Option<u32>, out: &mut Vec<u8>) -> Result<(), NoMemory>
     ensures { OnOk result (out.new.items ≡ out.old.items ++ mark ∷ option_bytes u32_bytes func) }
 {
@@ -232,7 +232,7 @@ fn write_func(mark: u8, func: Option<u32>, out: &mut Vec<u8>) -> Result<(), NoMe
     write_option(func, out)
 }
 
-/// Appends a number, or none.
+/// Appends an optional number.
 fn write_option(number: Option<u32>, out: &mut Vec<u8>) -> Result<(), NoMemory>
     ensures { OnOk result (out.new.items ≡ out.old.items ++ option_bytes u32_bytes number) }
 {
@@ -245,7 +245,7 @@ fn write_option(number: Option<u32>, out: &mut Vec<u8>) -> Result<(), NoMemory>
     }
 }
 
-/// Appends a value, or none, after a mark.
+/// Appends a mark and an optional value.
 fn write_result(mark: u8, value: Option<Val>, out: &mut Vec<u8>) -> Result<(), NoMemory>
     requires { IfSome value FitsVal }
     ensures { OnOk result (out.new.items ≡ out.old.items ++ mark ∷ option_bytes val_bytes value) }
@@ -274,7 +274,7 @@ fn write_bytes(addr: u32, bytes: &[u8], out: &mut Vec<u8>) -> Result<(), NoMemor
     Ok(())
 }
 
-/// Appends an entry of the table.
+/// Appends a table entry.
 fn write_entry(index: u32, func: Option<u32>, out: &mut Vec<u8>) -> Result<(), NoMemory>
     ensures { OnOk result (out.new.items ≡ out.old.items ++ entry_bytes index func) }
 {

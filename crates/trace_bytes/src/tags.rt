@@ -1,24 +1,24 @@
 // The bytes that mark what follows them in the files of logs and tapes.
 
-/// What a log's file and a tape's file begin with.
+/// The first bytes of a log's file and of a tape's file.
 pub const LOG_MAGIC: [u8; 4] = *b"r3lg";
 
 pub const TAPE_MAGIC: [u8; 4] = *b"r3tp";
 
-/// The versions that are read; the second is written.
+/// The versions that are read; files are written in the second.
 pub const VERSION_1: u8 = 1;
 
 pub const VERSION_2: u8 = 2;
 
-/// The bytes of a digest.
+/// The length of a digest in bytes.
 pub const DIGEST_BYTES: usize = 32;
 
-/// An option that holds nothing, or one that holds what follows.
+/// The mark of an option without a value, and that of an option whose value follows.
 pub const OPTION_NONE: u8 = 0x00;
 
 pub const OPTION_SOME: u8 = 0x01;
 
-/// Events. All from `TAG_GROW` on, but `TAG_SEEN`, are effects too. Version 1 has no `TAG_TABLE`.
+/// Events. All from `TAG_GROW` on, except `TAG_SEEN`, are effects too. Version 1 has no `TAG_TABLE`.
 pub const TAG_ENTER: u8 = 0x01;
 
 pub const TAG_LEAVE: u8 = 0x02;
@@ -46,14 +46,14 @@ pub const TAG_TRAPPED: u8 = 0x11;
 
 pub const TAG_HOST_TRAPPED: u8 = 0x12;
 
-/// How control comes to the host.
+/// How control reaches the host.
 pub const TAG_BEGIN: u8 = 0x00;
 
 pub const TAG_IMPORT: u8 = 0x01;
 
 pub const TAG_BACK: u8 = 0x02;
 
-/// How control leaves it.
+/// How control leaves the host.
 pub const TAG_CALL: u8 = 0x20;
 
 pub const TAG_RETURN: u8 = 0x21;

@@ -1,13 +1,13 @@
--- What stands after numbers and ends.
+-- The bytes after numbers and ends.
 use Rattle.std.proofs.Common.{◌≡◌, ℕ, ◌-◌, ◌<◌, ◌≤◌, true, List, [], ◌∷◌, length, take, drop, Some, ap, sym, ◌∙◌, arith}
 use Rattle.std.specs.Prelude.{nat_eq}
 use lib.Pointwise.{pointwise}
 use Rattle.std.proofs.lemmas.Bool.{eqb-true}
 use Rattle.std.proofs.lemmas.List.{length-append, length-drop}
 use Rattle.std.proofs.Math.Seq.{take-length}
-use Rattle.list_laws.proofs.Booleans.{and_left}
+use Rattle.base.proofs.Booleans.{and_left}
 use Rattle.wasm_syntax.specs.Encoding.Combinators.{Reader}
-use Rattle.run_outcomes.specs.declared.outcomes.Outcome.{Outcome}
+use Rattle.base.specs.declared.outcomes.Outcome.{Outcome}
 use Rattle.trace_bytes.specs.declared.tags.TheConstants.{TAG_CLOSE}
 use Rattle.trace_format.specs.Files.{IsMore}
 use Rattle.trace_format.specs.Reading.{first_close, first_number, first_outcome}
@@ -25,7 +25,7 @@ pub more_is : {O : Type 0} (last : Reader O) (all left more : List ℕ) («end»
 more_is last all left [] «end» e some few = absurd (omega (arith, some))
 more_is last all left (b ∷ more) «end» e some few = («end», b, more, e, omega (arith, few))
 
--- the byte that ends a tape, taken off the front
+-- reads the byte that ends a tape
 pub close_read : (left more : List ℕ) → pointwise nat_eq (take 1 left) (TAG_CLOSE ∷ []) ≡ true → more ≡ drop 1 left
     → first_close left ≡ Some (tt, more)
 close_read [] more h e = cc
@@ -36,12 +36,12 @@ close_read (b ∷ rest) more h e =
 pub close_shorter : (left more : List ℕ) → more ≡ drop 1 left → length more ≤ length left
 close_shorter left more e = omega (arith, ap length e, length-drop 1 left)
 
--- what stands after a number
+-- the bytes after a number are no more than the bytes with it
 pub number_shorter : NumberLaws → (input rest : List ℕ) (n : ℕ) → first_number input ≡ Some (n, rest)
     → length rest ≤ length input
 number_shorter laws input rest n e =
     let f = (number_reads laws).found input rest n e in omega (arith, ap length f.2, length-append f.0 rest)
 
--- what stands from a place on
+-- the bytes from a place on
 pub whole_rest : (bytes : List ℕ) (at : ℕ) → take (length bytes - at) (drop at bytes) ≡ drop at bytes
 whole_rest bytes at = ap (λ n. take n (drop at bytes)) (sym (length-drop at bytes)) ∙ take-length (drop at bytes)

@@ -1,4 +1,4 @@
--- What reading a file answers, by what holds of its readers.
+-- What reading a file returns, by the laws of its readers.
 use Rattle.std.proofs.Common.{◌≡◌, ℕ, ◌⊎◌, List, Result, Ok, Err, refl, ap, sym, ◌∙◌, subst, inl, inr}
 use Rattle.std.specs.Prelude.{IfOk, IfErr, MatchResult}
 use Rattle.std.proofs.lemmas.Option.{none-some}
@@ -10,7 +10,7 @@ use Rattle.trace_format.specs.declared.files.FormatFault.{FormatFault}
 use Rattle.trace_format.specs.declared.files.FormatFault.TheVariants.{Version, Bad, Memory}
 use Rattle.trace_format.proofs.Versions.{is_other, other_is}
 
--- what holds of the readers of a kind of files
+-- the laws of the readers of a kind of files
 pub record FileFacts {C : Type 0} (magic bytes : List ℕ) (IsOf IsRead : C → Type 0) (IsFront IsBad : ℕ → Type 0) : Type 0 where
   pub read_is : (content : C) → IsRead content → IsOf content
   pub is_read : (content : C) → IsOf content → IsRead content
@@ -53,7 +53,7 @@ module _ {C : Type 0} (magic bytes : List ℕ) (IsOf IsRead : C → Type 0) (IsF
   answer_fault (Ok content) is = tt
   answer_fault (Err fault) is = fault_is fault is
 
-  -- all of these
+  -- the whole contract of a result
   pub content_answer : (answer : Result C FormatFault) → IsAnswer answer
       → IsContent IsOf (λ fault. IsFaultOf magic IsOf IsFront bytes fault) answer
   content_answer answer is = record {
@@ -62,7 +62,7 @@ module _ {C : Type 0} (magic bytes : List ℕ) (IsOf IsRead : C → Type 0) (IsF
     fault = answer_fault answer is;
   }
 
--- what is told of the content of a file that is read
+-- results made from the content of a file
 module _ {C T : Type 0} (magic bytes : List ℕ) (IsOf IsRead : C → Type 0) (IsFront IsBad : ℕ → Type 0)
     (facts : FileFacts magic bytes IsOf IsRead IsFront IsBad) (Tells : C → T → Type 0) where
   abbrev IsFault : FormatFault → Type 0
@@ -91,7 +91,7 @@ module _ {C T : Type 0} (magic bytes : List ℕ) (IsOf IsRead : C → Type 0) (I
   telling_fault (Ok told) is = tt
   telling_fault (Err fault) is = fault_is magic bytes IsOf IsRead IsFront IsBad facts fault is
 
-  -- all of these
+  -- the whole contract of a result made from the content
   pub telling : (IsRight : T → Type 0)
       → ((content : C) (told : T) → IsOf content → Tells content told → IsRight told)
       → (answer : Result T FormatFault) → IsTelling answer

@@ -1,4 +1,4 @@
--- What is read of a file is what its bytes spell: of files of any kind that have a header, items and an end.
+-- What is read of a file is what its bytes encode, for files of any kind with a header, items and an end.
 use Rattle.std.proofs.Common.{◌≡◌, ℕ, zero, suc, ◌+◌, ◌<◌, ◌≤◌, ◌⊎◌, List, [], ◌∷◌, ◌++◌, length, Option, Some, None, refl, ap, sym, ◌∙◌, subst, append_assoc, inl, inr, arith}
 use Rattle.std.specs.Prelude.{flat_map}
 use Rattle.std.specs.List.{AllByRecursion}
@@ -29,7 +29,7 @@ module _ {A : Type 0} (read : Reader A) where
   read_last bytes mid left [] x here next = (left, ap read here ∙ next, refl)
   read_last bytes mid left (y ∷ ys) x here next = (here.0, here.1, read_last here.0 mid left ys x here.2 next)
 
-  -- as many as were asked for, and fewer
+  -- reading a given number of items: all of them; fewer
   pub counted_read : (bytes left : List ℕ) (xs : List A) → AreRead read bytes xs left
       → first_items read (length xs) bytes ≡ Some (xs, left)
   counted_read bytes left [] here = ap (λ r. Some ([], r)) here
@@ -43,7 +43,7 @@ module _ {A : Type 0} (read : Reader A) where
   counted_missed bytes left (x ∷ xs) (suc more) here few none =
       rw (here.1, counted_missed here.0 left xs more here.2 (omega (arith, few)) none) refl
 
-  -- what is read is the front of all that is read
+  -- items that a reader reads are the first of all items that it reads
   pub rest_read : (bytes left other : List ℕ) (xs ys : List A) → AreRead read bytes xs left → read left ≡ None
       → AreRead read bytes ys other → (zs : List A) × AreRead read other zs left × (xs ≡ ys ++ zs)
   rest_read bytes left other xs [] one none two = (xs, subst (λ b. AreRead read b xs left) two one, refl)
@@ -97,7 +97,7 @@ module _ {H A O : Type 0} (FH : H → Type 0) (sH : H → List ℕ) (FA : H → 
   head_read : (h : H) (later : List ℕ) → FH h → head (sH h ++ later) ≡ Some (h, later)
   head_read h later fits = head_reads.only (sH h) later h (record { fits = fits; spelled = refl })
 
-  -- what is read of a file so far
+  -- the bytes of a file, by what is read so far
   read_to_spelled : (bytes left : List ℕ) (h : H) (xs : List A) → IsReadTo head item bytes h xs left
       → FH h × AllByRecursion (FA h) xs × (bytes ≡ sH h ++ (flat_map sA xs ++ left))
   read_to_spelled bytes left h xs to =
@@ -133,7 +133,7 @@ module _ {H A O : Type 0} (FH : H → Type 0) (sH : H → List ℕ) (FA : H → 
     end_read = ap last (sym (append-nil (sO o))) ∙ last_reads.only (sO o) [] o (record { fits = tt; spelled = refl });
   }
 
-  -- a file is read in one way
+  -- a file has at most one reading
   one_read_to : (bytes left other : List ℕ) (h k : H) (xs ys : List A) → IsReadTo head item bytes h xs left
       → IsReadTo head item bytes k ys other → (h ≡ k) × (xs ≡ ys) × (left ≡ other)
   one_read_to bytes left other h k xs ys one two =
@@ -167,7 +167,7 @@ module _ {H A O : Type 0} (FH : H → Type 0) (sH : H → List ℕ) (FA : H → 
     | inr cut ↦ cut_not_whole bytes at h xs o cut whole
   ]
 
-  -- ---- fronts
+  -- ---- prefixes
 
   abbrev Front : List ℕ → ℕ → Type 0
   Front = IsFileFront FH sH FA sA sO
@@ -176,7 +176,7 @@ module _ {H A O : Type 0} (FH : H → Type 0) (sH : H → List ℕ) (FA : H → 
       → head bytes ≡ Some (f.header, flat_map sA f.items ++ (perhaps sO f.close ++ f.rest))
   front_head bytes count f = ap head f.parts ∙ head_read f.header _ f.fits
 
-  -- a file that is cut goes on from each front
+  -- the bytes after any prefix continue with the other items that are read
   goes_on : (bytes left : List ℕ) (count : ℕ) (h : H) (xs : List A) → IsReadTo head item bytes h xs left
       → (f : Front bytes count) → (zs : List A) × AreRead (item f.header) (perhaps sO f.close ++ f.rest) zs left
   goes_on bytes left count h xs to f =
@@ -188,7 +188,7 @@ module _ {H A O : Type 0} (FH : H → Type 0) (sH : H → List ℕ) (FA : H → 
       (spelled_items f.header f.items (perhaps sO f.close ++ f.rest) f.fit) in
       (later.0, later.1)
 
-  -- so none is longer than what was read
+  -- no such prefix is longer than what was read
   none_longer : (bytes left rest : List ℕ) (at count : ℕ) (h : H) (close : Option O) (zs : List A)
       → AreRead (item h) (perhaps sO close ++ rest) zs left
       → count + length rest ≡ length bytes
@@ -255,7 +255,7 @@ module _ {H A O : Type 0} (FH : H → Type 0) (sH : H → List ℕ) (FA : H → 
     )
   ]
 
-  -- so the facts of a kind of files, whose content has a header by its version, items and an end
+  -- the facts of a kind of files whose content has a header by its version, items and an end
   pub file_facts : {C : Type 0} (magic bytes : List ℕ) (Is : ℕ → C → Type 0) (header : ℕ → C → H) (items : C → List A)
       (close : C → O)
       → ((version : ℕ) (content : C) → FH (header version content)

@@ -16,7 +16,7 @@ no_log_header : (bytes : List ℕ) → first_header LOG_MAGIC bytes ≡ None →
 unfolding first_log_header
 no_log_header bytes none = rw none refl
 
--- why no header is there
+-- why the bytes have no header
 pub log_header_fault : (bytes : List ℕ) (fault : FormatFault) → IsHeaderFault LOG_MAGIC bytes fault
     → IsLogStartFault bytes fault
 log_header_fault bytes (Version found) is = is
@@ -28,7 +28,7 @@ no_number : (bytes : List ℕ) (header : ℕ × List ℕ) → IsHeaderThere LOG_
 unfolding first_log_header
 no_number bytes header there none = rw (there.header_read, none) refl
 
--- what stands after that number is no longer than the file
+-- the bytes after the number of imported functions are no more than the file's
 pub number_left : NumberLaws → (bytes : List ℕ) (imports : ℕ) (start : List ℕ)
     → first_number (take (length bytes - header_length) (drop header_length bytes)) ≡ Some (imports, start)
     → length start ≤ length bytes
@@ -39,7 +39,7 @@ number_left laws bytes imports start is =
       length-drop header_length bytes,
     )
 
--- what is there of a log before its events
+-- a log's header and number of imported functions, before its events
 pub log_begun : NumberLaws → (bytes digest : List ℕ) (version imports : ℕ) (start : List ℕ)
     → IsHeaderThere LOG_MAGIC bytes (version, digest)
     → first_number (take (length bytes - header_length) (drop header_length bytes)) ≡ Some (imports, start)

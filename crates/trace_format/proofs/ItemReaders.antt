@@ -1,4 +1,4 @@
--- Readers of events and of segments read just their spellings.
+-- Readers of events and of segments read exactly their encodings.
 use Rattle.std.proofs.Common.{◌≡◌, ℕ, ◌<◌, ◌^◌, Bool, true, false, cond, List, [], ◌∷◌, ◌++◌, length, Option, Some, refl, sym, subst}
 use Rattle.std.specs.Prelude.{nat_eq, IfSome}
 use Rattle.std.specs.List.{AllByRecursion}
@@ -11,8 +11,8 @@ use Rattle.wasm_syntax.specs.Encoding.Grammar.{Grammar}
 use Rattle.wasm_syntax.specs.Encoding.Shortest.{sized_bytes, vector_bytes}
 use Rattle.wasm_syntax.specs.declared.values.Val.{Val}
 use Rattle.wasm_syntax.proofs.Encoding.Tools.{as_read_is, by_mark_found, done_finds, done_only, rows_well}
-use Rattle.run_outcomes.specs.declared.outcomes.Outcome.{Outcome}
-use Rattle.run_outcomes.specs.declared.outcomes.Outcome.TheVariants.{Ended, Trapped, HostTrapped}
+use Rattle.base.specs.declared.outcomes.Outcome.{Outcome}
+use Rattle.base.specs.declared.outcomes.Outcome.TheVariants.{Ended, Trapped, HostTrapped}
 use Rattle.trace_model.specs.declared.events.Event.{Event}
 use Rattle.trace_model.specs.declared.events.Event.TheVariants.{Enter, Leave, Pre, Post, Grow, Seen, Table, Bytes, Entry, Global}
 use Rattle.trace_model.specs.declared.tapes.Effect.{Effect}
@@ -31,7 +31,7 @@ use Rattle.trace_format.proofs.FileLaws.{IsAny}
 use Rattle.trace_format.proofs.PartReaders.{AreFew, bytes_reads, counted_reads, number_reads, option_reads, row_finds, row_only, same_grammar, then_reads}
 use Rattle.trace_format.proofs.ValueReaders.{val_reads}
 
--- a row that the second version alone has
+-- a row that only the second version has
 second_all : {A : Type 0} (P : ℕ × Reader A → Type 0) (version : ℕ) (row : ℕ × Reader A)
     → (version ≡ VERSION_2 → P row) → AllByRecursion P (from_second version row)
 second_all {A} P version row holds = go (nat_eq version VERSION_2) refl where
@@ -39,7 +39,7 @@ second_all {A} P version row holds = go (nat_eq version VERSION_2) refl where
   go true e = (holds (eqb-true version VERSION_2 e), tt)
   go false e = tt
 
--- a value, or none
+-- the value, if there is one, fits its type
 abbrev IsResult : Option Val → Type 0
 IsResult o = IfSome o FitsVal
 

@@ -1,4 +1,4 @@
--- The header of a log's file: read where it is spelled.
+-- The header of a log's file is read if the file begins with its encoding.
 use Rattle.std.proofs.Common.{◌≡◌, ℕ, List, ◌++◌, Some, refl, ap, sym, ◌∙◌, append_assoc}
 use Rattle.std.proofs.lemmas.Option.{none-some, some_pair_parts}
 use Rattle.leb_bytes.specs.Unsigned.{u32_bytes}
@@ -18,7 +18,7 @@ use Rattle.trace_format.proofs.ValueReaders.{log_header_reads}
 use Rattle.trace_format.proofs.Versions.{other_is, version_is}
 
 module _ (numbers : NumberLaws) (bytes : List ℕ) where
-  -- what begins the file is read
+  -- the start of the file is read
   header_read : (digest : List ℕ) (imports : ℕ) → (begins : BeginsLog bytes digest imports)
       → first_log_header bytes ≡ Some (((begins.version, digest), imports), begins.rest)
   header_read digest imports begins =

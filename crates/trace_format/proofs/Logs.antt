@@ -1,9 +1,9 @@
--- What is read as a log is a log that the bytes spell.
+-- What is read as a log is a log that the bytes encode.
 use Rattle.std.proofs.Common.{◌≡◌, ℕ, Bool, true, false, cond, List, [], ◌∷◌, ◌++◌, Some, None, refl, ap}
 use Rattle.std.specs.Prelude.{nat_eq, option_and_then}
 use Rattle.wasm_syntax.specs.Encoding.Combinators.{Reader, row_at, map_read}
-use Rattle.run_outcomes.specs.declared.outcomes.Outcome.{Outcome}
-use Rattle.run_outcomes.specs.declared.outcomes.Outcome.TheVariants.{Ended, Trapped, HostTrapped}
+use Rattle.base.specs.declared.outcomes.Outcome.{Outcome}
+use Rattle.base.specs.declared.outcomes.Outcome.TheVariants.{Ended, Trapped, HostTrapped}
 use Rattle.trace_model.specs.declared.events.Event.{Event}
 use Rattle.trace_model.specs.declared.events.Event.TheVariants.{Table}
 use Rattle.trace_model.specs.declared.events.Log.{Log}

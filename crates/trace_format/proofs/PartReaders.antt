@@ -1,4 +1,4 @@
--- Readers of what has one spelling: numbers, parts one after another, options, lists, bytes.
+-- Readers of what has one encoding: numbers, parts one after another, options, lists, bytes.
 use Rattle.std.proofs.Common.{◌≡◌, ℕ, ◌+◌, ◌<◌, ◌≤◌, ◌^◌, false, cond, List, [], ◌∷◌, ◌++◌, length, take, drop, Option, Some, None, refl, ap, sym, ◌∙◌, subst, append_assoc, eq-eqb, arith}
 use Rattle.std.specs.Prelude.{flat_map, nat_eq, nat_lt, option_and_then, IfSome}
 use Rattle.std.specs.List.{AllByRecursion}
@@ -6,7 +6,7 @@ use Rattle.std.proofs.lemmas.Bool.{eqb-true, le-ltb, ltb-false}
 use Rattle.std.proofs.lemmas.Bool.Decides.{nat_tests}
 use Rattle.std.proofs.lemmas.List.{take_at, drop_at, take-append-drop, length-append, length-take}
 use Rattle.std.proofs.lemmas.Option.{some_pair_parts}
-use Rattle.list_laws.proofs.Options.{and_then_some, cond_none_some, cond_some}
+use Rattle.base.proofs.Options.{and_then_some, cond_none_some, cond_some}
 use Rattle.leb_bytes.specs.Encoding.{IsReadBy}
 use Rattle.leb_bytes.specs.Unsigned.{first_u32, u32_bytes}
 use Rattle.wasm_syntax.specs.Encoding.Combinators.{Reader, by_mark, first_items, first_then, map_read, row_at}
@@ -21,7 +21,7 @@ use Rattle.trace_bytes.specs.Spelling.{option_bytes}
 use Rattle.trace_format.specs.Laws.{NumberLaws, Spells}
 use Rattle.trace_format.specs.Reading.{first_bytes, first_counted, first_number, first_option, first_some, if_shortest, option_rows}
 
--- a grammar that is the same by other words
+-- a reader of a grammar reads an equivalent grammar
 pub same_grammar : {A : Type 0} (E F : Grammar A) (read : Reader A)
     → ((bytes : List ℕ) (x : A) → E bytes x → F bytes x) → ((bytes : List ℕ) (x : A) → F bytes x → E bytes x)
     → IsReadBy E read → IsReadBy F read

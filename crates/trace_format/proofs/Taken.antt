@@ -2,7 +2,7 @@
 use Rattle.std.proofs.Common.{◌≡◌, List, ℕ, [], ◌∷◌, ◌++◌, Some, Result, Ok, Err, refl, sym, subst}
 use Rattle.std.specs.Prelude.{MatchResult}
 use Rattle.wasm_syntax.specs.Encoding.Combinators.{Reader}
-use Rattle.run_outcomes.specs.declared.outcomes.Outcome.{Outcome}
+use Rattle.base.specs.declared.outcomes.Outcome.{Outcome}
 use Rattle.trace_model.specs.declared.events.Event.{Event}
 use Rattle.trace_model.specs.declared.events.Log.{Log}
 use Rattle.trace_format.specs.Answers.{IsItemsFault, IsLogAnswer, IsLogRead, IsLogStart}
@@ -32,7 +32,7 @@ module _ {S : Type 0} (read : Reader Event) (takes : S → Event → S → Type 
     all = takes_last before now next so_far.items x so_far.all also;
   }
 
--- the events of a log that begin at the start, or why they do not end
+-- the sink took the events of a log from `start` on, or the fault has its cause
 pub log_is_taken : {S : Type 0} (takes : S → Event → S → Type 0) (bytes digest : List ℕ) (version imports : ℕ)
     (start : List ℕ) → IsLogStart bytes version digest imports start
     → (before now : S) (answer : Result Outcome FormatFault)

@@ -1,4 +1,4 @@
--- What is read as a tape is a tape that the bytes spell.
+-- What is read as a tape is a tape that the bytes encode.
 use Rattle.std.proofs.Common.{◌≡◌, ℕ, List, [], ◌∷◌, ◌++◌, None, refl}
 use Rattle.leb_bytes.specs.Encoding.{IsReadBy}
 use Rattle.wasm_syntax.specs.Encoding.Grammar.{Exactly}

@@ -1,8 +1,8 @@
--- Readers of values and of what a file begins with read just their spellings.
+-- Readers of values and of the starts of files read exactly their encodings.
 use Rattle.std.proofs.Common.{◌≡◌, ℕ, List, [], ◌∷◌, ◌++◌, Some, refl, ap, ◌∙◌, inl, inr}
 use Rattle.leb_bytes.specs.Encoding.{IsReadBy}
 use Rattle.leb_bytes.specs.Unsigned.{u32_bytes}
-use Rattle.wasm_opcodes.specs.declared.marks.TheConstants.{TYPE_I32, TYPE_I64, TYPE_F32, TYPE_F64}
+use Rattle.base.specs.declared.marks.TheConstants.{TYPE_I32, TYPE_I64, TYPE_F32, TYPE_F64}
 use Rattle.wasm_syntax.specs.Encoding.Combinators.{by_mark, row_at, first_then, first_exactly}
 use Rattle.wasm_syntax.specs.Encoding.Encodable.{FitsU32}
 use Rattle.wasm_syntax.specs.Encoding.Grammar.{Exactly, ◌then◌}

@@ -1,9 +1,9 @@
--- The version that a file tells.
+-- The version in a file's header.
 use Rattle.std.proofs.Common.{◌≡◌, ℕ, true, false, cond, List, [], ◌∷◌, ◌++◌, Some, None, refl, ap, sym, ◌∙◌, subst, append_assoc, eq-eqb, inl, inr}
 use Rattle.std.specs.Prelude.{nat_eq, option_and_then}
 use Rattle.std.proofs.lemmas.Bool.{cases_eq, ne_eqb}
 use Rattle.std.proofs.lemmas.Option.{none-some, same_Some}
-use Rattle.list_laws.proofs.Options.{and_then_some, cond_none_some}
+use Rattle.base.proofs.Options.{and_then_some, cond_none_some}
 use Rattle.wasm_syntax.specs.Encoding.Combinators.{first_exactly}
 use Rattle.wasm_syntax.proofs.Encoding.Tools.{exactly_is}
 use Rattle.leb_bytes.specs.Unsigned.{u32_bytes}
@@ -33,7 +33,7 @@ version_found (b ∷ more) found e =
     let same = same_Some b found two.1 in
     (more, ap (λ x. x ∷ more) same, subst (λ x. IsVersion x → ⊥) same (not_version b one.0 two.0))
 
--- the fifth byte that is told is there and no version, and the other way
+-- `other_version` finds the fifth byte if and only if it is not a known version
 pub other_is : (magic bytes : List ℕ) (found : ℕ) → other_version magic bytes ≡ Some found → IsOtherVersion magic bytes found
 other_is magic bytes found e =
     let b = and_then_some (first_exactly magic bytes) (λ (after : Unit {0} × List ℕ). version_at after.1) found e in
@@ -59,14 +59,14 @@ is_other magic bytes found is =
     ∙ ap (option_and_then (λ (after : Unit {0} × List ℕ). version_at after.1)) ((exactly_is magic).only magic (found ∷ is.rest) tt refl)
     ∙ at_version found is.rest is.other
 
--- the byte after what a file begins with is one
+-- the byte after the magic number is unique
 pub fifth_same : (magic rest more : List ℕ) (a b : ℕ) → magic ++ a ∷ rest ≡ magic ++ b ∷ more → a ≡ b
 fifth_same [] rest more a b h = cc
 fifth_same (m ∷ ms) rest more a b h =
     let later : ms ++ a ∷ rest ≡ ms ++ b ∷ more = cc in
     fifth_same ms rest more a b later
 
--- a file of a version is of no other
+-- a file of a known version is not of an unknown one
 pub version_is : (magic bytes digest later : List ℕ) (version found : ℕ) → IsVersion version
     → bytes ≡ header_bytes magic version digest ++ later → IsOtherVersion magic bytes found → ⊥
 version_is magic bytes digest later version found is parts other =
@@ -74,7 +74,7 @@ version_is magic bytes digest later version found is parts other =
     (sym (append_assoc magic (version ∷ digest) later) ∙ sym parts ∙ other.begins) in
     other.other (subst IsVersion same is)
 
--- so is a log, and a tape
+-- a log is not of an unknown version; a tape is not of an unknown version
 pub log_version : (bytes : List ℕ) (content : List ℕ × Log) (found : ℕ) → IsLogOf bytes content.0 content.1
     → IsOtherVersion LOG_MAGIC bytes found → ⊥
 unfolding log_bytes

@@ -1,4 +1,4 @@
--- What has a spelling in one version has one in the second.
+-- What has an encoding in one version has one in the second.
 use Rattle.std.proofs.Common.{ℕ, List, [], ◌∷◌, refl}
 use Rattle.std.specs.List.{AllByRecursion}
 use Rattle.trace_model.specs.declared.events.Event.{Event}

@@ -1,4 +1,4 @@
--- What the parts of reading answer, beside the plain readers.
+-- What the steps of reading a file return, in terms of the plain readers.
 use Rattle.std.specs.Prelude.{◌≡◌, ℕ, ◌+◌, ◌≤◌, ◌⊎◌, List, [], length, drop, Option, Some, None, Result, Ok, Err}
 use Rattle.wasm_syntax.specs.Encoding.Combinators.{Reader}
 use Rattle.trace_model.specs.declared.events.Event.{Event}
@@ -11,17 +11,17 @@ use Rattle.trace_format.specs.declared.files.FormatFault.TheVariants.{Version, B
 use Rattle.trace_format.specs.Reading.{first_close, first_event, first_header, first_log_header, first_number, first_outcome, first_segment, other_version}
 use Rattle.trace_format.specs.Files.{AreAllRead, IsBadAt, IsMore, IsNoEnd, IsWhole}
 
--- the bytes of a header
+-- the length of a header in bytes
 abbrev pub header_length : ℕ
 header_length = 5 + DIGEST_BYTES
 
--- a header is there
+-- the bytes begin with a header
 pub record IsHeaderThere (magic bytes : List ℕ) (header : ℕ × List ℕ) : Type 0 where
   pub of_version : other_version magic bytes ≡ None
   pub long : header_length ≤ length bytes
   pub header_read : first_header magic bytes ≡ Some (header, drop header_length bytes)
 
--- no header is there
+-- the bytes begin with no header
 pub record IsNoHeader (magic bytes : List ℕ) (at : ℕ) : Type 0 where
   pub of_version : other_version magic bytes ≡ None
   pub none : first_header magic bytes ≡ None
@@ -32,7 +32,7 @@ IsHeaderFault magic bytes (Version found) = other_version magic bytes ≡ Some f
 IsHeaderFault magic bytes (Bad at) = IsNoHeader magic bytes at
 IsHeaderFault magic bytes Memory = ⊥
 
--- after all items
+-- the fault of a file's end, after all items
 abbrev pub IsEndFault : {O : Type 0} → Reader O → (all left : List ℕ) → FormatFault → Type 0
 IsEndFault last all left (Version found) = ⊥
 IsEndFault last all left (Bad at) = IsNoEnd last all left at ⊎ IsMore last all left at
@@ -42,14 +42,14 @@ abbrev pub IsEndAnswer : {O : Type 0} → Reader O → (all left : List ℕ) →
 IsEndAnswer last all left (Ok «end») = last left ≡ Some («end», [])
 IsEndAnswer last all left (Err fault) = IsEndFault last all left fault
 
--- items, and the end after them
+-- the items from the start, and the end after them
 pub record AreEnded {A O : Type 0} (read : Reader A) (last : Reader O) (start : List ℕ) (items : List A) («end» : O)
     : Type 0 where
   pub left : List ℕ
   pub items_read : AreAllRead read start items left
   pub end_read : last left ≡ Some («end», [])
 
--- they break off, or bytes follow their end
+-- the items from the start are followed by no end, or bytes follow the end
 pub record AreCut {A O : Type 0} (read : Reader A) (last : Reader O) (all start : List ℕ) (at : ℕ) : Type 0 where
   pub items : List A
   pub left : List ℕ
@@ -73,7 +73,7 @@ IsFileAnswer IsRead IsBad other (Err Memory) = Unit {0}
 abbrev pub log_item : (ℕ × List ℕ) × ℕ → Reader Event
 log_item header = first_event header.0.0
 
--- the bytes are read as a log of a version
+-- the bytes are read as a log, in some version
 abbrev pub IsLogRead : (bytes : List ℕ) → List ℕ × Log → Type 0
 IsLogRead bytes content =
     (version : ℕ)
@@ -86,13 +86,13 @@ IsLogBad bytes at = IsBadAt first_log_header log_item first_outcome bytes at
 abbrev pub IsLogAnswer : (bytes : List ℕ) → Result (List ℕ × Log) FormatFault → Type 0
 IsLogAnswer bytes answer = IsFileAnswer (IsLogRead bytes) (IsLogBad bytes) (other_version LOG_MAGIC bytes) answer
 
--- a log's header is read, with the number of imported functions after it, and the events begin at the start
+-- a log begins with a header and the number of imported functions, and its events begin at `start`
 pub record IsLogStart (bytes : List ℕ) (version : ℕ) (digest : List ℕ) (imports : ℕ) (start : List ℕ) : Type 0 where
   pub header : IsHeaderThere LOG_MAGIC bytes (version, digest)
   pub number : first_number (drop header_length bytes) ≡ Some (imports, start)
   pub shorter : length start ≤ length bytes
 
--- none is there, or one of another version
+-- the bytes do not begin as a log, or their version is not known
 abbrev pub IsLogStartFault : List ℕ → FormatFault → Type 0
 IsLogStartFault bytes (Version found) = other_version LOG_MAGIC bytes ≡ Some found
 IsLogStartFault bytes (Bad at) = (other_version LOG_MAGIC bytes ≡ None) × (first_log_header bytes ≡ None) × (at ≡ 0)

@@ -1,14 +1,14 @@
 -- Plain readers of logs and tapes, beside their spellings.
 use Rattle.std.specs.Prelude.{ℕ, ◌+◌, List, [], ◌∷◌, length, Option, Some, None, cond, nat_eq, option_and_then}
 use Rattle.leb_bytes.specs.Unsigned.{first_u32, u32_bytes}
-use Rattle.wasm_opcodes.specs.declared.marks.TheConstants.{TYPE_I32, TYPE_I64, TYPE_F32, TYPE_F64}
+use Rattle.base.specs.declared.marks.TheConstants.{TYPE_I32, TYPE_I64, TYPE_F32, TYPE_F64}
 use Rattle.wasm_syntax.specs.Encoding.Combinators.{Reader, always, map_read, first_then, first_exactly, by_mark, first_items, Rows, row_at}
 use Rattle.wasm_syntax.specs.Encoding.Readers.{first_raw, first_f32, first_f64}
 use Rattle.wasm_syntax.specs.declared.values.ValType.{ValType}
 use Rattle.wasm_syntax.specs.declared.values.ValType.TheVariants.{I32, I64, F32, F64}
 use Rattle.wasm_syntax.specs.declared.values.Val.{Val}
-use Rattle.run_outcomes.specs.declared.outcomes.Outcome.{Outcome}
-use Rattle.run_outcomes.specs.declared.outcomes.Outcome.TheVariants.{Ended, Trapped, HostTrapped}
+use Rattle.base.specs.declared.outcomes.Outcome.{Outcome}
+use Rattle.base.specs.declared.outcomes.Outcome.TheVariants.{Ended, Trapped, HostTrapped}
 use Rattle.trace_model.specs.declared.events.Event.{Event}
 use Rattle.trace_model.specs.declared.events.Event.TheVariants.{Enter, Leave, Pre, Post, Grow, Seen, Table, Bytes, Entry, Global}
 use Rattle.trace_model.specs.declared.tapes.Effect.{Effect}
@@ -22,7 +22,7 @@ use Rattle.trace_bytes.specs.declared.tags.TheConstants.{LOG_MAGIC, VERSION_1, V
 
 -- ---- numbers, values, options
 
--- a number in its shortest encoding
+-- a number, if its encoding is the shortest
 abbrev pub if_shortest : (all : ℕ) → ℕ × List ℕ → Option (ℕ × List ℕ)
 if_shortest all first = cond (nat_eq all (length (u32_bytes first.0) + length first.1)) (Some first) None
 
@@ -46,14 +46,14 @@ option_rows read = (OPTION_NONE, always None) ∷ (OPTION_SOME, map_read Some re
 abbrev pub first_option : {A : Type 0} → Reader A → Reader (Option A)
 first_option read bytes = by_mark (row_at (option_rows read)) bytes
 
--- a number of items, and the items
+-- the items after a number that counts them
 abbrev pub first_counted : {A : Type 0} → Reader A → Reader (List A)
 first_counted read bytes = option_and_then (λ count. first_items read count.0 count.1) (first_number bytes)
 
 unfoldable pub first_args : Reader (List Val)
 first_args bytes = first_counted first_val bytes
 
--- as many bytes as the number at their front says, which is at least one
+-- the bytes after a number that counts them, which is at least one
 abbrev pub first_some : (count : ℕ) → Reader (List ℕ)
 first_some count bytes = cond (nat_eq count 0) None (first_raw count bytes)
 
@@ -65,7 +65,7 @@ first_bytes bytes = option_and_then (λ count. first_some count.0 count.1) (firs
 abbrev pub with_pair : {A B C : Type 0} → (A → B → C) → A × B → C
 with_pair make pair = make pair.0 pair.1
 
--- a row that the second version alone has
+-- a row that only the second version has
 abbrev pub from_second : {A : Type 0} → (version : ℕ) → ℕ × Reader A → Rows A
 from_second version row = cond (nat_eq version VERSION_2) (row ∷ []) []
 
@@ -128,14 +128,14 @@ first_segment version bytes =
 
 -- ---- files
 
--- the version, where it is one
+-- a version, if it is known
 abbrev pub version_rows : Rows ℕ
 version_rows = (VERSION_1, always VERSION_1) ∷ (VERSION_2, always VERSION_2) ∷ []
 
 abbrev pub first_version : Reader ℕ
 first_version bytes = by_mark (row_at version_rows) bytes
 
--- what a file begins with: its version and its digest; and in a log how many functions are imported
+-- the start of a file: its version and its digest; the start of a log also has the number of imported functions
 unfoldable pub first_header : (magic : List ℕ) → Reader (ℕ × List ℕ)
 first_header magic bytes =
     map_read (λ parts. parts.1) (first_then (first_exactly magic) (first_then first_version (first_raw DIGEST_BYTES)))
@@ -144,11 +144,11 @@ first_header magic bytes =
 unfoldable pub first_log_header : Reader ((ℕ × List ℕ) × ℕ)
 first_log_header bytes = first_then (first_header LOG_MAGIC) first_number bytes
 
--- what a tape's file ends with
+-- the end of a tape's file
 abbrev pub first_close : Reader (Unit {0})
 first_close bytes = first_exactly (TAG_CLOSE ∷ []) bytes
 
--- the fifth byte, where the first four are right and it is no version
+-- the fifth byte, if the first four are right and it is not a known version
 abbrev pub version_at : List ℕ → Option ℕ
 version_at [] = None
 version_at (found ∷ rest) = cond (nat_eq found VERSION_1) None (cond (nat_eq found VERSION_2) None (Some found))

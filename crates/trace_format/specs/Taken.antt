@@ -1,8 +1,8 @@
--- What a sink takes of the log that bytes spell.
+-- What a sink takes of the log that bytes encode.
 use Rattle.std.specs.Prelude.{◌≡◌, ℕ, List, [], ◌∷◌, ◌++◌, None}
 use Rattle.wasm_syntax.specs.Encoding.Combinators.{Reader}
 use Rattle.wasm_syntax.specs.Encoding.Encodable.{FitsU32}
-use Rattle.run_outcomes.specs.declared.outcomes.Outcome.{Outcome}
+use Rattle.base.specs.declared.outcomes.Outcome.{Outcome}
 use Rattle.trace_model.specs.declared.events.Event.{Event}
 use Rattle.trace_model.specs.declared.events.Log.{Log}
 use Rattle.trace_bytes.specs.Spelling.{log_header_bytes}
@@ -12,7 +12,7 @@ use Rattle.trace_format.specs.Faults.{IsLogOf}
 use Rattle.trace_format.specs.Files.{AreRead}
 use Rattle.trace_format.specs.Reading.{first_event, first_outcome}
 
--- the header of a log with the digest, of a module with so many imported functions, stands at the front
+-- the bytes begin with the header of a log, with this digest and this number of imported functions
 pub record BeginsLog (bytes digest : List ℕ) (imports : ℕ) : Type 0 where
   pub version : ℕ
   pub is_version : IsVersion version
@@ -26,13 +26,13 @@ abbrev pub TakesAll : {S : Type 0} → (S → Event → S → Type 0) → S → 
 TakesAll takes before [] now = before ≡ now
 TakesAll {S} takes before (event ∷ later) now = (mid : S) × takes before event mid × TakesAll takes mid later now
 
--- the events of a log are taken, and the outcome is its own
+-- the sink took all events of a log, and the outcome is the log's
 pub record TakesLog {S : Type 0} (takes : S → Event → S → Type 0) (before now : S) (content : List ℕ × Log)
     (outcome : Outcome) : Type 0 where
   pub all : TakesAll takes before content.1.events now
   pub ended : outcome ≡ content.1.outcome
 
--- so it is with a log that the bytes spell
+-- the sink took all events of a log that the bytes encode, and the outcome is the log's
 pub record IsLogTaken {S : Type 0} (takes : S → Event → S → Type 0) (bytes : List ℕ) (before now : S)
     (outcome : Outcome) : Type 0 where
   pub digest : List ℕ
@@ -42,20 +42,20 @@ pub record IsLogTaken {S : Type 0} (takes : S → Event → S → Type 0) (bytes
 
 -- ---- parts
 
--- items that are read one after another are taken
+-- the sink took the items that a reader reads one after another
 pub record AreTaken {S : Type 0} (read : Reader Event) (takes : S → Event → S → Type 0) (bytes left : List ℕ)
     (before now : S) : Type 0 where
   pub items : List Event
   pub items_read : AreRead read bytes items left
   pub all : TakesAll takes before items now
 
--- the same, and no item is left at the front
+-- the sink took the items that a reader reads one after another until it reads none
 pub record AreAllTaken {S : Type 0} (read : Reader Event) (takes : S → Event → S → Type 0) (bytes left : List ℕ)
     (before now : S) : Type 0 where
   pub taken : AreTaken read takes bytes left before now
   pub ended : read left ≡ None
 
--- the events that begin at the start are taken, and the outcome stands after them
+-- the sink took the events that begin at the start, and the outcome follows them
 pub record AreTakenToEnd {S : Type 0} (version : ℕ) (start : List ℕ) (takes : S → Event → S → Type 0)
     (before now : S) (outcome : Outcome) : Type 0 where
   pub events : List Event

@@ -18,7 +18,7 @@ use Rattle.history_spec.specs.Line.{hex_digits, line, number_text, outcome_text,
 abbrev pub hex_text : List ℕ → List ℕ
 hex_text bytes = flat_map (λ byte. hex_digits 2 byte) bytes
 
--- a function, or none; a value, or nothing
+-- the text of a function, or ` none`; the text of a value, which is empty without a value
 abbrev pub func_text : Option ℕ → List ℕ
 func_text None = codes " none"
 func_text (Some func) = number_text func
@@ -27,7 +27,7 @@ abbrev pub result_text : Option Val → List ℕ
 result_text None = []
 result_text (Some value) = with_space (value_text value)
 
--- what the host changed, or what is seen of it
+-- the text of a change, in a log or in a tape
 abbrev pub grow_text : (pages : ℕ) → List ℕ
 grow_text pages = codes "grow" ++ number_text pages
 
@@ -55,6 +55,7 @@ event_text (Bytes addr bytes) = bytes_text addr bytes
 event_text (Entry index func) = entry_text index func
 event_text (Global global value) = global_text global value
 
+-- the lines that `show` prints of a log: a line with its digest, one for each event, and one for the outcome
 unfoldable pub log_text : (digest : List ℕ) → Log → List ℕ
 log_text digest log =
     line (codes "log" ++ with_space (hex_text digest))
@@ -83,6 +84,7 @@ segment_text segment =
     line (origin_text segment.origin)
     ++ (flat_map (λ effect. line (effect_text effect)) segment.effects ++ line (next_text segment.next))
 
+-- the lines that `show` prints of a tape: a line with its digest, the lines of each segment, and the line `close`
 unfoldable pub tape_text : (digest : List ℕ) → Tape → List ℕ
 tape_text digest tape =
     line (codes "tape" ++ with_space (hex_text digest))

@@ -56,7 +56,7 @@ pub(crate) fn first_event(
     }
 }
 
-/// What stands after the tag of a function that begins.
+/// Reads what follows the tag of a function that begins.
 fn enter_event(alloc: Global, bytes: &[u8]) -> Result<(Event, &[u8]), Unread>
     ensures { Gives (λ read. (read.0, read.1.now)) result
         (map_read (with_pair events.Enter) (first_then plain.first_number plain.first_args) bytes.now) }
@@ -65,7 +65,7 @@ fn enter_event(alloc: Global, bytes: &[u8]) -> Result<(Event, &[u8]), Unread>
     Ok((Event::Enter { func, args }, rest))
 }
 
-/// What stands after the tag of one that ends.
+/// Reads what follows the tag of a function that ends.
 fn leave_event(bytes: &[u8]) -> Result<(Event, &[u8]), Unread>
     ensures { Gives (λ read. (read.0, read.1.now)) result (map_read events.Leave plain.first_number bytes.now) }
 {
@@ -75,7 +75,7 @@ fn leave_event(bytes: &[u8]) -> Result<(Event, &[u8]), Unread>
     }
 }
 
-/// What stands after the tag of a call that begins.
+/// Reads what follows the tag of a call that begins.
 fn pre_event(bytes: &[u8]) -> Result<(Event, &[u8]), Unread>
     ensures { Gives (λ read. (read.0, read.1.now)) result
         (map_read events.Pre (plain.first_option plain.first_number) bytes.now) }
@@ -86,7 +86,7 @@ fn pre_event(bytes: &[u8]) -> Result<(Event, &[u8]), Unread>
     }
 }
 
-/// What stands after the tag of one that ends.
+/// Reads what follows the tag of a call that ends.
 fn post_event(bytes: &[u8]) -> Result<(Event, &[u8]), Unread>
     ensures { Gives (λ read. (read.0, read.1.now)) result
         (map_read events.Post (plain.first_option plain.first_val) bytes.now) }
@@ -97,7 +97,7 @@ fn post_event(bytes: &[u8]) -> Result<(Event, &[u8]), Unread>
     }
 }
 
-/// What stands after the tag of a growth of the memory.
+/// Reads what follows the tag of a growth of the memory.
 fn grow_event(bytes: &[u8]) -> Result<(Event, &[u8]), Unread>
     ensures { Gives (λ read. (read.0, read.1.now)) result (map_read events.Grow plain.first_number bytes.now) }
 {
@@ -107,7 +107,7 @@ fn grow_event(bytes: &[u8]) -> Result<(Event, &[u8]), Unread>
     }
 }
 
-/// What stands after the tag of one of the table.
+/// Reads what follows the tag of a growth of the table.
 fn table_event(bytes: &[u8]) -> Result<(Event, &[u8]), Unread>
     ensures { Gives (λ read. (read.0, read.1.now)) result (map_read events.Table plain.first_number bytes.now) }
 {
@@ -117,7 +117,7 @@ fn table_event(bytes: &[u8]) -> Result<(Event, &[u8]), Unread>
     }
 }
 
-/// What stands after the tag of bytes.
+/// Reads what follows the tag of bytes.
 fn bytes_event(alloc: Global, bytes: &[u8]) -> Result<(Event, &[u8]), Unread>
     ensures { Gives (λ read. (read.0, read.1.now)) result
         (map_read (with_pair events.Bytes) (first_then plain.first_number plain.first_bytes) bytes.now) }
@@ -132,7 +132,7 @@ fn bytes_event(alloc: Global, bytes: &[u8]) -> Result<(Event, &[u8]), Unread>
     ))
 }
 
-/// What stands after the tag of an entry of the table.
+/// Reads what follows the tag of a table entry.
 fn entry_event(bytes: &[u8]) -> Result<(Event, &[u8]), Unread>
     ensures { Gives (λ read. (read.0, read.1.now)) result
         (map_read (with_pair events.Entry)
@@ -144,7 +144,7 @@ fn entry_event(bytes: &[u8]) -> Result<(Event, &[u8]), Unread>
     }
 }
 
-/// What stands after the tag of a global.
+/// Reads what follows the tag of a global.
 fn global_event(bytes: &[u8]) -> Result<(Event, &[u8]), Unread>
     ensures { Gives (λ read. (read.0, read.1.now)) result
         (map_read (with_pair events.Global) (first_then plain.first_number plain.first_val) bytes.now) }
@@ -155,7 +155,7 @@ fn global_event(bytes: &[u8]) -> Result<(Event, &[u8]), Unread>
     }
 }
 
-/// How a run ended.
+/// The outcome of a run.
 #[tactic(auto, unfolding(crate::specs::Reading::first_outcome))]
 pub(crate) fn first_outcome(bytes: &[u8]) -> Option<(Outcome, &[u8])>
     ensures { Finds (λ read. (read.0, read.1.now)) result (plain.first_outcome bytes.now) }

@@ -1,4 +1,4 @@
-// The lines of whole files: in memory are they and one event, or one segment, at a time.
+// The lines of whole files. They are in memory, with one event or one segment at a time.
 
 ghost use Rattle.std.specs.Prelude.{◌≤◌, length, MatchResult, Err, codes};
 ghost use Rattle.history_spec.specs.Line.{line, outcome_text};
@@ -13,17 +13,17 @@ use crate::headers::{HEADER_BYTES, end_of_log, end_of_tape, header_of, log_start
 use crate::items::{FileItem, put_whole_items};
 use crate::laws::{event_readers, segment_readers};
 use crate::texts::header_line;
+use base::NoMemory;
 use history_lines::{print_outcome, put};
-use no_memory::NoMemory;
 use std::alloc::Global;
 use trace_bytes::tags::{LOG_MAGIC, TAPE_MAGIC};
 use trace_model::{Event, Outcome, Segment};
 
-/// The lines of the log that the bytes of a file spell, in either version. Beside the file and the
-/// lines, one event at a time is in memory.
+/// The lines of the log that the bytes of a file encode, in either version. Besides the file and the lines, one
+/// event at a time is in memory.
 ///
 /// # Errors
-/// The version where it is another; else where the file is faulty; or out of memory.
+/// The version if it is not known; otherwise the place where the file is faulty; or out of memory.
 pub fn lines_of_log(alloc: Global, bytes: &[u8]) -> Result<Vec<u8>, FormatFault>
     ensures { IsLogText bytes.now result }
 {
@@ -31,11 +31,11 @@ pub fn lines_of_log(alloc: Global, bytes: &[u8]) -> Result<Vec<u8>, FormatFault>
     log_lines_in(alloc, bytes)
 }
 
-/// The lines of the tape that the bytes of a file spell, in either version. Beside the file and the
-/// lines, one segment at a time is in memory.
+/// The lines of the tape that the bytes of a file encode, in either version. Besides the file and the lines, one
+/// segment at a time is in memory.
 ///
 /// # Errors
-/// The version where it is another; else where the file is faulty; or out of memory.
+/// The version if it is not known; otherwise the place where the file is faulty; or out of memory.
 pub fn lines_of_tape(alloc: Global, bytes: &[u8]) -> Result<Vec<u8>, FormatFault>
     ensures { IsTapeText bytes.now result }
 {

@@ -9,7 +9,7 @@ ghost use Rattle.trace_format.specs.declared.files.FormatFault.TheVariants.{Memo
 use crate::headers::{Digest, HEADER_BYTES, end_of_log, end_of_tape, header_of, log_start};
 use crate::items::whole_items;
 use crate::laws::{event_readers, segment_readers};
-use no_memory::NoMemory;
+use base::NoMemory;
 use std::alloc::Global;
 use thiserror::Error;
 use trace_bytes::tags::{LOG_MAGIC, TAPE_MAGIC};
@@ -18,12 +18,12 @@ use trace_model::{Event, Events, Log, Segment, Segments, Tape};
 /// Why a file was not read.
 #[derive(Clone, Copy, PartialEq, Eq, Debug, Error)]
 pub enum FormatFault {
-    /// The file is of another version.
+    /// The version of the file is not known.
     #[error("version {found}")]
     Version { found: u8 },
-    /// The file spells nothing otherwise. `at` is 0 where it does not begin with a whole header; else
-    /// it is the length, in bytes, of its longest front that is the header and whole events or
-    /// segments, with their end where it is there.
+    /// The file encodes nothing. `at` is 0 if the file does not begin with a whole header. Otherwise it is the
+    /// length, in bytes, of the longest prefix that is the header and whole events or segments, with their end
+    /// if it is there.
     #[error("bad at {at}")]
     Bad { at: u64 },
     /// Out of memory.
@@ -42,7 +42,7 @@ impl From<NoMemory> for FormatFault {
 /// Reads the file of a log, of either version.
 ///
 /// # Errors
-/// The version where it is another; else where the file is faulty; or out of memory.
+/// The version if it is not known; otherwise the place where the file is faulty; or out of memory.
 pub fn read_log(alloc: Global, bytes: &[u8]) -> Result<(Digest, Log), FormatFault>
     ensures { IsLogContent bytes.now result }
 {
@@ -53,7 +53,7 @@ pub fn read_log(alloc: Global, bytes: &[u8]) -> Result<(Digest, Log), FormatFaul
 /// Reads the file of a tape, of either version.
 ///
 /// # Errors
-/// The version where it is another; else where the file is faulty; or out of memory.
+/// The version if it is not known; otherwise the place where the file is faulty; or out of memory.
 pub fn read_tape(alloc: Global, bytes: &[u8]) -> Result<(Digest, Tape), FormatFault>
     ensures { IsTapeContent bytes.now result }
 {

@@ -1,4 +1,4 @@
-// What files begin and end with.
+// The starts and ends of files.
 
 ghost use Rattle.std.specs.Prelude.{◌≡◌, ◌≤◌, ◌-◌, ℕ, List, length, IfSome, MatchOption, MatchResult};
 ghost use Rattle.trace_format.specs.Reading as plain;
@@ -16,7 +16,7 @@ use std::marker::Model;
 use trace_bytes::tags::{DIGEST_BYTES, TAG_CLOSE, VERSION_1, VERSION_2};
 use trace_model::Outcome;
 
-/// The bytes of a header: what it begins with, its version and its digest.
+/// The length of a header in bytes: the magic number, the version and the digest.
 pub(crate) const HEADER_BYTES: usize = 5 + DIGEST_BYTES;
 
 /// A SHA-256 digest; contracts see its bytes.
@@ -43,7 +43,7 @@ impl Digest {
         Digest { bytes }
     }
 
-    /// The bytes.
+    /// The bytes of the digest.
     pub fn as_bytes(&self) -> &[u8; DIGEST_BYTES]
         ensures { result.now ≡ self.now }
     {
@@ -51,7 +51,7 @@ impl Digest {
     }
 }
 
-/// A digest, as it stands in a file.
+/// Reads a digest.
 fn first_digest(bytes: &[u8]) -> Option<(Digest, &[u8])>
     ensures { Finds (λ read. (read.0, read.1.now)) result (first_raw DIGEST_BYTES bytes.now) }
 {
@@ -61,10 +61,10 @@ fn first_digest(bytes: &[u8]) -> Option<(Digest, &[u8])>
     }
 }
 
-/// What a file begins with: its version and its digest.
+/// The start of a file: its version and its digest.
 ///
 /// # Errors
-/// The version where it is another, or the place 0 where no header is there.
+/// The version if it is not known, or the place 0 if there is no header.
 #[tactic(auto, unfolding(crate::specs::Reading::first_header))]
 pub(crate) fn header_of(magic: &[u8; 4], bytes: &[u8]) -> Result<(u8, Digest), FormatFault>
     ensures { MatchResult result
@@ -86,7 +86,7 @@ pub(crate) fn header_of(magic: &[u8; 4], bytes: &[u8]) -> Result<(u8, Digest), F
     }
 }
 
-/// The number of imported functions, which stands after the header of a log, and what stands after it.
+/// The number of imported functions, which follows the header of a log, and the bytes after it.
 pub(crate) fn log_start(bytes: &[u8]) -> Option<(u32, &[u8])>
     requires { header_length ≤ length bytes.now }
     ensures start { (version : ℕ) (digest : List ℕ) → IsHeaderThere LOG_MAGIC bytes.now (version, digest)
@@ -101,7 +101,7 @@ pub(crate) fn log_start(bytes: &[u8]) -> Option<(u32, &[u8])>
     }
 }
 
-/// How a log ends, where nothing stands after it.
+/// The outcome that ends a log, if nothing follows it.
 pub(crate) fn end_of_log(bytes: &[u8], left: &[u8]) -> Result<Outcome, FormatFault>
     requires { length left.now ≤ length bytes.now }
     ensures { IsEndAnswer plain.first_outcome bytes.now left.now result }
@@ -113,7 +113,7 @@ pub(crate) fn end_of_log(bytes: &[u8], left: &[u8]) -> Result<Outcome, FormatFau
     }
 }
 
-/// The end of a tape, where nothing stands after it.
+/// The end of a tape, if nothing follows it.
 pub(crate) fn end_of_tape(bytes: &[u8], left: &[u8]) -> Result<(), FormatFault>
     requires { length left.now ≤ length bytes.now }
     ensures { IsEndAnswer plain.first_close bytes.now left.now result }
@@ -125,7 +125,7 @@ pub(crate) fn end_of_tape(bytes: &[u8], left: &[u8]) -> Result<(), FormatFault>
     }
 }
 
-/// The fault where a file is whole up to what is left of it.
+/// The fault of a file that is faulty where these last bytes begin.
 fn fault_before(bytes: &[u8], left: &[u8]) -> FormatFault
     requires { length left.now ≤ length bytes.now }
     ensures { result ≡ Bad (length bytes.now - length left.now) }

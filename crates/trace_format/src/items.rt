@@ -10,17 +10,17 @@ ghost use Rattle.trace_format.specs.ReadResults.{Finds};
 
 use crate::files::FormatFault;
 use crate::numbers::first_number;
+use base::NoMemory;
 use leb_bytes::Unread;
-use no_memory::NoMemory;
 use std::alloc::Global;
 use wasm_syntax::List;
 
-/// A kind of items that stand one after another.
+/// A kind of items that follow one another in a file.
 pub(crate) trait Kind {
     ghost use Rattle.std.specs.Prelude.{ℕ, List, Option};
     ghost use Rattle.leb_bytes.specs.ReadResults.{Gives};
 
-    /// What an item is read into.
+    /// The type of an item.
     type Item: Drop;
 
     // the plain reader of an item, in a version
@@ -31,7 +31,7 @@ pub(crate) trait Kind {
         ensures { Gives (λ read. (read.0, read.1.now)) result (first version bytes.now) };
 }
 
-/// A kind of items that lines show.
+/// A kind of items that have lines.
 pub(crate) trait Shown: Kind {
     ghost use Rattle.std.specs.Prelude.{◌≡◌, ◌++◌, ℕ, List, OnOk};
 
@@ -43,21 +43,21 @@ pub(crate) trait Shown: Kind {
         ensures { OnOk result (out.new.items ≡ out.old.items ++ lines item.now) };
 }
 
-/// A kind of items that a file has, with what ends it.
+/// A kind of items that a file has, with the end after them.
 pub(crate) trait FileItem: Shown {
     ghost use Rattle.std.specs.Prelude.{◌≡◌, ◌≤◌, ◌++◌, ℕ, List, Option, length, OnOk};
     ghost use Rattle.trace_format.specs.Answers.{IsEndAnswer};
 
-    /// What the end tells.
+    /// What the end contains.
     type End: Drop;
 
     // the plain reader of the end
     ghost last: { List ℕ → Option (Self.End × List ℕ) };
 
-    // its lines
+    // the lines of the end
     ghost end_text: { Self.End → List ℕ };
 
-    /// The end, where nothing stands after it.
+    /// The end, if nothing follows it.
     fn end(bytes: &[u8], left: &[u8]) -> Result<Self::End, FormatFault>
         requires { length left.now ≤ length bytes.now }
         ensures { IsEndAnswer last bytes.now left.now result };
@@ -67,7 +67,7 @@ pub(crate) trait FileItem: Shown {
         ensures { OnOk result (out.new.items ≡ out.old.items ++ end_text end) };
 }
 
-/// As many items as the number at the front says.
+/// The items after a number that counts them.
 pub(crate) fn first_counted<K: Kind>(
     alloc: Global,
     version: u8,
@@ -81,7 +81,7 @@ pub(crate) fn first_counted<K: Kind>(
     }
 }
 
-/// A given number of items.
+/// The items, in this number.
 fn first_items<K: Kind>(
     alloc: Global,
     version: u8,
@@ -104,7 +104,7 @@ fn first_items<K: Kind>(
     Ok((List::from_vec(items), rest))
 }
 
-/// The next item, where a whole one is there.
+/// The next item, if it is whole.
 pub(crate) fn next_item<K: Kind>(
     alloc: Global,
     version: u8,
@@ -119,10 +119,10 @@ pub(crate) fn next_item<K: Kind>(
     }
 }
 
-/// Items as long as whole ones are there, and what is left.
+/// Reads items as long as they are whole; returns them and the bytes left.
 ///
 /// # Errors
-/// Where an allocation failed.
+/// `NoMemory` if an allocation failed.
 pub(crate) fn whole_items<K: Kind>(
     alloc: Global,
     version: u8,
@@ -141,11 +141,10 @@ pub(crate) fn whole_items<K: Kind>(
     Ok((items, rest))
 }
 
-/// Appends the lines of items as long as whole ones are there, and gives what is left. One item at a
-/// time is in memory.
+/// Appends the lines of items as long as they are whole, and returns the bytes left. One item at a time is in memory.
 ///
 /// # Errors
-/// Where an allocation failed.
+/// `NoMemory` if an allocation failed.
 pub(crate) fn put_whole_items<'a, K: Shown>(
     alloc: Global,
     out: &mut Vec<u8>,

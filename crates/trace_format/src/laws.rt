@@ -1,10 +1,10 @@
-// What holds of the files, for the crates above.
+// Laws of the files, for the crates above.
 
 ghost use Rattle.trace_format.specs.Laws.{EventsAreRead, LogsAreToldApart, LogsAreWritable, NumberLaws, SegmentsAreRead, TapesAreToldApart, TapesAreWritable};
 
 use leb_bytes::u32_encoding;
 
-/// The files of logs: bytes spell one log at most, and what they spell, in either version, can be
+/// The files of logs: bytes encode at most one log, and a log that they encode, in either version, can be
 /// written.
 pub fn log_files()
     ensures apart { LogsAreToldApart }
@@ -13,7 +13,7 @@ pub fn log_files()
     event_readers();
 }
 
-/// The files of tapes: bytes spell one tape at most, and what they spell, in either version, can be
+/// The files of tapes: bytes encode at most one tape, and a tape that they encode, in either version, can be
 /// written.
 pub fn tape_files()
     ensures apart { TapesAreToldApart }
@@ -22,7 +22,7 @@ pub fn tape_files()
     segment_readers();
 }
 
-/// The plain readers of a log's parts read just what is spelled.
+/// The plain readers of a log's events read exactly their encodings.
 pub(crate) fn event_readers()
     ensures numbers { NumberLaws }
     ensures events { EventsAreRead }
@@ -30,14 +30,14 @@ pub(crate) fn event_readers()
     number_laws();
 }
 
-/// The plain readers of a tape's parts read just what is spelled.
+/// The plain readers of a tape's segments read exactly their encodings.
 pub(crate) fn segment_readers()
     ensures { SegmentsAreRead }
 {
     number_laws();
 }
 
-/// What the files take from the encoding of numbers.
+/// What the files need of the encoding of numbers.
 fn number_laws()
     ensures { NumberLaws }
 {

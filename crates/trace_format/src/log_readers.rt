@@ -1,4 +1,4 @@
-// The events of a log's file, handed on one at a time.
+// The events of a log's file, passed to a sink one at a time.
 
 ghost use Rattle.std.specs.Prelude.{◌≡◌, ◌≤◌, ℕ, List, length, Err, Ok, OnOk, IfOk, IfErr, IsErrOf, MatchResult};
 ghost use Rattle.trace_model.specs.declared.events.Log.{Log};
@@ -13,39 +13,39 @@ use crate::files::FormatFault;
 use crate::headers::{Digest, end_of_log, header_of, log_start};
 use crate::items::next_item;
 use crate::laws::event_readers;
-use no_memory::NoMemory;
+use base::NoMemory;
 use std::alloc::Global;
 use trace_bytes::tags::LOG_MAGIC;
 use trace_model::{Event, Outcome};
 
-/// What takes the events of a log's file in order. A step is a relation, so that what the steps of a
-/// sink leave as it is can be told of all of them.
+/// A sink takes the events of a log's file one after another. A step is a relation, so that what each step of a
+/// sink leaves unchanged can be proved for all steps together.
 pub trait LogSink {
     ghost use Rattle.trace_model.specs.declared.events.Event.{Event};
 
-    // the sink takes an event, and is another then
+    // the sink takes an event and changes its state
     ghost takes: { Self → Event → Self → Type 0 };
 
     /// Takes an event.
     ///
     /// # Errors
-    /// Where an allocation failed.
+    /// `NoMemory` if an allocation failed.
     fn take(&mut self, event: Event) -> Result<(), NoMemory>
         ensures { OnOk result (takes self.old event self.new) };
 }
 
-/// What the file of a log begins with, of either version: the digest, and how many functions the
-/// recorded module imports. Takes no memory.
+/// The start of a log's file, of either version: the digest, and the number of functions that the recorded
+/// module imports. Takes no memory.
 ///
 /// # Errors
-/// The version where it is another; else the place 0 where no whole header is there.
+/// The version if it is not known; otherwise the place 0 if there is no whole header.
 pub fn log_header(bytes: &[u8]) -> Result<(Digest, u32), FormatFault>
-    // The file begins with them.
+    // The file begins with the digest and the number that are returned.
     ensures found { IfOk result (λ header. BeginsLog bytes.now header.0 header.1) }
-    // What it begins with is told.
+    // If the file begins with a digest and a number, they are returned.
     ensures only { (digest : List ℕ) (imports : ℕ) → BeginsLog bytes.now digest imports
         → result ≡ Ok (digest, imports) }
-    // The cause of each other answer, which is one.
+    // Every error has a cause, and is not `Memory`.
     ensures fault { IfErr result (λ fault. IsLogFault bytes.now fault) }
     ensures caused { IsErrOf result faults.Memory → ⊥ }
 {
@@ -57,31 +57,31 @@ pub fn log_header(bytes: &[u8]) -> Result<(Digest, u32), FormatFault>
     }
 }
 
-/// Hands on the events of a log's file, of either version, and gives how the run ended. Beside the file
-/// and the sink, one event at a time is in memory.
+/// Passes the events of a log's file, of either version, to the sink, and returns the outcome of the run. Besides
+/// the file and the sink, one event at a time is in memory.
 ///
 /// # Errors
-/// The version where it is another; else where the file is faulty, after the events before that place
-/// have been handed on; or out of memory.
+/// The version if it is not known; otherwise the place where the file is faulty, after the events before that
+/// place have been passed on; or out of memory.
 pub fn log_events<S: LogSink>(
     alloc: Global,
     bytes: &[u8],
     sink: &mut S,
 ) -> Result<Outcome, FormatFault>
-    // The sink takes the events of a log that the bytes spell, and the outcome is that log's.
+    // The sink took the events of a log that the bytes encode, and the outcome is that log's.
     ensures found { IfOk result (λ outcome. IsLogTaken S.takes bytes.now sink.old sink.new outcome) }
-    // The log that they spell is handed on, unless memory runs out.
+    // The sink takes the log that the bytes encode, unless memory runs out.
     ensures only { (digest : List ℕ) (log : Log) → IsLogOf bytes.now digest log
         → IfOk result (λ outcome. TakesLog S.takes sink.old sink.new (digest, log) outcome)
         × IfErr result (λ fault. fault ≡ faults.Memory) }
-    // The cause of each other answer.
+    // Every error has a cause.
     ensures fault { IfErr result (λ fault. IsLogFault bytes.now fault) }
 {
     event_readers();
     events_in(alloc, bytes, sink)
 }
 
-/// Hands on the events, as the plain readers read them.
+/// Passes the events to the sink, as the plain readers read them.
 #[tactic(auto, unfolding(crate::specs::Reading::first_log_header))]
 fn events_in<S: LogSink>(alloc: Global, bytes: &[u8], sink: &mut S) -> Result<Outcome, FormatFault>
     ensures { MatchResult result
@@ -96,7 +96,7 @@ fn events_in<S: LogSink>(alloc: Global, bytes: &[u8], sink: &mut S) -> Result<Ou
     }
 }
 
-/// Hands on the events that begin at the start, and gives the outcome after them.
+/// Passes the events that begin at the start to the sink, and returns the outcome after them.
 fn events_after<S: LogSink>(
     alloc: Global,
     version: u8,
@@ -117,10 +117,10 @@ fn events_after<S: LogSink>(
     }
 }
 
-/// Hands on events as long as whole ones are there, and gives what is left.
+/// Passes events to the sink as long as they are whole, and returns the bytes left.
 ///
 /// # Errors
-/// Where an allocation failed.
+/// `NoMemory` if an allocation failed.
 fn whole_events<'a, S: LogSink>(
     alloc: Global,
     version: u8,

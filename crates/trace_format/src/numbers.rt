@@ -1,5 +1,5 @@
-// Readers of numbers, bytes and values. Each takes the bytes that are left, and gives what a front of
-// them spells with the bytes after it.
+// Readers of numbers, bytes and values. Each takes the bytes that are left; it returns what their prefix
+// encodes, and the bytes after it.
 
 ghost use Rattle.std.specs.Prelude.{◌≡◌, [], ◌∷◌, length, MatchOption};
 ghost use Rattle.leb_bytes.specs.Unsigned.{u32_bytes};
@@ -8,10 +8,10 @@ ghost use Rattle.trace_format.specs.Reading.{first_bytes, first_number, first_op
 ghost use Rattle.leb_bytes.specs.ReadResults.{Gives};
 ghost use Rattle.trace_format.specs.ReadResults.{Finds};
 
+use base::marks::{TYPE_F32, TYPE_F64, TYPE_I32, TYPE_I64};
 use leb_bytes::{Unread, read_u32};
 use std::alloc::Global;
 use trace_bytes::tags::{OPTION_NONE, OPTION_SOME};
-use wasm_opcodes::marks::{TYPE_F32, TYPE_F64, TYPE_I32, TYPE_I64};
 use wasm_syntax::{Bytes, Val, ValType};
 
 /// The first byte.
@@ -24,7 +24,7 @@ pub(crate) fn first_byte(bytes: &[u8]) -> Option<(u8, &[u8])>
     }
 }
 
-/// A given number of bytes as they are.
+/// The first bytes, in this number, as they are.
 pub(crate) fn first_raw(count: usize, bytes: &[u8]) -> Option<(&[u8], &[u8])>
     ensures { Finds (λ read. (read.0.now, read.1.now)) result (first_raw count bytes.now) }
 {
@@ -42,7 +42,7 @@ pub(crate) fn first_number(bytes: &[u8]) -> Option<(u32, &[u8])>
     }
 }
 
-/// How many bytes the shortest encoding of a number has.
+/// The length of the shortest encoding of a number, in bytes.
 #[tactic(auto, unfolding(leb_bytes::specs::Unsigned::u32_bytes, leb_bytes::specs::Unsigned::unsigned_bytes))]
 fn shortest_length(number: u32) -> usize
     ensures { result ≡ length (u32_bytes number) }
@@ -60,7 +60,7 @@ fn shortest_length(number: u32) -> usize
     }
 }
 
-/// As many bytes as the number at their front says, which is at least one.
+/// The bytes after a number that counts them, which is at least one.
 #[tactic(auto, unfolding(crate::specs::Reading::first_bytes))]
 pub(crate) fn first_bytes(alloc: Global, bytes: &[u8]) -> Result<(Bytes, &[u8]), Unread>
     ensures { Gives (λ read. (read.0, read.1.now)) result (first_bytes bytes.now) }
@@ -115,15 +115,15 @@ pub(crate) fn first_val(bytes: &[u8]) -> Option<(Val, &[u8])>
     Some((Val { ty, bits }, rest))
 }
 
-/// What is read without memory.
+/// A type whose values are read without memory.
 pub(crate) trait Plain: Copy {
     ghost use Rattle.std.specs.Prelude.{ℕ, List, Option};
     ghost use Rattle.trace_format.specs.ReadResults.{Finds};
 
-    // its plain reader
+    // the plain reader of the type
     ghost first: { List ℕ → Option (Self × List ℕ) };
 
-    /// Reads one.
+    /// Reads a value of the type.
     fn first(bytes: &[u8]) -> Option<(Self, &[u8])>
         ensures { Finds (λ read. (read.0, read.1.now)) result (first bytes.now) };
 }
@@ -144,7 +144,7 @@ impl Plain for Val {
     }
 }
 
-/// One, or none.
+/// A value or `None`.
 pub(crate) fn first_option<T: Plain>(bytes: &[u8]) -> Option<(Option<T>, &[u8])>
     ensures { Finds (λ read. (read.0, read.1.now)) result (first_option T.first bytes.now) }
 {

@@ -50,7 +50,7 @@ pub(crate) fn first_placed(alloc: Global, bytes: &[u8]) -> Result<((u32, Bytes),
     Ok(((addr, content), rest))
 }
 
-/// An entry of the table: its index, and its function or none.
+/// A table entry: its index, and its function or `None`.
 pub(crate) fn first_entry(bytes: &[u8]) -> Option<((u32, Option<u32>), &[u8])>
     ensures { Finds (λ read. (read.0, read.1.now)) result
         (first_then plain.first_number (plain.first_option plain.first_number) bytes.now) }

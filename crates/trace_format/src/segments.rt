@@ -57,7 +57,7 @@ fn first_effect(alloc: Global, version: u8, bytes: &[u8]) -> Result<(Effect, &[u
     }
 }
 
-/// What stands after the tag of a growth of the memory.
+/// Reads what follows the tag of a growth of the memory.
 fn grow_effect(bytes: &[u8]) -> Result<(Effect, &[u8]), Unread>
     ensures { Gives (λ read. (read.0, read.1.now)) result (map_read effects.Grow plain.first_number bytes.now) }
 {
@@ -67,7 +67,7 @@ fn grow_effect(bytes: &[u8]) -> Result<(Effect, &[u8]), Unread>
     }
 }
 
-/// What stands after the tag of one of the table.
+/// Reads what follows the tag of a growth of the table.
 fn table_effect(bytes: &[u8]) -> Result<(Effect, &[u8]), Unread>
     ensures { Gives (λ read. (read.0, read.1.now)) result (map_read effects.Table plain.first_number bytes.now) }
 {
@@ -77,7 +77,7 @@ fn table_effect(bytes: &[u8]) -> Result<(Effect, &[u8]), Unread>
     }
 }
 
-/// What stands after the tag of bytes.
+/// Reads what follows the tag of bytes.
 fn bytes_effect(alloc: Global, bytes: &[u8]) -> Result<(Effect, &[u8]), Unread>
     ensures { Gives (λ read. (read.0, read.1.now)) result
         (map_read (with_pair effects.Bytes) (first_then plain.first_number plain.first_bytes) bytes.now) }
@@ -92,7 +92,7 @@ fn bytes_effect(alloc: Global, bytes: &[u8]) -> Result<(Effect, &[u8]), Unread>
     ))
 }
 
-/// What stands after the tag of an entry of the table.
+/// Reads what follows the tag of a table entry.
 fn entry_effect(bytes: &[u8]) -> Result<(Effect, &[u8]), Unread>
     ensures { Gives (λ read. (read.0, read.1.now)) result
         (map_read (with_pair effects.Entry)
@@ -104,7 +104,7 @@ fn entry_effect(bytes: &[u8]) -> Result<(Effect, &[u8]), Unread>
     }
 }
 
-/// What stands after the tag of a global.
+/// Reads what follows the tag of a global.
 fn global_effect(bytes: &[u8]) -> Result<(Effect, &[u8]), Unread>
     ensures { Gives (λ read. (read.0, read.1.now)) result
         (map_read (with_pair effects.Global) (first_then plain.first_number plain.first_val) bytes.now) }
@@ -115,7 +115,7 @@ fn global_effect(bytes: &[u8]) -> Result<(Effect, &[u8]), Unread>
     }
 }
 
-/// How control comes to the host.
+/// How control reaches the host.
 #[tactic(auto, unfolding(crate::specs::Reading::first_origin))]
 fn first_origin(bytes: &[u8]) -> Option<(Origin, &[u8])>
     ensures { Finds (λ read. (read.0, read.1.now)) result (plain.first_origin bytes.now) }
@@ -132,7 +132,7 @@ fn first_origin(bytes: &[u8]) -> Option<(Origin, &[u8])>
     }
 }
 
-/// How control leaves it.
+/// How control leaves the host.
 #[tactic(auto, unfolding(crate::specs::Reading::first_next))]
 fn first_next(alloc: Global, bytes: &[u8]) -> Result<(Next, &[u8]), Unread>
     ensures { Gives (λ read. (read.0, read.1.now)) result (plain.first_next bytes.now) }

@@ -6,8 +6,8 @@ ghost use Rattle.trace_format.specs.Text.{bytes_text, effect_text, entry_text, e
 
 use crate::headers::Digest;
 use crate::items::Shown;
+use base::NoMemory;
 use history_lines::{print_outcome, put, put_number, put_value, put_values};
-use no_memory::NoMemory;
 use std::alloc::Global;
 use trace_model::{Effect, Event, Log, Next, Origin, Segment, Tape};
 use wasm_syntax::Val;
@@ -18,7 +18,7 @@ const DIGITS: [u8; 16] = *b"0123456789abcdef";
 /// The lines of a log.
 ///
 /// # Errors
-/// Where an allocation failed.
+/// `NoMemory` if an allocation failed.
 #[tactic(auto, unfolding(crate::specs::Text::log_text))]
 pub fn show_log(alloc: Global, digest: &Digest, log: &Log) -> Result<Vec<u8>, NoMemory>
     ensures { IfOk result (λ text. text.items ≡ log_text digest.now log.now) }
@@ -32,7 +32,7 @@ pub fn show_log(alloc: Global, digest: &Digest, log: &Log) -> Result<Vec<u8>, No
 /// The lines of a tape.
 ///
 /// # Errors
-/// Where an allocation failed.
+/// `NoMemory` if an allocation failed.
 #[tactic(auto, unfolding(crate::specs::Text::tape_text))]
 pub fn show_tape(alloc: Global, digest: &Digest, tape: &Tape) -> Result<Vec<u8>, NoMemory>
     ensures { IfOk result (λ text. text.items ≡ tape_text digest.now tape.now) }
@@ -92,7 +92,7 @@ fn put_effects(out: &mut Vec<u8>, effects: &[Effect]) -> Result<(), NoMemory>
     Ok(())
 }
 
-/// The line that the text of a file begins with: a word and the digest.
+/// The first line of a file's text: a word and the digest.
 pub(crate) fn header_line(alloc: Global, word: &[u8], digest: &Digest) -> Result<Vec<u8>, NoMemory>
     ensures { IfOk result (λ text. text.items ≡ line (word.now ++ with_space (hex_text digest.now))) }
 {
@@ -131,7 +131,7 @@ fn digits(byte: u8) -> [u8; 2]
     ]
 }
 
-/// Appends a function, or none.
+/// Appends a word and a function, or `none`.
 fn put_func(out: &mut Vec<u8>, word: &[u8], func: Option<u32>) -> Result<(), NoMemory>
     ensures { OnOk result (out.new.items ≡ out.old.items ++ (word.now ++ func_text func)) }
 {
@@ -142,7 +142,7 @@ fn put_func(out: &mut Vec<u8>, word: &[u8], func: Option<u32>) -> Result<(), NoM
     }
 }
 
-/// Appends a value, or nothing.
+/// Appends a word, and a value if there is one.
 fn put_result(out: &mut Vec<u8>, word: &[u8], value: Option<Val>) -> Result<(), NoMemory>
     ensures { OnOk result (out.new.items ≡ out.old.items ++ (word.now ++ result_text value)) }
 {
@@ -180,7 +180,7 @@ fn put_bytes(out: &mut Vec<u8>, addr: u32, bytes: &[u8]) -> Result<(), NoMemory>
     put_hex(out, bytes)
 }
 
-/// Appends an entry of the table.
+/// Appends a table entry.
 fn put_entry(out: &mut Vec<u8>, index: u32, func: Option<u32>) -> Result<(), NoMemory>
     ensures { OnOk result (out.new.items ≡ out.old.items ++ entry_text index func) }
 {
@@ -235,7 +235,7 @@ fn put_effect(out: &mut Vec<u8>, effect: &Effect) -> Result<(), NoMemory>
     }
 }
 
-/// Appends the text of how control comes to the host.
+/// Appends the text of how control reaches the host.
 fn put_origin(out: &mut Vec<u8>, origin: Origin) -> Result<(), NoMemory>
     ensures { OnOk result (out.new.items ≡ out.old.items ++ origin_text origin) }
 {
@@ -246,7 +246,7 @@ fn put_origin(out: &mut Vec<u8>, origin: Origin) -> Result<(), NoMemory>
     }
 }
 
-/// Appends the text of how control leaves it.
+/// Appends the text of how control leaves the host.
 fn put_next(out: &mut Vec<u8>, next: &Next) -> Result<(), NoMemory>
     ensures { OnOk result (out.new.items ≡ out.old.items ++ next_text next.now) }
 {

@@ -1,6 +1,6 @@
--- Values that are fewer or more than types are not of them.
+-- Values do not have the types of a list of another length.
 use Rattle.std.proofs.Common.{◌≡◌, suc, List, [], ◌∷◌, length, false, refl, sym, ap, ◌∙◌, ◌&&◌}
-use Rattle.list_laws.proofs.Booleans.{and_false}
+use Rattle.base.proofs.Booleans.{and_false}
 use Rattle.wasm_syntax.specs.declared.values.ValType.{ValType}
 use Rattle.wasm_syntax.specs.declared.values.Val.{Val}
 use Rattle.wasm_syntax.specs.Alike.{same_type, same_types}

@@ -3,8 +3,8 @@ use Rattle.std.specs.Prelude.{◌+◌, List, [], ◌∷◌, length, Bool, true, 
 use Rattle.trace_model.specs.declared.tapes.Effect.{Effect}
 use Rattle.trace_model.specs.declared.tapes.Effect.TheVariants.{Grow, Table, Bytes, Entry, Global}
 
--- An effect may stand right before another: a growth of the memory before one of the table, then bytes, entries,
--- globals. Bytes ascend and neither overlap nor touch; entries and globals ascend.
+-- an effect may come directly before another: a growth of the memory before one of the table, then bytes,
+-- entries, globals; bytes ascend and neither overlap nor touch; entries and globals ascend
 abbrev pub is_before : Effect → Effect → Bool
 is_before (Grow pages) (Grow other) = false
 is_before (Grow pages) effect = true
@@ -21,7 +21,7 @@ is_before (Entry index func) effect = false
 is_before (Global global value) (Global other given) = nat_lt global other
 is_before (Global global value) effect = false
 
--- each effect may stand right before the next
+-- each effect may come directly before the next
 abbrev pub are_ordered_after : Effect → List Effect → Bool
 are_ordered_after effect [] = true
 are_ordered_after effect (next ∷ effects) = is_before effect next && are_ordered_after next effects

@@ -1,20 +1,19 @@
-// Whether the events of a log stand in an order in which a run can have them.
+// Whether a run can have the events of a log in their order.
 
 ghost use Rattle.std.specs.Prelude.{◌≡◌, [], ◌∷◌, drop, IfOk, OnOk, OnErr, MatchOption};
 ghost use Rattle.trace_model.specs.Balance.{IsBalance, Takes, balance_start, balanced_step, calls_import, ends_so, enter_frames, first_unbalanced, is_empty_stack, is_function, leave_frames, post_frames};
 ghost use Rattle.trace_model.specs.declared.events.Event.TheVariants.{Pre};
 
 use crate::events::{Event, Log};
-use no_memory::NoMemory;
-use run_outcomes::Outcome;
+use base::{NoMemory, Outcome};
 use std::alloc::Global;
 use std::marker::Model;
 use thiserror::Error;
 
-/// Why a log is not balanced, or nothing is known of it.
+/// Why a log is not balanced, or why it is not known.
 #[derive(Clone, Copy, PartialEq, Eq, Debug, Error)]
 pub enum BalanceFault {
-    /// The first event that is out of order; the number of events where only the outcome is.
+    /// The first event that is not allowed; the number of events if only the outcome is not allowed.
     #[error("event {0} is out of order")]
     Event(u64),
     /// Out of memory.
@@ -22,16 +21,16 @@ pub enum BalanceFault {
     Memory,
 }
 
-/// What is open.
+/// An open function or call.
 #[derive(Clone, Copy)]
 pub enum Frame {
     /// A function.
     Function(u32),
-    /// A call with its callee, and whether a function was entered in it.
+    /// A call with its callee, `None` if the entry is empty, and whether a function was entered in it.
     Call(Option<u32>, bool),
 }
 
-/// The frames that are open. Contracts see the innermost first.
+/// The open frames. Contracts see the innermost first.
 #[derive(Drop)]
 pub struct Frames {
     items: Vec<Frame>,
@@ -46,8 +45,8 @@ impl Model for Frames {
     ghost view = { λ frames. reverse frames.items.items };
 }
 
-/// What is known after some events: the frames; whether the host grew the memory; whether the last
-/// event began a call.
+/// The state after some events: the frames; whether the host grew the memory; whether the last event began a
+/// call.
 #[derive(Drop)]
 pub struct Balance {
     pub frames: Frames,
@@ -72,7 +71,7 @@ impl Frames {
         self.items.last().copied()
     }
 
-    /// A frame within the others.
+    /// Opens a frame within the others.
     fn push(&mut self, frame: Frame) -> Result<(), NoMemory>
         ensures ok { OnOk result (self.new ≡ frame ∷ self.old) }
         ensures refused { OnErr result (self.new ≡ self.old) }
@@ -105,14 +104,14 @@ impl Frames {
         }
     }
 
-    /// Whether nothing is open.
+    /// Whether no frame is open.
     pub fn is_empty(&self) -> bool
         ensures { result ≡ is_empty_stack self.now }
     {
         self.top().is_none()
     }
 
-    /// A function begins. Answers whether it may.
+    /// Enters a function. Returns whether that is allowed.
     fn enter(&mut self, imports: u32, func: u32) -> Result<bool, NoMemory>
         ensures ok { IfOk result (λ may. Takes may self.new (enter_frames imports func self.old)) }
         ensures refused { OnErr result (self.new ≡ self.old) }
@@ -133,7 +132,7 @@ impl Frames {
         Ok(true)
     }
 
-    /// A function ends. Answers whether it may.
+    /// Ends a function. Returns whether that is allowed.
     fn leave(&mut self, func: u32) -> bool
         ensures { Takes result self.new (leave_frames func self.old) }
     {
@@ -146,7 +145,7 @@ impl Frames {
         }
     }
 
-    /// A call ends. Answers whether it may.
+    /// Ends a call. Returns whether that is allowed.
     fn post(&mut self, imports: u32) -> bool
         ensures { Takes result self.new (post_frames imports self.old) }
     {
@@ -161,7 +160,7 @@ impl Frames {
 }
 
 impl Balance {
-    /// What is known before any event. Takes no memory.
+    /// The state before any event. Takes no memory.
     pub fn new(alloc: Global) -> Balance
         ensures { result ≡ balance_start }
     {
@@ -172,10 +171,10 @@ impl Balance {
         }
     }
 
-    /// Takes an event. Answers whether it is in order.
+    /// Takes an event. Returns whether it is allowed.
     ///
     /// # Errors
-    /// Where an allocation failed; the event is not taken then.
+    /// `NoMemory` if an allocation failed; the event is not taken then.
     pub fn step(&mut self, imports: u32, event: &Event) -> Result<bool, NoMemory>
         ensures ok { IfOk result (λ may. Takes may self.new (balanced_step imports self.old event.now)) }
         ensures refused { OnErr result (self.new ≡ self.old) }
@@ -195,7 +194,7 @@ impl Balance {
         Ok(may)
     }
 
-    /// A call begins. Answers whether it may.
+    /// Begins a call. Returns whether that is allowed.
     fn call(&mut self, callee: Option<u32>) -> Result<bool, NoMemory>
         ensures ok { IfOk result (λ may. Takes may self.new (balanced_step 0 self.old (Pre callee))) }
         ensures refused { OnErr result (self.new ≡ self.old) }
@@ -208,7 +207,7 @@ impl Balance {
         Ok(true)
     }
 
-    /// Whether a run may end so.
+    /// Whether a run may end with this outcome.
     pub fn ends_so(&self, imports: u32, outcome: Outcome) -> bool
         ensures { result ≡ ends_so imports self.now outcome }
     {
@@ -220,10 +219,10 @@ impl Balance {
     }
 }
 
-/// Looks whether a log is balanced.
+/// Checks whether a log is balanced.
 ///
 /// # Errors
-/// The first event that is out of order; or where an allocation failed.
+/// The first event that is not allowed; `Memory` if an allocation failed.
 pub fn balanced(alloc: Global, log: &Log) -> Result<(), BalanceFault>
     ensures { IsBalance (first_unbalanced log.now) result }
 {

@@ -1,9 +1,8 @@
-// The events of a log: what the host did, and what the module saw of it.
+// The events of a log: what the host did, and what the module observed of it.
 
 ghost use Rattle.std.specs.Prelude.{◌≡◌, [], ◌∷◌, ◌++◌, OnOk, OnErr};
 
-use no_memory::NoMemory;
-use run_outcomes::Outcome;
+use base::{NoMemory, Outcome};
 use std::alloc::Global;
 use std::marker::Model;
 use wasm_syntax::{Bytes, Val, Vals};
@@ -13,27 +12,27 @@ use wasm_syntax::{Bytes, Val, Vals};
 pub enum Event {
     /// A defined function begins.
     Enter { func: u32, args: Vals },
-    /// It ends.
+    /// The function ends.
     Leave { func: u32 },
-    /// A call begins, of a function or of an entry that holds none.
+    /// A call begins, of a function or of an empty table entry.
     Pre { callee: Option<u32> },
-    /// It ends.
+    /// The call ends.
     Post { result: Option<Val> },
-    /// The host left the memory with so many pages.
+    /// The host left the memory with this number of pages.
     Grow { pages: u32 },
-    /// The module sees the memory's size.
+    /// The module reads the memory's size.
     Seen,
-    /// The module finds the table with so many entries.
+    /// The module finds the table with this number of entries.
     Table { size: u32 },
     /// The module finds these bytes from the address on.
     Bytes { addr: u32, bytes: Bytes },
-    /// The module finds this function, or none, in the table.
+    /// The module finds this function in the table, or an empty entry.
     Entry { index: u32, func: Option<u32> },
     /// The module finds this value in a global.
     Global { global: u32, value: Val },
 }
 
-/// The log of a run of a module with so many imported functions.
+/// The log of a run of a module with this number of imported functions.
 #[derive(Drop)]
 pub struct Log {
     pub imports: u32,
@@ -41,7 +40,7 @@ pub struct Log {
     pub outcome: Outcome,
 }
 
-/// Events in order.
+/// A list of events.
 #[derive(Drop)]
 pub struct Events {
     items: Vec<Event>,
@@ -73,7 +72,7 @@ impl Events {
         Events { items }
     }
 
-    /// The events in order.
+    /// The events as a slice.
     pub fn as_slice(&self) -> &[Event]
         ensures { result.now ≡ self.now }
     {
@@ -83,7 +82,7 @@ impl Events {
     /// Appends an event.
     ///
     /// # Errors
-    /// Where an allocation failed; nothing is appended then.
+    /// `NoMemory` if an allocation failed; nothing is appended then.
     pub fn push(&mut self, event: Event) -> Result<(), NoMemory>
         ensures ok { OnOk result (self.new ≡ self.old ++ event ∷ []) }
         ensures refused { OnErr result (self.new ≡ self.old) }

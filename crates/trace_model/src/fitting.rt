@@ -10,16 +10,16 @@ ghost use Rattle.trace_model.specs.Fitting.{IsFit, came, effect_fits, first_unfi
 
 use crate::ordering::are_ordered;
 use crate::tapes::{Effect, Next, Origin, Segment, Tape};
+use base::NoMemory;
 use module_index::same_type;
 use module_index::scope::Scope;
-use no_memory::NoMemory;
 use std::alloc::Global;
 use std::marker::Model;
 use thiserror::Error;
 use wasm_syntax::limits::{MOST_ENTRIES, MOST_PAGES, PAGE_SIZE};
 use wasm_syntax::{Import, ImportKind, Limits, Module, Val, ValType};
 
-/// Why a tape does not fit a module, or nothing is known of it.
+/// Why a tape does not fit a module, or why it is not known.
 #[derive(Clone, Copy, PartialEq, Eq, Debug, Error)]
 pub enum TapeFault {
     /// The first segment that does not fit.
@@ -45,7 +45,7 @@ impl Model for Opened {
 }
 
 impl Opened {
-    /// None. Takes no memory.
+    /// No imports. Takes no memory.
     fn new(alloc: Global) -> Opened
         ensures { result ≡ [] }
     {
@@ -54,7 +54,7 @@ impl Opened {
         }
     }
 
-    /// How control comes to the host. Answers whether it may come so.
+    /// Takes how control reaches the host. Returns whether that is allowed.
     fn came(&mut self, scope: &Scope<'_>, at: u64, origin: Origin) -> Result<bool, NoMemory>
         ensures { IfOk result (λ may. Takes may self.new (came scope.now at self.old origin)) }
     {
@@ -71,7 +71,7 @@ impl Opened {
         }
     }
 
-    /// How control leaves it. Answers whether it may leave so.
+    /// Takes how control leaves the host. Returns whether that is allowed.
     fn left(&mut self, scope: &Scope<'_>, is_last: bool, next: &Next) -> bool
         ensures { Takes result self.new (left scope.now is_last self.old next.now) }
     {
@@ -89,7 +89,7 @@ impl Opened {
     }
 }
 
-/// The values are those that the function takes.
+/// Whether the values have the types of the function's parameters.
 fn takes(scope: &Scope<'_>, func: u32, args: &[Val]) -> bool
     ensures { result ≡ takes_values (types_of args.now) (func_type scope.now func) }
 {
@@ -99,7 +99,7 @@ fn takes(scope: &Scope<'_>, func: u32, args: &[Val]) -> bool
     }
 }
 
-/// The value, if there is one, is what the function gives.
+/// Whether the value, if there is one, has the type of the function's result.
 fn gives(scope: &Scope<'_>, func: u32, value: Option<Val>) -> bool
     ensures { result ≡ gives_values (types_of (option_to_list value)) (func_type scope.now func) }
 {
@@ -109,7 +109,7 @@ fn gives(scope: &Scope<'_>, func: u32, value: Option<Val>) -> bool
     }
 }
 
-/// The values have these types.
+/// Whether the values have these types.
 fn are_of_types(values: &[Val], types: &[ValType]) -> bool
     ensures { result ≡ same_types (types_of values.now) types.now }
 {
@@ -161,7 +161,7 @@ fn table_limits(module: &Module) -> Option<Limits>
     first_limits(module.imports.as_slice(), module.tables.as_slice(), true)
 }
 
-/// A size is within the limit and within the maximum, if there is one.
+/// Whether a size is within the limit and within the maximum, if there is one.
 fn grows_within(limit: u32, size: u32, limits: Option<Limits>) -> bool
     ensures { result ≡ grows_within limit size limits }
 {
@@ -174,7 +174,7 @@ fn grows_within(limit: u32, size: u32, limits: Option<Limits>) -> bool
     }
 }
 
-/// An effect fits the module.
+/// Whether an effect fits the module.
 fn effect_fits(scope: &Scope<'_>, effect: &Effect) -> bool
     ensures { result ≡ effect_fits scope.now effect.now }
 {
@@ -193,7 +193,7 @@ fn effect_fits(scope: &Scope<'_>, effect: &Effect) -> bool
     }
 }
 
-/// A function, if one is named, is there.
+/// Whether the function exists, if one is named.
 fn names_function(scope: &Scope<'_>, func: Option<u32>) -> bool
     ensures { result ≡ names_function scope.now func }
 {
@@ -203,7 +203,7 @@ fn names_function(scope: &Scope<'_>, func: Option<u32>) -> bool
     }
 }
 
-/// Each effect fits the module.
+/// Whether each effect fits the module.
 fn all_fit(scope: &Scope<'_>, effects: &[Effect]) -> bool
     ensures { result ≡ list_all (effect_fits scope.now) effects.now }
 {
@@ -215,7 +215,7 @@ fn all_fit(scope: &Scope<'_>, effects: &[Effect]) -> bool
     true
 }
 
-/// A segment fits. Answers whether it does.
+/// Takes a segment. Returns whether it fits.
 fn step(
     opened: &mut Opened,
     scope: &Scope<'_>,
@@ -234,10 +234,10 @@ fn step(
     )
 }
 
-/// The segments fit, the first of them being the tape's.
+/// Checks that all segments of a tape fit.
 ///
 /// # Errors
-/// The first segment that does not fit; or where an allocation failed.
+/// The first segment that does not fit; `Memory` if an allocation failed.
 fn segments_fit(alloc: Global, scope: &Scope<'_>, segments: &[Segment]) -> Result<(), TapeFault>
     ensures { IsFit (unfit_from scope.now (length segments.now) 0 [] segments.now) result }
 {
@@ -254,10 +254,10 @@ fn segments_fit(alloc: Global, scope: &Scope<'_>, segments: &[Segment]) -> Resul
     Ok(())
 }
 
-/// Looks whether a tape fits a module.
+/// Checks whether a tape fits a module.
 ///
 /// # Errors
-/// The first segment that does not fit; or where an allocation failed.
+/// The first segment that does not fit; `Memory` if an allocation failed.
 pub fn fits(alloc: Global, tape: &Tape, module: &Module) -> Result<(), TapeFault>
     ensures { IsFit (first_unfit «module».now tape.now) result }
 {

@@ -1,4 +1,4 @@
-//! What a recorded run is: the log of what its module saw, and the tape of what its host did; which logs are balanced,
+//! A recorded run: the log of what its module saw, and the tape of what its host did; which logs are balanced,
 //! and which tapes fit a module.
 #![tactic(auto)]
 
@@ -10,9 +10,8 @@ pub mod sinks;
 pub mod tapes;
 
 pub use balance::{Balance, BalanceFault, balanced};
+pub use base::{NoMemory, Outcome};
 pub use events::{Event, Events, Log};
 pub use fitting::{TapeFault, fits};
-pub use no_memory::NoMemory;
-pub use run_outcomes::Outcome;
 pub use sinks::EventSink;
 pub use tapes::{Effect, Effects, Next, Origin, Segment, Segments, Tape};

@@ -5,7 +5,7 @@ ghost use Rattle.trace_model.specs.Effects.{are_ordered, is_before};
 
 use crate::tapes::Effect;
 
-/// The effects are in order.
+/// Whether the effects are in the order of a tape.
 pub(crate) fn are_ordered(effects: &[Effect]) -> bool
     ensures { result ≡ are_ordered effects.now }
 {
@@ -22,7 +22,7 @@ pub(crate) fn are_ordered(effects: &[Effect]) -> bool
     true
 }
 
-/// An effect may stand right before another.
+/// Whether an effect may come directly before another.
 fn is_before(effect: &Effect, next: &Effect) -> bool
     ensures { result ≡ is_before effect.now next.now }
 {

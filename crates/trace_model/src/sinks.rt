@@ -1,13 +1,13 @@
-// Where events go, one after another.
+// Sinks, which take events one after another.
 
 ghost use Rattle.std.specs.Prelude.{[], ◌∷◌, OnOk, OnErr};
 ghost use Rattle.trace_model.specs.Sink.{TookAlso};
 
 use crate::events::{Event, Events};
-use no_memory::NoMemory;
+use base::NoMemory;
 
-/// What takes the events of a log in order. What it has taken is a relation, since it need not keep
-/// them.
+/// A sink takes the events of a log one after another. What it has taken is a relation, since it need not keep
+/// the events.
 pub trait EventSink {
     ghost use Rattle.std.specs.Prelude.{List};
     ghost use Rattle.trace_model.specs.declared.events.Event.{Event};
@@ -18,13 +18,13 @@ pub trait EventSink {
     /// Takes an event.
     ///
     /// # Errors
-    /// Where an allocation failed; the event is not taken then.
+    /// `NoMemory` if an allocation failed; the event is not taken then.
     fn event(&mut self, event: Event) -> Result<(), NoMemory>
         ensures ok { OnOk result (TookAlso has_taken self.old self.new (event ∷ [])) }
         ensures refused { OnErr result (TookAlso has_taken self.old self.new []) };
 }
 
-/// A list of events has taken just those that it holds.
+/// A list of events has taken exactly the events that it holds.
 impl EventSink for Events {
     ghost use Rattle.std.specs.Prelude.{◌≡◌};
 

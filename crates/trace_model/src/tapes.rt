@@ -1,4 +1,4 @@
-// The segments of a tape: what the host does each time that control comes to it.
+// The segments of a tape: what the host does each time that control reaches it.
 
 ghost use Rattle.std.specs.Prelude.{◌≡◌, ◌^◌, ◌-◌, min};
 ghost use Rattle.trace_model.specs.Weight.{effect_weight, next_weight, segment_weight, tape_weight};
@@ -8,19 +8,19 @@ use wasm_syntax::{Bytes, List, Val, Vals};
 /// A change that the host makes.
 #[derive(Drop)]
 pub enum Effect {
-    /// The memory gets so many pages.
+    /// The memory grows to this number of pages.
     Grow { pages: u32 },
-    /// The table gets so many entries.
+    /// The table grows to this number of entries.
     Table { size: u32 },
     /// The bytes from the address on.
     Bytes { addr: u32, bytes: Bytes },
-    /// The entry of this index gets this function, or none.
+    /// The entry of this index gets this function, or is emptied.
     Entry { index: u32, func: Option<u32> },
     /// The global gets this value.
     Global { global: u32, value: Val },
 }
 
-/// How control came to the host.
+/// How control reaches the host.
 #[derive(Clone, Copy, PartialEq, Eq, Debug)]
 pub enum Origin {
     /// At the beginning of the run.
@@ -34,17 +34,17 @@ pub enum Origin {
 /// How control leaves the host.
 #[derive(Drop)]
 pub enum Next {
-    /// It calls this function.
+    /// By a call of this function.
     Call { func: u32, args: Vals },
-    /// It returns to the module.
+    /// By a return to the module.
     Return { result: Option<Val> },
-    /// Its work is done.
+    /// By the end of the host's work.
     End,
-    /// It traps.
+    /// By a trap.
     Trap,
 }
 
-/// What the host does from one time that control comes to it until control leaves it.
+/// What the host does from when control reaches it until control leaves it.
 #[derive(Drop)]
 pub struct Segment {
     pub origin: Origin,
@@ -59,8 +59,8 @@ pub struct Tape {
 }
 
 impl Tape {
-    /// What a replay of the tape has to hold: one for each byte and each other effect, one for how
-    /// control leaves each segment, and one for each value that goes along. 2^64 - 1 where it is more.
+    /// The weight of the tape: one for each byte and each other effect, one for how control leaves each segment,
+    /// and one for each value that is passed. 2^64 - 1 if the weight is more.
     pub fn weight(&self) -> u64
         ensures { result ≡ min (tape_weight self.now) (2 ^ 64 - 1) }
     {
@@ -73,7 +73,7 @@ impl Tape {
 }
 
 impl Segment {
-    /// What the segment weighs; 2^64 - 1 where it is more.
+    /// The weight of the segment; 2^64 - 1 if the weight is more.
     pub fn weight(&self) -> u64
         ensures { result ≡ min (segment_weight self.now) (2 ^ 64 - 1) }
     {
@@ -86,7 +86,7 @@ impl Segment {
 }
 
 impl Effect {
-    /// What the effect weighs.
+    /// The weight of the effect.
     fn weight(&self) -> u64
         ensures { result ≡ effect_weight self.now }
     {
@@ -98,7 +98,7 @@ impl Effect {
 }
 
 impl Next {
-    /// What it weighs, with the values that go along; 2^64 - 1 where it is more.
+    /// The weight of how control leaves, with the values that are passed; 2^64 - 1 if the weight is more.
     fn weight(&self) -> u64
         ensures { result ≡ min (next_weight self.now) (2 ^ 64 - 1) }
     {
@@ -110,8 +110,8 @@ impl Next {
     }
 }
 
-/// Effects in order.
+/// A list of effects.
 pub type Effects = List<Effect>;
 
-/// Segments in order.
+/// A list of segments.
 pub type Segments = List<Segment>;

@@ -1,4 +1,4 @@
--- What is answered: tapes that are light enough, and no other answer where one is due.
+-- What is returned: tapes that are light enough, and no other result if one is due.
 use Rattle.std.proofs.Common.{◌≡◌, ℕ, ◌-◌, ◌^◌, ◌≤◌, ◌<◌, inl, inr, List, Option, Some, None, Result, Ok, Err, refl, ap, ◌∙◌, subst, arith}
 use Rattle.trace_model.specs.Balance.{IsBalanced, first_unbalanced}
 use Rattle.std.specs.Prelude.{min, sum_by}
@@ -6,8 +6,8 @@ use Rattle.trace_model.specs.Weight.{segment_weight, tape_weight}
 use Rattle.trace_model.specs.declared.events.Log.{Log}
 use Rattle.trace_model.specs.declared.tapes.Segment.{Segment}
 use Rattle.trace_model.specs.declared.tapes.Tape.{Tape}
-use Rattle.hook_spec.specs.LogTapes.{IsLogTape}
-use Rattle.hook_spec.specs.Laws.{LogTapeIsOne}
+use Rattle.record_replay_spec.specs.LogTapes.{IsLogTape}
+use Rattle.record_replay_spec.specs.HookLaws.{LogTapeIsOne}
 use Rattle.trace_reduce.specs.declared.faults.ReduceFault.TheVariants as faults
 use Rattle.trace_reduce.specs.declared.faults.ReducerFault.{ReducerFault}
 use Rattle.trace_reduce.specs.declared.faults.ReducerFault.TheVariants.{Unbalanced, TooHeavy, Memory}
@@ -15,7 +15,7 @@ use Rattle.trace_reduce.specs.declared.limited_tape.LimitedTape.{LimitedTape}
 use Rattle.trace_reduce.specs.LimitedTape.{IsSoFar}
 use Rattle.trace_reduce.specs.Answers.{IsTooHeavy, IsWeighed, IsAnswer, AnswersAreExact, ReductionsAreExact, told_weight}
 
--- tapes that are of one kind are of another
+-- a result for tapes of one kind is a result for tapes of another
 pub weighed_as : (P Q : Tape → Type 0) (most : ℕ) → ((tape : Tape) → P tape → Q tape) → (answer : Result Tape ReducerFault)
     → IsWeighed P most answer → IsWeighed Q most answer
 weighed_as P Q most f (Ok tape) h = (f tape h.0, h.1)
@@ -24,7 +24,7 @@ weighed_as P Q most f (Err (TooHeavy weight)) h =
     record { tape = h.tape; is = f h.tape h.is; passes = h.passes; told = h.told }
 weighed_as P Q most f (Err Memory) h = h
 
--- the answer where all events are in order
+-- the result if all events are balanced
 pub answer_in_order : (most : ℕ) (log : Log) (answer : Result Tape ReducerFault) → IsBalanced log
     → IsWeighed (IsLogTape log) most answer → IsAnswer most log answer
 answer_in_order most log (Ok tape) balanced h = (balanced, h)
@@ -32,7 +32,7 @@ answer_in_order most log (Err (Unbalanced event)) balanced h = absurd h
 answer_in_order most log (Err (TooHeavy weight)) balanced h = (balanced, h)
 answer_in_order most log (Err Memory) balanced h = h
 
--- ---- each answer where it should be
+-- ---- each result that is due
 
 none_some : {X : Type 0} (o : Option X) (x : X) → o ≡ None → o ≡ Some x → ⊥
 none_some None x h k = cc

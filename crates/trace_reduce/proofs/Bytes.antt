@@ -10,8 +10,8 @@ use Rattle.std.proofs.lemmas.Bool.Decides.{nat_tests}
 use Rattle.std.proofs.lemmas.Option.{slice_get_past}
 use Rattle.std.proofs.lemmas.List.{length-append, length-take-le}
 use Rattle.std.proofs.Math.Seq.{take-suc}
-use Rattle.list_laws.proofs.Lists.{get_front, get_after_by}
-use Rattle.replay_spec.specs.Known.{byte_among}
+use Rattle.base.proofs.Lists.{get_front, get_after_by}
+use Rattle.record_replay_spec.specs.Known.{byte_among}
 use Rattle.trace_reduce.proofs.Firsts.{or_assoc, or_none}
 
 -- ---- lists by keys
@@ -58,7 +58,7 @@ none_below low (entry ∷ entries) at h less =
     ap (λ b. cond b (Some entry.1) (at_key entries at)) apart
     ∙ none_below (suc entry.0) entries at h.1 (omega (arith, h.0, less))
 
--- ---- one more byte behind a run
+-- ---- one more byte directly after a run
 
 -- a byte alone
 abbrev pub lone : (place byte at : ℕ) → Option ℕ
@@ -109,7 +109,7 @@ byte_snoc start run byte at = go (nat_le start at) refl (nat_eq (start + length 
         ∙ sym (ap (λ o. option_or o (lone (start + length run) byte at)) (among_before start run at before)
         ∙ ap (λ b. cond b (Some byte) None) apart)
 
--- ---- bytes that are taken where none was
+-- ---- bytes that are taken if no byte was there
 
 or_lone : (o : Option ℕ) (byte : ℕ) → Some (unwrap_or o byte) ≡ option_or o (Some byte)
 or_lone None byte = refl

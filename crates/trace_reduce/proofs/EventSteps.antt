@@ -1,6 +1,6 @@
--- What an event that is in order does to what is open, and what it tells of the host.
+-- What a balanced event does to the open functions and calls, and what it reports of the host.
 use Rattle.std.proofs.Common.{◌≡◌, ℕ, List, [], ◌∷◌, Option, Some, None, Bool, true, false, cond, not, ◌&&◌, ◌||◌, nat_eq, nat_lt, nat_le, refl, sym, subst}
-use Rattle.list_laws.proofs.Options.{cond_some}
+use Rattle.base.proofs.Options.{cond_some}
 use Rattle.trace_model.specs.declared.balance.Frame.{Frame}
 use Rattle.trace_model.specs.declared.balance.Frame.TheVariants.{Function, Call}
 use Rattle.trace_model.specs.declared.balance.Balance.{Balance}
@@ -11,7 +11,7 @@ use Rattle.trace_model.specs.declared.tapes.Next.{Next}
 use Rattle.trace_model.specs.declared.tapes.Next.TheVariants as nexts
 use Rattle.trace_model.specs.Balance.{is_function, enter_frames, leave_frames, post_frames, with_frames, in_function, balanced_step}
 use Rattle.wasm_syntax.specs.declared.values.Val.{Val}
-use Rattle.hook_spec.specs.LogTapes.{Mark, Begins, Ends, Finds, LogFrame, frames_after, is_at_host, event_marks, mark_if}
+use Rattle.record_replay_spec.specs.LogTapes.{Mark, Begins, Ends, Finds, LogFrame, frames_after, is_at_host, event_marks, mark_if}
 use Rattle.trace_reduce.specs.Reducer.{log_frames, calls_stand}
 
 -- an event is the beginning of a call
@@ -75,7 +75,7 @@ module _ (n size : ℕ) where
         moves = comes_back (is_at_host n (log_frames below));
       })
 
-  -- the host does not come to a function by the end of a call
+  -- control does not reach a function by the end of a call
   function_stands : (below : List Frame) → cond (is_function below) (calls_stand below) false ≡ true
       → (calls_stand below ≡ true) × (is_at_host n (log_frames below) ≡ false)
   function_stands [] h = cc

@@ -4,8 +4,8 @@ use Rattle.std.specs.Option.{option_or}
 use Rattle.std.specs.Ordering.{nat_cmp}
 use Rattle.std.specs.BTreeMap.{get}
 use Rattle.trace_model.specs.declared.tapes.Effect.{Effect}
-use Rattle.replay_spec.specs.Needed.{effect_byte, effect_entry, effect_global, effect_pages, effect_entries}
-use Rattle.hook_spec.specs.LogTapes.{first_some}
+use Rattle.record_replay_spec.specs.Needed.{effect_byte, effect_entry, effect_global, effect_pages, effect_entries}
+use Rattle.record_replay_spec.specs.LogTapes.{first_some}
 use Rattle.trace_reduce.specs.declared.finds.Firsts.{Firsts}
 use Rattle.trace_reduce.specs.ByteGroups.{byte_at}
 use Rattle.trace_reduce.specs.Firsts.{global_of, AreFirsts, IsNextFind}

@@ -1,17 +1,17 @@
--- The effects that are made of what is found first are those of the window.
+-- The effects made of the first finds are those of the window.
 use Rattle.std.proofs.Common.{◌≡◌, ℕ, List, [], ◌++◌, map, Option, Some, None, true, option_map, Result, Ok, Err, IfOk, refl, sym, ap, ◌∙◌, subst}
 use Rattle.std.specs.List.{list_all}
 use Rattle.std.specs.Option.{option_or}
 use Rattle.std.specs.Ordering.{nat_cmp}
 use Rattle.std.specs.BTreeMap.{get}
 use Rattle.std.proofs.lemmas.List.{append_assoc}
-use Rattle.no_memory.specs.declared.NoMemory.{NoMemory}
+use Rattle.base.specs.declared.no_memory.NoMemory.{NoMemory}
 use Rattle.trace_model.specs.declared.tapes.Effect.{Effect}
 use Rattle.trace_model.specs.declared.tapes.Effect.TheVariants.{Grow, Table}
 use Rattle.trace_model.specs.Effects.{AreOrdered}
-use Rattle.replay_spec.specs.Known.{last_some}
-use Rattle.replay_spec.specs.Needed.{effect_byte, effect_entry, effect_global, effect_pages, effect_entries, has_bytes}
-use Rattle.hook_spec.specs.LogTapes.{AreFirstFinds}
+use Rattle.record_replay_spec.specs.Known.{last_some}
+use Rattle.record_replay_spec.specs.Needed.{effect_byte, effect_entry, effect_global, effect_pages, effect_entries, has_bytes}
+use Rattle.record_replay_spec.specs.LogTapes.{AreFirstFinds}
 use Rattle.trace_reduce.specs.declared.finds.Firsts.{Firsts}
 use Rattle.trace_reduce.specs.Firsts.{AreFirsts, global_of}
 use Rattle.trace_reduce.specs.Runs.{runs_from, entry_effect, global_effect, size_effects, firsts_effects, AreSorted}
@@ -48,7 +48,7 @@ module _ (firsts : Firsts) where
       ∙ append_assoc (pages_part ++ size_part) bytes_part (entries_part ++ globals_part)
       ∙ append_assoc pages_part size_part (bytes_part ++ (entries_part ++ globals_part))
 
-  -- a part, from those of the kinds
+  -- a part of all effects, by the parts of each kind
   part_of : {X : Type 0} (part : Effect → Option X) (p s b e g : Option X)
       → last_some part pages_part ≡ p → last_some part size_part ≡ s → last_some part bytes_part ≡ b
       → last_some part entries_part ≡ e → last_some part globals_part ≡ g
@@ -162,7 +162,7 @@ same_firsts before sorted pages size bytes entries globals finds h =
       global = λ at. ap (λ kept. option_map Some (get nat_cmp kept at)) globals ∙ h.global at;
     }
 
--- what is answered
+-- the effects that are returned
 pub effects_answered : (before sorted : Firsts) (answer : Result (List Effect) NoMemory)
     → sorted.pages ≡ before.pages → sorted.size ≡ before.size
     → ((at : ℕ) → byte_at sorted.bytes.items at ≡ byte_at before.bytes.items at) → sorted.entries ≡ before.entries

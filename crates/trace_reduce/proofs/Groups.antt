@@ -1,4 +1,4 @@
--- Bytes in groups: what one more group has, groups in order, and the bytes of all by their addresses.
+-- Bytes in groups: what one more group has, sorted groups, and the bytes of all groups by their addresses.
 use Rattle.std.proofs.Common.{◌≡◌, ℕ, suc, zero, ◌+◌, ◌-◌, ◌*◌, ◌/◌, ◌%◌, ◌≤◌, ◌<◌, List, [], ◌∷◌, ◌++◌, length, drop, min, take, Option, Some, None, Bool, true, false, cond, nat_eq, nat_le, nat_lt, slice_get, unwrap_or, refl, sym, ap, ◌∙◌, subst, arith}
 use Rattle.std.specs.List.{filter}
 use Rattle.std.specs.List.Sorted.{IsNonDecreasingBy, ties}
@@ -7,8 +7,8 @@ use Rattle.std.specs.Ordering.{is_lt, nat_cmp}
 use Rattle.std.proofs.lemmas.Bool.Decides.{nat_tests}
 use Rattle.std.proofs.lemmas.Option.{slice_get_past}
 use Rattle.std.proofs.lemmas.List.{length-append, length-take, take-append-drop}
-use Rattle.list_laws.proofs.Lists.{get_front, get_after_by}
-use Rattle.replay_spec.specs.Known.{byte_among}
+use Rattle.base.proofs.Lists.{get_front, get_after_by}
+use Rattle.record_replay_spec.specs.Known.{byte_among}
 use Rattle.trace_reduce.specs.declared.byte_groups.TheConstants.{GROUP}
 use Rattle.trace_reduce.specs.ByteGroups.{AreInOrder, TakesFront, both_slots, bytes_of, byte_at, group_byte, merged_from, merged_groups, slot_at, slot_bytes}
 use Rattle.trace_reduce.proofs.Firsts.{or_assoc, or_none}
@@ -60,7 +60,7 @@ among_under : (start : ℕ) (run : List ℕ) (at : ℕ) → at < start → byte_
 among_under start run at less =
     among_before start run at (grind (arith, nat_tests, less))
 
--- the same from another place
+-- the byte at an address, with both addresses moved
 among_moved : (by start : ℕ) (run : List ℕ) (at : ℕ)
     → byte_among (by + start) run (by + at) ≡ byte_among start run at
 among_moved by start run at =
@@ -70,7 +70,7 @@ among_moved by start run at =
 
 -- ---- one group
 
--- a group has the bytes that stand from an address on
+-- a group has the bytes for the addresses from `at` on
 group_has : (slots : List (Option ℕ)) (at : ℕ) (front : List ℕ) → at % GROUP + length front ≤ GROUP
     → ((place : ℕ) → slot_at slots place ≡ byte_among (at % GROUP) front place)
     → (q : ℕ) → group_byte (at / GROUP, slots) q ≡ byte_among at front q
@@ -242,9 +242,9 @@ bytes_key low (group ∷ groups) at h =
         ∙ later
         ∙ sym (ap (λ b. slot_at (unwrap_or (cond b (Some group.1) (at_key groups (at / GROUP))) []) (at % GROUP)) apart)
 
--- ---- groups in order
+-- ---- sorted groups
 
--- the byte at an address, of two groups that are made one
+-- the byte at an address of two merged groups
 both_bytes : (first second : ℕ × List (Option ℕ)) (at : ℕ) → first.0 ≡ second.0
     → group_byte (first.0, both_slots first.1 second.1) at
     ≡ option_or (group_byte first at) (group_byte second at)
@@ -340,7 +340,7 @@ pub merged_groups_ascend : (groups : List (ℕ × List (Option ℕ))) → AreInO
 merged_groups_ascend [] h = tt
 merged_groups_ascend (group ∷ groups) h = merged_from_ascend 0 group groups h.0 h.1
 
--- the bytes of groups in order, by their addresses
+-- the bytes of sorted groups, by their addresses
 pub byte_looked_up : (groups : List (ℕ × List (Option ℕ))) (at : ℕ) → AreInOrder 0 groups
     → at_key (bytes_of (merged_groups groups)) at ≡ byte_at groups at
 byte_looked_up groups at h = bytes_key 0 (merged_groups groups) at (merged_groups_ascend groups h) ∙ all groups h
@@ -404,7 +404,7 @@ same_bytes old new stable at =
 
 -- ---- all of some bytes
 
--- the front of what is still to come is taken
+-- the first of the bytes still to come are taken
 pub front_taken : (old new : List (ℕ × List (Option ℕ))) (at on : ℕ) (left later : List ℕ) → TakesFront old at left new later
     → on ≡ at + (length left - length later)
     → (q : ℕ) → option_or (byte_at new q) (byte_among on later q) ≡ option_or (byte_at old q) (byte_among at left q)

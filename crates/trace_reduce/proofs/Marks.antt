@@ -2,8 +2,8 @@
 use Rattle.std.proofs.Common.{◌≡◌, ℕ, suc, ◌+◌, List, [], ◌∷◌, ◌++◌, length, Option, Some, None, Bool, true, false, cond, ◌||◌, nat_lt, refl, sym, ap, ◌∙◌, subst, arith}
 use Rattle.std.specs.Option.{is_none, option_map_or}
 use Rattle.std.proofs.lemmas.List.{append_assoc, append-nil, length-append}
-use Rattle.run_outcomes.specs.declared.outcomes.Outcome.{Outcome}
-use Rattle.run_outcomes.specs.declared.outcomes.Outcome.TheVariants.{Ended, Trapped, HostTrapped}
+use Rattle.base.specs.declared.outcomes.Outcome.{Outcome}
+use Rattle.base.specs.declared.outcomes.Outcome.TheVariants.{Ended, Trapped, HostTrapped}
 use Rattle.trace_model.specs.declared.balance.Frame.{Frame}
 use Rattle.trace_model.specs.declared.balance.Frame.TheVariants.{Function, Call}
 use Rattle.trace_model.specs.declared.balance.Balance.{Balance}
@@ -12,7 +12,7 @@ use Rattle.trace_model.specs.declared.events.Event.TheVariants.{Enter, Leave, Pr
 use Rattle.trace_model.specs.declared.tapes.Origin.TheVariants.{Import}
 use Rattle.trace_model.specs.declared.tapes.Next.TheVariants.{End, Trap}
 use Rattle.trace_model.specs.Balance.{balance_start, balanced_step, calls_import, ends_so, is_empty_stack, is_function, unbalanced_from, first_unbalanced}
-use Rattle.hook_spec.specs.LogTapes.{Mark, Begins, Ends, Finds, LogFrame, InCall, frames_after, is_at_host, event_marks, import_marks, mark_if, size_after, is_trapped_call, marks_from, outcome_marks, log_marks}
+use Rattle.record_replay_spec.specs.LogTapes.{Mark, Begins, Ends, Finds, LogFrame, InCall, frames_after, is_at_host, event_marks, import_marks, mark_if, size_after, is_trapped_call, marks_from, outcome_marks, log_marks}
 use Rattle.trace_reduce.specs.declared.builder.TapeBuilder.{TapeBuilder}
 use Rattle.trace_reduce.specs.Builder.{IsAtHost, IsInWindow, TakesMarks, end_marks}
 use Rattle.trace_reduce.specs.Reducer.{log_frames, IsBuilt, IsInOrder, last_marks}
@@ -20,7 +20,7 @@ use Rattle.trace_reduce.proofs.EventSteps.{is_pre, Moves, Follows, follows}
 
 -- ---- marks
 
--- a call is not the last event where others follow
+-- a call is not the last event if others follow
 not_last : (outcome : Outcome) (event next : Event) (later : List Event)
     → is_trapped_call outcome event (next ∷ later) ≡ false
 not_last Ended event next later = refl
@@ -36,7 +36,7 @@ not_last Trapped (Bytes addr bytes) next later = refl
 not_last Trapped (Entry index func) next later = refl
 not_last Trapped (Global global value) next later = refl
 
--- the marks before the last activity, after those of an event
+-- the marks before the last activity, after the marks of an event
 abbrev next_before : List Mark → (before marks : List Mark) → List Mark
 next_before (Begins origin ∷ more) before marks = marks
 next_before more before marks = before
@@ -65,7 +65,7 @@ next_built was at_host (Finds effect ∷ []) old new before marks m h t =
 next_built was at_host (mark ∷ other ∷ more) old new before marks m h t = absurd m
 
 module _ (n size : ℕ) (frames : List LogFrame) (before marks : List Mark) where
-  -- what an event tells
+  -- the marks that an event reports
   abbrev told : Event → List Mark
   told event = event_marks n frames (frames_after frames event) size event
 
@@ -85,7 +85,7 @@ module _ (n size : ℕ) (frames : List LogFrame) (before marks : List Mark) wher
       go true = refl
       go false = sym (append-nil (marks ++ []))
 
-  -- the marks where the run ends after the event
+  -- the marks if the run ends after the event
   last_told : (outcome : Outcome) (event : Event)
       → marks ++ (cond (is_trapped_call outcome event []) [] (told event) ++ outcome_marks outcome)
       ≡ last_marks outcome (is_pre event) (is_at_host n (frames_after frames event))
@@ -233,14 +233,14 @@ import_at_host n (Function func ∷ frames) h = cc
 import_at_host n (Call None entered ∷ frames) h = cc
 import_at_host n (Call (Some callee) entered ∷ frames) h = h
 
--- where a run traps at the host, a call was just made
+-- if a run traps at the host, the event before was a call
 called_at_host : (n : ℕ) (frames : List Frame) (called : Bool) → (is_function frames || called) ≡ true
     → is_at_host n (log_frames frames) ≡ true → called ≡ true
 called_at_host n [] called h host = h
 called_at_host n (Function func ∷ frames) called h host = cc
 called_at_host n (Call callee entered ∷ frames) called h host = h
 
--- what holds of all marks
+-- a property of all marks at the end
 module _ (builder : TapeBuilder) (before marks : List Mark) (Holds : List Mark → Type 0) where
   ended_marks : (called at_host : Bool) → at_host ≡ true → IsBuilt at_host builder before marks
       → ((b ms : List Mark) → IsAtHost builder b ms → Holds (ms ++ Ends End ∷ []))

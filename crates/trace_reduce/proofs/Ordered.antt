@@ -1,18 +1,18 @@
--- The effects that are made of what is found first are in order, and none is one of no bytes.
+-- The effects made of first finds are in the order of a tape, and none has zero bytes.
 use Rattle.std.proofs.Common.{◌≡◌, ℕ, suc, ◌+◌, ◌≤◌, List, [], ◌∷◌, ◌++◌, length, map, Option, Some, None, Bool, true, false, cond, nat_eq, nat_lt, refl, ap, ◌∙◌, subst, arith}
 use Rattle.std.specs.List.{list_all}
 use Rattle.std.proofs.lemmas.Bool.Decides.{nat_tests}
 use Rattle.std.proofs.lemmas.List.{length-append}
-use Rattle.list_laws.proofs.Booleans.{and_right, and_true}
+use Rattle.base.proofs.Booleans.{and_right, and_true}
 use Rattle.wasm_syntax.specs.declared.values.Val.{Val}
 use Rattle.trace_model.specs.declared.tapes.Effect.{Effect}
 use Rattle.trace_model.specs.declared.tapes.Effect.TheVariants.{Grow, Table, Bytes, Entry, Global}
 use Rattle.trace_model.specs.Effects.{is_before, are_ordered, are_ordered_after}
-use Rattle.replay_spec.specs.Needed.{has_bytes}
+use Rattle.record_replay_spec.specs.Needed.{has_bytes}
 use Rattle.trace_reduce.specs.Runs.{runs_from, entry_effect, global_effect, size_effects}
 use Rattle.trace_reduce.proofs.Bytes.{Ascend}
 
--- it may stand before what comes behind bytes
+-- the effect may come before whatever comes after bytes
 record IsBeforeRest (effect : Effect) (low : ℕ) : Type 0 where
   entry : (k : ℕ) (func : Option ℕ) → low ≤ k → is_before effect (Entry k func) ≡ true
   global : (k : ℕ) (value : Val) → is_before effect (Global k value) ≡ true
@@ -39,7 +39,7 @@ entries_ordered effect low (entry ∷ entries) globals before h g =
     (record { entry = λ k func from. grind (arith, nat_tests, from); global = λ k value. refl })
     h.1 g)
 
--- runs of bytes, and behind them what may stand behind any bytes
+-- runs of bytes, and after them effects that may come after any bytes
 runs_ordered : (effect : Effect) (start first : ℕ) (more : List ℕ) (bytes : List (ℕ × ℕ)) (rest : List Effect)
     → ((run : List ℕ) → is_before effect (Bytes start run) ≡ true)
     → ((at : ℕ) (run : List ℕ) → are_ordered_after (Bytes at run) rest ≡ true)
@@ -97,7 +97,7 @@ module _ (bytes : List (ℕ × ℕ)) (entries : List (ℕ × Option ℕ)) (globa
         entries_ordered (Bytes at run) 0 entries globals
         (record { entry = λ k func from. refl; global = λ k value. refl }) e g
 
-    -- all but the sizes, behind what may stand before any of it
+    -- all effects but the sizes, after an effect that may come before each of them
     all_behind : (effect : Effect) → ((at : ℕ) (run : List ℕ) → is_before effect (Bytes at run) ≡ true)
         → IsBeforeRest effect 0
         → are_ordered_after effect (runs_from 0 [] bytes ++ behind) ≡ true
@@ -136,7 +136,7 @@ module _ (bytes : List (ℕ × ℕ)) (entries : List (ℕ × Option ℕ)) (globa
     all_ordered None (Some size) = behind_table size
     all_ordered (Some pages) (Some size) = behind_table size
 
--- ---- none is one of no bytes
+-- ---- no effect has zero bytes
 
 runs_have : (start first : ℕ) (more : List ℕ) (bytes : List (ℕ × ℕ)) (rest : List Effect)
     → list_all has_bytes rest ≡ true → list_all has_bytes (runs_from start (first ∷ more) bytes ++ rest) ≡ true

@@ -1,4 +1,4 @@
--- What the effects that are made of what is found first give, kind by kind.
+-- What the effects made of the first finds give, kind by kind.
 use Rattle.std.proofs.Common.{◌≡◌, ℕ, suc, ◌+◌, ◌-◌, ◌≤◌, ◌<◌, List, [], ◌∷◌, ◌++◌, length, map, Option, Some, None, Bool, true, false, cond, nat_eq, nat_le, slice_get, option_map, refl, sym, ap, ◌∙◌, subst, arith}
 use Rattle.std.specs.Option.{option_or}
 use Rattle.std.proofs.lemmas.Bool.Decides.{nat_tests}
@@ -7,8 +7,8 @@ use Rattle.std.proofs.lemmas.List.{length-append}
 use Rattle.wasm_syntax.specs.declared.values.Val.{Val}
 use Rattle.trace_model.specs.declared.tapes.Effect.{Effect}
 use Rattle.trace_model.specs.declared.tapes.Effect.TheVariants.{Bytes, Entry, Global}
-use Rattle.replay_spec.specs.Known.{byte_among, last_some}
-use Rattle.replay_spec.specs.Needed.{effect_byte}
+use Rattle.record_replay_spec.specs.Known.{byte_among, last_some}
+use Rattle.record_replay_spec.specs.Needed.{effect_byte}
 use Rattle.trace_reduce.specs.Runs.{run_effects, runs_from, entry_effect, global_effect, size_effects}
 use Rattle.trace_reduce.proofs.Firsts.{or_assoc, or_none}
 use Rattle.trace_reduce.proofs.Bytes.{at_key, Ascend, none_below, lone, byte_snoc}
@@ -21,7 +21,7 @@ last_append part (x ∷ xs) ys =
     ap (λ o. option_or o (part x)) (last_append part xs ys)
     ∙ or_assoc (last_some part ys) (last_some part xs) (part x)
 
--- ---- nothing, where no effect of a kind gives any
+-- ---- no result if no effect of a kind gives one
 
 pub entries_none : {X : Type 0} (part : Effect → Option X)
     → ((k : ℕ) (func : Option ℕ) → part (Entry k func) ≡ None) → (entries : List (ℕ × Option ℕ))

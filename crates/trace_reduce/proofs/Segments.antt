@@ -6,7 +6,7 @@ use Rattle.trace_model.specs.declared.tapes.Next.{Next}
 use Rattle.trace_model.specs.declared.tapes.Effect.{Effect}
 use Rattle.trace_model.specs.declared.tapes.Segment.{Segment}
 use Rattle.trace_model.specs.declared.tapes.Tape.{Tape}
-use Rattle.hook_spec.specs.LogTapes.{Mark, Begins, Ends, Finds, window_finds, AreFirstFinds, IsLogSegment, AreLogSegments}
+use Rattle.record_replay_spec.specs.LogTapes.{Mark, Begins, Ends, Finds, window_finds, AreFirstFinds, IsLogSegment, AreLogSegments}
 use Rattle.trace_reduce.specs.declared.builder.TapeBuilder.{TapeBuilder}
 use Rattle.trace_reduce.specs.declared.builder.Turn.{Turn}
 use Rattle.trace_reduce.specs.declared.builder.Turn.TheVariants as turns
@@ -19,7 +19,7 @@ use Rattle.trace_reduce.specs.LimitedTape.{IsSoFar}
 use Rattle.trace_reduce.proofs.Answers.{weighed_as}
 use Rattle.trace_reduce.proofs.Firsts.{next_first}
 
--- what a window finds is told before the next activity begins
+-- a window's finds are recorded before the next activity begins
 finds_before : (front : List Mark) (origin : Origin) (rest : List Mark)
     → window_finds (front ++ Begins origin ∷ rest) ≡ window_finds front
 finds_before [] origin rest = refl

@@ -1,9 +1,9 @@
--- What a reducer has taken, call by call, and what it answers.
+-- What a reducer has taken, call by call, and what it returns.
 use Rattle.std.proofs.Common.{◌≡◌, ℕ, ◌+◌, List, [], ◌∷◌, ◌++◌, Option, Some, Result, Ok, Err, Bool, true, false, not, OnOk, refl, sym, ap, ◌∙◌, subst}
 use Rattle.std.proofs.lemmas.List.{append_assoc, append-nil}
-use Rattle.no_memory.specs.declared.NoMemory.{NoMemory}
-use Rattle.run_outcomes.specs.declared.outcomes.Outcome.{Outcome}
-use Rattle.run_outcomes.specs.declared.outcomes.Outcome.TheVariants.{Ended, Trapped, HostTrapped}
+use Rattle.base.specs.declared.no_memory.NoMemory.{NoMemory}
+use Rattle.base.specs.declared.outcomes.Outcome.{Outcome}
+use Rattle.base.specs.declared.outcomes.Outcome.TheVariants.{Ended, Trapped, HostTrapped}
 use Rattle.trace_model.specs.declared.balance.Balance.{Balance}
 use Rattle.trace_model.specs.declared.events.Event.{Event}
 use Rattle.trace_model.specs.declared.events.Log.{Log}
@@ -11,7 +11,7 @@ use Rattle.trace_model.specs.declared.tapes.Origin.TheVariants.{Begin}
 use Rattle.trace_model.specs.declared.tapes.Tape.{Tape}
 use Rattle.trace_model.specs.Balance.{Takes, balance_start, balanced_step, ends_so, first_unbalanced, unbalanced_from}
 use Rattle.trace_model.specs.Sink.{TookAlso}
-use Rattle.hook_spec.specs.LogTapes.{Mark, Begins, outcome_marks, size_after, AreLogSegments}
+use Rattle.record_replay_spec.specs.LogTapes.{Mark, Begins, outcome_marks, size_after, AreLogSegments}
 use Rattle.trace_reduce.specs.declared.builder.TapeBuilder.{TapeBuilder}
 use Rattle.trace_reduce.specs.declared.reducer.Progress.TheVariants.{InOrder, Unbalanced}
 use Rattle.trace_reduce.specs.declared.faults.ReducerFault.{ReducerFault}
@@ -81,7 +81,7 @@ event_taken old balance new event (Ok it) step imports t =
     t.marks)))))
 event_taken old balance new event (Err refused) step imports t = tt
 
--- ---- answers
+-- ---- results
 
 reached : (reducer : Reducer) (taken : List Event) → reducer.progress ≡ InOrder → HasTaken reducer taken
     → IsInOrder reducer.imports reducer.balance reducer.builder reducer.size reducer.count taken
@@ -120,7 +120,7 @@ tape_answer reducer taken outcome most answer is right window host h =
     (λ ms. IsWeighed (λ (tape : Tape). AreLogSegments ms tape.segments) most answer) reducer.imports reducer.balance
     outcome right r.built window host))
 
--- ---- the events of a log in order
+-- ---- the events of a balanced log
 
 pub part_more : (old new : Reducer) (event copy : Event) (answer : Result (Unit {0}) NoMemory) → copy ≡ event
     → OnOk answer (TookAlso HasTaken old new (copy ∷ [])) → new.imports ≡ old.imports

@@ -5,16 +5,16 @@ use Rattle.std.specs.Ordering.{nat_cmp}
 use Rattle.std.specs.BTreeMap.{get}
 use Rattle.wasm_syntax.specs.declared.values.Val.{Val}
 use Rattle.trace_model.specs.declared.tapes.Effect.{Effect}
-use Rattle.replay_spec.specs.Needed.{effect_byte, effect_entry, effect_global, effect_pages, effect_entries}
-use Rattle.hook_spec.specs.LogTapes.{first_some}
+use Rattle.record_replay_spec.specs.Needed.{effect_byte, effect_entry, effect_global, effect_pages, effect_entries}
+use Rattle.record_replay_spec.specs.LogTapes.{first_some}
 use Rattle.trace_reduce.specs.ByteGroups.{byte_at}
 use Rattle.trace_reduce.specs.declared.finds.Firsts.{Firsts}
 
--- the global of an index that was found first
+-- the first find of a global, by its index
 abbrev pub global_of : Firsts → (at : ℕ) → Option (Option Val)
 global_of firsts at = option_map Some (get nat_cmp firsts.globals at)
 
--- these are what the finds of a window find first
+-- these are the first finds among the finds of a window
 pub record AreFirsts (finds : List Effect) (firsts : Firsts) : Type 0 where
   pub pages : firsts.pages ≡ first_some effect_pages finds
   pub size : firsts.size ≡ first_some effect_entries finds
@@ -22,7 +22,7 @@ pub record AreFirsts (finds : List Effect) (firsts : Firsts) : Type 0 where
   pub entry : (at : ℕ) → get nat_cmp firsts.entries at ≡ first_some (effect_entry at) finds
   pub global : (at : ℕ) → global_of firsts at ≡ first_some (effect_global at) finds
 
--- what is found is taken where nothing was
+-- a find is taken if there was no find in its place
 pub record IsNextFind (before : Firsts) (find : Effect) (after : Firsts) : Type 0 where
   pub pages : after.pages ≡ option_or before.pages (effect_pages find)
   pub size : after.size ≡ option_or before.size (effect_entries find)

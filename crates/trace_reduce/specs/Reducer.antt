@@ -1,20 +1,20 @@
--- What a reducer has taken: the events of a log so far, of which it holds the tape.
+-- What a reducer has taken: the events of a log so far. It holds their tape.
 use Rattle.std.specs.Prelude.{◌≡◌, ℕ, List, [], ◌∷◌, ◌++◌, length, map, Some, Bool, true, false, cond, is_none}
-use Rattle.run_outcomes.specs.declared.outcomes.Outcome.{Outcome}
-use Rattle.run_outcomes.specs.declared.outcomes.Outcome.TheVariants.{Trapped}
+use Rattle.base.specs.declared.outcomes.Outcome.{Outcome}
+use Rattle.base.specs.declared.outcomes.Outcome.TheVariants.{Trapped}
 use Rattle.trace_model.specs.declared.balance.Frame.{Frame}
 use Rattle.trace_model.specs.declared.balance.Frame.TheVariants.{Function, Call}
 use Rattle.trace_model.specs.declared.balance.Balance.{Balance}
 use Rattle.trace_model.specs.declared.events.Event.{Event}
 use Rattle.trace_model.specs.Balance.{balance_start, is_function, unbalanced_from}
-use Rattle.hook_spec.specs.LogTapes.{Mark, LogFrame, InFunction, InCall, is_at_host, event_marks, size_after, marks_from, outcome_marks, log_marks}
+use Rattle.record_replay_spec.specs.LogTapes.{Mark, LogFrame, InFunction, InCall, is_at_host, event_marks, size_after, marks_from, outcome_marks, log_marks}
 use Rattle.trace_reduce.specs.Builder.{IsAtHost, IsInWindow, TakesMarks}
 use Rattle.trace_reduce.specs.declared.builder.TapeBuilder.{TapeBuilder}
 use Rattle.trace_reduce.specs.declared.reducer.Progress.{Progress}
 use Rattle.trace_reduce.specs.declared.reducer.Progress.TheVariants.{InOrder, Unbalanced, Lost}
 use Rattle.trace_reduce.specs.declared.reducer.Reducer.{Reducer}
 
--- what is open, as the tape of a log has it
+-- an open function or call, in the form that the tape of a log uses
 abbrev pub log_frame : Frame → LogFrame
 log_frame (Function func) = InFunction
 log_frame (Call callee entered) = InCall callee
@@ -22,23 +22,23 @@ log_frame (Call callee entered) = InCall callee
 abbrev pub log_frames : List Frame → List LogFrame
 log_frames frames = map log_frame frames
 
--- each call that is open is one of a function's
+-- below each open call is an open function
 abbrev pub calls_stand : List Frame → Bool
 calls_stand [] = true
 calls_stand (Function func ∷ below) = calls_stand below
 calls_stand (Call callee entered ∷ below) = cond (is_function below) (calls_stand below) false
 
--- the tape so far, by the marks before its last activity and all
+-- the tape so far, by the marks before its last activity and by all marks
 abbrev pub IsBuilt : (at_host : Bool) → TapeBuilder → (before marks : List Mark) → Type 0
 IsBuilt true builder before marks = IsAtHost builder before marks
 IsBuilt false builder before marks = IsInWindow builder marks
 
--- the marks where the run ends: where the last event is a call and the run trapped, those before it
+-- the marks at the end of the run: if the last event is a call and the run trapped, the marks before that event
 abbrev pub last_marks : Outcome → (called at_host : Bool) → (before marks : List Mark) → List Mark
 last_marks Trapped true true before marks = before
 last_marks outcome called at_host before marks = marks
 
--- all events so far are in order, and this is held of them
+-- all events so far are balanced, and the reducer's state is that of these events
 pub record IsInOrder (n : ℕ) (balance : Balance) (builder : TapeBuilder) (size count : ℕ) (taken : List Event)
     : Type 0 where
   pub counted : count ≡ length taken
@@ -68,21 +68,22 @@ HasReached Lost reducer taken = Unit {0}
 abbrev pub HasTaken : Reducer → List Event → Type 0
 HasTaken reducer taken = HasReached reducer.progress reducer taken
 
--- how many functions the module of the log imports, and what the tape may weigh at most
+-- the number of imported functions of the log's module; the limit of the tape's weight
 abbrev pub imports_of : Reducer → ℕ
 imports_of reducer = reducer.imports
 
+-- the limit of the tape's weight
 abbrev pub most_of : Reducer → ℕ
 most_of reducer = reducer.builder.tape.most
 
--- one more event is taken, after events in order
+-- one more event is taken, after balanced events
 abbrev pub TakesEvent : Reducer → Event → Reducer → Type 0
 TakesEvent old event new =
     (taken : List Event)
     → IsInOrder old.imports old.balance old.builder old.size old.count taken
     → HasTaken new (taken ++ event ∷ [])
 
--- the tape is told of an event, of which the balance knows already
+-- the builder has taken the marks of an event that the balance has taken already
 pub record Tells (old : Reducer) (event : Event) (new : Reducer) : Type 0 where
   pub balance : new.balance ≡ old.balance
   pub size : new.size ≡ size_after old.size event
@@ -92,7 +93,7 @@ pub record Tells (old : Reducer) (event : Event) (new : Reducer) : Type 0 where
       → TakesMarks old.builder
       (event_marks old.imports frames (log_frames old.balance.frames) old.size event) new.builder
 
--- a reducer has taken those of a log's events that come before the rest
+-- a reducer has taken the events of a log that come before the rest
 pub record IsPart (n most : ℕ) (all later : List Event) (reducer : Reducer) : Type 0 where
   pub taken : List Event
   pub whole : taken ++ later ≡ all

@@ -1,4 +1,4 @@
--- Effects in order, of what is found first.
+-- The effects of what is found first, in the order of a tape.
 use Rattle.std.specs.Prelude.{ℕ, ◌+◌, List, [], ◌∷◌, ◌++◌, length, map, Option, Some, None, cond, nat_eq}
 use Rattle.std.specs.Ordering.{nat_cmp}
 use Rattle.std.specs.BTreeMap.{IsOrdered}
@@ -13,26 +13,26 @@ abbrev pub run_effects : (start : ℕ) → (run : List ℕ) → List Effect
 run_effects start [] = []
 run_effects start (byte ∷ bytes) = Bytes start (byte ∷ bytes) ∷ []
 
--- a run and the bytes after it, by ascending addresses: a byte next to the run joins it
+-- a run and the bytes after it, by ascending addresses: a byte directly after the run joins it
 abbrev pub runs_from : (start : ℕ) → (run : List ℕ) → List (ℕ × ℕ) → List Effect
 runs_from start run [] = run_effects start run
 runs_from start run (byte ∷ later) =
     cond (nat_eq (start + length run) byte.0) (runs_from start (run ++ byte.1 ∷ []) later)
     (run_effects start run ++ runs_from byte.0 (byte.1 ∷ []) later)
 
--- an entry, a global, as an effect
+-- the effect of a table entry; the effect of a global
 abbrev pub entry_effect : ℕ × Option ℕ → Effect
 entry_effect entry = Entry entry.0 entry.1
 
 abbrev pub global_effect : ℕ × Val → Effect
 global_effect global = Global global.0 global.1
 
--- a size, if one is found, as an effect
+-- the effect of a size, if a size is found
 abbrev pub size_effects : (ℕ → Effect) → Option ℕ → List Effect
 size_effects effect None = []
 size_effects effect (Some size) = effect size ∷ []
 
--- all of it
+-- the effects of all first finds
 abbrev pub firsts_effects : Firsts → List Effect
 firsts_effects firsts =
     (((size_effects Grow firsts.pages ++ size_effects Table firsts.size)
@@ -40,7 +40,7 @@ firsts_effects firsts =
     ++ map entry_effect firsts.entries.entries)
     ++ map global_effect firsts.globals.entries
 
--- the numbers of groups do not fall, and indices ascend
+-- the numbers of groups do not decrease, and indices ascend
 pub record AreSorted (firsts : Firsts) : Type 0 where
   pub bytes : AreInOrder 0 firsts.bytes.items
   pub entries : IsOrdered nat_cmp firsts.entries

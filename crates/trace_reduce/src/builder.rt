@@ -1,9 +1,9 @@
-// A tape in the making: activities of the host begin and end, and the windows after them find what the
-// host changed.
+// A tape under construction: activities of the host begin and end, and the windows after them find what the host
+// changed.
 
 ghost use Rattle.std.specs.Prelude.{◌≡◌, ◌∷◌, ◌++◌, List, [], None, is_none, OnOk};
-ghost use Rattle.hook_spec.specs.LogTapes.{Mark, Begins, Ends, AreLogSegments};
-ghost use Rattle.run_outcomes.specs.declared.outcomes.Outcome.TheVariants.{Trapped};
+ghost use Rattle.record_replay_spec.specs.LogTapes.{Mark, Begins, Ends, AreLogSegments};
+ghost use Rattle.base.specs.declared.outcomes.Outcome.TheVariants.{Trapped};
 ghost use Rattle.trace_model.specs.declared.tapes.Origin.TheVariants.{Begin};
 ghost use Rattle.trace_model.specs.declared.tapes.Tape.{Tape};
 ghost use Rattle.trace_reduce.specs.Answers.{IsWeighed};
@@ -12,13 +12,12 @@ ghost use Rattle.trace_reduce.specs.Builder.{IsAtHost, IsInWindow, IsClosed, Tak
 use crate::faults::ReducerFault;
 use crate::finds::Firsts;
 use crate::limited_tape::LimitedTape;
-use no_memory::NoMemory;
-use run_outcomes::Outcome;
+use base::{NoMemory, Outcome};
 use std::alloc::Global;
 use std::mem;
 use trace_model::{Effect, Next, Origin, Segment, Tape};
 
-/// What an event tells of the host: an activity begins or ends, or the window after it finds a change.
+/// What an event reports of the host: an activity begins or ends, or the window after it finds a change.
 #[derive(Drop)]
 pub(crate) enum Turn {
     Begins(Origin),
@@ -26,8 +25,8 @@ pub(crate) enum Turn {
     Finds(Effect),
 }
 
-/// The segments of the windows that are over; the origin of the last activity, how it left the host if
-/// it has, and what the window after it found first.
+/// The segments of the windows that are over; the origin of the last activity, how control left the host if it
+/// has left, and what the window after it found first.
 #[derive(Drop)]
 pub(crate) struct TapeBuilder {
     pub(crate) tape: LimitedTape,
@@ -37,7 +36,7 @@ pub(crate) struct TapeBuilder {
 }
 
 impl TapeBuilder {
-    /// The host's first activity begins, of a tape that may weigh so much at most. Takes no memory.
+    /// Begins the host's first activity, for a tape with this limit of weight. Takes no memory.
     pub(crate) fn new(alloc: Global, most: u64) -> TapeBuilder
         ensures begun { IsAtHost result [] (Begins Begin ∷ []) }
         ensures most { result.tape.most ≡ most }
@@ -50,14 +49,14 @@ impl TapeBuilder {
         }
     }
 
-    /// Control is at the host.
+    /// Whether control is at the host.
     pub(crate) fn is_at_host(&self) -> bool
         ensures { result ≡ is_none self.now.next }
     {
         self.next.is_none()
     }
 
-    /// Takes the segment of the window that is over, if there is one, to the others.
+    /// Adds the segment of the window that is over, if there is one.
     fn close_window(&mut self) -> Result<(), NoMemory>
         ensures closes { OnOk result ((marks : List Mark) → IsInWindow self.old marks → IsClosed self.new marks) }
         ensures stays { OnOk result (self.old.next ≡ None → self.new.tape ≡ self.old.tape) }
@@ -77,10 +76,10 @@ impl TapeBuilder {
         Ok(())
     }
 
-    /// Takes what an event tells.
+    /// Takes what an event reports.
     ///
     /// # Errors
-    /// Where an allocation failed; the tape is lost then.
+    /// `NoMemory` if an allocation failed; the tape is lost then.
     pub(crate) fn take(&mut self, turn: Turn) -> Result<(), NoMemory>
         ensures mark { OnOk result (TakesMark self.old (mark_of turn) self.new) }
         ensures most { self.new.tape.most ≡ self.old.tape.most }
@@ -96,7 +95,7 @@ impl TapeBuilder {
         Ok(())
     }
 
-    /// The tape. An activity that did not leave the host is none of it.
+    /// The tape. An activity that did not leave the host is not part of it.
     fn into_tape(mut self) -> Result<Tape, ReducerFault>
         ensures window { (marks : List Mark) → IsInWindow self marks
             → IsWeighed (λ (tape : Tape). AreLogSegments marks tape.segments) self.tape.most result }
@@ -110,7 +109,7 @@ impl TapeBuilder {
         tape.into_tape()
     }
 
-    /// The tape, where the last activity leaves the host so.
+    /// The tape, if control leaves the last activity with `next`.
     fn end(mut self, next: Next) -> Result<Tape, ReducerFault>
         ensures { (before marks : List Mark) → IsAtHost self before marks
             → IsWeighed (λ (tape : Tape). AreLogSegments (marks ++ Ends next ∷ []) tape.segments) self.tape.most
@@ -122,10 +121,10 @@ impl TapeBuilder {
         self.into_tape()
     }
 
-    /// The tape of a run that ended so.
+    /// The tape of a run with this outcome.
     ///
     /// # Errors
-    /// What it weighs, where that is more than the most; or where an allocation failed.
+    /// The tape's weight if it is more than the limit; `Memory` if an allocation failed.
     pub(crate) fn finish(self, outcome: Outcome) -> Result<Tape, ReducerFault>
         ensures window { (marks : List Mark) → outcome ≡ Trapped → IsInWindow self marks
             → IsWeighed (λ (tape : Tape). AreLogSegments marks tape.segments) self.tape.most result }

@@ -2,26 +2,26 @@
 
 ghost use Rattle.std.specs.Prelude.{◌≡◌, ◌≤◌, ◌+◌, ℕ, Some, IfOk, OnOk, false, length, nat_eq, unwrap_or};
 ghost use Rattle.std.specs.Option.{option_or};
-ghost use Rattle.replay_spec.specs.Known.{byte_among};
+ghost use Rattle.record_replay_spec.specs.Known.{byte_among};
 ghost use Rattle.trace_reduce.specs.ByteGroups.{AreInOrder, TakesFront, both_slots, byte_at, slot_at};
 ghost use Rattle.trace_reduce.specs.declared.byte_groups.TheConstants.{GROUP};
 
-use no_memory::NoMemory;
+use base::NoMemory;
 
-/// How many addresses make a group.
+/// The number of addresses in a group.
 pub(crate) const GROUP: u64 = 4;
 
-/// The bytes at the addresses of a group, where one was found.
+/// The bytes at the addresses of a group, `None` if no byte was found at an address.
 pub(crate) type Slots = [Option<u8>; 4];
 
-/// A group's number, and bytes of it.
+/// A group's number, and its bytes.
 pub(crate) type Group = (u32, Slots);
 
-/// Groups in the order in which their bytes were found. One number may come several times: of an
-/// address, the byte counts that comes first.
+/// Groups in the order in which their bytes were found. A number may occur several times: the first byte found
+/// at an address counts.
 pub(crate) type Groups = Vec<Group>;
 
-/// Takes the byte at a place, where none was taken before.
+/// Takes the byte at a place if no byte was taken there before.
 fn take_byte(slots: &mut Slots, place: usize, byte: u8)
     requires within { place + 1 ≤ GROUP }
     ensures here { slot_at slots.new place ≡ Some (unwrap_or (slot_at slots.old place) byte) }
@@ -30,7 +30,7 @@ fn take_byte(slots: &mut Slots, place: usize, byte: u8)
     slots[place] = slots[place].or(Some(byte));
 }
 
-/// Takes those bytes that stand from a place on where none was taken before.
+/// Takes the bytes for the places from `from` on, at each place where no byte was taken before.
 fn take_slots(slots: &mut Slots, from: usize, bytes: &[u8])
     requires within { from + length bytes.now ≤ GROUP }
     ensures { (place : ℕ) → slot_at slots.new place
@@ -41,7 +41,7 @@ fn take_slots(slots: &mut Slots, from: usize, bytes: &[u8])
     }
 }
 
-/// The slots of bytes that stand from a place on.
+/// The slots of the bytes for the places from `from` on.
 fn slots_of(from: usize, bytes: &[u8]) -> Slots
     requires within { from + length bytes.now ≤ GROUP }
     ensures { (place : ℕ) → slot_at result place ≡ byte_among from bytes.now place }
@@ -51,7 +51,7 @@ fn slots_of(from: usize, bytes: &[u8]) -> Slots
     slots
 }
 
-/// Takes the bytes of other slots where none was taken before.
+/// Takes the bytes of other slots, at each place where no byte was taken before.
 pub(crate) fn take_others(slots: &mut Slots, others: &Slots)
     ensures { slots.new ≡ both_slots slots.old others.now }
 {
@@ -63,11 +63,11 @@ pub(crate) fn take_others(slots: &mut Slots, others: &Slots)
     ];
 }
 
-/// Takes the first of bytes from an address on, as far as they are in one group. Returns the others.
+/// Takes the first bytes from an address on, as far as they are in one group. Returns the rest.
 fn take_front<'a>(groups: &mut Groups, at: u64, bytes: &'a [u8]) -> Result<&'a [u8], NoMemory>
     ensures { IfOk result (λ later. TakesFront groups.old.items at bytes.now groups.new.items later.now) }
 {
-    // No memory holds bytes that reach so far.
+    // No memory holds bytes up to such an address.
     let Ok(number) = u32::try_from(at / GROUP) else {
         return Err(NoMemory);
     };
@@ -78,10 +78,10 @@ fn take_front<'a>(groups: &mut Groups, at: u64, bytes: &'a [u8]) -> Result<&'a [
     Ok(later)
 }
 
-/// Takes bytes that stand from the address on, after those that were found before.
+/// Takes the bytes for the addresses from `addr` on, after those that were found before.
 ///
 /// # Errors
-/// Where an allocation failed.
+/// `NoMemory` if an allocation failed.
 pub(crate) fn take_bytes(groups: &mut Groups, addr: u32, bytes: &[u8]) -> Result<(), NoMemory>
     ensures { OnOk result ((at : ℕ) → byte_at groups.new.items at
         ≡ option_or (byte_at groups.old.items at) (byte_among addr bytes.now at)) }
@@ -96,10 +96,10 @@ pub(crate) fn take_bytes(groups: &mut Groups, addr: u32, bytes: &[u8]) -> Result
     Ok(())
 }
 
-/// Puts groups in the order of their numbers, those of one number in the order in which they were found.
+/// Sorts groups by their numbers; groups of one number stay in the order in which they were found.
 ///
 /// # Errors
-/// Where an allocation failed.
+/// `NoMemory` if an allocation failed.
 pub(crate) fn sort_groups(groups: &mut Groups) -> Result<(), NoMemory>
     ensures sorted { OnOk result (AreInOrder 0 groups.new.items) }
     ensures bytes { OnOk result ((at : ℕ) → byte_at groups.new.items at ≡ byte_at groups.old.items at) }

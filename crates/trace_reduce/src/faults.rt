@@ -2,10 +2,10 @@
 
 use thiserror::Error;
 
-/// Why a log has no tape, or nothing is known of it.
+/// Why a log has no tape, or why its tape is not known.
 #[derive(Clone, Copy, PartialEq, Eq, Debug, Error)]
 pub enum ReduceFault {
-    /// The first event that is out of order; the number of events where only the outcome is.
+    /// The first unbalanced event; the number of events if only the outcome is unbalanced.
     #[error("unbalanced: event {event}")]
     Unbalanced { event: u64 },
     /// Out of memory.
@@ -13,13 +13,13 @@ pub enum ReduceFault {
     Memory,
 }
 
-/// Why there is no tape that is light enough, or nothing is known of it.
+/// Why there is no tape that is light enough, or why it is not known.
 #[derive(Clone, Copy, PartialEq, Eq, Debug, Error)]
 pub enum ReducerFault {
-    /// The first event that is out of order; the number of events where only the outcome is.
+    /// The first unbalanced event; the number of events if only the outcome is unbalanced.
     #[error("unbalanced: event {event}")]
     Unbalanced { event: u64 },
-    /// What the tape weighs, which is too much; 2^64 - 1 where it is more.
+    /// The weight of the tape, which is too heavy; 2^64 - 1 if the weight is more.
     #[error("too heavy: {weight}")]
     TooHeavy { weight: u64 },
     /// Out of memory.

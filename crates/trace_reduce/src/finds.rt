@@ -1,19 +1,19 @@
 // What a window finds first.
 
 ghost use Rattle.std.specs.Prelude.{List, [], IfOk, OnOk};
-ghost use Rattle.hook_spec.specs.LogTapes.{AreFirstFinds};
+ghost use Rattle.record_replay_spec.specs.LogTapes.{AreFirstFinds};
 ghost use Rattle.trace_model.specs.declared.tapes.Effect.{Effect};
 ghost use Rattle.trace_reduce.specs.Firsts.{AreFirsts, IsNextFind};
 
 use crate::byte_groups::{Groups, sort_groups, take_bytes};
 use crate::runs::effects_of;
-use no_memory::NoMemory;
+use base::NoMemory;
 use std::alloc::Global;
 use std::collections::BTreeMap;
 use trace_model::{Effect, Effects};
 use wasm_syntax::Val;
 
-/// What is found first, by kind: the memory's pages, the table's size, bytes in groups of addresses,
+/// What is found first, by kind: the memory's pages, the table's size, bytes in groups of addresses, table
 /// entries and globals by index.
 #[derive(Drop)]
 pub(crate) struct Firsts {
@@ -25,7 +25,7 @@ pub(crate) struct Firsts {
 }
 
 impl Firsts {
-    /// Nothing is found. Takes no memory.
+    /// No finds. Takes no memory.
     pub(crate) fn new(alloc: Global) -> Firsts
         ensures { AreFirsts [] result }
     {
@@ -38,10 +38,10 @@ impl Firsts {
         }
     }
 
-    /// Takes what is found, where nothing was before.
+    /// Takes a find if there was no find in its place.
     ///
     /// # Errors
-    /// Where an allocation failed.
+    /// `NoMemory` if an allocation failed.
     pub(crate) fn take(&mut self, find: &Effect) -> Result<(), NoMemory>
         ensures { OnOk result (IsNextFind self.old find.now self.new) }
     {
@@ -63,11 +63,11 @@ impl Firsts {
         Ok(())
     }
 
-    /// The effects of what a window finds: in order, bytes in longest runs, everywhere what is found first.
-    /// Groups of bytes are sorted for that.
+    /// The effects of what a window finds first, in the order of a tape, with bytes in longest runs. Sorts the
+    /// groups of bytes.
     ///
     /// # Errors
-    /// Where an allocation failed.
+    /// `NoMemory` if an allocation failed.
     pub(crate) fn effects(&mut self, alloc: Global) -> Result<Effects, NoMemory>
         ensures { IfOk result (λ effects. (finds : List Effect) → AreFirsts finds self.old
             → AreFirstFinds finds effects) }

@@ -11,7 +11,7 @@ pub mod logs;
 pub mod reducer;
 mod runs;
 
+pub use base::NoMemory;
 pub use faults::{ReduceFault, ReducerFault};
 pub use logs::reduce;
-pub use no_memory::NoMemory;
 pub use reducer::Reducer;

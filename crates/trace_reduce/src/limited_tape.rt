@@ -1,4 +1,4 @@
-// The segments of a tape that may weigh so much at most.
+// The segments of a tape whose weight is limited.
 
 ghost use Rattle.std.specs.Prelude.{◌≡◌, ◌∷◌, ◌++◌, List, [], OnOk};
 ghost use Rattle.trace_model.specs.declared.tapes.Segment.{Segment};
@@ -7,11 +7,11 @@ ghost use Rattle.trace_reduce.specs.Answers.{IsWeighed};
 ghost use Rattle.trace_reduce.specs.LimitedTape.{IsSoFar};
 
 use crate::faults::ReducerFault;
-use no_memory::NoMemory;
+use base::NoMemory;
 use std::alloc::Global;
 use trace_model::{Segment, Segments, Tape};
 
-/// The segments so far, as long as they weigh no more than the most, and what they weigh.
+/// The segments so far, held while they weigh no more than the limit, and their weight.
 #[derive(Drop)]
 pub(crate) struct LimitedTape {
     pub(crate) segments: Vec<Segment>,
@@ -32,10 +32,10 @@ impl LimitedTape {
         }
     }
 
-    /// Takes a segment after the others. From the one on by which they weigh too much, all are let go.
+    /// Appends a segment. If the segments weigh too much with it, all are dropped.
     ///
     /// # Errors
-    /// Where an allocation failed; the tape is lost then.
+    /// `NoMemory` if an allocation failed; the tape is lost then.
     pub(crate) fn push(&mut self, segment: Segment) -> Result<(), NoMemory>
         ensures more { OnOk result ((segments : List Segment) → IsSoFar self.old segments
             → IsSoFar self.new (segments ++ segment ∷ [])) }
@@ -54,7 +54,7 @@ impl LimitedTape {
     /// The tape.
     ///
     /// # Errors
-    /// What it weighs, where that is more than the most. No memory holds a tape of the weight 2^64 - 1.
+    /// The tape's weight if it is more than the limit. No memory holds a tape of the weight 2^64 - 1.
     pub(crate) fn into_tape(self) -> Result<Tape, ReducerFault>
         ensures { (segments : List Segment) → IsSoFar self segments
             → IsWeighed (λ (tape : Tape). tape.segments ≡ segments) self.most result }

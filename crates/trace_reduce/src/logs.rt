@@ -1,4 +1,4 @@
-// The tape of a log that is there whole.
+// The tape of a log that is whole in memory.
 
 ghost use Rattle.std.specs.Prelude.{◌≡◌, ℕ, List, [], ◌∷◌, IfOk, OnOk};
 ghost use Rattle.trace_model.specs.declared.events.Event.{Event};
@@ -8,11 +8,11 @@ ghost use Rattle.trace_reduce.specs.Reducer.{IsPart};
 
 use crate::faults::{ReduceFault, ReducerFault};
 use crate::reducer::Reducer;
-use no_memory::NoMemory;
+use base::NoMemory;
 use std::alloc::Global;
 use trace_model::{Event, Log, Tape};
 
-/// An equal event.
+/// A copy of an event.
 fn copy_of(event: &Event) -> Result<Event, NoMemory>
     ensures { IfOk result (λ copy. copy ≡ event.now) }
 {
@@ -45,7 +45,7 @@ fn push_copy(reducer: &mut Reducer, event: &Event) -> Result<(), NoMemory>
     reducer.push(copy)
 }
 
-/// Takes the rest of a log's events.
+/// Takes the remaining events of a log.
 fn push_all(reducer: &mut Reducer, events: &[Event]) -> Result<(), NoMemory>
     ensures { OnOk result ((n most : ℕ) (all : List Event) → IsPart n most all events.now reducer.old
         → IsPart n most all [] reducer.new) }
@@ -56,7 +56,7 @@ fn push_all(reducer: &mut Reducer, events: &[Event]) -> Result<(), NoMemory>
     Ok(())
 }
 
-/// What is answered where the tape may weigh anything that a memory holds.
+/// The result without a limit of weight.
 fn of_any_weight(answer: Result<Tape, ReducerFault>) -> Result<Tape, ReduceFault>
     ensures { (most : ℕ) (log : Log) → IsAnswer most log answer → IsReduction log result }
 {
@@ -70,7 +70,7 @@ fn of_any_weight(answer: Result<Tape, ReducerFault>) -> Result<Tape, ReduceFault
 /// The tape of a log: what its host did, as far as the module observed it.
 ///
 /// # Errors
-/// The first event that is out of order, or the outcome; or where an allocation failed.
+/// The first unbalanced event, or the outcome; `Memory` if an allocation failed.
 pub fn reduce(alloc: Global, log: &Log) -> Result<Tape, ReduceFault>
     ensures { IsReduction log.now result }
 {

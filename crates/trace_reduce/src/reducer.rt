@@ -1,7 +1,7 @@
-// The reducer: events come one after another, and the tape of their log is what is left of them.
+// The reducer: it takes events one after another, and keeps only the tape of their log.
 
 ghost use Rattle.std.specs.Prelude.{◌≡◌, ◌+◌, ◌∷◌, List, [], Some, None, is_none, true, OnOk, OnErr};
-ghost use Rattle.hook_spec.specs.LogTapes.{LogFrame, event_marks, import_marks, is_at_host};
+ghost use Rattle.record_replay_spec.specs.LogTapes.{LogFrame, event_marks, import_marks, is_at_host};
 ghost use Rattle.trace_model.specs.Balance.{balanced_step};
 ghost use Rattle.trace_model.specs.Sink.{TookAlso};
 ghost use Rattle.trace_reduce.specs.Answers.{IsAnswer};
@@ -11,13 +11,12 @@ ghost use Rattle.trace_reduce.specs.declared.reducer.Progress.TheVariants.{InOrd
 
 use crate::builder::{TapeBuilder, Turn};
 use crate::faults::ReducerFault;
-use no_memory::NoMemory;
-use run_outcomes::Outcome;
+use base::{NoMemory, Outcome};
 use std::alloc::Global;
 use trace_model::balance::Frames;
 use trace_model::{Balance, Effect, Event, EventSink, Next, Origin, Tape};
 
-/// Whether all events so far are in order, or which is the first that is not; or memory was out.
+/// The state of a reducer: all events so far are balanced; the first unbalanced event; or memory was out.
 #[derive(Clone, Copy)]
 pub(crate) enum Progress {
     InOrder,
@@ -25,7 +24,7 @@ pub(crate) enum Progress {
     Lost,
 }
 
-/// Takes the events of a log in order and keeps the tape that they come to, and no event.
+/// Takes the events of a log one after another and keeps the tape that they make, and no event.
 #[derive(Drop)]
 pub struct Reducer {
     pub(crate) imports: u32,
@@ -36,14 +35,14 @@ pub struct Reducer {
     pub(crate) progress: Progress,
 }
 
-/// Control is at the host.
+/// Whether control is at the host.
 fn is_at_host(frames: &Frames, imports: u32) -> bool
     ensures { result ≡ is_at_host imports (log_frames frames.now) }
 {
     frames.is_empty() || frames.calls_import(imports)
 }
 
-/// What the call of an import tells; that of another function tells nothing.
+/// What the call of an import reports; the call of another function reports nothing.
 fn import_turn(callee: Option<u32>, imports: u32) -> Option<Turn>
     ensures { turn_marks result ≡ import_marks imports callee }
 {
@@ -53,8 +52,8 @@ fn import_turn(callee: Option<u32>, imports: u32) -> Option<Turn>
     }
 }
 
-/// What an event tells of the host, by whether control was there before it and is there after it, and
-/// by the size that the last growth told.
+/// What an event reports of the host, by whether control was there before it and is there after it, and by the
+/// size that the last growth reported.
 fn turn_of(event: Event, imports: u32, was_at_host: bool, at_host: bool, size: u32) -> Option<Turn>
     ensures { (before after : List LogFrame) → is_at_host imports before ≡ was_at_host
         → is_at_host imports after ≡ at_host → turn_marks result ≡ event_marks imports before after size event }
@@ -74,8 +73,8 @@ fn turn_of(event: Event, imports: u32, was_at_host: bool, at_host: bool, size: u
 }
 
 impl Reducer {
-    /// Has taken no event, of the log of a module with so many imported functions, whose tape may weigh
-    /// so much at most. Takes no memory.
+    /// A reducer that has taken no event, for a log of a module with this number of imported functions and a
+    /// tape with this limit of weight. Takes no memory.
     pub fn new(alloc: Global, imports: u32, most: u64) -> Reducer
         ensures taken { HasTaken result [] }
         ensures imports { imports_of result ≡ imports }
@@ -91,14 +90,14 @@ impl Reducer {
         }
     }
 
-    /// How many imported functions the module has.
+    /// The number of functions that the module imports.
     pub fn imports(&self) -> u32
         ensures { result ≡ imports_of self.now }
     {
         self.imports
     }
 
-    /// Whether it was made for this number of imported functions and for a tape of this weight at most.
+    /// Whether the reducer was made for this number of imported functions and this limit of the tape's weight.
     pub fn is_for(&self, imports: u32, most: u64) -> bool
         ensures imports { result ≡ true → imports_of self.now ≡ imports }
         ensures most { result ≡ true → most_of self.now ≡ most }
@@ -109,7 +108,7 @@ impl Reducer {
     /// Takes an event.
     ///
     /// # Errors
-    /// Where an allocation failed; the tape is lost then, and so answers each later call.
+    /// `NoMemory` if an allocation failed; the tape is lost then, and each later call fails so too.
     pub fn push(&mut self, event: Event) -> Result<(), NoMemory>
         ensures ok { OnOk result (TookAlso HasTaken self.old self.new (event ∷ [])) }
         ensures refused { OnErr result (TookAlso HasTaken self.old self.new []) }
@@ -128,13 +127,13 @@ impl Reducer {
         taken
     }
 
-    /// Takes an event after others that are in order.
+    /// Takes an event after balanced events.
     fn step(&mut self, event: Event) -> Result<(), NoMemory>
         ensures takes { OnOk result (self.old.progress ≡ InOrder → TakesEvent self.old event self.new) }
         ensures imports { self.new.imports ≡ self.old.imports }
         ensures most { most_of self.new ≡ most_of self.old }
     {
-        // No run is as long.
+        // No run is that long.
         if self.count == u64::MAX {
             return Err(NoMemory);
         }
@@ -146,7 +145,7 @@ impl Reducer {
         self.tell(event)
     }
 
-    /// Tells the tape of an event, of which what is open knows already.
+    /// Passes an event to the tape, after the balance has taken it.
     fn tell(&mut self, event: Event) -> Result<(), NoMemory>
         ensures tells { OnOk result (Tells self.old event self.new) }
         ensures imports { self.new.imports ≡ self.old.imports }
@@ -170,11 +169,11 @@ impl Reducer {
         Ok(())
     }
 
-    /// The tape of the log of the events, whose run ended so.
+    /// The tape of the log of the events, whose run ended with this outcome.
     ///
     /// # Errors
-    /// The first event that is out of order, or the outcome; what the tape weighs, where that is more than
-    /// the most; or where an allocation failed.
+    /// The first unbalanced event, or the outcome; the tape's weight if it is more than the limit; `Memory` if
+    /// an allocation failed.
     pub fn finish(self, outcome: Outcome) -> Result<Tape, ReducerFault>
         ensures { (taken : List Event) → HasTaken self taken
             → IsAnswer (most_of self) (record { imports = imports_of self; events = taken; outcome = outcome })

@@ -1,4 +1,4 @@
-// Effects in order, of what is found first.
+// The effects of what is found first, in the order of a tape.
 
 ghost use Rattle.std.specs.Prelude.{◌≡◌, ◌+◌, ◌*◌, ◌^◌, ◌<◌, ◌∷◌, List, Option, ℕ, [], ◌++◌, length, map, take, IfOk, OnOk};
 ghost use Rattle.std.specs.Ordering.{nat_cmp};
@@ -9,14 +9,14 @@ ghost use Rattle.trace_reduce.specs.Runs.{runs_from, entry_effect, global_effect
 
 use crate::byte_groups::{GROUP, Group, Slots, take_others};
 use crate::finds::Firsts;
-use no_memory::NoMemory;
+use base::NoMemory;
 use std::alloc::Global;
 use std::collections::BTreeMap;
 use std::mem;
 use trace_model::{Effect, Effects};
 use wasm_syntax::{Bytes, Val};
 
-/// Effects, and after them the run of bytes that still grows.
+/// Effects, and the run of bytes after them that still grows.
 #[derive(Drop)]
 pub(crate) struct Runs {
     pub(crate) effects: Vec<Effect>,
@@ -25,7 +25,7 @@ pub(crate) struct Runs {
 }
 
 impl Runs {
-    /// Takes the run, if there is one, to the effects.
+    /// Appends the run to the effects if it has bytes.
     fn close(&mut self, alloc: Global) -> Result<(), NoMemory>
         ensures { OnOk result ((self.new.effects.items
             ≡ self.old.effects.items ++ runs_from self.old.start self.old.run.items [])
@@ -34,7 +34,7 @@ impl Runs {
         if self.run.is_empty() {
             return Ok(());
         }
-        // A run begins where a find does, so its address always fits.
+        // A run begins at the address of a find, so its address always fits.
         let Ok(addr) = u32::try_from(self.start) else {
             return Err(NoMemory);
         };
@@ -46,7 +46,7 @@ impl Runs {
         Ok(())
     }
 
-    /// Takes the byte at an address to the run, or begins another.
+    /// Appends the byte at an address to the run, or begins another run.
     fn put(&mut self, alloc: Global, at: u64, byte: u8) -> Result<(), NoMemory>
         ensures { OnOk result ((later : List (ℕ × ℕ))
             → self.old.effects.items ++ runs_from self.old.start self.old.run.items ((at, byte) ∷ later)
@@ -60,7 +60,7 @@ impl Runs {
         Ok(())
     }
 
-    /// Takes what a slot for an address holds.
+    /// Takes the byte of a slot for an address, if there is one.
     fn put_slot(&mut self, alloc: Global, at: u64, slot: Option<u8>) -> Result<(), NoMemory>
         ensures { OnOk result ((slots : List (Option ℕ)) (later : List (ℕ × ℕ))
             → self.old.effects.items
@@ -75,7 +75,7 @@ impl Runs {
     }
 }
 
-/// Takes the bytes of slots that stand from an address on.
+/// Takes the bytes of slots for the addresses from `at` on.
 fn put_slots(
     runs: &mut Runs,
     alloc: Global,
@@ -105,7 +105,8 @@ fn put_group(runs: &mut Runs, alloc: Global, number: u32, slots: &Slots) -> Resu
     put_slots(runs, alloc, number as u64 * GROUP, &slots[..])
 }
 
-/// Takes the next group into the one before it where both have one number, else the bytes of that one.
+/// Merges the next group into the one before it if they have the same number; otherwise takes the bytes of that
+/// one.
 fn put_next(runs: &mut Runs, alloc: Global, group: &mut Group, next: &Group) -> Result<(), NoMemory>
     ensures { OnOk result ((later : List (ℕ × List (Option ℕ)))
         → runs.old.effects.items
@@ -122,7 +123,7 @@ fn put_next(runs: &mut Runs, alloc: Global, group: &mut Group, next: &Group) -> 
     Ok(())
 }
 
-/// Takes the bytes of a group and of those after it.
+/// Takes the bytes of a group and of the groups after it.
 fn put_groups(
     runs: &mut Runs,
     alloc: Global,
@@ -158,7 +159,7 @@ fn put_bytes(alloc: Global, effects: Vec<Effect>, groups: &[Group]) -> Result<Ve
     Ok(effects)
 }
 
-/// Appends entries.
+/// Appends the effects of table entries.
 fn put_entries(
     effects: &mut Vec<Effect>,
     entries: &BTreeMap<u32, Option<u32>>,
@@ -172,7 +173,7 @@ fn put_entries(
     Ok(())
 }
 
-/// Appends globals.
+/// Appends the effects of globals.
 fn put_globals(effects: &mut Vec<Effect>, globals: &BTreeMap<u32, Val>) -> Result<(), NoMemory>
     ensures all { OnOk result (effects.new.items ≡ effects.old.items ++ map global_effect globals.now.entries) }
     ensures ordered { IsOrdered nat_cmp globals.now }
@@ -183,10 +184,10 @@ fn put_globals(effects: &mut Vec<Effect>, globals: &BTreeMap<u32, Val>) -> Resul
     Ok(())
 }
 
-/// What is found first, as effects in order.
+/// What is found first, as effects in the order of a tape.
 ///
 /// # Errors
-/// Where an allocation failed.
+/// `NoMemory` if an allocation failed.
 pub(crate) fn effects_of(alloc: Global, firsts: &Firsts) -> Result<Effects, NoMemory>
     requires in_order { AreInOrder 0 firsts.now.bytes.items }
     ensures effects { IfOk result (λ effects. effects ≡ firsts_effects firsts.now) }

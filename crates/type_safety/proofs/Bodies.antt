@@ -1,10 +1,10 @@
--- What holds of each instruction of a body's list holds of those of its tree, and none of these is refused where
--- none of the list is.
+-- What holds of each instruction of a body's list holds of those of its tree, and no instruction of the tree is
+-- refused if no instruction of the list is.
 use Rattle.std.proofs.Common.{◌≡◌, ℕ, suc, zero, ◌+◌, List, [], ◌∷◌, ◌++◌, Option, Some, None, Bool, true, false, cond, option_map, slice_get, refl, sym, subst}
 use Rattle.std.specs.Prelude.{filter, filter_map, flat_map}
 use Rattle.std.specs.List.{AllByRecursion, enumerate_from, cons_option}
 use Rattle.std.proofs.lemmas.List.{append_assoc}
-use Rattle.list_laws.proofs.Lists.{nil_parts}
+use Rattle.base.proofs.Lists.{nil_parts}
 use Rattle.wasm_syntax.specs.declared.instructions.Instr.{Instr}
 use Rattle.wasm_syntax.specs.declared.instructions.Instr.TheVariants.{Else, End, Numeric}
 use Rattle.wasm_syntax.specs.declared.modules.Func.{Func}
@@ -12,7 +12,7 @@ use Rattle.wasm_syntax.specs.Nest.{Nest, Empty, Plain, InBlock, InLoop, InIf, In
 use Rattle.wasm_syntax.specs.Profile.{Unsupported, refused_feature, is_numbered, refused_in}
 use Rattle.type_safety.specs.Frames.{AllPlain, HasNoneRefused}
 
--- what holds of each instruction of a list holds of the plain ones of its tree, and of what comes after
+-- what holds of each instruction of a list holds of the plain ones of its tree, and of the instructions after it
 abbrev HoldsIn : (P : Instr → Type 0) → Nest → Type 0
 HoldsIn P t =
     (more : List Instr) → AllByRecursion P (flat t ++ more) → AllPlain P t × AllByRecursion P more
@@ -41,12 +41,12 @@ all_in_nest P (InIfElse ty body other rest) more h =
     let q = all_in_block P other rest (λ m g. all_in_nest P other m g) (λ m g. all_in_nest P rest m g) more p.1.1 in
     ((p.0, q.0.0, q.0.1), q.1)
 
--- so it is with a body
+-- what holds of each instruction of a body holds of the plain ones of its tree
 pub all_in_body : (P : Instr → Type 0) (t : Nest) (body : List Instr) → AllByRecursion P body → IsBody t body
     → AllPlain P t
 all_in_body P t body all is = (all_in_nest P t (End ∷ []) (subst (AllByRecursion P) (sym is.written) all)).0
 
--- none of a list is refused
+-- no instruction of the list is refused
 abbrev NoneIn : List Instr → Type 0
 NoneIn = AllByRecursion (λ i. refused_feature i ≡ None)
 
@@ -56,7 +56,7 @@ unnumbered End h = refl
 unnumbered (Numeric op) h = cc
 unnumbered i h = refl
 
--- an item of nothing
+-- if a list with an optional item in front is empty, the item and the rest are empty
 none_of : {X Y : Type 0} (f : X → Y) (o : Option X) (later : List Y) → cons_option (option_map f o) later ≡ []
     → (o ≡ None) × (later ≡ [])
 none_of f None later h = (refl, h)
@@ -88,7 +88,7 @@ none_in_body func start (i ∷ is) h = by (is_numbered i) refl (λ k g. none_in_
         (enumerate_from start (cond b (i ∷ filter is_numbered is) (filter is_numbered is))) ≡ []) e h in
         (unnumbered i e, later start own)
 
--- where no instruction of a module is refused, none of any function's is
+-- if no instruction of a module is refused, no instruction of any function is
 none_at : (start : ℕ) (funcs : List Func) (k : ℕ) (func : Func)
     → flat_map (λ (f : ℕ × Func). refused_in f.0 f.1) (enumerate_from start funcs) ≡ []
     → slice_get funcs k ≡ Some func → (index : ℕ) × (refused_in index func ≡ [])

@@ -1,5 +1,4 @@
--- What is known of a sequence, taken apart: of its first instruction, of the bodies of its first block, and of
--- the rest.
+-- The parts of what holds of a sequence: of its first instruction, of the bodies of its first block, and of the rest.
 use Rattle.std.proofs.Common.{◌≡◌, ℕ, suc, ◌+◌, ◌-◌, ◌<◌, List, [], ◌∷◌, ◌++◌, length, Option, None, cond, ap, ◌∙◌, subst, arith}
 use Rattle.std.specs.Prelude.{nat_lt, IsTrue}
 use Rattle.std.proofs.lemmas.Bool.{lt-ltb, le-ltb}
@@ -15,14 +14,14 @@ use Rattle.type_safety.specs.Heights.{height}
 
 -- ---- heights after the first instruction
 
--- one number on
+-- the heights after one instruction
 next_heights : (h whole : ℕ → ℕ) (k base count : ℕ) → ((j : ℕ) → j < 1 + count → h (k + j) ≡ base + whole j) → (j : ℕ)
     → j < count → h (k + 1 + j) ≡ base + whole (suc j)
 next_heights h whole k base count each j below =
     let moved : k + suc j ≡ k + 1 + j = omega arith in
     subst (λ x. h x ≡ base + whole (suc j)) moved (each (suc j) (omega arith))
 
--- within a block's body, and after it
+-- the heights within a block's body, and after it
 inner_heights : (h inner outer : ℕ → ℕ) (k base own count more : ℕ)
     → ((j : ℕ) → j < count + more → h (k + j) ≡ base + cond (nat_lt j count) (own + inner j) (outer (j - count)))
     → (j : ℕ) → j < count → h (k + j) ≡ base + own + inner j
@@ -60,7 +59,8 @@ module _ (s : Scope) (labels : List (List ValType)) (number base : ℕ) (before 
     },
   )
 
-  -- the body of a block, and what comes after the block, where the heights of both are those of the typings
+  -- the body of a block and the instructions after the block are typed, if the heights of both are those of the
+  -- typings
   block_parts : (inner : List (List ValType)) (body rest : Nest) (own : ℕ) (results given : List ValType)
       → (typed_body : IsTyped (context s inner) body [] results)
       (typed_rest : IsTyped (context s labels) rest given after)

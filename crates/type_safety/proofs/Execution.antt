@@ -28,7 +28,7 @@ chosen_place : (P : Place → Type 0) (bits : ℕ) (a b : Place) → P a → P b
 chosen_place P zero a b p q = q
 chosen_place P (suc n) a b p q = p
 
--- a missing `else`
+-- a missing `else` is an empty sequence
 empty_code : (s : Scope) (labels : List (List ValType)) (number base : ℕ) (results : List ValType) → [] ≡ results
     → IsCode s labels (place Empty number) base [] results
 empty_code s labels number base results none =
@@ -38,7 +38,7 @@ module _ (laws : ResultsFit) (s : Scope) (have : HaveTypes s) (one : length (all
     (is_store : IsStore s.m store) (frame : Frame) (labels : List (List ValType)) (given : List ValType)
     (around : IsAround s labels given frame) (types : List ValType)
     (values : AreValues (func_count s.m) types frame.values) where
-  -- a choice by the value on top between two bodies, of which both give the results of the block
+  -- a choice, by the topmost value, between two bodies that both give the results of the block
   choice_fine : (ty : Option ValType) (below : List ValType) (first second next : Place) → types ≡ I32 ∷ below
       → IsCode s (results_of ty ∷ labels) first (base_of frame.labels + length below) [] (results_of ty)
       → IsCode s (results_of ty ∷ labels) second (base_of frame.labels + length below) [] (results_of ty)

@@ -1,5 +1,4 @@
--- Instructions that are done in a well-typed activation, by what they do: they give results, enter blocks,
--- branch, and call.
+-- Instructions in a well-typed activation, by their effect: they give results, enter blocks, branch, and call.
 use Rattle.std.proofs.Common.{◌≡◌, ℕ, suc, zero, ◌+◌, List, [], ◌∷◌, ◌++◌, length, Option, Some, None, slice_get, refl, sym, ◌∙◌, subst}
 use Rattle.std.specs.Prelude.{reverse}
 use Rattle.std.proofs.lemmas.List.{reverse-reverse, length-reverse}
@@ -53,7 +52,7 @@ gives_fine s store frame next labels given types below operands rest results fou
   },
 )
 
--- it changes the store, or traps
+-- the instruction changes the store, or traps
 pub changes_fine : {X : Type 0} (s : Scope) (changed : X → Store) (frame : Frame) (next : Place)
     (labels : List (List ValType)) (given below : List ValType) (operands rest : List Val)
     (result : Option X → Execution) (o : Option X) → HasRule s (result None)
@@ -66,7 +65,7 @@ changes_fine s changed frame next labels given below operands rest result (Some 
     subst (HasRule s) (sym (same x))
     (gives_fine s (changed x) frame next labels given [] below operands rest [] None (stored x refl) around tt p code)
 
--- a plain instruction before values of types from which it leads on has a rule, whatever comes next
+-- a plain instruction with operands of its types has a rule, whatever comes next
 abbrev pub IsFine : (s : Scope) → Store → Frame → (labels : List (List ValType)) → (given : List ValType)
     → (next : Place) → Instr → Type 0
 IsFine s store frame labels given next i =
@@ -149,7 +148,7 @@ label_fine s store frame operands values blocks label labels taken given below u
     subst (λ k. HasRule s (to_label store frame operands (topmost k values) blocks label)) (sym count)
     (subst (λ o. HasRule s (to_label store frame operands o blocks label)) (sym t.taken) fine)
 
--- a label is there, and the values that it takes are on top
+-- the label exists, and the values that it takes are the topmost
 pub branch_fine : (s : Scope) (store : Store) (frame : Frame) (operands values : List Val) (blocks : List Label)
     (l : ℕ) (labels : List (List ValType)) (given taken below : List ValType)
     → IsStore s.m store

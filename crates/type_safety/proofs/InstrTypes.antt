@@ -1,4 +1,4 @@
--- What the type of an instruction says, taken apart.
+-- The parts of an instruction's type.
 use Rattle.std.proofs.Common.{◌≡◌, ℕ, List, ◌++◌, Option, Some, None, Bool, true, false, cond, option_map, option_and_then, refl, subst}
 use Rattle.wasm_syntax.specs.declared.values.ValType.{ValType}
 use Rattle.wasm_syntax.specs.declared.values.Val.{Val}
@@ -24,7 +24,7 @@ module _ (ctx : Context) (before after : List ValType) where
   cond_leads true ty h = (refl, h)
   cond_leads false ty h = absurd h
 
--- operands are on top, and what comes next goes on with the results in their place
+-- the operands are the topmost values, and the next instruction is typed with the results in their place
 pub record Ready (s : Scope) (labels : List (List ValType)) (given operands results : List ValType)
     (values : List Val) (next : Place) (base : ℕ) : Type 0 where
   pub below : List ValType

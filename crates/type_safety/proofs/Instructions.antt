@@ -1,13 +1,13 @@
--- Each instruction of a well-typed activation has a rule, and leads to what is well typed.
+-- Each instruction of a well-typed activation has a rule, and its result is well typed.
 use Rattle.std.proofs.Common.{◌≡◌, ℕ, suc, zero, ◌<◌, ◌≤◌, List, [], ◌∷◌, ◌++◌, length, Option, Some, None, Bool, true, false, slice_get, option_map, refl, sym, ap, ◌∙◌, subst, arith}
 use Rattle.std.specs.Prelude.{nat_lt, nat_eq, reverse, take, IfSome, slice_set, slice_index_or}
 use Rattle.std.specs.List.{list_any}
 use Rattle.std.proofs.lemmas.Bool.{ltb-true}
 use Rattle.std.proofs.lemmas.List.{reverse-append, take_at}
 use Rattle.std.proofs.lemmas.Option.{slice_get-map}
-use Rattle.list_laws.proofs.Lists.{all_at, all_or}
+use Rattle.base.proofs.Lists.{all_at, all_or}
 use Rattle.wasm_syntax.proofs.ValTypes.{signature_same}
-use Rattle.list_laws.proofs.Booleans.{and_parts}
+use Rattle.base.proofs.Booleans.{and_parts}
 use Rattle.wasm_syntax.specs.declared.values.ValType.{ValType}
 use Rattle.wasm_syntax.specs.declared.values.ValType.TheVariants.{I32, FuncRef}
 use Rattle.wasm_syntax.specs.declared.values.Val.{Val}
@@ -39,7 +39,7 @@ use Rattle.type_safety.proofs.Fine.{on_fine, takes_fine, gives_fine, caller_fine
 use Rattle.type_safety.proofs.TableAccesses.{table_set_fine, table_size_fine, table_grow_fine}
 use Rattle.type_safety.proofs.MemoryAccesses.{load_fine, store_fine, size_fine, grow_fine, copy_fine, fill_fine}
 
--- what is known of a module's functions: each has a type
+-- each function of the module has a type
 abbrev pub HaveTypes : Scope → Type 0
 HaveTypes s = (func : ℕ) → func < func_count s.m → (ty : FuncType) × (signature (code_of s.m) func ≡ Some ty)
 
@@ -74,7 +74,7 @@ module _ (laws : ResultsFit) (s : Scope) (have : HaveTypes s) (one : length (all
   around_others labels' given' blocks values at are =
       record { scope = around.scope; func = around.func; arity = around.arity; locals = around.locals; blocks = are }
 
-  -- with one local set
+  -- the activation with one local set
   around_local : (x : ℕ) (t : ValType) (value : Val) → slice_get (s.ty.params ++ s.body.locals) x ≡ Some t
       → IsValue n t value → IsAround s labels given (record frame { locals = slice_set frame.locals x value })
   around_local x t value there is = record {
@@ -85,7 +85,7 @@ module _ (laws : ResultsFit) (s : Scope) (have : HaveTypes s) (one : length (all
     blocks = around.blocks;
   }
 
-  -- it gives results in the store as it is
+  -- the instruction gives results and leaves the store unchanged
   give : (types below : List ValType) (operands rest results : List Val) → AreValues n types results
       → AreValues n below rest → IsNext (reverse types ++ below)
       → HasRule s (gives store frame next operands rest results)
@@ -157,7 +157,7 @@ module _ (laws : ResultsFit) (s : Scope) (have : HaveTypes s) (one : length (all
   computed_fine ty below operands rest (Undefined kind) p q code = tt
   computed_fine ty below operands rest Unsupported p q code = absurd p
 
-  -- ---- any one instruction that opens no block
+  -- ---- any instruction that opens no block
 
   abbrev Fine : Instr → Type 0
   Fine i = (before middle : List ValType) → AreValues n before frame.values

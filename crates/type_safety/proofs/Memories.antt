@@ -7,8 +7,8 @@ use Rattle.std.proofs.lemmas.Nat.{pow_pos}
 use Rattle.std.proofs.lemmas.Bool.{leb-true}
 use Rattle.std.proofs.lemmas.List.{length-append, length-take, length-drop, length-replicate}
 use Rattle.std.proofs.lemmas.List.Elements.{All-head, All-tail, All-cons, All-nil, All-append, All-take, All-drop, All-replicate}
-use Rattle.list_laws.proofs.Lists.{item_passes}
-use Rattle.list_laws.proofs.Booleans.{and_parts}
+use Rattle.base.proofs.Lists.{item_passes}
+use Rattle.base.proofs.Booleans.{and_parts}
 use Rattle.wasm_syntax.specs.declared.limits.TheConstants.{MOST_PAGES, PAGE_SIZE}
 use Rattle.host_script.specs.Supply.{is_within}
 use Rattle.wasm_syntax.specs.declared.values.ValType.{ValType}
@@ -27,9 +27,9 @@ use Rattle.type_safety.specs.Stores.{IsMemory, MayBeMemory, IsStore}
 abbrev pub AreBytes : List ℕ → Type 0
 AreBytes bytes = All (λ byte. byte < 256) bytes
 
--- ---- a memory that is there
+-- ---- a memory that exists
 
--- it is there, and it may be changed to another that is well typed where the first is
+-- the memory exists, and it may be changed to another that is well typed if the first is
 pub record MemoryThere (limits : List Limits) (o : Option Memory) : Type 0 where
   pub memory : Memory
   pub is : o ≡ Some memory
@@ -57,7 +57,7 @@ number_of_fits (b ∷ bs) all =
     let later : number_of bs < 256 ^ length bs = number_of_fits bs (All-tail (λ byte. byte < 256) b bs all) in
     omega (arith, pow-suc 256 (length bs))
 
--- a load's number is within the width of its type, and a store's bits are of a number
+-- a load's number is within the width of its type, and a store's bits are those of a number
 abbrev is_narrow : Access → Bool
 is_narrow access = is_number access.ty && nat_le (256 ^ access.width) (2 ^ bits_of access.ty)
 
@@ -152,7 +152,7 @@ memory_written limits memory new good all size = record {
   most = subst (λ k. k / PAGE_SIZE ≤ MOST_PAGES) (sym size) good.most;
 }
 
--- bytes in place of others in the memory leave a store that is well typed
+-- a store with bytes written in its memory is well typed
 pub store_written : (m : Module) (store : Store) → IsStore m store
     → (there : MemoryThere (all_memories m) store.memory) (to : ℕ) (news new : List ℕ) → AreBytes news
     → with_bytes_at there.memory.bytes to news ≡ Some new

@@ -1,4 +1,4 @@
--- The instructions on memory in a well-typed activation have rules, and lead to what is well typed.
+-- The instructions on memory in a well-typed activation have rules, and their results are well typed.
 use Rattle.std.proofs.Common.{◌≡◌, ℕ, ◌+◌, ◌%◌, ◌^◌, ◌<◌, List, [], ◌∷◌, Option, Some, None, option_and_then, refl, arith}
 use Rattle.std.specs.Prelude.{replicate}
 use Rattle.std.proofs.Math.Nat.{mod-lt}
@@ -36,7 +36,7 @@ module _ (s : Scope) (store : Store) (is_store : IsStore s.m store) (frame : Fra
   abbrev Fine : Instr → Type 0
   Fine = IsFine s store frame labels given next
 
-  -- ---- what they come to
+  -- ---- results
 
   loaded_fine : (memory : Memory) (access : Access) (below : List ValType) (operands rest : List Val)
       (bytes : Option (List ℕ))
@@ -175,7 +175,7 @@ module _ (s : Scope) (store : Store) (is_store : IsStore s.m store) (frame : Fra
         globals = is_store.globals;
       }) few of_rest r.code))
 
-  -- one that takes three numbers, by the bytes that it leaves
+  -- an instruction that takes three numbers, by the bytes that it leaves
   range_fine : (bytes : Memory → List Val → Option (List ℕ))
       → ((there : MemoryThere (all_memories s.m) store.memory) (operands : List Val) (new : List ℕ)
       → bytes there.memory operands ≡ Some new

@@ -1,12 +1,12 @@
--- The store that a valid module begins with is well typed, where what is supplied matches its imports.
+-- The store of a newly instantiated valid module is well typed, if the supply matches the module's imports.
 use Rattle.std.proofs.Common.{◌≡◌, ℕ, ◌+◌, ◌*◌, ◌/◌, ◌^◌, ◌<◌, ◌≤◌, List, [], ◌∷◌, ◌++◌, length, Option, Some, None, Ok, Bool, true, false, ◌&&◌, cond, map, option_map, slice_get, refl, sym, ap, ◌∙◌, subst, arith}
 use Rattle.std.specs.Prelude.{nat_le, fold, replicate, take, drop, unwrap_or, IsTrue, IfSome, All}
 use Rattle.std.proofs.lemmas.Bool.{leb-true, le-leb}
 use Rattle.std.proofs.lemmas.List.{map-append, length-append, length-take, length-drop, length-replicate, length-map}
 use Rattle.std.proofs.lemmas.List.Elements.{All-head, All-tail, All-append, All-take, All-drop, All-replicate, All-map}
 use Rattle.std.proofs.lemmas.Option.{slice_get-map}
-use Rattle.list_laws.proofs.Options.{and_then_some}
-use Rattle.list_laws.proofs.Booleans.{and_parts}
+use Rattle.base.proofs.Options.{and_then_some}
+use Rattle.base.proofs.Booleans.{and_parts}
 use Rattle.type_safety.proofs.Quantities.{small_memories, small_tables}
 use Rattle.wasm_syntax.specs.declared.limits.TheConstants.{MOST_ENTRIES, MOST_PAGES, PAGE_SIZE}
 use Rattle.wasm_syntax.specs.declared.values.ValType.{ValType}
@@ -43,7 +43,7 @@ pub single_is : (body : List Instr) (i : Instr) → single body ≡ Some i → b
 single_is (j ∷ End ∷ []) i h = let same : j ≡ i = cc in ap (λ k. k ∷ End ∷ []) same
 single_is body i h = cc
 
--- the type of an immutable global
+-- an immutable type is the type of its global
 pub immutable : (g : GlobalType) (ty : ValType) → immutable_type g ≡ Some ty → g.ty ≡ ty
 immutable g ty e = by g.mutable e
   where
@@ -91,7 +91,7 @@ own_within : (size range : ℕ) (max : Option ℕ) → IfSome max (λ most. (mos
 own_within size range None h = refl
 own_within size range (Some max) h = le-leb size max h.1
 
--- what supplied limits that match are
+-- the properties of supplied limits that match
 record Matched (most : ℕ) (given wanted : Limits) : Type 0 where
   least : wanted.min ≤ given.min
   within : is_within given.min given.max ≡ true
@@ -177,7 +177,7 @@ replaced_fits P items news at all more within = (
   ),
 )
 
--- each of a list of tests is passed
+-- each test of a list passes
 abbrev ArePassed : List Bool → Type 0
 ArePassed [] = Unit {0}
 ArePassed (b ∷ bs) = (b ≡ true) × ArePassed bs

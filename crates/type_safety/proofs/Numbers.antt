@@ -5,7 +5,7 @@ use Rattle.std.specs.Prelude.{nat_lt, nat_le, reverse}
 use Rattle.std.specs.List.{list_all}
 use Rattle.std.proofs.lemmas.Bool.{ltb-true, leb-true}
 use Rattle.wasm_syntax.proofs.ValTypes.{type_same, types_same}
-use Rattle.list_laws.proofs.Booleans.{and_parts, all_below, passes_below}
+use Rattle.base.proofs.Booleans.{and_parts, all_below, passes_below}
 use Rattle.wasm_syntax.specs.declared.values.ValType.{ValType}
 use Rattle.wasm_syntax.specs.declared.values.ValType.TheVariants.{I32, I64, F32, F64}
 use Rattle.wasm_syntax.specs.declared.values.Val.{Val}
@@ -18,7 +18,7 @@ use Rattle.wasm_numeric.specs.Opcode.{NumType, I32 as N32, I64 as N64, F32 as NF
 use Rattle.history_spec.specs.Numeric.{NumericValue, Computed, Undefined, Unsupported, of_binary, of_one, of_two, numeric_value}
 use Rattle.type_safety.specs.Values.{count_of, AreValues}
 
--- the law of the operations that the proofs below rest on
+-- the law of the results of operations, which the proofs below use
 pub record ResultsFit : Type 0 where
   pub test : (op a : ℕ) → test_of op a ≤ 1
   pub compare : (op a b : ℕ) → compare_of op a b ≤ 1
@@ -112,7 +112,7 @@ one_below N64 = omega arith
 one_below NF32 = omega arith
 one_below NF64 = omega arith
 
--- a value of the type, or a trap
+-- the result is a value of the type, or a trap
 abbrev pub IsNumber : ℕ → ValType → NumericValue → Type 0
 IsNumber n t (Computed bits) = bits < count_of n t
 IsNumber n t (Undefined kind) = Unit {0}
@@ -131,7 +131,7 @@ module _ (laws : ResultsFit) (n op : ℕ) where
   abbrev result : NumType
   result = (row_of op).result
 
-  -- of one operand, and of two, by kind
+  -- the results of operations with one operand and with two, by kind
   one_number : (k : Kind) → kind_of op ≡ k → (shape : Shape) → takes_one operand result shape ≡ true
       → ((a : ℕ) → a < 2 ^ width operand → IsNumber n (val_type result) (of_one k op a))
       → (operands : List Val) → AreValues n shape.operands operands

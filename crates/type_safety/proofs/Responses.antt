@@ -2,8 +2,8 @@
 use Rattle.std.proofs.Common.{◌≡◌, ℕ, suc, zero, List, [], ◌∷◌, ◌++◌, Option, Some, None, map, slice_get, option_and_then, refl, sym, ◌∙◌, subst, ap}
 use Rattle.std.specs.Prelude.{IfSome, All}
 use Rattle.std.specs.List.{AllZip}
-use Rattle.list_laws.proofs.Lists.{all_at}
-use Rattle.list_laws.proofs.Options.{and_then_some}
+use Rattle.base.proofs.Lists.{all_at}
+use Rattle.base.proofs.Options.{and_then_some}
 use Rattle.wasm_syntax.specs.declared.signatures.FuncType.{FuncType}
 use Rattle.wasm_syntax.specs.declared.modules.Module.{Module}
 use Rattle.wasm_syntax.specs.Index.{of_kind, func_import, func_indices}
@@ -13,8 +13,8 @@ use Rattle.host_script.specs.Fits.{FitsResponse, FitsAnswer, FitsImport, FitAnsw
 use Rattle.history_spec.specs.Code.{code_of, signature}
 use Rattle.history_spec.specs.Step.{response_or, response_of, response_to}
 
--- an item of the second of two lists whose items belong together has one of the first at its place, also where
--- others follow in the first
+-- an item of the second of two lists whose items belong together has one of the first at its place, even if the first
+-- list is longer
 zip_at : {A B : Type 0} (R : A → B → Type 0) (xs more : List A) (ys : List B) (i : ℕ) (y : B) → AllZip R xs ys
     → slice_get ys i ≡ Some y → (x : A) × (slice_get (xs ++ more) i ≡ Some x) × R x y
 zip_at R [] more [] i y all q = cc

@@ -1,4 +1,4 @@
--- Where control comes to the end of blocks and functions, settling ends at well-typed activations, or the run ends.
+-- If control reaches the end of blocks and functions, settling ends at well-typed activations, or the run ends.
 use Rattle.std.proofs.Common.{◌≡◌, ℕ, List, [], ◌∷◌, ◌++◌, length, refl, sym, ◌∙◌, subst, arith}
 use Rattle.std.specs.Prelude.{reverse}
 use Rattle.std.specs.Option.{option_to_list}
@@ -33,7 +33,7 @@ going_within (InIfElse ty body other rest) frame going = refl
 
 -- ---- leaving blocks
 
--- an activation's values, labels and place that are well typed; something comes next, or no block is open
+-- values, labels and place of an activation are well typed, and an instruction comes next or no block is open
 pub record IsPoint (s : Scope) (p : Point) : Type 0 where
   pub labels : List (List ValType)
   pub given : List ValType
@@ -85,9 +85,9 @@ leave_left (label ∷ blocks) values (InLoop ty body rest) number = tt
 leave_left (label ∷ blocks) values (InIf ty body rest) number = tt
 leave_left (label ∷ blocks) values (InIfElse ty body other rest) number = tt
 
--- ---- an activation that results come to
+-- ---- an activation with delivered results
 
--- with the results it is well typed
+-- an activation with the results that it awaits is well typed
 pub results_frame : (s : Scope) (awaited : List ValType) (frame : Frame) (results : List Val) → IsFrame s awaited frame
     → AreValues (func_count s.m) awaited results → IsFrame s [] (with_results frame results)
 results_frame s awaited frame results f p =
@@ -110,7 +110,7 @@ results_frame s awaited frame results f p =
       code = q.code;
     }
 
--- an activation stands before an instruction, or it is at its end with its results
+-- an activation is before an instruction, or it is at its end with its results
 abbrev pub IsEnd : Scope → Nest → AtEnd → Type 0
 IsEnd s rest Within = IsGoing rest
 IsEnd s rest (Gives results) = AreValues (func_count s.m) s.ty.results results
@@ -135,7 +135,7 @@ end_at s frame blocks (InLoop ty body rest) labels given types are p typed left 
 end_at s frame blocks (InIf ty body rest) labels given types are p typed left arity = tt
 end_at s frame blocks (InIfElse ty body other rest) labels given types are p typed left arity = tt
 
--- of an activation that waits for these results
+-- the end of an activation with the results that it awaits
 pub results_end : (s : Scope) (awaited : List ValType) (frame : Frame) (results : List Val) → IsFrame s awaited frame
     → AreValues (func_count s.m) awaited results
     → IsEnd s (with_results frame results).at.rest (at_end (with_results frame results))
@@ -145,9 +145,9 @@ results_end s awaited frame results f p =
     end_at s next next.labels next.at.rest g.labels g.given g.types g.around.blocks g.values g.code.typed
     (leave_left frame.labels (push_all results frame.values) frame.at.rest frame.at.number) g.around.arity
 
--- ---- a stack that results come to
+-- ---- a stack with delivered results
 
--- where settling ends, the activations there are well typed
+-- the activations at which settling ends are well typed
 abbrev pub IsSettleEnd : Module → Heights → SettleEnd → Type 0
 IsSettleEnd m heights (Continues stack) = Accept m heights stack [] × IsAtStep stack
 IsSettleEnd m heights (Finishes outcome) = Unit {0}

@@ -1,4 +1,4 @@
--- The values above an activation's base are as many as the typing gives.
+-- The number of values above an activation's base is the height by the typing.
 use Rattle.std.proofs.Common.{◌≡◌, ◌+◌, ◌<◌, List, [], ◌++◌, length, refl, sym, ap, ◌∙◌, subst, arith}
 use Rattle.std.specs.Prelude.{reverse}
 use Rattle.std.proofs.lemmas.List.{length-append, length-reverse}

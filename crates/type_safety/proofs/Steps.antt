@@ -1,4 +1,4 @@
--- A step of a well-typed configuration leads to a well-typed one, or the run is over.
+-- A step of a well-typed configuration leads to a well-typed one, or ends the run.
 use Rattle.std.proofs.Common.{◌≡◌, ℕ, ◌+◌, ◌<◌, ◌≤◌, List, [], ◌∷◌, length, Option, Some, None, Bool, true, false, refl, sym, ◌∙◌, subst, arith}
 use Rattle.std.specs.Prelude.{nat_lt, map, reverse, slice_set, slice_index}
 use Rattle.std.proofs.lemmas.Bool.{ltb-true, ltb-false}
@@ -116,7 +116,7 @@ module _ (laws : ResultsFit) (m : Module) (heights : Heights) (typed : IsTypedCo
 
   -- ---- a step of the module
 
-  -- an activation stays one of the same function
+  -- an activation remains one of the same function
   same_frame : (func : ℕ) (ty : FuncType) (body : Definition) (awaited : List ValType) (next : Frame)
       → IsFrame (scope m heights func ty body) awaited next → IsFrame (scope m heights next.func ty body) awaited next
   same_frame func ty body awaited next f =

@@ -1,4 +1,4 @@
--- What a script that fits a module supplies, where it links, matches the imports.
+-- The supply of a script that fits a module, if it links, matches the imports.
 use Rattle.std.proofs.Common.{◌≡◌, ℕ, ◌+◌, List, [], ◌∷◌, ◌++◌, length, Option, Some, None, Ok, Bool, true, false, map, option_and_then, slice_get, refl, sym, ap, ◌∙◌, subst, arith}
 use Rattle.std.specs.Prelude.{IsTrue, IfSome, All}
 use Rattle.std.specs.List.{cons_option}
@@ -46,7 +46,7 @@ get_middle [] x rest = refl
 get_middle (y ∷ before) x rest = get_middle before x rest
 
 module _ (script : Script) where
-  -- limits of one kind of import, for which one kind of limits is supplied
+  -- one kind of import, for which one kind of limits is supplied
   limits_given : (most : ℕ) (given : Option Limits) (of : ImportKind → Option Limits)
       → ((globals : ℕ) (kind : ImportKind) (wanted : Limits) → of kind ≡ Some wanted
       → import_match script globals kind ≡ match_of_limits most given wanted)
@@ -75,7 +75,7 @@ module _ (script : Script) where
   table_given globals (Table limits) wanted e = let same : limits ≡ wanted = cc in ap (match_of_limits MOST_ENTRIES script.table) same
   table_given globals kind wanted e = cc
 
-  -- the given values from a place on are those of the imported globals
+  -- the values from a place on are those of the imported globals
   abbrev AreGiven : ℕ → ℕ → List GlobalType → Type 0
   AreGiven n globals types =
       (before given : List (Option Val)) → script.globals ≡ before ++ given → length before ≡ globals
@@ -130,7 +130,7 @@ no_link_fault : (o : Option LinkFault) (made supply : Supply) → supply_unless 
 no_link_fault None made supply h = (refl, cc)
 no_link_fault (Some fault) made supply h = cc
 
--- what a script that fits supplies
+-- the supply of a script that fits matches the imports
 pub supply_fits : SuppliesMatch
 supply_fits m script supply fits is =
     let p = no_link_fault (first_fault script m.imports 0 0) (supply_for m script) supply is in

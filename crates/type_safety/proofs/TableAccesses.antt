@@ -1,4 +1,4 @@
--- The instructions on tables in a well-typed activation have rules, and lead to what is well typed.
+-- The instructions on tables in a well-typed activation have rules, and their results are well typed.
 use Rattle.std.proofs.Common.{◌≡◌, ℕ, suc, zero, ◌^◌, ◌<◌, ◌≤◌, List, [], ◌∷◌, length, Option, Some, None, true, slice_get, refl, arith}
 use Rattle.std.specs.Prelude.{is_some, IfSome}
 use Rattle.wasm_syntax.specs.declared.values.ValType.{ValType}
@@ -34,7 +34,7 @@ module _ (s : Scope) (one : length (all_tables s.m) ≤ 1) (store : Store) (is_s
   abbrev Fine : Instr → Type 0
   Fine = IsFine s store frame labels given next
 
-  -- ---- what they come to
+  -- ---- results
 
   entry_set_fine : (table : Table) (below : List ValType) (operands rest : List Val)
       (entries : Option (List (Option ℕ)))

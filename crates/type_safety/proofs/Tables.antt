@@ -4,7 +4,7 @@ use Rattle.std.specs.Prelude.{nat_le, nat_lt, replicate, is_some, IsTrue, IfSome
 use Rattle.std.proofs.lemmas.Bool.{leb-true}
 use Rattle.std.proofs.lemmas.List.{length-append, length-replicate, length-set}
 use Rattle.std.proofs.lemmas.List.Elements.{All-set, All-append, All-replicate}
-use Rattle.list_laws.proofs.Booleans.{and_parts}
+use Rattle.base.proofs.Booleans.{and_parts}
 use Rattle.wasm_syntax.specs.declared.limits.TheConstants.{MOST_ENTRIES}
 use Rattle.host_script.specs.Supply.{is_within}
 use Rattle.wasm_syntax.specs.declared.signatures.Limits.{Limits}
@@ -13,7 +13,7 @@ use Rattle.history_spec.specs.Instruction.{referent}
 use Rattle.type_safety.specs.Stores.{IsTable, MayBeTable}
 use Rattle.type_safety.proofs.Memories.{cond_some}
 
--- a table that is there, and that may be changed to another that is well typed where the first is
+-- the table exists, and it may be changed to another that is well typed if the first is
 pub record TableThere (n : ℕ) (limits : List Limits) (o : Option Table) : Type 0 where
   pub table : Table
   pub is : o ≡ Some table

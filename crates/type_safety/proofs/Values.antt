@@ -1,4 +1,4 @@
--- Lists of values of their types: parts, reversal, a look-up, and what operands are taken off.
+-- Lists of values of their types: parts, reversal, a look-up, and popped operands.
 use Rattle.std.proofs.Common.{◌≡◌, ℕ, suc, zero, ◌≤◌, List, [], ◌∷◌, ◌++◌, length, Some, None, true, cond, slice_get, refl, sym, ap, ◌∙◌, subst, arith, map}
 use Rattle.std.specs.Prelude.{reverse, take, drop, slice_set}
 use Rattle.std.proofs.lemmas.List.{reverse-append, reverse-reverse, length-reverse, length-append, take_at, drop_at}
@@ -22,7 +22,7 @@ append_values n [] us (v ∷ vs) ws p q = absurd p
 append_values n (t ∷ ts) us [] ws p q = absurd p
 append_values n (t ∷ ts) us (v ∷ vs) ws p q = (p.0, append_values n ts us vs ws p.1 q)
 
--- ---- the values that locals begin with
+-- ---- the initial values of locals
 
 pub zero_value : (n : ℕ) (t : ValType) → IsValue n t (zero_of t)
 zero_value n I32 = record { typed = refl; in_range = omega arith }
@@ -35,7 +35,7 @@ pub zero_values : (n : ℕ) (types : List ValType) → AreValues n types (map ze
 zero_values n [] = tt
 zero_values n (t ∷ types) = (zero_value n t, zero_values n types)
 
--- values on top of others
+-- the values split into the topmost ones and the rest
 pub record Split (n : ℕ) (ts us : List ValType) (values : List Val) : Type 0 where
   pub top : List Val
   pub rest : List Val

@@ -14,7 +14,7 @@ use Rattle.type_safety.specs.Stores.{func_count, IsStore}
 use Rattle.type_safety.specs.Heights.{Heights}
 use Rattle.type_safety.specs.Frames.{Scope, IsCode, IsFrame}
 
--- a function with its heights
+-- a function of a module with its heights
 abbrev pub scope : Module → Heights → ℕ → FuncType → Definition → Scope
 scope m heights func ty body =
     record { m = m; func = func; ty = ty; body = body; heights = heights func }
@@ -31,8 +31,8 @@ pub record IsImportCall (m : Module) (import : ℕ) (ty : FuncType) : Type 0 whe
   pub imported : import < imported_funcs m
   pub has_type : signature (code_of m) import ≡ Some ty
 
--- activations, the topmost first, that results of these types may come to, or none where there are no types: the
--- module awaits just these, the host drops any
+-- activations, the topmost first, that accept results of these types, or that go on without results if there are no
+-- types: the module accepts exactly these, the host any
 abbrev pub Accept : Module → Heights → List Activation → List ValType → Type 0
 Accept m heights [] results = ⊥
 Accept m heights (InModule frame ∷ below) results =
@@ -43,7 +43,7 @@ Accept m heights (InImport import args actions «end» ∷ below) results =
     (ty : FuncType) × IsImportCall m import ty × AreValues (func_count m) ty.params args
     × FitActions m ty.params actions × FitsEnd ty.results «end» × Accept m heights below ty.results
 
--- some instruction comes next
+-- the sequence begins with an instruction
 abbrev pub IsGoing : Nest → Type 0
 IsGoing Empty = ⊥
 IsGoing (Plain i rest) = Unit {0}
@@ -59,21 +59,21 @@ IsAtStep (InModule frame ∷ below) = IsGoing frame.at.rest
 IsAtStep (InMain actions ∷ below) = 0 < length actions
 IsAtStep (InImport import args actions «end» ∷ below) = 0 < length actions
 
--- a configuration from which a run goes on (Core 1.0, 7.5)
+-- a configuration from which a run goes on is well typed (Core 1.0, 7.5)
 pub record IsConfig (m : Module) (heights : Heights) (config : Config) : Type 0 where
   pub store : IsStore m config.store
   pub stack : Accept m heights config.stack []
   pub at_step : IsAtStep config.stack
   pub counts : length config.counts ≡ imported_funcs m
 
--- a run goes on from a well-typed configuration, or it is over, and not because no rule holds
+-- a run goes on from a well-typed configuration, or it is over and not stuck
 abbrev pub IsSafe : Module → Heights → Progress → Type 0
 IsSafe m heights (Running config) = IsConfig m heights config
 IsSafe m heights (Finished outcome) = Unit {0}
 IsSafe m heights (Faulted kind) = Unit {0}
 IsSafe m heights Stuck = ⊥
 
--- the module with answers of the host that fit it
+-- a program that consists of the module's code and answers of the host that fit the module
 pub record IsProgram (m : Module) (program : Program) : Type 0 where
   pub code : program.code ≡ code_of m
   pub answers : FitAnswers m program.answers

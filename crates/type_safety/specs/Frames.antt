@@ -15,8 +15,8 @@ use Rattle.type_safety.specs.Values.{AreValues}
 use Rattle.type_safety.specs.Stores.{func_count}
 use Rattle.type_safety.specs.Heights.{height}
 
--- a defined function of a module: its index, its type, its locals and body, and how many values stand
--- above an activation's base before each instruction, by its number
+-- a defined function of a module: its index, its type, its locals and body, and the number of values above an
+-- activation's base before each instruction, by the instruction's number
 pub record Scope : Type 0 where
   pub m : Module
   pub func : ℕ
@@ -24,7 +24,7 @@ pub record Scope : Type 0 where
   pub body : Definition
   pub heights : ℕ → ℕ
 
--- what is known in its body within blocks whose labels take these types
+-- the context of a function's body within blocks whose labels take these types
 abbrev pub context : Scope → List (List ValType) → Context
 context s labels = record {
   types = s.m.types;
@@ -38,7 +38,7 @@ context s labels = record {
   declared = declared_funcs s.m;
 }
 
--- each plain instruction of a sequence, within its blocks too
+-- a property of each plain instruction of a sequence, within its blocks too
 abbrev pub AllPlain : (Instr → Type 0) → Nest → Type 0
 AllPlain P Empty = Unit {0}
 AllPlain P (Plain i rest) = P i × AllPlain P rest
@@ -51,8 +51,8 @@ AllPlain P (InIfElse ty body other rest) = AllPlain P body × AllPlain P other �
 abbrev pub HasNoneRefused : Nest → Type 0
 HasNoneRefused = AllPlain (λ i. refused_feature i ≡ None)
 
--- what comes next within these labels, with `base` values below: it leads from values of some types to values of
--- others, no instruction is refused, and its heights are those of the function
+-- the next instructions within these labels, with `base` values below: they lead from values of some types to values
+-- of others, no instruction is refused, and the heights are those of the function
 pub record IsCode (s : Scope) (labels : List (List ValType)) (next : Place) (base : ℕ)
     (before after : List ValType) : Type 0 where
   pub typed : IsTyped (context s labels) next.rest before after
@@ -60,17 +60,17 @@ pub record IsCode (s : Scope) (labels : List (List ValType)) (next : Place) (bas
   pub heights : (k : ℕ) → k < size next.rest
       → s.heights (next.number + k) ≡ base + height (context s labels) next.rest before after typed k
 
--- how many values stand below the innermost block
+-- the number of values below the innermost block
 abbrev pub base_of : List Label → ℕ
 base_of [] = 0
 base_of (label ∷ labels) = base_of labels + length label.below
 
--- how many values stand above an activation's base
+-- the number of values above an activation's base
 abbrev pub height_of : Frame → ℕ
 height_of frame = base_of frame.labels + length frame.values
 
--- a label within others: a branch to it goes on with values of the types that it takes, the end of its block with
--- values of the types that the block gives, each on the values below
+-- a label within others: a branch to it goes on with values of the types that it takes, and the end of its block with
+-- values of the types that the block gives, both above the values below
 pub record IsLabel (s : Scope) (labels : List (List ValType)) (base : ℕ)
     (taken given below after : List ValType) (label : Label) : Type 0 where
   pub arity : label.arity ≡ length taken
@@ -78,7 +78,7 @@ pub record IsLabel (s : Scope) (labels : List (List ValType)) (base : ℕ)
   pub target : IsCode s labels label.target base (taken ++ below) after
   pub after_block : IsCode s labels label.after_block base (given ++ below) after
 
--- labels that take values of these types, where the innermost block gives values of others
+-- labels that take values of these types, if the innermost block gives values of others
 abbrev pub AreLabels : Scope → List (List ValType) → List ValType → List Label → Type 0
 AreLabels s [] given [] = given ≡ reverse s.ty.results
 AreLabels s [] given (label ∷ labels) = ⊥
@@ -87,12 +87,12 @@ AreLabels s (taken ∷ types) given (label ∷ labels) =
     (below after : List ValType)
     × IsLabel s types (base_of labels) taken given below after label × AreLabels s types after labels
 
--- the function is a defined one
+-- the scope is a defined function of its module
 pub record IsScope (s : Scope) : Type 0 where
   pub has_type : signature (code_of s.m) s.func ≡ Some s.ty
   pub defined : definition (code_of s.m) s.func ≡ Some s.body
 
--- an activation but for its values and what comes next
+-- an activation is well typed but for its values and its next instructions
 pub record IsAround (s : Scope) (labels : List (List ValType)) (given : List ValType) (frame : Frame) : Type 0 where
   pub scope : IsScope s
   pub func : frame.func ≡ s.func
@@ -100,7 +100,7 @@ pub record IsAround (s : Scope) (labels : List (List ValType)) (given : List Val
   pub locals : AreValues (func_count s.m) (s.ty.params ++ s.body.locals) frame.locals
   pub blocks : AreLabels s labels given frame.labels
 
--- an activation that waits for results of these types, or for none
+-- an activation that waits for results of these types, or goes on without results if there are no types, is well typed
 pub record IsFrame (s : Scope) (awaited : List ValType) (frame : Frame) : Type 0 where
   pub labels : List (List ValType)
   pub given : List ValType

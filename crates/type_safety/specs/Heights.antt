@@ -1,4 +1,4 @@
--- Static heights: how many values stand above an activation's base before each instruction.
+-- Static heights: the number of values above an activation's base before each instruction.
 use Rattle.std.specs.Prelude.{◌≡◌, ℕ, zero, suc, ◌+◌, ◌-◌, List, [], ◌++◌, length, reverse, Some, cond, nat_lt, slice_get}
 use Rattle.wasm_syntax.specs.declared.values.ValType.{ValType}
 use Rattle.wasm_syntax.specs.declared.modules.Func.{Func}
@@ -8,8 +8,8 @@ use Rattle.wasm_syntax.specs.Index.{imported_funcs}
 use Rattle.wasm_syntax.specs.Typing.{Context, results_of, inside, IsTyped}
 use Rattle.wasm_syntax.specs.Validity.{IsTypedFunc, body_context}
 
--- how many values a typing gives before the instruction of this number of a sequence, counted from 0, above
--- what stands below the sequence
+-- the number of values that a typing gives before an instruction of a sequence, by the instruction's number, counted
+-- from 0, without the values below the sequence
 abbrev pub height : (ctx : Context) (nest : Nest) (before after : List ValType) → IsTyped ctx nest before after → ℕ → ℕ
 height ctx Empty before after typed number = length before
 height ctx (Plain i rest) before after typed zero = length before
@@ -41,14 +41,14 @@ height ctx (InIfElse ty body other rest) before after typed (suc number) =
 abbrev pub Heights : Type 0
 Heights = (func number : ℕ) → ℕ
 
--- a function has a typing that gives these heights
+-- a function has a typing with these heights
 pub record IsTypedWith (m : Module) (heights : ℕ → ℕ) (f : Func) : Type 0 where
   pub typed : IsTypedFunc m f
   pub same : (number : ℕ)
       → heights number
       ≡ height (body_context m typed.ty f) typed.nest [] (reverse typed.ty.results) typed.typed number
 
--- each defined function has a typing that gives its heights
+-- each defined function has a typing with its heights
 abbrev pub AreHeights : Module → Heights → Type 0
 AreHeights m heights =
     (place : ℕ) (f : Func)

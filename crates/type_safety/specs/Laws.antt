@@ -36,24 +36,24 @@ use Rattle.type_safety.specs.Values.{AreValues}
 abbrev pub ValidCodeHasHeights : Type 0
 ValidCodeHasHeights = (m : Module) → IsValid m → (heights : Heights) × AreHeights m heights
 
--- with any such heights its code is typed
+-- the code of a valid module is typed with any heights of its functions' typings
 abbrev pub ValidCodeIsTyped : Type 0
 ValidCodeIsTyped =
     (m : Module) (heights : Heights) → IsValid m → IsSupported m → AreHeights m heights → IsTypedCode m heights
 
 -- ---- stores
 
--- what a script that fits supplies matches the imports, where it links
+-- the supply of a script that fits, if it links, matches the imports
 abbrev pub SuppliesMatch : Type 0
 SuppliesMatch =
     (m : Module) (script : Script) (supply : Supply)
     → Fits m script → supply_of m script ≡ Ok supply → IsSupply m supply
 
--- nothing matches no imports
+-- the empty supply matches a module without imports
 abbrev pub NothingMatchesNoImports : Type 0
 NothingMatchesNoImports = (m : Module) → m.imports ≡ [] → IsSupply m alone
 
--- a store that a module begins with is well typed
+-- the store of a newly instantiated module is well typed
 abbrev pub NewStoresAreTyped : Type 0
 NewStoresAreTyped =
     (m : Module) (supply : Supply) (store : Store)
@@ -61,7 +61,7 @@ NewStoresAreTyped =
 
 -- ---- one step
 
--- there is a rule for the next instruction of a well-typed activation, and what it leads to is well typed
+-- the next instruction of a well-typed activation has a rule, and its result is well typed
 abbrev pub InstructionsHaveRules : Type 0
 InstructionsHaveRules =
     (m : Module) (heights : Heights) (store : Store) (frame : Frame) (ty : FuncType) (body : Definition)
@@ -69,7 +69,7 @@ InstructionsHaveRules =
     → IsGoing frame.at.rest
     → HasRule (scope m heights frame.func ty body) (execute (code_of m) store frame)
 
--- an action of the host that fits is done or fails for a named cause, and what it leads to is well typed
+-- an action of the host that fits succeeds or fails for a named cause, and its result is well typed
 abbrev pub FittingActionsHaveResults : Type 0
 FittingActionsHaveResults =
     (m : Module) (heights : Heights) (store : Store) (params : List ValType) (args : List Val) (action : Action)
@@ -83,7 +83,7 @@ StartsAreSafe =
     → IsValid m → IsTypedCode m heights → IsProgram m program → IsStore m store → FitActions m [] main
     → IsSafe m heights (start program m.start store (replicate (imported_funcs m) 0) main).next
 
--- so is a call of a defined function with arguments of its types
+-- a call of a defined function with arguments of its types is safe
 abbrev pub CallsAreSafe : Type 0
 CallsAreSafe =
     (m : Module) (heights : Heights) (store : Store) (counts : List ℕ)
@@ -93,7 +93,7 @@ CallsAreSafe =
     → Accept m heights stack ty.results
     → IsSafe m heights (enter_function (code_of m) store counts func args stack).next
 
--- so are results that come to activations which await them
+-- a delivery of results to activations that await them is safe
 abbrev pub ResultsAreSafe : Type 0
 ResultsAreSafe =
     (m : Module) (heights : Heights) (store : Store) (counts : List ℕ)
@@ -102,7 +102,7 @@ ResultsAreSafe =
     → Accept m heights stack types → AreValues (func_count m) types results
     → IsSafe m heights (after_settling store counts (deliver stack results)).next
 
--- so is a step
+-- a step of a well-typed configuration is safe
 abbrev pub StepsAreSafe : Type 0
 StepsAreSafe =
     (m : Module) (heights : Heights) (program : Program) (config : Config)
@@ -111,14 +111,15 @@ StepsAreSafe =
 
 -- ---- whole runs
 
--- each configuration that a run comes to is well typed, of a module under a script that fits it
+-- each configuration that a run of a module under a script that fits it reaches is well typed
 abbrev pub RunsAreSafe : Type 0
 RunsAreSafe =
     (m : Module) (heights : Heights) (script : Script) (initial : StepResult)
     → IsRunnable m → IsTypedCode m heights → Fits m script → run_start m script ≡ Ok initial
     → (meter : Meter) (count : ℕ) → IsSafe m heights (run_from (program_of m script) meter initial count).at
 
--- and of a module without imports whose function without parameters is called
+-- each configuration that a run of a module without imports reaches is well typed, if it calls a function without
+-- parameters
 abbrev pub RunsAloneAreSafe : Type 0
 RunsAloneAreSafe =
     (m : Module) (heights : Heights) (entry : ℕ) (ty : FuncType) (initial : StepResult)
@@ -126,13 +127,14 @@ RunsAloneAreSafe =
     → run_start_alone m entry ≡ Ok initial
     → (meter : Meter) (count : ℕ) → IsSafe m heights (run_from (program_alone m) meter initial count).at
 
--- no such run is ever stuck
+-- a run of a module under a script that fits it is never stuck
 abbrev pub RunsAreNeverStuck : Type 0
 RunsAreNeverStuck =
     (m : Module) (script : Script) (initial : StepResult)
     → IsRunnable m → Fits m script → run_start m script ≡ Ok initial
     → (meter : Meter) (count : ℕ) → (run_from (program_of m script) meter initial count).at ≢ Stuck
 
+-- a run of a module without imports, which calls a function without parameters, is never stuck
 abbrev pub RunsAloneAreNeverStuck : Type 0
 RunsAloneAreNeverStuck =
     (m : Module) (entry : ℕ) (ty : FuncType) (initial : StepResult)
@@ -142,14 +144,15 @@ RunsAloneAreNeverStuck =
 
 -- ---- heights
 
--- before an instruction that control reaches, as many values stand above the base as the typing gives
+-- before an instruction that control reaches, the number of values above the base is the height by the typing
 abbrev pub HeightsAtSteps : Type 0
 HeightsAtSteps =
     (m : Module) (heights : Heights) (config : Config) (frame : Frame) (below : List Activation)
     → IsConfig m heights config → config.stack ≡ InModule frame ∷ below
     → height_of frame ≡ heights frame.func frame.at.number
 
--- so do they in an activation that waits for the results of a call, with these
+-- in an activation that waits for the results of a call, the number of values above the base, with these results, is
+-- the height by the typing
 abbrev pub HeightsAtCalls : Type 0
 HeightsAtCalls =
     (m : Module) (heights : Heights) (frame : Frame) (below : List Activation) (results : List ValType)

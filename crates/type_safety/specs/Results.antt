@@ -1,4 +1,4 @@
--- What an instruction and an action of the host lead to, where they are done in what is well typed.
+-- The results of instructions and of actions of the host in well-typed configurations.
 use Rattle.std.specs.Prelude.{◌≡◌, ◌≤◌, [], Some}
 use Rattle.wasm_syntax.specs.declared.signatures.FuncType.{FuncType}
 use Rattle.wasm_syntax.specs.declared.modules.Module.{Module}
@@ -19,14 +19,14 @@ IsControl s (Calls frame func args) =
     × IsFrame s ty.results frame × AreValues (func_count s.m) ty.params args
 IsControl s (Returns results) = AreValues (func_count s.m) s.ty.results results
 
--- there is a rule for an instruction, and what it leads to is well typed
+-- an instruction has a rule, and its result is well typed
 abbrev pub HasRule : Scope → Execution → Type 0
 HasRule s (Did operands results found control) = IsControl s control
 HasRule s (Traps kind operands found) = Unit {0}
 HasRule s NoRule = ⊥
 
--- an action leaves a well-typed store; or it calls a defined function with arguments of its types; or it fails
--- for a named cause
+-- an action leaves a well-typed store; or it calls a defined function with arguments of its types; or it fails for a
+-- named cause
 abbrev pub IsActionResult : Module → ActionResult → Type 0
 IsActionResult m (Changes store) = IsStore m store
 IsActionResult m (Enters func args) =

@@ -9,7 +9,7 @@ use Rattle.wasm_syntax.specs.Index.{func_indices, all_tables, all_memories, all_
 use Rattle.history_spec.specs.Store.{Memory, Table, Store, pages}
 use Rattle.type_safety.specs.Values.{AreValues}
 
--- how many functions a module has
+-- the number of functions of a module
 abbrev pub func_count : Module → ℕ
 func_count m = length (func_indices m)
 
@@ -28,14 +28,14 @@ pub record IsTable (funcs : ℕ) (limits : Limits) (table : Table) : Type 0 wher
   pub within : IsTrue (is_within (length table.entries) table.max)
   pub most : length table.entries ≤ MOST_ENTRIES
 
--- a memory is there exactly where the module has one
+-- a memory exists if and only if the module has one, and it is well typed
 abbrev pub MayBeMemory : List Limits → Option Memory → Type 0
 MayBeMemory [] None = Unit {0}
 MayBeMemory [] (Some memory) = ⊥
 MayBeMemory (limits ∷ more) None = ⊥
 MayBeMemory (limits ∷ more) (Some memory) = IsMemory limits memory
 
--- a table is there exactly where the module has one
+-- a table exists if and only if the module has one, and it is well typed
 abbrev pub MayBeTable : ℕ → List Limits → Option Table → Type 0
 MayBeTable funcs [] None = Unit {0}
 MayBeTable funcs [] (Some table) = ⊥
@@ -46,7 +46,7 @@ MayBeTable funcs (limits ∷ more) (Some table) = IsTable funcs limits table
 abbrev pub global_types : Module → List ValType
 global_types m = map (λ global. global.ty) (all_globals m)
 
--- the store of a module (Core 1.0, 7.5, "Store Validity")
+-- a store is well typed for a module (Core 1.0, 7.5, "Store Validity")
 pub record IsStore (m : Module) (store : Store) : Type 0 where
   pub memory : MayBeMemory (all_memories m) store.memory
   pub table : MayBeTable (func_count m) (all_tables m) store.table

@@ -21,13 +21,13 @@ pub record IsRunnable (m : Module) : Type 0 where
   pub supported : IsSupported m
   pub bytes : HasBytes m
 
--- limits are supplied where there is an import, and match the first one
+-- limits are supplied if there is an import, and match the first one
 abbrev pub Match : ℕ → List Limits → Option Limits → Type 0
 Match most [] supplied = Unit {0}
 Match most (wanted ∷ more) None = ⊥
 Match most (wanted ∷ more) (Some given) = IsTrue (limits_match most given wanted)
 
--- what is supplied matches the imports, each global by its type
+-- a supply matches the imports, each global by its type
 pub record IsSupply (m : Module) (supply : Supply) : Type 0 where
   pub memory : Match MOST_PAGES (of_kind memory_import m.imports) supply.memory
   pub table : Match MOST_ENTRIES (of_kind table_import m.imports) supply.table

@@ -5,7 +5,7 @@ use Rattle.wasm_syntax.specs.declared.values.ValType.{ValType}
 use Rattle.wasm_syntax.specs.declared.values.ValType.TheVariants.{I32, I64, F32, F64, FuncRef}
 use Rattle.wasm_syntax.specs.declared.values.Val.{Val}
 
--- how many values a type has, given the number of functions: a reference is to none or to one of them
+-- the number of values of a type, given the number of functions: a reference is null or refers to one of the functions
 abbrev pub count_of : (funcs : ℕ) → ValType → ℕ
 count_of funcs I32 = 2 ^ 32
 count_of funcs I64 = 2 ^ 64

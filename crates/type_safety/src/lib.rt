@@ -1,6 +1,5 @@
-//! Type safety: a valid module under a script that fits it never gets stuck (Core 1.0, appendix 7.5).
-//! Each function is a law about the definitions, whose statement stands in `specs/Laws.antt`; it does
-//! nothing.
+//! Type safety: a valid module under a script that fits it never gets stuck (Core 1.0, appendix 7.5). Each function is
+//! a law about the definitions, whose statement is in `specs/Laws.antt`; it does nothing.
 #![tactic(auto)]
 
 ghost use Rattle.type_safety.specs.Laws.{CallsAreSafe, FittingActionsHaveResults, HeightsAtCalls, HeightsAtSteps, InstructionsHaveRules, NewStoresAreTyped, NothingMatchesNoImports, ResultsAreSafe, RunsAloneAreNeverStuck, RunsAloneAreSafe, RunsAreNeverStuck, RunsAreSafe, StartsAreSafe, StepsAreSafe, SuppliesMatch, ValidCodeHasHeights, ValidCodeIsTyped};
@@ -14,16 +13,16 @@ pub fn typed_code()
     ensures code { ValidCodeIsTyped }
 {}
 
-/// What a script that fits supplies matches the imports, where it links; and a store that a module
-/// begins with is well typed (Core 1.0, 4.5.4).
+/// The supply of a script that fits, if it links, matches the imports; and the store of a newly instantiated
+/// module is well typed (Core 1.0, 4.5.4).
 pub fn typed_store()
     ensures supplied { SuppliesMatch }
     ensures alone { NothingMatchesNoImports }
     ensures store { NewStoresAreTyped }
 {}
 
-/// There is a rule for the next instruction of a well-typed activation, and an action of the host
-/// that fits is done or fails for a named cause; what they lead to is well typed.
+/// The next instruction of a well-typed activation has a rule, and an action of the host that fits succeeds or fails
+/// for a named cause; their results are well typed.
 pub fn rules_hold()
     ensures instructions { InstructionsHaveRules }
     ensures actions { FittingActionsHaveResults }
@@ -31,9 +30,9 @@ pub fn rules_hold()
     values_fit();
 }
 
-/// The start of a run, a call of a defined function with arguments of its types, results that come to
-/// activations which await them, and a step lead to a well-typed configuration, or the run is over by
-/// an outcome or by a fault of the script.
+/// The start of a run, a call of a defined function with arguments of its types, a delivery of results to activations
+/// that await them, and a step lead to a well-typed configuration, or the run is over by an outcome or by a fault of
+/// the script.
 pub fn safe_steps()
     ensures starts { StartsAreSafe }
     ensures calls { CallsAreSafe }
@@ -43,7 +42,7 @@ pub fn safe_steps()
     values_fit();
 }
 
-/// Each configuration that a run comes to is well typed, under any meter: of a module under a script
+/// Each configuration that a run reaches is well typed, under any meter: in a run of a module under a script
 /// that fits it, and of a module without imports whose function without parameters is called.
 pub fn safe_runs()
     ensures scripted { RunsAreSafe }
@@ -52,7 +51,7 @@ pub fn safe_runs()
     values_fit();
 }
 
-/// No such run is ever stuck.
+/// No run of a module under a script that fits it, and no run of a module alone, is ever stuck.
 pub fn never_stuck()
     ensures scripted { RunsAreNeverStuck }
     ensures alone { RunsAloneAreNeverStuck }
@@ -60,8 +59,8 @@ pub fn never_stuck()
     values_fit();
 }
 
-/// Before each instruction that control reaches, as many values stand above the activation's base as
-/// the typing gives; of an activation that waits for the results of a call, with these.
+/// Before each instruction that control reaches, the number of values above the activation's base is the height by the
+/// typing; in an activation that waits for the results of a call, with these results.
 pub fn static_heights()
     ensures standing { HeightsAtSteps }
     ensures waiting { HeightsAtCalls }

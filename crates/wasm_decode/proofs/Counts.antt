@@ -1,4 +1,4 @@
--- How many locals runs are of.
+-- The number of locals of runs.
 use Rattle.std.proofs.Common.{ℕ, List}
 use Rattle.std.specs.Prelude.{sum_by}
 use Rattle.wasm_syntax.specs.declared.modules.Run.{Run}

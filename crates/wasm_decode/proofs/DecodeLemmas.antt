@@ -1,4 +1,4 @@
--- What decoding answers, by the grammar, from what it answers by the plain program.
+-- The result of decoding, by the grammar, from its result by the plain program.
 use Rattle.std.proofs.Common.{◌≡◌, ℕ, ◌<◌, ◌⊎◌, List, length, All, Some, Result, Ok, Err, ap, sym, ◌∙◌, subst, inl, inr, refl}
 use Rattle.std.specs.Prelude.{IfOk, IfErr}
 use Rattle.std.proofs.lemmas.Option.{none-some, same_Some}
@@ -8,7 +8,7 @@ use Rattle.wasm_syntax.specs.declared.modules.Module.{Module}
 use Rattle.wasm_syntax.specs.Encoding.Forms.{IsCoreModule}
 use Rattle.wasm_syntax.specs.Encoding.Modules.{Encodes, IsFaultPlace}
 use Rattle.wasm_syntax.specs.Encoding.ReadModules.{fault_place, read_module}
-use Rattle.encoding_sizes.specs.Within.{HasListsWithin, ListsAreWithinEncoding}
+use Rattle.wasm_syntax.specs.ListsWithin.{HasListsWithin, ListsAreWithinEncoding}
 use Rattle.wasm_decode.specs.DecodeResults.{IsRead, IsFaultOf}
 use Rattle.wasm_decode.specs.declared.modules.DecodeFault.{DecodeFault}
 use Rattle.wasm_decode.specs.declared.modules.DecodeFault.TheVariants.{Malformed, Memory}

@@ -1,5 +1,5 @@
 -- What a draft holds after sections in lawful order is what the sections hold: since each kind comes at most once,
--- its list may be put in place of the one that was there, which is empty.
+-- its list may replace the one in the draft, which is empty.
 use Rattle.std.proofs.Common.{◌≡◌, ℕ, ◌<◌, ◌≤◌, ◌≢◌, ◌⊎◌, List, [], ◌∷◌, ◌++◌, Option, Some, None, refl, ap, sym, ◌∙◌, inl, inr, append_assoc, append-nil, arith}
 use Rattle.std.specs.Prelude.{flat_map, option_map, option_to_list}
 use Rattle.std.proofs.lemmas.Bool.{cases_lt}
@@ -9,7 +9,7 @@ use Rattle.wasm_syntax.specs.Encoding.ReadModules.{first_of, funcs_of, module_of
 use Rattle.wasm_decode.specs.declared.draft.Draft.{Draft}
 use Rattle.wasm_decode.specs.Drafts.{empty_draft, draft_with, draft_with_all, module_of_draft}
 
--- a section is of this kind, and its list is put in place; or it is of another, and nothing is
+-- a section of this kind replaces the list, and a section of another kind leaves it
 abbrev IsPart : {A : Type 0} → ℕ → (Draft → List A) → (Section → List A) → Type 0
 IsPart id get held =
     (section : Section) (draft : Draft)
@@ -21,7 +21,7 @@ order_cases : (last : ℕ) (section : Section) (rest : List Section) → AreInOr
 order_cases last (CustomSection custom) rest h = inl (refl, h)
 order_cases last section rest h = inr h
 
--- where the kind can't come any more
+-- if a section of the kind can no longer come
 after : {A : Type 0} (id : ℕ) (get : Draft → List A) (held : Section → List A) → IsPart id get held → 0 < id
     → (last : ℕ) (sections : List Section) → id ≤ last → AreInOrder last sections
     → (draft : Draft) → (get (draft_with_all sections draft) ≡ get draft) × (flat_map held sections ≡ [])
@@ -43,7 +43,7 @@ after id get held part some last (section ∷ rest) past order draft =
       | inr kept ↦ (h.0 ∙ kept.1, ap (λ items. items ++ flat_map held rest) kept.2 ∙ h.1)
     ]
 
--- where it may come still
+-- if a section of the kind may still come
 upto : {A : Type 0} (id : ℕ) (get : Draft → List A) (held : Section → List A) → IsPart id get held → 0 < id
     → (last : ℕ) (sections : List Section) → last < id → AreInOrder last sections
     → (draft : Draft) → get draft ≡ [] → get (draft_with_all sections draft) ≡ flat_map held sections
@@ -73,7 +73,7 @@ upto id get held part some last (section ∷ rest) before order draft empty =
         → get (draft_with_all rest (draft_with section draft)) ≡ held section ++ flat_map held rest
     later none h = h ∙ sym (ap (λ items. items ++ flat_map held rest) none)
 
--- custom sections stand after one another
+-- custom sections come one after another
 customs : (sections : List Section) (draft : Draft)
     → (draft_with_all sections draft).parts.customs ≡ draft.parts.customs ++ flat_map customs_in sections
 customs [] draft = sym (append-nil draft.parts.customs)

@@ -5,7 +5,7 @@ use Rattle.wasm_syntax.specs.declared.modules.Func.{Func}
 use Rattle.wasm_syntax.specs.Encoding.Sections.{Code}
 use Rattle.wasm_syntax.specs.Encoding.ReadModules.{funcs_of}
 
--- these functions, and those of what is left
+-- these functions, followed by those made of the rest
 abbrev pub with_front : List Func → List ℕ → List Code → Option (List Func)
 with_front front types codes = option_map (λ others. front ++ others) (funcs_of types codes)
 

@@ -10,7 +10,7 @@ use Rattle.wasm_syntax.specs.Encoding.ReadModules.{first_section, last_after, wi
 use Rattle.wasm_decode.specs.declared.draft.Draft.{Draft}
 use Rattle.wasm_decode.specs.Drafts.{draft_with, draft_with_read}
 
--- by its id alone: whether a section may come, and the last id after it
+-- whether a section may come, and the last id after it, by its id alone
 pub by_id : (last : ℕ) (section : Section)
     → last_after last section
     ≡ cond (nat_eq (id_of section) 0) (Some last) (cond (nat_lt last (id_of section)) (Some (id_of section)) None)
@@ -50,7 +50,7 @@ module _ (form : Form) where
   unfolding next_section
   may_come last bytes next e = last_of last (first_section form bytes) next e
 
-  -- the next section, by what stands at the front of the bytes
+  -- the next section, by the front of the bytes
   pub none_is_next : (last : ℕ) (bytes : List ℕ) → first_section form bytes ≡ None → None ≡ next_section form last bytes
   unfolding next_section
   none_is_next last bytes e = sym (ap (option_and_then (with_last last)) e)
@@ -82,7 +82,7 @@ module _ (form : Form) where
       by_front last bytes rest section (Some (id_of section)) e
       (by_id last section ∙ rw (ne_eqb (id_of section) 0 other, lt-ltb last (id_of section) later) refl)
 
-  -- what is read is in order
+  -- the sections that are read are in lawful order
   pub read_in_order : (most last : ℕ) (bytes : List ℕ) → AreInOrder last (lawful_sections form most last bytes).0
   unfolding lawful_sections
   read_in_order zero last bytes = tt
@@ -99,7 +99,7 @@ module _ (form : Form) where
           in_order_after last next.1 next.0 (lawful_sections form most next.1 next.2).0 (may_come last bytes next e)
           (further next.1 next.2)
 
-  -- where no section comes, nothing more is read
+  -- if no section comes, nothing more is read
   pub ends : (most last : ℕ) (bytes : List ℕ) → next_section form last bytes ≡ None
       → lawful_sections form most last bytes ≡ ([], bytes)
   unfolding lawful_sections
@@ -115,7 +115,7 @@ module _ (form : Form) where
       ap (λ (o : Option (Section × ℕ × List ℕ)). elim o as (λ x. List Section × List ℕ)
       [ None ↦ ([], bytes) | Some next ↦ with_section next.0 (lawful_sections form most next.1 next.2) ]) e
 
-  -- what will be read from here, put into the draft, is what is read in all
+  -- the sections that will be read from here, put into the draft, give the draft of all
   abbrev pub Stands : Draft × List ℕ → ℕ → ℕ → List ℕ → Draft → Type 0
   Stands all most last bytes draft =
       (length bytes ≤ most) × (draft_with_read draft (lawful_sections form most last bytes) ≡ all)

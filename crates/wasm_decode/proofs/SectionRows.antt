@@ -2,7 +2,7 @@
 use Rattle.std.proofs.Common.{◌≡◌, ℕ, ◌<◌, List, [], ◌∷◌, Option, Some, None, Bool, true, false, cond, nat_eq, refl, sym, ap, ◌∙◌, subst, arith}
 use Rattle.std.specs.Prelude.{Result, option_and_then, nat_le, ◌&&◌}
 use Rattle.std.proofs.lemmas.Bool.Decides.{nat_tests}
-use Rattle.wasm_opcodes.specs.declared.marks.TheConstants.{SECTION_ELEMENT, SECTION_CODE, SECTION_DATA}
+use Rattle.base.specs.declared.marks.TheConstants.{SECTION_ELEMENT, SECTION_CODE, SECTION_DATA}
 use Rattle.wasm_syntax.specs.declared.forms.Form.{Form}
 use Rattle.wasm_syntax.specs.Encoding.Combinators.{Reader, Rows, row_at, first_sized, first_vector, map_read, whole}
 use Rattle.wasm_syntax.specs.Encoding.Readers.{first_code, first_elem}

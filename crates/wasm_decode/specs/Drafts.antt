@@ -25,15 +25,15 @@ section_of (read.Element elems) = ElementSection elems
 section_of (read.Code codes) = CodeSection codes
 section_of (read.Data datas) = DataSection datas
 
--- what is there before any section
+-- the draft before any section
 abbrev pub empty_draft : Draft
 empty_draft = record { parts = empty_module; functions = []; codes = [] }
 
--- with other parts beside the functions
+-- a draft with other parts beside the functions
 abbrev with_parts : Draft → Module → Draft
 with_parts draft parts = record draft { parts = parts }
 
--- with a section: a custom one after the others, any other in its place
+-- a draft with one more section: a custom one after the others, any other in its place
 abbrev pub draft_with : grammar.Section → Draft → Draft
 draft_with (CustomSection custom) draft =
     with_parts draft (record draft.parts { customs = draft.parts.customs ++ custom ∷ [] })
@@ -49,18 +49,18 @@ draft_with (ElementSection elems) draft = with_parts draft (record draft.parts {
 draft_with (CodeSection codes) draft = record draft { codes = codes }
 draft_with (DataSection datas) draft = with_parts draft (record draft.parts { datas = datas })
 
--- with sections, one after another
+-- a draft with sections, one after another
 abbrev pub draft_with_all : List grammar.Section → Draft → Draft
 draft_with_all [] draft = draft
 draft_with_all (section ∷ sections) draft = draft_with_all sections (draft_with section draft)
 
--- the module of a draft; none where the functions and the code sections differ in number
+-- the module of a draft with these functions
 abbrev pub module_from : Draft → List Func → Module
 module_from draft funcs = record draft.parts { funcs = funcs }
 
 abbrev pub module_of_draft : Draft → Option Module
 module_of_draft draft = option_map (module_from draft) (funcs_of draft.functions draft.codes)
 
--- with sections that were read, and what is left after them
+-- a draft with sections that were read, and the bytes that are left after them
 abbrev pub draft_with_read : Draft → List grammar.Section × List ℕ → Draft × List ℕ
 draft_with_read draft read = (draft_with_all read.0 draft, read.1)

@@ -38,7 +38,7 @@ impl CodeItem {
     }
 }
 
-/// The locals and the body of a function, in as many bytes as their size says.
+/// The locals and the body of a function, in as many bytes as their size.
 #[tactic(auto, unfolding(wasm_syntax::specs::Encoding::Readers::first_code))]
 pub(crate) fn first_code(alloc: Global, form: Form, bytes: &[u8]) -> Read<'_, CodeItem>
     ensures { Gives (λ read. (read.0, read.1.now)) result (first_code form bytes.now) }

@@ -6,14 +6,14 @@ ghost use Rattle.wasm_decode.specs.Drafts.{module_of_draft, empty_draft, draft_w
 use crate::code::CodeItem;
 use crate::funcs::funcs_of;
 use crate::sections::Section;
-use no_memory::NoMemory;
+use base::NoMemory;
 use std::alloc::Global;
 use wasm_syntax::{Indices, List, Module};
 
 /// What the sections that were read so far hold.
 #[derive(Drop)]
 pub(crate) struct Draft {
-    /// What is there but for the functions.
+    /// All of the module but the functions.
     pub(crate) parts: Module,
     /// The types of functions, by their indices.
     pub(crate) functions: Indices,
@@ -21,7 +21,7 @@ pub(crate) struct Draft {
 }
 
 impl Draft {
-    /// What is there before any section. Takes no memory.
+    /// The draft before any section. Takes no memory.
     pub(crate) fn new(alloc: Global) -> Draft
         ensures { result ≡ empty_draft }
     {
@@ -32,7 +32,7 @@ impl Draft {
         }
     }
 
-    /// With a section: a custom one after the others, any other in its place, which was empty.
+    /// This draft with one more section: a custom one after the others, any other in its place, which was empty.
     pub(crate) fn with(mut self, section: Section) -> Result<Draft, NoMemory>
         ensures { IfOk result (λ draft. draft ≡ draft_with (section_of section) self) }
     {
@@ -53,7 +53,7 @@ impl Draft {
         Ok(self)
     }
 
-    /// The module; none where the function and the code section differ in number (Core 1.0,
+    /// The module; None if the function and the code section differ in number (Core 1.0,
     /// 5.5.15).
     pub(crate) fn finish(self, alloc: Global) -> Result<Option<Module>, NoMemory>
         ensures { IfOk result (λ m. m ≡ module_of_draft self) }

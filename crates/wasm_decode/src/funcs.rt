@@ -1,14 +1,14 @@
-// Functions, put together of what two sections hold of them.
+// Functions, made of what two sections hold of them.
 
 ghost use Rattle.std.specs.Prelude.{◌≡◌, IfOk};
 ghost use Rattle.wasm_syntax.specs.Encoding.ReadModules.{funcs_of};
 
 use crate::code::CodeItem;
-use no_memory::NoMemory;
+use base::NoMemory;
 use std::alloc::Global;
 use wasm_syntax::{Func, Funcs, Indices, List};
 
-/// The functions of these types with these locals and bodies; none where the two lists differ in
+/// The functions of these types with these locals and bodies; None if the two lists differ in
 /// length (Core 1.0, 5.5.15).
 pub(crate) fn funcs_of(
     alloc: Global,

@@ -7,21 +7,21 @@ ghost use Rattle.wasm_syntax.specs.Encoding.Readers.{first_indices, first_instr,
 ghost use Rattle.wasm_syntax.specs.declared.forms.Form.TheVariants.{Core, Replay};
 ghost use Rattle.wasm_syntax.specs.declared.instructions.Instr.TheVariants.{BrTable};
 ghost use Rattle.leb_bytes.specs.ReadResults.{Gives};
-ghost use Rattle.wasm_opcodes.specs.declared.TheConstants.{BR, ELSE, END, F64_CONST, GLOBAL_SET, I32_LOAD, I64_EXTEND32_S, LOCAL_GET, MEMORY_COPY, MEMORY_FILL, MEMORY_SIZE, PREFIX, SELECT, TABLE_SET};
+ghost use Rattle.base.specs.declared.opcodes.TheConstants.{BR, ELSE, END, F64_CONST, GLOBAL_SET, I32_LOAD, I64_EXTEND32_S, LOCAL_GET, MEMORY_COPY, MEMORY_FILL, MEMORY_SIZE, PREFIX, SELECT, TABLE_SET};
 
 use crate::types::first_block_type;
 use crate::values::{Read, first_byte, first_f32, first_f64, first_i32, first_i64, first_u32};
 use crate::vectors::first_vector;
-use leb_bytes::Unread;
-use std::alloc::Global;
-use wasm_opcodes::marks::TYPE_FUNCREF;
-use wasm_opcodes::{
+use base::marks::TYPE_FUNCREF;
+use base::opcodes::{
     BLOCK, BR, BR_IF, BR_TABLE, CALL, CALL_INDIRECT, DROP, ELSE, END, F32_CONST, F64_CONST,
     GLOBAL_GET, GLOBAL_SET, I32_CONST, I32_EQZ, I32_LOAD, I32_STORE, I64_CONST, I64_EXTEND32_S,
     I64_LOAD32_U, I64_STORE32, IF, LOCAL_GET, LOCAL_SET, LOCAL_TEE, LOOP, MEMORY_COPY, MEMORY_FILL,
     MEMORY_GROW, MEMORY_SIZE, NOP, PREFIX, REF_FUNC, REF_NULL, RETURN, SELECT, TABLE_GROW,
     TABLE_SET, TABLE_SIZE, UNREACHABLE,
 };
+use leb_bytes::Unread;
+use std::alloc::Global;
 use wasm_syntax::{Form, Instr, MemArg, Val, ValType};
 
 // The opcodes between those of `else` and `end`, which no instruction has.
@@ -258,7 +258,7 @@ fn no_core_instr(op: u8, bytes: &[u8]) -> Read<'_, Instr>
     Err(Unread::NotThere)
 }
 
-/// The instruction of an opcode after those of the numeric instructions, in the replay form; none of the prefix.
+/// The instruction of an opcode after those of the numeric instructions, in the replay form, without the prefix.
 fn reference_instr(op: u8, bytes: &[u8]) -> Read<'_, Instr>
     requires late { I64_EXTEND32_S < op }
     requires plain { op ≢ PREFIX }
@@ -335,7 +335,7 @@ fn constant(ty: ValType, bits: u64) -> Instr
     Instr::Const(Val { ty, bits })
 }
 
-/// What comes after this byte, where it comes first.
+/// What comes after this byte, if it comes first.
 fn rest_after(byte: u8, bytes: &[u8]) -> Result<&[u8], Unread>
     ensures { Gives (λ rest. (tt, rest.now)) result (first_exactly (byte ∷ []) bytes.now) }
 {
@@ -346,7 +346,7 @@ fn rest_after(byte: u8, bytes: &[u8]) -> Result<&[u8], Unread>
     Ok(rest)
 }
 
-/// What comes after the two bytes that end `memory.copy`, where they come first.
+/// What comes after the two bytes that end `memory.copy`, if they come first.
 fn rest_after_two(bytes: &[u8]) -> Result<&[u8], Unread>
     ensures { Gives (λ rest. (tt, rest.now)) result (first_exactly (0x00 ∷ 0x00 ∷ []) bytes.now) }
 {

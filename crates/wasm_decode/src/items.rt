@@ -6,23 +6,23 @@ ghost use Rattle.wasm_syntax.specs.Encoding.Readers.{first_indices, first_import
 ghost use Rattle.wasm_syntax.specs.declared.modules.ElemSeg.TheVariants.{Declared};
 ghost use Rattle.wasm_syntax.specs.Encoding.ReadModules.{custom_of};
 ghost use Rattle.leb_bytes.specs.ReadResults.{Gives};
-ghost use Rattle.wasm_opcodes.specs.declared.marks.TheConstants.{ELEMENT_FUNCS};
+ghost use Rattle.base.specs.declared.marks.TheConstants.{ELEMENT_FUNCS};
 
 use crate::expressions::first_expr;
 use crate::types::{first_global_type, first_limits, first_table_type};
 use crate::values::{Read, copy_of, first_byte, first_bytes, first_name, first_sized, first_u32};
 use crate::vectors::first_vector;
-use leb_bytes::Unread;
-use std::alloc::Global;
-use wasm_opcodes::marks::{
+use base::marks::{
     ELEMENT_DECLARED, ELEMENT_FUNCS, EXTERNAL_FUNC, EXTERNAL_GLOBAL, EXTERNAL_MEMORY,
     EXTERNAL_TABLE,
 };
+use leb_bytes::Unread;
+use std::alloc::Global;
 use wasm_syntax::{
     Custom, DataSeg, ElemSeg, Export, ExportKind, Form, Global as GlobalItem, Import, ImportKind,
 };
 
-/// The number that a declared segment begins with, in place of its table.
+/// The number that a declared segment begins with, instead of its table.
 const DECLARED: u32 = ELEMENT_DECLARED as u32;
 
 /// What an import brings in (Core 1.0, 5.5.5).
@@ -175,7 +175,7 @@ fn custom_of(alloc: Global, bytes: &[u8]) -> Result<Custom, Unread>
     Ok(Custom { name, bytes })
 }
 
-/// A custom section, in as many bytes as its size says.
+/// A custom section, in as many bytes as its size.
 pub(crate) fn first_custom(alloc: Global, bytes: &[u8]) -> Read<'_, Custom>
     ensures { Gives (λ read. (read.0, read.1.now)) result (first_sized custom_of bytes.now) }
 {

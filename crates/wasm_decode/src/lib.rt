@@ -10,12 +10,8 @@ mod items;
 mod kinds;
 mod locals;
 mod modules;
-#[cfg(test)]
-mod reader_tests;
 mod section_contents;
 mod sections;
-#[cfg(test)]
-mod tests;
 mod types;
 mod values;
 mod vectors;

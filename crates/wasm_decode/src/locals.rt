@@ -8,12 +8,12 @@ ghost use Rattle.leb_bytes.specs.ReadResults.{Gives};
 use crate::types::first_val_type;
 use crate::values::{Read, first_u32};
 use crate::vectors::first_vector;
+use base::NoMemory;
 use leb_bytes::Unread;
-use no_memory::NoMemory;
 use std::alloc::Global;
 use wasm_syntax::{Form, Run, Runs, ValType};
 
-/// So many locals of a type.
+/// A run of locals of one type.
 #[tactic(auto, unfolding(wasm_syntax::specs::Encoding::Readers::first_run))]
 pub(crate) fn first_run(bytes: &[u8]) -> Read<'_, Run>
     ensures { Gives (λ read. (read.0, read.1.now)) result (first_run bytes.now) }
@@ -23,7 +23,7 @@ pub(crate) fn first_run(bytes: &[u8]) -> Read<'_, Run>
     Ok((Run { count, ty }, rest))
 }
 
-/// The locals of a function, fewer than 2^32, in runs without those of none and with neighbours of
+/// The locals of a function, fewer than 2^32, in runs without empty ones and with neighbours of
 /// one type joined.
 #[tactic(auto, unfolding(wasm_syntax::specs::Encoding::Readers::first_locals))]
 pub(crate) fn first_locals(alloc: Global, form: Form, bytes: &[u8]) -> Read<'_, Runs>
@@ -36,7 +36,7 @@ pub(crate) fn first_locals(alloc: Global, form: Form, bytes: &[u8]) -> Read<'_, 
     Ok((runs_of(alloc, written.as_slice())?, rest))
 }
 
-/// Whether the runs are of fewer than 2^32 locals.
+/// Whether the runs have fewer than 2^32 locals.
 fn are_few(runs: &[Run]) -> bool
     ensures { result ≡ nat_lt (sum_by (λ run. run.count) runs.now) (2 ^ 32) }
 {
@@ -50,13 +50,13 @@ fn are_few(runs: &[Run]) -> bool
     true
 }
 
-/// The runs without those of none, and neighbours of one type joined.
+/// The runs without empty ones, and neighbours of one type joined.
 fn runs_of(alloc: Global, written: &[Run]) -> Result<Runs, NoMemory>
     requires { sum_by (λ run. run.count) written.now < 2 ^ 32 }
     ensures { IfOk result (λ runs. runs ≡ runs_of written.now) }
 {
     let mut runs = Vec::new(alloc);
-    // The run that may still grow; one of none before the first.
+    // The run that may still grow; an empty one before the first.
     let mut last = Run {
         count: 0,
         ty: ValType::I32,
@@ -70,7 +70,7 @@ fn runs_of(alloc: Global, written: &[Run]) -> Result<Runs, NoMemory>
     Ok(Runs::from_vec(runs))
 }
 
-/// The run that may still grow once another one comes; where that one can't be joined, the last one
+/// The run that may still grow once another one comes; if that one cannot be joined, the last one
 /// is put after the runs.
 fn joined(runs: &mut Vec<Run>, last: Run, run: Run) -> Result<Run, NoMemory>
     requires { last.count + run.count < 2 ^ 32 }

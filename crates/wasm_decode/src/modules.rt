@@ -6,22 +6,24 @@ ghost use Rattle.wasm_syntax.specs.Encoding.Modules.{Encodes};
 ghost use Rattle.wasm_syntax.specs.Encoding.ReadModules.{lawful_sections};
 ghost use Rattle.wasm_syntax.specs.declared.forms.Form.TheVariants.{Core};
 ghost use Rattle.wasm_syntax.specs.declared.modules.Module.{Module};
-ghost use Rattle.encoding_sizes.specs.Within.{HasListsWithin};
+ghost use Rattle.wasm_syntax.specs.ListsWithin.{HasListsWithin};
 ghost use Rattle.wasm_decode.specs.DecodeResults.{IsRead, IsFaultOf};
 ghost use Rattle.wasm_decode.specs.Drafts.{empty_draft, draft_with_read};
 
 use crate::draft::Draft;
 use crate::sections::next_section;
-use encoding_sizes::lists_of_encoding;
-use no_memory::NoMemory;
+use base::NoMemory;
 use std::alloc::Global;
 use thiserror::Error;
-use wasm_syntax::{Form, Module, encoding_forms, fault_places, module_encoding, shortest_encoding};
+use wasm_syntax::{
+    Form, Module, encoding_forms, fault_places, lists_of_encoding, module_encoding,
+    shortest_encoding,
+};
 
 /// Why bytes were not decoded.
 #[derive(Clone, Copy, PartialEq, Eq, Debug, Error)]
 pub enum DecodeFault {
-    /// The bytes encode no module of the form. `at` is 0 where they do not begin with the preamble;
+    /// The bytes encode no module of the form. `at` is 0 if they do not begin with the preamble;
     /// else it is the length, in bytes, of their longest front that is the preamble and whole
     /// sections in lawful order.
     #[error("malformed at {at}")]
@@ -38,24 +40,24 @@ const PREAMBLE: [u8; 8] = [0x00, 0x61, 0x73, 0x6d, 0x01, 0x00, 0x00, 0x00];
 ///
 /// # Errors
 ///
-/// `Malformed` where the bytes encode no module of the form, and there alone, with the place of the
-/// fault; `Memory` where memory runs out.
+/// `Malformed` if the bytes encode no module of the form, and only then, with the place of the
+/// fault; `Memory` if memory runs out.
 pub fn decode(alloc: Global, bytes: &[u8], form: Form) -> Result<Module, DecodeFault>
     // What is decoded is encoded by the bytes.
     ensures found { IfOk result (λ m. Encodes form bytes.now m) }
     // What the bytes encode is decoded, unless memory runs out.
     ensures only { (m : Module) → Encodes form bytes.now m
         → (result ≡ Ok m) ⊎ (result ≡ Err DecodeFault.Memory) }
-    // Where they are malformed, they encode no module of the form, and `at` is the place of the fault.
+    // If they are malformed, they encode no module of the form, and `at` is the place of the fault.
     ensures fault { IfErr result (λ fault. IsFaultOf form bytes.now fault) }
-    // What is decoded in the form Core is of it.
+    // A module that is decoded in the form Core is of that form.
     ensures core { IfOk result (λ m. form ≡ Core → IsCoreModule m) }
     // Data segments hold bytes.
     ensures bytes { IfOk result (λ m. All (λ segment. All (λ byte. byte < 256) segment.bytes) m.datas) }
-    // No list of it is longer than the bytes.
+    // No list of the module is longer than the bytes.
     ensures within { IfOk result (λ m. HasListsWithin (length bytes.now) m) }
 {
-    // What the plain program of the grammar and of the place of a fault answers, and what holds of
+    // What the plain program of the grammar and of the place of a fault gives, and what holds of
     // each module that bytes encode.
     module_encoding();
     fault_places();

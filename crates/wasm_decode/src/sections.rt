@@ -13,13 +13,13 @@ use crate::section_contents::{
     first_memory_section, first_start_section, first_table_section, first_type_section,
 };
 use crate::values::{Read, first_byte};
-use leb_bytes::{Unread, u32_encoding};
-use no_memory::NoMemory;
-use std::alloc::Global;
-use wasm_opcodes::marks::{
+use base::NoMemory;
+use base::marks::{
     SECTION_CODE, SECTION_CUSTOM, SECTION_DATA, SECTION_ELEMENT, SECTION_EXPORT, SECTION_FUNCTION,
     SECTION_GLOBAL, SECTION_IMPORT, SECTION_MEMORY, SECTION_START, SECTION_TABLE, SECTION_TYPE,
 };
+use leb_bytes::{Unread, u32_encoding};
+use std::alloc::Global;
 use wasm_syntax::{
     Custom, DataSegs, ElemSegs, Exports, Form, FuncTypes, Globals, Imports, Indices, LimitsList,
     List,
@@ -43,7 +43,7 @@ pub(crate) enum Section {
 }
 
 impl Section {
-    /// Its id (Core 1.0, 5.5.2).
+    /// The id of this section (Core 1.0, 5.5.2).
     fn id(&self) -> u8
         ensures { result ≡ id_of (section_of self.now) }
     {
@@ -87,9 +87,9 @@ fn first_section(alloc: Global, form: Form, bytes: &[u8]) -> Read<'_, Section>
     }
 }
 
-/// The next section after one of id `last`, or after the preamble where that is 0; with it the id
-/// that is the last one from then on, and the bytes that are left. None where no whole section comes,
-/// or none that may stand there (Core 1.0, 5.5.15).
+/// The next section after one of id `last`, or after the preamble if that is 0; with it the id
+/// that is the last one from then on, and the bytes that are left. None if no whole section comes,
+/// or one that may not be there (Core 1.0, 5.5.15).
 pub(crate) fn next_section(
     alloc: Global,
     form: Form,
@@ -100,7 +100,7 @@ pub(crate) fn next_section(
         option_map (λ it. (section_of it.0, it.1, it.2.now)) next ≡ next_section form last bytes.now) }
     ensures shorter { IfOk result (λ next. IfSome next (λ it. length it.2.now < length bytes.now)) }
 {
-    // A size is a number of a byte at least, so each section shortens the bytes.
+    // A size is a number of at least one byte, so each section shortens the bytes.
     u32_encoding();
     let (section, rest) = match first_section(alloc, form, bytes) {
         Ok(read) => read,

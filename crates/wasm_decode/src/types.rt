@@ -5,12 +5,12 @@ ghost use Rattle.leb_bytes.specs.ReadResults.{Gives};
 
 use crate::values::{Read, first_byte, first_u32};
 use crate::vectors::first_vector;
-use leb_bytes::Unread;
-use std::alloc::Global;
-use wasm_opcodes::marks::{
+use base::marks::{
     LIMITS_MIN, LIMITS_MIN_MAX, MUTABILITY_CONST, MUTABILITY_VAR, TYPE_EMPTY, TYPE_F32, TYPE_F64,
     TYPE_FUNC, TYPE_FUNCREF, TYPE_I32, TYPE_I64,
 };
+use leb_bytes::Unread;
+use std::alloc::Global;
 use wasm_syntax::{Form, FuncType, GlobalType, Limits, ValType};
 
 /// A value type (Core 1.0, 5.3.1).

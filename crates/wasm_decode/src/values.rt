@@ -9,8 +9,8 @@ ghost use Rattle.wasm_syntax.specs.Encoding.Readers.{first_f32, first_f64, first
 ghost use Rattle.leb_bytes.specs.ReadResults.{Gives};
 ghost use Rattle.leb_bytes.specs.declared.unread.Unread.TheVariants.{NotThere};
 
+use base::NoMemory;
 use leb_bytes::{Unread, read_i32, read_i64, read_u32};
-use no_memory::NoMemory;
 use std::alloc::Global;
 use std::str::from_utf8;
 use wasm_syntax::{Bytes, Name};
@@ -88,7 +88,7 @@ pub(crate) fn first_f64(bytes: &[u8]) -> Read<'_, u64>
     }
 }
 
-/// As many bytes as the u32 at their front says, as they are.
+/// As many bytes as the u32 at their front gives, as they are.
 pub(crate) fn first_sized(bytes: &[u8]) -> Read<'_, &[u8]>
     ensures { Gives (λ read. (read.0.now, read.1.now)) result (first_sized Some bytes.now) }
 {

@@ -1,4 +1,4 @@
--- How many bytes the shortest encodings of numbers have.
+-- The number of bytes of the shortest encodings of numbers.
 use Rattle.std.proofs.Common.{◌≡◌, ℕ, zero, suc, ◌+◌, ◌-◌, ◌/◌, ◌%◌, ◌<◌, ◌≤◌, ◌^◌, Bool, true, false, List, [], ◌∷◌, length, refl, ap, inl, inr, arith}
 use Rattle.std.specs.Prelude.{ℤ, pos, negsuc, nat_lt, if◌then◌else◌}
 use Rattle.std.proofs.lemmas.Bool.{cases_lt}
@@ -23,7 +23,7 @@ count_most (suc more) last n = elim (cases_lt n last) [
   | inr large ↦ omega (arith, count_grows more last n large, count_most more last (n / 2 ^ 7))
 ]
 
--- a byte more, where one ends not and there may be another
+-- one byte more, if a number does not end with this byte and there may be another
 pub count_next : (count most last left all : ℕ) → count < most → last ≤ left
     → count + byte_count (most - count) last left ≡ all
     → (count + 1) + byte_count (most - (count + 1)) last (left / 2 ^ 7) ≡ all
@@ -35,7 +35,7 @@ count_next count most last left all room large so_far =
 
 -- ---- numbers
 
--- one byte, or one before others
+-- the count of one byte, or of one byte before others
 counted : (is_last : Bool) (last first : ℕ) (rest : List ℕ) (count : ℕ) → length rest ≡ count
     → length (if is_last then last ∷ [] else (first ∷ rest)) ≡ (if is_last then 1 else suc count)
 counted true last first rest count is = refl

@@ -1,5 +1,4 @@
 mod InstructionLemmas
 mod LengthLemmas
 mod ModuleLemmas
-mod TwoAnswers
 mod VectorLemmas

@@ -5,7 +5,7 @@ use Rattle.std.proofs.lemmas.Grind.{flat_map-append}
 use Rattle.std.proofs.lemmas.List.{length-append, length-map}
 use Rattle.std.proofs.lemmas.List.Folds.{flat_map-map}
 use Rattle.leb_bytes.specs.Unsigned.{u32_bytes}
-use Rattle.wasm_opcodes.specs.declared.marks.TheConstants.{SECTION_TYPE, SECTION_IMPORT, SECTION_FUNCTION, SECTION_TABLE, SECTION_MEMORY, SECTION_GLOBAL, SECTION_EXPORT, SECTION_ELEMENT, SECTION_CODE, SECTION_DATA}
+use Rattle.base.specs.declared.marks.TheConstants.{SECTION_TYPE, SECTION_IMPORT, SECTION_FUNCTION, SECTION_TABLE, SECTION_MEMORY, SECTION_GLOBAL, SECTION_EXPORT, SECTION_ELEMENT, SECTION_CODE, SECTION_DATA}
 use Rattle.wasm_encode.specs.Parts.{declarations_of, definitions_of}
 use Rattle.wasm_encode.specs.Vectors.{start_section, vector_section}
 use Rattle.wasm_syntax.specs.Encoding.Modules.{code_of, preamble}
@@ -18,7 +18,7 @@ use Rattle.wasm_syntax.specs.declared.modules.Module.{Module}
 abbrev all_bytes : List Section → List ℕ
 all_bytes = flat_map section_bytes
 
--- the section of a list, where it isn't empty
+-- the section of a list, if it is not empty
 listed : {A : Type 0} (make : List A → Section) (id : ℕ) (write : A → List ℕ)
     → ((xs : List A) → section_bytes (make xs) ≡ id ∷ sized_bytes (vector_bytes write xs))
     → (xs : List A) → all_bytes (unless_empty make xs) ≡ vector_section id write xs
@@ -70,7 +70,7 @@ all_listed = record {
   datas = listed DataSection SECTION_DATA data_bytes (λ xs. refl);
 }
 
--- the same of a section that holds a part of each item
+-- what is written of each section that holds a part of each item
 part_listed : {A B : Type 0} (make : List B → Section) (id : ℕ) (write : B → List ℕ) → IsListed make id write
     → (part : A → B) (xs : List A)
     → all_bytes (unless_empty make (map part xs)) ≡ vector_section id (λ x. write (part x)) xs
@@ -107,7 +107,7 @@ encoding_parts m =
     (vector_section SECTION_TABLE table_type_bytes m.tables)
     (vector_section SECTION_MEMORY limits_bytes m.memories) _)
 
--- what was appended of a list was appended of an equal one
+-- what was appended for a list was appended for an equal one
 pub of_equal : {A : Type 0} (write : List A → List ℕ) (out new : List ℕ) (xs ys : List A) → xs ≡ ys
     → new ≡ out ++ write xs → new ≡ out ++ write ys
 of_equal write out new xs ys same h = h ∙ ap (λ zs. out ++ write zs) same

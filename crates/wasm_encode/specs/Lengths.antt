@@ -1,7 +1,7 @@
 -- Lengths in 64 bits.
 use Rattle.std.specs.Prelude.{ℕ, zero, suc, ◌-◌, ◌/◌, ◌^◌, min, ℤ, pos, negsuc, nat_lt, if◌then◌else◌}
 
--- the length, or the greatest number of 64 bits where it is greater
+-- the length, or the greatest number of 64 bits if it is greater
 abbrev pub at_most_u64 : ℕ → ℕ
 at_most_u64 n = min n (2 ^ 64 - 1)
 
@@ -10,8 +10,8 @@ abbrev pub magnitude : ℤ → ℕ
 magnitude (pos n) = n
 magnitude (negsuc n) = n
 
--- how many bytes of seven bits a number takes, of which the last holds what is less than `last`; one, and `more` at
--- most (Core 1.0, 5.2.2)
+-- the number of bytes of seven bits that a number takes, the last of them for what is less than `last`: one, and
+-- at most `more` further ones (Core 1.0, 5.2.2)
 abbrev pub byte_count : (more last n : ℕ) → ℕ
 byte_count zero last n = 1
 byte_count (suc more) last n = if nat_lt n last then 1 else suc (byte_count more last (n / 2 ^ 7))

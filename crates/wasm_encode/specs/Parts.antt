@@ -1,7 +1,7 @@
 -- The two parts of a module's sections, between which the memory section ends.
 use Rattle.std.specs.Prelude.{ℕ, List, ◌++◌, flat_map}
 use Rattle.leb_bytes.specs.Unsigned.{u32_bytes}
-use Rattle.wasm_opcodes.specs.declared.marks.TheConstants.{SECTION_TYPE, SECTION_IMPORT, SECTION_FUNCTION, SECTION_TABLE, SECTION_MEMORY, SECTION_GLOBAL, SECTION_EXPORT, SECTION_ELEMENT, SECTION_CODE, SECTION_DATA}
+use Rattle.base.specs.declared.marks.TheConstants.{SECTION_TYPE, SECTION_IMPORT, SECTION_FUNCTION, SECTION_TABLE, SECTION_MEMORY, SECTION_GLOBAL, SECTION_EXPORT, SECTION_ELEMENT, SECTION_CODE, SECTION_DATA}
 use Rattle.wasm_encode.specs.Vectors.{start_section, vector_section}
 use Rattle.wasm_syntax.specs.Encoding.Modules.{code_of}
 use Rattle.wasm_syntax.specs.Encoding.Sections.{CustomSection}

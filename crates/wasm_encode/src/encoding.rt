@@ -1,9 +1,9 @@
-// What stands in lists of a module.
+// The items of lists of a module.
 
 ghost use Rattle.std.specs.Prelude.{◌≡◌, ℕ, ◌^◌, ◌<◌, ◌++◌, List, length, OnOk};
 ghost use Rattle.wasm_encode.specs.Lengths.{at_most_u64};
 
-use no_memory::NoMemory;
+use base::NoMemory;
 
 /// How the items of a list are encoded.
 pub(crate) trait Encoding {
@@ -12,10 +12,10 @@ pub(crate) trait Encoding {
     // The shortest encoding of an item.
     ghost bytes: { Self.Item → List ℕ };
 
-    // What an item needs for it.
+    // What an item must satisfy to be encoded.
     ghost fits: { Self.Item → Type 0 };
 
-    /// How many bytes the encoding of an item has.
+    /// The number of bytes of the encoding of an item.
     fn length(item: &Self::Item) -> u64
         requires { fits item.now }
         ensures { result ≡ at_most_u64 (length (bytes item.now)) };

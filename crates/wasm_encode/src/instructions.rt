@@ -11,7 +11,7 @@ ghost use Rattle.wasm_syntax.specs.Encoding.Encodable.{FitsConst, FitsInstr, Fit
 ghost use Rattle.wasm_syntax.specs.Encoding.Shortest.{access_bytes, body_bytes, const_bytes, instr_bytes};
 ghost use Rattle.wasm_syntax.specs.declared.forms.Form.TheVariants.{Replay};
 ghost use Rattle.wasm_syntax.specs.declared.instructions.Instr.TheVariants.{BrTable, CallIndirect, MemoryCopy, MemoryFill};
-ghost use Rattle.wasm_opcodes.specs.declared.TheConstants.{PREFIX};
+ghost use Rattle.base.specs.declared.opcodes.TheConstants.{PREFIX};
 
 use crate::encoding::Encoding;
 use crate::kinds::Indices;
@@ -19,15 +19,15 @@ use crate::lengths::{i64_length, u32_length};
 use crate::parts::{push_byte, push_marked, push_pair};
 use crate::types::block_type_byte;
 use crate::vectors::{items_length, vector_length, write_items, write_vector};
-use leb_bytes::{push_i64, push_u32};
-use no_memory::NoMemory;
-use wasm_opcodes::marks::TYPE_FUNCREF;
-use wasm_opcodes::{
+use base::NoMemory;
+use base::marks::TYPE_FUNCREF;
+use base::opcodes::{
     BLOCK, BR, BR_IF, BR_TABLE, CALL, CALL_INDIRECT, DROP, ELSE, END, F32_CONST, F64_CONST,
     GLOBAL_GET, GLOBAL_SET, I32_CONST, I64_CONST, IF, LOCAL_GET, LOCAL_SET, LOCAL_TEE, LOOP,
     MEMORY_COPY, MEMORY_FILL, MEMORY_GROW, MEMORY_SIZE, NOP, PREFIX, REF_FUNC, REF_NULL, RETURN,
     SELECT, TABLE_GROW, TABLE_SET, TABLE_SIZE, UNREACHABLE,
 };
+use leb_bytes::{push_i64, push_u32};
 use wasm_syntax::{Body, Instr, Labels, MemArg, Val, ValType};
 
 /// The byte that ends `call_indirect`, `memory.size`, `memory.grow` and `memory.fill`, and twice `memory.copy` (Core
@@ -110,7 +110,7 @@ impl Encoding for Instrs {
     ghost some = { instr_some };
 }
 
-/// How many bytes a body has.
+/// The number of bytes of a body.
 pub(crate) fn body_length(body: &Body) -> u64
     requires { AllByRecursion (FitsInstr Replay) body.now }
     ensures { result ≡ at_most_u64 (length (body_bytes body.now)) }
@@ -127,7 +127,7 @@ pub(crate) fn write_body(body: &Body, out: &mut Vec<u8>) -> Result<(), NoMemory>
     write_items::<Instrs>(body.as_slice(), out)
 }
 
-/// How many bytes a `br_table` has.
+/// The number of bytes of a `br_table`.
 #[tactic(auto, unfolding(wasm_syntax::specs::Encoding::Shortest::instr_bytes))]
 fn table_length(labels: &Labels, default: u32) -> u64
     requires { AllByRecursion FitsU32 labels.now }
@@ -186,7 +186,7 @@ fn push_prefixed(out: &mut Vec<u8>, number: u32, index: u32) -> Result<(), NoMem
     push_u32(out, index)
 }
 
-/// How many bytes a load or a store has.
+/// The number of bytes of a load or a store.
 fn access_length(access: MemArg) -> u64
     ensures length { result ≡ length (access_bytes access) }
     ensures few { result ≤ 11 }
@@ -202,7 +202,7 @@ fn write_access(access: MemArg, out: &mut Vec<u8>) -> Result<(), NoMemory>
     push_u32(out, access.offset)
 }
 
-/// How many bytes a constant has.
+/// The number of bytes of a constant.
 #[tactic(auto, unfolding(wasm_syntax::specs::Encoding::Shortest::const_bytes))]
 fn const_length(value: Val) -> u64
     requires { FitsConst value.ty value.bits }
@@ -247,7 +247,7 @@ fn write_const(value: Val, out: &mut Vec<u8>) -> Result<(), NoMemory>
     }
 }
 
-/// How many bytes the bits of an i32 have, as an s32.
+/// The number of bytes of the bits of an i32, as an s32.
 #[tactic(auto, unfolding(leb_bytes::specs::Signed::i32_bytes))]
 fn i32_bits_length(bits: u64) -> u64
     requires { bits < 2 ^ 32 }
@@ -257,7 +257,7 @@ fn i32_bits_length(bits: u64) -> u64
     i64_length(signed_of_i32(bits))
 }
 
-/// How many bytes the bits of an i64 have, as an s64.
+/// The number of bytes of the bits of an i64, as an s64.
 #[tactic(auto, unfolding(leb_bytes::specs::Signed::i64_bytes))]
 fn i64_bits_length(bits: u64) -> u64
     ensures length { result ≡ length (i64_bytes bits) }
@@ -283,7 +283,7 @@ fn push_i64_bits(out: &mut Vec<u8>, bits: u64) -> Result<(), NoMemory>
     push_i64(out, bits.cast_signed())
 }
 
-/// The number that the bits of an i32 are in two's complement.
+/// The number whose two's complement has the bits of an i32.
 fn signed_of_i32(bits: u64) -> i64
     requires { bits < 2 ^ 32 }
     ensures { result ≡ cast_signed w32 bits }

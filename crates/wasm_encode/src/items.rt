@@ -7,20 +7,18 @@ ghost use Rattle.wasm_syntax.specs.Encoding.Shortest.{custom_bytes, export_kind_
 use crate::lengths::{sized_length, u32_length};
 use crate::parts::{push_byte, push_marked, push_pair};
 use crate::types::{global_type_length, limits_length, write_global_type, write_limits};
-use no_memory::NoMemory;
-use wasm_opcodes::marks::{
-    EXTERNAL_FUNC, EXTERNAL_GLOBAL, EXTERNAL_MEMORY, EXTERNAL_TABLE, TYPE_FUNCREF,
-};
+use base::NoMemory;
+use base::marks::{EXTERNAL_FUNC, EXTERNAL_GLOBAL, EXTERNAL_MEMORY, EXTERNAL_TABLE, TYPE_FUNCREF};
 use wasm_syntax::{Custom, ExportKind, ImportKind, Name};
 
-/// How many bytes a name has (Core 1.0, 5.2.4).
+/// The number of bytes of a name (Core 1.0, 5.2.4).
 pub(crate) fn name_length(name: &Name) -> u64
     ensures { result ≡ at_most_u64 (length (sized_bytes name.now)) }
 {
     sized_length(name.as_str().len() as u64)
 }
 
-/// How many bytes the content of a custom section has.
+/// The number of bytes of the content of a custom section.
 #[tactic(auto, unfolding(wasm_syntax::specs::Encoding::Shortest::custom_bytes))]
 pub(crate) fn custom_length(custom: &Custom) -> u64
     ensures { result ≡ at_most_u64 (length (custom_bytes custom.now)) }
@@ -28,7 +26,7 @@ pub(crate) fn custom_length(custom: &Custom) -> u64
     name_length(&custom.name).saturating_add(custom.bytes.as_slice().len() as u64)
 }
 
-/// How many bytes the kind of an import has.
+/// The number of bytes of the kind of an import.
 pub(crate) fn import_kind_length(kind: ImportKind) -> u64
     ensures length { result ≡ length (import_kind_bytes kind) }
     ensures few { result < 2 ^ 9 }
@@ -62,7 +60,7 @@ pub(crate) fn write_import_kind(kind: ImportKind, out: &mut Vec<u8>) -> Result<(
     }
 }
 
-/// How many bytes the kind of an export has.
+/// The number of bytes of the kind of an export.
 pub(crate) fn export_kind_length(kind: ExportKind) -> u64
     ensures length { result ≡ length (export_kind_bytes kind) }
     ensures few { result < 2 ^ 9 }

@@ -21,11 +21,9 @@ use crate::lengths::{sized_length, u32_length};
 use crate::parts::{push_byte, push_marked, push_sized};
 use crate::types::{global_type_length, limits_length, write_global_type, write_limits};
 use crate::vectors::{vector_length, write_vector};
+use base::NoMemory;
+use base::marks::{ELEMENT_DECLARED, ELEMENT_FUNCS, SECTION_CUSTOM, TYPE_FUNC, TYPE_FUNCREF};
 use leb_bytes::push_u32;
-use no_memory::NoMemory;
-use wasm_opcodes::marks::{
-    ELEMENT_DECLARED, ELEMENT_FUNCS, SECTION_CUSTOM, TYPE_FUNC, TYPE_FUNCREF,
-};
 use wasm_syntax::{
     Custom, DataSeg, ElemSeg, Export, Func, FuncType, Global, Import, Limits, Run, ValType,
 };
@@ -388,7 +386,7 @@ impl Encoding for Runs {
     ghost some = { run_some };
 }
 
-/// How many bytes the locals and the body of a function have, without the size in front.
+/// The number of bytes of the locals and the body of a function, without the size in front.
 fn code_length(func: &Func) -> u64
     requires { FitsFunc Replay func.now }
     ensures { result ≡ at_most_u64

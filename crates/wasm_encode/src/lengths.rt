@@ -1,4 +1,4 @@
-// How many bytes numbers and sized contents have.
+// The number of bytes of numbers and sized contents.
 
 ghost use Rattle.std.specs.Prelude.{◌≡◌, ℕ, ◌-◌, ◌≤◌, List, length};
 ghost use Rattle.leb_bytes.specs.Signed.{s64_bytes};
@@ -6,13 +6,13 @@ ghost use Rattle.leb_bytes.specs.Unsigned.{u32_bytes};
 ghost use Rattle.wasm_encode.specs.Lengths.{byte_count, at_most_u64, magnitude};
 ghost use Rattle.wasm_syntax.specs.Encoding.Shortest.{sized_bytes};
 
-/// What seven bits hold is less than this: a byte of an unsigned number.
+/// Seven bits hold numbers less than this: a byte of an unsigned number.
 const SEVEN_BITS: u64 = 0x80;
 
-/// What six bits hold is less than this: the last byte of a signed number, its sign left out.
+/// Six bits hold numbers less than this: the last byte of a signed number, without its sign.
 const SIX_BITS: u64 = 0x40;
 
-/// How many bytes the shortest encoding of a u32 has (Core 1.0, 5.2.2); five past the u32s, too.
+/// The number of bytes of the shortest encoding of a u32 (Core 1.0, 5.2.2); five past the u32s, too.
 pub(crate) fn u32_length(number: u64) -> u64
     ensures length { result ≡ length (u32_bytes number) }
     ensures few { result ≤ 5 }
@@ -20,7 +20,7 @@ pub(crate) fn u32_length(number: u64) -> u64
     byte_count(number, SEVEN_BITS, 5)
 }
 
-/// How many bytes the shortest encoding of an s64 has (Core 1.0, 5.2.2).
+/// The number of bytes of the shortest encoding of an s64 (Core 1.0, 5.2.2).
 pub(crate) fn i64_length(number: i64) -> u64
     ensures length { result ≡ length (s64_bytes number) }
     ensures few { result ≤ 10 }
@@ -28,8 +28,8 @@ pub(crate) fn i64_length(number: i64) -> u64
     byte_count(magnitude(number), SIX_BITS, 10)
 }
 
-/// How many bytes of seven bits a number takes, of which the last holds what is less than `last`; at
-/// most `most`.
+/// The number of bytes of seven bits that a number takes, the last of them for what is less than `last`;
+/// at most `most`.
 fn byte_count(number: u64, last: u64, most: u64) -> u64
     requires { 1 ≤ most }
     ensures { result ≡ byte_count (most - 1) last number }

@@ -13,8 +13,5 @@ mod sections;
 mod types;
 mod vectors;
 
+pub use base::NoMemory;
 pub use limited::{EncodeFault, encode};
-pub use no_memory::NoMemory;
-
-#[cfg(test)]
-mod tests;

@@ -9,7 +9,7 @@ ghost use Rattle.wasm_syntax.specs.Encoding.Shortest.{encoding_of};
 ghost use Rattle.wasm_syntax.specs.declared.forms.Form.TheVariants.{Core, Replay};
 
 use crate::modules::{module_length, write_module};
-use no_memory::NoMemory;
+use base::NoMemory;
 use std::alloc::Global;
 use thiserror::Error;
 use wasm_syntax::{Module, encoding_forms, shortest_encoding};
@@ -28,11 +28,11 @@ pub enum EncodeFault {
 
 /// The shortest encoding of a module in at most `most` bytes (Core 1.0, 5): each number in its
 /// fewest bytes, no section that is empty, custom sections last. The module is to have an encoding
-/// in the form of replay binaries, where counts and sizes may be any numbers.
+/// in the form of replay binaries, in which counts and sizes may be any numbers.
 ///
 /// # Errors
 ///
-/// `TooLong` exactly where these bytes are more than `most`; `Memory` where memory runs out.
+/// `TooLong` if these bytes are more than `most`, and only then; `Memory` if memory runs out.
 pub fn encode(alloc: Global, module: &Module, most: u32) -> Result<Vec<u8>, EncodeFault>
     requires { IsEncodable Replay «module».now }
     ensures shortest { IfOk result (λ bytes. bytes.items ≡ encoding_of «module».now) }
@@ -43,7 +43,7 @@ pub fn encode(alloc: Global, module: &Module, most: u32) -> Result<Vec<u8>, Enco
     ensures core { IfOk result (λ bytes.
         IsCoreModule «module».now → Encodes Core bytes.items «module».now) }
 {
-    // What is written is an encoding, in the form Core too where the module is of it.
+    // The written bytes are an encoding, in the form Core too if the module is of that form.
     shortest_encoding();
     encoding_forms();
     let length = module_length(module);

@@ -13,8 +13,8 @@ use crate::kinds::{
 };
 use crate::sections::{section_length, start_length, write_section, write_start};
 use crate::vectors::{items_length, write_items};
-use no_memory::NoMemory;
-use wasm_opcodes::marks::{
+use base::NoMemory;
+use base::marks::{
     SECTION_CODE, SECTION_DATA, SECTION_ELEMENT, SECTION_EXPORT, SECTION_FUNCTION, SECTION_GLOBAL,
     SECTION_IMPORT, SECTION_MEMORY, SECTION_TABLE, SECTION_TYPE,
 };

@@ -4,8 +4,8 @@ ghost use Rattle.std.specs.Prelude.{◌≡◌, ◌^◌, ◌<◌, ◌++◌, ◌�
 ghost use Rattle.leb_bytes.specs.Unsigned.{u32_bytes};
 ghost use Rattle.wasm_syntax.specs.Encoding.Shortest.{sized_bytes};
 
+use base::NoMemory;
 use leb_bytes::push_u32;
-use no_memory::NoMemory;
 
 /// Appends a byte.
 #[inline]

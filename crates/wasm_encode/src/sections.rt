@@ -9,11 +9,11 @@ use crate::encoding::Encoding;
 use crate::lengths::{sized_length, u32_length};
 use crate::parts::push_marked;
 use crate::vectors::{vector_length, write_vector};
+use base::NoMemory;
+use base::marks::SECTION_START;
 use leb_bytes::push_u32;
-use no_memory::NoMemory;
-use wasm_opcodes::marks::SECTION_START;
 
-/// How many bytes the section of a list has, whatever its id: none where the list is empty.
+/// The number of bytes of the section of a list, whatever its id: 0 if the list is empty.
 pub(crate) fn section_length<E: Encoding>(items: &[E::Item]) -> u64
     requires { AllByRecursion E.fits items.now }
     ensures { (id : ℕ) → result ≡ at_most_u64 (length (vector_section id E.bytes items.now)) }
@@ -25,7 +25,7 @@ pub(crate) fn section_length<E: Encoding>(items: &[E::Item]) -> u64
     }
 }
 
-/// Appends the section of a list, where the list isn't empty.
+/// Appends the section of a list, if the list is not empty.
 pub(crate) fn write_section<E: Encoding>(
     id: u8,
     items: &[E::Item],
@@ -52,7 +52,7 @@ pub(crate) fn start_length(start: Option<u32>) -> u64
     }
 }
 
-/// Appends the start section, where there is one.
+/// Appends the start section, if there is one.
 pub(crate) fn write_start(start: Option<u32>, out: &mut Vec<u8>) -> Result<(), NoMemory>
     ensures { OnOk result (out.new.items ≡ out.old.items ++ start_section start) }
 {

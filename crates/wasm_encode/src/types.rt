@@ -5,9 +5,9 @@ ghost use Rattle.wasm_syntax.specs.Encoding.Shortest.{block_type_bytes, global_t
 
 use crate::lengths::u32_length;
 use crate::parts::{push_marked, push_pair};
+use base::NoMemory;
+use base::marks::{LIMITS_MIN, LIMITS_MIN_MAX, TYPE_EMPTY};
 use leb_bytes::push_u32;
-use no_memory::NoMemory;
-use wasm_opcodes::marks::{LIMITS_MIN, LIMITS_MIN_MAX, TYPE_EMPTY};
 use wasm_syntax::{GlobalType, Limits, ValType};
 
 /// How many bytes limits have.

@@ -7,8 +7,8 @@ ghost use Rattle.wasm_syntax.specs.Encoding.Shortest.{vector_bytes};
 
 use crate::encoding::Encoding;
 use crate::lengths::u32_length;
+use base::NoMemory;
 use leb_bytes::push_u32;
-use no_memory::NoMemory;
 
 /// How many bytes the encodings of the items have together.
 pub(crate) fn items_length<E: Encoding>(items: &[E::Item]) -> u64

@@ -1,4 +1,4 @@
-// The entries of a turn, in room that serves for one after another.
+// The entries of a turn, in room that is used again for the next turn.
 
 ghost use Rattle.std.specs.Prelude.{◌≡◌, ◌+◌, ◌^◌, ◌<◌, ◌≤◌, [], ◌∷◌, length, None, OnOk};
 ghost use Rattle.history_spec.specs.declared.entries.Entry.TheVariants as entry;
@@ -8,15 +8,15 @@ ghost use Rattle.wasm_interp.specs.Steps.{IsTypedOp, entry_by};
 
 use crate::control::Control;
 use crate::operands::{push_operands, push_results};
+use base::NoMemory;
 use flat_steps::FlatFrame;
 use history_spec::{Entry, TrapKind};
-use no_memory::NoMemory;
 use std::alloc::Global;
 use wasm_flat::{Flat, FlatInstr};
 use wasm_syntax::{List, Val};
 
-/// What a history tells of an instruction: its function and its number, what it takes, gives and finds, and why
-/// it traps, where it does. The lists keep their room for the next instruction.
+/// What a history contains of an instruction: its function and its number, its operands and results, what it
+/// found, and its trap, if it traps. The lists keep their room for the next instruction.
 #[derive(Debug, Drop)]
 pub struct InstrEntry {
     pub func: u32,
@@ -62,7 +62,7 @@ impl InstrEntry {
         }
     }
 
-    /// The same as an entry of a history. Takes no memory.
+    /// Converts this to an entry of a history. Takes no memory.
     pub(crate) fn into_entry(self) -> Entry
         ensures { result ≡ as_entry self }
     {
@@ -93,7 +93,7 @@ impl InstrEntry {
         }
     }
 
-    /// The operands of an instruction that is about to be made, for an activation whose first slot is `base`.
+    /// Records the operands of an instruction before it is executed, for an activation whose first slot is `base`.
     pub(crate) fn put_operands(
         &mut self,
         flat: &Flat,
@@ -112,7 +112,7 @@ impl InstrEntry {
         push_operands(flat, &i.op, slots, base + i.at as usize, &mut self.operands)
     }
 
-    /// What an instruction whose operands stand here already did, by the slots after it.
+    /// Records what an instruction did, by the slots after it; its operands are already recorded here.
     pub(crate) fn put_control(
         &mut self,
         _flat: &Flat,

@@ -1,12 +1,12 @@
-// Laws of a machine, each the contract of a function that does nothing: what its calls ask for, what the host's
-// part of the stack that it stands for asks for, and that instructions of weight 0 come to an end.
+// Laws of a machine, each the contract of a function that does nothing: what its calls require, what the host's
+// part of the stack requires, and that instructions of weight 0 come to an end.
 
 ghost use Rattle.wasm_interp.specs.Laws.{AdvancesLessen, AnswersAddNone, ArgumentsAreThere, FunctionsAreCallable, HostsAreTopmost, HostsBegin, HostsGoOn, ImportsWait, MetersFit, ModulesAreTopmost, ResponsesGoOn, ResultsAreValues, ReturnsAddNone, StepsLessen, StoresChange, StoresFitCode, TurnsLessen};
 
 use flat_steps::{stores_fit, weights_agree};
 use wasm_flat::weightless_items_go_ahead;
 
-/// What the calls of a machine ask for holds where it stands for a stack whose topmost activation is
+/// What the calls of a machine require holds if it represents a stack whose topmost activation is
 /// the module's, or the host's.
 pub fn calls_are_ready()
     ensures module { ModulesAreTopmost }
@@ -19,15 +19,15 @@ pub fn calls_are_ready()
     stores_fit();
 }
 
-/// The weights of a meter that fits a module are fit for its flat code.
+/// The weights of a meter that fits a module also fit its flat code.
 pub fn meters_fit()
     ensures { MetersFit }
 {
     weightless_items_go_ahead();
 }
 
-/// A machine without activations stands for the host at its own work. What the host has left to do
-/// changes nothing in the machine, and another store that is well typed nothing but its store.
+/// A machine without activations represents the host at its own work. What the host has left to do
+/// changes nothing in the machine, and another well-typed store changes nothing but its store.
 pub fn hosts_go_on()
     ensures begins { HostsBegin }
     ensures main { HostsGoOn }

@@ -28,7 +28,7 @@ mod top_walks;
 mod turns;
 mod values;
 
+pub use base::NoMemory;
 pub use instr_entries::{InstrEntry, TurnEntries};
 pub use laws::{calls_are_ready, hosts_go_on, meters_fit, weightless_turns_end};
 pub use machine::{Machine, Pause, Turn};
-pub use no_memory::NoMemory;

@@ -1,4 +1,4 @@
-// The operands and the results of instructions, as a history tells them.
+// The operands and the results of instructions, as a history contains them.
 
 ghost use Rattle.std.specs.Prelude.{◌≡◌, ℕ, ◌+◌, ◌^◌, ◌<◌, ◌≤◌, List, [], ◌∷◌, ◌++◌, length, true, IfOk, OnOk, IsSome, slice_get};
 ghost use Rattle.wasm_syntax.specs.Opcodes.{load_of, store_of, numeric_shape};
@@ -10,14 +10,14 @@ ghost use Rattle.flat_steps.specs.FlatStep.{values_at};
 ghost use Rattle.wasm_interp.specs.Steps.{IsTypedOp};
 
 use crate::values::{param_types, push_values};
-use no_memory::NoMemory;
-use wasm_flat::{Flat, Op};
-use wasm_opcodes::{
+use base::NoMemory;
+use base::opcodes::{
     F32_LOAD, F32_REINTERPRET_I32, F32_STORE, F64_GE, F64_LOAD, F64_REINTERPRET_I64, F64_STORE,
     I32_EXTEND8_S, I32_EXTEND16_S, I32_GE_U, I32_LOAD, I32_LOAD8_S, I32_LOAD8_U, I32_LOAD16_S,
     I32_LOAD16_U, I32_REINTERPRET_F32, I32_ROTR, I32_STORE, I32_STORE8, I32_STORE16, I32_WRAP_I64,
     I64_EXTEND8_S, I64_REINTERPRET_F64, I64_ROTR,
 };
+use wasm_flat::{Flat, Op};
 use wasm_syntax::{Val, ValType};
 
 /// The type of each operand of a numeric instruction on integers.
@@ -45,7 +45,7 @@ fn operand_type(opcode: u8) -> ValType
     }
 }
 
-/// The type of its result.
+/// The type of the result of a numeric instruction on integers.
 fn result_type(opcode: u8) -> ValType
     ensures { result ≡ result_by opcode }
 {
@@ -150,7 +150,7 @@ pub(crate) fn push_operands(
     }
 }
 
-/// Appends the result of an instruction whose first slot is given, where it has one.
+/// Appends the result of an instruction whose first slot is given, if it has one.
 pub(crate) fn push_results(
     op: &Op,
     slots: &[u64],

@@ -21,7 +21,7 @@ fn same_signature(a: &FuncType, b: &FuncType) -> bool
     *a == *b
 }
 
-/// Whether a function has a type by its structure.
+/// Whether a function has a type that is equal to a given one in structure.
 fn has_type(flat: &Flat, ty: u32, func: u32) -> bool
     requires { ty < length flat.now.types }
     ensures { result ≡ same_types_there (slice_get flat.now.types ty) (type_in flat.now.types flat.now.indices func) }

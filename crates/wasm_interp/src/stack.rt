@@ -4,8 +4,8 @@ ghost use Rattle.std.specs.Prelude.{◌≡◌, List, [], ◌∷◌, OnOk, OnErr}
 ghost use Rattle.flat_steps.specs.FlatStep.{frame_at};
 ghost use Rattle.wasm_interp.specs.Frames.{top_of, below_of, with_number};
 
+use base::NoMemory;
 use flat_steps::FlatFrame;
-use no_memory::NoMemory;
 use std::alloc::Global;
 use std::marker::Model;
 
@@ -70,7 +70,7 @@ impl Frames {
         })
     }
 
-    /// Removes the topmost activation, where there is one.
+    /// Removes the topmost activation, if there is one.
     #[inline(always)]
     pub(crate) fn pop(&mut self)
         ensures { self.new ≡ below_of self.old }
@@ -78,7 +78,7 @@ impl Frames {
         let _ = self.items.pop();
     }
 
-    /// Gives the topmost activation, where there is one, another number.
+    /// Gives the topmost activation, if there is one, another number.
     #[inline(always)]
     pub(crate) fn move_to(&mut self, number: u32)
         ensures { self.new ≡ with_number self.old number }

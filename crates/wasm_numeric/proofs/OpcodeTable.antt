@@ -1,9 +1,10 @@
--- Which opcodes each kind has, and how wide its operands are: a test that is computed over the table, and what it says at each opcode.
+-- Which opcodes each kind has, and how wide its operands are: a test that is computed over the table, and its result
+-- for each opcode.
 use Rattle.std.proofs.Common.{◌≡◌, ℕ, ◌<◌, ◌≤◌, ◌⊎◌, ◌≢◌, Bool, true, false, ◌&&◌, ◌||◌, List, [], ◌∷◌, nat_le, nat_lt, if◌then◌else◌, ◌==◌, refl, sym, subst, arith, inl, inr}
 use Rattle.std.proofs.lemmas.Bool.{eqb-true, ltb-true, lt-leb, and_right, cases_lt}
 use Rattle.std.proofs.lemmas.Bool.Decides.{nat_tests}
-use Rattle.list_laws.proofs.Booleans.{all_below, and_parts, passes_below}
-use Rattle.wasm_opcodes.specs.declared.TheConstants.{I32_EQ, I32_GE_U, I64_EQ, I64_GE_U, I32_CLZ, I32_POPCNT, I64_CLZ, I64_POPCNT, I32_EXTEND8_S, I32_EXTEND16_S, I64_EXTEND8_S, I64_EXTEND32_S, I32_ADD, I32_ROTR, I64_ADD, I64_ROTR, I32_WRAP_I64, I64_EXTEND_I32_S}
+use Rattle.base.proofs.Booleans.{all_below, and_parts, passes_below}
+use Rattle.base.specs.declared.opcodes.TheConstants.{I32_EQ, I32_GE_U, I64_EQ, I64_GE_U, I32_CLZ, I32_POPCNT, I64_CLZ, I64_POPCNT, I32_EXTEND8_S, I32_EXTEND16_S, I64_EXTEND8_S, I64_EXTEND32_S, I32_ADD, I32_ROTR, I64_ADD, I64_ROTR, I32_WRAP_I64, I64_EXTEND_I32_S}
 use Rattle.wasm_numeric.specs.Opcode.{Row, Kind, Compare, Unary, Binary, Convert, NotNumeric, kind_of, width, width_of, result_of, rows, row_among}
 
 -- each row ends below 256
@@ -27,7 +28,7 @@ everywhere test bytes others op =
 abbrev lies : (first last op : ℕ) → Bool
 lies first last op = nat_le first op && nat_le op last
 
--- what the table says of an opcode of a kind whose operands have w bits
+-- the row of the table for an opcode of a kind whose operands have w bits
 abbrev says : Kind → (w op : ℕ) → Bool
 says Compare w op = (lies I32_EQ I32_GE_U op && w == 32) || (lies I64_EQ I64_GE_U op && w == 64)
 says Unary w op =
@@ -70,7 +71,8 @@ unary_opcodes op is = unary_says (width_of op) op (said op Unary is)
 pub unary_width : (w op : ℕ) → IsUnary w op → w == 32 ≡ false → w ≡ 64
 unary_width w op is other = grind (arith, nat_tests)
 
--- those on `i32` stand up to the counts of bits on `i32`, and from the sign extensions to `i32` on, before those to `i64`
+-- unary opcodes on `i32` are those up to the counts of bits on `i32`, and those from the sign extensions to `i32` on,
+-- before those to `i64`
 pub unary_between : (w op : ℕ) → IsUnary w op → I32_POPCNT < op → op < I32_EXTEND8_S → w == 32 ≡ false
 unary_between w op is low high = grind (arith, nat_tests)
 

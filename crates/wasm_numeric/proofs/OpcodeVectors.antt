@@ -1,9 +1,10 @@
--- Rows of the table of opcodes (Core 1.0, 5.4.5; Core 2.0, 5.4.7), by the standard's numbers, so that a name of a wrong number shows.
+-- Rows of the table of opcodes (Core 1.0, 5.4.5; Core 2.0, 5.4.7), by the standard's numbers, so that a name with a
+-- wrong number is found.
 use Rattle.std.proofs.Common.{◌≡◌, ℕ, List, [], ◌∷◌, refl}
 use Rattle.std.specs.Prelude.{map}
 use Rattle.wasm_numeric.specs.Opcode.{NumType, I32, I64, F32, F64, Kind, Test, Compare, Unary, Binary, Convert, FloatComparison, FloatArithmetic, FloatConversion, NotNumeric, kind_of, operands_of, result_of}
 
--- the first and the last opcode of each group, and their neighbours, `f64.const` and one that is none
+-- the first and the last opcode of each group, and their neighbours, `f64.const` and an opcode without an instruction
 abbrev kinds : List (ℕ × Kind)
 kinds =
     (0x44, NotNumeric) ∷ (0x45, Test) ∷ (0x46, Compare) ∷ (0x4F, Compare) ∷ (0x50, Test) ∷ (0x5A, Compare)

@@ -4,7 +4,7 @@ use Rattle.std.proofs.Math.Nat.{mod-lt, mod-le, div-le_self, mul-le-mul_right, p
 use Rattle.std.proofs.Math.Pow.{pow_mono}
 use Rattle.std.proofs.lemmas.Bool.{cases_eq, eq-eqb, ne_eqb}
 use Rattle.std.proofs.lemmas.Nat.{pow_pos, or_lt}
-use Rattle.wasm_opcodes.specs.declared.TheConstants.{I32_WRAP_I64, I64_EXTEND_I32_S}
+use Rattle.base.specs.declared.opcodes.TheConstants.{I32_WRAP_I64, I64_EXTEND_I32_S}
 use Rattle.wasm_numeric.specs.declared.operation.UnaryOp.{UnaryOp}
 use Rattle.wasm_numeric.specs.declared.operation.UnaryOp.TheVariants.{Clz, Ctz, Popcnt, Extend8S, Extend16S, Extend32S}
 use Rattle.wasm_numeric.specs.declared.operation.BinaryOp.{BinaryOp}
@@ -104,7 +104,7 @@ binary_value_fits ShrU w a b wide p = omega (arith, div-le_self a (2 ^ (b % w)))
 binary_value_fits Rotl w a b wide p = rotl_by_fits w a (b % w) (mod-lt b wide) p
 binary_value_fits Rotr w a b wide p = rotl_by_fits w a ((w - b % w) % w) (mod-lt (w - b % w) wide) p
 
--- what a call answers
+-- the result of a call
 pub fits_answer : (w : ℕ) (v : BinaryValue) → FitsIn w v → IfOk (answer_of v) (λ n. n < 2 ^ w)
 fits_answer w (Bits n) p = p
 fits_answer w DivideByZero p = tt

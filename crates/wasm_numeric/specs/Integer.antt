@@ -25,7 +25,7 @@ abbrev pub truth : Bool → ℕ
 truth true = 1
 truth false = 0
 
--- "sign interpretation": a, or a - 2 ^ w where a is at least half of 2 ^ w
+-- "sign interpretation": a, or a - 2 ^ w if a is at least half of 2 ^ w
 abbrev pub signed : (w a : ℕ) → ℤ
 signed w a = if nat_lt a (2 ^ (w - 1)) then pos a else pos a -ℤ pos (2 ^ w)
 
@@ -38,7 +38,7 @@ abbrev pub is_negative : ℤ → Bool
 is_negative (pos n) = false
 is_negative (negsuc n) = true
 
--- m, or -m where the test is true
+-- m, or -m if the test is true
 abbrev pub negated_if : Bool → ℕ → ℤ
 negated_if false m = pos m
 negated_if true m = neg_ℤ (pos m)
@@ -51,7 +51,7 @@ differ true b = not b
 abbrev pub quotient : (x y : ℤ) → ℤ
 quotient x y = negated_if (differ (is_negative x) (is_negative y)) (unsigned_abs x / unsigned_abs y)
 
--- what that division leaves, with the sign of x
+-- the remainder of x / y cut towards zero, with the sign of x
 abbrev pub remainder : (x y : ℤ) → ℤ
 remainder x y = negated_if (is_negative x) (unsigned_abs x % unsigned_abs y)
 
@@ -87,7 +87,7 @@ div_s w a b =
 abbrev pub div_u : (w a b : ℕ) → BinaryValue
 div_u w a b = if b == 0 then DivideByZero else Bits (a / b)
 
--- "irem_s": 0 where `div_s` overflows, since 1 divides every number
+-- "irem_s": 0 if `div_s` overflows, since 1 divides every number
 abbrev pub rem_s : (w a b : ℕ) → BinaryValue
 rem_s w a b = if b == 0 then DivideByZero else Bits (modulo w (remainder (signed w a) (signed w b)))
 

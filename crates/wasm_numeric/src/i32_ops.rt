@@ -21,7 +21,7 @@ pub fn i32_unary(operation: UnaryOp, a: u32) -> u32
     }
 }
 
-/// 1 where the comparison holds, else 0.
+/// 1 if the comparison holds, else 0.
 #[inline]
 pub fn i32_compare(operation: CompareOp, a: u32, b: u32) -> u32
     ensures { result ≡ compare_value operation 32 a b }
@@ -41,11 +41,11 @@ pub fn i32_compare(operation: CompareOp, a: u32, b: u32) -> u32
     holds as u32
 }
 
-/// What `operation` computes of `a` and `b`, or why it has no value.
+/// The value of `operation` on `a` and `b`, or why it has no value.
 ///
 /// # Errors
 ///
-/// Where a division or remainder is by 0, or the quotient of a signed division is 2^31.
+/// If a division or remainder is by 0, or the quotient of a signed division is 2^31.
 #[inline]
 pub fn i32_binary(operation: BinaryOp, a: u32, b: u32) -> Result<u32, NumTrap>
     ensures { result ≡ answer_of (binary_value operation 32 a b) }
@@ -83,7 +83,7 @@ fn i32_div_s(a: u32, b: u32) -> Result<u32, NumTrap>
     }
 }
 
-/// What that division leaves; 0 where the quotient overflows.
+/// The remainder of the quotient cut towards zero; 0 if the quotient overflows.
 #[inline]
 fn i32_rem_s(a: u32, b: u32) -> Result<u32, NumTrap>
     ensures { result ≡ answer_of (rem_s 32 a b) }

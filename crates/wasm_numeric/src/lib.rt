@@ -10,13 +10,13 @@ pub mod i32_ops;
 pub mod i64_ops;
 pub mod operation;
 
+use base::opcodes::{
+    I32_EXTEND8_S, I32_EXTEND16_S, I32_GE_U, I32_POPCNT, I32_ROTR, I32_WRAP_I64, I64_EXTEND_I32_S,
+};
 use i32_ops::{i32_binary, i32_compare, i32_unary};
 use i64_ops::{i64_binary, i64_compare, i64_unary};
 use operation::{binary_op, compare_op, unary_op};
 use thiserror::Error;
-use wasm_opcodes::{
-    I32_EXTEND8_S, I32_EXTEND16_S, I32_GE_U, I32_POPCNT, I32_ROTR, I32_WRAP_I64, I64_EXTEND_I32_S,
-};
 
 /// Why an integer operation has no value.
 #[derive(Clone, Copy, PartialEq, Eq, Debug, Error)]
@@ -27,7 +27,7 @@ pub enum NumTrap {
     Overflow,
 }
 
-/// 1 where `a` is 0, else 0 (Core 1.0, 4.3.2, "ieqz").
+/// 1 if `a` is 0, else 0 (Core 1.0, 4.3.2, "ieqz").
 #[inline]
 pub fn test(op: u8, a: u64) -> u32
     requires kind { kind_of op ≡ Test }
@@ -37,7 +37,7 @@ pub fn test(op: u8, a: u64) -> u32
     (a == 0) as u32
 }
 
-/// 1 where the comparison of `a` and `b` holds, else 0 (Core 1.0, 4.3.2, "ieq" to "ige_s").
+/// 1 if the comparison of `a` and `b` holds, else 0 (Core 1.0, 4.3.2, "ieq" to "ige_s").
 #[inline]
 pub fn compare(op: u8, a: u64, b: u64) -> u32
     requires kind { kind_of op ≡ Compare }
@@ -79,12 +79,12 @@ fn is_of_i32(op: u8) -> bool
     op <= I32_POPCNT || (I32_EXTEND8_S <= op && op <= I32_EXTEND16_S)
 }
 
-/// What a binary operation computes of `a` and `b`, or why it has no value (Core 1.0, 4.3.2,
-/// "iadd" to "irotr"): only divisions and remainders can have none.
+/// The value of a binary operation on `a` and `b`, or why it has no value (Core 1.0, 4.3.2,
+/// "iadd" to "irotr"): only divisions and remainders may have no value.
 ///
 /// # Errors
 ///
-/// Where a division or remainder is by 0, or the quotient of a signed division overflows.
+/// If a division or remainder is by 0, or the quotient of a signed division overflows.
 #[inline]
 pub fn binary(op: u8, a: u64, b: u64) -> Result<u64, NumTrap>
     requires kind { kind_of op ≡ Binary }
@@ -119,7 +119,7 @@ pub fn convert(op: u8, a: u64) -> u64
     }
 }
 
-/// What an operation gives fits the type of its result, where the first operand fits.
+/// The result of an operation fits its type, if the first operand fits.
 pub fn values_fit()
     ensures test { (op a : ℕ) → test_of op a ≤ 1 }
     ensures compare { (op a b : ℕ) → compare_of op a b ≤ 1 }
@@ -129,6 +129,3 @@ pub fn values_fit()
     ensures convert { (op a : ℕ) → kind_of op ≡ Convert → a < 2 ^ width_of op
         → convert_of op a < 2 ^ width (result_of op) }
 {}
-
-#[cfg(test)]
-mod tests;

@@ -2,7 +2,7 @@
 ghost use Rattle.std.specs.Prelude.{◌≡◌};
 ghost use Rattle.wasm_numeric.specs.Opcode.{Compare, Unary, Binary, kind_of, unary_op_of, binary_op_of, compare_op_of};
 
-use wasm_opcodes::{
+use base::opcodes::{
     I32_ADD, I32_AND, I32_CLZ, I32_CTZ, I32_DIV_S, I32_DIV_U, I32_EQ, I32_EXTEND8_S,
     I32_EXTEND16_S, I32_GE_S, I32_GE_U, I32_GT_S, I32_GT_U, I32_LE_S, I32_LE_U, I32_LT_S, I32_LT_U,
     I32_MUL, I32_NE, I32_OR, I32_POPCNT, I32_REM_S, I32_REM_U, I32_ROTL, I32_ROTR, I32_SHL,

@@ -1,4 +1,4 @@
--- What the whole answer says.
+-- What the whole result means.
 use Rattle.std.proofs.Common.{◌≡◌, Result, Ok, Err, OnOk}
 use Rattle.wasm_profile.specs.Answers.{refusal_in}
 use Rattle.wasm_profile.specs.declared.faults.ProfileFault.{ProfileFault}

@@ -5,7 +5,7 @@ use Rattle.wasm_syntax.specs.Index.{func_indices}
 use Rattle.wasm_syntax.specs.declared.modules.Func.{Func}
 use Rattle.wasm_syntax.specs.declared.modules.Module.{Module}
 
--- how many items a list has fewer than
+-- the bound of list lengths: each list has fewer items
 abbrev pub list_limit : ℕ
 list_limit = 2 ^ 31
 

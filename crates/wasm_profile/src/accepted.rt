@@ -12,12 +12,12 @@ use crate::reserved::refuse_reserved;
 use wasm_syntax::Module;
 use wasm_validate::Checked;
 
-/// Takes a valid module where the profile does. `hooked` says that it may be an instrumented one,
-/// which has more locals and imports that are reserved otherwise. Takes no memory.
+/// Accepts a valid module if the profile does. `hooked` is true if it may be an instrumented one,
+/// which has more locals and imports that are otherwise reserved. Takes no memory.
 ///
 /// # Errors
 ///
-/// The first that stands of these: the first refused instruction, by function and number; the
+/// The first of these that applies: the first refused instruction, by function and number; the
 /// first quantity past its limit, in the order of parameters by type, the minimum of the table,
 /// the minimum of the memory, and locals by function; the first reserved import.
 pub fn accept(checked: &Checked, hooked: bool) -> Result<(), ProfileFault>

@@ -7,7 +7,7 @@ use wasm_syntax::{Feature, Which};
 #[derive(Clone, Copy, PartialEq, Eq, Debug, Error)]
 pub enum ProfileFault {
     /// An instruction that the profile leaves out, by the index of its function and its number in
-    /// the body, where `else` and `end` have none.
+    /// the body; `else` and `end` have no number.
     #[error("an instruction is not supported")]
     Unsupported {
         func: u32,

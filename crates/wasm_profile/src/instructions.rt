@@ -8,7 +8,7 @@ ghost use Rattle.wasm_syntax.specs.Index.{func_import, of_kind};
 ghost use Rattle.wasm_syntax.specs.Profile.{feature_of, is_numbered, refused_feature, refused_in, refused_instructions};
 
 use crate::faults::ProfileFault;
-use wasm_opcodes::{
+use base::opcodes::{
     F32_ABS, F32_EQ, F64_COPYSIGN, F64_GE, F64_PROMOTE_F32, I32_TRUNC_F32_S, I32_TRUNC_F64_U,
     I64_TRUNC_F32_S,
 };
@@ -35,7 +35,7 @@ pub(crate) fn refuse_bodies(imported: u32, funcs: &[Func]) -> Result<(), Profile
     Ok(())
 }
 
-/// How many functions are imported.
+/// The number of imported functions.
 fn imported_funcs(imports: &[Import]) -> u32
     requires { length imports.now < list_limit }
     ensures { result ≡ length (of_kind func_import imports.now) }
@@ -47,7 +47,7 @@ fn imported_funcs(imports: &[Import]) -> u32
     count
 }
 
-/// One for a function, and zero for another kind.
+/// 1 for a function, and 0 for another kind of import.
 fn one_if_func(kind: ImportKind) -> u32
     ensures count { result ≡ length (option_to_list (func_import kind)) }
     ensures most { result ≤ 1 }
@@ -77,7 +77,7 @@ fn refuse_body(index: u32, func: &Func) -> Result<(), ProfileFault>
     Ok(())
 }
 
-/// The number of the instruction after one: `else` and `end` have none of their own.
+/// The number of the next instruction: `else` and `end` have no number of their own.
 fn next_number(number: u32, instr: &Instr) -> u32
     requires { number < list_limit }
     ensures { result ≡ (if is_numbered instr.now then number + 1 else number) }

@@ -1,4 +1,4 @@
-//! The accepted profile: what of valid modules is played, recorded and replayed.
+//! The accepted profile: which valid modules are played, recorded and replayed.
 #![tactic(auto)]
 
 mod accepted;
@@ -6,8 +6,6 @@ mod faults;
 mod instructions;
 mod quantities;
 mod reserved;
-#[cfg(test)]
-mod tests;
 
 pub use accepted::accept;
 pub use faults::ProfileFault;

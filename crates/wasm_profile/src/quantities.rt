@@ -126,7 +126,7 @@ pub(crate) fn most_locals(hooked: bool) -> u32
     }
 }
 
-/// How many locals a function has, its parameters left out.
+/// The number of locals of a function, without its parameters.
 fn count_of_locals(func: &Func) -> u64
     requires { IsShortFunc func.now }
     ensures { result ≡ count_of_locals func.now }
@@ -138,7 +138,7 @@ fn count_of_locals(func: &Func) -> u64
     total
 }
 
-/// Refuses a quantity past what it may be at most.
+/// Refuses a quantity that is more than the most that is allowed.
 fn refuse_past(most: u32, which: Which, value: u64) -> Result<(), ProfileFault>
     ensures { refusal_in result ≡ past most which value }
 {

@@ -18,7 +18,7 @@ pub from_le_bytes-number_of : (bytes : List ℕ) → length bytes ≡ 8 → from
 from_le_bytes-number_of (a ∷ b ∷ c ∷ d ∷ e ∷ f ∷ g ∷ h ∷ []) is_8 = omega arith
 from_le_bytes-number_of bytes is_8 = absurd (omega arith)
 
--- bytes that are all there
+-- bytes that all exist
 pub bytes_at-there : (bytes : List ℕ) (address count : ℕ) → address + count ≤ length bytes
     → bytes_at bytes address count ≡ Some (take count (drop address bytes))
 bytes_at-there bytes address count h = cond-true _ _ _ (le-leb _ _ h)
@@ -37,7 +37,7 @@ number_of-fits (b ∷ bs) fit =
     let power : 256 ^ suc (length bs) ≡ 256 * 256 ^ length bs = pow-succ' 256 (length bs) in
     rw power (omega arith)
 
--- the number of a word whose lowest bytes these are, all others being 0
+-- the number of a word whose lowest bytes are these and whose other bytes are 0
 pub number_of-word : (part : List ℕ) (width : ℕ) → length part ≡ width → width ≤ 8
     → from_le_bytes w64 (part ++ drop width (replicate 8 0)) ≡ number_of part
 number_of-word part width is_width small =
@@ -50,7 +50,7 @@ number_of-word part width is_width small =
     ))
     ∙ rw drop-replicate (number_of-zeros part (8 - width))
 
--- the number read from a word whose lowest bytes are those at an address, all others being 0
+-- the number read from a word whose lowest bytes are those at an address and whose other bytes are 0
 pub number_at-word : (bytes : List ℕ) (address width number : ℕ) (part : List ℕ) → width ≤ 8
     → address + width ≤ length bytes → part ≡ take width (drop address bytes)
     → number ≡ from_le_bytes w64 (part ++ drop width (replicate 8 0))

@@ -1,5 +1,5 @@
 // Numbers and ranges in a slice of bytes. Each is one range of the slice after one test, which the
-// compiler makes one instruction of where the width is known.
+// compiler makes one instruction of if the width is known.
 
 ghost use Rattle.std.specs.Prelude.{◌≡◌, ℕ, ◌+◌, ◌^◌, ◌<◌, ◌≤◌, List, length, take, drop, Option, Some, None, IsTrue, IfOk, OnOk, OnErr, option_map};
 ghost use Rattle.history_spec.specs.Store.{bytes_at, with_bytes_at, with_items_at, number_of, bytes_of};
@@ -7,7 +7,7 @@ ghost use Rattle.wasm_store.specs.Calls.{is_width};
 
 use crate::bounds::OutOfBounds;
 
-/// The place after the `count` bytes at `addr`, where a length has them all.
+/// The place after the `count` bytes at `addr`, if a length has them all.
 #[inline(always)]
 pub(crate) fn end_of(length: usize, addr: u64, count: u64) -> Result<usize, OutOfBounds>
     ensures place { IfOk result (λ end. end ≡ addr + count) }
@@ -20,7 +20,7 @@ pub(crate) fn end_of(length: usize, addr: u64, count: u64) -> Result<usize, OutO
     }
 }
 
-/// The number that `width` bytes stand for.
+/// The number that `width` bytes encode.
 #[inline(always)]
 pub(crate) fn load(bytes: &[u8], addr: u64, width: usize) -> Result<u64, OutOfBounds>
     requires { width ≤ 8 }
@@ -35,7 +35,7 @@ pub(crate) fn load(bytes: &[u8], addr: u64, width: usize) -> Result<u64, OutOfBo
     Ok(u64::from_le_bytes(word))
 }
 
-/// The same, of a width that is known only at run time.
+/// The number that `width` bytes encode, for a width that is known only at run time.
 #[inline(always)]
 pub(crate) fn load_width(bytes: &[u8], addr: u64, width: u32) -> Result<u64, OutOfBounds>
     requires { IsTrue (is_width width) }
@@ -52,7 +52,7 @@ pub(crate) fn load_width(bytes: &[u8], addr: u64, width: u32) -> Result<u64, Out
     }
 }
 
-/// Puts a word in the place of as many bytes.
+/// Replaces as many bytes by a word.
 #[inline(always)]
 fn replace<const N: usize>(part: &mut [u8], word: [u8; N])
     requires { length part.old ≡ N }
@@ -113,7 +113,7 @@ pub(crate) fn put(bytes: &mut [u8], addr: u64, news: &[u8]) -> Result<(), OutOfB
     Ok(())
 }
 
-/// Writes at `to` the `count` bytes that stand at `from`, which end before it.
+/// Writes at `to` the `count` bytes at `from`, which end before it.
 #[inline(always)]
 fn copy_up(bytes: &mut [u8], to: usize, from: usize, count: usize)
     requires apart { from + count ≤ to }
@@ -124,7 +124,7 @@ fn copy_up(bytes: &mut [u8], to: usize, from: usize, count: usize)
     back[..count].copy_from_slice(&front[from..from + count]);
 }
 
-/// Writes at `to` the `count` bytes that stand at `from`, which begin after the place of the last.
+/// Writes at `to` the `count` bytes at `from`, which begin after the place of the last.
 #[inline(always)]
 fn copy_down(bytes: &mut [u8], to: usize, from: usize, count: usize)
     requires apart { to + count ≤ from }
@@ -135,7 +135,7 @@ fn copy_down(bytes: &mut [u8], to: usize, from: usize, count: usize)
     front[to..to + count].copy_from_slice(&back[..count]);
 }
 
-/// Writes at `to` the `count` bytes that stand at `from`, as if all were read first. Ranges apart
+/// Writes at `to` the `count` bytes at `from`, as if all were read first. Ranges apart
 /// from each other are copied by the one instruction for that.
 #[inline]
 pub(crate) fn copy_range(bytes: &mut [u8], to: usize, from: usize, count: usize)

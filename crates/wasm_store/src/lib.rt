@@ -5,8 +5,6 @@ pub mod bounds;
 mod bytes;
 pub mod store;
 mod table;
-#[cfg(test)]
-mod tests;
 
 pub use bounds::{OutOfBounds, OutOfTable};
 pub use store::Store;

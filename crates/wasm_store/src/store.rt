@@ -10,13 +10,13 @@ ghost use Rattle.wasm_store.specs.Calls as calls;
 
 use crate::bounds::{OutOfBounds, OutOfTable};
 use crate::{bytes, table};
-use no_memory::NoMemory;
+use base::NoMemory;
 use std::alloc::Global;
 use std::marker::Model;
 use wasm_syntax::limits::{MOST_ENTRIES, MOST_PAGES, PAGE_SIZE};
 use wasm_syntax::{Limits, Val};
 
-/// A memory, a table and globals (Core 1.0, 4.2.3). There may be no memory and no table.
+/// A memory, a table and globals (Core 1.0, 4.2.3). The memory and the table may be absent.
 #[derive(Drop)]
 pub struct Store {
     bytes: Vec<u8>,
@@ -38,7 +38,7 @@ impl Model for Store {
     ghost invariant = { λ s. IsSized s.bytes.items s.pages s.memory s.entries.items s.table };
 }
 
-/// How many pages or entries there are at first.
+/// The number of pages or entries at first.
 fn minimum(limits: Option<Limits>) -> u32
     ensures { result ≡ minimum_of limits }
 {
@@ -48,7 +48,7 @@ fn minimum(limits: Option<Limits>) -> u32
     }
 }
 
-/// How many bytes a number of pages has (Core 1.0, 4.2.8).
+/// The number of bytes of a number of pages (Core 1.0, 4.2.8).
 fn byte_count(pages: u32) -> usize
     requires { pages ≤ MOST_PAGES }
     ensures { result ≡ pages * PAGE_SIZE }
@@ -56,7 +56,7 @@ fn byte_count(pages: u32) -> usize
     pages as usize * PAGE_SIZE as usize
 }
 
-/// The most pages or entries by these limits. None where they name none.
+/// The most pages or entries by these limits. None if they name no maximum.
 fn maximum(limits: Option<Limits>) -> Option<u32>
     ensures { result ≡ maximum_of limits }
 {
@@ -66,8 +66,8 @@ fn maximum(limits: Option<Limits>) -> Option<u32>
     }
 }
 
-/// The size of a memory or a table with `by` pages or entries more, where neither its maximum nor
-/// the most of any memory or table forbid it.
+/// The size of a memory or a table with `by` pages or entries more, unless its maximum or
+/// the most of any memory or table forbids it.
 fn grown_size(size: u32, by: u32, max: Option<u32>, most: u32) -> Option<u32>
     ensures { let grown = size + by
         in result ≡ size_if (is_within grown max && nat_le grown most) grown }
@@ -89,7 +89,7 @@ impl Store {
     /// these globals (Core 1.0, 4.5.3). The minima are within the limits of this project.
     ///
     /// # Errors
-    /// Where an allocation failed.
+    /// If an allocation failed.
     pub fn new(
         alloc: Global,
         pages: Option<Limits>,
@@ -121,7 +121,7 @@ impl Store {
     /// An equal store.
     ///
     /// # Errors
-    /// Where an allocation failed.
+    /// If an allocation failed.
     pub fn clone(&self) -> Result<Store, NoMemory>
         ensures { IfOk result (λ copy. copy ≡ self.now) }
     {
@@ -143,14 +143,14 @@ impl Store {
         self.memory.is_some()
     }
 
-    /// The bytes of the memory, none where there is no memory.
+    /// The bytes of the memory, empty if there is no memory.
     pub fn bytes(&self) -> &[u8]
         ensures { result.now ≡ calls.bytes_in self.now }
     {
         self.bytes.as_slice()
     }
 
-    /// The size of the memory in pages of 65,536 bytes, 0 where there is no memory.
+    /// The size of the memory in pages of 65,536 bytes, 0 if there is no memory.
     pub fn pages(&self) -> u32
         ensures size { result ≡ calls.pages_in self.now }
         ensures whole { length (calls.bytes_in self.now) ≡ result * PAGE_SIZE }
@@ -159,12 +159,12 @@ impl Store {
         self.pages
     }
 
-    /// Adds pages of zeros to the memory, which is there, and answers its old size in pages (Core
-    /// 1.0, 4.5.3). None, and nothing is changed, where its maximum or the most pages of any memory
-    /// forbid the new size.
+    /// Adds pages of zeros to the memory, which exists, and returns its old size in pages (Core
+    /// 1.0, 4.5.3). None, and nothing is changed, if its maximum or the most pages of any memory
+    /// forbids the new size.
     ///
     /// # Errors
-    /// Where an allocation failed; nothing is changed then.
+    /// If an allocation failed; nothing is changed then.
     pub fn grow(&mut self, pages: u32) -> Result<Option<u32>, NoMemory>
         requires { IsSome self.old.memory }
         ensures grown { IfOk result
@@ -185,11 +185,11 @@ impl Store {
         Ok(Some(old))
     }
 
-    /// Adds empty entries to the table, which is there, and answers its old size. None, and nothing
-    /// is changed, where its maximum or the most entries of any table forbid the new size.
+    /// Adds empty entries to the table, which exists, and returns its old size. None, and nothing
+    /// is changed, if its maximum or the most entries of any table forbids the new size.
     ///
     /// # Errors
-    /// Where an allocation failed; nothing is changed then.
+    /// If an allocation failed; nothing is changed then.
     pub fn grow_table(&mut self, entries: u32) -> Result<Option<u32>, NoMemory>
         requires { IsSome self.old.table }
         ensures grown { IfOk result
@@ -204,10 +204,10 @@ impl Store {
         self.grow_table_with(entries, None)
     }
 
-    /// The same with entries that hold a function (Core 2.0, 4.4.6, `table.grow`), or are empty.
+    /// Adds entries that hold a function (Core 2.0, 4.4.6, `table.grow`), or are empty, as `grow_table` does.
     ///
     /// # Errors
-    /// Where an allocation failed; nothing is changed then.
+    /// If an allocation failed; nothing is changed then.
     #[inline]
     pub fn grow_table_with(
         &mut self,
@@ -232,11 +232,11 @@ impl Store {
         Ok(Some(old_size))
     }
 
-    /// The number that `width` bytes at `addr` stand for, the lowest first (Core 1.0, 4.4.4). The
+    /// The number that `width` bytes at `addr` encode, the lowest first (Core 1.0, 4.4.4). The
     /// width is 1, 2, 4 or 8.
     ///
     /// # Errors
-    /// Where these bytes are not all within the memory.
+    /// If these bytes are not all within the memory.
     #[inline(always)]
     pub fn load_at(&self, addr: u64, width: u32) -> Result<u64, OutOfBounds>
         requires { IsTrue (calls.is_width width) }
@@ -251,7 +251,7 @@ impl Store {
     /// width is 1, 2, 4 or 8.
     ///
     /// # Errors
-    /// Where these bytes are not all within the memory; nothing is changed then.
+    /// If these bytes are not all within the memory; nothing is changed then.
     #[inline(always)]
     pub fn store_at(&mut self, addr: u64, width: u32, bits: u64) -> Result<(), OutOfBounds>
         requires { IsTrue (calls.is_width width) }
@@ -266,7 +266,7 @@ impl Store {
     /// Writes bytes at `addr`.
     ///
     /// # Errors
-    /// Where these are not all within the memory; nothing is changed then.
+    /// If these are not all within the memory; nothing is changed then.
     pub fn put_bytes(&mut self, addr: u64, bytes: &[u8]) -> Result<(), OutOfBounds>
         ensures ok { OnOk result (calls.put_bytes self.old addr bytes.now ≡ Some self.new) }
         ensures err { OnErr result (calls.put_bytes self.old addr bytes.now ≡ None) }
@@ -275,10 +275,10 @@ impl Store {
         bytes::put(self.bytes.as_mut_slice(), addr, bytes)
     }
 
-    /// Writes at `to` the `count` bytes that stand at `from`, as if all were read first.
+    /// Writes at `to` the `count` bytes at `from`, as if all were read first.
     ///
     /// # Errors
-    /// Where either range is not within the memory; nothing is changed then.
+    /// If either range is not within the memory; nothing is changed then.
     #[inline]
     pub fn move_bytes(&mut self, to: u64, from: u64, count: u64) -> Result<(), OutOfBounds>
         ensures ok { OnOk result (calls.move_bytes self.old to from count ≡ Some self.new) }
@@ -300,7 +300,7 @@ impl Store {
     /// Writes `count` times `byte` from `to` on.
     ///
     /// # Errors
-    /// Where the range is not within the memory; nothing is changed then.
+    /// If the range is not within the memory; nothing is changed then.
     #[inline]
     pub fn fill_bytes(&mut self, to: u64, byte: u8, count: u64) -> Result<(), OutOfBounds>
         ensures ok { OnOk result (calls.fill_bytes self.old to byte count ≡ Some self.new) }
@@ -320,7 +320,7 @@ impl Store {
         self.table.is_some()
     }
 
-    /// The number of entries of the table, 0 where there is no table.
+    /// The number of entries of the table, 0 if there is no table.
     #[inline]
     pub fn table_size(&self) -> u32
         ensures size { result ≡ length (calls.entries_in self.now) }
@@ -329,10 +329,10 @@ impl Store {
         self.entries.len() as u32
     }
 
-    /// The function in an entry of the table, or none where the entry is empty.
+    /// The function in an entry of the table, or None if the entry is empty.
     ///
     /// # Errors
-    /// Where the index is not below the table's size.
+    /// If the index is not below the table's size.
     #[inline(always)]
     pub fn entry(&self, index: u32) -> Result<Option<u32>, OutOfTable>
         ensures ok { IfOk result (λ entry. calls.entry_at self.now index ≡ Some entry) }
@@ -347,7 +347,7 @@ impl Store {
     /// Puts a function into an entry of the table, or empties it (Core 2.0, 4.4.6).
     ///
     /// # Errors
-    /// Where the index is not below the table's size; nothing is changed then.
+    /// If the index is not below the table's size; nothing is changed then.
     pub fn set_entry(&mut self, index: u32, func: Option<u32>) -> Result<(), OutOfTable>
         ensures ok { OnOk result (calls.set_entry self.old index func ≡ Some self.new) }
         ensures err { OnErr result (calls.set_entry self.old index func ≡ None) }
@@ -361,7 +361,7 @@ impl Store {
         Ok(())
     }
 
-    /// The entries of the table in order, none where there is no table.
+    /// The entries of the table, empty if there is no table.
     pub fn entries(&self) -> &[Option<u32>]
         ensures { result.now ≡ calls.entries_in self.now }
     {
@@ -371,7 +371,7 @@ impl Store {
     /// Puts functions into the entries from `index` on.
     ///
     /// # Errors
-    /// Where these are not all below the table's size; nothing is changed then.
+    /// If these are not all below the table's size; nothing is changed then.
     pub fn put_funcs(&mut self, index: u64, funcs: &[u32]) -> Result<(), OutOfTable>
         ensures ok { OnOk result (calls.put_funcs self.old index funcs.now ≡ Some self.new) }
         ensures err { OnErr result (calls.put_funcs self.old index funcs.now ≡ None) }
@@ -380,14 +380,14 @@ impl Store {
         table::put_funcs(self.entries.as_mut_slice(), index, funcs)
     }
 
-    /// The globals in order.
+    /// The globals, by their indices.
     pub fn globals(&self) -> &[Val]
         ensures { result.now ≡ self.now.globals }
     {
         self.globals.as_slice()
     }
 
-    /// The value of a global, which is there.
+    /// The value of a global, which exists.
     #[inline(always)]
     pub fn global(&self, index: u32) -> Val
         requires { index < length self.now.globals }
@@ -396,7 +396,7 @@ impl Store {
         self.globals[index as usize]
     }
 
-    /// Gives a value to a global, which is there.
+    /// Gives a value to a global, which exists.
     #[inline(always)]
     pub fn set_global(&mut self, index: u32, value: Val)
         requires { index < length self.old.globals }

@@ -6,7 +6,7 @@ ghost use Rattle.wasm_store.specs.Calls.{with_funcs_at};
 use crate::bounds::OutOfTable;
 use crate::bytes::end_of;
 
-/// Puts functions in the place of as many entries.
+/// Replaces as many entries by functions.
 fn replace(part: &mut [Option<u32>], funcs: &[u32])
     requires { length part.old ≡ length funcs.now }
     ensures { part.new ≡ map (λ func. Some func) funcs.now }

@@ -30,7 +30,7 @@ place : Form → List ℕ → ℕ
 unfolding expr is_utf8 chars lib.Utf8.encode first_bytes first_name first_func_type first_limits first_table_type first_mutability first_global_type first_import_kind first_import first_global first_export_kind first_export first_elem first_data first_run first_locals first_code first_section next_section lawful_sections read_sections fault_place
 place form bytes = fault_place form bytes
 
--- ---- blocks: an `Else` stands in an `if` alone, once, and each block has its `End`
+-- ---- blocks: an `Else` is in an `if` alone, once, and each block has its `End`
 
 if_else : expr Core (0x04 ∷ 0x40 ∷ 0x01 ∷ 0x05 ∷ 0x01 ∷ 0x0B ∷ 0x0B ∷ []) ≡ Some (If None ∷ Nop ∷ Else ∷ Nop ∷ End ∷ End ∷ [])
 unfolding expr
@@ -114,7 +114,7 @@ copies : (instr Core (0xFC ∷ 0x0A ∷ 0x00 ∷ 0x00 ∷ []) ≡ Some MemoryCop
 unfolding instr
 copies = (refl, refl, refl, refl, refl)
 
--- bytes that lack, that name another memory, that spell its index longer
+-- bytes that are cut short, that name another memory, that spell its index longer
 no_copies : (instr Core (0xFC ∷ []) ≡ None) × (instr Core (0xFC ∷ 0x0A ∷ []) ≡ None) × (instr Core (0xFC ∷ 0x0A ∷ 0x00 ∷ []) ≡ None)
     × (instr Core (0xFC ∷ 0x0A ∷ 0x01 ∷ 0x00 ∷ []) ≡ None) × (instr Core (0xFC ∷ 0x0A ∷ 0x00 ∷ 0x01 ∷ []) ≡ None)
     × (instr Core (0xFC ∷ 0x0A ∷ 0x80 ∷ 0x00 ∷ 0x00 ∷ []) ≡ None)
@@ -185,7 +185,7 @@ locals : List ℕ → Option (List Run)
 unfolding first_u32 first_val_type first_run first_locals
 locals bytes = whole first_locals bytes
 
--- those of none are left out, and neighbours of one type joined
+-- runs of no locals are left out, and neighbours of one type are joined
 joined : locals (0x04 ∷ 0x02 ∷ 0x7F ∷ 0x00 ∷ 0x7E ∷ 0x03 ∷ 0x7F ∷ 0x01 ∷ 0x7E ∷ []) ≡ Some (record { count = 5; ty = I32 } ∷ record { count = 1; ty = I64 } ∷ [])
 unfolding locals
 joined = refl
@@ -209,7 +209,7 @@ twice : place Core (preamble ++ 0x01 ∷ 0x01 ∷ 0x00 ∷ 0x01 ∷ 0x01 ∷ 0x0
 unfolding place
 twice = refl
 
--- custom sections of an empty name stand before, between and after
+-- custom sections of an empty name are before, between and after the others
 customs : place Core (preamble ++ 0x00 ∷ 0x01 ∷ 0x00 ∷ 0x01 ∷ 0x01 ∷ 0x00 ∷ 0x00 ∷ 0x02 ∷ 0x00 ∷ 0xFF ∷ 0x05 ∷ 0x01 ∷ 0x00 ∷ 0x00 ∷ 0x01 ∷ 0x00 ∷ []) ≡ 24
 unfolding place
 customs = refl

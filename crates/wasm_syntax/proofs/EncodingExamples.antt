@@ -46,7 +46,7 @@ two_answers_both_ways :
 unfolding two_answers_bytes read write
 two_answers_both_ways = (refl, refl, refl)
 
--- its first 40 bytes end within the section that begins at 35
+-- the first 40 bytes of the encoding end within the section that begins at 35
 cut_short :
     (read_module Core (take 40 two_answers_bytes) ≡ None)
     × (fault_place Core (take 40 two_answers_bytes) ≡ 35)

@@ -1,4 +1,4 @@
--- The types of the functions of a valid module are there.
+-- The types of the functions of a valid module exist.
 use Rattle.std.proofs.Common.{◌<◌, List, [], ◌∷◌, length, map}
 use Rattle.std.specs.Prelude.{All}
 use Rattle.std.specs.List.{cons_option}
@@ -25,7 +25,7 @@ imports_typed m (i ∷ imports) all =
     by (import.Memory limits) own later = later
     by (import.Global ty) own later = later
 
--- of the imported functions and of the module's own
+-- the types of the imported functions and of the module's own exist
 pub func_types_there : (m : Module) → IsValidOutside m → All (λ t. t < length m.types) (func_indices m)
 func_types_there m valid =
     All-append (λ t. t < length m.types) (of_kind func_import m.imports) (map (λ (f : Func). f.ty) m.funcs)

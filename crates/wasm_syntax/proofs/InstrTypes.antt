@@ -1,10 +1,10 @@
--- What is known after an instruction is exactly where its type leads.
+-- What is known after an instruction holds of exactly the stacks to which its type leads.
 use Rattle.std.proofs.Common.{◌≡◌, ℕ, List, [], ◌∷◌, ◌++◌, Option, Some, None, Bool, true, false, cond, ◌&&◌, IsTrue, slice_get, option_and_then, refl, sym, ap, ◌∙◌, subst}
 use Rattle.std.proofs.lemmas.List.Elements.{All-from_recursion, recursion_from_All}
 use Rattle.std.specs.List.{list_all, AllByRecursion}
 use Rattle.std.specs.Cmp.Lexicographic.{pointwise, pointwise_decides}
-use Rattle.list_laws.proofs.Booleans.{and_parts, and_true}
-use Rattle.list_laws.proofs.Options.{and_then_some, cond_some}
+use Rattle.base.proofs.Booleans.{and_parts, and_true}
+use Rattle.base.proofs.Options.{and_then_some, cond_some}
 use Rattle.wasm_syntax.proofs.ValTypes.{type_same, type_own}
 use Rattle.wasm_syntax.specs.declared.values.ValType.{ValType}
 use Rattle.wasm_syntax.specs.declared.values.ValType.TheVariants.{I32}
@@ -149,7 +149,7 @@ shared_from labels label (l ∷ ls) h =
 
 -- ---- each effect
 
--- where a type leads from a stack of which this is known, what is known after it is known of that
+-- what is known after an instruction of a type holds of the stacks to which it leads from a stack of what is known
 pub behind_fits : (ctx : Context) (effect : Option InstrType) (stack : Known) (before after : List ValType)
     → Fits stack before → Leads ctx effect before after
     → (next : Known) × (after_instr ctx effect stack ≡ Some next) × Fits next after
@@ -172,7 +172,7 @@ behind_fits ctx (Some (Switches targets)) stack before after fits leads =
     let p = pops_fits (I32 ∷ it.0) stack q.0 q.1 in
     (anything, rw it.1 (rw p.1 refl), tt)
 
--- a stack of which is known what is known after a type is one to which it leads
+-- a stack that fits what is known after a type is one to which it leads
 pub behind_from : (ctx : Context) (effect : Option InstrType) (stack next : Known) (after : List ValType)
     → after_instr ctx effect stack ≡ Some next → Fits next after
     → (before : List ValType) × Fits stack before × Leads ctx effect before after

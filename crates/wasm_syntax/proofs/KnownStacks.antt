@@ -1,7 +1,7 @@
--- What pushing and popping on known stacks means for the stacks of which this is known.
+-- What pushing and popping on known stacks means for the stacks that fit them.
 use Rattle.std.proofs.Common.{◌≡◌, List, [], ◌∷◌, ◌++◌, Option, Some, None, Bool, true, false, option_and_then, refl, sym, ap, ◌∙◌, subst}
 use Rattle.std.proofs.lemmas.List.{append-nil}
-use Rattle.list_laws.proofs.Options.{and_then_some, cond_some}
+use Rattle.base.proofs.Options.{and_then_some, cond_some}
 use Rattle.wasm_syntax.proofs.ValTypes.{type_same, type_own}
 use Rattle.wasm_syntax.specs.declared.values.ValType.{ValType}
 use Rattle.wasm_syntax.specs.declared.values.ValType.TheVariants.{I32}

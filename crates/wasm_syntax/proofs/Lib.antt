@@ -16,3 +16,6 @@ mod ValidityExamples
 mod EncodingCases
 pub mod Encoding
 pub mod ValTypes
+pub mod ItemLists
+pub mod SectionLists
+pub mod VectorLists

@@ -199,7 +199,7 @@ replay_two_answers = record empty_module {
   customs = record { name = codes "r3.layout"; bytes = 1 ∷ 1 ∷ [] } ∷ [];
 }
 
--- the same with two `nop`s in place of the second call
+-- a function that adds two answers, with two `nop`s instead of the second call
 abbrev pub two_answers_untyped : Module
 two_answers_untyped = record empty_module {
   types = func_type [] (I32 ∷ []) ∷ [];

@@ -1,7 +1,7 @@
--- What is known after a sequence is exactly where its typing leads.
+-- What is known after a sequence holds of exactly the stacks to which its typing leads.
 use Rattle.std.proofs.Common.{◌≡◌, List, [], ◌∷◌, ◌++◌, Option, Some, true, ◌&&◌, option_and_then, refl, sym, subst}
-use Rattle.list_laws.proofs.Booleans.{and_parts, and_true}
-use Rattle.list_laws.proofs.Options.{and_then_some, cond_some}
+use Rattle.base.proofs.Booleans.{and_parts, and_true}
+use Rattle.base.proofs.Options.{and_then_some, cond_some}
 use Rattle.wasm_syntax.specs.declared.values.ValType.{ValType}
 use Rattle.wasm_syntax.specs.declared.values.ValType.TheVariants.{I32}
 use Rattle.wasm_syntax.specs.Nest.{Nest, Empty, Plain, InBlock, InLoop, InIf, InIfElse}
@@ -10,7 +10,7 @@ use Rattle.wasm_syntax.specs.KnownStacks.{Known, nothing, Fits, push_types, pop,
 use Rattle.wasm_syntax.proofs.KnownStacks.{pop_fits, pop_from_fits, pushed_fits, below_pushed, ends_fits, fits_from_ends}
 use Rattle.wasm_syntax.proofs.InstrTypes.{behind_fits, behind_from}
 
--- a stack of which nothing is known to be there is empty
+-- a stack that fits `nothing` is empty
 none_there : (types : List ValType) → Fits nothing types → types ≡ []
 none_there types h = h
 
@@ -19,7 +19,7 @@ ends_at : (types : List ValType) (o : Option Known) → (next : Known) × (o ≡
     → ends types o ≡ true
 ends_at types o p = rw p.1 (ends_fits types p.0 p.2)
 
--- where a sequence is typed from a stack of which this is known, what is known after it is known of the stack after
+-- what is known after a typed sequence holds of the stack after it
 pub checked_fits : (ctx : Context) (nest : Nest) (stack : Known) (before after : List ValType) → Fits stack before
     → IsTyped ctx nest before after
     → (next : Known) × (known_after ctx nest stack ≡ Some next) × Fits next after
@@ -69,7 +69,7 @@ body_typed ctx body types each over =
     let q = each p.0 p.1 p.2 in
     subst (λ l. IsTyped ctx body l types) q.1 q.2
 
--- what stands after a block is typed from the block's results and the stack below
+-- the rest of a body after a block is typed from the block's results and the stack below
 behind_block : (ctx : Context) (rest : Nest) (types : List ValType) (stack : Known) (after : List ValType)
     → (before : List ValType) × Fits (push_types types stack) before × IsTyped ctx rest before after
     → (below : List ValType) × Fits stack below × IsTyped ctx rest (types ++ below) after
@@ -84,7 +84,7 @@ empty_else types over =
     let is_none : nothing ≡ none.0 = cc in
     sym (none_there types (subst (λ k. Fits k types) (sym is_none) none.2))
 
--- a stack of which is known what is known after a sequence is one to which the sequence is typed
+-- a stack that fits what is known after a sequence is one to which the sequence is typed
 pub checked_from : (ctx : Context) (nest : Nest) (stack next : Known) (after : List ValType)
     → known_after ctx nest stack ≡ Some next → Fits next after
     → (before : List ValType) × Fits stack before × IsTyped ctx nest before after

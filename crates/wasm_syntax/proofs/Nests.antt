@@ -15,7 +15,7 @@ plain_in_front Else first around h = cc
 plain_in_front End first around h = cc
 plain_in_front i first around h = refl
 
--- what stands before an `End`, with what stands after it
+-- what is before an `End`, with what is after it
 spread : (inner : List Instr) (i : Instr) (rest is : List Instr) → (inner ++ i ∷ rest) ++ is ≡ inner ++ i ∷ (rest ++ is)
 spread inner i rest is = append_assoc inner (i ∷ rest) is
 

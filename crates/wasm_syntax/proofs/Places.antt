@@ -43,7 +43,7 @@ some_default : (p : Func → Bool) (funcs : List Func) (place : ℕ) → positio
 some_default p [] place e = cc
 some_default p (f ∷ funcs) place e = f
 
--- where no item is found, each fails
+-- if no item is found, the test fails on each
 none_found : {X : Type 0} (p : X → Bool) (xs : List X) (k : ℕ) (d : X) → position p xs ≡ None → k < length xs
     → p (get_or xs k d) ≡ false
 none_found p xs k d e below =
@@ -59,7 +59,7 @@ bodies_place m outside None e = record {
 bodies_place m outside (Some place) e =
     (outside, (place, refl, first_untyped_by m place (some_default (λ f. not (is_typed_func m f)) m.funcs place e) e))
 
--- the plain test finds where a module is invalid
+-- the plain test finds the place at which a module is invalid
 pub place_found : (m : Module) → MatchOption (invalid_at m) (IsValid m) (λ place. IsInvalidAt m place)
 place_found m = by (is_valid_outside m) refl
   where
@@ -70,7 +70,7 @@ place_found m = by (is_valid_outside m) refl
 
 -- ---- a module is not both, and has one place at most
 
--- one that is found passes what all pass
+-- a function that is found has the property that all have
 at_found : (P : Func → Type 0) (funcs : List Func) (place : ℕ) (f : Func) → All P funcs → slice_get funcs place ≡ Some f
     → P f
 at_found P funcs place f all e =

@@ -44,13 +44,13 @@ func_decides a b =
     (λ h. let p = both.0 h in (λ i. record { params = p.0 i; results = p.1 i }), λ e. both.1 (ap (λ t. t.params) e, ap (λ t. t.results) e))
 
 module _ {K : Type 0} {eq : K → K → Bool} (same : (a b : K) → Decides (eq a b) (a ≡ b)) (ks : List K) (k : K) (place : ℕ) where
-  -- a key that is found stands at its place
+  -- a key that is found is at its place
   pub found_at : position (eq k) ks ≡ Some place → slice_get ks place ≡ Some k
   found_at h =
       let p = position-Some (eq k) ks place k h in
       slice_get-get_or ks place k p.0 ∙ ap Some (sym ((same k (get_or ks place k)).0 p.1))
 
-  -- and is among the keys
+  -- a key that is found is among the keys
   pub found_in : position (eq k) ks ≡ Some place → Contains ks k
   found_in h =
       let p = position-Some (eq k) ks place k h in

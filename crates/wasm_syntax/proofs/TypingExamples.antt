@@ -1,5 +1,5 @@
--- Bodies that have a typing and bodies that have none, at least one of each for each rule (Core 1.0, 3.3; Core 2.0,
--- 3.3.1, 3.3.2, 3.3.6 and 3.3.7).
+-- Bodies that have a typing and bodies that have no typing, at least one of each for each rule (Core 1.0, 3.3;
+-- Core 2.0, 3.3.1, 3.3.2, 3.3.6 and 3.3.7).
 use Rattle.std.proofs.Common.{◌≡◌, ℕ, ◌^◌, List, [], ◌∷◌, ◌++◌, Option, Some, None, Bool, true, false, not, All, Decides, refl, ap, ◌∙◌}
 use Rattle.std.specs.List.{list_all}
 use Rattle.std.proofs.lemmas.Bool.Decides.{Decides-by_and, Decides-not}
@@ -13,7 +13,7 @@ use Rattle.wasm_syntax.specs.ValidityTests.{nest_ends}
 use Rattle.wasm_syntax.proofs.Nests.{nest_of_body, body_of_nest}
 use Rattle.wasm_syntax.proofs.NestTypes.{typed_from_ends, ends_from_typed}
 
--- ---- where the bodies stand
+-- ---- the contexts of the bodies
 
 abbrev Row : Type 0
 Row = List ValType × List Instr
@@ -33,11 +33,11 @@ giving results = record {
   declared = 1 ∷ [];
 }
 
--- the same with neither table nor memory
+-- a context with neither table nor memory
 abbrev bare : List ValType → Context
 bare results = record (giving results) { tables = []; memories = [] }
 
--- the body is nested, and typed to what stands beside it
+-- the body is nested, and has the typing of its row
 record HasTyping (ctx : Context) (row : Row) : Type 0 where
   nest : Nest
   is_body : IsBody nest (row.1 ++ End ∷ [])

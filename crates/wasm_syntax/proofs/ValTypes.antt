@@ -1,14 +1,14 @@
 -- The tests for equality of value types, of lists of them and of function types: each passes for equals alone.
 use Rattle.std.proofs.Common.{◌≡◌, ℕ, List, [], ◌∷◌, true, cond, nat_eq, refl, sym, ap, ◌∙◌}
 use Rattle.std.proofs.lemmas.Bool.Decides.{Decides-eqb}
-use Rattle.list_laws.proofs.Booleans.{and_parts, and_true}
-use Rattle.wasm_opcodes.specs.declared.marks.TheConstants.{TYPE_I32, TYPE_I64, TYPE_F32, TYPE_F64}
+use Rattle.base.proofs.Booleans.{and_parts, and_true}
+use Rattle.base.specs.declared.marks.TheConstants.{TYPE_I32, TYPE_I64, TYPE_F32, TYPE_F64}
 use Rattle.wasm_syntax.specs.declared.values.ValType.{ValType}
 use Rattle.wasm_syntax.specs.declared.values.ValType.TheVariants.{I32, I64, F32, F64, FuncRef}
 use Rattle.wasm_syntax.specs.declared.signatures.FuncType.{FuncType}
 use Rattle.wasm_syntax.specs.Alike.{type_byte, same_type, same_types, same_signature}
 
--- the type that a byte stands for
+-- the type that a byte encodes
 abbrev type_of_byte : ℕ → ValType
 type_of_byte byte =
     cond (nat_eq byte TYPE_I32) I32 (cond (nat_eq byte TYPE_I64) I64 (cond (nat_eq byte TYPE_F32) F32

@@ -166,7 +166,7 @@ invalid_outside =
     ∷ with_import (import.Memory (limits 65537 None))
     ∷ with_import (import.Memory (limits 0 (Some 65537)))
     ∷ with_import (import.Global (record { ty = FuncRef; mutable = false }))
-    -- a function: no type of this index, a local that is a reference
+    -- a function: an absent type index, a local that is a reference
     ∷ outside (record empty_module { funcs = body [] ∷ [] })
     ∷ outside (record empty_module { types = func_type [] [] ∷ []; funcs = record { ty = 0; locals = record { count = 1; ty = FuncRef } ∷ []; body = End ∷ [] } ∷ [] })
     -- a table, a memory: limits
@@ -174,7 +174,7 @@ invalid_outside =
     ∷ outside (record empty_module { memories = limits 2 (Some 1) ∷ [] })
     ∷ outside (record empty_module { memories = limits 65537 None ∷ [] })
     ∷ outside (record empty_module { memories = limits 1 (Some 65537) ∷ [] })
-    -- a global: another type, a reference, none or two instructions, no constant, a global that is mutable, defined or not there
+    -- a global: another type, a reference, no instruction or two, no constant, a mutable, defined or absent global
     ∷ with_global I32 (expression (constant I64 0))
     ∷ with_global FuncRef (expression (constant FuncRef 0))
     ∷ with_global I32 (End ∷ [])
@@ -192,7 +192,7 @@ invalid_outside =
     ∷ with_export (Memory 1)
     ∷ with_export (Global 4)
     ∷ outside (record whole { exports = record { name = codes "f"; kind = Func 1 } ∷ record { name = codes "g"; kind = Func 1 } ∷ record { name = codes "f"; kind = Memory 0 } ∷ [] })
-    -- a start function that is not there, that takes arguments, that gives a result
+    -- a start function that does not exist, that takes arguments, that gives a result
     ∷ with_start 3
     ∷ with_start 0
     ∷ outside (record empty_module { types = func_type [] (I32 ∷ []) ∷ []; funcs = body (constant I32 0 ∷ []) ∷ []; start = Some 0 })

@@ -1,4 +1,4 @@
--- The module that has nothing.
+-- The empty module.
 use Rattle.std.specs.Prelude.{[], None}
 use Rattle.wasm_syntax.specs.declared.modules.Module.{Module}
 

@@ -9,8 +9,8 @@ pub use Rattle.wasm_syntax.specs.Alike.{same_type}
 use Rattle.wasm_syntax.specs.Nest.{Nest, Empty, Plain, InBlock, InLoop, InIf, InIfElse}
 use Rattle.wasm_syntax.specs.Typing.{Context, InstrType, Moves, Drops, Selects, Leaves, Switches, instr_type, is_number, is_block_type, results_of, inside}
 
--- what is known of a stack, the top first: of each operand its type, or else that it is a number; and whether
--- anything may stand below these, or nothing
+-- what is known of a stack, the top first: for each operand its type, or else that it is a number; and whether
+-- anything, or nothing, may be below these
 pub record Known : Type 0 where
   pub slots : List (Option ValType)
   pub free : Bool
@@ -18,19 +18,19 @@ pub record Known : Type 0 where
 abbrev pub known_stack : List (Option ValType) → Bool → Known
 known_stack slots free = record { slots = slots; free = free }
 
--- nothing is known; nothing is there
+-- nothing is known: any operands may be on the stack
 abbrev pub anything : Known
 anything = known_stack [] true
 
 abbrev pub nothing : Known
 nothing = known_stack [] false
 
--- an operand of which this is known has the type
+-- an operand that is known in this way has the type
 abbrev pub IsSlot : Option ValType → ValType → Type 0
 IsSlot None t = IsTrue (is_number t)
 IsSlot (Some u) t = t ≡ u
 
--- a stack of which this is known
+-- a stack fits what is known of it
 abbrev pub AreSlots : List (Option ValType) → Bool → List ValType → Type 0
 AreSlots [] true types = Unit {0}
 AreSlots [] false types = types ≡ []
@@ -40,7 +40,7 @@ AreSlots (slot ∷ slots) free (t ∷ types) = IsSlot slot t × AreSlots slots f
 abbrev pub Fits : Known → List ValType → Type 0
 Fits stack types = AreSlots stack.slots stack.free types
 
--- an operand may have the type
+-- whether an operand may have the type
 abbrev pub may_be : ValType → Option ValType → Bool
 may_be t None = is_number t
 may_be t (Some u) = same_type u t
@@ -49,7 +49,7 @@ may_be t (Some u) = same_type u t
 abbrev pub push_types : List ValType → Known → Known
 push_types types stack = known_stack (map Some types ++ stack.slots) stack.free
 
--- what is below an operand of this type
+-- what is known below an operand of this type
 abbrev pub pop_from : ValType → List (Option ValType) → Bool → Option Known
 pop_from t [] free = cond free (Some anything) None
 pop_from t (slot ∷ slots) free = cond (may_be t slot) (Some (known_stack slots free)) None
@@ -57,12 +57,12 @@ pop_from t (slot ∷ slots) free = cond (may_be t slot) (Some (known_stack slots
 abbrev pub pop : ValType → Known → Option Known
 pop t stack = pop_from t stack.slots stack.free
 
--- what is below operands of these types
+-- what is known below operands of these types
 abbrev pub pops : List ValType → Known → Option Known
 pops [] stack = Some stack
 pops (t ∷ types) stack = option_and_then (λ below. pops types below) (pop t stack)
 
--- what is below one operand
+-- what is known below one operand of any type
 abbrev pub drop_any : List (Option ValType) → Bool → Option Known
 drop_any [] free = cond free (Some anything) None
 drop_any (slot ∷ slots) free = Some (known_stack slots free)
@@ -73,7 +73,7 @@ common_slot None None = Some None
 common_slot None (Some u) = cond (is_number u) (Some (Some u)) None
 common_slot (Some t) other = cond (is_number t && may_be t other) (Some (Some t)) None
 
--- one of two numbers of one type
+-- what is known after one of two numbers of one type is selected
 abbrev pub select_slot : List (Option ValType) → Bool → Option Known
 select_slot [] free = cond free (Some (known_stack (None ∷ []) true)) None
 select_slot (one ∷ []) free =
@@ -81,12 +81,12 @@ select_slot (one ∷ []) free =
 select_slot (one ∷ other ∷ slots) free =
     option_and_then (λ slot. Some (known_stack (slot ∷ slots) free)) (common_slot one other)
 
--- the label takes these types
+-- whether the label takes these types
 abbrev pub takes : List ValType → Option (List ValType) → Bool
 takes label None = false
 takes label (Some other) = pointwise same_type label other
 
--- what all of the labels take
+-- the types that all of the labels take
 abbrev pub common_label : List (List ValType) → List ℕ → Option (List ValType)
 common_label labels [] = Some []
 common_label labels (l ∷ ls) =
@@ -105,7 +105,7 @@ after_instr ctx (Some (Switches targets)) stack =
     option_and_then (λ label. option_and_then (λ below. Some anything) (pops (I32 ∷ label) stack))
     (common_label ctx.labels targets)
 
--- no operand is known to be there
+-- whether no operand is known to be on the stack
 abbrev pub none_left : List (Option ValType) → Bool
 none_left [] = true
 none_left (slot ∷ slots) = false
@@ -114,7 +114,7 @@ abbrev pub is_over : Option Known → Bool
 is_over None = false
 is_over (Some stack) = none_left stack.slots
 
--- these operands may be all that there are
+-- whether these operands may be all that there are
 abbrev pub ends : List ValType → Option Known → Bool
 ends types stack = is_over (option_and_then (λ s. pops types s) stack)
 

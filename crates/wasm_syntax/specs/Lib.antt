@@ -11,3 +11,4 @@ pub mod KnownStacks
 pub mod Encoding
 pub mod ValidityTests
 pub mod Laws
+pub mod ListsWithin

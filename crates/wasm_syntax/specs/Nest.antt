@@ -14,7 +14,7 @@ pub data Nest : Type 0 where
   InIf : (ty : Option ValType) (body rest : Nest) → Nest
   InIfElse : (ty : Option ValType) (body other rest : Nest) → Nest
 
--- an instruction that neither opens, parts nor closes a block
+-- whether an instruction neither opens, parts nor closes a block
 abbrev pub is_plain : Instr → Bool
 is_plain (Block ty) = false
 is_plain (Loop ty) = false
@@ -23,7 +23,7 @@ is_plain Else = false
 is_plain End = false
 is_plain i = true
 
--- each instruction of the tree that stands alone is plain
+-- each instruction that the tree holds as a plain one is plain
 abbrev pub IsNest : Nest → Type 0
 IsNest Empty = Unit {0}
 IsNest (Plain i rest) = IsTrue (is_plain i) × IsNest rest
@@ -41,7 +41,7 @@ flat (InLoop ty body rest) = Loop ty ∷ (flat body ++ End ∷ flat rest)
 flat (InIf ty body rest) = If ty ∷ (flat body ++ End ∷ flat rest)
 flat (InIfElse ty body other rest) = If ty ∷ (flat body ++ Else ∷ (flat other ++ End ∷ flat rest))
 
--- how many instructions the sequence counts: `Else` and `End` count for none
+-- the number of instructions of the sequence, without each `Else` and `End`
 abbrev pub size : Nest → ℕ
 size Empty = 0
 size (Plain i rest) = 1 + size rest
@@ -55,19 +55,19 @@ pub record IsBody (nest : Nest) (body : List Instr) : Type 0 where
   pub nested : IsNest nest
   pub written : flat nest ++ End ∷ [] ≡ body
 
--- sequences that are open while a flat list is read from its end: the innermost first, each in an
--- `End` that is still without its opening
+-- sequences that are open while a flat list is read from its end: the innermost first, each with an
+-- `End` whose opening is still to be read
 pub data Open : Type 0 where
   Outside : Open
   InEnd : (outer : Open) (rest : Nest) → Open
   InElse : (outer : Open) (other rest : Nest) → Open
 
--- what is read: the sequence that stands first, and the open sequences round it; or no tree
+-- the part of a list that is read: the sequence at the front, and the open sequences around it; or no tree
 pub data OpenNest : Type 0 where
   NoNest : OpenNest
   Within : (first : Nest) (around : Open) → OpenNest
 
--- one more instruction in front
+-- the part that is read, after one more instruction at the front
 abbrev pub in_front : Instr → OpenNest → OpenNest
 in_front i NoNest = NoNest
 in_front End (Within first around) = Within Empty (InEnd around first)
@@ -82,12 +82,12 @@ in_front (If ty) (Within first (InElse outer other rest)) = Within (InIfElse ty 
 in_front (If ty) (Within first around) = NoNest
 in_front i (Within first around) = Within (Plain i first) around
 
--- a flat list read from its end
+-- the result of reading a flat list from its end
 abbrev pub open_nest : List Instr → OpenNest
 open_nest [] = Within Empty Outside
 open_nest (i ∷ is) = in_front i (open_nest is)
 
--- the tree of a body where it has one: its own `End` closes it, and nothing stands after
+-- the tree of a body if it has one: its own `End` closes it, and nothing comes after
 abbrev pub closed_nest : OpenNest → Option Nest
 closed_nest (Within nest (InEnd Outside Empty)) = Some nest
 closed_nest other = None

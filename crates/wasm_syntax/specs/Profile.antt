@@ -1,7 +1,7 @@
--- The accepted profile: what is refused of valid modules, and where.
+-- The accepted profile: which valid modules are refused, and at which place.
 use Rattle.std.specs.Prelude.{◌≡◌, ℕ, List, [], ◌++◌, length, sum_by, filter, filter_map, flat_map, Option, Some, None, Bool, true, false, cond, ◌||◌, nat_lt, bytes_eq, codes, slice_get, option_map}
 use Rattle.std.specs.List.{enumerate_from}
-use Rattle.wasm_opcodes.specs.declared.TheConstants.{F32_EQ, F64_GE, F32_ABS, F64_COPYSIGN, I32_TRUNC_F32_S, I32_TRUNC_F64_U, I64_TRUNC_F32_S, F64_PROMOTE_F32}
+use Rattle.base.specs.declared.opcodes.TheConstants.{F32_EQ, F64_GE, F32_ABS, F64_COPYSIGN, I32_TRUNC_F32_S, I32_TRUNC_F64_U, I64_TRUNC_F32_S, F64_PROMOTE_F32}
 use Rattle.wasm_syntax.specs.declared.limits.TheConstants.{MOST_ENTRIES, MOST_LOCALS, MOST_LOCALS_HOOKED, MOST_PAGES, MOST_PARAMETERS}
 use Rattle.wasm_syntax.specs.declared.profile.Feature.{Feature}
 use Rattle.wasm_syntax.specs.declared.profile.Feature.TheVariants.{FloatComparison, FloatArithmetic, FloatConversion}
@@ -28,7 +28,7 @@ abbrev pub refused_feature : Instr → Option Feature
 refused_feature (Numeric op) = feature_of op
 refused_feature other = None
 
--- `else` and `end` have no number of their own
+-- whether an instruction has a number, as all but `else` and `end` do
 abbrev pub is_numbered : Instr → Bool
 is_numbered Else = false
 is_numbered End = false
@@ -54,15 +54,15 @@ refused_in func f =
 abbrev pub refused_instructions : Module → List Refusal
 refused_instructions m = flat_map (λ (f : ℕ × Func). refused_in f.0 f.1) (enumerate_from (imported_funcs m) m.funcs)
 
--- a quantity past what it may be at most
+-- the refusal of a quantity that is more than the most that is allowed
 abbrev pub past : ℕ → Which → ℕ → Option Refusal
 past most which value = cond (nat_lt most value) (Some (Limit which value)) None
 
--- how many locals a function has, its parameters left out
+-- the number of locals of a function, without its parameters
 abbrev pub count_of_locals : Func → ℕ
 count_of_locals f = sum_by (λ run. run.count) f.locals
 
--- an instrumented module has five locals more
+-- the most locals of a function; an instrumented module has five more
 abbrev pub most_locals : Bool → ℕ
 most_locals hooked = cond hooked MOST_LOCALS_HOOKED MOST_LOCALS
 
@@ -74,29 +74,29 @@ quantities_past hooked m =
     ++ filter_map (λ limits. past MOST_PAGES Memory limits.min) (all_memories m)
     ++ filter_map (λ f. past (most_locals hooked) Locals (count_of_locals f)) m.funcs
 
--- an import from the module `r3`
+-- the refusal of an import from the module `r3`
 abbrev pub reserved_import : ℕ × Import → Option Refusal
 reserved_import i = cond (bytes_eq i.1.module (codes "r3")) (Some (Reserved i.0)) None
 
--- each import that only an instrumented module may have
+-- the refusal of each import that only an instrumented module may have
 abbrev pub reserved_imports : Bool → Module → List Refusal
 reserved_imports hooked m = cond hooked [] (filter_map reserved_import (enumerate_from 0 m.imports))
 
--- all that is refused, in the order in which it is named
+-- all refusals, in the order in which they are reported
 abbrev pub refusals : Bool → Module → List Refusal
 refusals hooked m = refused_instructions m ++ quantities_past hooked m ++ reserved_imports hooked m
 
--- the refusal that is named
+-- the refusal that is reported
 abbrev pub first_refusal : Bool → Module → Option Refusal
 first_refusal hooked m = slice_get (refusals hooked m) 0
 
--- an accepted module, where `hooked` says whether an instrumented one is wanted
+-- an accepted module; `hooked` is true if an instrumented one is wanted
 pub record IsAccepted (hooked : Bool) (m : Module) : Type 0 where
   pub valid : IsValid m
   pub none_refused : refusals hooked m ≡ []
 
--- a module that can be run: no instruction is refused, and the quantities are those of an instrumented one
--- at most
+-- a module that can be run: no instruction is refused, and the quantities are at most those of an instrumented
+-- one
 pub record IsSupported (m : Module) : Type 0 where
   pub instructions : refused_instructions m ≡ []
   pub quantities : quantities_past true m ≡ []

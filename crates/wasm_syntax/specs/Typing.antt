@@ -14,7 +14,7 @@ use Rattle.wasm_syntax.specs.declared.instructions.Instr.TheVariants.{Unreachabl
 use Rattle.wasm_syntax.specs.Nest.{Nest, Empty, Plain, InBlock, InLoop, InIf, InIfElse}
 use Rattle.wasm_syntax.specs.Opcodes.{numeric_shape, Access, load_of, store_of}
 
--- what is known where an instruction stands (Core 1.0, 3.1.1), the functions by their type indices,
+-- what is known at an instruction (Core 1.0, 3.1.1), the functions by their type indices,
 -- the labels with the innermost first; the functions that bodies may refer to (Core 2.0, 3.1.1)
 pub record Context : Type 0 where
   pub types : List FuncType
@@ -27,12 +27,12 @@ pub record Context : Type 0 where
   pub results : List ValType
   pub declared : List ℕ
 
--- the number types (Core 1.0, 2.3.1); a reference type is none
+-- whether a type is a number type (Core 1.0, 2.3.1), not a reference type
 abbrev pub is_number : ValType → Bool
 is_number FuncRef = false
 is_number t = true
 
--- how many bits a value of a number type has (Core 1.0, 4.2.1)
+-- the number of bits of a value of a number type (Core 1.0, 4.2.1)
 abbrev pub bits_of : ValType → ℕ
 bits_of I32 = 32
 bits_of I64 = 64
@@ -40,11 +40,11 @@ bits_of F32 = 32
 bits_of F64 = 64
 bits_of FuncRef = 0
 
--- a value of a number type
+-- whether a value is of a number type and in its range
 abbrev pub is_constant : Val → Bool
 is_constant v = is_number v.ty && nat_lt v.bits (2 ^ bits_of v.ty)
 
--- the type of an instruction that stands alone, which is what it does to the stack (Core 1.0, 3.1.2): it takes
+-- the type of a plain instruction, which is what it does to the stack (Core 1.0, 3.1.2): it takes
 -- operands and gives results; takes one value of any type; takes a condition and two numbers of one type, and gives
 -- one; takes operands and leads elsewhere; takes an index and what all of the labels take, and leads to one of them
 pub data InstrType : Type 0 where
@@ -66,11 +66,11 @@ call_of ty = Moves (reverse ty.params) (reverse ty.results)
 abbrev pub indirect_of : FuncType → InstrType
 indirect_of ty = Moves (I32 ∷ reverse ty.params) (reverse ty.results)
 
--- a global that is set is mutable (Core 1.0, 3.3.3.5)
+-- the type of `global.set`, if the global is mutable (Core 1.0, 3.3.3.5)
 abbrev pub set_of : GlobalType → Option InstrType
 set_of global = if_true global.mutable (Moves (global.ty ∷ []) [])
 
--- an access is aligned to its width at most (Core 1.0, 3.3.4.1 to 3.3.4.4)
+-- whether the alignment of an access is at most its width (Core 1.0, 3.3.4.1 to 3.3.4.4)
 abbrev pub is_aligned : MemArg → Access → Bool
 is_aligned arg access = nat_le (2 ^ arg.align) access.width
 
@@ -80,14 +80,15 @@ load_type arg access = if_true (is_aligned arg access) (Moves (I32 ∷ []) (acce
 abbrev pub store_type : MemArg → Access → Option InstrType
 store_type arg access = if_true (is_aligned arg access) (Moves (access.ty ∷ I32 ∷ []) [])
 
--- there is a table of this index, a memory (Core 1.0, 3.3.4 and 3.3.5.11; Core 2.0, 3.3.6 and 3.3.7)
+-- whether there is a table of this index (Core 1.0, 3.3.5.11; Core 2.0, 3.3.6)
 abbrev pub has_table : Context → ℕ → Bool
 has_table ctx x = is_some (slice_get ctx.tables x)
 
+-- whether there is a memory (Core 1.0, 3.3.4; Core 2.0, 3.3.7)
 abbrev pub has_memory : Context → Bool
 has_memory ctx = is_some (slice_get ctx.memories 0)
 
--- bodies may refer to the function (Core 2.0, 3.3.2.3)
+-- whether bodies may refer to the function (Core 2.0, 3.3.2.3)
 abbrev pub is_declared : Context → ℕ → Bool
 is_declared ctx f = nat_lt f (length ctx.funcs) && list_any (nat_eq f) ctx.declared
 
@@ -95,7 +96,7 @@ is_declared ctx f = nat_lt f (length ctx.funcs) && list_any (nat_eq f) ctx.decla
 abbrev pub func_at : Context → ℕ → Option FuncType
 func_at ctx f = option_and_then (slice_get ctx.types) (slice_get ctx.funcs f)
 
--- the type of each instruction that stands alone, where it has one (Core 1.0, 3.3.1 to 3.3.5; Core 2.0,
+-- the type of each plain instruction, if it has one (Core 1.0, 3.3.1 to 3.3.5; Core 2.0,
 -- 3.3.1, 3.3.2, 3.3.6 and 3.3.7). The operands of a numeric instruction are of one type, so either may be on top
 abbrev pub instr_type : Context → Instr → Option InstrType
 instr_type ctx Unreachable = Some (Leaves [])
@@ -128,18 +129,18 @@ instr_type ctx (TableGrow x) = if_true (has_table ctx x) (Moves (I32 ∷ FuncRef
 instr_type ctx (TableSize x) = if_true (has_table ctx x) (Moves [] (I32 ∷ []))
 instr_type ctx other = None
 
--- the operands are on top of the stack before, the results take their place on the stack after
+-- the operands are on top of the stack before, and the results take their place on the stack after
 pub record IsMove (operands results before after : List ValType) : Type 0 where
   pub below : List ValType
   pub had : before ≡ operands ++ below
   pub left : after ≡ results ++ below
 
--- one value is off (Core 1.0, 3.3.2.1)
+-- one value is dropped (Core 1.0, 3.3.2.1)
 pub record IsDrop (before after : List ValType) : Type 0 where
   pub ty : ValType
   pub had : before ≡ ty ∷ after
 
--- one of two numbers stays (Core 1.0, 3.3.2.2)
+-- one of two numbers is selected (Core 1.0, 3.3.2.2)
 pub record IsSelect (before after : List ValType) : Type 0 where
   pub ty : ValType
   pub below : List ValType
@@ -158,7 +159,7 @@ pub record IsSwitch (labels : List (List ValType)) (targets : List ℕ) (before 
   pub each : All (λ l. slice_get labels l ≡ Some label) targets
   pub stands : IsOnTop (I32 ∷ label) before
 
--- an instruction of a type leads from one stack to another; one that leads elsewhere, to any stack (Core 1.0, 3.3.5)
+-- an instruction of a type leads from one stack to another; if it leads elsewhere, to any stack (Core 1.0, 3.3.5)
 abbrev pub Leads : Context → Option InstrType → List ValType → List ValType → Type 0
 Leads ctx None before after = ⊥
 Leads ctx (Some (Moves operands results)) before after = IsMove operands results before after
@@ -172,12 +173,12 @@ abbrev pub results_of : Option ValType → List ValType
 results_of None = []
 results_of (Some t) = t ∷ []
 
--- a block's result is a number
+-- whether a block's result is a number, or it has no result
 abbrev pub is_block_type : Option ValType → Bool
 is_block_type None = true
 is_block_type (Some t) = is_number t
 
--- the context of what stands in a block, whose label takes these types
+-- the context within a block whose label takes these types
 abbrev pub inside : List ValType → Context → Context
 inside label ctx = record ctx { labels = label ∷ ctx.labels }
 

@@ -1,4 +1,4 @@
--- Validity of modules (Core 1.0, 3.4), and where a module is invalid.
+-- Validity of modules (Core 1.0, 3.4), and the place at which a module is invalid.
 use Rattle.std.specs.Prelude.{◌≡◌, ◌≢◌, ℕ, ◌+◌, ◌^◌, ◌<◌, ◌≤◌, List, [], ◌∷◌, ◌++◌, length, reverse, replicate, flat_map, filter_map, Option, Some, None, cond, IsTrue, IfSome, slice_get, option_and_then, All, AllPairs}
 use Rattle.wasm_syntax.specs.declared.values.ValType.{ValType}
 use Rattle.wasm_syntax.specs.declared.values.ValType.TheVariants.{I32}
@@ -52,7 +52,7 @@ IsThere m (Table x) = x < length (all_tables m)
 IsThere m (Memory x) = x < length (all_memories m)
 IsThere m (Global x) = x < length (all_globals m)
 
--- what is imported (Core 1.0, 3.4.9)
+-- an import is valid (Core 1.0, 3.4.9)
 abbrev pub IsImport : Module → ImportKind → Type 0
 IsImport m (import.Func ty) = ty < length m.types
 IsImport m (import.Table limits) = IsTable limits
@@ -95,7 +95,7 @@ pub record IsStart (m : Module) (f : ℕ) : Type 0 where
   pub params : ty.params ≡ []
   pub results : ty.results ≡ []
 
--- each function is there
+-- each function of a list exists
 abbrev pub AreFuncs : Module → List ℕ → Type 0
 AreFuncs m funcs = All (λ f. IsThere m (Func f)) funcs
 
@@ -142,7 +142,7 @@ exported_func other = None
 abbrev pub declared_funcs : Module → List ℕ
 declared_funcs m = flat_map elem_funcs m.elems ++ filter_map (λ e. exported_func e.kind) m.exports
 
--- what is known in the body of a function of this type (Core 1.0, 3.4.1 and 3.4.10)
+-- the context of the body of a function of this type (Core 1.0, 3.4.1 and 3.4.10)
 abbrev pub body_context : Module → FuncType → Function → Context
 body_context m ty f = record {
   types = m.types;
@@ -169,15 +169,15 @@ pub record IsValid (m : Module) : Type 0 where
   pub outside : IsValidOutside m
   pub bodies : All (IsTypedFunc m) m.funcs
 
--- the defined function at a place has no typing, and each one before it has one
+-- the defined function at a place has no typing, and each one before it has a typing
 pub record IsFirstUntyped (m : Module) (place : ℕ) : Type 0 where
   pub func : Function
   pub found : slice_get m.funcs place ≡ Some func
   pub untyped : ¬ IsTypedFunc m func
   pub before : (earlier : ℕ) (f : Function) → earlier < place → slice_get m.funcs earlier ≡ Some f → IsTypedFunc m f
 
--- where a module is invalid: outside the bodies, or else in the first function without a typing, which
--- is named by its index
+-- the place at which a module is invalid: outside the bodies, or else in the first function without a typing,
+-- which is named by its index
 abbrev pub IsInvalidAt : Module → Option ℕ → Type 0
 IsInvalidAt m None = ¬ IsValidOutside m
 IsInvalidAt m (Some func) =

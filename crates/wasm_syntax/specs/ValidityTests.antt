@@ -1,4 +1,4 @@
--- Plain tests beside the conditions of validity: they find where a module is invalid.
+-- Plain tests beside the conditions of validity: they find the place at which a module is invalid.
 use Rattle.std.specs.Prelude.{ℕ, ◌+◌, ◌^◌, List, [], ◌∷◌, length, reverse, Option, Some, None, Bool, true, false, cond, not, ◌&&◌, nat_lt, nat_le, bytes_eq, position, option_map, option_and_then}
 use Rattle.std.specs.List.{list_all}
 use Rattle.wasm_syntax.specs.declared.values.ValType.{ValType}
@@ -29,7 +29,7 @@ are_numbers types = list_all is_number types
 abbrev pub is_func_type : FuncType → Bool
 is_func_type ty = are_numbers ty.params && (are_numbers ty.results && nat_le (length ty.results) 1)
 
--- a maximum is within the range, and not below the minimum
+-- whether a maximum is within the range, and not below the minimum
 abbrev pub is_maximum : ℕ → ℕ → Option ℕ → Bool
 is_maximum range min None = true
 is_maximum range min (Some max) = nat_le max range && nat_le min max
@@ -55,7 +55,7 @@ is_import m (import.Table limits) = is_table limits
 is_import m (import.Memory limits) = is_memory limits
 is_import m (import.Global ty) = is_number ty.ty
 
--- the type that is wanted
+-- whether a type is the wanted one
 abbrev pub is_wanted : ValType → Option ValType → Bool
 is_wanted t None = false
 is_wanted t (Some u) = same_type u t
@@ -91,13 +91,13 @@ is_elem m (Declared funcs) = are_funcs m funcs
 abbrev pub is_data : Module → DataSeg → Bool
 is_data m data_seg = is_there m (Memory data_seg.memory) && is_constant_of m I32 data_seg.offset
 
--- no export is named as a later one
+-- whether no two exports have the same name
 abbrev pub names_differ : List Export → Bool
 names_differ [] = true
 names_differ (e ∷ exports) =
     list_all (λ (later : Export). not (bytes_eq e.name later.name)) exports && names_differ exports
 
--- the types, and all that is imported or defined
+-- whether the types, and all that is imported or defined, are valid
 abbrev pub declares : Module → Bool
 declares m =
     list_all is_func_type m.types
@@ -107,7 +107,7 @@ declares m =
     && (list_all is_memory m.memories
     && list_all (is_global m) m.globals))))
 
--- exports, the start function, segments, and how many tables and memories there are
+-- whether the exports, the start function, the segments, and the numbers of tables and memories are valid
 abbrev pub refers : Module → Bool
 refers m =
     list_all (λ e. is_there m e.kind) m.exports
@@ -121,7 +121,7 @@ refers m =
 abbrev pub is_valid_outside : Module → Bool
 is_valid_outside m = declares m && refers m
 
--- a body is nested, and may leave these types
+-- whether a body is nested, and may leave these types
 abbrev pub nest_ends : Context → List ValType → Option Nest → Bool
 nest_ends ctx types None = false
 nest_ends ctx types (Some nest) = ends types (known_after ctx nest nothing)
@@ -133,7 +133,7 @@ body_ends m f (Some ty) = nest_ends (body_context m ty f) (reverse ty.results) (
 abbrev pub is_typed_func : Module → Function → Bool
 is_typed_func m f = body_ends m f (type_at m f.ty)
 
--- where a module is invalid, if it is
+-- the place at which a module is invalid, if it is
 abbrev pub invalid_at : Module → Option (Option ℕ)
 invalid_at m =
     cond (is_valid_outside m)

@@ -5,8 +5,8 @@ ghost use Rattle.wasm_syntax.specs.AppendedTypes.{AreDistinct, HasNumber, Asks};
 
 use crate::lists::{Item, List};
 use crate::signatures::{FuncType, FuncTypes};
+use base::NoMemory;
 use indexmap::IndexSet;
-use no_memory::NoMemory;
 use std::alloc::Global;
 use std::marker::Model;
 
@@ -40,7 +40,7 @@ impl Types {
         }
     }
 
-    /// The index of a type, which is added last where it is not among the appended ones.
+    /// The index of a type, which is added last if it is not among the appended ones.
     ///
     /// # Errors
     ///

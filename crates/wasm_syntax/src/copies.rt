@@ -10,7 +10,7 @@ use crate::modules::{
 };
 use crate::signatures::{FuncType, FuncTypes, Limits};
 use crate::values::{Val, ValType};
-use no_memory::NoMemory;
+use base::NoMemory;
 
 impl Item for u8 {
     fn copy(&self) -> Result<u8, NoMemory> {

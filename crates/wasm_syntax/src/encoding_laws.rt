@@ -3,7 +3,7 @@ ghost use Rattle.wasm_syntax.specs.Encoding.Laws.{NumberLaws, BytesEncodeOne, En
 
 use leb_bytes::{i32_encoding, i64_encoding, u32_encoding};
 
-/// What the encoding of modules takes from that of numbers.
+/// What the encoding of modules requires of that of numbers.
 fn number_encoding()
     ensures { NumberLaws }
 {
@@ -30,7 +30,7 @@ pub fn fault_places()
     number_encoding();
 }
 
-/// The shortest encoding of a module: it is one where the module has any, and where the module is
+/// The shortest encoding of a module: it is an encoding if the module has any, and if the module is
 /// encodable and the bytes are fewer than 2^32, so that counts and sizes fit.
 pub fn shortest_encoding()
     ensures again { EncodesAgain }
@@ -42,7 +42,7 @@ pub fn shortest_encoding()
 }
 
 /// The two forms: what is encodable in the form Core is of that form, and is encodable in the form
-/// of replay binaries where its segments are of table 0; what is encodable there and of the form
+/// of replay binaries if its segments are of table 0; what is encodable there and of the form
 /// Core is encodable in it.
 pub fn encoding_forms()
     ensures core { EncodableInCore }

@@ -55,6 +55,6 @@ pub struct MemArg {
 /// Label indices of a `br_table`.
 pub type Labels = List<u32>;
 
-/// The instructions of a function or a constant expression in order; the last is its own `End`
+/// The instructions of a function or a constant expression; the last is its own `End`
 /// (Core 1.0, 2.4.6).
 pub type Body = List<Instr>;

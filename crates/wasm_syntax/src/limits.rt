@@ -9,7 +9,7 @@ pub const MOST_PARAMETERS: u32 = 1_000;
 /// The most locals of a function, its parameters left out.
 pub const MOST_LOCALS: u32 = 50_000;
 
-/// The same in an instrumented module, which has five more.
+/// The most locals of a function in an instrumented module, which has five more.
 pub const MOST_LOCALS_HOOKED: u32 = 50_005;
 
 /// The most entries that a table may begin with or grow to.
@@ -24,5 +24,5 @@ pub const PAGE_SIZE: u32 = 65_536;
 /// The most turns of a run.
 pub const MOST_TURNS: u64 = 1_000_000_000;
 
-/// The most turns of a run whose history is told.
+/// The most turns of a run whose history is printed.
 pub const MOST_TURNS_TOLD: u64 = 2_000_000;

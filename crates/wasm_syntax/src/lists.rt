@@ -4,12 +4,12 @@ ghost use Rattle.std.specs.Prelude.{◌≡◌, [], ◌∷◌, ◌++◌, length, 
 ghost use Rattle.std.specs.Hash as fed;
 ghost use Rattle.std.specs.Hash.{items_Alike};
 
-use no_memory::NoMemory;
+use base::NoMemory;
 use std::alloc::Global;
 use std::hash::{Hash, Hasher};
 use std::marker::Model;
 
-/// A list that owns its items; contracts see the items in order.
+/// A list that owns its items; contracts see the items.
 #[derive(Debug, Drop)]
 pub struct List<T> {
     items: Vec<T>,
@@ -61,7 +61,7 @@ impl<T> List<T> {
         items
     }
 
-    /// The items in order.
+    /// The items.
     pub fn as_slice(&self) -> &[T]
         ensures { result.now ≡ self.now }
     {

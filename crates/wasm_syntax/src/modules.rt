@@ -50,7 +50,7 @@ pub struct Run {
     pub ty: ValType,
 }
 
-/// The locals of a function after its parameters, without runs of none and without neighbours of
+/// The locals of a function after its parameters, without empty runs and without neighbours of
 /// one type (Core 1.0, 5.5.13).
 pub type Runs = List<Run>;
 
@@ -131,7 +131,7 @@ pub struct Module {
 }
 
 impl Module {
-    /// The module that has nothing. Takes no memory.
+    /// The empty module. Takes no memory.
     pub fn empty(alloc: alloc::Global) -> Module
         ensures { result ≡ empty_module }
     {

@@ -2,7 +2,7 @@
 
 ghost use Rattle.std.specs.Prelude.{◌≡◌, IfOk, string_bytes};
 
-use no_memory::NoMemory;
+use base::NoMemory;
 use std::marker::Model;
 
 /// A name: text, which contracts see as its UTF-8 bytes (Core 1.0, 2.2.4).

@@ -24,5 +24,5 @@ pub struct GlobalType {
     pub mutable: bool,
 }
 
-/// Function types in order of their indices.
+/// Function types, by their indices.
 pub type FuncTypes = List<FuncType>;

@@ -4,9 +4,9 @@ ghost use Rattle.std.specs.Prelude.{◌≡◌};
 ghost use Rattle.wasm_syntax.specs.Alike.{type_byte};
 
 use crate::lists::List;
-use wasm_opcodes::marks::{TYPE_F32, TYPE_F64, TYPE_FUNCREF, TYPE_I32, TYPE_I64};
+use base::marks::{TYPE_F32, TYPE_F64, TYPE_FUNCREF, TYPE_I32, TYPE_I64};
 
-/// A value type (Core 1.0, 2.3.1). `FuncRef` (Core 2.0, 2.3.3) stands on operand stacks of the
+/// A value type (Core 1.0, 2.3.1). `FuncRef` (Core 2.0, 2.3.3) is on operand stacks of the
 /// replay form alone.
 #[derive(Clone, Copy, PartialEq, Eq, Hash, Debug)]
 pub enum ValType {
@@ -18,7 +18,7 @@ pub enum ValType {
 }
 
 impl ValType {
-    /// The byte that stands for the type (Core 1.0, 5.3.1; for references Core 2.0, 5.3.3).
+    /// The byte that encodes the type (Core 1.0, 5.3.1; for references Core 2.0, 5.3.3).
     #[inline]
     pub fn byte(self) -> u8
         ensures { result ≡ type_byte self }
@@ -40,8 +40,8 @@ pub struct Val {
     pub bits: u64,
 }
 
-/// Value types in order, as of parameters or results.
+/// Value types, such as those of parameters or results.
 pub type ValTypes = List<ValType>;
 
-/// Values in order, as of arguments or results.
+/// Values, such as arguments or results.
 pub type Vals = List<Val>;

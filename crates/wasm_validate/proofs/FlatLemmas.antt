@@ -3,7 +3,7 @@ use Rattle.std.proofs.Common.{◌≡◌, List, [], ◌∷◌, ◌++◌, Option, 
 use Rattle.std.specs.Option.{option_and_then}
 use Rattle.std.proofs.lemmas.Bool.{false≢true}
 use Rattle.std.proofs.lemmas.Option.{none-some}
-use Rattle.list_laws.proofs.Booleans.{and_left}
+use Rattle.base.proofs.Booleans.{and_left}
 use Rattle.wasm_syntax.specs.declared.values.ValType.{ValType}
 use Rattle.wasm_syntax.specs.declared.values.ValType.TheVariants.{I32}
 use Rattle.wasm_syntax.specs.declared.instructions.Instr.{Instr}
@@ -64,7 +64,7 @@ on_some-opened : (f : State → Bool) (ty : Option ValType) (levels : List Level
     → on_some f (after_open If ty levels None) ≡ false
 on_some-opened f ty levels = elim (is_block_type ty) as (λ b. on_some f (cond b None None) ≡ false) [ true ↦ refl | false ↦ refl ]
 
--- a block that is checked, then what stands after it
+-- a block that is checked, then the rest of the body
 then-block : (ctx : Context) (is : List Instr) (levels : List Level) (b e : Bool) (next : Option Known) (a : Bool)
     → (b ≡ true → a ≡ cond e (then ctx is levels next) false)
     → cond b a false ≡ then ctx is levels (cond (b && e) next None)
@@ -72,7 +72,7 @@ then-block ctx is levels true true next a h = h refl
 then-block ctx is levels true false next a h = h refl
 then-block ctx is levels false e next a h = refl
 
--- the same of the instructions of a block and of what stands after it
+-- the instructions of a block and the rest of the body
 block-scanned : (ctx : Context) (front tail is : List Instr) (kind : Kind) (ty : Option ValType) (here : Known) (outer : List Level) (inner next : Option Known)
     → may_close kind ty ≡ true
     → scan ctx front (state (level kind ty here ∷ outer) nothing) ≡ then ctx (instr.End ∷ tail) (level kind ty here ∷ outer) inner
@@ -172,7 +172,7 @@ scan-flat ctx (InIfElse ty body other rest) is l levels here h =
 
 -- ---- what is typed is nested
 
--- the open sequences stand in the open blocks; nothing stands after the body
+-- the open sequences are in the open blocks; nothing comes after the body
 abbrev AreOpen : List Level → Open → Type 0
 AreOpen [] around = ⊥
 AreOpen (l ∷ []) Outside = ⊥
@@ -247,7 +247,7 @@ cond-right : (b x : Bool) → cond b x false ≡ true → x ≡ true
 cond-right true x h = h
 cond-right false x h = absurd (false≢true h)
 
--- something is known after an instruction that stands alone
+-- something is known after a plain instruction
 then-some : (ctx : Context) (is : List Instr) (levels : List Level) (o : Option Known) → then ctx is levels o ≡ true
     → (k : Known) × (scan ctx is (state levels k) ≡ true)
 then-some ctx is levels None h = absurd (false≢true h)

@@ -5,7 +5,7 @@ use Rattle.std.specs.List.{list_all, position_or_len}
 use Rattle.std.proofs.lemmas.List.Sums.{position_or_len_is}
 use Rattle.std.proofs.lemmas.Bool.{leb-true, le-leb, lt-leb}
 use Rattle.std.proofs.lemmas.Option.{same_Some, none-some}
-use Rattle.list_laws.proofs.Booleans.{and_left, and_right}
+use Rattle.base.proofs.Booleans.{and_left, and_right}
 use Rattle.wasm_syntax.specs.declared.values.ValType.{ValType}
 use Rattle.wasm_syntax.specs.declared.signatures.FuncType.{FuncType}
 use Rattle.wasm_syntax.specs.declared.instructions.Instr.{Instr}
@@ -60,7 +60,7 @@ position-none p xs i d h before =
     let e : position_or_len p xs ≡ length xs = position_or_len_is p xs (length xs) d (omega arith) (λ k lt. before k (omega arith)) (λ lt. absurd (omega arith)) in
     sym (ap (λ n. cond (nat_lt n (length xs)) (Some n) None) e ∙ ap (λ b. cond b (Some (length xs)) None) (lt-leb (suc (length xs)) (length xs) (omega arith)))
 
--- where a module is invalid whose outside is valid
+-- the place of the first fault of a module that is valid outside its bodies
 pub place-of_first : (m : Module) (first : Option ℕ) → is_valid_outside m ≡ true
     → first ≡ position (λ (f : Func). not (is_typed_func m f)) m.funcs
     → option_map (λ place. Some (imported_funcs m + place)) first ≡ invalid_at m

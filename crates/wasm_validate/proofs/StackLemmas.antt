@@ -21,14 +21,14 @@ same-test : (a b c d : ℕ) → (a ≤ b → c ≤ d) → (b < a → d < c) → 
 same-test a b c d f g =
     elim (cases_lt b a) [ inl h ↦ lt-leb a b h ∙ sym (lt-leb c d (g h)) | inr h ↦ le-leb a b h ∙ sym (le-leb c d (f h)) ]
 
--- no operand stands above the height
+-- no operand is above the height
 pub none_left-above : (count height : ℕ) (slots : List (Option ValType)) → count ≡ length slots
     → leb count height ≡ none_left (reverse (drop height slots))
 none_left-above count height slots e =
     same-test count height (length (reverse (drop height slots))) 0 (λ h. omega (arith, e, length-reverse (drop height slots), length-drop height slots)) (λ h. omega (arith, e, length-reverse (drop height slots), length-drop height slots))
     ∙ none_left-length (reverse (drop height slots))
 
--- any operands may be there where anything may stand
+-- any operands can be popped if anything may be on the stack
 pub pops-anything : (types : List ValType) → pops types anything ≡ Some anything
 pops-anything [] = refl
 pops-anything (t ∷ types) = pops-anything types

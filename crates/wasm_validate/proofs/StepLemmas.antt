@@ -24,7 +24,7 @@ open-next : {A : Type 0} (levels : List Level) (o : Option A) → is_closed leve
 open-next [] o h = cc
 open-next (l ∷ levels) o h = refl
 
--- one that stands alone
+-- a plain instruction
 pub next-other : (ctx : Context) (i : Instr) (s : State) (change : Option Change) → is_closed s.levels ≡ false
     → ((ty : Option ValType) → i ≡ Block ty → ⊥) → ((ty : Option ValType) → i ≡ Loop ty → ⊥)
     → ((ty : Option ValType) → i ≡ If ty → ⊥) → (i ≡ Else → ⊥) → (i ≡ End → ⊥) → Gives change (within ctx s.levels) i

@@ -1,4 +1,4 @@
--- What the changes of the operand stack that code makes stand for.
+-- What the changes of the operand stack that code makes mean.
 use Rattle.std.specs.Prelude.{List, [], ◌∷◌, ◌++◌, reverse, Option, Some, None, option_and_then}
 use Rattle.wasm_syntax.specs.declared.values.ValType.{ValType}
 use Rattle.wasm_syntax.specs.declared.values.ValType.TheVariants.{I32}
@@ -7,15 +7,15 @@ use Rattle.wasm_syntax.specs.KnownStacks.{Known, anything, push_types, pop, pops
 use Rattle.wasm_validate.specs.declared.changes.Change.{Change}
 use Rattle.wasm_validate.specs.declared.changes.Change.TheVariants.{Moves, Takes, Calls, Drops, Selects, Leaves}
 
--- operands are off, results on
+-- what is known after operands are popped and results are pushed
 abbrev pub after_replace : List ValType → List ValType → Known → Option Known
 after_replace operands results here = option_and_then (λ below. Some (push_types results below)) (pops operands here)
 
--- operands are off, and control leads elsewhere
+-- what is known after operands are popped and control leads elsewhere
 abbrev pub after_leave : List ValType → Known → Option Known
 after_leave operands here = option_and_then (λ below. Some anything) (pops operands here)
 
--- one of two numbers stays
+-- what is known after one of two numbers is selected
 abbrev pub after_select : Known → Option Known
 after_select here = option_and_then (λ below. select_slot below.slots below.free) (pop I32 here)
 

@@ -1,5 +1,5 @@
 -- Typing in one pass over a flat body (Core 1.0, appendix 7.3): what is known after each instruction, with the
--- blocks that are open.
+-- open blocks.
 use Rattle.std.specs.Prelude.{List, [], ◌∷◌, map, Option, Some, None, Bool, true, false, cond, ◌&&◌, option_map}
 use Rattle.wasm_syntax.specs.declared.values.ValType.{ValType}
 use Rattle.wasm_syntax.specs.declared.values.ValType.TheVariants.{I32}
@@ -27,7 +27,7 @@ pub record State : Type 0 where
 abbrev pub state : List Level → Known → State
 state levels here = record { levels = levels; here = here }
 
--- what a block's label takes
+-- the types that a block's label takes
 abbrev pub label_of_kind : Kind → Option ValType → List ValType
 label_of_kind Loop result = []
 label_of_kind Block result = results_of result
@@ -40,22 +40,22 @@ label_of l = label_of_kind l.kind l.result
 abbrev pub within : Context → List Level → Context
 within ctx levels = record ctx { labels = map label_of levels }
 
--- a block is opened
+-- the state after a block is opened
 abbrev pub after_open : Kind → Option ValType → List Level → Option Known → Option State
 after_open kind result levels below =
     cond (is_block_type result) (option_map (λ b. state (level kind result b ∷ levels) nothing) below) None
 
--- the operands may be just what the block leaves
+-- whether the operands may be just what the block leaves
 abbrev pub may_leave : Level → Known → Bool
 may_leave l here = ends (results_of l.result) (Some here)
 
--- the second part of an `if` may begin
+-- whether the second part of an `if` may begin
 abbrev pub is_if : Kind → Bool
 is_if If = true
 is_if Block = false
 is_if Loop = false
 
--- a block may be closed: an `if` without a second part leaves nothing
+-- whether a block may be closed: an `if` without a second part leaves nothing
 abbrev pub may_close : Kind → Option ValType → Bool
 may_close If result = ends (results_of result) (Some nothing)
 may_close Block result = true
@@ -72,7 +72,7 @@ after_end (l ∷ levels) here =
     cond (may_close l.kind l.result && may_leave l here)
     (Some (state levels (push_types (results_of l.result) l.below))) None
 
--- after an instruction that stands alone
+-- the state after a plain instruction
 abbrev pub after_plain : Option InstrType → Context → State → Option State
 after_plain effect ctx s = option_map (state s.levels) (after_instr ctx effect s.here)
 
@@ -84,7 +84,7 @@ state_after ctx instr.Else s = after_else s.levels s.here
 state_after ctx instr.End s = after_end s.levels s.here
 state_after ctx i s = after_plain (instr_type (within ctx s.levels) i) (within ctx s.levels) s
 
--- nothing stands after the end of the body
+-- the result of a step, but None after the end of the body
 abbrev pub if_open : {A : Type 0} → List Level → Option A → Option A
 if_open [] after_step = None
 if_open (l ∷ levels) after_step = after_step
@@ -92,7 +92,7 @@ if_open (l ∷ levels) after_step = after_step
 abbrev pub after_step : Context → Instr → State → Option State
 after_step ctx i s = if_open s.levels (state_after ctx i s)
 
--- the last `End` closes the body
+-- whether the last `End` has closed the body
 abbrev pub is_closed : List Level → Bool
 is_closed [] = true
 is_closed (l ∷ levels) = false
@@ -101,11 +101,11 @@ abbrev pub on_some : (State → Bool) → Option State → Bool
 on_some f None = false
 on_some f (Some s) = f s
 
--- the rest of a body is typed
+-- whether the rest of a body is typed
 abbrev pub scan : Context → List Instr → State → Bool
 scan ctx [] s = is_closed s.levels
 scan ctx (i ∷ is) s = on_some (λ s. scan ctx is s) (after_step ctx i s)
 
--- a body begins in one block, that of the function
+-- the state at the start of a body, in one block, that of the function
 abbrev pub body_start : Option ValType → State
 body_start result = state (level Block result nothing ∷ []) nothing

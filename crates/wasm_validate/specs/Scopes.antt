@@ -22,6 +22,6 @@ base_of f = base f.scope.now f.locals.now f.outcome
 abbrev pub Gives : Option Change → Context → Instr → Type 0
 Gives change ctx i = (here : Known) → after_change change here ≡ after_instr ctx (instr_type ctx i) here
 
--- the same within any blocks of a function's body
+-- the change is that of the instruction within any blocks of a function's body
 abbrev pub GivesWithin : Option Change → FuncScope → Instr → Type 0
 GivesWithin change f i = (levels : List Level) → Gives change (within (base_of f) levels) i

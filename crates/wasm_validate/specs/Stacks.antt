@@ -1,4 +1,4 @@
--- What the operand stack and the control stack stand for.
+-- What the operand stack and the control stack mean.
 use Rattle.std.specs.Prelude.{◌≡◌, ℕ, ◌≤◌, List, [], ◌∷◌, length, reverse, take, drop, Option, Some, None, Bool, cond, Result, IfOk}
 use Rattle.wasm_syntax.specs.declared.values.ValType.{ValType}
 use Rattle.wasm_syntax.specs.KnownStacks.{Known, known_stack, anything}
@@ -13,15 +13,15 @@ pub record OperandState : Type 0 where
 abbrev pub operand_state : List (Option ValType) → Known → OperandState
 operand_state outer here = record { outer = outer; here = here }
 
--- operands of which a given number stands below the innermost block
+-- operands, with a given number of them below the innermost block
 abbrev pub operand_state_at : ℕ → Bool → List (Option ValType) → OperandState
 operand_state_at height free slots = operand_state (take height slots) (known_stack (reverse (drop height slots)) free)
 
--- what a test that passes leaves
+-- the value that a test leaves if it passes
 abbrev pub then_some : {A : Type 0} → Bool → A → Option A
 then_some b x = cond b (Some x) None
 
--- a test that could be made leaves this value where it passes, and else none
+-- a test that could be made leaves this value if it passes, and else None
 abbrev pub PassesAs : {A E : Type 0} → Result Bool E → A → Option A → Type 0
 PassesAs answer now wanted = IfOk answer (λ passed. then_some passed now ≡ wanted)
 

@@ -7,7 +7,7 @@ ghost use Rattle.wasm_validate.specs.Scopes.{base_of};
 
 use crate::func_scope::FuncScope;
 use crate::stacks::{Kind, Stacks};
-use no_memory::NoMemory;
+use base::NoMemory;
 use wasm_syntax::Instr;
 
 /// Types one more instruction.

@@ -1,4 +1,4 @@
-// What an instruction that stands alone does to the operand stack.
+// What a plain instruction does to the operand stack.
 
 ghost use Rattle.std.specs.Prelude.{◌≡◌, ◌++◌, [], ◌∷◌, reverse, Some, OnOk};
 ghost use Rattle.wasm_syntax.specs.Typing.{results_of};
@@ -7,8 +7,8 @@ ghost use Rattle.wasm_validate.specs.Stacks.{PassesAs, then_some};
 ghost use Rattle.wasm_validate.specs.Changes.{after_select, after_replace, after_leave, after_change};
 
 use crate::operands::{Operands, Slot, may_be};
+use base::NoMemory;
 use module_index::is_number;
-use no_memory::NoMemory;
 use wasm_syntax::{FuncType, ValType};
 
 /// A change of the operand stack.
@@ -119,7 +119,7 @@ impl Operands {
         Ok(true)
     }
 
-    /// Takes off what a label takes, below an index; after it anything may stand.
+    /// Pops what a label takes, below an index; after it anything may be on the stack.
     fn go(&mut self, index: Option<ValType>, label: Option<ValType>) -> bool
         ensures outer { self.new.outer ≡ self.old.outer }
         ensures here { then_some result self.new.here
@@ -177,7 +177,7 @@ impl Operands {
     {
         let mut left = types.len();
         'types: while left > 0 {
-            // Where anything may stand, there are as many more as are wanted.
+            // If anything may be on the stack, there are as many more operands as are wanted.
             if self.is_anything() {
                 return true;
             }
@@ -200,7 +200,7 @@ impl Operands {
         Ok(())
     }
 
-    /// Takes off what a block leaves, and answers whether this may be all that there is.
+    /// Pops what a block leaves, and returns whether this may be all that there is.
     pub(crate) fn ends(&mut self, left: Option<ValType>) -> bool
         ensures outer { self.new.outer ≡ self.old.outer }
         ensures ends { result ≡ ends (results_of left) (Some self.old.here) }

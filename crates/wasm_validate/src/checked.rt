@@ -3,7 +3,7 @@
 ghost use Rattle.std.specs.Prelude.{◌≡◌, IfOk};
 ghost use Rattle.wasm_syntax.specs.Validity.{IsValid};
 
-use no_memory::NoMemory;
+use base::NoMemory;
 use std::marker::Model;
 use wasm_syntax::Module;
 
@@ -54,7 +54,7 @@ impl Checked {
     ///
     /// # Errors
     ///
-    /// Where an allocation fails.
+    /// If an allocation fails.
     pub fn clone(&self) -> Result<Checked, NoMemory>
         ensures { IfOk result (λ copy. copy ≡ self.now) }
     {

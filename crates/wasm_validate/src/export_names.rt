@@ -4,7 +4,7 @@ ghost use Rattle.std.specs.Prelude.{◌≡◌, ◌||◌, not, bytes_eq, List, �
 ghost use Rattle.wasm_syntax.specs.ValidityTests.{names_differ as names_are_distinct};
 ghost use Rattle.wasm_validate.specs.Names.{set_has};
 
-use no_memory::NoMemory;
+use base::NoMemory;
 use std::alloc::Global;
 use std::collections::BTreeSet;
 use wasm_syntax::Export;
@@ -22,7 +22,7 @@ pub(crate) fn names_differ(alloc: Global, exports: &[Export]) -> Result<bool, No
     Ok(true)
 }
 
-/// Adds a name, and answers whether it is new.
+/// Adds a name, and returns whether it is new.
 fn add<'a>(names: &mut BTreeSet<&'a str>, name: &'a str) -> Result<bool, NoMemory>
     ensures added { IfOk result (λ added. added ≡ not (set_has names.old name.now)) }
     ensures known { OnOk result (

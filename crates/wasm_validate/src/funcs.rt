@@ -7,10 +7,10 @@ ghost use Rattle.wasm_syntax.specs.ValidityTests.{is_func_type, is_typed_func};
 use crate::body::is_typed;
 use crate::func_scope::FuncScope;
 use crate::stacks::Stacks;
+use base::NoMemory;
 use module_index::locals::{Locals, RunEnd};
 use module_index::result_of;
 use module_index::scope::Scope;
-use no_memory::NoMemory;
 use std::alloc::Global;
 use wasm_syntax::{Func, bodies_are_read};
 

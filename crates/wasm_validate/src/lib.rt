@@ -12,6 +12,6 @@ mod outside;
 mod stacks;
 mod whole;
 
+pub use base::NoMemory;
 pub use checked::Checked;
-pub use no_memory::NoMemory;
 pub use whole::{InvalidFault, validate};

@@ -5,8 +5,8 @@ ghost use Rattle.std.specs.Option.{option_map};
 ghost use Rattle.wasm_syntax.specs.KnownStacks.{known_stack, anything, nothing, none_left, may_be as may_be_of, pop};
 ghost use Rattle.wasm_validate.specs.Stacks.{operand_state, then_some, top_slot};
 
+use base::NoMemory;
 use module_index::{is_number, same_type};
-use no_memory::NoMemory;
 use std::alloc::Global;
 use std::marker::Model;
 use wasm_syntax::ValType;
@@ -45,7 +45,7 @@ impl Operands {
         }
     }
 
-    /// No operand any more. Takes no memory.
+    /// Removes all operands. Takes no memory.
     pub(crate) fn clear(&mut self)
         ensures { self.new ≡ operand_state [] nothing }
     {
@@ -54,7 +54,7 @@ impl Operands {
         self.free = false;
     }
 
-    /// Takes all operands of the innermost block off, below which anything may stand, or nothing.
+    /// Removes all operands of the innermost block; anything, or nothing, may be below them.
     pub(crate) fn restart(&mut self, free: bool)
         ensures { self.new ≡ operand_state self.old.outer (known_stack [] free) }
     {
@@ -97,7 +97,7 @@ impl Operands {
         Ok(())
     }
 
-    /// Where the operands of the innermost block begin, and whether anything may stand below them.
+    /// Where the operands of the innermost block begin, and whether anything may be below them.
     pub(crate) fn base(&self) -> (usize, bool)
         ensures height { result.0 ≡ length self.now.outer }
         ensures free { result.1 ≡ self.now.here.free }

@@ -8,9 +8,9 @@ ghost use Rattle.wasm_syntax.specs.Typing.{is_number as is_number_type};
 ghost use Rattle.wasm_syntax.specs.ValidityTests as decide;
 
 use crate::export_names::names_differ;
+use base::NoMemory;
 use module_index::scope::Scope;
 use module_index::{is_number, is_value, same_type};
-use no_memory::NoMemory;
 use std::alloc::Global;
 use wasm_syntax::{
     DataSeg, ElemSeg, ExportKind, Func, FuncType, Global as Variable, ImportKind, Instr, Limits,

@@ -13,8 +13,8 @@ ghost use Rattle.wasm_validate.specs.Changes.{after_change};
 
 use crate::changes::Change;
 use crate::operands::Operands;
+use base::NoMemory;
 use module_index::is_number;
-use no_memory::NoMemory;
 use std::alloc::Global;
 use std::marker::Model;
 use wasm_syntax::ValType;
@@ -27,8 +27,8 @@ pub(crate) enum Kind {
     If,
 }
 
-/// An open block: its kind and its result; and of the block around it where its operands begin, and
-/// whether anything may stand there.
+/// An open block: its kind and its result; and for the block around it where its operands begin, and
+/// whether anything may be below them.
 #[derive(Clone, Copy)]
 pub(crate) struct Frame {
     pub(crate) kind: Kind,

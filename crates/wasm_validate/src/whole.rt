@@ -9,8 +9,8 @@ ghost use Rattle.wasm_validate.specs.declared.whole.InvalidFault.TheVariants.{In
 use crate::checked::Checked;
 use crate::funcs::first_untyped;
 use crate::outside::is_valid_outside;
+use base::NoMemory;
 use module_index::scope::Scope;
-use no_memory::NoMemory;
 use std::alloc::Global;
 use thiserror::Error;
 use wasm_syntax::{Module, validity_is_decided};
@@ -30,8 +30,8 @@ pub enum InvalidFault {
 ///
 /// # Errors
 ///
-/// `Invalid` exactly where the module isn't valid: `func` is None where it fails outside the bodies
-/// of its functions, else the least index of a function whose body has no typing. `Memory` where an
+/// `Invalid` if the module is not valid, and only then: `func` is None if it fails outside the bodies
+/// of its functions, else the least index of a function whose body has no typing. `Memory` if an
 /// allocation fails.
 pub fn validate(alloc: Global, module: Module) -> Result<Checked, InvalidFault>
     requires { length (func_indices «module») < 2 ^ 32 }
@@ -40,7 +40,7 @@ pub fn validate(alloc: Global, module: Module) -> Result<Checked, InvalidFault>
     ensures valid { IfOk result (λ _. IsValid «module») }
     // It is invalid at the place that is named.
     ensures invalid { (func : Option ℕ) → result ≡ Err (Invalid func) → IsInvalidAt «module» func }
-    // Apart from running out of memory, a valid module is taken, and an invalid one is refused for its place.
+    // Unless memory runs out, a valid module is accepted, and an invalid one is refused with its place.
     ensures taken { IsValid «module» → (result ≡ Ok «module») ⊎ (result ≡ Err Memory) }
     ensures refused { (func : Option ℕ)
         → IsInvalidAt «module» func → (result ≡ Err (Invalid func)) ⊎ (result ≡ Err Memory) }
@@ -53,7 +53,7 @@ pub fn validate(alloc: Global, module: Module) -> Result<Checked, InvalidFault>
     }
 }
 
-/// Where a module is invalid, if it is.
+/// The place at which a module is invalid, if it is.
 fn invalid_at(alloc: Global, module: &Module) -> Result<Option<Option<u32>>, NoMemory>
     requires { length (func_indices «module».now) < 2 ^ 32 }
     ensures { IfOk result (λ place. place ≡ place_of «module».now) }
@@ -62,7 +62,7 @@ fn invalid_at(alloc: Global, module: &Module) -> Result<Option<Option<u32>>, NoM
     invalid_within(alloc, &scope)
 }
 
-/// Where the module of a scope is invalid, if it is.
+/// The place at which the module of a scope is invalid, if it is.
 fn invalid_within(alloc: Global, scope: &Scope) -> Result<Option<Option<u32>>, NoMemory>
     requires { length (func_indices scope.now) < 2 ^ 32 }
     ensures { IfOk result (λ place. place ≡ place_of scope.now) }

@@ -10,7 +10,7 @@ use Rattle.wasm_syntax.specs.declared.instructions.Instr.TheVariants.{Const, Mem
 use Rattle.wasm_syntax.specs.Nest.{Nest, Empty, Plain}
 use Rattle.host_script.specs.declared.scripts.Action.TheVariants.{Grow, Call}
 use Rattle.host_script.specs.declared.scripts.ResponseEnd.TheVariants.{Return}
-use Rattle.run_outcomes.specs.declared.outcomes.Outcome.TheVariants.{Ended}
+use Rattle.base.specs.declared.outcomes.Outcome.TheVariants.{Ended}
 use Rattle.history_spec.specs.declared.entries.Entry.{Entry}
 use Rattle.history_spec.specs.declared.entries.Entry.TheVariants.{HostCall, HostReturn, ImportCall, ImportReturn, Step}
 use Rattle.history_spec.specs.declared.entries.FaultKind.TheVariants.{GrowRefused}
@@ -49,26 +49,29 @@ below = InMain [] ∷ []
 abbrev pub config_of : List ℕ → List Activation → ℕ → Config
 config_of bytes stack count = record { store = store_of bytes; stack = stack; counts = count ∷ [] }
 
--- the host is about to grow the memory; the module is about to; and in between
+-- the host is about to grow the memory, the module waits
 abbrev pub waiting : List Activation
 waiting = InModule (frame_at [] after_call 1) ∷ below
 
+-- the host is about to grow the memory
 abbrev pub host_grows : List ℕ → Config
 host_grows bytes = config_of bytes (InImport 0 [] (Grow 4 ∷ []) (Return None) ∷ waiting) 1
 
+-- the host has grown the memory and returned
 abbrev pub host_returned : List ℕ → Config
 host_returned bytes = config_of bytes waiting 1
 
 abbrev pub module_frame : Frame
 module_frame = frame_at (i32 3 ∷ []) (Plain MemoryGrow Empty) 2
 
+-- the module is about to grow the memory
 abbrev pub module_grows : List ℕ → Config
 module_grows bytes = config_of bytes (InModule module_frame ∷ below) 1
 
 abbrev pub initial : List ℕ → StepResult
 initial bytes = start program None (store_of bytes) (0 ∷ []) (Call 1 [] ∷ [])
 
--- a growth decided by the known number of pages
+-- whether a growth succeeds, by the known number of pages
 pub grown_from : (bytes : List ℕ) (by p : ℕ) → pages (memory_of bytes) ≡ p
     → grown_memory (memory_of bytes) by ≡ grown_memory_if (is_within (p + by) (Some 10) && nat_le (p + by) MOST_PAGES)
     (memory_of bytes) by
@@ -90,7 +93,7 @@ host_step bytes h =
 abbrev pub last_entries : ℕ → List Entry
 last_entries p = Step 1 2 (i32 3 ∷ []) (i32 0xFFFFFFFF ∷ []) (Some p) ∷ HostReturn 1 (i32 0xFFFFFFFF ∷ []) ∷ []
 
--- the module's does not, and finds 8 pages
+-- the module's growth fails, and finds 8 pages
 pub module_step : (bytes : List ℕ) → length bytes ≡ 524288
     → step program (module_grows bytes) ≡ step_result (last_entries 8) (Finished Ended)
 module_step bytes h =
@@ -117,7 +120,7 @@ module_run bytes h =
 pub grown_length : (bytes : List ℕ) → length bytes ≡ 262144 → length (bytes ++ zeros (4 * PAGE_SIZE)) ≡ 524288
 grown_length bytes h = length-append bytes (zeros (4 * PAGE_SIZE)) ∙ ap (λ n. n + 262144) h
 
--- the lines of the whole run, given what the host's step and the module's part come to
+-- the lines of the whole run, given the results of the host's step and of the module's part
 abbrev pub lines_after_step : StepResult → TellResult
 lines_after_step s =
     tell_run whole

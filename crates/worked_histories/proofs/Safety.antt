@@ -1,7 +1,7 @@
--- What the laws of type safety ask of a module and of a script holds of an example.
+-- The premises of the laws of type safety, on a module and on a script, hold for an example.
 use Rattle.std.proofs.Common.{ℕ, ◌<◌, List, [], ◌∷◌, Some, refl, arith}
 use Rattle.std.proofs.lemmas.List.Elements.{All-from_recursion}
-use Rattle.wasm_opcodes.specs.declared.TheConstants.{I32_ADD}
+use Rattle.base.specs.declared.opcodes.TheConstants.{I32_ADD}
 use Rattle.wasm_syntax.specs.declared.values.ValType.TheVariants.{I32}
 use Rattle.wasm_syntax.specs.declared.instructions.Instr.{Instr}
 use Rattle.wasm_syntax.specs.declared.instructions.Instr.TheVariants.{If, Else, End, Call, Drop, GlobalGet, GlobalSet, Const, Numeric}
@@ -58,7 +58,7 @@ two_answers_body = record {
   );
 }
 
--- it is valid and supported
+-- the module is valid and supported
 pub two_answers_runnable : IsRunnable two_answers
 two_answers_runnable = record {
   valid = record {
@@ -70,7 +70,7 @@ two_answers_runnable = record {
   bytes = All-from_recursion (λ segment. All (λ byte. byte < 256) segment.bytes) [] tt;
 }
 
--- its script fits it
+-- the script fits the module
 pub five_seven_fits : Fits two_answers five_seven
 five_seven_fits = record {
   globals = refl;
@@ -220,7 +220,7 @@ start_body = record {
   typed = (I32 ∷ [], record { below = []; had = refl; left = refl }, ([], record { ty = I32; had = refl }, refl));
 }
 
--- it is valid and supported
+-- the module is valid and supported
 pub replay_two_answers_runnable : IsRunnable replay_two_answers
 replay_two_answers_runnable = record {
   valid = record {

@@ -16,10 +16,11 @@ use Rattle.worked_histories.specs.Tells.{tell, tell_replay, Lines, Fault, Spent,
 abbrev pub import_begins : List (List ℕ)
 import_begins = codes "host-call 1" ∷ codes "step 1 0 ->" ∷ codes "import-call 0" ∷ []
 
--- and of one where that call returns nothing
+-- the lines of a run whose first step calls the import, up to the return of nothing
 abbrev pub import_returns : List (List ℕ)
 import_returns = import_begins ++ codes "import-return 0" ∷ []
 
+-- the lines of the run of two answers
 abbrev pub two_answers_lines : List (List ℕ)
 two_answers_lines =
     import_begins
@@ -44,9 +45,9 @@ GrowFailed =
 pub record WorkedHistories : Type 0 where
   -- two answers are added; four turns suffice
   pub two_answers : tell modules.two_answers five_seven 4 ≡ Lines 4 two_answers_lines
-  -- three turns do not
+  -- three turns do not suffice
   pub two_answers_spent : tell modules.two_answers five_seven 3 ≡ Spent
-  -- nothing is done
+  -- a run without actions
   pub empty : tell empty_module idle 100 ≡ Lines 0 (codes "ended" ∷ [])
   -- an import that is never called
   pub never_called : tell modules.two_answers (script (None ∷ []) []) 100 ≡ Lines 0 (codes "ended" ∷ [])
@@ -77,13 +78,13 @@ pub record WorkedHistories : Type 0 where
       ∷ codes "step 1 3 i32:00010000 i32:00000009 ->"
       ∷ codes "host-return 1"
       ∷ codes "ended" ∷ [])
-  -- and traps where it did not
+  -- an access traps if the host did not grow the memory
   pub grow_access_traps : tell modules.grow_access does_nothing 100 ≡ Lines 5
       (import_returns ++ codes "step 1 1 -> i32:00010000"
       ∷ codes "step 1 2 -> i32:00000009"
       ∷ codes "trap 1 3 memory i32:00010000 i32:00000009 found 1"
       ∷ codes "trapped" ∷ [])
-  -- a copy of what the host wrote, which is read back with its sign; ten turns suffice
+  -- a copy of what the host wrote, which is loaded with its sign; ten turns suffice
   pub copy_load : tell modules.copy_load (does (Write (Fixed 8) (0x85 ∷ 0x00 ∷ 0x00 ∷ 0x01 ∷ []))) 10 ≡ Lines 10
       (import_returns ++ codes "step 1 1 -> i32:00000000"
       ∷ codes "step 1 2 -> i32:00000008"
@@ -94,9 +95,9 @@ pub record WorkedHistories : Type 0 where
       ∷ codes "step 1 7 i32:01000085 -> i32:ffffff85"
       ∷ codes "host-return 1 i32:ffffff85"
       ∷ codes "ended" ∷ [])
-  -- nine do not
+  -- nine turns do not suffice
   pub copy_load_spent : tell modules.copy_load (does (Write (Fixed 8) (0x85 ∷ 0x00 ∷ 0x00 ∷ 0x01 ∷ []))) 9 ≡ Spent
-  -- a copy reads the bytes that stood there before it
+  -- a copy reads the bytes as they were before it
   pub copy_overlap : tell modules.copy_overlap (does (Write (Fixed 8) (1 ∷ 2 ∷ 3 ∷ []))) 100 ≡ Lines 13
       (import_returns ++ codes "step 1 1 -> i32:00000009"
       ∷ codes "step 1 2 -> i32:00000008"
@@ -117,7 +118,7 @@ pub record WorkedHistories : Type 0 where
       ∷ codes "step 1 3 -> i32:00000002"
       ∷ codes "trap 1 4 memory i32:0000ffff i32:00000007 i32:00000002 found 1"
       ∷ codes "trapped" ∷ [])
-  -- and is done where the host grew it
+  -- a fill succeeds if the host grew the memory
   pub fill_grown : tell modules.fill_past (does (Grow 1)) 100 ≡ Lines 7
       (import_returns ++ codes "step 1 1 -> i32:0000ffff"
       ∷ codes "step 1 2 -> i32:00000007"
@@ -139,7 +140,7 @@ pub record WorkedHistories : Type 0 where
       ∷ codes "step 1 3 i32:00000001 i32:00000004 -> i32:00000005"
       ∷ codes "host-return 1 i32:00000005"
       ∷ codes "ended" ∷ [])
-  -- and that call traps
+  -- a call inside the call of an import traps
   pub nested_trap : tell modules.nested_trap calls_back 100 ≡ Lines 4
       (import_begins ++ codes "host-call 2"
       ∷ codes "trap 2 0 unreachable"
@@ -153,17 +154,17 @@ pub record WorkedHistories : Type 0 where
       (import_returns ++ codes "step 1 1 -> i32:00000000"
       ∷ codes "trap 1 2 signature i32:00000000 found 3"
       ∷ codes "trapped" ∷ [])
-  -- or is empty
+  -- an entry that the host set is empty
   pub table_entry_emptied : tell modules.table_entry (does (SetTable 0 None)) 100 ≡ Lines 5
       (import_returns ++ codes "step 1 1 -> i32:00000000"
       ∷ codes "trap 1 2 empty i32:00000000"
       ∷ codes "trapped" ∷ [])
-  -- or holds the import
+  -- an entry that the host set holds the import
   pub table_entry_import : tell modules.table_entry (does (SetTable 0 (Some 0))) 100 ≡ Lines 5
       (import_returns ++ codes "step 1 1 -> i32:00000000"
       ∷ codes "trap 1 2 signature i32:00000000 found 0"
       ∷ codes "trapped" ∷ [])
-  -- or stands past what the table was; six turns suffice
+  -- an entry that the host set is past the former end of the table; six turns suffice
   pub table_growth : tell modules.table_growth (does_all (GrowTable 4 ∷ SetTable 5 (Some 3) ∷ [])) 6 ≡ Lines 6
       (import_returns ++ codes "step 1 1 -> i32:00000005"
       ∷ codes "trap 1 2 signature i32:00000005 found 3"
@@ -173,14 +174,14 @@ pub record WorkedHistories : Type 0 where
       (import_returns ++ codes "step 1 1 -> i32:00000005"
       ∷ codes "trap 1 2 table i32:00000005 found 4"
       ∷ codes "trapped" ∷ [])
-  -- or that it did not
+  -- an index is past a table that the host did not grow
   pub table_not_grown : tell modules.table_growth does_nothing 100 ≡ Lines 4
       (import_returns ++ codes "step 1 1 -> i32:00000005"
       ∷ codes "trap 1 2 table i32:00000005 found 2"
       ∷ codes "trapped" ∷ [])
   -- no table grows to more than a million entries
   pub table_growth_refused : tell modules.table_growth (does (GrowTable 999999)) 100 ≡ Fault 3 GrowRefused
-  -- a table grows where its maximum allows it, and its new entries hold the function
+  -- a table grows if its maximum allows it, and its new entries hold the function
   pub table_sizes : tell modules.table_sizes (script [] (Call 0 [] ∷ [])) 100 ≡ Lines 14
       (codes "host-call 0"
       ∷ codes "step 0 0 -> funcref:0000000000000002"
@@ -212,12 +213,12 @@ pub record WorkedHistories : Type 0 where
       ∷ codes "step 0 1 i32:00000010 -> i32:00000041"
       ∷ codes "host-return 0 i32:00000041"
       ∷ codes "ended" ∷ [])
-  -- that is not supplied
+  -- the imported global of an offset is not supplied
   pub imported_offset_missing : tell modules.imported_offset (gives_global None) 100 ≡ NoLink (Missing 0)
-  -- or has another type
+  -- the imported global of an offset has another type
   pub imported_offset_mismatch
       : tell modules.imported_offset (gives_global (Some (value I64 16))) 100 ≡ NoLink (Mismatch 0)
-  -- a C stack with buffers; 29 turns suffice
+  -- the run reads into buffers on a C stack; 29 turns suffice
   pub c_buffers : tell modules.c_buffers reads_hi 29 ≡ Lines 29
       (codes "host-call 1"
       ∷ codes "step 1 0 -> i32:00010400"
@@ -252,7 +253,7 @@ pub record WorkedHistories : Type 0 where
       ∷ codes "step 1 22 i32:00010400 ->"
       ∷ codes "host-return 1 i32:0014d2d6"
       ∷ codes "ended" ∷ [])
-  -- 28 do not
+  -- 28 turns do not suffice
   pub c_buffers_spent : tell modules.c_buffers reads_hi 28 ≡ Spent
   -- the replay module of two answers shows their history
   pub replay_two_answers : tell_replay modules.replay_two_answers (layout 1 1) 2 21 ≡ Lines 19 two_answers_lines

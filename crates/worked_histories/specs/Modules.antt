@@ -1,6 +1,6 @@
 -- The modules of the examples, as values.
 use Rattle.std.specs.Prelude.{List, [], ◌∷◌, Some, None, true, false, codes}
-use Rattle.wasm_opcodes.specs.declared.TheConstants.{F64_ADD, I32_ADD, I32_EXTEND8_S, I32_LOAD, I32_LOAD8_U, I32_SHL, I32_STORE16, I32_STORE8, I32_SUB}
+use Rattle.base.specs.declared.opcodes.TheConstants.{F64_ADD, I32_ADD, I32_EXTEND8_S, I32_LOAD, I32_LOAD8_U, I32_SHL, I32_STORE16, I32_STORE8, I32_SUB}
 use Rattle.wasm_syntax.specs.declared.values.ValType.TheVariants.{I32, F32, F64}
 use Rattle.wasm_syntax.specs.declared.signatures.FuncType.{FuncType}
 use Rattle.wasm_syntax.specs.declared.signatures.Limits.{Limits}
@@ -14,7 +14,7 @@ use Rattle.wasm_syntax.specs.declared.modules.Module.{Module}
 use Rattle.wasm_syntax.specs.EmptyModule.{empty_module}
 use Rattle.worked_histories.specs.Build.{value, func_type, limits, global_type, memory_arg, import_of, export_of, run, func, global}
 
--- imports a function of the first of these types, and exports the first of these functions
+-- a module that imports a function of the first of these types, and exports the first of these functions
 abbrev pub with_import : List FuncType → List DefinedFunc → Module
 with_import types funcs =
     record empty_module {
@@ -24,7 +24,7 @@ with_import types funcs =
       exports = export_of (codes "g") (ExportFunc 1) ∷ [];
     }
 
--- and has a memory, which is exported too
+-- a module with such an import and such an export, and with a memory, which is exported too
 abbrev pub with_memory : Limits → List FuncType → List DefinedFunc → Module
 with_memory pages types funcs =
     record (with_import types funcs) {
@@ -32,33 +32,34 @@ with_memory pages types funcs =
       exports = export_of (codes "g") (ExportFunc 1) ∷ export_of (codes "m") (ExportMemory 0) ∷ [];
     }
 
--- a function that takes and returns nothing, and one that returns a number
+-- the type of a function without parameters and results
 abbrev pub no_result : FuncType
 no_result = func_type [] []
 
+-- the type of a function without parameters that returns an i32
 abbrev pub one_result : FuncType
 one_result = func_type [] (I32 ∷ [])
 
--- adds two answers of the host
+-- a module that adds two answers of the host
 abbrev pub two_answers : Module
 two_answers =
     with_import (one_result ∷ []) (func 0 [] (Call 0 ∷ Call 0 ∷ Numeric I32_ADD ∷ End ∷ []) ∷ [])
 
--- stores into a memory that the host writes
+-- a module that stores into a memory to which the host writes
 abbrev pub overwrite : Module
 overwrite =
     with_memory (limits 1 None) (no_result ∷ one_result ∷ [])
     (func 1 [] (Call 0 ∷ Const (value I32 8) ∷ Const (value I32 1) ∷ Store (memory_arg I32_STORE16 1 0)
     ∷ Const (value I32 8) ∷ Load (memory_arg I32_LOAD 2 0) ∷ End ∷ []) ∷ [])
 
--- stores past the first page
+-- a module that stores past the first page
 abbrev pub grow_access : Module
 grow_access =
     with_memory (limits 1 None) (no_result ∷ [])
     (func 0 [] (Call 0 ∷ Const (value I32 65536) ∷ Const (value I32 9) ∷ Store (memory_arg I32_STORE8 0 0)
     ∷ End ∷ []) ∷ [])
 
--- copies what the host writes, and reads it with its sign
+-- a module that copies what the host writes, and loads it with its sign
 abbrev pub copy_load : Module
 copy_load =
     record overwrite {
@@ -67,7 +68,7 @@ copy_load =
           ∷ Const (value I32 0) ∷ Load (memory_arg I32_LOAD 2 0) ∷ Numeric I32_EXTEND8_S ∷ End ∷ []) ∷ [];
     }
 
--- copies bytes onto some of themselves, and fills with a number of more than a byte
+-- a module that copies bytes onto some of themselves, and fills with a number greater than a byte
 abbrev pub copy_overlap : Module
 copy_overlap =
     record overwrite {
@@ -77,7 +78,7 @@ copy_overlap =
           ∷ Const (value I32 8) ∷ Load (memory_arg I32_LOAD 2 0) ∷ End ∷ []) ∷ [];
     }
 
--- fills past the first page
+-- a module that fills past the first page
 abbrev pub fill_past : Module
 fill_past =
     record grow_access {
@@ -86,19 +87,19 @@ fill_past =
           ∷ End ∷ []) ∷ [];
     }
 
--- grows a memory of ten pages at most by three
+-- a module that grows a memory of at most ten pages by three
 abbrev pub grow_failed : Module
 grow_failed =
     with_memory (limits 4 (Some 10)) (no_result ∷ one_result ∷ [])
     (func 1 [] (Call 0 ∷ Const (value I32 3) ∷ MemoryGrow ∷ End ∷ []) ∷ [])
 
--- the first of two functions that calls the import and adds a byte of the memory, the second of which has this body
+-- two functions: the first calls the import and adds a byte of the memory, the second has this body
 abbrev pub byte_adders : List Instr → List DefinedFunc
 byte_adders second =
     func 0 [] (Call 0 ∷ Const (value I32 0) ∷ Load (memory_arg I32_LOAD8_U 0 0) ∷ Numeric I32_ADD ∷ End ∷ [])
     ∷ func 0 [] second ∷ []
 
--- the host may call its second function inside the call of an import
+-- a module whose second function the host may call inside the call of an import
 abbrev pub nested_call : Module
 nested_call =
     record (with_memory (limits 1 None) (one_result ∷ []) (byte_adders (Call 0 ∷ End ∷ []))) {
@@ -107,7 +108,7 @@ nested_call =
           ∷ export_of (codes "m") (ExportMemory 0) ∷ [];
     }
 
--- the same, where that function traps
+-- a module like `nested_call`, whose second function traps
 abbrev pub nested_trap : Module
 nested_trap = record nested_call { funcs = byte_adders (Unreachable ∷ Numeric I32_ADD ∷ End ∷ []) }
 
@@ -116,7 +117,7 @@ abbrev pub table_funcs : List Instr → List DefinedFunc
 table_funcs body =
     func 1 [] body ∷ func 1 [] (Const (value I32 7) ∷ End ∷ []) ∷ func 0 [] (End ∷ []) ∷ []
 
--- calls a function by a table that the host changes
+-- a module that calls a function by a table that the host changes
 abbrev pub table_entry : Module
 table_entry =
     record (with_import (no_result ∷ one_result ∷ [])
@@ -128,12 +129,12 @@ table_entry =
       elems = Active 0 (Const (value I32 0) ∷ End ∷ []) (2 ∷ []) ∷ [];
     }
 
--- the same, by an index past the table
+-- a module like `table_entry`, with an index past the table
 abbrev pub table_growth : Module
 table_growth =
     record table_entry { funcs = table_funcs (Call 0 ∷ Const (value I32 5) ∷ CallIndirect 1 ∷ End ∷ []) }
 
--- grows a table of four entries at most by two that hold a function, then by one, and calls the last
+-- a module that grows a table of at most four entries by two that hold a function, then by one, and calls the last
 abbrev pub table_sizes : Module
 table_sizes =
     record empty_module {
@@ -147,7 +148,7 @@ table_sizes =
       exports = export_of (codes "g") (ExportFunc 0) ∷ export_of (codes "e") (ExportFunc 1) ∷ [];
     }
 
--- reads a global that the host sets
+-- a module that reads a global that the host sets
 abbrev pub float_global : Module
 float_global =
     record (with_import (no_result ∷ func_type [] (F32 ∷ []) ∷ [])
@@ -156,7 +157,7 @@ float_global =
       exports = export_of (codes "g") (ExportFunc 1) ∷ export_of (codes "x") (ExportGlobal 0) ∷ [];
     }
 
--- its data segment stands at an imported global
+-- a module whose data segment has an imported global as its offset
 abbrev pub imported_offset : Module
 imported_offset =
     record empty_module {
@@ -169,7 +170,7 @@ imported_offset =
       datas = record { memory = 0; offset = GlobalGet 0 ∷ End ∷ []; bytes = 65 ∷ [] } ∷ [];
     }
 
--- adds floats in a body that nothing calls
+-- a module that adds floats in a body that nothing calls
 abbrev pub float_body : Module
 float_body =
     record empty_module {
@@ -180,7 +181,7 @@ float_body =
           (Nop ∷ Const (value F64 0) ∷ Const (value F64 0) ∷ Numeric F64_ADD ∷ Drop ∷ End ∷ []) ∷ [];
     }
 
--- reads into buffers on a stack in memory, as code compiled from C does
+-- a module that reads into buffers on a stack in memory, as code compiled from C does
 abbrev pub c_buffers : Module
 c_buffers =
     record empty_module {
@@ -202,7 +203,7 @@ c_buffers =
       elems = Active 0 (Const (value I32 1) ∷ End ∷ []) (2 ∷ []) ∷ [];
     }
 
--- the replay module of the first
+-- the replay module of `two_answers`
 abbrev pub replay_two_answers : Module
 replay_two_answers =
     record empty_module {

@@ -1,9 +1,9 @@
--- What the definitions tell of a run: its lines, where each step is a turn.
+-- The lines of a run by the definitions, in which each step is a turn.
 use Rattle.std.specs.Prelude.{ℕ, List, [], ◌∷◌, ◌++◌, Result, Ok, Err, map}
 use Rattle.wasm_syntax.specs.declared.modules.Module.{Module}
 use Rattle.host_script.specs.declared.scripts.Script.{Script}
 use Rattle.host_script.specs.declared.scripts.LinkFault.{LinkFault}
-use Rattle.run_outcomes.specs.declared.outcomes.Outcome.{Outcome}
+use Rattle.base.specs.declared.outcomes.Outcome.{Outcome}
 use Rattle.history_spec.specs.declared.entries.Entry.{Entry}
 use Rattle.history_spec.specs.declared.entries.FaultKind.{FaultKind}
 use Rattle.history_spec.specs.Step.{Progress, Running, Finished, Faulted, Stuck, StepResult}
@@ -12,7 +12,7 @@ use Rattle.history_spec.specs.Line.{entry_text, outcome_text}
 use Rattle.history_spec.specs.Projection.{Layout, Projection, projection}
 use Rattle.history_spec.specs.Replay.{instructions, program_alone, run_start_alone}
 
--- how a run within a budget comes out, its outcome as the last line
+-- the result of a run within a budget, with the outcome as the last line
 pub data TellResult : Type 0 where
   Lines : (turns : ℕ) (lines : List (List ℕ)) → TellResult
   Fault : (turn : ℕ) (kind : FaultKind) → TellResult
@@ -20,22 +20,26 @@ pub data TellResult : Type 0 where
   NoLink : (fault : LinkFault) → TellResult
   NoRule : TellResult
 
+-- the lines of a projection: its history and its outcome
 abbrev pub lines_of : Projection → List (List ℕ)
 lines_of s = map entry_text s.history ++ outcome_text s.outcome ∷ []
 
+-- the result of a run with this history and these turns, by how it goes on
 abbrev pub tell_at : (List Entry → Outcome → Projection) → List Entry → ℕ → Progress → TellResult
 tell_at show history turns (Running config) = Spent
 tell_at show history turns (Finished outcome) = Lines turns (lines_of (show history outcome))
 tell_at show history turns (Faulted kind) = Fault turns kind
 tell_at show history turns Stuck = NoRule
 
+-- the result of a run
 abbrev pub tell_run : (List Entry → Outcome → Projection) → Run → TellResult
 tell_run show run = tell_at show run.history run.turns run.at
 
--- the history as it is
+-- the history and the outcome as a projection of everything
 abbrev pub whole : List Entry → Outcome → Projection
 whole history outcome = record { history = history; outcome = outcome }
 
+-- the result of a run from its start, if the module links
 abbrev pub tell_from : (StepResult → TellResult) → Result StepResult LinkFault → TellResult
 tell_from go (Ok initial) = go initial
 tell_from go (Err fault) = NoLink fault
@@ -45,7 +49,8 @@ abbrev pub tell : Module → Script → ℕ → TellResult
 tell m script turns =
     tell_from (λ initial. tell_run whole (run_from (program_of m script) all_one initial turns)) (run_start m script)
 
--- what the run of a replay module from a function on shows; its two calls add to the steps, and take no turn
+-- what the run of a replay module from a function on shows; the two calls of that function and of the original take no
+-- turn
 abbrev pub tell_replay : Module → Layout → (entry steps : ℕ) → TellResult
 tell_replay m layout entry steps =
     tell_from

@@ -1,4 +1,4 @@
--- The calls of hooks of examples, computed.
+-- The hook calls of examples, computed.
 use Rattle.std.proofs.Common.{refl}
 use Rattle.worked_hooks.specs.Calls.{HookCallExamples, TwoAnswersCalls, EveryKindCalls, TwoAnswersTold, EveryKindTold, TwoAnswersInOrder, EveryKindInOrder, EntersAtEnd, TellsReference, FunctionInTable, HookInTable, NoFunctionInTable, TableSmaller}
 

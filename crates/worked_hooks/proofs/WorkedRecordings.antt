@@ -1,9 +1,9 @@
 -- Worked recordings, computed.
 use Rattle.std.proofs.Common.{◌≡◌, None, true, refl}
 use Rattle.trace_model.specs.Balance.{first_unbalanced}
-use Rattle.replay_spec.specs.Needed.{IsNeededOfRun}
-use Rattle.hook_spec.specs.LogTapeTest.{is_log_tape}
-use Rattle.hook_spec.specs.Laws.{TestedTapesAreOfLogs}
+use Rattle.record_replay_spec.specs.Needed.{IsNeededOfRun}
+use Rattle.record_replay_spec.specs.LogTapeTest.{is_log_tape}
+use Rattle.record_replay_spec.specs.HookLaws.{TestedTapesAreOfLogs}
 use Rattle.worked_tapes.specs.NeededTapes.{WorkedTapes}
 use Rattle.worked_hooks.specs.Recordings.{Recorded, recording, tape, Example, IsRecorded, IsRecordedAsNeeded}
 use Rattle.worked_hooks.specs.WorkedRecordings.{WorkedRecordings, mixed_log, mixed_tape, two_answers_recorded, overwrite_recorded, unread_write_recorded, unseen_growth_recorded, growth_recorded, no_growth_recorded, growth_failed_recorded, copy_recorded, copy_overlap_recorded, fill_recorded, fill_grown_recorded, entry_recorded, emptied_recorded, import_entry_recorded, table_unseen_recorded, float_recorded, table_growth_recorded, table_short_recorded, table_not_grown_recorded, nested_recorded, nested_trap_recorded, host_trap_recorded, c_buffers_recorded}

@@ -5,19 +5,18 @@ ghost use Rattle.worked_hooks.specs.Calls.{HookCallExamples};
 ghost use Rattle.worked_hooks.specs.Instrumented.{InstrumentedExamples};
 ghost use Rattle.worked_hooks.specs.WorkedRecordings.{WorkedRecordings};
 
-use hook_spec::tested_tapes_are_of_logs;
+use record_replay_spec::tested_tapes_are_of_logs;
 use worked_tapes::examples_have_their_needed_tapes;
 
-/// The example modules are instrumented as it is stated for them, that of two answers byte for byte. They call the
-/// hooks that are stated for them, which are those that are read off the originals' runs, in order; damaged ones are
-/// out of order where it is stated.
+/// The example modules have the stated instrumented modules, that of two answers byte for byte. They make the stated
+/// hook calls, which are those of the originals' runs, in order; damaged ones are out of order as stated.
 pub fn examples_are_instrumented()
     ensures instrumented { InstrumentedExamples }
     ensures calls { HookCallExamples }
 {}
 
-/// The worked runs take the turns of the originals and have the logs that are stated for them; the tapes of these logs
-/// are stated, and they are those that the originals' runs need where it is stated.
+/// The worked runs take the turns of the originals and have the stated logs; the tapes of these logs are stated, and
+/// they are those that the originals' runs need, for the runs for which this is stated.
 pub fn worked_runs_are_recorded()
     ensures { WorkedRecordings }
 {

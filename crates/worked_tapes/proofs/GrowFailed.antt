@@ -6,7 +6,7 @@ use Rattle.wasm_syntax.specs.Nest.{Empty}
 use Rattle.host_script.specs.Supply.{is_within}
 use Rattle.host_script.specs.declared.scripts.Action.TheVariants.{Grow as GrowBy}
 use Rattle.host_script.specs.declared.scripts.ResponseEnd.TheVariants.{Trap as EndsInTrap}
-use Rattle.run_outcomes.specs.declared.outcomes.Outcome.TheVariants.{Ended}
+use Rattle.base.specs.declared.outcomes.Outcome.TheVariants.{Ended}
 use Rattle.trace_model.specs.declared.tapes.Origin.TheVariants.{Begin, Import, Back}
 use Rattle.trace_model.specs.declared.tapes.Next.TheVariants.{Call, Return, End}
 use Rattle.trace_model.specs.declared.tapes.Effect.TheVariants.{Grow}
@@ -19,11 +19,11 @@ use Rattle.history_spec.specs.Configuration.{place, Activation, InModule, InMain
 use Rattle.history_spec.specs.Instruction.{grow_result}
 use Rattle.history_spec.specs.Step.{Running, Finished, StepResult, step_result, step, after_instruction}
 use Rattle.history_spec.specs.Run.{Run, run_after, steps, run_from, all_one}
-use Rattle.replay_spec.specs.Observations.{Observation, Begins, Ends, Resizes, grow_observations, activity_observations, observations, run_observations}
-use Rattle.replay_spec.specs.Known.{Known, opening_known}
-use Rattle.replay_spec.specs.Needed.{opening_store}
-use Rattle.replay_spec.specs.NeededTest.{are_needed_segments}
-use Rattle.replay_spec.specs.TapeRun.{TapeResult, Over, tape_result, tape_after, tape_steps, tape_run, memory_of_size, store_after_effects, after_effects, after_step, program_awaiting, pause}
+use Rattle.record_replay_spec.specs.Observations.{Observation, Begins, Ends, Resizes, grow_observations, activity_observations, observations, run_observations}
+use Rattle.record_replay_spec.specs.Known.{Known, opening_known}
+use Rattle.record_replay_spec.specs.Needed.{opening_store}
+use Rattle.record_replay_spec.specs.NeededTest.{are_needed_segments}
+use Rattle.record_replay_spec.specs.TapeRun.{TapeResult, Over, tape_result, tape_after, tape_steps, tape_run, memory_of_size, store_after_effects, after_effects, after_step, program_awaiting, pause}
 use Rattle.worked_histories.specs.Build.{i32}
 use Rattle.worked_histories.specs.Modules.{grow_failed}
 use Rattle.worked_histories.specs.Scripts.{does}
@@ -115,7 +115,7 @@ host_awaits bytes =
     tape_config bytes
     (InImport 0 [] (pause ∷ []) EndsInTrap ∷ InModule (frame_at [] after_call 1) ∷ host)
 
--- the growth that the tape has succeeds
+-- the growth of the tape succeeds
 effect_done : (bytes : List ℕ) → length bytes ≡ 262144
     → memory_of_size 8 (memory_of bytes) ≡ Some (memory_of (grown bytes))
 effect_done bytes h =
@@ -162,7 +162,7 @@ replays bytes h =
     (tape_after (after_step left (Import 0) s).entries (tape_steps code 95 (after_step left (Import 0) s).next))))
     (growth_fails more (grown_length bytes h))
 
--- ---- all of it
+-- ---- the whole tape
 
 passes_from : (bytes : List ℕ) → length bytes ≡ 262144
     → Passes grow_failed (does (GrowBy 4)) tape Ended (store_of bytes)

@@ -1,23 +1,23 @@
--- From what is computed to what is stated of a needed tape.
+-- From computed tests to the statements on needed tapes.
 use Rattle.std.proofs.Common.{◌≡◌, ℕ, Bool, true, Result, Ok, Err, List, refl}
 use Rattle.wasm_syntax.specs.declared.modules.Module.{Module}
 use Rattle.host_script.specs.declared.scripts.LinkFault.{LinkFault}
 use Rattle.host_script.specs.declared.scripts.Script.{Script}
-use Rattle.run_outcomes.specs.declared.outcomes.Outcome.{Outcome}
+use Rattle.base.specs.declared.outcomes.Outcome.{Outcome}
 use Rattle.trace_model.specs.declared.tapes.Segment.{Segment}
 use Rattle.trace_model.specs.Weight.{tape_weight}
 use Rattle.history_spec.specs.Store.{Store}
 use Rattle.history_spec.specs.Step.{Finished}
 use Rattle.history_spec.specs.Run.{program_of, start_in_store}
-use Rattle.replay_spec.specs.Observations.{run_observations}
-use Rattle.replay_spec.specs.Known.{opening_known}
-use Rattle.replay_spec.specs.Needed.{IsNeededTape, opening_store, IsNeededOfRun}
-use Rattle.replay_spec.specs.NeededTest.{are_needed_segments}
-use Rattle.replay_spec.specs.TapeRun.{Over, tape_result}
-use Rattle.replay_spec.specs.Laws.{TestedSegmentsAreNeeded}
+use Rattle.record_replay_spec.specs.Observations.{run_observations}
+use Rattle.record_replay_spec.specs.Known.{opening_known}
+use Rattle.record_replay_spec.specs.Needed.{IsNeededTape, opening_store, IsNeededOfRun}
+use Rattle.record_replay_spec.specs.NeededTest.{are_needed_segments}
+use Rattle.record_replay_spec.specs.TapeRun.{Over, tape_result}
+use Rattle.record_replay_spec.specs.Laws.{TestedSegmentsAreNeeded}
 use Rattle.worked_tapes.specs.TapeBuild.{IfOpened, most_steps, scripted_run, run_of_tape, Needs}
 
--- whether the segments pass the test for the run from this store
+-- the test of the segments for the run from this store
 abbrev pub test : Module → Script → List Segment → Store → Bool
 test m script segments store =
     are_needed_segments (opening_known store)
@@ -31,7 +31,7 @@ needed_by_test law m script segments outcome store ends tested =
     let seen = run_observations (program_of m script) (start_in_store m script store) most_steps in
     record { count = most_steps; outcome = outcome; ends = ends; needed = law (opening_known store) seen segments tested }
 
--- what is computed for that run
+-- the computed tests for a run from this store
 pub record Passes (m : Module) (script : Script) (segments : List Segment) (outcome : Outcome) (store : Store)
     : Type 0 where
   pub ends : (scripted_run m script store).at ≡ Finished outcome

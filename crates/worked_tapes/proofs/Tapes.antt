@@ -1,6 +1,6 @@
 -- The needed tapes of the examples and at the bounds, computed.
 use Rattle.std.proofs.Common.{refl}
-use Rattle.replay_spec.specs.Laws.{TestedSegmentsAreNeeded}
+use Rattle.record_replay_spec.specs.Laws.{TestedSegmentsAreNeeded}
 use Rattle.worked_tapes.specs.Bounds.{WorkedBounds}
 use Rattle.worked_tapes.specs.NeededTapes.{WorkedTapes}
 use Rattle.worked_tapes.proofs.Needs.{needs}

@@ -3,14 +3,14 @@ use Rattle.std.proofs.Common.{◌≡◌, true, false, Result, Ok, Err, List, [],
 use Rattle.wasm_syntax.specs.declared.modules.Module.{Module}
 use Rattle.host_script.specs.declared.scripts.LinkFault.{LinkFault}
 use Rattle.host_script.specs.declared.scripts.Script.{Script}
-use Rattle.run_outcomes.specs.declared.outcomes.Outcome.{Outcome}
-use Rattle.run_outcomes.specs.declared.outcomes.Outcome.TheVariants.{Ended}
+use Rattle.base.specs.declared.outcomes.Outcome.{Outcome}
+use Rattle.base.specs.declared.outcomes.Outcome.TheVariants.{Ended}
 use Rattle.trace_model.specs.declared.tapes.Segment.{Segment}
 use Rattle.history_spec.specs.Store.{Store}
 use Rattle.history_spec.specs.Step.{Finished}
 use Rattle.history_spec.specs.Run.{program_of, start_in_store}
-use Rattle.replay_spec.specs.Needed.{IsNeededTape, opening_store}
-use Rattle.replay_spec.specs.Laws.{NeededTapeIsOne, TestedSegmentsAreNeeded}
+use Rattle.record_replay_spec.specs.Needed.{IsNeededTape, opening_store}
+use Rattle.record_replay_spec.specs.Laws.{NeededTapeIsOne, TestedSegmentsAreNeeded}
 use Rattle.worked_tapes.specs.TapeBuild.{changes, IfOpened, scripted_run, IsNotNeededOf}
 use Rattle.worked_tapes.proofs.Needs.{test, needed_by_test}
 use Rattle.worked_tapes.specs.WrongTapes.{writes_four, wrong_byte_tape, one_byte_more, bytes_apart, segment_after_end, WrongTapes}
@@ -18,7 +18,7 @@ use Rattle.worked_tapes.specs.NeededTapes.{needed_bytes, two_answers_tape}
 use Rattle.worked_histories.specs.Modules.{two_answers, overwrite}
 use Rattle.worked_histories.specs.Scripts.{five_seven}
 
--- of a run from this store segments pass the test, and others do not
+-- for a run from this store the segments pass the test, and the others do not
 record OnePasses (m : Module) (script : Script) (segments others : List Segment) (outcome : Outcome) (store : Store)
     : Type 0 where
   ends : (scripted_run m script store).at ≡ Finished outcome
@@ -49,7 +49,7 @@ module _ (one : NeededTapeIsOne) (law : TestedSegmentsAreNeeded) where
       go (Ok store) passes = refuted store passes
       go (Err fault) passes = absurd passes
 
-  -- beside the needed tape of the four bytes
+  -- other segments than the needed ones of the four bytes are not needed
   bytes_not_needed : (others : List Segment)
       → IfOpened (opening_store overwrite writes_four) (OnePasses overwrite writes_four needed_bytes others Ended)
       → IsNotNeededOf overwrite writes_four others

@@ -3,7 +3,7 @@ use Rattle.std.specs.Prelude.{List, [], ◌∷◌, Some, None}
 use Rattle.wasm_syntax.specs.declared.values.ValType.TheVariants.{F32}
 use Rattle.host_script.specs.declared.scripts.Address.TheVariants.{Fixed}
 use Rattle.host_script.specs.declared.scripts.Action.TheVariants.{Write, SetTable, SetGlobal, Grow as GrowBy, GrowTable}
-use Rattle.run_outcomes.specs.declared.outcomes.Outcome.TheVariants.{Ended, Trapped}
+use Rattle.base.specs.declared.outcomes.Outcome.TheVariants.{Ended, Trapped}
 use Rattle.trace_model.specs.declared.tapes.Origin.TheVariants.{Begin, Import, Back}
 use Rattle.trace_model.specs.declared.tapes.Next.TheVariants.{Call, Return, End}
 use Rattle.trace_model.specs.declared.tapes.Effect.{Effect}
@@ -21,20 +21,20 @@ changes_twice first second =
     segment Begin [] (Call 1 []) ∷ segment (Import 0) first (Return None) ∷ segment (Import 0) second (Return None)
     ∷ segment Back [] End ∷ []
 
--- all of them
+-- all tapes at the bounds
 pub record WorkedBounds : Type 0 where
   -- ---- sizes
   -- an access that ends where the known memory does does not see a growth
   pub last_byte : Needs modules.last_byte (does (GrowBy 1)) (changes []) 3 Ended
-  -- nor does it make the growth known
+  -- an access that ends where the known memory ends does not make the growth known
   pub last_then_next
       : Needs modules.last_then_next (does_then (GrowBy 1 ∷ []) []) (changes_twice [] (Grow 2 ∷ [])) 5 Ended
   -- a byte in the page that the host added
   pub reads_next : Needs modules.reads_next (does_all (GrowBy 1 ∷ Write (Fixed 65536) (5 ∷ []) ∷ []))
       (changes (Grow 2 ∷ Bytes 65536 (5 ∷ []) ∷ [])) 5 Ended
-  -- what the module itself grew the memory to is known
+  -- the size to which the module itself grew the memory is known
   pub grows_itself : Needs modules.grows_itself (does_then [] (GrowBy 1 ∷ [])) (changes_twice [] []) 4 Ended
-  -- its growth sees the one of the host before it
+  -- a growth by the module sees the host's growth before it
   pub grows_after_host
       : Needs modules.grows_itself (does_then (GrowBy 1 ∷ []) []) (changes_twice (Grow 2 ∷ []) []) 5 Ended
   -- a size that is seen once is known, until the host changes it again
@@ -42,7 +42,7 @@ pub record WorkedBounds : Type 0 where
       : Needs modules.sizes_twice (does_then (GrowBy 1 ∷ []) []) (changes_twice (Grow 2 ∷ []) []) 5 Ended
   pub sizes_twice : Needs modules.sizes_twice (does_then (GrowBy 1 ∷ []) (GrowBy 2 ∷ []))
       (changes_twice (Grow 2 ∷ []) (Grow 4 ∷ [])) 6 Ended
-  -- an index right past the known table sees its growth, the last one within it does not
+  -- an index directly after the known table sees its growth, the last one within it does not
   pub first_past_table
       : Needs (modules.calls_entry 2) (does (GrowTable 1)) (changes_then_traps (Table 3 ∷ [])) 3 Trapped
   pub last_in_table : Needs (modules.calls_entry 1) (does (GrowTable 1)) (changes_then_traps []) 2 Trapped
@@ -50,18 +50,18 @@ pub record WorkedBounds : Type 0 where
       (does_then (GrowTable 1 ∷ SetTable 1 (Some 2) ∷ SetTable 2 (Some 2) ∷ []) [])
       (changes_twice (Entry 1 (Some 2) ∷ []) (Table 3 ∷ Entry 2 (Some 2) ∷ [])) 7 Ended
   -- ---- bytes and globals
-  -- a byte that was read is known: the same again is not needed
+  -- a byte that was read is known: the same byte again is not needed
   pub same_again
       : Needs modules.reads_twice (does_then (Write (Fixed 0) (5 ∷ []) ∷ []) (Write (Fixed 0) (5 ∷ []) ∷ []))
       (changes_twice (Bytes 0 (5 ∷ []) ∷ []) []) 5 Ended
-  -- and neither is nothing
+  -- without a change the byte is not needed again
   pub nothing_again : Needs modules.reads_twice (does_then (Write (Fixed 0) (5 ∷ []) ∷ []) [])
       (changes_twice (Bytes 0 (5 ∷ []) ∷ []) []) 5 Ended
-  -- what stood there when the run began is
+  -- a byte that is again as it was when the run began is needed
   pub back_to_first
       : Needs modules.reads_twice (does_then (Write (Fixed 0) (5 ∷ []) ∷ []) (Write (Fixed 0) (0 ∷ []) ∷ []))
       (changes_twice (Bytes 0 (5 ∷ []) ∷ []) (Bytes 0 (0 ∷ []) ∷ [])) 6 Ended
-  -- a byte that the module stored is known, and what stood there before it is not needed
+  -- a byte that the module stored is known, and the byte before it is not needed
   pub stored_by_module
       : Needs modules.stores_between (does_then (Write (Fixed 0) (7 ∷ []) ∷ []) (Write (Fixed 0) (9 ∷ []) ∷ []))
       (changes_twice [] []) 4 Ended
@@ -71,7 +71,7 @@ pub record WorkedBounds : Type 0 where
   -- bytes that two loads read, side by side, are one run
   pub one_run : Needs modules.reads_words (does (Write (Fixed 8) (1 ∷ 2 ∷ 3 ∷ 4 ∷ 5 ∷ 6 ∷ 7 ∷ 8 ∷ [])))
       (changes (Bytes 8 (1 ∷ 2 ∷ 3 ∷ 4 ∷ 5 ∷ 6 ∷ 7 ∷ 8 ∷ []) ∷ [])) 11 Ended
-  -- a byte among them that is as it was parts them
+  -- an unchanged byte among them separates two runs
   pub two_runs : Needs modules.reads_words (does (Write (Fixed 8) (1 ∷ 2 ∷ 3 ∷ 0 ∷ 5 ∷ 6 ∷ 7 ∷ 8 ∷ [])))
       (changes (Bytes 8 (1 ∷ 2 ∷ 3 ∷ []) ∷ Bytes 12 (5 ∷ 6 ∷ 7 ∷ 8 ∷ []) ∷ [])) 10 Ended
   -- a global that the module set is known

@@ -1,6 +1,6 @@
 -- Modules at the bounds of what is seen and known, beside the examples.
 use Rattle.std.specs.Prelude.{ℕ, List, [], ◌∷◌, None}
-use Rattle.wasm_opcodes.specs.declared.TheConstants.{I32_ADD, I32_LOAD, I32_LOAD8_U, I32_STORE8}
+use Rattle.base.specs.declared.opcodes.TheConstants.{I32_ADD, I32_LOAD, I32_LOAD8_U, I32_STORE8}
 use Rattle.wasm_syntax.specs.declared.values.ValType.TheVariants.{I32, F32}
 use Rattle.wasm_syntax.specs.declared.instructions.Instr.{Instr}
 use Rattle.wasm_syntax.specs.declared.instructions.Instr.TheVariants.{End, Call, CallIndirect, Drop, GlobalGet, GlobalSet, Load, Store, MemorySize, MemoryGrow, Const, Numeric}
@@ -10,11 +10,11 @@ use Rattle.host_script.specs.declared.scripts.Script.{Script}
 use Rattle.worked_histories.specs.Build.{value, memory_arg, func, returns, one_call}
 use Rattle.worked_histories.specs.Modules.{overwrite, grow_access, table_entry, table_funcs, float_global}
 
--- one function that gives a number, with a memory of a page
+-- a module of one function that returns a number, with a memory of one page
 abbrev pub with_body : List Instr → Module
 with_body body = record overwrite { funcs = func 1 [] body ∷ [] }
 
--- stores into the last byte of the first page
+-- a module that stores into the last byte of the first page
 abbrev pub last_byte : Module
 last_byte =
     record grow_access {
@@ -22,7 +22,8 @@ last_byte =
           (Call 0 ∷ Const (value I32 65535) ∷ Const (value I32 9) ∷ Store (memory_arg I32_STORE8 0 0) ∷ End ∷ []) ∷ [];
     }
 
--- stores into the last byte of the first page, and after another call of the import into the first of the second
+-- a module that stores into the last byte of the first page, and after another call of the import into the first of
+-- the second
 abbrev pub last_then_next : Module
 last_then_next =
     record grow_access {
@@ -31,48 +32,48 @@ last_then_next =
           ∷ Call 0 ∷ Const (value I32 65536) ∷ Const (value I32 9) ∷ Store (memory_arg I32_STORE8 0 0) ∷ End ∷ []) ∷ [];
     }
 
--- reads the first byte of the second page
+-- a module that reads the first byte of the second page
 abbrev pub reads_next : Module
 reads_next = with_body (Call 0 ∷ Const (value I32 65536) ∷ Load (memory_arg I32_LOAD8_U 0 0) ∷ End ∷ [])
 
--- grows its memory by a page, and then reads the last byte of the second page
+-- a module that grows its memory by a page, and then reads the last byte of the second page
 abbrev pub grows_itself : Module
 grows_itself =
     with_body
     (Call 0 ∷ Const (value I32 1) ∷ MemoryGrow ∷ Drop ∷ Call 0 ∷ Const (value I32 131071)
     ∷ Load (memory_arg I32_LOAD8_U 0 0) ∷ End ∷ [])
 
--- asks for the size of its memory after each of two calls of the import
+-- a module that reads the size of its memory after each of two calls of the import
 abbrev pub sizes_twice : Module
 sizes_twice = with_body (Call 0 ∷ MemorySize ∷ Call 0 ∷ MemorySize ∷ Numeric I32_ADD ∷ End ∷ [])
 
--- reads one byte after each of two calls of the import
+-- a module that reads one byte after each of two calls of the import
 abbrev pub reads_twice : Module
 reads_twice =
     with_body
     (Call 0 ∷ Const (value I32 0) ∷ Load (memory_arg I32_LOAD8_U 0 0) ∷ Call 0 ∷ Const (value I32 0)
     ∷ Load (memory_arg I32_LOAD8_U 0 0) ∷ Numeric I32_ADD ∷ End ∷ [])
 
--- stores a byte between the two calls, and reads it after both
+-- a module that stores a byte between the two calls, and reads it after both
 abbrev pub stores_between : Module
 stores_between =
     with_body
     (Call 0 ∷ Const (value I32 0) ∷ Const (value I32 9) ∷ Store (memory_arg I32_STORE8 0 0) ∷ Call 0
     ∷ Const (value I32 0) ∷ Load (memory_arg I32_LOAD8_U 0 0) ∷ End ∷ [])
 
--- reads two words side by side, the second first
+-- a module that reads two adjacent words, the second first
 abbrev pub reads_words : Module
 reads_words =
     with_body
     (Call 0 ∷ Const (value I32 12) ∷ Load (memory_arg I32_LOAD 2 0) ∷ Const (value I32 8)
     ∷ Load (memory_arg I32_LOAD 2 0) ∷ Numeric I32_ADD ∷ End ∷ [])
 
--- calls the function in an entry of a table that has two, of which the second is empty
+-- a module that calls the function in an entry of a table with two entries, the second of them empty
 abbrev pub calls_entry : ℕ → Module
 calls_entry index =
     record table_entry { funcs = table_funcs (Call 0 ∷ Const (value I32 index) ∷ CallIndirect 1 ∷ End ∷ []) }
 
--- calls the functions in the last entry of the table and in the one after it
+-- a module that calls the functions in the last entry of the table and in the one after it
 abbrev pub calls_last_then_next : Module
 calls_last_then_next =
     record table_entry {
@@ -82,7 +83,7 @@ calls_last_then_next =
           ∷ Numeric I32_ADD ∷ End ∷ []);
     }
 
--- sets its global between two calls of the import, and reads it after both
+-- a module that sets its global between two calls of the import, and reads it after both
 abbrev pub sets_between : Module
 sets_between =
     record float_global {
@@ -90,6 +91,7 @@ sets_between =
           (Call 0 ∷ Const (value F32 1) ∷ GlobalSet 0 ∷ Call 0 ∷ GlobalGet 0 ∷ End ∷ []) ∷ [];
     }
 
--- the host does this in the first call of the import, and that in the second
+-- a script in which the host performs the first actions in the first call of the import, and the second ones in the
+-- second
 abbrev pub does_then : (first second : List Action) → Script
 does_then first second = one_call 1 (returns first None ∷ returns second None ∷ [])

@@ -5,7 +5,7 @@ use Rattle.host_script.specs.declared.scripts.Address.TheVariants.{Fixed}
 use Rattle.host_script.specs.declared.scripts.Action.TheVariants.{Write, SetTable, SetGlobal, Grow, GrowTable}
 use Rattle.trace_model.specs.declared.tapes.Origin.TheVariants.{Begin, Import, Back}
 use Rattle.trace_model.specs.declared.tapes.Next.TheVariants.{Call, Return, End, Trap}
-use Rattle.replay_spec.specs.Observations.{Begins, Ends, Reads, Copies, Writes, Reaches, ReadsEntry, ReachesEntry, ReadsGlobal}
+use Rattle.record_replay_spec.specs.Observations.{Begins, Ends, Reads, Copies, Writes, Reaches, ReadsEntry, ReachesEntry, ReadsGlobal}
 use Rattle.worked_histories.specs.Build.{value, i32}
 use Rattle.worked_histories.specs.Modules.{two_answers, overwrite, grow_access, copy_load, fill_past, nested_call, nested_trap, table_growth, float_global}
 use Rattle.worked_histories.specs.Scripts.{does, does_all, does_nothing, host_traps, calls_back}
@@ -44,7 +44,7 @@ FillGrown =
     ∷ Reaches 65537 2 ∷ Writes 65535 (7 ∷ 7 ∷ [])
     ∷ Begins Back ∷ Ends End ∷ [])
 
--- a call within the call of an import: the activity that the return begins has the write
+-- a call within the call of an import: the write is in the activity that the inner call's return begins
 abbrev pub NestedCall : Type 0
 NestedCall =
     Observes nested_call calls_back
@@ -54,7 +54,7 @@ NestedCall =
     ∷ Reaches 1 1 ∷ Reads 0 (4 ∷ [])
     ∷ Begins Back ∷ Ends End ∷ [])
 
--- one that traps
+-- a call within the call of an import traps
 abbrev pub NestedTrap : Type 0
 NestedTrap =
     Observes nested_trap calls_back (Begins Begin ∷ Ends (Call 1 []) ∷ Begins (Import 0) ∷ Ends (Call 2 []) ∷ [])
@@ -64,14 +64,14 @@ abbrev pub HostTrap : Type 0
 HostTrap =
     Observes two_answers host_traps (Begins Begin ∷ Ends (Call 1 []) ∷ Begins (Import 0) ∷ Ends Trap ∷ [])
 
--- a call by the table, in one that the host grew
+-- a call by a table that the host grew
 abbrev pub TableGrowth : Type 0
 TableGrowth =
     Observes table_growth (does_all (GrowTable 4 ∷ SetTable 5 (Some 3) ∷ []))
     (Begins Begin ∷ Ends (Call 1 []) ∷ Begins (Import 0) ∷ Ends (Return None)
     ∷ ReachesEntry 5 6 ∷ ReadsEntry 5 (Some 3) ∷ [])
 
--- or by an index that is still past it
+-- a call by the table, with an index that is still past it
 abbrev pub TableGrowthShort : Type 0
 TableGrowthShort =
     Observes table_growth (does (GrowTable 2))
@@ -85,7 +85,7 @@ FloatGlobal =
     ∷ ReadsGlobal 0 (value F32 0x7FA00001)
     ∷ Begins Back ∷ Ends End ∷ [])
 
--- all of them
+-- all observations of the examples
 pub record WorkedObservations : Type 0 where
   pub overwrite : Overwrite
   pub store_traps : StoreTraps

@@ -6,7 +6,7 @@ ghost use Rattle.worked_tapes.specs.NeededTapes.{WorkedTapes};
 ghost use Rattle.worked_tapes.specs.Observed.{WorkedObservations};
 ghost use Rattle.worked_tapes.specs.WrongTapes.{WrongTapes};
 
-use replay_spec::{needed_tape_is_one, tested_segments_are_needed};
+use record_replay_spec::{needed_tape_is_one, tested_segments_are_needed};
 
 /// The runs of the example modules observe what is stated for them.
 pub fn examples_have_their_observations()

@@ -26,7 +26,7 @@ pub returns-clause-cause : goal.returns-clause-cause
 returns-clause-cause g c =
     IfErr-bytes c.output_of_command.result _ c.args.call.now.command _ _ c.args.call.now.number (λ told e. ap all_bytes c.deref.ensures.value ∙ c.in_ok-loaded.ensures.bytes told e) c.output_of_command.ensures.cause
 
--- a file that is longer, where none is
+-- no longer file is found if there is none
 none-longer : {X : Type 0} (found : Option X) → found ≡ None → IsSome found → ⊥
 none-longer None none some = false≢true some
 none-longer (Some file) none some = cc none

@@ -1,22 +1,22 @@
 use Rattle.std.proofs.Common.{◌≡◌, ℕ, ◌<◌, ◌≤◌, List, [], ◌∷◌, length, get_or, Option, Some, None, Vec, sym, subst, arith}
 use Rattle.r3_make.specs.Refusals.{AreReplayable, IsMakeRefusal}
 use Rattle.r3_instrument.specs.Hooked.{IsHookedOf, IsHookedRefusal}
-use Rattle.r3_record.specs.LogFiles.{IsLogFile, IsLogRefusal}
+use Rattle.r3_make.specs.LogFiles.{IsLogFile, IsLogRefusal}
 use Rattle.r3_reduce.specs.Reduced.{IsReduced, IsReduceRefusal}
-use Rattle.r3_build.specs.Refusals.{IsBuildRefusal}
-use Rattle.r3_build.specs.Printed as built
+use Rattle.r3_make.specs.BuildRefusals.{IsBuildRefusal}
+use Rattle.r3_make.specs.BuiltReplays as built
 use Rattle.r3_history.specs.Histories.{IsHistory, IsHistoryRefusal}
 use Rattle.r3_replay.specs.ReplayTexts.{IsReplayText, IsReplayRefusal}
 use Rattle.r3_show.specs.Shown.{IsShown, IsShowRefusal}
 use Rattle.load_maker.specs.Loads.{load_script}
 use Rattle.load_maker.specs.declared.load_module.TheConstants.{LOAD_MODULE}
-use Rattle.r3_load.specs.Summaries.{load_turns}
+use Rattle.r3_make.specs.Summaries.{load_turns}
 use Rattle.r3_core.specs.declared.words.Command.{Command}
 use Rattle.r3_core.specs.declared.words.Command.TheVariants.{Make, Instrument, Record, Reduce, Build, History, Replay, Show, Load}
 use Rattle.r3_core.specs.Causes.{IsRefusal, IsDoable, all_bytes}
 use Rattle.r3_core.proofs.output_of_command.Goals as goal
 
--- what is said of two files
+-- a command over two files
 two-files : {Z : Type 0} (command here : Command) (P : List ℕ → List ℕ → ℕ → Type 0) (Q : Command → List (List ℕ) → Option ℕ → Type 0) (loaded : List (Vec ℕ Z)) (number : Option ℕ) (m s : Vec ℕ Z) (turns : ℕ) → ((a b : List ℕ) → Q here (a ∷ b ∷ []) (Some turns) → P a b turns)
     → command ≡ here → number ≡ Some turns → m ≡ get_or loaded 0 m → s ≡ get_or loaded 1 s → 2 ≤ length loaded → length loaded < 3 → Q command (all_bytes loaded) number → P m.items s.items turns
 two-files command here P Q [] number m s turns at c n first second least most sure = absurd (omega (arith, least))
@@ -51,7 +51,7 @@ returns-in-Make-len2-Some-clause-done c = λ doable.
     (subst (λ bytes. AreReplayable c.module-item.result.items bytes here.turns) (sym c.deref-in-Make-len2-Some.ensures.value)
     (two-files c.args.command Make (λ a b turns. AreReplayable a b turns) (λ command loaded number. IsDoable command loaded number) c.args.loaded.now c.args.number c.module-item.result c.script-item.result here.turns (λ a b doable. doable) here.is-0 here.is-2 c.module-item.is c.script-item.is (omega (arith, here.len_at_least)) (omega (arith, here.len_below)) doable)))
 
--- they have a history
+-- the files have a history
 abbrev HasHistory : (module_bytes script_bytes : List ℕ) → (turns : ℕ) → Type 0
 HasHistory module_bytes script_bytes turns = (text : List ℕ) × IsHistory module_bytes script_bytes turns text
 
@@ -65,7 +65,7 @@ returns-in-History-len2-Some-clause-done c = λ doable.
     in
     (c.history.ensures.accepted history.0 history.1).1
 
--- what is said of one file, with what is given after it
+-- a command over one file, with an optional number after it
 one-file : {Z : Type 0} (command here : Command) (given : Option ℕ) (P : List ℕ → Type 0) (Q : Command → List (List ℕ) → Option ℕ → Type 0) (loaded : List (Vec ℕ Z)) (number : Option ℕ) (t : Vec ℕ Z) → ((a : List ℕ) → Q here (a ∷ []) given → P a)
     → command ≡ here → number ≡ given → t ≡ get_or loaded 0 t → 1 ≤ length loaded → length loaded < 2 → Q command (all_bytes loaded) number → P t.items
 one-file command here given P Q [] number t at c n first least most sure = absurd (omega (arith, least))
@@ -81,7 +81,7 @@ returns-in-Show-len1-None-clause-refused c = λ fault sure.
     (subst (λ bytes. IsShowRefusal bytes fault) (sym c.deref-in-Show-len1-None.ensures.value)
     (one-file c.args.command Show None (λ a. IsShowRefusal a fault) (λ command loaded number. IsRefusal command loaded number fault) c.args.loaded.now c.args.number c.trace-item.result (λ a sure. sure) here.is-0 here.is-2 c.trace-item.is (omega (arith, here.len_at_least)) (omega (arith, here.len_below)) sure))
 
--- it has lines
+-- the file has lines
 abbrev HasLines : List ℕ → Type 0
 HasLines bytes = (text : List ℕ) × IsShown bytes text
 
@@ -101,7 +101,7 @@ returns-in-Replay-len1-Some-clause-refused c = λ fault sure.
     (subst (λ bytes. IsReplayRefusal bytes here.turns fault) (sym c.deref-in-Replay-len1-Some.ensures.value)
     (one-file c.args.command Replay (Some here.turns) (λ a. IsReplayRefusal a here.turns fault) (λ command loaded number. IsRefusal command loaded number fault) c.args.loaded.now c.args.number c.binary-item.result (λ a sure. sure) here.is-0 here.is-2 c.binary-item.is (omega (arith, here.len_at_least)) (omega (arith, here.len_below)) sure))
 
--- its run shows lines
+-- the module's run shows lines
 abbrev ShowsLines : ℕ → List ℕ → Type 0
 ShowsLines turns bytes = (text : List ℕ) × IsReplayText bytes turns text
 
@@ -123,7 +123,7 @@ returns-in-Instrument-len1-None-clause-refused c = λ fault sure.
     (subst (λ bytes. IsHookedRefusal bytes fault) (sym c.deref-in-Instrument-len1-None.ensures.value)
     (one-file c.args.command Instrument None (λ a. IsHookedRefusal a fault) (λ command loaded number. IsRefusal command loaded number fault) c.args.loaded.now c.args.number c.original-item.result (λ a sure. sure) here.is-0 here.is-2 c.original-item.is (omega (arith, here.len_at_least)) (omega (arith, here.len_below)) sure))
 
--- it has an instrumented module that is short enough
+-- the module has an instrumented module that is short enough
 abbrev HasHooked : List ℕ → Type 0
 HasHooked bytes = (text : List ℕ) × IsHookedOf bytes text
 
@@ -143,7 +143,7 @@ returns-in-Reduce-len1-None-clause-refused c = λ fault sure.
     (subst (λ bytes. IsReduceRefusal bytes fault) (sym c.deref-in-Reduce-len1-None.ensures.value)
     (one-file c.args.command Reduce None (λ a. IsReduceRefusal a fault) (λ command loaded number. IsRefusal command loaded number fault) c.args.loaded.now c.args.number c.log-item.result (λ a sure. sure) here.is-0 here.is-2 c.log-item.is (omega (arith, here.len_at_least)) (omega (arith, here.len_below)) sure))
 
--- it spells a log that has a tape
+-- the file encodes a log that has a tape
 abbrev HasTape : List ℕ → Type 0
 HasTape bytes = (file : List ℕ) × IsReduced bytes file
 
@@ -164,7 +164,7 @@ returns-in-Record-len2-Some-clause-refused c = λ fault sure.
     (subst (λ bytes. IsLogRefusal c.instrumented-item.result.items bytes here.turns fault) (sym c.deref-in-Record-len2-Some-2.ensures.value)
     (two-files c.args.command Record (λ a b turns. IsLogRefusal a b turns fault) (λ command loaded number. IsRefusal command loaded number fault) c.args.loaded.now c.args.number c.instrumented-item.result c.played-item.result here.turns (λ a b sure. sure) here.is-0 here.is-2 c.instrumented-item.is c.played-item.is (omega (arith, here.len_at_least)) (omega (arith, here.len_below)) sure)))
 
--- their run has a log
+-- the run of the files has a log
 abbrev HasLog : (hooked_bytes script_bytes : List ℕ) → (turns : ℕ) → Type 0
 HasLog hooked_bytes script_bytes turns = (file : List ℕ) × IsLogFile hooked_bytes script_bytes turns file
 
@@ -178,7 +178,7 @@ returns-in-Record-len2-Some-clause-done c = λ doable.
     in
     (c.log_run.ensures.accepted file.0 file.1).1
 
--- what is said of three files
+-- a command over three files
 three-files : {Z : Type 0} (command here : Command) (P : List ℕ → List ℕ → List ℕ → Type 0) (Q : Command → List (List ℕ) → Option ℕ → Type 0) (loaded : List (Vec ℕ Z)) (number : Option ℕ) (m s t : Vec ℕ Z) → ((a b d : List ℕ) → Q here (a ∷ b ∷ d ∷ []) None → P a b d)
     → command ≡ here → number ≡ None → m ≡ get_or loaded 0 m → s ≡ get_or loaded 1 s → t ≡ get_or loaded 2 t → 3 ≤ length loaded → length loaded < 4 → Q command (all_bytes loaded) number → P m.items s.items t.items
 three-files command here P Q [] number m s t at c n first second third least most sure = absurd (omega (arith, least))
@@ -199,7 +199,7 @@ returns-in-Build-len3-None-clause-refused c = λ fault sure.
     (subst (λ bytes. IsBuildRefusal c.kept-item.result.items c.supplied-item.result.items bytes fault) (sym c.deref-in-Build-len3-None-3.ensures.value)
     (three-files c.args.command Build (λ a b d. IsBuildRefusal a b d fault) (λ command loaded number. IsRefusal command loaded number fault) c.args.loaded.now c.args.number c.kept-item.result c.supplied-item.result c.tape-item.result (λ a b d sure. sure) here.is-0 here.is-2 c.kept-item.is c.supplied-item.is c.tape-item.is (omega (arith, here.len_at_least)) (omega (arith, here.len_below)) sure))))
 
--- they have a replay module
+-- the files have a replay module
 abbrev HasBuilt : (module_bytes script_bytes tape_bytes : List ℕ) → Type 0
 HasBuilt module_bytes script_bytes tape_bytes = (bytes : List ℕ) × built.IsPrinted module_bytes script_bytes tape_bytes bytes
 
@@ -216,7 +216,7 @@ returns-in-Build-len3-None-clause-done c = λ doable.
 
 -- ---- loads
 
--- what is said of a number alone
+-- a command over a number alone
 no-file : {Z : Type 0} (command here : Command) (given : Option ℕ) (P : Type 0) (Q : Command → List (List ℕ) → Option ℕ → Type 0) (loaded : List (Vec ℕ Z)) (number : Option ℕ)
     → (Q here [] given → P) → command ≡ here → number ≡ given → length loaded < 1 → Q command (all_bytes loaded) number → P
 no-file command here given P Q [] number at c n most sure =

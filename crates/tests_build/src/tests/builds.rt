@@ -3,9 +3,9 @@
 ghost use Rattle.std.specs.Prelude.{◌≤◌, IfOk, length};
 ghost use Rattle.wasm_syntax.specs.declared.limits.TheConstants.{MOST_FILE_BYTES};
 
-use r3_build::build;
 use r3_faults::Fault;
 use r3_inputs::MOST_REPLAY_BYTES;
+use r3_make::build;
 use r3_outside::SureSink;
 use r3_replay::replay_text;
 use sha2::{Digest, Sha256};
@@ -13,7 +13,7 @@ use std::alloc::Global;
 use std::test::Fail;
 use wasm_syntax::limits::MOST_FILE_BYTES;
 
-/// What a tape's file begins with, before its digest: its mark and its version.
+/// The start of a tape's file, before its digest: its magic number and its version.
 const TAPE_START: [u8; 5] = [0x72, 0x33, 0x74, 0x70, 2];
 
 /// The most turns that `replay` takes.
@@ -23,7 +23,7 @@ const MOST_TURNS_REPLAYED: u64 = 20_000_000;
 ///
 /// # Errors
 ///
-/// When memory runs out, or the text is no hexadecimal, or too long.
+/// An error if memory runs out, or the text is not hexadecimal or too long.
 pub fn module_bytes(alloc: Global, module: &str) -> Result<Vec<u8>, Fail>
     ensures { IfOk result (λ bytes. length bytes.items ≤ MOST_FILE_BYTES) }
 {
@@ -34,11 +34,11 @@ pub fn module_bytes(alloc: Global, module: &str) -> Result<Vec<u8>, Fail>
     Ok(bytes)
 }
 
-/// The file of a tape with the digest of a module's bytes: its segments and its end are these bytes.
+/// The file of a tape with the digest of a module's bytes; `segments` has the bytes of its segments and its end.
 ///
 /// # Errors
 ///
-/// When memory runs out.
+/// An error if memory runs out.
 pub fn tape_file(alloc: Global, module: &[u8], segments: &[u8]) -> Result<Vec<u8>, Fail> {
     let mut bytes = Vec::from_slice(alloc, TAPE_START.as_slice())?;
     bytes.extend_from_slice(Sha256::digest(module).as_slice())?;
@@ -46,21 +46,21 @@ pub fn tape_file(alloc: Global, module: &[u8], segments: &[u8]) -> Result<Vec<u8
     Ok(bytes)
 }
 
-/// The same of segments in hexadecimal.
+/// The file of a tape with segments in hexadecimal.
 ///
 /// # Errors
 ///
-/// When memory runs out, or the text is no hexadecimal.
+/// An error if memory runs out, or the text is not hexadecimal.
 pub fn tape_of_text(alloc: Global, module: &[u8], segments: &str) -> Result<Vec<u8>, Fail> {
     tape_file(alloc, module, hex::decode(alloc, segments)?.as_slice())
 }
 
-/// What `build` answers for a module in hexadecimal, a script, and a tape of the module with these segments, in
+/// The result of `build` for a module in hexadecimal, a script, and a tape of the module with these segments, in
 /// hexadecimal too.
 ///
 /// # Errors
 ///
-/// When memory runs out, or a text is no hexadecimal, or too long.
+/// An error if memory runs out, or a text is not hexadecimal or too long.
 pub fn answer_for(
     alloc: Global,
     module: &str,
@@ -76,7 +76,7 @@ pub fn answer_for(
 ///
 /// # Errors
 ///
-/// When memory runs out, or the bytes are too many, or `replay` refuses them.
+/// An error if memory runs out, the bytes are too many, or `replay` refuses them.
 pub fn lines_shown_by(alloc: Global, binary: &[u8]) -> Result<Vec<u8>, Fail> {
     if binary.len() as u64 > MOST_REPLAY_BYTES {
         return Err(Fail::from("too many bytes"));
@@ -84,11 +84,11 @@ pub fn lines_shown_by(alloc: Global, binary: &[u8]) -> Result<Vec<u8>, Fail> {
     Ok(replay_text(alloc, binary, MOST_TURNS_REPLAYED)?)
 }
 
-/// The line of error of what `build` answers, and its status; none where it prints something.
+/// The line of error of a result of `build`, and its status; `None` if it prints something.
 ///
 /// # Errors
 ///
-/// When memory runs out.
+/// An error if memory runs out.
 pub fn refusal_of(
     alloc: Global,
     answer: Result<Vec<u8>, Fault>,

@@ -1,13 +1,13 @@
-//! The most that a tape may weigh.
+//! The limit of a tape's weight.
 
 use crate::tests::builds::{module_bytes, refusal_of, tape_file};
-use r3_build::build;
 use r3_faults::Fault;
+use r3_make::build;
 use sample_inputs::examples::OVERWRITE;
 use std::alloc::Global;
 use std::test::Fail;
 
-/// A tape of one segment up to the bytes that it writes at 0: the memory grows to 40 pages before.
+/// A tape of one segment, up to the bytes that it writes at 0; before them the memory grows to 40 pages.
 const GROWTH: [u8; 4] = [0, 2, 5, 40];
 
 /// The mark of bytes, and their address.
@@ -16,7 +16,7 @@ const BYTES_AT_0: [u8; 2] = [7, 0];
 /// The segment ends the host's work, and the tape ends.
 const END: [u8; 2] = [0x22, 0x2f];
 
-/// What `build` answers to a tape that grows the memory and writes zeros, whose number is spelled by `length`.
+/// The result of `build` for a tape that grows the memory and writes zeros, whose number is encoded by `length`.
 fn answer_to_zeros(
     alloc: Global,
     count: usize,

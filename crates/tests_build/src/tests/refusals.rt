@@ -1,7 +1,7 @@
-//! Tapes that are refused, and what is looked for first.
+//! Tapes that are refused, and the order of the causes.
 
 use crate::tests::builds::{answer_for, module_bytes, refusal_of, tape_of_text};
-use r3_build::build;
+use r3_make::build;
 use sample_inputs::examples::{GROW_ACCESS, IMPORTED_OFFSET, OVERWRITE, TWO_ANSWERS};
 use sample_inputs::traces::TAPE_OF_TWO_ANSWERS;
 use std::alloc::Global;
@@ -141,7 +141,7 @@ fn a_tape_of_another_module(rt: HostRuntime) -> Result<(), Fail> {
     Ok(())
 }
 
-/// The lengths of the file of a tape at which its header ends, and each of its segments.
+/// The lengths of a tape's file at which its header ends, and each of its segments.
 const WHOLE_PARTS: &[usize] = &[37, 42, 52, 62, 65];
 
 #[test]

@@ -8,8 +8,8 @@ use sample_inputs::examples::{
 use sample_inputs::traces::TAPE_OF_TWO_ANSWERS;
 use std::test::Fail;
 
-/// A module, a script, and the first lines that the runs of the replay modules of tapes show; of each tape its name,
-/// its segments with their end, and the lines that come after these.
+/// A module, a script, and the first lines that the runs of the replay modules of tapes show; for each tape its
+/// name, its segments with their end, and the lines that follow.
 type Group = (
     &'static str,
     &'static str,

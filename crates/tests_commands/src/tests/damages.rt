@@ -1,25 +1,24 @@
-//! Damage and failure, case by case: fronts of a module, reads that fail, bytes of output that are refused.
+//! Damage and failure, case by case: prefixes of a module, reads that fail, bytes of output that are refused.
 
-use crate::tests::calls::{
-    ANSWERS, TWO_ANSWERS, files_of, outcome_into, outcome_of, outcome_of_command, texts_of,
-};
-use crate::tests::shows::place_within;
-use r3_core::r3;
 use r3_outside::{MemFiles, MemSink};
-use sample_inputs::examples::C_BUFFERS;
+use sample_commands::calls::{files_of, outcome_into, outcome_of, outcome_of_command, texts_of};
+use sample_commands::places::place_within;
+use sample_commands::r3;
+use sample_inputs::examples::{C_BUFFERS, TWO_ANSWERS};
+use sample_inputs::scripts::ANSWERS;
 use std::alloc::Global;
 use std::test::Fail;
 
-/// It writes the buffer and the count that `read` gets.
+/// A script for `C_BUFFERS`, in which the host writes the buffer and the count of `read`.
 const BUFFERS: &str = concat!(
     r#"{"imports":{"env":{"read":{"calls":[{"do":[{"write":{"arg":0},"bytes":"68690a00"},"#,
     r#"{"write":{"arg":2},"bytes":"03000000"}],"return":{"i32":0}}]}}},"main":[{"call":"run"}]}"#
 );
 
-/// Where its header and its sections end, but for the last.
+/// The places at which the header of `C_BUFFERS` ends, and each of its sections but the last.
 const ENDS: [usize; 9] = [8, 27, 41, 46, 53, 58, 68, 86, 95];
 
-/// The status and the line that a front of the module has. Some fronts are modules, without what the
+/// The status and the line for a prefix of `C_BUFFERS`. Some prefixes are modules, without the exports that the
 /// script names.
 fn refusal_of_front(alloc: Global, length: usize) -> Result<(u8, String), Fail> {
     let at = place_within(&ENDS, length);
@@ -47,7 +46,7 @@ fn every_proper_front_of_a_module(rt: HostRuntime) -> Result<(), Fail> {
     Ok(())
 }
 
-/// The lines of the reads of `make` by their numbers: each file is read twice, the last time to its end.
+/// The lines for failed reads of `make` by their numbers: each file is read twice, the second time at its end.
 const UNREAD: [&str; 4] = [
     "read: m.wasm\n",
     "read: m.wasm\n",

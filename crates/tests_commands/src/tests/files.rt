@@ -1,8 +1,10 @@
 //! Files and sinks that fail, and files that are too long.
 
-use crate::tests::calls::{ANSWERS, TWO_ANSWERS, files_of, outcome_into, outcome_of, texts_of};
-use r3_core::r3_in_memory;
 use r3_outside::{MemSink, SureFiles, SureSink};
+use sample_commands::calls::{files_of, outcome_into, outcome_of, texts_of};
+use sample_commands::r3_in_memory;
+use sample_inputs::examples::TWO_ANSWERS;
+use sample_inputs::scripts::ANSWERS;
 use std::test::Fail;
 
 const WORDS: [&str; 4] = ["make", "m.wasm", "s.json", "4"];
@@ -23,7 +25,7 @@ fn each_failing_read_is_a_read_fault(rt: HostRuntime) -> Result<(), Fail> {
     panic!(rt; "a run without a fault");
 }
 
-/// Which reads fail, words of a call, and its line.
+/// The reads that fail, the words of a call, and its line.
 const UNREAD: [(&[u64], [&str; 4], &str); 2] = [
     (&[0], WORDS, "read: m.wasm\n"),
     (
@@ -66,8 +68,8 @@ fn files_at_and_past_their_limit(rt: HostRuntime) -> Result<(), Fail> {
     Ok(())
 }
 
-/// Words, and what is printed before the second call of the sink, which takes ten bytes a call: the preamble
-/// and the begin of a section with the types; the begin of the first line.
+/// Words, and the bytes printed before the second call of the sink, which takes ten bytes in a call: the
+/// preamble and the beginning of a section with the types; the beginning of the first line.
 const CUT_SHORT: &[(&str, &str, &[u8])] = &[
     ("make", "4", b"\0asm\x01\0\0\0\x01\x20"),
     ("history", "100", b"host-call "),

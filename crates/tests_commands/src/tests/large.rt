@@ -1,9 +1,8 @@
 //! Runs of some million turns and calls, and a module of some megabytes.
 
-use crate::tests::calls::{
-    ANSWERS, TWO_ANSWERS, files_of, outcome_of, outcome_of_command, takes_turns,
-};
-use sample_inputs::scripts::script_of_answers;
+use sample_commands::calls::{files_of, outcome_of, outcome_of_command, takes_turns};
+use sample_inputs::examples::TWO_ANSWERS;
+use sample_inputs::scripts::{ANSWERS, script_of_answers};
 use std::test::Fail;
 
 /// A loop whose run takes 2,000,000 turns: the host's call, seven instructions before the loop, and six in
@@ -21,7 +20,7 @@ fn a_run_of_two_million_turns(rt: HostRuntime) -> Result<(), Fail> {
     Ok(())
 }
 
-/// A loop of as many rounds as its import answers. In a round are six instructions, and outside three.
+/// A loop of as many rounds as its import answers. A round has six instructions, and there are three outside.
 const ROUNDS: &str =
     // (module (import "h" "f" (func (result i32)))
     //   (func (export "g") (result i32) (local i32) call 0 local.set 0
@@ -93,7 +92,8 @@ fn a_run_of_two_million_calls_and_one(rt: HostRuntime) -> Result<(), Fail> {
     Ok(())
 }
 
-/// All of a module but the 3,000,000 `nop`s that begin the body of its second function, and the end of that body.
+/// All of a module except the 3,000,000 `nop`s at the beginning of the body of its second function, and the end of
+/// that body.
 const BEFORE_THE_NOPS: &str =
     // (module (import "h" "f" (func (result i32))) (func (export "g") (result i32) call 0 call 0 i32.add)
     //   (func (result i32) i32.const 1)), but with 3,000,000 `nop`s before the `i32.const`, and the bytes from
@@ -113,7 +113,7 @@ fn a_module_of_three_million_bytes(rt: HostRuntime) -> Result<(), Fail> {
     files.add("large", module.as_slice())?;
     let answer = outcome_of(alloc, &["make", "large", "s.json", "4"], &mut files)?;
     assert!(rt; answer.is_done());
-    // As with the small module, 121 bytes more than the original's 3,000,058.
+    // As for the small module, 121 bytes more than the original's 3,000,058.
     assert_eq!(rt; answer.printed.len(), 3_000_179);
     Ok(())
 }

@@ -1,6 +1,6 @@
 //! Modules that are refused before the script is read.
 
-use crate::tests::calls::outcome_of_command;
+use sample_commands::calls::outcome_of_command;
 use std::test::Fail;
 
 const ROWS: &[(&str, &str, u8, &str)] = &[
@@ -13,8 +13,8 @@ const ROWS: &[(&str, &str, u8, &str)] = &[
     ),
     (
         "two_answers with a type index in six bytes",
-        // malformed: the type index of the function section stands in six bytes, `80 80 80 80 80 00`, and should in
-        //   five at most
+        // malformed: the encoding of the type index in the function section has six bytes, `80 80 80 80 80 00`,
+        // and five are the most
         "0061736d010000000105016000017f020701016801660000030701808080808000070501016700010a09010700100010006a0b",
         5,
         "malformed: at 24\n",

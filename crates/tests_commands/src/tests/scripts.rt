@@ -1,7 +1,9 @@
 //! Scripts that are refused before the run.
 
-use crate::tests::calls::{ANSWERS, TWO_ANSWERS, outcome_of_command};
+use sample_commands::calls::outcome_of_command;
+use sample_inputs::examples::TWO_ANSWERS;
 use sample_inputs::importers::EXPORTED_IMPORT;
+use sample_inputs::scripts::ANSWERS;
 use std::test::Fail;
 
 /// Modules and scripts with their lines.

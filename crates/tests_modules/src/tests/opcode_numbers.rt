@@ -1,5 +1,5 @@
-//! Opcodes of which a number is a part (Core 2.0, 5.4.5 to 5.4.7): numbers longer than they need be, and opcodes
-//! that are none of an input's.
+//! Opcodes that contain a number (Core 2.0, 5.4.5 to 5.4.7): numbers longer than they need be, and opcodes
+//! that an input does not have.
 
 use crate::tests::answers::Answer::{self, Malformed, Taken};
 
@@ -41,13 +41,13 @@ pub const ROWS: &[(&str, &str, Answer)] = &[
     ),
     (
         "memory.copy by a number of six bytes",
-        // malformed: the number 10 of `memory.copy` stands in six bytes, `8a 80 80 80 80 00`
+        // malformed: the number 10 of `memory.copy` is in six bytes, `8a 80 80 80 80 00`
         "0061736d010000000104016000000302010005030100010a13011100410041004100fc8a808080800000000b",
         Malformed(23),
     ),
     (
         "memory.fill by a number of six bytes",
-        // malformed: the number 11 of `memory.fill` stands in six bytes, `8b 80 80 80 80 00`
+        // malformed: the number 11 of `memory.fill` is in six bytes, `8b 80 80 80 80 00`
         "0061736d010000000104016000000302010005030100010a12011000410041004100fc8b8080808000000b",
         Malformed(23),
     ),
@@ -71,13 +71,13 @@ pub const ROWS: &[(&str, &str, Answer)] = &[
     ),
     (
         "memory.copy to another memory",
-        // malformed: the byte behind `fc 0a` is 1
+        // malformed: the byte after `fc 0a` is 1
         "0061736d010000000104016000000302010005030100010a0e010c00410041004100fc0a01000b",
         Malformed(23),
     ),
     (
         "memory.copy from another memory",
-        // malformed: the second byte behind `fc 0a` is 1
+        // malformed: the second byte after `fc 0a` is 1
         "0061736d010000000104016000000302010005030100010a0e010c00410041004100fc0a00010b",
         Malformed(23),
     ),
@@ -95,7 +95,7 @@ pub const ROWS: &[(&str, &str, Answer)] = &[
     ),
     (
         "memory.fill of another memory",
-        // malformed: the byte behind `fc 0b` is 1
+        // malformed: the byte after `fc 0b` is 1
         "0061736d010000000104016000000302010005030100010a0d010b00410041004100fc0b010b",
         Malformed(23),
     ),
@@ -197,19 +197,19 @@ pub const ROWS: &[(&str, &str, Answer)] = &[
     ),
     (
         "behind unreachable",
-        // malformed: no instruction is `fc 12`, behind `unreachable` too
+        // malformed: no instruction is `fc 12`, after `unreachable` too
         "0061736d01000000010401600000030201000a0801060000fc12000b",
         Malformed(18),
     ),
     (
         "behind other sections and before one",
-        // malformed: no instruction is `c5`; an export stands before the bodies, and data behind them
+        // malformed: no instruction is `c5`; an export is before the bodies, and data after them
         "0061736d01000000010401600000030201000503010001070501016700000a080106004100c51a0b0b07010041000b0161",
         Malformed(30),
     ),
     (
         "in the second body",
-        // malformed: the byte behind `fc 0b` is 1, in the second of two bodies
+        // malformed: the byte after `fc 0b` is 1, in the second of two bodies
         "0061736d01000000010401600000030302000005030100010a11020300000b0b00410041004100fc0b010b",
         Malformed(24),
     ),

@@ -1,4 +1,4 @@
-//! Indices that are not there (Core 1.0, 3.4), and where a module of several faults is invalid.
+//! Indices that do not exist (Core 1.0, 3.4), and the place of a module with several faults.
 
 use crate::tests::answers::Answer::{self, Invalid, InvalidOutside, Taken};
 

@@ -24,12 +24,6 @@ const MANY_LOCALS: Answer = Limit(Which::Locals, 50_001);
 
 pub const INSTRUCTIONS: &[(&str, &str, Answer)] = &[
     (
-        "f64.add in the third function",
-        // (module (func) (func) (func nop f64.const 0 f64.const 0 f64.add drop))
-        "0061736d010000000104016000000304030000000a1f0302000b02000b170001440000000000000000440000000000000000a01a0b",
-        Unsupported(2, 3, Feature::FloatArithmetic),
-    ),
-    (
         "f32.eq",
         // (module (func f32.const 0 f32.const 0 f32.eq drop))
         "0061736d01000000010401600000030201000a10010e00430000000043000000005b1a0b",
@@ -314,18 +308,6 @@ pub const QUANTITIES: &[(&str, &str, Answer)] = &[
         Limit(Which::Memory, 65_536),
     ),
     (
-        "an imported memory of 4,096 pages at least",
-        // (module (import "h" "f" (memory 4096)))
-        "0061736d010000000209010168016602008020",
-        Taken,
-    ),
-    (
-        "an imported memory of 4,097 pages at least",
-        // (module (import "h" "f" (memory 4097)))
-        "0061736d010000000209010168016602008120",
-        LARGE_MEMORY,
-    ),
-    (
         "a table of 1,000,000 entries",
         // (module (table 1000000 funcref))
         "0061736d010000000406017000c0843d",
@@ -344,28 +326,10 @@ pub const QUANTITIES: &[(&str, &str, Answer)] = &[
         Limit(Which::Table, 4_294_967_295),
     ),
     (
-        "an imported table of 1,000,000 entries at least",
-        // (module (import "h" "f" (table 1000000 funcref)))
-        "0061736d01000000020b0101680166017000c0843d",
-        Taken,
-    ),
-    (
-        "an imported table of 1,000,001 entries at least",
-        // (module (import "h" "f" (table 1000001 funcref)))
-        "0061736d01000000020b0101680166017000c1843d",
-        LARGE_TABLE,
-    ),
-    (
         "50,000 locals",
         // (module (func)), but with 50,000 locals of type i64
         "0061736d01000000010401600000030201000a08010601d086037e0b",
         Taken,
-    ),
-    (
-        "50,001 locals",
-        // (module (func)), but with 50,001 locals of type i64
-        "0061736d01000000010401600000030201000a08010601d186037e0b",
-        MANY_LOCALS,
     ),
     (
         "50,000 locals in two runs",

@@ -1,8 +1,8 @@
-//! What the runs of modules show that were written by hand in the form of replay modules: of a right
-//! one, and of wrong ones.
+//! The lines that are shown by the runs of modules in the form of replay modules that were written by hand: one
+//! right module, and wrong ones.
 //!
-//! Each has the types `[] -> [i32]` and `[] -> []`, a function 0 for the import, the original 1, and
-//! `_start`, which is 2. The layout is one import and one defined function.
+//! Each has the types `[] -> [i32]` and `[] -> []`, a function 0 for the import, the original 1, and `_start`,
+//! which is 2. The layout is one import and one defined function.
 
 use crate::tests::replays::{MOST_TURNS_REPLAYED, lines_shown_by, printed_by_replay};
 use sample_inputs::examples::REPLAY_TWO_ANSWERS;

@@ -1,10 +1,10 @@
-// Modules that were written by hand in the form of replay modules, or in a form that is like it; and custom sections
-// that tell a layout, which stand apart.
+// Modules that were written by hand in the form of replay modules, or in a similar form; and, apart from them,
+// custom sections that declare a layout.
 
-// ---- modules, without what tells their layout
+// ---- modules, without the section that declares their layout
 
-/// A module with the body 0 of an import, which counts its calls and answers 5 and 7, the original 1, which adds two of
-/// its answers, and `_start`, 2: all but what tells its layout.
+/// A module with the body 0 of an import, which counts its calls and answers 5 and 7, the original 1, which adds
+/// two of its answers, and `_start`, 2; without the section that declares its layout.
 // examples/replay_two_answers.wat
 pub const TWO_ANSWERS: &str =
     "0061736d010000000108026000017f6000000304030000010606017f0141000b070a01065f737461\
@@ -25,7 +25,7 @@ pub const START: &str =
 // (module (func (export "_start") unreachable))
 pub const TRAP: &str = "0061736d0100000001040160000003020100070a01065f737461727400000a05010300000b";
 
-// ---- custom sections `r3.layout`: how many functions the original imports, and how many it defines
+// ---- custom sections `r3.layout`: the numbers of functions that the original imports and defines
 
 pub const NONE: &str = "000c0972332e6c61796f75740000";
 

@@ -1,4 +1,4 @@
-//! Longer runs: what their replay modules show is the history of the scripted run.
+//! Longer runs: their replay modules show the history of the scripted run.
 
 use crate::tests::replays::{
     MOST_TURNS_REPLAYED, lines_of_history, lines_of_replay, lines_shown_by, printed_by_replay,
@@ -10,7 +10,7 @@ use sample_inputs::scripts::{COLLATZ_NUMBERS, script_of_answers};
 use std::alloc::Global;
 use std::test::Fail;
 
-/// The lines that the replay module of a run shows, where they are those of the run's own history.
+/// The lines that the replay module of a run shows, if they are those of the run's own history.
 fn shown_lines(alloc: Global, module: &str, script: &str, turns: u64) -> Result<Vec<u8>, Fail> {
     let shown = lines_of_replay(alloc, module, script, turns)?;
     let history = lines_of_history(alloc, module, script, turns)?;
@@ -25,7 +25,7 @@ fn shown_lines(alloc: Global, module: &str, script: &str, turns: u64) -> Result<
     Ok(shown)
 }
 
-/// How many lines a text has.
+/// The number of lines of a text.
 fn line_count(text: &[u8]) -> usize {
     text.iter().filter(|byte| **byte == b'\n').count()
 }

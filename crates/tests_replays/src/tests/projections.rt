@@ -1,5 +1,5 @@
-// What the run of a replay module shows of the original's functions, line by line, as the definition of
-// the projection says it.
+// What the run of a replay module shows of the original's functions, line by line, written after the definition
+// of the projection.
 
 use crate::tests::runs::FinishedRun;
 use history_lines::{print_entry, print_outcome};
@@ -9,14 +9,14 @@ use std::test::Fail;
 use wasm_interp::Pause;
 use wasm_syntax::{List, Val, Vals};
 
-/// How many functions the original imports and defines.
+/// The numbers of functions that the original imports and defines.
 #[derive(Clone, Copy)]
 pub struct Layout {
     pub imports: u32,
     pub defined: u32,
 }
 
-/// What a function is: the body that stands for an import, an original, or one that is appended.
+/// What a function is: the body in place of an import, an original, or an appended function.
 #[derive(Clone, Copy)]
 enum Side {
     Import,
@@ -44,7 +44,7 @@ fn call_shown(caller: Side, callee: Side, func: u32, args: Vals) -> Option<Entry
     }
 }
 
-/// The entry of its return.
+/// The entry of a return from a function to a caller of another side.
 fn return_shown(caller: Side, callee: Side, func: u32, results: Vals) -> Option<Entry> {
     match (caller, callee) {
         (Side::Original, Side::Original) => Some(Entry::Exit { func, results }),
@@ -57,7 +57,7 @@ fn return_shown(caller: Side, callee: Side, func: u32, results: Vals) -> Option<
     }
 }
 
-/// A history that is walked.
+/// The state of a walk over a history.
 #[derive(Drop)]
 struct Walk {
     alloc: Global,
@@ -78,8 +78,8 @@ impl Walk {
         }
     }
 
-    /// Keeps the arguments among a call's operands: all but the index of a `call_indirect`, which alone
-    /// of calls has found a function.
+    /// Keeps the arguments among a call's operands: all but the index of a `call_indirect`; only such a call has
+    /// found a function.
     fn keep_args(&mut self, operands: &[Val], found: Option<u32>) -> Result<(), Fail> {
         let count = match found {
             Some(_func) => operands.len().saturating_sub(1),
@@ -112,7 +112,7 @@ impl Walk {
         Ok(())
     }
 
-    /// Steps of originals are shown.
+    /// Shows a step of an original function.
     fn step(&mut self, func: u32, entry: &Entry) -> Result<(), Fail> {
         if let Side::Original = self.layout.side(func) {
             print_entry(&mut self.lines, entry)?;
@@ -120,7 +120,7 @@ impl Walk {
         Ok(())
     }
 
-    /// A trap outside is the host's.
+    /// Shows a trap; a trap outside is the host's.
     fn trap(&mut self, func: u32, entry: &Entry) -> Result<(), Fail> {
         match self.layout.side(func) {
             Side::Original => print_entry(&mut self.lines, entry)?,
@@ -149,13 +149,13 @@ impl Walk {
                 self.keep_args(operands.as_slice(), *found)
             }
             Entry::Trap { func, .. } => self.trap(*func, entry),
-            // A replay module imports nothing.
+            // A replay module has no imports.
             _ => Err(Fail::from("an entry of an import")),
         }
     }
 }
 
-/// Whose the trap is that a history ends with.
+/// The outcome of a history that ends with a trap, by the function that traps.
 fn trap_outcome(layout: Layout, entries: &[Entry]) -> Outcome {
     for entry in entries {
         if let Entry::Trap { func, .. } = entry {
@@ -180,7 +180,7 @@ fn outcome_shown(layout: Layout, run: &FinishedRun) -> Result<Outcome, Fail> {
 ///
 /// # Errors
 ///
-/// When memory runs out, or the run is not over.
+/// An error if memory runs out or the run is not over.
 pub fn lines_of_projection(
     alloc: Global,
     layout: Layout,

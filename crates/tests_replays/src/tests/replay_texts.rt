@@ -1,5 +1,5 @@
-//! What `replay` prints for modules that were written by hand, and why it prints nothing. The lines were worked out by
-//! hand.
+//! What `replay` prints for modules that were written by hand, or why it prints nothing. The lines were worked
+//! out by hand.
 
 use crate::tests::handmade::{
     EMPTY, NONE, ONE_AND_ONE, ONE_AND_TWO, ONE_DEFINED, START, TRAP, TWO_ANSWERS, TWO_DEFINED,
@@ -8,7 +8,7 @@ use crate::tests::replays::printed_by_replay;
 use sample_inputs::examples;
 use std::test::Fail;
 
-/// Modules, what tells their layout, the turns, and what is printed: lines, or the line of error.
+/// Modules, the sections that declare their layout, the turns, and what is printed: lines, or the line of error.
 const ROWS: &[(&str, &str, &str, u64, &str)] = &[
     (
         "two answers",

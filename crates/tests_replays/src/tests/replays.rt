@@ -1,4 +1,4 @@
-// Replay modules, and what their runs show.
+// Replay modules, and the lines of their runs.
 
 ghost use Rattle.std.specs.Prelude.{◌≤◌, IfOk, length};
 ghost use Rattle.wasm_syntax.specs.declared.limits.TheConstants.{MOST_FILE_BYTES};
@@ -21,7 +21,7 @@ use wasm_syntax::{ExportKind, Module};
 /// The most turns that `replay` takes.
 pub const MOST_TURNS_REPLAYED: u64 = 20_000_000;
 
-/// The layout that a replay module tells: two numbers in a custom section.
+/// The layout that a replay module declares: two numbers in a custom section.
 fn layout_of(module: &Module) -> Result<Layout, Fail> {
     for custom in module.customs.as_slice() {
         if custom.name.as_str() == "r3.layout" {
@@ -43,7 +43,7 @@ fn layout_in(bytes: &[u8]) -> Result<Layout, Fail> {
     Ok(Layout { imports, defined })
 }
 
-/// The function of the one export, which is named `_start`.
+/// The function of the only export, which is named `_start`.
 fn entry_of(module: &Module) -> Result<u32, Fail> {
     let [export] = module.exports.as_slice() else {
         return Err(Fail::from("other than one export"));
@@ -54,17 +54,17 @@ fn entry_of(module: &Module) -> Result<u32, Fail> {
     }
 }
 
-/// The lines that the run of a replay module shows of the original: its history, then its outcome. It is
-/// one without a start function, as those of plain scripts are.
+/// The lines that the run of a replay module shows of the original: its history, then its outcome. The module
+/// has no start function, like the replay modules of plain scripts.
 ///
 /// # Errors
 ///
-/// When memory runs out, the bytes are no replay module of a plain script, or its run does not end.
+/// An error if memory runs out, the bytes are not a replay module of a plain script, or its run does not end.
 pub fn lines_shown_by(alloc: Global, bytes: &[u8]) -> Result<Vec<u8>, Fail> {
     if bytes.len() as u64 > MOST_FILE_BYTES {
         return Err(Fail::from("too many bytes"));
     }
-    // It imports nothing, so a script without anything supplies all that it asks for.
+    // The module has no imports, so a script without parts gives its whole supply.
     let mut instance = instance_of(alloc, bytes, b"{}")?;
     if instance.module.start.is_some() {
         return Err(Fail::from("a start function"));
@@ -90,7 +90,8 @@ fn bytes_of(alloc: Global, module: &str) -> Result<Vec<u8>, Fail>
 ///
 /// # Errors
 ///
-/// When memory runs out, the module is not in hexadecimal or too long, the turns are too many, or `make` refuses.
+/// An error if memory runs out, the module is not in hexadecimal or too long, the turns are too many, or `make`
+/// refuses.
 pub fn replay_of_run(
     alloc: Global,
     module: &str,
@@ -108,7 +109,7 @@ pub fn replay_of_run(
 ///
 /// # Errors
 ///
-/// As for `replay_of_run` and `lines_shown_by`.
+/// The errors of `replay_of_run` and `lines_shown_by`.
 pub fn lines_of_replay(
     alloc: Global,
     module: &str,
@@ -123,7 +124,7 @@ pub fn lines_of_replay(
 ///
 /// # Errors
 ///
-/// When memory runs out, the module is not in hexadecimal or too long, or `history` refuses.
+/// An error if memory runs out, the module is not in hexadecimal or too long, or `history` refuses.
 pub fn lines_of_history(
     alloc: Global,
     module: &str,
@@ -138,7 +139,7 @@ pub fn lines_of_history(
 ///
 /// # Errors
 ///
-/// When memory runs out, or the bytes are too many.
+/// An error if memory runs out or the bytes are too many.
 pub fn printed_by_replay(alloc: Global, binary: &[u8], turns: u64) -> Result<Vec<u8>, Fail> {
     if binary.len() as u64 > MOST_REPLAY_BYTES {
         return Err(Fail::from("too many bytes"));

@@ -14,7 +14,7 @@ const TWO_CALLS: &str = concat!(
     r#"{"return":{"i32":2}}]}}},"main":[{"call":"g"},{"call":"g"}]}"#
 );
 
-/// A function that calls another one with an argument, which calls the import; then it calls the import itself.
+/// A function that calls another one with an argument, which calls the import, and then calls the import itself.
 // (module (import "h" "f" (func (result i32))) (func (export "g") (result i32) i32.const 3 call 2 call 0 i32.add)
 //   (func (param i32) (result i32) local.get 0 call 0 i32.add))
 const WITHIN: &str = "0061736d01000000\
@@ -24,7 +24,7 @@ const WITHIN: &str = "0061736d01000000\
     07050101670001\
     0a130209004103100210006a0b0700200010006a0b";
 
-/// A function `g` that calls `k` twice, which calls the import, and which the host may call too.
+/// A function `g` that calls `k` twice; `k` calls the import, and the host may call it too.
 // (module (import "h" "f" (func (result i32))) (func (export "g") (result i32) call 2 call 2 i32.sub)
 //   (func (export "k") (result i32) call 0))
 const BOTH: &str = "0061736d01000000\

@@ -13,18 +13,18 @@ use wasm_syntax::List;
 /// More turns than the run of any row takes.
 const MOST_TURNS: u32 = 100_000;
 
-/// The entries of a run that is over, and where it came to.
+/// The entries of a run that is over, and how it ended.
 #[derive(Drop)]
 pub struct FinishedRun {
     pub entries: Vec<Entry>,
     pub pause: Pause,
 }
 
-/// The run from a call of a function without parameters on, that call included.
+/// The run from a call of a function without parameters on, with that call.
 ///
 /// # Errors
 ///
-/// When memory runs out, the function has parameters or is imported, or the run needs too many turns.
+/// An error if memory runs out, the function has parameters or is imported, or the run needs too many turns.
 pub fn run(alloc: Global, instance: &mut Instance, func: u32) -> Result<FinishedRun, Fail>
     requires { IsIdle instance.old.«module» instance.old.machine }
 {
@@ -39,7 +39,7 @@ pub fn run(alloc: Global, instance: &mut Instance, func: u32) -> Result<Finished
     Ok(FinishedRun { entries, pause })
 }
 
-/// Calls a function, and makes the returns that are due.
+/// Calls a function, and executes the returns that are due.
 fn first_turn(alloc: Global, instance: &mut Instance, func: u32) -> Result<Turn, Fail>
     requires { IsIdle instance.old.«module» instance.old.machine }
     ensures { IfOk result (λ turn. ComesBy instance.new.«module» turn.pause instance.new.machine) }
@@ -51,7 +51,7 @@ fn first_turn(alloc: Global, instance: &mut Instance, func: u32) -> Result<Turn,
     Ok(turn)
 }
 
-/// Goes on until the machine pauses: where it does. The entries are appended.
+/// Runs until the machine pauses, appends the entries, and returns the pause.
 fn pause_of(
     instance: &mut Instance,
     pause: Option<Pause>,

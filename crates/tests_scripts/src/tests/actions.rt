@@ -139,7 +139,8 @@ const IMPORTS: &str = r#"
 - nothing under a module of no functions | {"imports":{"h":{}}} => script: unknown h
 "#;
 
-/// Scripts for modules that have a memory and a table in reach, out of reach, and imported; and how many they are.
+/// Scripts for modules that have a memory and a table in reach, out of reach, and imported; and the number of
+/// scripts.
 const TABLES: [(&str, &str, u64); 3] = [
     (EVERY_KIND, ROWS, 89),
     (CLOSED, OUT_OF_REACH, 19),

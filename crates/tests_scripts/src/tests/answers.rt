@@ -1,4 +1,4 @@
-// The lines of error that scripts are answered with.
+// The lines of error for scripts.
 
 use r3_faults::Fault;
 use r3_inputs::{module_of, script_of};
@@ -8,8 +8,8 @@ use std::test::Fail;
 use wasm_syntax::limits::MOST_FILE_BYTES;
 use wasm_validate::Checked;
 
-/// Imports a function `h.f` of type `[i64] -> []`, has a memory and a table of its own, and exports
-/// a function `go` of type `[] -> []` alone.
+/// Imports a function `h.f` of type `[i64] -> []`, has a memory and a table of its own, and exports only a
+/// function `go` of type `[] -> []`.
 pub const CLOSED: &str =
     // (module (import "h" "f" (func (param i64))) (table 1 funcref) (memory 1) (func (export "go")))
     "0061736d0100000001080260017e0060000002070101680166000003020101040401700001050301000107060102676f00010a040102000b";
@@ -22,11 +22,11 @@ pub const IMPORTED: &str =
     "0061736d010000000104016000000220040168017401700102040168016d0201010301680167037f000168016b037e00\
      0302010007060102676f00000a040102000b";
 
-/// The module of bytes in hexadecimal digits.
+/// The module that hexadecimal digits encode.
 ///
 /// # Errors
 ///
-/// When memory runs out, the text is not hexadecimal, or its bytes are no module that is taken.
+/// An error if memory runs out, the text is not hexadecimal, or its bytes are not an accepted module.
 pub fn module(alloc: Global, text: &str) -> Result<Checked, Fail> {
     let bytes = hex::decode(alloc, text)?;
     if bytes.len() as u64 > MOST_FILE_BYTES {
@@ -51,11 +51,11 @@ fn line_of(alloc: Global, fault: &Fault) -> Result<String, Fail> {
     }
 }
 
-/// The line that a script is answered with, or `taken`.
+/// The line of error for a script, or `taken`.
 ///
 /// # Errors
 ///
-/// When memory runs out.
+/// An error if memory runs out.
 pub fn answer_to(alloc: Global, checked: &Checked, script: &[u8]) -> Result<String, Fail> {
     match script_of(alloc, script, checked) {
         Ok(_script) => Ok(String::from_str(alloc, "taken")?),
@@ -63,7 +63,7 @@ pub fn answer_to(alloc: Global, checked: &Checked, script: &[u8]) -> Result<Stri
     }
 }
 
-/// Compares the answer to a script with the one that is wanted.
+/// Compares the result for a script with the expected one.
 fn check_row(
     alloc: Global,
     checked: &Checked,
@@ -78,11 +78,11 @@ fn check_row(
     Err(Fail::new(format_args!("{name}: {line}")))
 }
 
-/// Compares the answers to scripts for a module: rows have a name, a script, and its answer.
+/// Compares the results for scripts of a module: rows have a name, a script, and its result.
 ///
 /// # Errors
 ///
-/// At the first answer that differs; and as for `module`.
+/// An error for the first result that differs, and the errors of `module`.
 pub fn check_rows(alloc: Global, text: &str, rows: &[(&str, &str, &str)]) -> Result<(), Fail> {
     let checked = module(alloc, text)?;
     for &(name, script, want) in rows {
@@ -91,12 +91,12 @@ pub fn check_rows(alloc: Global, text: &str, rows: &[(&str, &str, &str)]) -> Res
     Ok(())
 }
 
-/// The same for the rows of a table, and how many there are. Each begins with `- ` on a line of its
-/// own, and is `NAME | SCRIPT => ANSWER`; white space around a script and an answer is left out.
+/// Compares the results for the rows of a table, and returns their number. Each row begins with `- ` on a line
+/// of its own, and is `NAME | SCRIPT => ANSWER`; white space around a script and an answer is left out.
 ///
 /// # Errors
 ///
-/// At the first answer that differs, or a row of another form; and as for `module`.
+/// An error for the first result that differs or a row of another form, and the errors of `module`.
 pub fn check_table(alloc: Global, text: &str, table: &str) -> Result<u64, Fail> {
     let checked = module(alloc, text)?;
     let mut count = 0u64;

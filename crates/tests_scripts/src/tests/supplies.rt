@@ -1,4 +1,4 @@
-//! What scripts supply for imports, and the first import that they do not match.
+//! What scripts supply for imports, and the first import that the supply does not match.
 
 use crate::tests::answers::{IMPORTED, module};
 use host_script::LinkFault::{self, Mismatch, Missing};
@@ -9,7 +9,7 @@ use std::alloc::Global;
 use std::test::Fail;
 use wasm_syntax::{Limits, Val, ValType};
 
-/// What matches the imports: a table of 2 to 4 entries, a memory of 1 to 3 pages and two globals.
+/// Supplies that match the imports: a table of 2 to 4 entries, a memory of 1 to 3 pages and two globals.
 const TABLE: &str = r#""table":{"size":2,"max":4},"#;
 
 const MEMORY: &str = r#""memory":{"pages":1,"max":2},"#;
@@ -31,7 +31,7 @@ fn supply_by(
     }
 }
 
-/// Tables that the imported one does not take.
+/// Tables that do not match the imported one.
 const OTHER_TABLES: [&str; 5] = [
     r#""table":{"size":1,"max":4},"#,
     r#""table":{"size":2},"#,
@@ -43,7 +43,7 @@ const OTHER_TABLES: [&str; 5] = [
 /// A table that is full.
 const FULL_TABLE: &str = r#""table":{"size":3,"max":3},"#;
 
-/// Memories that the imported one does not take.
+/// Memories that do not match the imported one.
 const OTHER_MEMORIES: [&str; 2] = [
     r#""memory":{"pages":0,"max":3},"#,
     r#""memory":{"pages":1,"max":4},"#,
@@ -64,7 +64,7 @@ const ROWS: &[(&str, &str, &str, LinkFault)] = &[
     (TABLE, MEMORY, OF_I32, Missing { import: 3 }),
 ];
 
-/// The fault of a supply, where there is one.
+/// The fault of a supply, if there is one.
 fn fault_of(
     alloc: Global,
     table: &str,

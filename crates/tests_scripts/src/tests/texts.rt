@@ -1,4 +1,4 @@
-//! Texts, the keys of a script, names, and what stands under them.
+//! Texts, the keys of a script, names, and the texts under them.
 
 use crate::tests::answers::{answer_to, check_rows, check_table, module};
 use sample_inputs::examples::TWO_ANSWERS;
@@ -91,8 +91,8 @@ fn texts_and_keys(rt: HostRuntime) -> Result<(), Fail> {
     check_rows(rt.alloc(), EVERY_KIND, WITH_SPACES)
 }
 
-/// Scripts whose bytes are no UTF-8: a byte that begins nothing, a front of two bytes, a surrogate,
-/// and the same in a name; and a mark of the order of bytes.
+/// Scripts whose bytes are not UTF-8: a byte that begins no character, an unfinished character, a surrogate, and
+/// an unfinished character in a name. The last script begins with a byte order mark.
 const OTHER_BYTES: &[&[u8]] = &[
     b"\xff",
     b"{}\xc3",

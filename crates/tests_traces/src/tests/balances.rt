@@ -1,4 +1,4 @@
-//! Logs that are balanced, and the first event that is out of order.
+//! Logs that are balanced, and the first event that is not allowed.
 
 use crate::tests::files::file;
 use sample_inputs::traces::{LOG, LOG_OF_TWO_ANSWERS};
@@ -6,8 +6,8 @@ use std::test::Fail;
 use trace_format::read_log;
 use trace_model::{BalanceFault, balanced};
 
-/// The first event of logs that is out of order, none where they are balanced; the name of each, and what stands after
-/// its digest. Function 0 is imported.
+/// The first event of logs that is not allowed, `None` if they are balanced; the name of each, and the bytes
+/// after its digest. Function 0 is imported.
 const ROWS: &[(Option<u64>, &[(&str, &str)])] = &[
     (
         None,

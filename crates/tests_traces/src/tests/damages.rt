@@ -7,7 +7,8 @@ use std::test::Fail;
 use trace_format::FormatFault::{Bad, Version};
 use trace_format::{lines_of_log, lines_of_tape};
 
-/// Files of other versions: their kind, their version in hexadecimal and as a number, what stands after the digest.
+/// Files of unknown versions: their kind, their version in hexadecimal and as a number, the bytes after the
+/// digest.
 const VERSIONS: &[(Kind, &str, u8, &str)] = &[
     (Log, "03", 3, LOG_OF_TWO_ANSWERS),
     (Log, "00", 0, "0010"),
@@ -15,8 +16,8 @@ const VERSIONS: &[(Kind, &str, u8, &str)] = &[
     (Tape, "03", 3, TAPE_OF_TWO_ANSWERS),
 ];
 
-/// Faulty files: their kind, their version, and the place of their fault; the name of each, and what stands after the
-/// digest. The header of a log with few imported functions has 38 bytes, that of a tape 37.
+/// Faulty files: their kind, their version, and the place of their fault; the name of each, and the bytes after
+/// the digest. The header of a log with few imported functions has 38 bytes, that of a tape 37.
 const FAULTS: &[(Kind, &str, u64, &[(&str, &str)])] = &[
     (
         Log,

@@ -1,4 +1,4 @@
-// Files in hexadecimal, and what is answered to them.
+// Files in hexadecimal, and the results of reading them.
 
 use sample_inputs::traces::{DIGEST, LOG, TAPE};
 use std::alloc::Global;
@@ -8,7 +8,7 @@ use trace_format::{
     tape_files, write_log, write_tape,
 };
 
-/// What a file holds.
+/// The kind of a file.
 #[derive(Clone, Copy, PartialEq, Eq)]
 pub enum Kind {
     Log,
@@ -16,7 +16,7 @@ pub enum Kind {
 }
 
 impl Kind {
-    /// The bytes that its files begin with, in hexadecimal.
+    /// The first bytes of a file of this kind, in hexadecimal.
     pub fn magic(self) -> &'static str {
         match self {
             Kind::Log => LOG,
@@ -24,7 +24,7 @@ impl Kind {
         }
     }
 
-    /// The word that the first line begins with.
+    /// The first word of the first line.
     fn word(self) -> &'static str {
         match self {
             Kind::Log => "log",
@@ -32,7 +32,7 @@ impl Kind {
         }
     }
 
-    /// The lines of a file that is read first.
+    /// The lines of a file that is read whole before it is shown.
     fn read_lines(self, alloc: Global, bytes: &[u8]) -> Result<Vec<u8>, FormatFault> {
         match self {
             Kind::Log => {
@@ -46,7 +46,7 @@ impl Kind {
         }
     }
 
-    /// The lines of a file that is shown at once.
+    /// The lines of a file that is shown while it is read.
     pub fn shown_lines(self, alloc: Global, bytes: &[u8]) -> Result<Vec<u8>, FormatFault> {
         match self {
             Kind::Log => lines_of_log(alloc, bytes),
@@ -54,7 +54,7 @@ impl Kind {
         }
     }
 
-    /// Why a file is not read; none where it is.
+    /// Why a file is not read; `None` if it is read.
     pub fn fault(self, alloc: Global, bytes: &[u8]) -> Option<FormatFault> {
         match self {
             Kind::Log => read_log(alloc, bytes).err(),
@@ -62,7 +62,7 @@ impl Kind {
         }
     }
 
-    /// The file of what a file holds.
+    /// The file that is written of a file's content.
     pub fn written_again(self, alloc: Global, bytes: &[u8]) -> Result<Vec<u8>, FormatFault> {
         match self {
             Kind::Log => log_again(alloc, bytes),
@@ -71,14 +71,14 @@ impl Kind {
     }
 }
 
-/// The file of the log of a file.
+/// The file that is written of a log's file.
 fn log_again(alloc: Global, bytes: &[u8]) -> Result<Vec<u8>, FormatFault> {
     log_files();
     let (digest, log) = read_log(alloc, bytes)?;
     Ok(write_log(alloc, digest.as_bytes(), &log)?)
 }
 
-/// The file of the tape of a file.
+/// The file that is written of a tape's file.
 fn tape_again(alloc: Global, bytes: &[u8]) -> Result<Vec<u8>, FormatFault> {
     tape_files();
     let (digest, tape) = read_tape(alloc, bytes)?;
@@ -94,7 +94,8 @@ pub fn file(alloc: Global, magic: &str, version: &str, body: &str) -> Result<Vec
     Ok(bytes)
 }
 
-/// Compares the answers to a file, read and shown, and shown at once: its lines after the first, or why it is refused.
+/// Compares the results for a file, read and shown, and shown at once: its lines after the first, or why it is
+/// refused.
 pub fn check_answers(
     alloc: Global,
     kind: Kind,
@@ -112,7 +113,7 @@ pub fn check_answers(
     Ok(())
 }
 
-/// The answer is the one that is wanted.
+/// Whether the result is the expected one.
 fn agree(
     alloc: Global,
     kind: Kind,

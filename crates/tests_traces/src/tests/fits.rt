@@ -1,4 +1,4 @@
-//! Tapes that fit a module and what they weigh, and the first segment that does not fit.
+//! Tapes that fit a module and their weights, and the first segment that does not fit.
 
 use crate::tests::files::file;
 use sample_inputs::module_without_parts;
@@ -11,7 +11,7 @@ use wasm_syntax::{
     Func, FuncType, Import, ImportKind, Instr, Limits, List, Module, Name, NoMemory, ValType,
 };
 
-/// The first segment of tapes that does not fit, none where they fit; the name of each, and what stands after its
+/// The first segment of tapes that does not fit, `None` if they fit; the name of each, and the bytes after its
 /// digest.
 type Rows = (Option<u64>, &'static [(&'static str, &'static str)]);
 
@@ -88,7 +88,7 @@ const OVERWRITE_ROWS: &[Rows] = &[
     ),
 ];
 
-/// A memory of two pages at most.
+/// Rows for a memory of at most two pages.
 const MAXIMUM_ROWS: &[Rows] = &[
     (None, &[("a growth to the maximum", "00010502222f")]),
     (Some(0), &[("a page more", "00010503222f")]),
@@ -121,7 +121,7 @@ fn of_a_memory_with_a_maximum(rt: HostRuntime) -> Result<(), Fail> {
     check_rows(alloc, &module_of(alloc, &[], &[pages])?, MAXIMUM_ROWS)
 }
 
-/// Compares whether tapes fit a module.
+/// Tests which tapes fit a module.
 fn check_rows(alloc: Global, module: &Module, groups: &[Rows]) -> Result<(), Fail> {
     for &(unfit, rows) in groups {
         let want = match unfit {
@@ -137,7 +137,7 @@ fn check_rows(alloc: Global, module: &Module, groups: &[Rows]) -> Result<(), Fai
     Ok(())
 }
 
-/// A module with an imported function that gives these, a function that gives an i32, and memories.
+/// A module with an imported function of these results, a function that returns an i32, and memories.
 fn module_of(alloc: Global, given: &[ValType], memories: &[Limits]) -> Result<Module, NoMemory> {
     let mut types = Vec::new(alloc);
     types.push(type_of(alloc, given)?)?;
@@ -166,7 +166,7 @@ fn module_of(alloc: Global, given: &[ValType], memories: &[Limits]) -> Result<Mo
     })
 }
 
-/// The type of functions without parameters that give these.
+/// The type of functions without parameters that have these results.
 fn type_of(alloc: Global, results: &[ValType]) -> Result<FuncType, NoMemory> {
     Ok(FuncType {
         params: List::new(alloc),

@@ -8,7 +8,7 @@ use sample_inputs::traces::{
 };
 use std::test::Fail;
 
-/// Files: their kind, their name, their version, what stands after the digest, and their lines after the first.
+/// Files: their kind, their name, their version, the bytes after the digest, and their lines after the first.
 const FILES: &[(Kind, &str, &str, &str, &str)] = &[
     (
         Log,

@@ -1,4 +1,4 @@
-//! Every proper prefix of a log and of a tape is refused, at the end of what is whole of it.
+//! Every proper prefix of a log and of a tape is refused, at the end of its whole parts.
 
 use crate::tests::files::{Kind, file};
 use sample_inputs::traces::{LOG_OF_TWO_ANSWERS, TAPE_OF_TWO_ANSWERS};
@@ -6,13 +6,13 @@ use std::alloc::Global;
 use std::test::Fail;
 use trace_format::FormatFault;
 
-/// Where the header of the log ends, and each of its events.
+/// The places at which the header of the log ends, and each of its events.
 const LOG_PLACES: [u64; 7] = [38, 41, 44, 51, 54, 61, 63];
 
-/// Where the header of the tape ends, and each of its segments.
+/// The places at which the header of the tape ends, and each of its segments.
 const TAPE_PLACES: [u64; 5] = [37, 42, 52, 62, 65];
 
-/// The greatest of the places that is not past the length; 0 before all of them.
+/// The greatest of the places that is not past the length; 0 if the length is before all of them.
 fn place_within(places: &[u64], length: usize) -> u64 {
     let mut found = 0;
     for place in places {
@@ -39,7 +39,7 @@ fn of_a_tape(rt: HostRuntime) -> Result<(), Fail> {
     )
 }
 
-/// Compares the faults of the proper prefixes of a file in both versions, which has this length.
+/// Compares the faults of the proper prefixes of a file of this length, in both versions.
 fn check_prefixes(
     alloc: Global,
     kind: Kind,

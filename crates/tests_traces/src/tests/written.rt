@@ -5,7 +5,7 @@ use crate::tests::files::file;
 use sample_inputs::traces::{EACH_EFFECT, EACH_EVENT, LOG_OF_TWO_ANSWERS, TAPE_OF_TWO_ANSWERS};
 use std::test::Fail;
 
-/// Files by their name, their kind, their version, and what stands after the digest.
+/// Files by their name, their kind, their version, and the bytes after the digest.
 const FILES: &[(&str, Kind, &str, &str)] = &[
     ("a log of the first version", Log, "01", LOG_OF_TWO_ANSWERS),
     ("a log", Log, "02", LOG_OF_TWO_ANSWERS),

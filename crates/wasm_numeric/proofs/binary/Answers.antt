@@ -1,4 +1,4 @@
--- Where an operation on `i32` has no value, the answer is that of the definition; and what the definition gives fits.
+-- If an operation on `i32` has no value, the result is that of the definition; and what the definition gives fits.
 use Rattle.std.proofs.Common.{◌≡◌, ◌^◌, ◌<◌, IfOk, Ok, sym, ◌∙◌, ap, ap₂, subst, arith}
 use Rattle.std.proofs.lemmas.Result.{err_from_is_err_and}
 use Rattle.wasm_numeric.specs.Integer.{binary_value}

@@ -93,7 +93,7 @@ sections_in_order m =
 
 -- ---- what the sections of a module hold
 
--- a part of sections of which empty ones have nothing
+-- a part of sections that empty sections do not have
 abbrev HasNoneInEmpty : {A : Type 0} → (Section → List A) → Type 0
 HasNoneInEmpty {A} part =
     (part (TypeSection []) ≡ []) × (part (ImportSection []) ≡ []) × (part (FunctionSection []) ≡ [])
@@ -101,7 +101,7 @@ HasNoneInEmpty {A} part =
     × (part (ExportSection []) ≡ []) × (part (ElementSection []) ≡ []) × (part (CodeSection []) ≡ [])
     × (part (DataSection []) ≡ [])
 
--- the section of a list has what it has even where the list is empty
+-- the section of a list has the list's items even if the list is empty
 of_list : {A B : Type 0} (part : Section → List A) (make : List B → Section) → part (make []) ≡ []
     → (xs : List B) (rest : List Section) (others : List A) → flat_map part rest ≡ others
     → flat_map part (unless_empty make xs ++ rest) ≡ part (make xs) ++ others
@@ -134,7 +134,7 @@ all_customs : (customs : List Custom) → flat_map customs_in (map CustomSection
 all_customs [] = refl
 all_customs (c ∷ customs) = ap (λ (cs : List Custom). c ∷ cs) (all_customs customs)
 
--- what all sections of a module have of a part, where the start section and the custom ones have these
+-- what all sections of a module have of a part, if the start section and the custom ones have these
 abbrev parts_in : {A : Type 0} → (Section → List A) → Module → List A → List A → List A
 parts_in {A} part m starts customs =
     part (TypeSection m.types)

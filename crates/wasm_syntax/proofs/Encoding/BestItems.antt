@@ -96,7 +96,7 @@ runs_of_total (r ∷ rest) = elim (eqb_tells r.count 0) [
   | inr e ↦ rw (e.0) (omega (arith, total_cons r rest, runs_of_total rest, with_run_total r (runs_of rest)))
 ]
 
--- of the same types
+-- the type of a run of locals can be encoded
 abbrev HasType : Run → Type 0
 HasType run = FitsValType run.ty
 

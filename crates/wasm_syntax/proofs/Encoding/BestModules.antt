@@ -22,7 +22,7 @@ all_append P (x ∷ xs) ys h k = (h.0, all_append P xs ys h.1 k)
 
 -- ---- the section of an id
 
--- after that id there is no more
+-- no sections with this id come after the id, or after a greater one
 gone : {A : Type 0} (id : ℕ) (build : List A → List Section) (part : Section → List A) → IsPart id build part
     → (last : ℕ) (sections : List Section) → id ≤ last → AreInOrder last sections → flat_map part sections ≡ []
 gone id build part is last [] past h = refl
@@ -193,7 +193,7 @@ module _ (laws : NumberLaws) (form : Form) where
     hold = sections_hold m;
   }
 
-  -- where a module has an encoding, the shortest is one
+  -- if a module has an encoding, the shortest one is an encoding of it
   pub shortest_encodes : (bytes : List ℕ) (m : Module) → Encodes form bytes m → Encodes form (encoding_of m) m
   shortest_encodes bytes m h =
       let all = each_fits h.encoded.behind h.sections h.encoded.each in

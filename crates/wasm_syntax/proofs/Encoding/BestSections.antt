@@ -94,7 +94,7 @@ module _ (laws : NumberLaws) (form : Form) where
 
 -- ---- the sections of one kind
 
--- `part` is what sections of the id hold, and `build` makes their section of it, where there is anything
+-- `part` is what sections of the id hold, and `build` makes their section of it, if there is anything
 pub record IsPart {A : Type 0} (id : ℕ) (build : List A → List Section) (part : Section → List A) : Type 0 where
   pub positive : 0 < id
   pub none : build [] ≡ []

@@ -48,7 +48,7 @@ module_core m h = record {
   datas = all_map (FitsDataSeg Core) (λ d. AreCoreInstrs d.offset) (λ d fits. body_core d.offset fits.1) m.datas h.datas;
 }
 
--- ---- and in the form of replay binaries too, where its segments are of table 0
+-- ---- encodable in the form of replay binaries too, if the segments are of table 0
 
 instr_replay : (i : Instr) → FitsInstr Core i → FitsInstr Replay i
 instr_replay (TableSet table) h = absurd h.0

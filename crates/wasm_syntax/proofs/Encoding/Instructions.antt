@@ -29,7 +29,7 @@ pub chosen : {A : Type 0} (b : Bool) (x y z : A) → cond b x y ≡ z → ((b �
 chosen true x y z e = inl (refl, e)
 chosen false x y z e = inr (refl, e)
 
--- opcodes that none of the rows of the form Core by their opcodes alone has
+-- opcodes that no row of the form Core has by its opcode alone
 abbrev special : ℕ → Bool
 special op =
     is_from 0x45 0xC4 op || (is_from 0x28 0x35 op || (is_from 0x36 0x3E op || (nat_eq 0xFC op || (nat_eq 0x26 op || (nat_eq 0xD0 op || nat_eq 0xD2 op)))))
@@ -179,7 +179,7 @@ module _ (laws : NumberLaws) where
     ),
   )
 
-  -- the bytes behind the prefix, whichever way the number is spelled
+  -- the bytes after the prefix, in any spelling of the number
   abbrev AtPrefix : Form → List ℕ → Instr → Type 0
   AtPrefix form bytes i = EncodesInstr form (0xFC ∷ bytes) i
 
@@ -274,7 +274,7 @@ module _ (laws : NumberLaws) where
   prefixed_only form number F read make row is bytes rest a h =
       numbered_only (instr_at form) (row_at (prefixed_rows form)) 0xFC number F read make (prefix_at form) row laws.u32 is bytes rest a h
 
-  -- with one number, and the same in both forms
+  -- an instruction with one number, which both forms encode in the same way
   number_only : (form : Form) (op : ℕ) (make : ℕ → Instr) → special op ≡ false
       → row_at core_rows op ≡ Some (map_read make first_u32)
       → (bytes rest : List ℕ) (n : ℕ) → Marked op EncodesU32 bytes n

@@ -3,7 +3,7 @@ use Rattle.std.proofs.Common.{◌≡◌, ℕ, List, [], ◌∷◌, ◌++◌, con
 use Rattle.std.specs.Prelude.{option_map, option_and_then, nat_eq}
 use Rattle.std.proofs.lemmas.Bool.{eqb-true}
 use Rattle.std.proofs.lemmas.Option.{none-some, some_pair_parts}
-use Rattle.list_laws.proofs.Options.{map_some, and_then_some}
+use Rattle.base.proofs.Options.{map_some, and_then_some}
 use Rattle.leb_bytes.specs.Encoding.{IsReadBy}
 use Rattle.leb_bytes.specs.Unsigned.{EncodesU32, first_u32}
 use Rattle.wasm_syntax.specs.declared.forms.Form.{Form}

@@ -4,7 +4,7 @@ use Rattle.std.specs.Prelude.{option_map, option_and_then, nat_lt}
 use Rattle.std.proofs.lemmas.Bool.{ltb-false, le-ltb}
 use Rattle.std.proofs.lemmas.List.{take_at, drop_at, take-append-drop, length-append, length-take, append-nil}
 use Rattle.std.proofs.lemmas.Option.{none-some, some_pair_parts, same_Some}
-use Rattle.list_laws.proofs.Options.{map_some, and_then_some, cond_none_some}
+use Rattle.base.proofs.Options.{map_some, and_then_some, cond_none_some}
 use Rattle.leb_bytes.specs.Encoding.{IsReadBy}
 use Rattle.leb_bytes.specs.Unsigned.{EncodesU32, first_u32}
 use Rattle.wasm_syntax.specs.Encoding.Grammar.{Grammar, Sized, Each, VectorOf}

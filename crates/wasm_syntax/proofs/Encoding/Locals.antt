@@ -5,7 +5,7 @@ use Rattle.std.proofs.lemmas.Bool.{lt-ltb, ltb-true, cases_lt}
 use Rattle.std.proofs.lemmas.Bool.Decides.{eqb_tells}
 use Rattle.std.proofs.lemmas.List.{replicate-append-replicate, append_cancel_left}
 use Rattle.std.proofs.lemmas.Option.{none-some, some_pair_parts, same_Some}
-use Rattle.list_laws.proofs.Options.{and_then_some, cond_some}
+use Rattle.base.proofs.Options.{and_then_some, cond_some}
 use Rattle.leb_bytes.specs.Encoding.{IsReadBy}
 use Rattle.leb_bytes.specs.Unsigned.{EncodesU32, first_u32}
 use Rattle.wasm_syntax.specs.declared.values.ValType.{ValType}
@@ -38,7 +38,7 @@ of_byte_of FuncRef = refl
 pub same_type : (a b : ValType) → val_type_byte a ≡ val_type_byte b → a ≡ b
 same_type a b e = sym (of_byte_of a) ∙ ap of_byte e ∙ of_byte_of b
 
--- ---- the runs that are made stand for the same locals
+-- ---- the runs that are made encode the same locals
 
 -- a run of the same type in front
 runs_retype : (r s : Run) (rest : List Run) → r.ty ≡ s.ty → 0 < r.count → AreRuns (s ∷ rest) → AreRuns (r ∷ rest)
@@ -80,7 +80,7 @@ runs_of_same (r ∷ rest) = elim (eqb_tells r.count 0) [
       ∙ with_run_same r (runs_of rest) ∙ ap (λ (ts : List ValType). replicate r.count r.ty ++ ts) (runs_of_same rest)
 ]
 
--- ---- no other runs stand for them
+-- ---- no other runs encode these locals
 
 head : List ValType → Option ValType
 head [] = None

@@ -1,4 +1,4 @@
--- A flat list of instructions is a body exactly where blocks close one another until none is open at its end.
+-- A flat list of instructions is a body if and only if blocks close one another until no block is open at its end.
 use Rattle.std.proofs.Common.{◌≡◌, ◌⊎◌, List, [], ◌∷◌, ◌++◌, Bool, true, false, Option, Some, None, refl, ap, sym, ◌∙◌, subst, append_assoc, inl, inr}
 use Rattle.std.specs.Prelude.{IsTrue}
 use Rattle.wasm_syntax.specs.declared.values.ValType.{ValType}

@@ -10,7 +10,7 @@ use Rattle.std.proofs.lemmas.List.{take_at, drop_at, take-append-drop, length-ap
 use Rattle.std.proofs.lemmas.List.Sums.{AllPass-from_list_all}
 use Rattle.std.proofs.lemmas.Option.{some_pair_parts, same_Some}
 use Rattle.std.proofs.lemmas.Str.{IsUtf8-from_is_utf8, is_utf8-from_IsUtf8}
-use Rattle.list_laws.proofs.Options.{and_then_some, cond_some, cond_none_some}
+use Rattle.base.proofs.Options.{and_then_some, cond_some, cond_none_some}
 use Rattle.leb_bytes.specs.Encoding.{IsReadBy}
 use Rattle.leb_bytes.specs.Unsigned.{EncodesU32, first_u32}
 use Rattle.wasm_syntax.specs.Encoding.Grammar.{Raw}

@@ -1,10 +1,10 @@
--- Sections in order, as far as they are whole.
+-- Sections in lawful order, as far as they are whole.
 use Rattle.std.proofs.Common.{◌≡◌, ℕ, zero, suc, ◌<◌, ◌≤◌, List, [], ◌∷◌, ◌++◌, length, Option, Some, None, refl, ap, sym, ◌∙◌, subst, append_assoc, arith}
 use Rattle.std.specs.Prelude.{option_map, option_and_then, nat_lt}
 use Rattle.std.proofs.lemmas.Bool.{lt-ltb, ltb-true}
 use Rattle.std.proofs.lemmas.List.{length-append}
 use Rattle.std.proofs.lemmas.Option.{same_Some}
-use Rattle.list_laws.proofs.Options.{map_some, and_then_some, cond_some}
+use Rattle.base.proofs.Options.{map_some, and_then_some, cond_some}
 use Rattle.wasm_syntax.specs.declared.forms.Form.{Form}
 use Rattle.wasm_syntax.specs.Encoding.Grammar.{Each}
 use Rattle.wasm_syntax.specs.Encoding.Sections.{Section, CustomSection, id_of, EncodesSection}
@@ -60,7 +60,7 @@ module _ (laws : NumberLaws) (form : Form) where
       ap (option_and_then (with_last last)) ((section_is laws form).only bytes rest section h)
       ∙ ap (option_map (λ (i : ℕ). (section, i, rest))) e
 
-  -- what is read is encoded, in order
+  -- the sections that are read are encoded in lawful order
   pub lawful_found : (most last : ℕ) (input : List ℕ) → Reads form last input (lawful_sections form most last input)
   unfolding lawful_sections
   lawful_found zero last input = record { bytes = []; each = refl; in_order = tt; split = refl }
@@ -93,7 +93,7 @@ module _ (laws : NumberLaws) (form : Form) where
   nothing zero last = refl
   nothing (suc most) last = refl
 
-  -- what is encoded in order is read, all of it
+  -- sections that are encoded in lawful order are read, all of them
   pub lawful_only : (most last : ℕ) (bytes : List ℕ) (sections : List Section)
       → Each (EncodesSection form) bytes sections → AreInOrder last sections
       → length sections ≤ most → lawful_sections form most last bytes ≡ (sections, [])
@@ -105,7 +105,7 @@ module _ (laws : NumberLaws) (form : Form) where
       ∙ step most last (h.0 ++ h.1) h.1 o.0 section (next_only last o.0 h.0 h.1 section h.3 o.1)
       ∙ ap (with_section section) (lawful_only most o.0 h.1 sections h.4 o.2 (omega arith))
 
-  -- and no less than any front that is encoded in order
+  -- the sections that are read are no shorter than any front that is encoded in lawful order
   pub lawful_longest : (most last : ℕ) (bytes rest : List ℕ) (sections : List Section)
       → Each (EncodesSection form) bytes sections → AreInOrder last sections
       → length sections ≤ most → length (lawful_sections form most last (bytes ++ rest)).1 ≤ length rest

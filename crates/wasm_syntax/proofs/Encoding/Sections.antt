@@ -1,7 +1,7 @@
 -- What holds of the encodings of sections, and of their reader.
 use Rattle.std.proofs.Common.{◌≡◌, ℕ, List, ◌++◌, Some, refl, ap, ◌∙◌, subst}
 use Rattle.std.specs.Prelude.{option_map}
-use Rattle.list_laws.proofs.Options.{map_some}
+use Rattle.base.proofs.Options.{map_some}
 use Rattle.leb_bytes.specs.Encoding.{IsReadBy}
 use Rattle.leb_bytes.specs.Unsigned.{EncodesU32, first_u32}
 use Rattle.wasm_syntax.specs.declared.forms.Form.{Form}

@@ -4,7 +4,7 @@ use Rattle.std.specs.Prelude.{option_map, option_and_then, nat_eq}
 use Rattle.std.specs.List.{AllByRecursion}
 use Rattle.std.proofs.lemmas.Bool.{cases_eq, eqb-true}
 use Rattle.std.proofs.lemmas.Option.{none-some, some_pair_parts, same_Some}
-use Rattle.list_laws.proofs.Options.{map_some, and_then_some, cond_some}
+use Rattle.base.proofs.Options.{map_some, and_then_some, cond_some}
 use Rattle.leb_bytes.specs.Encoding.{IsReadBy}
 use Rattle.leb_bytes.specs.Unsigned.{EncodesU32, first_u32}
 use Rattle.wasm_syntax.specs.Encoding.Grammar.{Grammar, Exactly, Marked, ◌then◌}
@@ -123,7 +123,7 @@ plain_finds E F mark read is into input rest y e =
 
 -- ---- by a number
 
--- a list of a number and bytes, where the bytes stand behind any spelling of the number
+-- a list of a number and bytes, in which the bytes are after any spelling of the number
 abbrev pub Numbered : {A : Type 0} → Grammar A → Grammar A
 Numbered E [] x = ⊥
 Numbered E (number ∷ bytes) x = (spelled : List ℕ) → EncodesU32 spelled number → E (spelled ++ bytes) x
@@ -137,14 +137,14 @@ numbered_finds {A} E mark choose u32 well input rest x e =
     let two = well b.0.0 r.0 r.1 b.0.1 rest x r.2 in
     (one.0 ++ two.0, two.1 one.0 one.1, one.2 ∙ ap (λ bs. one.0 ++ bs) two.2 ∙ sym (append_assoc one.0 two.0 rest))
 
--- ---- what is encoded after a mark is read where its reader is chosen
+-- ---- what is encoded after a mark is read if its reader is chosen
 
 pub done_only : {A : Type 0} (choose : ℕ → Option (Reader A)) (mark : ℕ) (x : A) → choose mark ≡ Some (always x)
     → (bytes rest : List ℕ) → bytes ≡ mark ∷ [] → by_mark choose (bytes ++ rest) ≡ Some (x, rest)
 done_only {A} choose mark x chosen bytes rest h =
     ap (λ bs. by_mark choose (bs ++ rest)) h ∙ ap (option_and_then (λ (read : Reader A). read rest)) chosen
 
--- of a reader that reads one value from its encodings
+-- a reader that reads one value from its encodings, chosen at a mark
 behind_only : {A B : Type 0} (choose : ℕ → Option (Reader B)) (mark : ℕ) (E : Grammar A) (read : Reader B) (a : A) (b : B) (rest : List ℕ)
     → choose mark ≡ Some read → ((bytes : List ℕ) → E bytes a → read (bytes ++ rest) ≡ Some (b, rest))
     → (bytes : List ℕ) → Marked mark E bytes a → by_mark choose (bytes ++ rest) ≡ Some (b, rest)

@@ -11,7 +11,7 @@ use Rattle.wasm_syntax.specs.Encoding.Encodable.{FitsU32}
 use Rattle.wasm_syntax.specs.Encoding.Shortest.{sized_bytes, vector_bytes}
 use Rattle.wasm_syntax.proofs.Encoding.Numbers.{NumberLaws}
 
--- `best` is an encoding where there is one and it is short enough for sizes and counts, and no encoding is shorter
+-- `best` is an encoding if there is one that is short enough for sizes and counts, and no encoding is shorter
 pub record IsBest (E : List ℕ → Type 0) (Fits : Type 0) (best : List ℕ) : Type 0 where
   pub encodes : Fits → length best < 2 ^ 32 → E best
   pub fits : (bytes : List ℕ) → E bytes → Fits
@@ -195,7 +195,7 @@ module _ (laws : NumberLaws) where
   pub vector_some : {A : Type 0} (write : A → List ℕ) (xs : List A) → 0 < length (vector_bytes write xs)
   vector_some write xs = omega (arith, length-append (u32_bytes (length xs)) (flat_map write xs), u32_some (length xs))
 
--- the same, with what fits said in another way
+-- the shortest encoding, with what fits stated in another way
 pub refit : {P Q : Type 0} (E : List ℕ → Type 0) (best : List ℕ) → (Q → P) → (P → Q) → IsBest E P best → IsBest E Q best
 refit E best to back is = record { encodes = λ fits few. is.encodes (to fits) few; fits = λ bytes h. back (is.fits bytes h); least = is.least }
 

@@ -1,8 +1,8 @@
--- What has an encoding, where counts and sizes may be any numbers (Core 1.0, 5): its numbers fit, its names are text,
+-- What has an encoding, if counts and sizes may be any numbers (Core 1.0, 5): its numbers fit, its names are text,
 -- its bodies are nests, and it has only what its form spells.
 use Rattle.std.specs.Prelude.{◌≡◌, ℕ, ◌^◌, ◌<◌, List, Option, Some, None, IfSome, IsTrue, IsUtf8, sum_by}
 use Rattle.std.specs.List.{AllByRecursion}
-use Rattle.wasm_opcodes.specs.declared.TheConstants.{I32_LOAD, I64_LOAD32_U, I32_STORE, I64_STORE32, I32_EQZ, I64_EXTEND32_S}
+use Rattle.base.specs.declared.opcodes.TheConstants.{I32_LOAD, I64_LOAD32_U, I32_STORE, I64_STORE32, I32_EQZ, I64_EXTEND32_S}
 use Rattle.wasm_syntax.specs.Nest.{Nest, IsBody}
 use Rattle.wasm_syntax.specs.Opcodes.{is_from}
 use Rattle.wasm_syntax.specs.Encoding.Instructions.{IsReplay}
@@ -138,6 +138,7 @@ FitsElemSeg forms.Replay (Declared funcs) = AllByRecursion FitsU32 funcs
 abbrev pub FitsDataSeg : Form → DataSeg → Type 0
 FitsDataSeg form d = FitsU32 d.memory × FitsBody form d.offset
 
+-- a module has an encoding in the form, if counts and sizes may be any numbers (Core 1.0, 5.5.15)
 pub record IsEncodable (form : Form) (m : Module) : Type 0 where
   pub types : AllByRecursion FitsFuncType m.types
   pub imports : AllByRecursion FitsImport m.imports

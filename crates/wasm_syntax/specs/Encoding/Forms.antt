@@ -1,4 +1,4 @@
--- Modules of the form Core: nothing stands in them that the form of replay binaries alone has.
+-- Modules of the form Core: they have nothing that the form of replay binaries alone has.
 use Rattle.std.specs.Prelude.{◌≡◌, List}
 use Rattle.std.specs.List.{AllByRecursion}
 use Rattle.wasm_syntax.specs.declared.instructions.Instr.{Instr}
@@ -24,6 +24,8 @@ abbrev pub IsCoreSeg : ElemSeg → Type 0
 IsCoreSeg (Active table offset funcs) = AreCoreInstrs offset
 IsCoreSeg (Declared funcs) = ⊥
 
+-- a module of the form Core: its bodies and constant expressions have only instructions of that form, and it has no
+-- declared element segment
 pub record IsCoreModule (m : Module) : Type 0 where
   pub funcs : AllByRecursion (λ func. AreCoreInstrs func.body) m.funcs
   pub globals : AllByRecursion (λ g. AreCoreInstrs g.init) m.globals

@@ -10,7 +10,7 @@ Grammar A = List ℕ → A → Type 0
 abbrev pub Exactly : List ℕ → Grammar (Unit {0})
 Exactly word bytes it = bytes ≡ word
 
--- any bytes, which stand for themselves (Core 1.0, 5.2.1)
+-- any bytes, which encode themselves (Core 1.0, 5.2.1)
 abbrev pub Raw : Grammar (List ℕ)
 Raw bytes content = bytes ≡ content
 
@@ -23,7 +23,7 @@ infixr 30 ◌then◌
 abbrev pub ◌then◌ : {A B : Type 0} → Grammar A → Grammar B → Grammar (A × B)
 (E then F) bytes v = (first rest : List ℕ) × (bytes ≡ first ++ rest) × E first v.0 × F rest v.1
 
--- as many bytes as the u32 at their front says, which the grammar encodes wholly (Core 1.0, 5.5.2)
+-- as many bytes as the u32 at their front gives; the grammar encodes them all (Core 1.0, 5.5.2)
 abbrev pub Sized : {A : Type 0} → Grammar A → Grammar A
 Sized E bytes x = (size content : List ℕ) × (bytes ≡ size ++ content) × EncodesU32 size (length content) × E content x
 

@@ -2,8 +2,8 @@
 use Rattle.std.specs.Prelude.{ℕ, List, [], ◌∷◌, IsTrue}
 use Rattle.leb_bytes.specs.Unsigned.{EncodesU32}
 use Rattle.leb_bytes.specs.Signed.{EncodesI32, EncodesI64}
-use Rattle.wasm_opcodes.specs.declared.TheConstants.{I32_LOAD, I64_LOAD32_U, I32_STORE, I64_STORE32, I32_EQZ, I64_EXTEND32_S, REF_NULL, UNREACHABLE, NOP, ELSE, END, RETURN, DROP, SELECT, MEMORY_SIZE, MEMORY_GROW, I32_CONST, I64_CONST, F32_CONST, F64_CONST, BLOCK, LOOP, IF, BR, BR_IF, BR_TABLE, CALL, CALL_INDIRECT, LOCAL_GET, LOCAL_SET, LOCAL_TEE, GLOBAL_GET, GLOBAL_SET, TABLE_SET, REF_FUNC, PREFIX, MEMORY_COPY, MEMORY_FILL, TABLE_GROW, TABLE_SIZE}
-use Rattle.wasm_opcodes.specs.declared.marks.TheConstants.{TYPE_FUNCREF}
+use Rattle.base.specs.declared.opcodes.TheConstants.{I32_LOAD, I64_LOAD32_U, I32_STORE, I64_STORE32, I32_EQZ, I64_EXTEND32_S, REF_NULL, UNREACHABLE, NOP, ELSE, END, RETURN, DROP, SELECT, MEMORY_SIZE, MEMORY_GROW, I32_CONST, I64_CONST, F32_CONST, F64_CONST, BLOCK, LOOP, IF, BR, BR_IF, BR_TABLE, CALL, CALL_INDIRECT, LOCAL_GET, LOCAL_SET, LOCAL_TEE, GLOBAL_GET, GLOBAL_SET, TABLE_SET, REF_FUNC, PREFIX, MEMORY_COPY, MEMORY_FILL, TABLE_GROW, TABLE_SIZE}
+use Rattle.base.specs.declared.marks.TheConstants.{TYPE_FUNCREF}
 use Rattle.wasm_syntax.specs.Nest.{Nest, IsBody}
 use Rattle.wasm_syntax.specs.Opcodes.{is_from}
 use Rattle.wasm_syntax.specs.Encoding.Grammar.{Grammar, Exactly, Marked, ◌then◌, Each}
@@ -33,7 +33,7 @@ EncodesConst bytes FuncRef bits = ⊥
 abbrev pub Prefixed : {A : Type 0} → ℕ → Grammar A → Grammar A
 Prefixed number E bytes x = Marked PREFIX (EncodesU32 then E) bytes (number, x)
 
--- One instruction of a flat body (Core 1.0, 5.4.1 to 5.4.5); what stands inside a block, its `Else` and its `End` are
+-- One instruction of a flat body (Core 1.0, 5.4.1 to 5.4.5); the body of a block, its `Else` and its `End` are
 -- instructions of their own here. The numeric ones up to the sign extensions: Core 2.0, 5.4.7; `memory.copy` and
 -- `memory.fill`: 5.4.6; the last five: 5.4.2 and 5.4.5.
 abbrev pub EncodesInstr : Form → List ℕ → Instr → Type 0

@@ -18,8 +18,8 @@ use Rattle.wasm_syntax.specs.declared.modules.Module.{Module}
 abbrev pub preamble : List ℕ
 preamble = 0x00 ∷ 0x61 ∷ 0x73 ∷ 0x6D ∷ 0x01 ∷ 0x00 ∷ 0x00 ∷ 0x00 ∷ []
 
--- The sections may follow one of this id, or the preamble where it is 0: custom sections stand anywhere, the others at
--- most once and by ascending ids (Core 1.0, 5.5.2 and 5.5.15).
+-- The sections may follow a section of this id, or the preamble if it is 0: custom sections are anywhere, the others
+-- at most once and by ascending ids (Core 1.0, 5.5.2 and 5.5.15).
 abbrev pub AreInOrder : ℕ → List Section → Type 0
 AreInOrder last [] = Unit {0}
 AreInOrder last (CustomSection custom ∷ rest) = AreInOrder last rest
@@ -32,7 +32,7 @@ pub record EncodesSections (form : Form) (bytes : List ℕ) (sections : List Sec
   pub each : Each (EncodesSection form) behind sections
   pub in_order : AreInOrder 0 sections
 
--- ---- what the sections of one kind hold, in order
+-- ---- what all sections of one kind hold
 
 abbrev pub customs_in : Section → List Custom
 customs_in (CustomSection custom) = custom ∷ []
@@ -86,7 +86,7 @@ datas_in other = []
 abbrev pub code_of : Func → Code
 code_of func = record { locals = func.locals; body = func.body }
 
--- What a module has is what its sections hold. A section that isn't there is an empty list. The function section has
+-- What a module has is what its sections hold. A section that is absent is an empty list. The function section has
 -- the types of the functions and the code section the rest of them, so both have as many items (Core 1.0, 5.5.15).
 pub record AreSectionsOf (m : Module) (sections : List Section) : Type 0 where
   pub types : m.types ≡ flat_map types_in sections
@@ -119,8 +119,8 @@ pub record IsLawfulUpTo (form : Form) (bytes : List ℕ) (count : ℕ) : Type 0 
 abbrev pub BeginsAsModule : List ℕ → Type 0
 BeginsAsModule bytes = (rest : List ℕ) × (bytes ≡ preamble ++ rest)
 
--- The place of a fault: the end of the longest lawful front, or 0 where the preamble isn't there. It is the length of
--- the bytes where all sections are lawful but the function and the code section differ in number.
+-- The place of a fault: the end of the longest lawful front, or 0 if the preamble is absent. It is the length of
+-- the bytes if all sections are lawful but the function and the code section differ in number.
 abbrev pub IsFaultPlace : Form → List ℕ → ℕ → Type 0
 IsFaultPlace form bytes at =
     ((BeginsAsModule bytes → ⊥) × (at ≡ 0))

@@ -1,8 +1,8 @@
--- Reading sections and modules, and the place where that ends: the plain program of the encoding and of the place of a
--- fault (Core 1.0, 5.5).
+-- Reading sections and modules, and the place at which that ends: the plain program of the encoding and of the place
+-- of a fault (Core 1.0, 5.5).
 use Rattle.std.specs.Prelude.{ℕ, zero, suc, ◌-◌, List, [], ◌∷◌, length, flat_map, Option, Some, None, option_map, option_and_then, cond, nat_lt}
 use Rattle.leb_bytes.specs.Unsigned.{first_u32}
-use Rattle.wasm_opcodes.specs.declared.marks.TheConstants.{SECTION_CUSTOM, SECTION_TYPE, SECTION_IMPORT, SECTION_FUNCTION, SECTION_TABLE, SECTION_MEMORY, SECTION_GLOBAL, SECTION_EXPORT, SECTION_START, SECTION_ELEMENT, SECTION_CODE, SECTION_DATA}
+use Rattle.base.specs.declared.marks.TheConstants.{SECTION_CUSTOM, SECTION_TYPE, SECTION_IMPORT, SECTION_FUNCTION, SECTION_TABLE, SECTION_MEMORY, SECTION_GLOBAL, SECTION_EXPORT, SECTION_START, SECTION_ELEMENT, SECTION_CODE, SECTION_DATA}
 use Rattle.wasm_syntax.specs.Encoding.Sections.{Code, Section, CustomSection, TypeSection, ImportSection, FunctionSection, TableSection, MemorySection, GlobalSection, ExportSection, StartSection, ElementSection, CodeSection, DataSection, id_of}
 use Rattle.wasm_syntax.specs.Encoding.Modules.{preamble, types_in, imports_in, functions_in, tables_in, memories_in, globals_in, exports_in, starts_in, elems_in, codes_in, datas_in, customs_in}
 use Rattle.wasm_syntax.specs.Encoding.Combinators.{Reader, map_read, first_exactly, by_mark, Rows, row_at, first_vector, whole, first_sized}
@@ -36,7 +36,7 @@ section_rows form =
 unfoldable pub first_section : Form → Reader Section
 first_section form bytes = by_mark (row_at (section_rows form)) bytes
 
--- the id that is the last one after the section, where the section may follow that of another id
+-- the last id after a section, if the section may follow one of another id
 abbrev pub last_after : ℕ → Section → Option ℕ
 last_after last (CustomSection custom) = Some last
 last_after last section = cond (nat_lt last (id_of section)) (Some (id_of section)) None
@@ -48,7 +48,7 @@ with_last last first = option_map (λ id. (first.0, id, first.1)) (last_after la
 unfoldable pub next_section : Form → ℕ → List ℕ → Option (Section × ℕ × List ℕ)
 next_section form last bytes = option_and_then (with_last last) (first_section form bytes)
 
--- sections, at most `most`, as long as they are whole and in order; and the bytes that are left
+-- the sections and the bytes that are left, after one more section at the front
 abbrev pub with_section : Section → List Section × List ℕ → List Section × List ℕ
 with_section first others = (first ∷ others.0, others.1)
 
@@ -65,7 +65,7 @@ unfoldable pub read_sections : Form → List ℕ → Option (List Section × Lis
 read_sections form bytes =
     option_map (λ start. lawful_sections form (length bytes) 0 start.1) (first_exactly preamble bytes)
 
--- functions of their types and the rest of them, as many of both
+-- functions made of their types and the rest of them, if there are as many of both
 abbrev pub funcs_of : List ℕ → List Code → Option (List Func)
 funcs_of [] [] = Some []
 funcs_of (ty ∷ types) (code ∷ codes) =
@@ -104,7 +104,7 @@ whole_module sections (b ∷ rest) = None
 unfoldable pub read_module : Form → List ℕ → Option Module
 read_module form bytes = option_and_then (λ read. whole_module read.0 read.1) (read_sections form bytes)
 
--- the place of the fault of bytes that encode none
+-- the place of the fault of bytes that encode no module
 abbrev pub place_after : ℕ → Option (List Section × List ℕ) → ℕ
 place_after all None = 0
 place_after all (Some read) = all - length read.1

@@ -5,8 +5,8 @@ use Rattle.std.specs.Str.{is_utf8}
 use Rattle.std.specs.List.{list_all}
 use Rattle.leb_bytes.specs.Unsigned.{first_u32}
 use Rattle.leb_bytes.specs.Signed.{first_i32, first_i64}
-use Rattle.wasm_opcodes.specs.declared.TheConstants.{UNREACHABLE, NOP, BLOCK, LOOP, IF, ELSE, END, BR, BR_IF, BR_TABLE, RETURN, CALL, CALL_INDIRECT, DROP, SELECT, LOCAL_GET, LOCAL_SET, LOCAL_TEE, GLOBAL_GET, GLOBAL_SET, MEMORY_SIZE, MEMORY_GROW, I32_CONST, I64_CONST, F32_CONST, F64_CONST, TABLE_SET, REF_NULL, REF_FUNC, PREFIX, MEMORY_COPY, MEMORY_FILL, TABLE_GROW, TABLE_SIZE, I32_EQZ, I64_EXTEND32_S, I32_LOAD, I64_LOAD32_U, I32_STORE, I64_STORE32}
-use Rattle.wasm_opcodes.specs.declared.marks.TheConstants.{TYPE_I32, TYPE_I64, TYPE_F32, TYPE_F64, TYPE_EMPTY, TYPE_FUNC, LIMITS_MIN, LIMITS_MIN_MAX, TYPE_FUNCREF, MUTABILITY_CONST, MUTABILITY_VAR, EXTERNAL_FUNC, EXTERNAL_TABLE, EXTERNAL_MEMORY, EXTERNAL_GLOBAL, ELEMENT_DECLARED, ELEMENT_FUNCS}
+use Rattle.base.specs.declared.opcodes.TheConstants.{UNREACHABLE, NOP, BLOCK, LOOP, IF, ELSE, END, BR, BR_IF, BR_TABLE, RETURN, CALL, CALL_INDIRECT, DROP, SELECT, LOCAL_GET, LOCAL_SET, LOCAL_TEE, GLOBAL_GET, GLOBAL_SET, MEMORY_SIZE, MEMORY_GROW, I32_CONST, I64_CONST, F32_CONST, F64_CONST, TABLE_SET, REF_NULL, REF_FUNC, PREFIX, MEMORY_COPY, MEMORY_FILL, TABLE_GROW, TABLE_SIZE, I32_EQZ, I64_EXTEND32_S, I32_LOAD, I64_LOAD32_U, I32_STORE, I64_STORE32}
+use Rattle.base.specs.declared.marks.TheConstants.{TYPE_I32, TYPE_I64, TYPE_F32, TYPE_F64, TYPE_EMPTY, TYPE_FUNC, LIMITS_MIN, LIMITS_MIN_MAX, TYPE_FUNCREF, MUTABILITY_CONST, MUTABILITY_VAR, EXTERNAL_FUNC, EXTERNAL_TABLE, EXTERNAL_MEMORY, EXTERNAL_GLOBAL, ELEMENT_DECLARED, ELEMENT_FUNCS}
 use Rattle.wasm_syntax.specs.Opcodes.{is_from}
 use Rattle.wasm_syntax.specs.Encoding.Combinators.{Reader, always, map_read, first_then, first_exactly, by_mark, by_number, Rows, row_at, first_vector, whole, first_sized}
 use Rattle.wasm_syntax.specs.Encoding.Shortest.{val_type_byte}
@@ -171,7 +171,7 @@ unfoldable pub first_instr : Form → Reader Instr
 first_instr form bytes = by_mark (instr_at form) bytes
 
 -- The blocks that are open after an instruction, the innermost first, each with whether an `Else` may still come in
--- it; none where the instruction can't stand there. The body itself is a block.
+-- it; None if the instruction cannot be there. The body itself is a block.
 abbrev pub open_after : Instr → List Bool → Option (List Bool)
 open_after i [] = None
 open_after (Block ty) (b ∷ blocks) = Some (false ∷ b ∷ blocks)
@@ -259,7 +259,7 @@ run_of parts = record { count = parts.0; ty = parts.1 }
 unfoldable pub first_run : Reader Run
 first_run bytes = map_read run_of (first_then first_u32 first_val_type) bytes
 
--- the runs without those of none, and neighbours of one type joined
+-- runs after one more at the front: a run of no locals is left out, and neighbours of one type are joined
 abbrev pub with_run : Run → List Run → List Run
 with_run r [] = r ∷ []
 with_run r (s ∷ rest) =

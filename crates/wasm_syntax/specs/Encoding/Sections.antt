@@ -1,7 +1,7 @@
 -- Which bytes encode the sections of a module (Core 1.0, 5.5.2 to 5.5.14).
 use Rattle.std.specs.Prelude.{◌≡◌, ℕ, ◌^◌, ◌<◌, ◌≢◌, List, [], ◌∷◌, replicate, flat_map, sum_by}
 use Rattle.leb_bytes.specs.Unsigned.{EncodesU32}
-use Rattle.wasm_opcodes.specs.declared.marks.TheConstants.{EXTERNAL_FUNC, EXTERNAL_TABLE, EXTERNAL_MEMORY, EXTERNAL_GLOBAL, ELEMENT_FUNCS, ELEMENT_DECLARED, SECTION_CUSTOM, SECTION_TYPE, SECTION_IMPORT, SECTION_FUNCTION, SECTION_TABLE, SECTION_MEMORY, SECTION_GLOBAL, SECTION_EXPORT, SECTION_START, SECTION_ELEMENT, SECTION_CODE, SECTION_DATA}
+use Rattle.base.specs.declared.marks.TheConstants.{EXTERNAL_FUNC, EXTERNAL_TABLE, EXTERNAL_MEMORY, EXTERNAL_GLOBAL, ELEMENT_FUNCS, ELEMENT_DECLARED, SECTION_CUSTOM, SECTION_TYPE, SECTION_IMPORT, SECTION_FUNCTION, SECTION_TABLE, SECTION_MEMORY, SECTION_GLOBAL, SECTION_EXPORT, SECTION_START, SECTION_ELEMENT, SECTION_CODE, SECTION_DATA}
 use Rattle.wasm_syntax.specs.Encoding.Grammar.{Raw, Marked, ◌then◌, Sized, VectorOf}
 use Rattle.wasm_syntax.specs.Encoding.Types.{EncodesBytes, EncodesIndices, EncodesName, EncodesValType, EncodesFuncType, EncodesLimits, EncodesTableType, EncodesGlobalType}
 use Rattle.wasm_syntax.specs.Encoding.Instructions.{EncodesExpr}
@@ -86,13 +86,13 @@ EncodesRun bytes run = (EncodesU32 then EncodesValType) bytes (run.count, run.ty
 abbrev pub each_local : List Run → List ValType
 each_local = flat_map (λ run. replicate run.count run.ty)
 
--- no run is of none, and no neighbours are of one type: so each list of types has these runs alone
+-- each run has locals, and no neighbours are of one type: so each list of types has only these runs
 abbrev pub AreRuns : List Run → Type 0
 AreRuns [] = Unit {0}
 AreRuns (r ∷ []) = 0 < r.count
 AreRuns (r ∷ s ∷ rest) = (0 < r.count) × (r.ty ≢ s.ty) × AreRuns (s ∷ rest)
 
--- the locals of a function, fewer than 2^32; runs as they are written may be of none or have neighbours of one type
+-- the locals of a function, fewer than 2^32; written runs may have no locals, or neighbours of one type
 pub record EncodesLocals (bytes : List ℕ) (locals : List Run) : Type 0 where
   pub written : List Run
   pub vector : VectorOf EncodesRun bytes written
@@ -125,7 +125,7 @@ pub data Section : Type 0 where
   CodeSection : (codes : List Code) → Section
   DataSection : (datas : List DataSeg) → Section
 
--- its id (Core 1.0, 5.5.2)
+-- the id of a section (Core 1.0, 5.5.2)
 abbrev pub id_of : Section → ℕ
 id_of (CustomSection custom) = SECTION_CUSTOM
 id_of (TypeSection types) = SECTION_TYPE

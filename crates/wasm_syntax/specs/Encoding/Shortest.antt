@@ -5,8 +5,8 @@ use Rattle.std.specs.Int.{w32, w64, to_le_bytes}
 use Rattle.leb_bytes.specs.Unsigned.{u32_bytes}
 use Rattle.leb_bytes.specs.Signed.{i32_bytes, i64_bytes}
 pub use Rattle.wasm_syntax.specs.Alike.{type_byte as val_type_byte}
-use Rattle.wasm_opcodes.specs.declared.TheConstants.{I32_CONST, I64_CONST, F32_CONST, F64_CONST, UNREACHABLE, NOP, BLOCK, LOOP, IF, ELSE, END, BR, BR_IF, BR_TABLE, RETURN, CALL, CALL_INDIRECT, DROP, SELECT, LOCAL_GET, LOCAL_SET, LOCAL_TEE, GLOBAL_GET, GLOBAL_SET, MEMORY_SIZE, MEMORY_GROW, TABLE_SET, REF_NULL, REF_FUNC, PREFIX, MEMORY_COPY, MEMORY_FILL, TABLE_GROW, TABLE_SIZE}
-use Rattle.wasm_opcodes.specs.declared.marks.TheConstants.{TYPE_EMPTY, TYPE_FUNC, LIMITS_MIN, LIMITS_MIN_MAX, TYPE_FUNCREF, MUTABILITY_CONST, MUTABILITY_VAR, EXTERNAL_FUNC, EXTERNAL_TABLE, EXTERNAL_MEMORY, EXTERNAL_GLOBAL, ELEMENT_DECLARED, ELEMENT_FUNCS}
+use Rattle.base.specs.declared.opcodes.TheConstants.{I32_CONST, I64_CONST, F32_CONST, F64_CONST, UNREACHABLE, NOP, BLOCK, LOOP, IF, ELSE, END, BR, BR_IF, BR_TABLE, RETURN, CALL, CALL_INDIRECT, DROP, SELECT, LOCAL_GET, LOCAL_SET, LOCAL_TEE, GLOBAL_GET, GLOBAL_SET, MEMORY_SIZE, MEMORY_GROW, TABLE_SET, REF_NULL, REF_FUNC, PREFIX, MEMORY_COPY, MEMORY_FILL, TABLE_GROW, TABLE_SIZE}
+use Rattle.base.specs.declared.marks.TheConstants.{TYPE_EMPTY, TYPE_FUNC, LIMITS_MIN, LIMITS_MIN_MAX, TYPE_FUNCREF, MUTABILITY_CONST, MUTABILITY_VAR, EXTERNAL_FUNC, EXTERNAL_TABLE, EXTERNAL_MEMORY, EXTERNAL_GLOBAL, ELEMENT_DECLARED, ELEMENT_FUNCS}
 use Rattle.wasm_syntax.specs.Encoding.Sections.{Code, Section, CustomSection, TypeSection, ImportSection, FunctionSection, TableSection, MemorySection, GlobalSection, ExportSection, StartSection, ElementSection, CodeSection, DataSection, id_of, export_index, export_mark}
 use Rattle.wasm_syntax.specs.Encoding.Modules.{preamble, code_of}
 use Rattle.wasm_syntax.specs.declared.values.ValType.{ValType}
@@ -30,10 +30,11 @@ use Rattle.wasm_syntax.specs.declared.modules.DataSeg.{DataSeg}
 use Rattle.wasm_syntax.specs.declared.modules.Custom.{Custom}
 use Rattle.wasm_syntax.specs.declared.modules.Module.{Module}
 
--- the number of the bytes and then these; a vector of items
+-- the number of the bytes and then the bytes
 abbrev pub sized_bytes : List ℕ → List ℕ
 sized_bytes content = u32_bytes (length content) ++ content
 
+-- the number of the items and then their bytes
 abbrev pub vector_bytes : {A : Type 0} → (A → List ℕ) → List A → List ℕ
 vector_bytes write xs = u32_bytes (length xs) ++ flat_map write xs
 
@@ -171,7 +172,7 @@ section_bytes section = id_of section ∷ sized_bytes (content_bytes section)
 
 -- ---- the module (Core 1.0, 5.5.15)
 
--- the section of a list, where the list isn't empty
+-- the section of a list, if the list is not empty
 abbrev pub unless_empty : {A : Type 0} → (List A → Section) → List A → List Section
 unless_empty make [] = []
 unless_empty make (x ∷ xs) = make (x ∷ xs) ∷ []
@@ -191,5 +192,6 @@ sections_of m =
     ++ (unless_empty DataSection m.datas
     ++ map CustomSection m.customs))))))))))
 
+-- the shortest encoding of a module: the preamble, then its sections, each in its shortest encoding (Core 1.0, 5.5.15)
 unfoldable pub encoding_of : Module → List ℕ
 encoding_of m = preamble ++ flat_map section_bytes (sections_of m)

@@ -2,7 +2,7 @@
 use Rattle.std.specs.Prelude.{◌≡◌, ℕ, ◌^◌, ◌<◌, List, [], ◌∷◌, Option, Some, None, Bool, true, false, IsUtf8}
 use Rattle.std.specs.Int.{w32, w64, to_le_bytes}
 use Rattle.leb_bytes.specs.Unsigned.{EncodesU32}
-use Rattle.wasm_opcodes.specs.declared.marks.TheConstants.{TYPE_I32, TYPE_I64, TYPE_F32, TYPE_F64, TYPE_EMPTY, TYPE_FUNC, LIMITS_MIN, LIMITS_MIN_MAX, TYPE_FUNCREF, MUTABILITY_CONST, MUTABILITY_VAR}
+use Rattle.base.specs.declared.marks.TheConstants.{TYPE_I32, TYPE_I64, TYPE_F32, TYPE_F64, TYPE_EMPTY, TYPE_FUNC, LIMITS_MIN, LIMITS_MIN_MAX, TYPE_FUNCREF, MUTABILITY_CONST, MUTABILITY_VAR}
 use Rattle.wasm_syntax.specs.Encoding.Grammar.{Raw, Marked, ◌then◌, Sized, VectorOf}
 use Rattle.wasm_syntax.specs.declared.values.ValType.{ValType}
 use Rattle.wasm_syntax.specs.declared.values.ValType.TheVariants.{I32, I64, F32, F64, FuncRef}

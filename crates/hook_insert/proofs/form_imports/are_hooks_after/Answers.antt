@@ -1,5 +1,5 @@
 use Rattle.std.proofs.Common.{◌≡◌, ◌-◌, ◌+◌, drop, arith, sym, ◌∙◌}
-use Rattle.hook_spec.specs.Hooks.{hooks}
+use Rattle.record_replay_spec.specs.Hooks.{hooks}
 use Rattle.hook_insert.proofs.FormImports.{at_end, differs, left_are_hooks, skips, takes, too_many}
 use Rattle.hook_insert.proofs.form_imports.are_hooks_after.Goals as goal
 use Rattle.hook_insert.proofs.form_imports.are_hooks_after.Goals.{else-place-lt15-via-then-place-lt15+else-is_hook, else-place-lt15-via-else-place-lt15, then-skipped-gt0, else-skipped-gt0+then-place-lt15+then-is_hook}

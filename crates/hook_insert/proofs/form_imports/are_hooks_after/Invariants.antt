@@ -1,7 +1,7 @@
 use Rattle.std.proofs.Common.{◌≡◌, ◌≤◌, length, drop, filter}
 use Rattle.wasm_syntax.specs.declared.modules.Import.{Import}
-use Rattle.hook_spec.specs.Hooks.{hooks}
-use Rattle.hook_spec.specs.HookedForm.{are_hooks, is_func_kind}
+use Rattle.record_replay_spec.specs.Hooks.{hooks}
+use Rattle.record_replay_spec.specs.HookedForm.{are_hooks, is_func_kind}
 use Rattle.hook_insert.proofs.FormImports.{left_are_hooks}
 use Rattle.hook_insert.proofs.form_imports.are_hooks_after.Given as goal
 

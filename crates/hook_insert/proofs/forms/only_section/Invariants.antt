@@ -1,7 +1,7 @@
 use Rattle.std.proofs.Common.{◌≡◌, drop}
 use Rattle.std.specs.Prelude.{option_map}
 use Rattle.std.specs.List.{cons_option}
-use Rattle.hook_spec.specs.HookedForm.{hooked_sections}
+use Rattle.record_replay_spec.specs.HookedForm.{hooked_sections}
 use Rattle.hook_insert.proofs.Sections.{named}
 use Rattle.hook_insert.proofs.forms.only_section.Given as goal
 

@@ -2,8 +2,8 @@ use Rattle.std.proofs.Common.{◌≡◌, ap, sym, ◌∙◌, subst}
 use Rattle.wasm_syntax.specs.declared.modules.Module.{Module}
 use Rattle.wasm_syntax.specs.Encoding.Forms.{IsCoreModule}
 use Rattle.wasm_syntax.specs.Validity.{IsValid}
-use Rattle.hook_spec.specs.Instrumented.{instrumented_module}
-use Rattle.instrumented_valid.specs.Laws.{HasWords}
+use Rattle.record_replay_spec.specs.Instrumented.{instrumented_module}
+use Rattle.instrumented_module_laws.specs.Laws.{HasWords}
 use Rattle.hook_insert.proofs.modules.instrument.Goals as goal
 
 pub new-requires : goal.new-requires

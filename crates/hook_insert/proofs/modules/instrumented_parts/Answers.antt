@@ -4,7 +4,7 @@ use Rattle.wasm_syntax.specs.declared.modules.Module.{Module}
 use Rattle.wasm_syntax.specs.Index.{imported_funcs}
 use Rattle.wasm_syntax.specs.Validity.{IsValid}
 use Rattle.wasm_flat.specs.Sizes.{IsShort}
-use Rattle.hook_spec.specs.Instrumented.{each_func, instrumented_func, instrumented_module}
+use Rattle.record_replay_spec.specs.Instrumented.{each_func, instrumented_func, instrumented_module}
 use Rattle.hook_insert.proofs.Accesses.{if_ok}
 use Rattle.hook_insert.proofs.Few.{few_params}
 use Rattle.hook_insert.proofs.Low.{insertable_funcs, low_numbers}

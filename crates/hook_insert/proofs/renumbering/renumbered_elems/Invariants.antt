@@ -1,5 +1,5 @@
 use Rattle.std.proofs.Common.{◌≡◌, map, take}
-use Rattle.hook_spec.specs.Instrumented.{renumbered_elem}
+use Rattle.record_replay_spec.specs.Instrumented.{renumbered_elem}
 use Rattle.hook_insert.proofs.renumbering.renumbered_elems.Given as goal
 
 abbrev pub invariant-elems : goal.invariant-elems

@@ -1,5 +1,5 @@
 use Rattle.std.proofs.Common.{◌≡◌, map, take}
-use Rattle.hook_spec.specs.Instrumented.{renumbered_export}
+use Rattle.record_replay_spec.specs.Instrumented.{renumbered_export}
 use Rattle.hook_insert.proofs.renumbering.renumbered_exports.Given as goal
 
 abbrev pub invariant-exports : goal.invariant-exports

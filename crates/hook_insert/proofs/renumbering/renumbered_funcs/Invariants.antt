@@ -1,5 +1,5 @@
 use Rattle.std.proofs.Common.{◌≡◌, map, take}
-use Rattle.hook_spec.specs.Hooks.{renumber}
+use Rattle.record_replay_spec.specs.Hooks.{renumber}
 use Rattle.hook_insert.proofs.renumbering.renumbered_funcs.Given as goal
 
 abbrev pub invariant-funcs : goal.invariant-funcs

@@ -1,5 +1,5 @@
 use Rattle.std.proofs.Common.{◌≡◌, map}
-use Rattle.hook_spec.specs.HookedRuns.{renumbered_action}
+use Rattle.record_replay_spec.specs.HookedRuns.{renumbered_action}
 use Rattle.hooked_scripts.proofs.actions.renumbered_actions.Given as goal
 
 abbrev pub invariant-actions : goal.invariant-actions

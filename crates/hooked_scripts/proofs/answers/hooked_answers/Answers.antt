@@ -1,5 +1,5 @@
 use Rattle.std.proofs.Common.{option_map}
-use Rattle.hook_spec.specs.HookedRuns.{renumbered_answer}
+use Rattle.record_replay_spec.specs.HookedRuns.{renumbered_answer}
 use Rattle.hooked_scripts.proofs.Fitting.{hooks_after_all}
 use Rattle.hooked_scripts.proofs.answers.hooked_answers.Goals as goal
 

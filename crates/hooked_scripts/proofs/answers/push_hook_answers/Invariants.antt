@@ -1,5 +1,5 @@
 use Rattle.std.proofs.Common.{◌≡◌, ◌++◌, Some, replicate}
-use Rattle.hook_spec.specs.HookedRuns.{hook_answer}
+use Rattle.record_replay_spec.specs.HookedRuns.{hook_answer}
 use Rattle.hooked_scripts.proofs.answers.push_hook_answers.Given as goal
 
 abbrev pub invariant-hooks : goal.invariant-hooks

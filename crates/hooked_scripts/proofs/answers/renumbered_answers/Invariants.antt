@@ -1,5 +1,5 @@
 use Rattle.std.proofs.Common.{◌≡◌, map, option_map}
-use Rattle.hook_spec.specs.HookedRuns.{renumbered_answer}
+use Rattle.record_replay_spec.specs.HookedRuns.{renumbered_answer}
 use Rattle.hooked_scripts.proofs.answers.renumbered_answers.Given as goal
 
 abbrev pub invariant-answers : goal.invariant-answers

@@ -1,5 +1,5 @@
 use Rattle.std.proofs.Common.{◌≡◌, map}
-use Rattle.hook_spec.specs.HookedRuns.{renumbered_response}
+use Rattle.record_replay_spec.specs.HookedRuns.{renumbered_response}
 use Rattle.hooked_scripts.proofs.answers.renumbered_responses.Given as goal
 
 abbrev pub invariant-responses : goal.invariant-responses

@@ -1,6 +1,6 @@
 use Rattle.std.proofs.Common.{◌≡◌, ℕ, IfOk, ap, sym, ◌∙◌, subst}
 use Rattle.wasm_syntax.specs.Index.{imported_funcs}
-use Rattle.hook_spec.specs.HookedRuns.{hooked_script, renumbered_script}
+use Rattle.record_replay_spec.specs.HookedRuns.{hooked_script, renumbered_script}
 use Rattle.hooked_scripts.proofs.Fitting.{imports_counted, script_low}
 use Rattle.hooked_scripts.proofs.scripts.script_with_hooks.Goals as goal
 

@@ -1,6 +1,6 @@
 use Rattle.std.proofs.Common.{◌-◌, ◌∷◌, ◌≤◌, subst, sym, refl, arith}
 use Rattle.history_spec.specs.Configuration.{InModule}
-use Rattle.hook_spec.specs.HookedRuns.{call_of_hook}
+use Rattle.record_replay_spec.specs.HookedRuns.{call_of_hook}
 use Rattle.hook_names.specs.Steps.{IsRun}
 use Rattle.wasm_interp.specs.Advance.{Advances}
 use Rattle.wasm_interp.specs.State.{State}

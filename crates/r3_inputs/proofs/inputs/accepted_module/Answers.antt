@@ -3,7 +3,7 @@ use Rattle.std.specs.Result.{IsErrAnd}
 use Rattle.wasm_syntax.specs.Encoding.Modules.{Encodes}
 use Rattle.wasm_syntax.specs.Validity.{IsValid}
 use Rattle.wasm_profile.specs.Sizes.{HasShortLists}
-use Rattle.encoding_sizes.specs.Within.{HasListsWithin}
+use Rattle.wasm_syntax.specs.ListsWithin.{HasListsWithin}
 use Rattle.r3_faults.specs.declared.faults.Fault.{Fault}
 use Rattle.r3_faults.specs.declared.faults.Fault.TheVariants.{Memory}
 use Rattle.r3_inputs.specs.Inputs.{IsRefusedIn, ByBytes, ByRules, ByProfile}
@@ -11,7 +11,7 @@ use Rattle.r3_inputs.specs.ModuleFiles.{form_of, is_instrumented}
 use Rattle.r3_inputs.proofs.Acceptance.{fewer_bytes, short_lists, supported_when_accepted, short_when_accepted}
 use Rattle.r3_inputs.proofs.inputs.accepted_module.Goals as goal
 
--- what holds of the error that is passed on
+-- a property of an error that is passed on
 passed : {T : Type 0} (r : Result T Fault) (fault : Fault) (P : Fault → Type 0) → IsErrAnd r (λ other. other ≡ fault)
     → P fault → IfErr r P
 passed (Ok x) fault P e p = tt

@@ -1,7 +1,7 @@
 use Rattle.std.proofs.Common.{Some, sym, ◌∙◌, ap}
 use Rattle.wasm_syntax.specs.Index.{imported_funcs}
-use Rattle.hook_spec.specs.Instrumented.{instrumented_module, instrumented_weights}
-use Rattle.instrumented_valid.specs.Links.{script_with_hooks}
+use Rattle.record_replay_spec.specs.Instrumented.{instrumented_module, instrumented_weights}
+use Rattle.instrumented_module_laws.specs.Links.{script_with_hooks}
 use Rattle.r3_make.proofs.records.hooked_inputs.Goals as goal
 
 pub instrument-requires-clause-core : goal.instrument-requires-clause-core

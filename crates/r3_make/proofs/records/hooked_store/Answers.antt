@@ -1,9 +1,9 @@
 use Rattle.std.proofs.Common.{sym, subst}
 use Rattle.wasm_syntax.specs.Index.{imported_funcs}
 use Rattle.host_script.specs.Fits.{Fits}
-use Rattle.hook_spec.specs.Hooks.{renumbered_view}
+use Rattle.record_replay_spec.specs.Hooks.{renumbered_view}
 use Rattle.host_link.specs.Link.{link_result}
-use Rattle.instrumented_follows.specs.Laws.{instrumented_of}
+use Rattle.instrumented_run_laws.specs.Laws.{instrumented_of}
 use Rattle.r3_make.proofs.Recordings.{hooked_links, mismatch_memory, missing_memory, never_unlinked, one_link, script_fits, segment_memory}
 use Rattle.r3_make.proofs.records.hooked_store.Goals as goal
 

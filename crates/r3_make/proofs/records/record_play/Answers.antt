@@ -5,7 +5,7 @@ use Rattle.type_safety.specs.Stores.{IsStore}
 use Rattle.wasm_flat.specs.Meters.{FitsMeter}
 use Rattle.trace_reduce.specs.Reducer.{HasTaken}
 use Rattle.host_play.specs.HookedResults.{HasHooksAfter}
-use Rattle.instrumented_follows.specs.Laws.{instrumented_of}
+use Rattle.instrumented_run_laws.specs.Laws.{instrumented_of}
 use Rattle.run_recorder.specs.Records.{IsRecordedInto}
 use Rattle.r3_make.proofs.Recordings.{hooked_begins, hooked_store, hooks_after, meter_fits, recorded_same, script_fits}
 use Rattle.r3_make.proofs.records.record_play.Goals as goal

@@ -3,7 +3,7 @@ use Rattle.std.proofs.lemmas.Result.{IfOk-weaker}
 use Rattle.wasm_syntax.specs.Validity.{IsValid}
 use Rattle.history_spec.specs.Instantiation.{instantiate}
 use Rattle.history_spec.specs.Store.{Store}
-use Rattle.r3_build.specs.Printed.{IsReplayOf}
+use Rattle.r3_make.specs.BuiltReplays.{IsReplayOf}
 use Rattle.r3_make.specs.Printed.{IsReplayFor}
 use Rattle.r3_make.proofs.Shown.{constant, replay_for}
 use Rattle.r3_make.proofs.replays.made_replay.Goals as goal

@@ -1,6 +1,6 @@
 use Rattle.std.proofs.Common.{inr, subst}
 use Rattle.run_recorder.specs.Records.{RefusesRecord}
-use Rattle.recorded_results.specs.Laws.{record_of}
+use Rattle.replay_theorem.specs.RecordedOriginalLaws.{record_of}
 use Rattle.r3_make.proofs.LogTapes.{faulty, heavy_answer, light_answer, needed_answer, spent, taken}
 use Rattle.r3_make.proofs.Originals.{recorded_original}
 use Rattle.r3_make.proofs.tapes.needed_tape.Goals as goal

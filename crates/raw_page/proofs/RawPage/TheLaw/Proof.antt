@@ -1,4 +1,4 @@
--- A reference to the owner of a page is made where one to the page's bytes is.
+-- A reference to the owner of a page is made at the same point as one to the page's bytes.
 use base.Fraction.{full_share}
 use contract.BorrowLft.{⊑_static}
 use denote.Memory.{lone}

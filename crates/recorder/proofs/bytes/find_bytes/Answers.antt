@@ -1,14 +1,14 @@
 use Rattle.std.proofs.Common.{◌≡◌, ℕ, ◌+◌, ◌-◌, ◌≤◌, [], ◌∷◌, List, length, take, drop, subst, sym, arith}
 use Rattle.std.proofs.Math.Seq.{take-length}
 use Rattle.std.proofs.lemmas.List.{drop-drop, drop_all, length-drop}
-use Rattle.replay_spec.specs.Observations.{Reads}
+use Rattle.record_replay_spec.specs.Observations.{Reads}
 use Rattle.recorder.specs.Known.{TellsOfMemory}
 use Rattle.recorder.specs.Bytes.{FindsNothing, FindsRun}
 use Rattle.recorder.proofs.Arms.{if_none, if_some}
 use Rattle.recorder.proofs.Finds.{finds_end, finds_nothing, finds_then}
 use Rattle.recorder.proofs.bytes.find_bytes.Goals as goal
 
--- the rest of the bytes, as a slice has it
+-- the rest of the bytes, in the form of a slice
 rest_is : (bytes : List ℕ) (done : ℕ) → take (length bytes - done) (drop done bytes) ≡ drop done bytes
 rest_is bytes done = rw (← length-drop done bytes) (take-length (drop done bytes))
 

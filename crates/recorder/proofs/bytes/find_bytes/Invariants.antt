@@ -1,10 +1,10 @@
 use Rattle.std.proofs.Common.{◌+◌, ◌-◌, ◌≤◌, [], ◌∷◌, length, drop}
-use Rattle.replay_spec.specs.Observations.{Reads}
+use Rattle.record_replay_spec.specs.Observations.{Reads}
 use Rattle.shadow_memory.specs.Shadow.{Shadow}
 use Rattle.recorder.specs.Known.{TellsOfMemory}
 use Rattle.recorder.proofs.bytes.find_bytes.Given as goal
 
--- what the rest leads to, the whole leads to
+-- the rest of the bytes leads to what all bytes lead to
 abbrev pub invariant-runs : goal.invariant-runs
 invariant-runs g l = record {
   within : l.done ≤ length l.bytes;

@@ -2,8 +2,8 @@ use Rattle.std.proofs.Common.{◌≤◌, [], ◌∷◌, length, option_and_then,
 use Rattle.std.proofs.lemmas.Bool.Decides.{nat_tests}
 use Rattle.history_spec.specs.Instantiation.{table_length}
 use Rattle.wasm_store.specs.Calls.{entries_in}
-use Rattle.replay_spec.specs.Observations.{ReachesEntry}
-use Rattle.hook_spec.specs.Hooks.{original}
+use Rattle.record_replay_spec.specs.Observations.{ReachesEntry}
+use Rattle.record_replay_spec.specs.Hooks.{original}
 use Rattle.recorder.specs.Known.{TellsOfTables}
 use Rattle.recorder.proofs.Arms.{on_ok}
 use Rattle.recorder.proofs.Callees.{callee_past, callee_there, entry_is, not_none}

@@ -1,6 +1,6 @@
 use Rattle.wasm_syntax.specs.Index.{imported_funcs}
-use Rattle.replay_plan.specs.Plans.{plan_of}
-use Rattle.replay_modules.proofs.FittingPlans.{left_length}
+use Rattle.replay_module_spec.specs.Plans.{plan_of}
+use Rattle.replay_module_laws.proofs.FittingPlans.{left_length}
 use Rattle.replay_laws.proofs.laws.replay_modules_of_tapes_stand.Goals as goal
 
 pub returns : goal.returns

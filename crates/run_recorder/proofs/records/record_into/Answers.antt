@@ -1,5 +1,5 @@
 use Rattle.std.proofs.Common.{[], subst, sym}
-use Rattle.hook_spec.specs.Order.{shape_of}
+use Rattle.record_replay_spec.specs.Order.{shape_of}
 use Rattle.host_play.specs.HookedResults.{HookedRun, IsPlayedWithHooks, hooked_run}
 use Rattle.wasm_syntax.specs.declared.modules.Module.{Module}
 use Rattle.recorder.specs.Recorders.{IsRecorderStep}

@@ -1,4 +1,4 @@
-use Rattle.hook_spec.specs.Order.{shape_of}
+use Rattle.record_replay_spec.specs.Order.{shape_of}
 use Rattle.host_play.specs.HookedResults.{hooked_run}
 use Rattle.run_recorder.specs.Records.{RecordedRun}
 use Rattle.run_recorder.proofs.Led.{log_of_events}

@@ -1,6 +1,6 @@
 use Rattle.std.proofs.Common.{◌≡◌, ℕ, List, Bool, Result, Ok, Err, IfOk, Vec, Global, map, sym, subst}
 use Rattle.std.specs.List.{list_all, range_with_len}
-use Rattle.no_memory.specs.declared.NoMemory.{NoMemory}
+use Rattle.base.specs.declared.no_memory.NoMemory.{NoMemory}
 use Rattle.wasm_syntax.specs.declared.signatures.FuncType.{FuncType}
 use Rattle.script_text.specs.Actions.{takes_i32}
 use Rattle.script_text.specs.CommonTypes.{HoldsFlags}
@@ -13,7 +13,7 @@ returns c = by c.flags_up_to.result c.flags_up_to.ensures
     types : List FuncType
     types = map (λ ty. ty.now) c.args.types.now
 
-    -- for each number below a count, whether all types take it as an i32
+    -- for each number below a count, whether all types have the parameter as an i32
     flags : ℕ → List Bool
     flags count = map (λ number. list_all (takes_i32 number) types) (range_with_len 0 count)
 

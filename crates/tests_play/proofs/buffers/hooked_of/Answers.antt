@@ -1,7 +1,7 @@
 use Rattle.std.proofs.Common.{length, sym, subst}
 use Rattle.wasm_flat.specs.Meters.{FitsMeter}
 use Rattle.wasm_flat.specs.Sizes.{IsShort}
-use Rattle.hook_spec.specs.Instrumented.{instrumented_module}
+use Rattle.record_replay_spec.specs.Instrumented.{instrumented_module}
 use Rattle.type_safety.specs.Supplies.{IsRunnable}
 use Rattle.tests_play.proofs.buffers.hooked_of.Goals as goal
 

@@ -1,5 +1,5 @@
 use Rattle.std.proofs.Common.{◌≡◌, Some, sym, subst}
-use Rattle.hook_spec.specs.HookedForm.{hooked_form}
+use Rattle.record_replay_spec.specs.HookedForm.{hooked_form}
 use Rattle.hook_insert.specs.Forms.{form_of}
 use Rattle.tests_play.proofs.plays.played.Goals as goal
 

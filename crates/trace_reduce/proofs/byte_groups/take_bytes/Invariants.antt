@@ -1,6 +1,6 @@
 use Rattle.std.proofs.Common.{◌≡◌, ◌+◌, ℕ, length}
 use Rattle.std.specs.Option.{option_or}
-use Rattle.replay_spec.specs.Known.{byte_among}
+use Rattle.record_replay_spec.specs.Known.{byte_among}
 use Rattle.trace_reduce.specs.ByteGroups.{byte_at}
 use Rattle.trace_reduce.proofs.byte_groups.take_bytes.Given as goal
 

@@ -1,6 +1,6 @@
 use Rattle.std.proofs.Common.{◌≡◌, ℕ, take}
 use Rattle.std.specs.Option.{option_or}
-use Rattle.replay_spec.specs.Known.{byte_among}
+use Rattle.record_replay_spec.specs.Known.{byte_among}
 use Rattle.trace_reduce.specs.ByteGroups.{slot_at}
 use Rattle.trace_reduce.proofs.byte_groups.take_slots.Given as goal
 

@@ -1,5 +1,5 @@
 use Rattle.std.specs.Prelude.{flat_map}
-use Rattle.wasm_opcodes.specs.declared.marks.TheConstants.{SECTION_GLOBAL, SECTION_EXPORT, SECTION_ELEMENT, SECTION_CODE, SECTION_DATA}
+use Rattle.base.specs.declared.marks.TheConstants.{SECTION_GLOBAL, SECTION_EXPORT, SECTION_ELEMENT, SECTION_CODE, SECTION_DATA}
 use Rattle.wasm_encode.specs.Vectors.{vector_section}
 use Rattle.wasm_encode.proofs.ModuleLemmas.{definitions_appended, of_equal}
 use Rattle.wasm_syntax.specs.Encoding.Modules.{code_of}

@@ -1,4 +1,4 @@
--- The arguments stand before the index.
+-- The arguments are in the slots before the index.
 use Rattle.std.proofs.Common.{◌≡◌, ◌∷◌, [], ◌++◌, OnOk, subst, ap, ◌∙◌}
 use Rattle.wasm_syntax.specs.declared.values.ValType.TheVariants.{I32}
 use Rattle.flat_steps.specs.FlatStep.{values_at}

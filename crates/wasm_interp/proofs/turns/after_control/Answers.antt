@@ -1,4 +1,4 @@
--- The slots of an activation stand within all slots, which are fewer than the bytes of any memory.
+-- The slots of an activation are within all slots, which are fewer than the bytes of any memory.
 use Rattle.std.proofs.Common.{arith}
 use Rattle.wasm_interp.proofs.Safety.{base_top}
 use Rattle.wasm_interp.proofs.turns.after_control.Goals as goal

@@ -1,4 +1,4 @@
--- The entry is told that the definition has.
+-- The recorded entry is the one that the definition has.
 use Rattle.flat_steps.specs.FlatStep.{execute_item}
 use Rattle.wasm_interp.proofs.Entries.{told_entry}
 use Rattle.wasm_interp.specs.InstrEntries.{as_entry}

@@ -1,4 +1,4 @@
--- The topmost activation stands at an instruction of its function; what follows is within bounds.
+-- The topmost activation is at an instruction of its function; what follows is within bounds.
 use Rattle.std.proofs.Common.{◌∷◌, [], ap, arith}
 use Rattle.flat_steps.specs.FlatStep.{turn}
 use Rattle.wasm_interp.specs.InstrEntries.{as_entry}

@@ -1,4 +1,4 @@
--- The values that are read stand before those that are left to be read.
+-- The values that are read come before those that are left to be read.
 use Rattle.std.proofs.Common.{arith, add-zero, sym, refl}
 use Rattle.wasm_interp.proofs.Slots.{one_read, all_read}
 use Rattle.wasm_interp.proofs.values.push_values.Goals as goal

@@ -1,5 +1,5 @@
 use Rattle.wasm_syntax.specs.Opcodes.{store_of}
-use Rattle.hook_spec.specs.Insertions.{before_store}
+use Rattle.record_replay_spec.specs.Insertions.{before_store}
 use Rattle.hook_insert.proofs.Accesses.{told_on_ok}
 use Rattle.hook_insert.proofs.sites.BodySite.push_before_store.Goals as goal
 

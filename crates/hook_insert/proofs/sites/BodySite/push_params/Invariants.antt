@@ -1,8 +1,8 @@
 use Rattle.std.proofs.Common.{◌≡◌, ◌++◌, drop}
-use Rattle.hook_spec.specs.Insertions.{tells_params}
+use Rattle.record_replay_spec.specs.Insertions.{tells_params}
 use Rattle.hook_insert.proofs.sites.BodySite.push_params.Given as goal
 
--- what is appended and what is still to be appended are all
+-- the instructions appended and those still to append are all
 abbrev pub invariant-params : goal.invariant-params
 invariant-params l =
     l.code.items ++ tells_params l.self l.local (drop l.local l.params)

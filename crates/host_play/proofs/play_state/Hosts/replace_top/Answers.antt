@@ -1,4 +1,4 @@
--- The topmost activation stands last.
+-- The topmost activation is the last item.
 use Rattle.std.proofs.Common.{◌∷◌, ap, ◌∙◌, arith}
 use Rattle.host_play.specs.Hosts.{below_of}
 use Rattle.host_play.proofs.Stacks.{last_put}

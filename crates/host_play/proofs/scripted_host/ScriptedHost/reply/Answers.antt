@@ -1,6 +1,6 @@
 use Rattle.std.proofs.Common.{◌≡◌, ap, sym, ◌∙◌, subst}
 use Rattle.host_script.specs.declared.scripts.Script.{Script}
-use Rattle.hook_spec.specs.HookedRuns.{hooked_script}
+use Rattle.record_replay_spec.specs.HookedRuns.{hooked_script}
 use Rattle.host_play.specs.Replies.{IsReply}
 use Rattle.host_play.specs.ScriptedHosts.{script_of}
 use Rattle.host_play.proofs.HookAnswers.{replies, replies_kept}

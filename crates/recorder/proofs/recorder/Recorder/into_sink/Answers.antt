@@ -1,7 +1,7 @@
 use Rattle.std.proofs.Common.{false, sym, ap, ◌∙◌, subst}
 use Rattle.history_spec.specs.Instantiation.{instantiate, table_length}
-use Rattle.hook_spec.specs.Order.{order_start, shape_of}
-use Rattle.hook_spec.specs.Logs.{log_start}
+use Rattle.record_replay_spec.specs.Order.{order_start, shape_of}
+use Rattle.record_replay_spec.specs.Logs.{log_start}
 use Rattle.hook_order.specs.Shapes.{parts_of}
 use Rattle.recorder.specs.Known.{HaveTypes}
 use Rattle.recorder.specs.Recorders.{StandsAt}

@@ -1,7 +1,7 @@
 use Rattle.std.proofs.Common.{refl}
 use Rattle.history_spec.specs.Store.{pages}
 use Rattle.history_spec.specs.Instruction.{bits_at}
-use Rattle.hook_spec.specs.Logs.{found_by_growth}
+use Rattle.record_replay_spec.specs.Logs.{found_by_growth}
 use Rattle.recorder.proofs.Arms.{err_led}
 use Rattle.recorder.proofs.Steps.{take_memory}
 use Rattle.recorder.proofs.recording.Recording.grow.Goals as goal

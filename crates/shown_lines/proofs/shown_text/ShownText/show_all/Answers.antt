@@ -1,6 +1,6 @@
 use Rattle.std.proofs.Common.{◌≡◌, ◌+◌, ◌++◌, [], ◌∷◌, take, sym, ◌∙◌, ap, subst}
 use Rattle.std.proofs.lemmas.List.{take_more}
-use Rattle.outside_spec.specs.Inside.{args_after, args_after_all}
+use Rattle.replay_run_spec.specs.Inside.{args_after, args_after_all}
 use Rattle.shown_lines.specs.ShownLines.{Shows}
 use Rattle.shown_lines.proofs.Along.{args_over, shows_more}
 use Rattle.shown_lines.proofs.shown_text.ShownText.show_all.Goals as goal

@@ -1,5 +1,5 @@
 use Rattle.std.proofs.Common.{◌≡◌, [], take}
-use Rattle.outside_spec.specs.Inside.{args_after_all}
+use Rattle.replay_run_spec.specs.Inside.{args_after_all}
 use Rattle.shown_lines.specs.ShownLines.{Shows}
 use Rattle.shown_lines.proofs.shown_text.ShownText.show_all.Given as goal
 

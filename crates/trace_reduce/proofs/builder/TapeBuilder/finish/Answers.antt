@@ -1,6 +1,6 @@
 use Rattle.std.proofs.Common.{List, Result, sym, subst}
-use Rattle.hook_spec.specs.LogTapes.{Mark, AreLogSegments}
-use Rattle.run_outcomes.specs.declared.outcomes.Outcome.{Outcome}
+use Rattle.record_replay_spec.specs.LogTapes.{Mark, AreLogSegments}
+use Rattle.base.specs.declared.outcomes.Outcome.{Outcome}
 use Rattle.trace_model.specs.declared.tapes.Tape.{Tape}
 use Rattle.trace_reduce.specs.Answers.{IsWeighed}
 use Rattle.trace_reduce.specs.Builder.{IsAtHost, end_marks}
@@ -8,7 +8,7 @@ use Rattle.trace_reduce.specs.declared.builder.TapeBuilder.{TapeBuilder}
 use Rattle.trace_reduce.specs.declared.faults.ReducerFault.{ReducerFault}
 use Rattle.trace_reduce.proofs.builder.TapeBuilder.finish.Goals as goal
 
--- the tape of a builder at the host, of a run that ended so
+-- the tape of a builder at the host, for a run with this outcome
 abbrev Finishes : TapeBuilder → Result Tape ReducerFault → Outcome → Type 0
 Finishes builder result outcome =
     (before marks : List Mark) → IsAtHost builder before marks

@@ -1,5 +1,5 @@
 use Rattle.std.proofs.Common.{sym, subst}
-use Rattle.hook_spec.specs.LogTapes.{AreLogSegments}
+use Rattle.record_replay_spec.specs.LogTapes.{AreLogSegments}
 use Rattle.trace_model.specs.declared.tapes.Tape.{Tape}
 use Rattle.trace_reduce.specs.Answers.{IsWeighed}
 use Rattle.trace_reduce.specs.Builder.{AreBuilt}

@@ -1,4 +1,4 @@
--- The topmost activation stands last.
+-- The topmost activation is the last item.
 use Rattle.std.proofs.Common.{ap, ◌∙◌, arith}
 use Rattle.wasm_interp.specs.Frames.{with_number}
 use Rattle.wasm_interp.proofs.Stacks.{last_moved}

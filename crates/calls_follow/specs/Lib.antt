@@ -1,2 +1,0 @@
-pub mod ToldObservations
-pub mod Laws

@@ -1,3 +1,0 @@
-mod References
-mod Declared
-mod Fragments

@@ -1,4 +1,0 @@
-mod Widths
-mod Blocks
-mod Groups
-mod Marks

@@ -1,6 +1,0 @@
-use Rattle.std.proofs.Common.{◌≡◌}
-use Rattle.std.specs.List.{range_with_len}
-use Rattle.fragment_maker.proofs.dispatch.labels.Given as goal
-
-abbrev pub invariant-labels : goal.invariant-labels
-invariant-labels l = l.labels.items ≡ range_with_len 0 l.label

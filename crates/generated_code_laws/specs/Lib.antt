@@ -1,0 +1,11 @@
+pub mod Playable
+pub mod Below
+pub mod Laws
+pub mod Leads
+pub mod GeneratedStepLaws
+pub mod Ends
+pub mod Single
+pub mod SingleStepLaws
+pub mod Bytes
+pub mod Counts
+pub mod EffectLaws

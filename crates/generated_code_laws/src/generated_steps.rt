@@ -1,0 +1,15 @@
+// Laws on the generated functions of replay modules: how their steps lead on.
+
+ghost use Rattle.generated_code_laws.specs.GeneratedStepLaws.{DispatchesReachArms, LeadsRunAlong, SelectorsCount};
+
+/// A run that leads from one place to another, and on to a third, leads from the first to the third.
+pub fn leads_run_along()
+    ensures { LeadsRunAlong }
+{}
+
+/// A dispatch reaches the selected arm, or a trap after the last arm, in a fixed number of steps; and the selectors of
+/// generated functions select the group of a call, and the call within its group.
+pub fn dispatches_reach_arms()
+    ensures arms { DispatchesReachArms }
+    ensures selectors { SelectorsCount }
+{}

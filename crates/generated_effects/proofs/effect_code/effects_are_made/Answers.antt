@@ -1,5 +1,0 @@
-use Rattle.generated_effects.proofs.All.{effects_made}
-use Rattle.generated_effects.proofs.effect_code.effects_are_made.Goals as goal
-
-pub returns : goal.returns
-returns c = effects_made

@@ -1,4 +1,0 @@
-pub mod Along
-pub mod One
-pub mod Dispatches
-pub mod Selections

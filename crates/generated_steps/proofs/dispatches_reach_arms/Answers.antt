@@ -1,8 +1,0 @@
-use Rattle.generated_steps.proofs.Selections.{dispatches_reach, selectors_count}
-use Rattle.generated_steps.proofs.dispatches_reach_arms.Goals as goal
-
-pub returns-clause-arms : goal.returns-clause-arms
-returns-clause-arms c = dispatches_reach
-
-pub returns-clause-selectors : goal.returns-clause-selectors
-returns-clause-selectors c = selectors_count

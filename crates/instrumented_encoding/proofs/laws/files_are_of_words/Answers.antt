@@ -1,7 +1,0 @@
-use Rattle.instrumented_encoding.proofs.Words.{files_are_of_words}
-use Rattle.instrumented_encoding.proofs.laws.files_are_of_words.Goals as goal
-
-pub returns : goal.returns
-returns c =
-    files_are_of_words c.shortest_encoding.ensures.encodable c.shortest_encoding.ensures.least c.lists_of_encoding.ensures.within
-    c.encodable_have_words.ensures

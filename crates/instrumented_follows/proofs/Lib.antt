@@ -1,5 +1,0 @@
-pub mod RunTurns
-pub mod RunsAlong
-pub mod FollowedRuns
-pub mod Starts
-pub mod Followed

@@ -1,6 +1,0 @@
-mod Parts
-mod Lengths
-mod Short
-mod Words
-mod HookImports
-mod Stores

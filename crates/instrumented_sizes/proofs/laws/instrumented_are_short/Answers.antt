@@ -1,5 +1,0 @@
-use Rattle.instrumented_sizes.proofs.Short.{instrumented_are_short}
-use Rattle.instrumented_sizes.proofs.laws.instrumented_are_short.Goals as goal
-
-pub returns : goal.returns
-returns c = instrumented_are_short c.instrumented_keep_indices.ensures c.instrumented_are_accepted.ensures

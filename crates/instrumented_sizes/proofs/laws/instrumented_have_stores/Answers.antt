@@ -1,5 +1,0 @@
-use Rattle.instrumented_sizes.proofs.Stores.{instrumented_have_stores}
-use Rattle.instrumented_sizes.proofs.laws.instrumented_have_stores.Goals as goal
-
-pub returns : goal.returns
-returns c = instrumented_have_stores c.instrumented_keep_indices.ensures

@@ -1,5 +1,0 @@
-use Rattle.instrumented_sizes.proofs.HookImports.{instrumented_import_hooks}
-use Rattle.instrumented_sizes.proofs.laws.instrumented_import_hooks.Goals as goal
-
-pub returns : goal.returns
-returns c = instrumented_import_hooks c.instrumented_keep_indices.ensures c.instrumented_are_hooked.ensures

@@ -1,5 +1,0 @@
-use Rattle.instrumented_valid.proofs.Fitted.{instrumented_are_fitted}
-use Rattle.instrumented_valid.proofs.laws.instrumented_are_fitted.Goals as goal
-
-pub returns : goal.returns
-returns c = instrumented_are_fitted c.instrumented_keep_indices.ensures

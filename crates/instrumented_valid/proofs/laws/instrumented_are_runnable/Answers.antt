@@ -1,5 +1,0 @@
-use Rattle.instrumented_valid.proofs.Links.{instrumented_are_runnable}
-use Rattle.instrumented_valid.proofs.laws.instrumented_are_runnable.Goals as goal
-
-pub returns : goal.returns
-returns c = instrumented_are_runnable c.instrumented_are_accepted.ensures

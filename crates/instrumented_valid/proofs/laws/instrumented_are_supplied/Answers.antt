@@ -1,5 +1,0 @@
-use Rattle.instrumented_valid.proofs.Links.{instrumented_are_supplied}
-use Rattle.instrumented_valid.proofs.laws.instrumented_are_supplied.Goals as goal
-
-pub returns : goal.returns
-returns c = instrumented_are_supplied c.instrumented_keep_indices.ensures

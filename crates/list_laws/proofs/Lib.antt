@@ -1,3 +1,0 @@
-pub mod Booleans
-pub mod Lists
-pub mod Options

@@ -1,7 +1,0 @@
-use Rattle.logs_follow.proofs.BalancedRuns.{logs_balance}
-use Rattle.logs_follow.proofs.laws.logs_are_balanced.Goals as goal
-
-pub returns : goal.returns
-returns c =
-    logs_balance c.laws_of_steps.ensures c.laws_of_runs.ensures c.instrumented_keep_indices.ensures
-    c.indices_are_renumbered.ensures c.run_has_one_needed_tape.ensures

@@ -1,6 +1,0 @@
-use Rattle.std.proofs.Common.{◌≡◌, map}
-use Rattle.module_merge.specs.Merge.{constant_data}
-use Rattle.module_merger.proofs.segments.constant_datas.Given as goal
-
-abbrev pub invariant-segments : goal.invariant-segments
-invariant-segments l = l.datas.items ≡ map (constant_data l.fn.imported) l.yielded

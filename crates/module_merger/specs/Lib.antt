@@ -1,3 +1,0 @@
-pub mod Offsets
-pub mod Generated
-pub mod Parts

@@ -1,3 +1,0 @@
-mod ConstantRuns
-mod ConstantEffects
-mod ConstantSteps

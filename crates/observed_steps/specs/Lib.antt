@@ -1,4 +1,0 @@
-pub mod StoreAnswers
-pub mod Changes
-pub mod Executions
-pub mod Laws

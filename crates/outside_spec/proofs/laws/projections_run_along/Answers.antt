@@ -1,5 +1,0 @@
-use Rattle.outside_spec.proofs.Projections.{shown_along}
-use Rattle.outside_spec.proofs.laws.projections_run_along.Goals as goal
-
-pub returns : goal.returns
-returns c = shown_along

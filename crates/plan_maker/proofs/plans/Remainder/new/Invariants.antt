@@ -1,5 +1,0 @@
-use Rattle.std.proofs.Common.{◌≡◌, [], replicate}
-use Rattle.plan_maker.proofs.plans.Remainder.new.Given as goal
-
-abbrev pub invariant-imports : goal.invariant-imports
-invariant-imports l = l.calls.items ≡ replicate l.counter []

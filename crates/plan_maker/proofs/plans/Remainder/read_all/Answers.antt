@@ -1,7 +1,0 @@
-use Rattle.plan_maker.proofs.Reading.{read_on}
-use Rattle.plan_maker.proofs.plans.Remainder.read_all.Goals as goal
-
-pub segments-preserved : goal.segments-preserved
-segments-preserved c =
-    read_on c.segments.segments.items c.pop.new.self.items c.in-Some.segment c.segments.self c.read.new.self _
-    c.in-Some.ensures.items c.in_ok-read.ensures c.segments.invariant

@@ -1,4 +1,0 @@
-mod OneTape
-mod OneBuilt
-mod Sized
-mod Playable

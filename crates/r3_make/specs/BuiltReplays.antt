@@ -1,0 +1,46 @@
+-- What `build` prints.
+use Rattle.std.specs.Prelude.{◌≡◌, ℕ, ◌≤◌, List, length}
+use Rattle.sha2.specs.Sha256.{sha256}
+use Rattle.wasm_syntax.specs.declared.forms.Form.TheVariants.{Replay}
+use Rattle.wasm_syntax.specs.declared.modules.Module.{Module}
+use Rattle.wasm_syntax.specs.Encoding.Modules.{Encodes}
+use Rattle.wasm_syntax.specs.Encoding.Shortest.{encoding_of}
+use Rattle.wasm_syntax.specs.Validity.{IsValid}
+use Rattle.host_script.specs.declared.scripts.Script.{Script}
+use Rattle.host_script.specs.declared.scripts.Supply.{Supply}
+use Rattle.history_spec.specs.Store.{Store}
+use Rattle.trace_model.specs.declared.tapes.Tape.{Tape}
+use Rattle.trace_model.specs.Weight.{tape_weight}
+use Rattle.replay_module_spec.specs.Size.{most_bytes}
+use Rattle.generated_code_laws.specs.Playable.{replay_of}
+use Rattle.replay_laws.specs.Follows.{FollowsTape}
+use Rattle.replay_laws.specs.Stands.{StandsForOriginal}
+use Rattle.r3_inputs.specs.Inputs.{AreInputs}
+use Rattle.accepted_runs.specs.Linked.{IsLinked}
+use Rattle.r3_make.specs.BuildRefusals.{IsTakenAs}
+
+-- The bytes are the shortest encoding of the replay module of the tape. The module is valid, keeps the
+-- original's functions, imports nothing, and its run follows the tape. The bytes are at most `most_bytes`.
+pub record IsReplayOf (m : Module) (supply : Supply) (store : Store) (tape : Tape) (printed : List ℕ) : Type 0 where
+  pub shortest : printed ≡ encoding_of (replay_of m supply tape)
+  pub encoded : Encodes Replay printed (replay_of m supply tape)
+  pub valid : IsValid (replay_of m supply tape)
+  pub stands : StandsForOriginal m supply tape
+  pub follows : FollowsTape m supply store tape
+  pub most : length printed ≤ most_bytes m (tape_weight tape)
+
+-- the module links with the script, the tape is accepted, and this is its replay module
+pub record IsBuilt (m : Module) (script : Script) (digest tape_bytes printed : List ℕ) : Type 0 where
+  pub supply : Supply
+  pub store : Store
+  pub linked : IsLinked m script supply store
+  pub tape : Tape
+  pub taken : IsTakenAs m digest tape_bytes tape
+  pub replay : IsReplayOf m supply store tape printed
+
+-- `build` prints this for the bytes of a module, a script and a tape
+pub record IsPrinted (module_bytes script_bytes tape_bytes printed : List ℕ) : Type 0 where
+  pub m : Module
+  pub script : Script
+  pub inputs : AreInputs module_bytes script_bytes m script
+  pub built : IsBuilt m script (sha256 module_bytes) tape_bytes printed

@@ -1,3 +1,0 @@
-mod OneAnswer
-mod ModuleAnswers
-pub mod Forms

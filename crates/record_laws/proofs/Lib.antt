@@ -1,5 +1,0 @@
-mod OneRecord
-mod TypedCalls
-mod FittingObservations
-mod FittingEvents
-mod FittingLogs

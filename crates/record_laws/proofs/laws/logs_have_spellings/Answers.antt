@@ -1,7 +1,0 @@
-use Rattle.record_laws.proofs.FittingLogs.{fitting_logs}
-use Rattle.record_laws.proofs.laws.logs_have_spellings.Goals as goal
-
-pub returns : goal.returns
-returns c =
-    fitting_logs c.typed_code.ensures.heights c.typed_code.ensures.code c.rules_hold.ensures.instructions
-    c.safe_steps.ensures.starts c.safe_steps.ensures.steps

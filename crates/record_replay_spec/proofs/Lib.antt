@@ -1,0 +1,27 @@
+pub mod Kept
+pub mod Alike
+pub mod Tested
+pub mod OneList
+pub mod OneTape
+pub mod Operands
+pub mod AlikeStores
+pub mod Memories
+pub mod Tables
+pub mod MemorySteps
+pub mod TableSteps
+pub mod GlobalSteps
+pub mod Steps
+pub mod KindsOfStores
+pub mod OwnAnswers
+pub mod Numbers
+pub mod Shown
+pub mod ShownMemorySteps
+pub mod ShownTableSteps
+pub mod ShownSteps
+mod Indices
+mod Bodies
+mod Modules
+mod LongestRuns
+mod LogTapes
+mod HookTables
+mod TestedTapes

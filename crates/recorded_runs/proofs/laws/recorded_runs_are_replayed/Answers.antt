@@ -1,6 +1,0 @@
-use Rattle.recorded_runs.proofs.Recorded.{recorded_runs_are_replayed}
-use Rattle.recorded_runs.proofs.laws.recorded_runs_are_replayed.Goals as goal
-
-pub returns : goal.returns
-returns c =
-    recorded_runs_are_replayed c.instrumented_runs_follow.ensures c.runs_are_replayed_from_logs.ensures

@@ -1,5 +1,0 @@
-use Rattle.recorded_runs.proofs.Recorded.{runs_are_recorded}
-use Rattle.recorded_runs.proofs.laws.runs_are_recorded.Goals as goal
-
-pub returns : goal.returns
-returns c = runs_are_recorded c.instrumented_runs_follow.ensures c.runs_are_replayed_from_logs.ensures

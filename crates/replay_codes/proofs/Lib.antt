@@ -1,3 +1,0 @@
-mod Bodies
-pub mod Functions
-mod Openings

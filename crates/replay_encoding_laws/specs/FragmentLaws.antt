@@ -1,0 +1,19 @@
+-- The generated parts of a tape, and the module.
+use Rattle.wasm_syntax.specs.declared.modules.Module.{Module}
+use Rattle.wasm_syntax.specs.Encoding.Forms.{IsCoreModule}
+use Rattle.wasm_syntax.specs.Index.{imported_funcs}
+use Rattle.wasm_syntax.specs.Profile.{IsSupported}
+use Rattle.wasm_syntax.specs.Validity.{IsValid}
+use Rattle.trace_model.specs.declared.tapes.Tape.{Tape}
+use Rattle.trace_model.specs.Fitting.{IsFitting}
+use Rattle.replay_module_spec.specs.Plans.{plan_of}
+use Rattle.replay_module_spec.specs.Fragments.{fragment_of}
+use Rattle.replay_module_spec.specs.Fits.{FitsModule}
+use Rattle.replay_module_laws.specs.Written.{IsConstantTape}
+
+-- for each module of the form Core that can be run: the generated parts of a tape that fits the module, and whose
+-- values are constants, fit the module
+abbrev pub FragmentsFit : Type 0
+FragmentsFit =
+    (m : Module) (tape : Tape) → IsValid m → IsSupported m → IsCoreModule m → IsFitting m tape → IsConstantTape tape
+    → FitsModule m (fragment_of m (plan_of (imported_funcs m) tape))

@@ -1,0 +1,4 @@
+pub mod Premises
+pub mod Laws
+pub mod FragmentLaws
+pub mod ConstantLaws

@@ -1,0 +1,31 @@
+-- The parts from which a replay module is made: a module that is decoded from a file, a supply for its imports, and a
+-- tape.
+use Rattle.std.specs.Prelude.{ℕ, ◌^◌, ◌<◌, ◌≤◌, List, length, IfSome}
+use Rattle.wasm_syntax.specs.declared.forms.Form.TheVariants.{Core}
+use Rattle.wasm_syntax.specs.declared.limits.TheConstants.{MOST_FILE_BYTES}
+use Rattle.wasm_syntax.specs.declared.modules.Module.{Module}
+use Rattle.wasm_syntax.specs.Encoding.Modules.{Encodes}
+use Rattle.wasm_syntax.specs.Validity.{IsValid}
+use Rattle.host_script.specs.declared.scripts.Supply.{Supply}
+use Rattle.type_safety.specs.Supplies.{IsSupply}
+use Rattle.trace_model.specs.declared.tapes.Tape.{Tape}
+use Rattle.trace_model.specs.Fitting.{IsFitting}
+use Rattle.trace_model.specs.Weight.{tape_weight}
+use Rattle.replay_module_laws.specs.Written.{IsConstantTape}
+
+-- a valid module that the bytes of a file encode
+pub record IsFromFile (bytes : List ℕ) (m : Module) : Type 0 where
+  pub encoded : Encodes Core bytes m
+  pub valid : IsValid m
+  pub few : length bytes ≤ MOST_FILE_BYTES
+
+-- a tape of constants that fits the module, with at most the allowed weight
+pub record IsTakenTape (m : Module) (tape : Tape) : Type 0 where
+  pub fits : IsFitting m tape
+  pub constants : IsConstantTape tape
+  pub weight : tape_weight tape < 2 ^ 21
+
+-- a supply that matches the module's imports; a maximum of its table has 32 bits
+pub record IsTakenSupply (m : Module) (supply : Supply) : Type 0 where
+  pub matches : IsSupply m supply
+  pub table : IfSome supply.table (λ limits. IfSome limits.max (λ max. max < 2 ^ 32))

@@ -1,0 +1,17 @@
+mod Standing
+pub mod Outside
+mod ValidOutside
+pub mod Declarations
+mod Wider
+mod Originals
+mod TypedOriginals
+mod Serving
+pub mod TypedEffects
+mod TypedSegments
+mod TypedDispatch
+mod Generated
+mod TypedGenerated
+pub mod FittingPlans
+mod Bodies
+pub mod Functions
+mod Openings

@@ -1,0 +1,9 @@
+pub mod Merge
+pub mod Fits
+pub mod Size
+pub mod Plans
+pub mod Effects
+pub mod Segments
+pub mod Dispatch
+pub mod Functions
+pub mod Fragments

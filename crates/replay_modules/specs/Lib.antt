@@ -1,4 +1,0 @@
-pub mod Standing
-pub mod Laws
-pub mod Written
-pub mod Plans

@@ -1,8 +1,0 @@
-use Rattle.wasm_syntax.specs.declared.forms.Form.TheVariants.{Core}
-use Rattle.replay_sizes.proofs.Indices.{indices_fit}
-use Rattle.replay_sizes.proofs.plans_fit_indices.Goals as goal
-
-pub returns : goal.returns
-returns c bytes m tape file taken =
-    indices_fit bytes m tape (c.lists_of_encoding.ensures.within Core bytes m file.encoded)
-    (c.shortest_encoding.ensures.least Core bytes m file.encoded) file.few taken.weight

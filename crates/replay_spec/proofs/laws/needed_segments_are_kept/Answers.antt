@@ -1,5 +1,0 @@
-use Rattle.replay_spec.proofs.Kept.{needed_segments_are_kept}
-use Rattle.replay_spec.proofs.laws.needed_segments_are_kept.Goals as goal
-
-pub returns : goal.returns
-returns c = needed_segments_are_kept

@@ -1,9 +1,0 @@
-pub mod Observations
-pub mod Known
-pub mod Alike
-pub mod Windows
-pub mod Needed
-pub mod Kept
-pub mod NeededTest
-pub mod TapeRun
-pub mod Laws

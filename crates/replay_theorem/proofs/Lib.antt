@@ -1,0 +1,16 @@
+pub mod ReadBytes
+mod WrittenBytes
+mod Growths
+mod GrowingRuns
+mod Counts
+mod Whole
+mod Recorded
+mod Originals
+mod OneRecord
+mod TypedCalls
+mod FittingObservations
+mod FittingEvents
+mod FittingLogs
+mod ConstantRuns
+mod ConstantEffects
+mod ConstantSteps

@@ -1,0 +1,5 @@
+pub mod Laws
+pub mod RecordedRunLaws
+pub mod RecordedOriginalLaws
+pub mod RecordLaws
+pub mod ConstantLaws

@@ -1,7 +1,0 @@
-use Rattle.run_replays.proofs.Whole.{needed_tapes_are_playable}
-use Rattle.run_replays.proofs.laws.needed_tapes_are_playable.Goals as goal
-
-pub returns : goal.returns
-returns c =
-    needed_tapes_are_playable c.typed_store.ensures.supplied c.needed_tape_fits.ensures
-    c.needed_tapes_write_bytes.ensures

@@ -1,5 +1,0 @@
-use Rattle.run_replays.proofs.Whole.{runs_are_replayed_from_logs}
-use Rattle.run_replays.proofs.laws.runs_are_replayed_from_logs.Goals as goal
-
-pub returns : goal.returns
-returns c = runs_are_replayed_from_logs c.logs_give_needed_tapes.ensures c.runs_are_replayed.ensures

@@ -1,5 +1,0 @@
-pub mod Numbers
-pub mod Shown
-pub mod MemorySteps
-pub mod TableSteps
-pub mod Steps

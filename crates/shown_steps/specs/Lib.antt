@@ -1,2 +1,0 @@
-pub mod Unshown
-pub mod Laws

@@ -1,2 +1,0 @@
-mod Quiet
-mod Singles

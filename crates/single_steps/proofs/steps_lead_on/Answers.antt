@@ -1,7 +1,0 @@
-use Rattle.single_steps.proofs.Singles.{steps_lead, steps_end, steps_show}
-use Rattle.single_steps.proofs.steps_lead_on.Goals as goal
-
-pub returns : goal.returns
-returns c =
-    let along = c.projections_run_along.ensures in
-    record { leads = steps_lead along; ends = steps_end along; shows = steps_show along }

@@ -1,0 +1,247 @@
+-- The hook calls of a whole trail have events, and the marks of these events agree with the trail's observations.
+use Rattle.std.proofs.Common.{◌≡◌, ℕ, ◌+◌, ◌-◌, List, [], ◌∷◌, ◌++◌, length, Option, Some, false, refl, sym, ap, ◌∙◌, subst}
+use Rattle.std.proofs.lemmas.List.{append-nil}
+use Rattle.std.proofs.lemmas.Option.{same_Some}
+use Rattle.wasm_syntax.specs.declared.values.Val.{Val}
+use Rattle.wasm_syntax.specs.declared.modules.Module.{Module}
+use Rattle.wasm_syntax.specs.Index.{imported_funcs, all_globals}
+use Rattle.base.specs.declared.outcomes.Outcome.{Outcome}
+use Rattle.base.specs.declared.outcomes.Outcome.TheVariants.{Ended, Trapped, HostTrapped}
+use Rattle.trace_model.specs.declared.events.Event.{Event}
+use Rattle.trace_model.specs.declared.events.Event.TheVariants as events
+use Rattle.trace_model.specs.declared.tapes.Origin.TheVariants.{Import}
+use Rattle.trace_model.specs.declared.tapes.Next.TheVariants.{End, Trap as ByTrap}
+use Rattle.history_spec.specs.declared.entries.Entry.{Entry}
+use Rattle.history_spec.specs.declared.entries.Entry.TheVariants.{HostCall, HostReturn, ImportCall, ImportReturn, Enter, Exit, Step, Trap, HostTrap}
+use Rattle.history_spec.specs.declared.entries.TrapKind.{TrapKind}
+use Rattle.history_spec.specs.Instruction.{bits_at}
+use Rattle.history_spec.specs.Store.{Store}
+use Rattle.record_replay_spec.specs.Known.{Known, entry_of, known_after_all}
+use Rattle.record_replay_spec.specs.Observations.{Observation, Begins, Ends}
+use Rattle.record_replay_spec.specs.Windows.{window}
+use Rattle.record_replay_spec.specs.Changes.{with_changes}
+use Rattle.tape_laws.proofs.StepItems.{nothing_read}
+use Rattle.tape_laws.specs.RealReads.{IsReadOf}
+use Rattle.record_replay_spec.specs.declared.hooks.Hook.TheVariants.{Ipre}
+use Rattle.record_replay_spec.specs.Logs.{LogState, log_after_all, all_observed_events}
+use Rattle.record_replay_spec.specs.LogTapes.{Begins as BeginsMark, InCall, is_trapped_call, outcome_marks, marks_from}
+use Rattle.record_replay_spec.specs.Order.{HookedShape}
+use Rattle.record_replay_spec.specs.ToldCalls.{Moment, told_number, told_by_trap}
+use Rattle.tape_laws.proofs.CallObservations.{seen_by, as_told}
+use Rattle.tape_laws.proofs.CallOrder as orders
+use Rattle.tape_laws.proofs.Trails.{Level, AtFunction, AtCall, TellsTrap, Quiet, AtEntry, IsTrailEnd}
+use Rattle.tape_laws.proofs.CallOrder.{IsHooked, renumbered, state}
+use Rattle.tape_laws.proofs.Agrees.{Agrees, agrees_activity, agrees_over}
+use Rattle.tape_laws.proofs.CallLogs as logs
+use Rattle.tape_laws.proofs.ItemSteps.{agrees_all}
+use Rattle.tape_laws.proofs.TrailLogs as trail_logs
+use Rattle.tape_laws.proofs.LogMarks.{log_frames, IsSizeTold, ModuleAgrees, AgreesBy, agrees_host}
+use Rattle.tape_laws.proofs.TrailLogSteps as trail_steps
+use Rattle.tape_laws.proofs.CallLogs.{Logged}
+use Rattle.tape_laws.proofs.TrailLogs.{Stands, Tells_by, Tells, Rest, FirstTells}
+
+module _ (m : Module) (shape : HookedShape) (hooked : IsHooked m shape) (outcome : Outcome) where
+  abbrev n : ℕ
+  n = imported_funcs m
+
+  abbrev told : List Observation → List Observation
+  told items = as_told shape n (all_globals m) items
+
+  -- ---- an instruction traps
+
+  trapped : (func number : ℕ) (kind : TrapKind) (operands : List Val) (found : Option ℕ)
+      → FirstTells m shape outcome (Trap func number kind operands found)
+  trapped func number kind operands found later moment levels known store left st h stands rest =
+      subst (λ s. Tells m shape outcome levels known s left st (now later)) h.begins
+      (subst (λ l. Tells m shape outcome l known moment.before left st (now later)) (sym h.stands)
+      (subst (λ l. Tells m shape outcome top known moment.before left st (now l)) (sym h.last) (go h.tells)))
+    where
+      top : List Level
+      top = AtFunction func ∷ h.below
+
+      now : List Moment → List Moment
+      now l = record moment { entry = Trap func number kind operands found } ∷ l
+
+      here : Stands m shape outcome (AtFunction func ∷ h.below) known moment.before st
+      here =
+          subst (λ l. Stands m shape outcome l known moment.before st) h.stands
+          (subst (λ s. Stands m shape outcome levels known s st) (sym h.begins) stands)
+
+      over : outcome ≡ Trapped
+      over = same_Some outcome Trapped h.over
+
+      -- all remaining observations were made before the trap
+      agree : (size : ℕ) (more : List Event) → IsSizeTold size known st
+          → marks_from n outcome (log_frames (AtFunction func ∷ h.below)) size more ≡ []
+          → ModuleAgrees known moment.before left
+          (marks_from n outcome (log_frames (AtFunction func ∷ h.below)) size
+          (all_observed_events n st (told left) ++ more))
+      agree size more size_told none =
+          let a = agrees_all n (all_globals m) (hooked.back n) size outcome (log_frames (AtFunction func ∷ h.below)) known
+          moment.before st left [] more
+          (record {
+            told = here.told;
+            immutable = here.immutable;
+            real = here.real tt;
+            size_told = size_told;
+          })
+          h.of h.are h.core (nothing_read (known_after_all known left) (with_changes moment.before left))
+          (subst (Agrees (known_after_all known left) []) (sym none) (agrees_over (known_after_all known left))) in
+          record {
+            agrees = subst
+                (λ l. Agrees known l
+                (marks_from n outcome (log_frames (AtFunction func ∷ h.below)) size
+                (all_observed_events n st (told left) ++ more)))
+                (append-nil left) a.0;
+            reads = subst (λ l. IsReadOf known (window l) moment.before) (append-nil left) a.1;
+          }
+
+      go : TellsTrap m shape moment operands
+          → Tells m shape outcome (AtFunction func ∷ h.below) known moment.before left st
+          (record moment { entry = Trap func number kind operands found } ∷ [])
+      go (Quiet tellable) =
+          record {
+            found = all_observed_events n st (told left) ++ [];
+            are =
+                trail_logs.logged_then m shape hooked outcome
+                (state (AtFunction func ∷ h.below) [] known.entries) st (told_by_trap moment.instr operands moment)
+                (all_observed_events n st (told left)) (state (AtFunction func ∷ h.below) [] known.entries)
+                (log_after_all st (told left)) [] []
+                (subst
+                (λ l. Logged m shape (state (AtFunction func ∷ h.below) [] known.entries) st
+                (told_by_trap moment.instr operands moment) (all_observed_events n st l)
+                (state (AtFunction func ∷ h.below) [] known.entries) (log_after_all st l))
+                h.observes
+                (logs.tellable_logged m shape hooked (told_by_trap moment.instr operands moment)
+                (state (AtFunction func ∷ h.below) [] known.entries) st refl tellable))
+                (λ at. refl);
+            agrees = λ size size_told. agree size [] size_told (ap outcome_marks over);
+            not_last = λ c callee. absurd c;
+          }
+      go (AtEntry t calls entry) =
+          subst
+          (λ i. Tells_by m shape outcome (AtFunction func ∷ h.below) known moment.before
+          left st (renumbered m (told_by_trap i operands moment ++ [])))
+          (sym calls)
+          (record {
+            found = (all_observed_events n st (told left) ++ events.Pre callee ∷ []) ++ [];
+            are =
+                trail_logs.logged_then m shape hooked outcome
+                (state (AtFunction func ∷ h.below) [] known.entries) st (told_number Ipre index moment.before)
+                (all_observed_events n st (told left) ++ events.Pre callee ∷ [])
+                (orders.after_index m shape hooked func index h.below known.entries moment.before callee)
+                (log_after_all st (told left)) [] []
+                (subst
+                (λ l. Logged m shape (state (AtFunction func ∷ h.below) [] known.entries) st
+                (told_number Ipre index moment.before) (all_observed_events n st l ++ events.Pre callee ∷ [])
+                (orders.after_index m shape hooked func index h.below known.entries moment.before callee)
+                (log_after_all st l))
+                (subst
+                (λ i. seen_by shape n (all_globals m) (told_by_trap i operands moment) ≡ told left) calls h.observes)
+                (logs.ipre_logged m shape hooked func index h.below known.entries moment.before callee st
+                h.of.entries refl entry))
+                (λ at. refl);
+            agrees = λ size size_told.
+                subst
+                (λ l. ModuleAgrees known moment.before left
+                (marks_from n outcome (log_frames (AtFunction func ∷ h.below)) size l))
+                (sym (append-nil (all_observed_events n st (told left) ++ events.Pre callee ∷ [])))
+                (agree size (events.Pre callee ∷ []) size_told
+                (ap
+                (λ o. marks_from n o (log_frames (AtFunction func ∷ h.below)) size (events.Pre callee ∷ [])) over));
+            not_last = λ c callee. absurd c;
+          })
+        where
+          index : ℕ
+          index = bits_at operands (length operands - 1)
+
+          callee : Option ℕ
+          callee = entry_of moment.before.table (bits_at operands (length operands - 1))
+
+  -- ---- the host
+
+  import_called : (import : ℕ) (args : List Val) → FirstTells m shape outcome (ImportCall import args)
+  import_called import args later moment levels known store left st h stands rest =
+      subst (λ l. Tells m shape outcome l known store left st (record moment { entry = ImportCall import args } ∷ later)) (sym h.stands)
+      (record {
+        found = r.found;
+        are = r.are;
+        agrees = λ size size_told.
+            subst
+            (λ l. ModuleAgrees known store l
+            (BeginsMark (Import import)
+            ∷ marks_from n outcome (InCall (Some import) ∷ log_frames h.below) size r.found))
+            (sym h.observed)
+            (record {
+              agrees =
+                  subst
+                  (λ b. AgreesBy b known moment.after h.later
+                  (marks_from n outcome (InCall (Some import) ∷ log_frames h.below) size r.found))
+                  h.imported (r.agrees size size_told) (Import import);
+              reads = nothing_read known store;
+            });
+        not_last = λ c callee. r.not_last tt callee;
+      })
+    where
+      r : Tells m shape outcome (AtCall h.direct import false h.args ∷ h.below) known moment.after h.later st later
+      r = rest (AtCall h.direct import false h.args ∷ h.below) known moment.after h.later st h.follows
+          (record {
+            told = stands.told;
+            immutable = λ at i. stands.immutable at i ∙ sym (h.keeps at i);
+            real = λ w. absurd w;
+          })
+
+  host_trapped : FirstTells m shape outcome HostTrap
+  host_trapped later moment levels known store left st h stands rest =
+      record {
+        found = [];
+        are = trail_logs.nothing_left m shape hooked outcome levels known.entries st later h.last;
+        agrees = λ size size_told.
+            agrees_host n levels known store left (marks_from n outcome (log_frames levels) size []) h.host
+            (λ origin.
+            subst
+            (λ l. Agrees known (Begins origin ∷ l)
+            (BeginsMark origin ∷ marks_from n outcome (log_frames levels) size [])) (sym h.observed)
+            (subst (λ marks. Agrees known (Begins origin ∷ Ends ByTrap ∷ []) (BeginsMark origin ∷ marks))
+            (sym (ap outcome_marks over)) (agrees_activity known origin ByTrap [] [] (agrees_over known))));
+        not_last = λ c callee. ap (λ o. is_trapped_call o (events.Pre callee) []) over;
+      }
+    where
+      over : outcome ≡ HostTrapped
+      over = same_Some outcome HostTrapped h.over
+
+  -- ---- a whole trail
+
+  at_entry : (entry : Entry) → FirstTells m shape outcome entry
+  at_entry (HostCall func args) = trail_logs.host_call m shape hooked outcome func args
+  at_entry (Enter func) = trail_logs.entered m shape hooked outcome func
+  at_entry (HostReturn func results) = trail_logs.host_return m shape hooked outcome func results
+  at_entry (Exit func results) = trail_logs.exited m shape hooked outcome func results
+  at_entry (ImportCall import args) = import_called import args
+  at_entry (ImportReturn import results) = trail_logs.import_return m shape hooked outcome import results
+  at_entry (Step func number operands results found) =
+      trail_steps.stepped m shape hooked outcome func number operands results found
+  at_entry (Trap func number kind operands found) = trapped func number kind operands found
+  at_entry HostTrap = host_trapped
+
+  at_end : (o : Outcome) → outcome ≡ o → (levels : List Level) (known : Known) (store : Store)
+      (left : List Observation) (st : LogState) → IsTrailEnd m shape levels left (Some o)
+      → Tells m shape outcome levels known store left st []
+  at_end Trapped over levels known store left st h = absurd h
+  at_end HostTrapped over levels known store left st h = absurd h
+  at_end Ended over levels known store left st h =
+      subst (λ l. Tells m shape outcome l known store left st []) (sym h.0)
+      (record {
+        found = [];
+        are = λ at. refl;
+        agrees = λ size size_told origin.
+            subst (λ l. Agrees known (Begins origin ∷ l) (BeginsMark origin ∷ outcome_marks outcome)) (sym h.1)
+            (subst (λ o. Agrees known (Begins origin ∷ Ends End ∷ []) (BeginsMark origin ∷ outcome_marks o)) (sym over)
+            (agrees_activity known origin End [] [] (agrees_over known)));
+        not_last = λ c callee. absurd c;
+      })
+
+  pub tells : (moments : List Moment) → Rest m shape outcome moments
+  tells [] levels known store left st h stands = at_end outcome refl levels known store left st h
+  tells (moment ∷ later) levels known store left st h stands =
+      at_entry moment.entry later moment levels known store left st h stands (tells later)

@@ -1,0 +1,333 @@
+-- What an instruction of a well-typed activation observes, and what hooks report of it, as the order of hook calls
+-- needs.
+use Rattle.std.proofs.Common.{◌≡◌, ℕ, ◌+◌, ◌<◌, List, [], ◌∷◌, ◌++◌, length, Option, Some, None, Bool, true, false, slice_get, refl, sym, ap, ◌∙◌, subst, map, reverse}
+use Rattle.std.specs.Prelude.{IfSome, option_and_then}
+use Rattle.std.specs.List.{AllByRecursion}
+use Rattle.std.specs.Option.{option_flatten}
+use Rattle.std.proofs.lemmas.Option.{slice_get_within}
+use Rattle.base.proofs.Options.{and_then_some}
+use Rattle.base.proofs.Lists.{all_at}
+use Rattle.wasm_syntax.specs.declared.values.ValType.{ValType}
+use Rattle.wasm_syntax.specs.declared.values.Val.{Val}
+use Rattle.wasm_syntax.specs.declared.signatures.FuncType.{FuncType}
+use Rattle.wasm_syntax.specs.declared.signatures.GlobalType.{GlobalType}
+use Rattle.wasm_syntax.specs.declared.signatures.Limits.{Limits}
+use Rattle.wasm_syntax.specs.declared.instructions.Instr.{Instr}
+use Rattle.wasm_syntax.specs.declared.instructions.Instr.TheVariants as instrs
+use Rattle.wasm_syntax.specs.declared.modules.Module.{Module}
+use Rattle.wasm_syntax.specs.Encoding.Forms.{IsCoreInstr}
+use Rattle.wasm_syntax.specs.Index.{func_indices, all_globals, all_memories}
+use Rattle.wasm_syntax.specs.Nest.{Nest, Plain}
+use Rattle.wasm_syntax.specs.Opcodes.{load_of, store_of}
+use Rattle.wasm_syntax.specs.Typing.{Moves, if_true, is_number, instr_type, set_of, Leads, IsTyped}
+use Rattle.history_spec.specs.Code.{Code, code_of, signature, Definition, definition, zero_of}
+use Rattle.history_spec.specs.Configuration.{place, Frame}
+use Rattle.history_spec.specs.Instantiation.{table_length}
+use Rattle.history_spec.specs.Instruction.{Execution, Did, Traps, NoRule, execute, execute_at}
+use Rattle.history_spec.specs.Store.{Store, Memory, Table, with_bytes_at, bytes_at, bytes_of}
+use Rattle.history_spec.specs.Step.{frame_of}
+use Rattle.record_replay_spec.specs.Observations as replay
+use Rattle.record_replay_spec.specs.Observations.{Observation, Reaches, ReachesEntry, ReadsEntry, WritesEntry, ResizesTable, bits_from_top, entry_observations, plain_observations, nest_observations}
+use Rattle.record_replay_spec.specs.Known.{Known, entry_of, entries_after, known_after, known_after_all}
+use Rattle.type_safety.specs.Frames.{Scope, context, IsFrame, IsAround, IsCode}
+use Rattle.type_safety.specs.Stores.{func_count, MayBeTable, IsStore}
+use Rattle.type_safety.specs.Values.{count_of, AreValues}
+use Rattle.type_safety.specs.Configurations.{scope}
+use Rattle.type_safety.specs.Heights.{Heights}
+use Rattle.type_safety.proofs.Values.{append_values, zero_values}
+use Rattle.record_replay_spec.specs.Hooks.{on}
+use Rattle.record_replay_spec.specs.Order.{HookedShape, bits_fit}
+use Rattle.record_replay_spec.specs.ToldCalls.{told_before, told_after, store_executed, next_of_nest, WaitingCall, waiting_after_step}
+use Rattle.tape_laws.proofs.CoreFrames.{CoreNest, IsNoCall}
+use Rattle.tape_laws.proofs.Trails.{IsOfCore, AreTellable}
+use Rattle.tape_laws.proofs.Tellable.{IsShapeOf, AreToldWell, IsFine, SetsMutable, plain_well, fits_number, in_range, memory_there}
+use Rattle.tape_laws.proofs.RunCalls.{global_at}
+
+-- ---- the known number of entries
+
+-- an observation is not of the table's size
+abbrev pub IsNotOfTable : Observation → Type 0
+IsNotOfTable (ReachesEntry index found) = ⊥
+IsNotOfTable (ResizesTable found left func) = ⊥
+IsNotOfTable o = Unit {0}
+
+entries_stay : (known : Known) (items : List Observation) → AllByRecursion IsNotOfTable items
+    → (known_after_all known items).entries ≡ known.entries
+entries_stay known [] h = refl
+entries_stay known (o ∷ items) h = entries_stay (known_after known o) items h.1 ∙ one o h.0
+  where
+    one : (o : Observation) → IsNotOfTable o → entries_after known.entries o ≡ known.entries
+    one (ReachesEntry index found) h = absurd h
+    one (ResizesTable found left func) h = absurd h
+    one o h = refl
+
+-- an observation is of the memory or of a global
+abbrev IsOrdinary : Observation → Type 0
+IsOrdinary (ReadsEntry index func) = ⊥
+IsOrdinary (WritesEntry index func) = ⊥
+IsOrdinary (ReachesEntry index found) = ⊥
+IsOrdinary (ResizesTable found left func) = ⊥
+IsOrdinary o = Unit {0}
+
+module _ (P : Observation → Type 0) (ordinary : (o : Observation) → IsOrdinary o → P o) where
+  all_on : {X : Type 0} (o : Option X) (observe : X → List Observation)
+      → ((x : X) → AllByRecursion P (observe x)) → AllByRecursion P (replay.on o observe)
+  all_on None observe each = tt
+  all_on (Some x) observe each = each x
+
+  -- what an instruction other than a call by the table observes
+  all_plain : (store : Store) (values : List Val) (i : Instr) → IsCoreInstr i
+      → ((t : ℕ) → i ≡ instrs.CallIndirect t → AllByRecursion P (plain_observations store values i))
+      → AllByRecursion P (plain_observations store values i)
+  all_plain store values (instrs.Load at) core calls =
+      all_on (load_of at.op) _ (λ access.
+      all_on store.memory _ (λ memory. (
+        ordinary (Reaches _ _) tt,
+        all_on (bytes_at memory.bytes (bits_from_top values 0 + at.offset) access.width) _ (λ bytes.
+            (ordinary (replay.Reads _ bytes) tt, tt)),
+      )))
+  all_plain store values (instrs.Store at) core calls =
+      all_on (store_of at.op) _ (λ access.
+      all_on store.memory _ (λ memory. (
+        ordinary (Reaches _ _) tt,
+        all_on
+            (with_bytes_at memory.bytes (bits_from_top values 1 + at.offset)
+            (bytes_of access.width (bits_from_top values 0))) _ (λ all. (ordinary (replay.Writes _ _) tt, tt)),
+      )))
+  all_plain store values instrs.MemorySize core calls =
+      all_on store.memory _ (λ memory. (ordinary (replay.Resizes _ _) tt, tt))
+  all_plain store values instrs.MemoryGrow core calls =
+      all_on store.memory _ (λ memory. (ordinary (replay.Resizes _ _) tt, tt))
+  all_plain store values instrs.MemoryCopy core calls =
+      all_on store.memory _ (λ memory. (
+        ordinary (Reaches _ _) tt,
+        (
+          ordinary (Reaches _ _) tt,
+          all_on (bytes_at memory.bytes (bits_from_top values 1) (bits_from_top values 0)) _ (λ bytes.
+              all_on (with_bytes_at memory.bytes (bits_from_top values 2) bytes) _ (λ all.
+              (ordinary (replay.Copies _ bytes) tt, (ordinary (replay.Writes _ bytes) tt, tt)))),
+        ),
+      ))
+  all_plain store values instrs.MemoryFill core calls =
+      all_on store.memory _ (λ memory. (
+        ordinary (Reaches _ _) tt,
+        all_on (with_bytes_at memory.bytes (bits_from_top values 2) _) _ (λ all.
+            (ordinary (replay.Writes _ _) tt, tt)),
+      ))
+  all_plain store values (instrs.GlobalGet x) core calls =
+      all_on (slice_get store.globals x) _ (λ value. (ordinary (replay.ReadsGlobal x value) tt, tt))
+  all_plain store values (instrs.GlobalSet x) core calls =
+      all_on (slice_get values 0) _ (λ value. (ordinary (replay.WritesGlobal x value) tt, tt))
+  all_plain store values (instrs.CallIndirect t) core calls = calls t refl
+  all_plain store values (instrs.TableSet t) core calls = absurd core
+  all_plain store values (instrs.TableGrow t) core calls = absurd core
+  all_plain store values (instrs.TableSize t) core calls = absurd core
+  all_plain store values i core calls = tt
+
+not_of_table : (o : Observation) → IsOrdinary o → IsNotOfTable o
+not_of_table (ReachesEntry index found) h = absurd h
+not_of_table (ResizesTable found left func) h = absurd h
+not_of_table o h = tt
+
+of_core : (o : Observation) → IsOrdinary o → IsOfCore o
+of_core (WritesEntry index func) h = absurd h
+of_core (ResizesTable found left func) h = absurd h
+of_core o h = tt
+
+-- an instruction of a module of the form Core does not change the table
+pub nest_of_core : (store : Store) (values : List Val) (nest : Nest) → CoreNest nest
+    → AllByRecursion IsOfCore (nest_observations store values nest)
+nest_of_core store values (Plain i rest) core =
+    all_plain IsOfCore of_core store values i core.0
+    (λ t is. subst (λ j. AllByRecursion IsOfCore (plain_observations store values j)) (sym is) (calls store.table))
+  where
+    calls : (o : Option Table) → AllByRecursion IsOfCore (replay.on o (entry_observations (bits_from_top values 0)))
+    calls None = tt
+    calls (Some table) = go (slice_get table.entries (bits_from_top values 0))
+      where
+        go : (o : Option (Option ℕ))
+            → AllByRecursion IsOfCore
+            (ReachesEntry (bits_from_top values 0) (length table.entries)
+            ∷ replay.on o (λ func. ReadsEntry (bits_from_top values 0) func ∷ []))
+        go None = (tt, tt)
+        go (Some func) = (tt, (tt, tt))
+nest_of_core store values nest core = tt
+
+no_call : (i : Instr) → IsNoCall (Some i) → (t : ℕ) → i ≡ instrs.CallIndirect t → ⊥
+no_call i none t is = subst (λ j. IsNoCall (Some j)) is none
+
+pub nest_stays : (known : Known) (store : Store) (values : List Val) (nest : Nest) → CoreNest nest
+    → IsNoCall (next_of_nest nest) → (known_after_all known (nest_observations store values nest)).entries ≡ known.entries
+nest_stays known store values (Plain i rest) core none =
+    entries_stay known (plain_observations store values i)
+    (all_plain IsNotOfTable not_of_table store values i core.0 (λ t is. absurd (no_call i none t is)))
+nest_stays known store values nest core none = refl
+
+-- a call by the table sees the table's size
+pub call_sees : (known : Known) (store : Store) (values : List Val) (t : ℕ) (rest nest : Nest) (table : Table)
+    → nest ≡ Plain (instrs.CallIndirect t) rest → store.table ≡ Some table
+    → (known_after_all known (nest_observations store values nest)).entries
+    ≡ entries_after known.entries (ReachesEntry (bits_from_top values 0) (table_length store.table))
+call_sees known store values t rest nest table is here =
+    ap (λ n. (known_after_all known (nest_observations store values n)).entries) is
+    ∙ ap (λ (o : Option Table). (known_after_all known (replay.on o (entry_observations index))).entries) here
+    ∙ one (slice_get table.entries index)
+    ∙ sym
+    (ap (λ (o : Option Table). entries_after known.entries (ReachesEntry index (table_length o))) here)
+  where
+    index : ℕ
+    index = bits_from_top values 0
+
+    one : (o : Option (Option ℕ))
+        → (known_after_all known
+        (ReachesEntry index (length table.entries) ∷ replay.on o (λ func. ReadsEntry index func ∷ []))).entries
+        ≡ entries_after known.entries (ReachesEntry index (length table.entries))
+    one None = refl
+    one (Some func) = refl
+
+-- an entry that holds a function holds one of the module
+pub entry_there : (funcs : ℕ) (limits : List Limits) (o : Option Table) (index : ℕ) → MayBeTable funcs limits o
+    → IfSome (entry_of o index) (λ callee. callee < funcs)
+entry_there funcs limits None index h = tt
+entry_there funcs [] (Some table) index h = absurd h
+entry_there funcs (l ∷ limits) (Some table) index h = go (slice_get table.entries index) refl
+  where
+    go : (o : Option (Option ℕ)) → slice_get table.entries index ≡ o
+        → IfSome (option_flatten o) (λ callee. callee < funcs)
+    go None e = tt
+    go (Some None) e = tt
+    go (Some (Some callee)) e =
+        all_at (λ entry. IfSome entry (λ func. func < funcs)) table.entries index (Some callee) h.entries e
+
+-- a function that has a type exists
+pub func_there : (m : Module) (func : ℕ) (ty : FuncType) → signature (code_of m) func ≡ Some ty → func < func_count m
+func_there m func ty h =
+    let p = and_then_some (slice_get (func_indices m) func) (λ t. slice_get m.types t) ty h in
+    slice_get_within (func_indices m) func p.0 p.1
+
+-- ---- what hooks report
+
+pub no_call_waits : (i : Option Instr) (operands : List Val) → IsNoCall i → (waiting : List WaitingCall)
+    → waiting_after_step i operands waiting ≡ waiting
+no_call_waits None operands none waiting = refl
+no_call_waits (Some (instrs.Call func)) operands none waiting = absurd none
+no_call_waits (Some (instrs.CallIndirect t)) operands none waiting = absurd none
+no_call_waits (Some i) operands none waiting = refl
+
+module _ (m : Module) (shape : HookedShape) (is : IsShapeOf m shape)
+    (number : (x : ℕ) (g : GlobalType) → slice_get (all_globals m) x ≡ Some g → is_number g.ty ≡ true) where
+  -- a global that a well-typed instruction sets is mutable
+  sets_mutable : (store : Store) (values : List Val) (s : Scope) → s.m ≡ m → (labels : List (List ValType))
+      (i : Instr) (before middle : List ValType)
+      → Leads (context s labels) (instr_type (context s labels) i) before middle
+      → SetsMutable m shape is store values i
+  sets_mutable store values s same labels (instrs.GlobalSet x) before middle leads =
+      go (slice_get (all_globals m) x) refl
+      (subst (λ own. Leads (context s labels) (option_and_then set_of (slice_get (all_globals own) x)) before middle)
+      same leads)
+    where
+      go : (o : Option GlobalType) → slice_get (all_globals m) x ≡ o
+          → Leads (context s labels) (option_and_then set_of o) before middle
+          → (g : GlobalType) × (slice_get (all_globals m) x ≡ Some g) × (g.mutable ≡ true)
+      go None e h = absurd h
+      go (Some g) e h = (g, e, by g.mutable refl h)
+        where
+          by : (b : Bool) → g.mutable ≡ b
+              → Leads (context s labels) (if_true b (Moves (g.ty ∷ []) [])) before middle → g.mutable ≡ true
+          by true e h = e
+          by false e h = absurd h
+  sets_mutable store values s same labels i before middle leads = tt
+
+  -- the hook calls of the next instruction of a body can be made in order
+  abbrev pub AreNestToldWell : Store → Nest → Execution → Type 0
+  AreNestToldWell store nest (Did operands results found control) =
+      AreTellable m shape
+      (on (next_of_nest nest) (λ i.
+      told_before i operands store
+      ++ told_after (all_globals m) i results (store_executed store (Did operands results found control))))
+  AreNestToldWell store nest (Traps kind operands found) =
+      AreTellable m shape (on (next_of_nest nest) (λ i. told_before i operands store))
+  AreNestToldWell store nest NoRule = Unit {0}
+
+  silent_nest : (store : Store) (nest : Nest) → next_of_nest nest ≡ None → (e : Execution)
+      → AreNestToldWell store nest e
+  silent_nest store nest none (Did operands results found control) =
+      subst
+      (λ (o : Option Instr). AreTellable m shape
+      (on o (λ i.
+      told_before i operands store
+      ++ told_after (all_globals m) i results (store_executed store (Did operands results found control)))))
+      (sym none) tt
+  silent_nest store nest none (Traps kind operands found) =
+      subst (λ (o : Option Instr). AreTellable m shape (on o (λ i. told_before i operands store))) (sym none) tt
+  silent_nest store nest none NoRule = tt
+
+  plain_nest : (store : Store) (values : List Val) (i : Instr) (rest : Nest) (e : Execution)
+      → AreToldWell m shape is store values i e → AreNestToldWell store (Plain i rest) e
+  plain_nest store values i rest (Did operands results found control) h = h
+  plain_nest store values i rest (Traps kind operands found) h = h
+  plain_nest store values i rest NoRule h = tt
+
+  pub nest_well : (s : Scope) → s.m ≡ m → (code : Code) (store : Store) (frame : Frame) → IsStore m store
+      → IsFrame s [] frame → CoreNest frame.at.rest → IsNoCall (next_of_nest frame.at.rest)
+      → AreNestToldWell store frame.at.rest (execute code store frame)
+  nest_well s same code store frame fine f core none =
+      go frame.at.rest frame.at.number core none f.types f.given f.code.typed
+    where
+      memory_here : (memory : Memory) → store.memory ≡ Some memory → shape.memory ≡ true
+      memory_here memory here =
+          is.memory ∙ memory_there (all_memories m) store.memory memory fine.memory here
+
+      global_fine : (x : ℕ) (value : Val) → slice_get store.globals x ≡ Some value
+          → IsFine m shape is store frame.values x value
+      global_fine x value here =
+          let g = global_at (func_count m) (all_globals m) store.globals x value fine.globals here in
+          record {
+            ty = g.ty;
+            declared = g.declared;
+            typed = g.typed;
+            fits =
+                fits_number (func_count m) g.ty.ty value.bits (number x g.ty g.declared)
+                (subst (λ ty. value.bits < count_of (func_count m) ty) (sym g.typed)
+                (in_range (func_count m) _ store.globals x value fine.globals here));
+          }
+
+      top : (value : Val) → slice_get frame.values 0 ≡ Some value → is_number value.ty ≡ true
+          → bits_fit value.ty value.bits ≡ true
+      top value here n =
+          fits_number (func_count m) value.ty value.bits n
+          (in_range (func_count m) f.types frame.values 0 value
+          (subst (λ own. AreValues (func_count own) f.types frame.values) same f.values) here)
+
+      go : (nest : Nest) (n : ℕ) → CoreNest nest → IsNoCall (next_of_nest nest) → (before after : List ValType)
+          → IsTyped (context s f.labels) nest before after
+          → AreNestToldWell store nest (execute_at code store frame nest n)
+      go (Plain i rest) n c none before after typed =
+          plain_nest store frame.values i rest (execute_at code store frame (Plain i rest) n)
+          (plain_well m shape is store frame.values code frame (place rest (n + 1)) memory_here global_fine top number
+          i c.0 none (sets_mutable store frame.values s same f.labels i before typed.0 typed.1)).tells
+      go nest n c none before after typed =
+          silent_nest store nest refl (execute_at code store frame nest n)
+
+-- ---- a function that is entered
+
+-- the activation of a function that is entered is well typed
+pub entered_frame : (m : Module) (heights : Heights) (func : ℕ) (ty : FuncType) (body : Definition) (args : List Val)
+    → signature (code_of m) func ≡ Some ty → definition (code_of m) func ≡ Some body
+    → AreValues (func_count m) ty.params args
+    → IsCode (scope m heights func ty body) [] (place body.body 0) 0 [] (reverse ty.results)
+    → IsFrame (scope m heights func ty body) [] (frame_of func ty body args)
+entered_frame m heights func ty body args has_type defined are code =
+    record { labels = []; given = reverse ty.results; types = []; around = around; values = tt; code = code }
+  where
+    around : IsAround (scope m heights func ty body) [] (reverse ty.results) (frame_of func ty body args)
+    around =
+        record {
+          scope = record { has_type = has_type; defined = defined };
+          func = refl;
+          arity = refl;
+          locals =
+              append_values (func_count m) ty.params body.locals args (map zero_of body.locals) are
+              (zero_values (func_count m) body.locals);
+          blocks = refl;
+        }

@@ -1,0 +1,7 @@
+//! Runs by subject.
+
+mod edge_modules;
+mod edges;
+mod histories;
+mod history_refusals;
+mod runs;

@@ -1,0 +1,191 @@
+// Logs of runs of instrumented modules, worked out by hand, and the lines of error of runs that have none.
+
+use r3_inputs::MOST_INSTRUMENTED_BYTES;
+use r3_make::log_run;
+use r3_outside::SureSink;
+use sample_inputs::examples;
+use sample_inputs::hooked::TWO_ANSWERS;
+use sample_inputs::scripts::ANSWERS;
+use std::alloc::Global;
+use std::test::Fail;
+
+/// What a row tests; the bytes of a module in hexadecimal, a script for it, a number of turns; and the bytes of
+/// the log file in hexadecimal, or the line of error.
+type Row = (
+    &'static str,
+    &'static str,
+    &'static str,
+    u64,
+    Result<&'static str, &'static str>,
+);
+
+/// `hooked::TWO_ANSWERS`, except that the exit of the function is reported as an entry.
+const ENTERED_AGAIN: &str =
+    "0061736d01000000011e066000017f60027f7e0060017f0060000060037f7f7f0060047f7f7f7e00029f011001680166\
+     000002723303617267000102723305656e7465720002027233056c65617665000202723303707265000202723304706f\
+     73740002027233046970726500020272330569706f73740003027233046c6f616400040272330573746f726500050272\
+     330473697a6500030272330467726f770002027233046767657400010272330467736574000102723304636f70790004\
+     0272330466696c6c000403020100070501016700100a44014204027f017e017d017c41011002027f4100100410002101\
+     41ff002001ad1001410010052001410010041000210141ff002001ad10014100100520016a0b410110020b002c097233\
+     2e686f6f6b656407070707070707070707070707070707070707070707070707070707070707070101";
+
+/// `hooked::TWO_ANSWERS`, except that the first answer is passed with a byte that encodes no type.
+const NO_TYPE: &str =
+    "0061736d01000000011e066000017f60027f7e0060017f0060000060037f7f7f0060047f7f7f7e00029f011001680166\
+     000002723303617267000102723305656e7465720002027233056c65617665000202723303707265000202723304706f\
+     73740002027233046970726500020272330569706f73740003027233046c6f616400040272330573746f726500050272\
+     330473697a6500030272330467726f770002027233046767657400010272330467736574000102723304636f70790004\
+     0272330466696c6c000403020100070501016700100a44014204027f017e017d017c41011002027f4100100410002101\
+     41ef002001ad1001410010052001410010041000210141ff002001ad10014100100520016a0b410110030b002c097233\
+     2e686f6f6b656407070707070707070707070707070707070707070707070707070707070707070101";
+
+/// A function that stores two bytes and loads four, two of them written by the host, instrumented.
+const OVERWRITE: &str =
+    "0061736d01000000011e066000006000017f60027f7e0060017f0060037f7f7f0060047f7f7f7e00029f011001680166\
+     000002723303617267000202723305656e7465720003027233056c65617665000302723303707265000302723304706f\
+     73740003027233046970726500030272330569706f73740000027233046c6f616400040272330573746f726500050272\
+     330473697a6500000272330467726f770003027233046767657400020272330467736574000202723304636f70790004\
+     0272330466696c6c000403020101050301000107090201670010016d02000a48014604027f017e017d017c4101100202\
+     7f410010041000410010054108410121012200410041022001ad1009200020013b010041082200410041041008200028\
+     02000b410110030b002c0972332e686f6f6b656407070707070707070707070707070707070707070707070707070707\
+     070707070101";
+
+/// `OVERWRITE`, except that the hook call reports a load of two bytes.
+const TWO_BYTES_TOLD: &str =
+    "0061736d01000000011e066000006000017f60027f7e0060017f0060037f7f7f0060047f7f7f7e00029f011001680166\
+     000002723303617267000202723305656e7465720003027233056c65617665000302723303707265000302723304706f\
+     73740003027233046970726500030272330569706f73740000027233046c6f616400040272330573746f726500050272\
+     330473697a6500000272330467726f770003027233046767657400020272330467736574000202723304636f70790004\
+     0272330466696c6c000403020101050301000107090201670010016d02000a48014604027f017e017d017c4101100202\
+     7f410010041000410010054108410121012200410041022001ad1009200020013b010041082200410041021008200028\
+     02000b410110030b002c0972332e686f6f6b656407070707070707070707070707070707070707070707070707070707\
+     070707070101";
+
+/// The host writes four bytes.
+const WRITES: &str =
+    r#"{"imports":{"h":{"f":{"calls":[{"do":[{"write":8,"bytes":"aabbccdd"}]}]}}},"main":[{"call":"g"}]}"#;
+
+const ROWS: &[Row] = &[
+    (
+        "two answers",
+        TWO_ANSWERS,
+        ANSWERS,
+        29,
+        Ok(
+            "72336c670207070707070707070707070707070707070707070707070707070707070707070101010003010004017f05\
+             00000003010004017f07000000020110",
+        ),
+    ),
+    (
+        "two answers with a turn too few",
+        TWO_ANSWERS,
+        ANSWERS,
+        28,
+        Err("turns spent: 28\n"),
+    ),
+    (
+        "bytes that the host wrote",
+        OVERWRITE,
+        WRITES,
+        1000,
+        Ok(
+            "72336c67020707070707070707070707070707070707070707070707070707070707070707010101000301000400070a\
+             02ccdd020110",
+        ),
+    ),
+    (
+        "bytes that are not told",
+        TWO_BYTES_TOLD,
+        WRITES,
+        1000,
+        Ok(
+            "72336c670207070707070707070707070707070707070707070707070707070707070707070101010003010004000201\
+             10",
+        ),
+    ),
+    (
+        "a function is entered within itself",
+        ENTERED_AGAIN,
+        ANSWERS,
+        29,
+        Err("hook order: call 7\n"),
+    ),
+    (
+        "a value of no type",
+        NO_TYPE,
+        ANSWERS,
+        29,
+        Err("hook order: call 2\n"),
+    ),
+    (
+        "a module that is not instrumented",
+        examples::TWO_ANSWERS,
+        ANSWERS,
+        29,
+        Err("not hooked\n"),
+    ),
+    (
+        "not instrumented, before the script is read",
+        examples::TWO_ANSWERS,
+        "{",
+        29,
+        Err("not hooked\n"),
+    ),
+    (
+        "a script that is no text",
+        TWO_ANSWERS,
+        "{",
+        29,
+        Err("script: not json\n"),
+    ),
+    (
+        "no answer is left",
+        TWO_ANSWERS,
+        r#"{"imports":{"h":{"f":{"calls":[{"return":{"i32":5}}]}}},"main":[{"call":"g"}]}"#,
+        29,
+        Err("script fault: turn 18 no response\n"),
+    ),
+    (
+        "no module",
+        "0061736d",
+        ANSWERS,
+        29,
+        Err("malformed: at 0\n"),
+    ),
+];
+
+/// The result of a call: the bytes in hexadecimal, or the line of error.
+fn answer_to(
+    alloc: Global,
+    module: &str,
+    script: &str,
+    turns: u64,
+) -> Result<Result<String, Vec<u8>>, Fail> {
+    let bytes = hex::decode(alloc, module)?;
+    if bytes.len() as u64 > MOST_INSTRUMENTED_BYTES {
+        return Err(Fail::from("too many bytes"));
+    }
+    let fault = match log_run(alloc, bytes.as_slice(), script.as_bytes(), turns) {
+        Ok(file) => return Ok(Ok(hex::encode(alloc, file.as_slice())?)),
+        Err(fault) => fault,
+    };
+    let mut sink = SureSink::new(alloc);
+    fault.put_line(&mut sink)?;
+    match sink.bytes() {
+        Some(line) => Ok(Err(Vec::from_slice(alloc, line)?)),
+        None => Err(Fail::from("out of memory")),
+    }
+}
+
+#[test]
+fn runs_of_instrumented_modules_have_these_logs(rt: HostRuntime) -> Result<(), Fail> {
+    let alloc = rt.alloc();
+    for &(name, module, script, turns, want) in ROWS {
+        match (answer_to(alloc, module, script, turns)?, want) {
+            (Ok(file), Ok(want)) => assert_eq!(rt; file.as_str(), want, "{name}"),
+            (Err(line), Err(want)) => assert_eq!(rt; line.as_slice(), want.as_bytes(), "{name}"),
+            _ => return Err(Fail::new(format_args!("{name}"))),
+        }
+    }
+    Ok(())
+}

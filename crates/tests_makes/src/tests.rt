@@ -1,0 +1,4 @@
+//! What `make` prints.
+
+mod makes;
+mod replays;

@@ -1,0 +1,5 @@
+//! Calls by the command.
+
+mod load_calls;
+mod replay_calls;
+mod shows;

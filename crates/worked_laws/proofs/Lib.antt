@@ -1,0 +1,7 @@
+pub mod Left
+pub mod Fit
+pub mod Runs
+pub mod EachRun
+pub mod Dropped
+pub mod Replayed
+mod Shown

@@ -1,6 +1,0 @@
-pub mod Left
-pub mod Fit
-pub mod Runs
-pub mod EachRun
-pub mod Dropped
-pub mod Replayed

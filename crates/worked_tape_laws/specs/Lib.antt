@@ -1,3 +1,0 @@
-pub mod Dropped
-pub mod Runs
-pub mod Replayed

@@ -1,0 +1,121 @@
+/** The script of a run while it is captured, and its text. Actions and responses are kept as text. */
+import { refuse } from './refusal.mjs';
+
+/** The answer to one call of an import. It is a trap of the host until it is given: a run may end within the call. */
+class Response {
+  constructor() {
+    this.actions = [];
+    this.end = '"trap":true';
+  }
+
+  /** The call returns with this value, which is null where the function has no result. */
+  return_(value) {
+    this.end = value === null ? '' : `"return":${value}`;
+  }
+
+  text() {
+    const actions = this.actions.length === 0 ? '' : `"do":[${this.actions.join(',')}]`;
+    return `{${[actions, this.end].filter(part => part !== '').join(',')}}`;
+  }
+}
+
+export class Script {
+  constructor(types) {
+    this.imports = types.imports.filter(item => item.kind === 'function');
+    this.types = types;
+    this.responses = this.imports.map(() => []);
+    this.supplied = new Map();
+    this.globals = new Map();
+    this.main = [];
+  }
+
+  /** Begins the answer to the next call of an imported function. */
+  response(index) {
+    const response = new Response();
+    this.responses[index].push(response);
+    return response;
+  }
+
+  /** How many calls of imports are answered so far. */
+  calls() {
+    return this.responses.reduce((sum, responses) => sum + responses.length, 0);
+  }
+
+  /** Supplies `memory` or `table`. */
+  supply(key, text) {
+    this.supplied.set(key, text);
+  }
+
+  /** Supplies a global, and gives what is supplied by these names: an earlier import of equal names has set it. */
+  supplyGlobal(module, name, text) {
+    if (!this.globals.has(module)) this.globals.set(module, new Map());
+    const names = this.globals.get(module);
+    if (!names.has(name)) names.set(name, text);
+    return names.get(name);
+  }
+
+  /** The imported functions that are called, by module name and name: those of equal names share their answers. */
+  called() {
+    const modules = new Map();
+    this.imports.forEach(({ module, name }, index) => {
+      if (this.responses[index].length === 0) return;
+      if (!modules.has(module)) modules.set(module, new Map());
+      const names = modules.get(module);
+      if (!names.has(name)) names.set(name, this.shared(module, name));
+    });
+    return modules;
+  }
+
+  /** The texts of the answers under two names. Each import of these names takes answer k for its own call k. */
+  shared(module, name) {
+    const named = item => item.module === module && item.name === name;
+    const indices = this.imports.flatMap((item, index) => (named(item) ? [index] : []));
+    const [longest] = indices.map(index => this.responses[index]).sort((one, other) => other.length - one.length);
+    const texts = longest.map(response => response.text());
+    const results = new Set(indices.map(index => this.types.functions[index].result));
+    const where = `functions ${indices.join(' and ')} are both imported as ${module}.${name}`;
+    if (results.size > 1 && longest.some(response => response.end !== '"trap":true')) {
+      refuse(`${where}, and have results of different types`);
+    }
+    for (const index of indices) {
+      const differs = this.responses[index].findIndex((response, call) => response.text() !== texts[call]);
+      if (differs !== -1) refuse(`${where}, and their calls ${differs} are answered in different ways`);
+    }
+    return texts;
+  }
+
+  /** The text of the script, in pieces: one action or answer a line. */
+  *pieces() {
+    const parts = [...this.supplied].map(([key, text]) => [`"${key}":${text}`]);
+    if (this.globals.size > 0) parts.push(objectPieces('globals', this.globals, text => [text]));
+    const called = this.called();
+    if (called.size > 0) parts.push(objectPieces('imports', called, texts => ['{"calls":', ...listPieces(texts), '}']));
+    parts.push(['"main":', ...listPieces(this.main)]);
+    yield '{';
+    for (const [index, part] of parts.entries()) {
+      if (index > 0) yield ',\n';
+      yield* part;
+    }
+    yield '}\n';
+  }
+}
+
+function* listPieces(texts) {
+  yield '[';
+  for (const [index, text] of texts.entries()) yield `${index > 0 ? ',' : ''}\n${text}`;
+  yield ']';
+}
+
+/** An object of module names, each an object of names. */
+function* objectPieces(key, modules, pieces) {
+  yield `"${key}":{`;
+  for (const [place, [module, names]] of [...modules].entries()) {
+    yield `${place > 0 ? ',\n' : ''}${JSON.stringify(module)}:{`;
+    for (const [index, [name, value]] of [...names].entries()) {
+      yield `${index > 0 ? ',\n' : ''}${JSON.stringify(name)}:`;
+      yield* pieces(value);
+    }
+    yield '}';
+  }
+  yield '}';
+}

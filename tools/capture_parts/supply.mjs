@@ -1,0 +1,108 @@
+/** What the host gives for the imports: as a script supplies it, and as the engine gets it. */
+import { givenBits } from './global_changes.mjs';
+import { engine } from './javascript_interface.mjs';
+import { MemoryChanges, PAGE } from './memory_changes.mjs';
+import { refuse } from './refusal.mjs';
+import { TableChanges } from './table_changes.mjs';
+import { valueText } from './values.mjs';
+
+const where = ({ index, module, name }) => `import ${index} (${module}.${name})`;
+
+/** `,"max":N`, or nothing where the object has no maximum. */
+function maximumText(item, object, interface_) {
+  const maximum = interface_.maxima.get(object);
+  if (maximum === undefined) {
+    refuse(`${where(item)}: its maximum is not known, since new WebAssembly has not made it under the capture`);
+  }
+  return maximum === null ? '' : `,"max":${maximum}`;
+}
+
+/** Takes what the host gives, and is asked for what the engine is to get for each import. */
+export class Supply {
+  constructor(types, script, changes, crossings, functions, interface_) {
+    Object.assign(this, { types, script, changes, crossings, functions, interface_ });
+    this.filled = [];
+    this.functionCount = 0;
+    this.globalCount = 0;
+    this.mutableGlobals = new Map();
+  }
+
+  /**
+   * The imports for the engine. It asks for each one once, in order, so that those of equal names are kept apart by how
+   * often they have been asked for.
+   */
+  imports(given) {
+    const waiting = new Map();
+    const modules = Object.create(null);
+    for (const item of this.types.imports) {
+      const { module, name } = item;
+      const key = JSON.stringify([module, name]);
+      const value = this.taken(item, given?.[module]?.[name]);
+      waiting.set(key, [...waiting.get(key) ?? [], value]);
+      modules[module] ??= Object.create(null);
+      Object.defineProperty(modules[module], name, { get: () => waiting.get(key).shift(), configurable: true });
+    }
+    return modules;
+  }
+
+  taken(item, value) {
+    if (value === undefined) refuse(`${where(item)}: the host gives nothing for it`);
+    return this[item.kind](item, value);
+  }
+
+  function(item, value) {
+    if (typeof value !== 'function') refuse(`${where(item)}: the host gives no function for it`);
+    return this.crossings.importedFunction(this.functionCount++, value);
+  }
+
+  memory(item, memory) {
+    if (!(memory instanceof WebAssembly.Memory)) refuse(`${where(item)}: the host gives no memory for it`);
+    const pages = memory.buffer.byteLength / PAGE;
+    this.script.supply('memory', `{"pages":${pages}${maximumText(item, memory, this.interface_)}}`);
+    this.changes.memory = new MemoryChanges(memory);
+    this.filled = this.changes.memory.filledRuns();
+    if (this.filled.length > 0 && this.types.startIsDefined) {
+      refuse(`${where(item)}: not zero at ${this.filled[0][0]}, before the start function runs`);
+    }
+    return memory;
+  }
+
+  table(item, table) {
+    if (!(table instanceof WebAssembly.Table)) refuse(`${where(item)}: the host gives no table for it`);
+    this.script.supply('table', `{"size":${table.length}${maximumText(item, table, this.interface_)}}`);
+    const before = new Set(Array.from({ length: table.length }, (_, index) => engine.entry(table, index)));
+    this.changes.table = new TableChanges(table, this.functions, this.interface_, before);
+    return table;
+  }
+
+  global(item, value) {
+    const index = this.globalCount++;
+    const isGlobal = value instanceof WebAssembly.Global;
+    if (!isGlobal && (item.mutable || !['number', 'bigint'].includes(typeof value))) {
+      refuse(`${where(item)}: the host gives no global for it`);
+    }
+    if (item.mutable) this.mutableGlobal(item, index, value);
+    const bits = this.bits(item, value);
+    const text = valueText(item.type, bits);
+    const earlier = this.script.supplyGlobal(item.module, item.name, text);
+    if (earlier !== text) refuse(`${where(item)}: another value than an import of the same names has, ${earlier}`);
+    return value;
+  }
+
+  bits(item, value) {
+    try {
+      return givenBits(value, item);
+    } catch (error) {
+      return refuse(`${where(item)}: the host gives another global: ${error.message}`);
+    }
+  }
+
+  mutableGlobal(item, index, value) {
+    if (this.mutableGlobals.has(value)) {
+      refuse(`${where(item)}: the same mutable global as import ${this.mutableGlobals.get(value)}`);
+    }
+    this.mutableGlobals.set(value, item.index);
+    const target = `{"import":[${JSON.stringify(item.module)},${JSON.stringify(item.name)}]}`;
+    this.changes.globals.watch(index, value, item, target);
+  }
+}

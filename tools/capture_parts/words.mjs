@@ -1,0 +1,50 @@
+/** The words of the command `capture`. */
+export const usage = `usage: tools/capture [--relative] MODULE HOST [WORDS..] > script.json
+       tools/capture [--relative] --wasi [--dir FOLDER[::NAME]] [--env NAME=VALUE] MODULE [WORDS..] > script.json
+
+Runs the module once with a real host, and prints the script that does what the host did.
+
+HOST        a file of JavaScript that exports host(context), which gives { imports, main(exports) };
+            context has the module, its file, the words, and the instance once it is there
+--wasi      the host is that of WASI, preview 1: the words, this process's standard input, the current folder;
+            what the program prints goes to standard error
+--dir       one more folder that the program may open, by NAME or by its own path
+--env       a variable of the program's environment
+--relative  gives addresses from arguments of the import call where one is near, and not as numbers alone
+`;
+
+/** Thrown where the words are none of the command's. */
+export class WordsFault extends Error {}
+
+const FLAGS = { '--relative': 'relative', '--wasi': 'wasi', '--help': 'help' };
+
+/** Reads `--dir FOLDER[::NAME]` or `--env NAME=VALUE` into a list of pairs. */
+function pair(word, separator) {
+  const [name, ...rest] = (word ?? '').split(separator);
+  if (name === '') throw new WordsFault();
+  return [name, rest.length > 0 ? rest.join(separator) : null];
+}
+
+export function readWords(given) {
+  const words = { relative: false, wasi: false, help: false, folders: [['.', '.']], environment: {} };
+  const left = [...given];
+  while (left[0]?.startsWith('--')) {
+    const word = left.shift();
+    if (word in FLAGS) {
+      words[FLAGS[word]] = true;
+    } else if (word === '--dir') {
+      const [folder, name] = pair(left.shift(), '::');
+      words.folders.push([name ?? folder, folder]);
+    } else if (word === '--env') {
+      const [name, value] = pair(left.shift(), '=');
+      words.environment[name] = value ?? '';
+    } else {
+      throw new WordsFault();
+    }
+  }
+  words.module = left.shift();
+  words.host = words.wasi ? null : left.shift();
+  words.words = left;
+  if (!words.help && (words.module === undefined || words.host === undefined)) throw new WordsFault();
+  return words;
+}

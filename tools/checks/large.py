@@ -1,0 +1,73 @@
+"""Larger inputs: a load, a large module, a deep recursion. Each call has the time limit of all calls."""
+import json
+
+import modules
+from modules import FUNC, I32, example, s32
+
+NULLARY = ([], [])
+ADDITIONS = 100000
+DEPTH = 20000
+LOAD = 1000
+
+
+def load_lines(number):
+    """What `load` prints, by the number of calls: each call takes 17 turns, and each sixteenth one five more."""
+    ticks = number // 16
+    zeros = sum(call % 256 == 219 for call in range(number))
+    segments = number + 2 + ticks
+    sums = (17 * number + 2 + 5 * ticks, 18 * number + 3 + 6 * ticks, segments, segments + 2 * number + 1 - zeros)
+    return "turns %d\nentries %d\nsegments %d\nweight %d\n" % sums
+
+
+def same_both_ways(group, name, binary, script, turns):
+    """Checks that a run is replayed: the lines of the replay module are those of the history, which is returned."""
+    files = [group.put(name + ".wasm", binary), group.put(name + ".json", script)]
+    history = group.done("history", *files, turns)
+    replay = group.put(name + ".replay.wasm", group.done("make", *files, turns))
+    group.expect(group.done("replay", replay, turns) == history, f"{name}: `replay` prints the lines of `history`")
+    return history.decode()
+
+
+def check_large_module(group):
+    """One function that calls an import and adds 1 to what it gives, again and again."""
+    body = b"\x10\0" + b"\x41\1\x6a" * ADDITIONS
+    binary = modules.module([([], [I32])], [("h", "f", b"\0\0")], [0], exports=[("g", FUNC, 1)], bodies=[body])
+    history = same_both_ways(group, "large", binary, example("two_answers.json"), "400000")
+    last = f"host-return 1 i32:{5 + ADDITIONS:08x}\nended\n"
+    group.expect(len(binary) > 300000 and history.endswith(last), "a module of 300 kilobytes adds up")
+    files = [group.path("large.wasm"), group.path("large.json")]
+    turns = 2 * ADDITIONS + 1
+    group.refused(["make", *files, str(turns)], 12, f"turns spent: {turns}")
+
+
+def check_recursion(group):
+    """A function that calls itself, to a depth, and an import at the bottom."""
+    body = b"\x20\0\x45\x04\x40\x10\0\x05\x20\0\x41\1\x6b\x10\1\x0b"
+    binary = modules.module([NULLARY, ([I32], [])], [("h", "f", b"\0\0")], [1], exports=[("g", FUNC, 1)], bodies=[body])
+    call = {"call": "g", "args": [{"i32": DEPTH}]}
+    script = {"imports": {"h": {"f": {"rest": {}}}}, "main": [call]}
+    history = same_both_ways(group, "deep", binary, json.dumps(script).encode(), "1000000")
+    group.expect(history.count("\nenter 1\n") == DEPTH, "each call of the recursion is entered")
+    group.expect(history.count("\nimport-call 0\n") == 1 and history.endswith("\nended\n"), "the recursion ends")
+
+
+def check_large_answer(group):
+    """A host that writes 20 kilobytes, which the module adds up byte by byte."""
+    data = bytes(7 * place % 251 for place in range(20000))
+    loop = b"\x03\x40\x20\0\x20\1\x2d\0\0\x6a\x21\0\x20\1\x41\1\x6a\x22\1\x41" + s32(len(data)) + b"\x49\x0d\0\x0b"
+    binary = modules.module(
+        [([], [I32]), NULLARY], [("h", "f", b"\0\1")], [0], memories=[modules.limits(1)],
+        exports=[("g", FUNC, 1), ("m", modules.MEMORY, 0)], bodies=[(b"\x10\0" + loop + b"\x20\0", 2)],
+    )
+    write = {"write": 0, "bytes": data.hex()}
+    script = {"imports": {"h": {"f": {"calls": [{"do": [write]}]}}}, "main": [{"call": "g"}]}
+    history = same_both_ways(group, "written", binary, json.dumps(script).encode(), "1000000")
+    group.expect(f"host-return 1 i32:{sum(data):08x}" in history, "the bytes that the host writes are added up")
+
+
+def checks(group):
+    answer = group.done("load", str(LOAD))
+    group.expect(answer.decode() == load_lines(LOAD), f"`load {LOAD}` prints its four sizes")
+    check_large_module(group)
+    check_recursion(group)
+    check_large_answer(group)
