@@ -16,7 +16,7 @@ const calls = (more = {}) => moduleBytes({
   ...more,
 });
 
-/** The same with an exported table whose entry 0 is a function that is not exported. */
+/** Such a module with an exported table whose entry 0 is a function that is not exported. */
 const withTable = () => moduleBytes({
   types: [EMPTY],
   imports: [{ module: 'h', name: 'f', kind: 'function', type: 0 }],
