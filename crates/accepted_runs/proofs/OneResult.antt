@@ -6,8 +6,8 @@ use Rattle.host_script.specs.declared.scripts.Supply.{Supply}
 use Rattle.host_script.specs.declared.scripts.LinkFault.{LinkFault}
 use Rattle.host_script.specs.Supply.{supply_of}
 use Rattle.base.specs.declared.outcomes.Outcome.{Outcome}
-use Rattle.history_spec.specs.declared.entries.FaultKind.{FaultKind}
-use Rattle.history_spec.specs.Step.{StepResult, Progress, Finished, Faulted}
+use Rattle.base.proofs.Results.{same_ok}
+use Rattle.history_spec.specs.Step.{StepResult}
 use Rattle.history_spec.specs.Instantiation.{instantiate}
 use Rattle.history_spec.specs.Run.{Run, all_one, program_of, run_start, run_from, start_in_store, start_or_fault, start_with_supply}
 use Rattle.history_spec.specs.Store.{Store}
@@ -15,32 +15,15 @@ use Rattle.history_spec.specs.Budget as budget
 use Rattle.history_spec.specs.Budget.{HasOneResultAtMost, IsResult}
 use Rattle.r3_faults.specs.declared.faults.Fault.{Fault}
 use Rattle.r3_faults.specs.declared.faults.Fault.TheVariants.{Script as ScriptFault}
+use Rattle.type_safety.proofs.OneResult.{same_run, over_spent, same_outcome, same_kind, ended_faulted}
 use Rattle.accepted_runs.specs.Linked.{IsLinked}
 use Rattle.accepted_runs.specs.Unlinked.{IsUnlinkedFor, link_fault}
 use Rattle.accepted_runs.specs.Runs.{HasOutcome, HasNoOutcome, IsFaultyFor, IsSpentFor, OfScript, OfTurns}
 
 -- ---- values that differ, and that are the same
 
-pub same-run : (a b : Run) → budget.Over a ≡ budget.Over b → a ≡ b
-same-run a b e = cc e
-
-pub over-spent : (a : Run) → budget.Over a ≡ budget.Spent → ⊥
-over-spent a e = cc e
-
-pub same-outcome : (at : Progress) (a b : Outcome) → at ≡ Finished a → at ≡ Finished b → a ≡ b
-same-outcome at a b e f = cc (sym e ∙ f)
-
-same-kind : (at : Progress) (a b : FaultKind) → at ≡ Faulted a → at ≡ Faulted b → a ≡ b
-same-kind at a b e f = cc (sym e ∙ f)
-
-ended-faulted : (at : Progress) (a : Outcome) (b : FaultKind) → at ≡ Finished a → at ≡ Faulted b → ⊥
-ended-faulted at a b e f = absurd (cc (sym e ∙ f))
-
 same-supply : (r : Result Supply LinkFault) (a b : Supply) → r ≡ Ok a → r ≡ Ok b → a ≡ b
 same-supply r a b e f = cc (sym e ∙ f)
-
-same-store : (r : Result Store LinkFault) (a b : Store) → r ≡ Ok a → r ≡ Ok b → a ≡ b
-same-store r a b e f = cc (sym e ∙ f)
 
 module _ (m : Module) (script : Script) where
   -- ---- the start of the run
@@ -78,7 +61,7 @@ module _ (m : Module) (script : Script) where
 
   pub one-store : (a b : Supply) (s t : Store) → IsLinked m script a s → IsLinked m script b t → s ≡ t
   one-store a b s t x y =
-      same-store (instantiate m b) s t
+      same_ok (instantiate m b) s t
       (subst (λ supply. instantiate m supply ≡ Ok s) (one-supply a b s t x y) x.begins) y.begins
 
   -- ---- its end
@@ -91,26 +74,26 @@ module _ (m : Module) (script : Script) where
         one a x y is (subst (λ initial. IsResult (run_from (program_of m script) all_one initial) all_one turns y) (start-one b a f e) is_too)
 
     pub run-one : (r s : Run) (a b : Outcome) → HasOutcome m script turns r a → HasOutcome m script turns s b → r ≡ s
-    run-one r s a b x y = same-run r s (result-one x.initial y.initial (budget.Over r) (budget.Over s) x.starts y.starts x.within y.within)
+    run-one r s a b x y = same_run r s (result-one x.initial y.initial (budget.Over r) (budget.Over s) x.starts y.starts x.within y.within)
 
     pub outcome-one : (r s : Run) (a b : Outcome) → HasOutcome m script turns r a → HasOutcome m script turns s b → a ≡ b
-    outcome-one r s a b x y = same-outcome r.at a b x.ends (ap (λ (r : Run). r.at) (run-one r s a b x y) ∙ y.ends)
+    outcome-one r s a b x y = same_outcome r.at a b x.ends (ap (λ (r : Run). r.at) (run-one r s a b x y) ∙ y.ends)
 
     pub outcome-none : (r : Run) (a : Outcome) (fault : Fault) → HasOutcome m script turns r a → HasNoOutcome m script turns fault → ⊥
     outcome-none r a fault x (OfScript u) =
-        let same : r ≡ u.faulty.run = same-run r u.faulty.run (result-one x.initial u.initial (budget.Over r) (budget.Over u.faulty.run) x.starts u.starts x.within u.faulty.within) in
-        ended-faulted r.at a u.kind x.ends (ap (λ (r : Run). r.at) same ∙ u.faulty.kind_is)
-    outcome-none r a fault x (OfTurns u) = over-spent r (result-one x.initial u.initial (budget.Over r) budget.Spent x.starts u.starts x.within u.spent)
+        let same : r ≡ u.faulty.run = same_run r u.faulty.run (result-one x.initial u.initial (budget.Over r) (budget.Over u.faulty.run) x.starts u.starts x.within u.faulty.within) in
+        ended_faulted r.at a u.kind x.ends (ap (λ (r : Run). r.at) same ∙ u.faulty.kind_is)
+    outcome-none r a fault x (OfTurns u) = over_spent r (result-one x.initial u.initial (budget.Over r) budget.Spent x.starts u.starts x.within u.spent)
 
     faulty-one : (f g : Fault) → IsFaultyFor m script turns f → IsFaultyFor m script turns g → f ≡ g
     faulty-one f g u v =
-        let same : u.faulty.run ≡ v.faulty.run = same-run u.faulty.run v.faulty.run (result-one u.initial v.initial (budget.Over u.faulty.run) (budget.Over v.faulty.run) u.starts v.starts u.faulty.within v.faulty.within) in
+        let same : u.faulty.run ≡ v.faulty.run = same_run u.faulty.run v.faulty.run (result-one u.initial v.initial (budget.Over u.faulty.run) (budget.Over v.faulty.run) u.starts v.starts u.faulty.within v.faulty.within) in
         let turn : u.turn ≡ v.turn = sym u.faulty.turn_is ∙ ap (λ (r : Run). r.turns) same ∙ v.faulty.turn_is in
-        let kind : u.kind ≡ v.kind = same-kind u.faulty.run.at u.kind v.kind u.faulty.kind_is (ap (λ (r : Run). r.at) same ∙ v.faulty.kind_is) in
+        let kind : u.kind ≡ v.kind = same_kind u.faulty.run.at u.kind v.kind u.faulty.kind_is (ap (λ (r : Run). r.at) same ∙ v.faulty.kind_is) in
         u.named ∙ ap (λ turn. ScriptFault turn u.kind) turn ∙ ap (ScriptFault v.turn) kind ∙ sym v.named
 
     faulty-spent : (f g : Fault) → IsFaultyFor m script turns f → IsSpentFor m script turns g → ⊥
-    faulty-spent f g u v = over-spent u.faulty.run (result-one u.initial v.initial (budget.Over u.faulty.run) budget.Spent u.starts v.starts u.faulty.within v.spent)
+    faulty-spent f g u v = over_spent u.faulty.run (result-one u.initial v.initial (budget.Over u.faulty.run) budget.Spent u.starts v.starts u.faulty.within v.spent)
 
     pub none-one : (f g : Fault) → HasNoOutcome m script turns f → HasNoOutcome m script turns g → f ≡ g
     none-one f g (OfScript u) (OfScript v) = faulty-one f g u v

@@ -1,7 +1,7 @@
 // The module and the script that the bytes of two files encode.
 
 ghost use Rattle.std.specs.Prelude.{◌≡◌, ◌≤◌, ◌⊎◌, Ok, Err, IfErr, IfOk, length};
-ghost use Rattle.wasm_syntax.specs.declared.limits.TheConstants.{MOST_FILE_BYTES};
+ghost use Rattle.wasm_syntax.specs.declared.limits.TheConstants.{MAX_FILE_BYTES};
 ghost use Rattle.wasm_syntax.specs.declared.modules.Module as syntax;
 ghost use Rattle.host_script.specs.declared.scripts.Script as scripts;
 ghost use Rattle.r3_faults.specs.declared.faults.Fault.{Fault};
@@ -15,7 +15,7 @@ use r3_inputs::{module_of, script_of};
 use std::alloc::Global;
 use wasm_validate::Checked;
 
-/// The module that the bytes of a file encode, of at most 8,388,608 bytes, and the script for it that
+/// The module that the bytes of a file encode, of at most `MAX_FILE_BYTES`, and the script for it that
 /// the bytes of another encode.
 ///
 /// # Errors
@@ -23,7 +23,7 @@ use wasm_validate::Checked;
 /// The fault names why the module is refused, or else why the script for it is; `Memory` if memory
 /// is exhausted.
 pub fn inputs_of(alloc: Global, module: &[u8], script: &[u8]) -> Result<(Checked, Script), Fault>
-    requires { length «module».now ≤ MOST_FILE_BYTES }
+    requires { length «module».now ≤ MAX_FILE_BYTES }
     ensures taken { IfOk result (λ inputs. AreTaken «module».now script.now inputs.0 inputs.1) }
     ensures cause { IfErr result (λ fault. (fault ≡ Memory) ⊎ AreRefused «module».now script.now fault) }
     ensures refused { (fault : Fault) → AreRefused «module».now script.now fault

@@ -6,7 +6,7 @@ mod inputs;
 mod links;
 mod runs;
 
-pub use host_play::Told;
+pub use host_play::PrintedRun;
 pub use inputs::inputs_of;
-pub use links::{start_store, supply_and_store};
-pub use runs::told_run;
+pub use links::{start_store, supply_and_store, supply_that_links};
+pub use runs::printed_run;

@@ -1,16 +1,20 @@
 // The instantiation of an accepted module under a script.
 
-ghost use Rattle.std.specs.Prelude.{◌≡◌, ◌⊎◌, Ok, IfErr, IfOk};
+ghost use Rattle.std.specs.Prelude.{◌≡◌, ◌⊎◌, Ok, Err, IfErr, IfOk};
+ghost use Rattle.wasm_syntax.specs.declared.modules.Module.{Module};
 ghost use Rattle.wasm_syntax.specs.Profile.{IsSupported};
+ghost use Rattle.host_script.specs.declared.scripts.LinkFault.TheVariants.{Memory as NoMemoryLeft};
+ghost use Rattle.host_script.specs.declared.scripts.Script as scripts;
 ghost use Rattle.host_script.specs.Fits.{Fits};
 ghost use Rattle.history_spec.specs.Run.{run_start, start_in_store};
+ghost use Rattle.history_spec.specs.Store.{Store as StoreValue};
 ghost use Rattle.type_safety.specs.Stores.{IsStore};
 ghost use Rattle.type_safety.specs.Supplies.{HasBytes};
 ghost use Rattle.r3_faults.specs.declared.faults.Fault.TheVariants.{Memory};
 ghost use Rattle.accepted_runs.specs.Linked.{IsLinked};
 ghost use Rattle.accepted_runs.specs.Unlinked.{IsUnlinkedFor};
 
-use host_link::{LinkFault, link_with_supply};
+use host_link::{LinkFault, link_with_supply, linked_supply};
 use host_script::{Script, Supply};
 use r3_faults::Fault;
 use std::alloc::Global;
@@ -56,15 +60,43 @@ pub fn supply_and_store(
 {
     match link_with_supply(alloc, checked, script) {
         Ok(opening) => Ok(opening),
-        Err(LinkFault::Missing { import }) => Err(Fault::Missing {
+        Err(fault) => Err(fault_of(fault)),
+    }
+}
+
+/// What a script that fits a module supplies for its imports, if the module links with the script. No store is made.
+///
+/// # Errors
+///
+/// As for `supply_and_store`.
+pub fn supply_that_links(alloc: Global, checked: &Checked, script: &Script) -> Result<Supply, Fault>
+    requires supported { IsSupported checked.now }
+    requires fits { Fits checked.now script.now }
+    ensures linked { IfOk result (λ supply. (store : StoreValue) × IsLinked checked.now script.now supply store) }
+    ensures cause { IfErr result (λ fault. (fault ≡ Memory) ⊎ IsUnlinkedFor checked.now script.now fault) }
+{
+    match linked_supply(alloc, checked, script) {
+        Ok(supply) => Ok(supply),
+        Err(fault) => Err(fault_of(fault)),
+    }
+}
+
+/// Why a module does not link with a script, as the fault of a call.
+fn fault_of(fault: LinkFault) -> Fault
+    ensures { (m : Module) (script : scripts.Script)
+        → ((fault ≡ NoMemoryLeft → ⊥) → run_start m script ≡ Err fault)
+        → (result ≡ Memory) ⊎ IsUnlinkedFor m script result }
+{
+    match fault {
+        LinkFault::Missing { import } => Fault::Missing {
             import: u64::from(import),
-        }),
-        Err(LinkFault::Mismatch { import }) => Err(Fault::Mismatch {
+        },
+        LinkFault::Mismatch { import } => Fault::Mismatch {
             import: u64::from(import),
-        }),
-        Err(LinkFault::Segment { number }) => Err(Fault::Segment {
+        },
+        LinkFault::Segment { number } => Fault::Segment {
             number: u64::from(number),
-        }),
-        Err(LinkFault::Memory) => Err(Fault::Memory),
+        },
+        LinkFault::Memory => Fault::Memory,
     }
 }

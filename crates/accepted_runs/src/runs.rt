@@ -5,12 +5,12 @@ ghost use Rattle.wasm_syntax.specs.declared.modules.Module.{Module};
 ghost use Rattle.host_script.specs.declared.scripts.Script.{Script};
 ghost use Rattle.history_spec.specs.Run.{run_start, program_of, start_in_store};
 ghost use Rattle.history_spec.specs.Step.{StepResult};
-ghost use Rattle.host_play.specs.Results.{Refuses, TellsRun};
+ghost use Rattle.host_play.specs.Results.{Refuses, PrintsRun};
 ghost use Rattle.r3_faults.specs.declared.faults.Fault.TheVariants.{Memory};
 ghost use Rattle.accepted_runs.specs.Runnable.{CanRun, StartsWith};
 ghost use Rattle.accepted_runs.specs.Runs.{HasNoOutcome};
 
-use host_play::{Play, PlayFault, Told, tell};
+use host_play::{Play, PlayFault, PrintedRun, print};
 use host_script::Script;
 use r3_faults::Fault;
 use std::alloc::Global;
@@ -25,17 +25,17 @@ use wasm_validate::Checked;
 ///
 /// `Script` if the host cannot do what the script says, `Spent` if the run needs more turns,
 /// `Memory` if memory is exhausted.
-pub fn told_run(
+pub fn printed_run(
     alloc: Global,
     checked: &Checked,
     script: &Script,
     store: Store,
     turns: u64,
-) -> Result<Told, Fault>
+) -> Result<PrintedRun, Fault>
     requires runnable { CanRun checked.now script.now }
     requires start { StartsWith checked.now script.now store }
-    ensures told { IfOk result (λ told.
-        TellsRun (program_of checked.now script.now) (start_in_store checked.now script.now store) turns told) }
+    ensures printed { IfOk result (λ printed.
+        PrintsRun (program_of checked.now script.now) (start_in_store checked.now script.now store) turns printed) }
     ensures cause { IfErr result (λ fault. (fault ≡ Memory) ⊎ HasNoOutcome checked.now script.now turns fault) }
 {
     let play = Play {
@@ -44,8 +44,8 @@ pub fn told_run(
         script,
         store,
     };
-    match tell(alloc, play, turns) {
-        Ok(told) => Ok(told),
+    match print(alloc, play, turns) {
+        Ok(printed) => Ok(printed),
         Err(fault) => Err(fault_of(fault, turns)),
     }
 }

@@ -1,5 +1,6 @@
--- Tests joined by `and` and `or`, and tests that all numbers below a bound pass.
-use Rattle.std.proofs.Common.{◌≡◌, ℕ, suc, zero, ◌<◌, ◌⊎◌, inl, inr, ⊎_elim, Bool, true, false, ◌&&◌, ◌||◌, refl, sym, subst, arith}
+-- Tests joined by `and` and `or`, equal tests, and tests that all numbers below a bound pass.
+use Rattle.std.proofs.Common.{◌≡◌, ℕ, suc, zero, ◌<◌, ◌⊎◌, inl, inr, ⊎_elim, Bool, true, false, cond, ◌&&◌, ◌||◌, nat_eq, refl, sym, subst, arith}
+use Rattle.std.proofs.lemmas.Bool.Decides.{nat_tests}
 
 pub and_parts : (a b : Bool) → (a && b) ≡ true → (a ≡ true) × (b ≡ true)
 and_parts true b h = (refl, h)
@@ -22,6 +23,19 @@ and_false false = refl
 pub or_cases : (a b : Bool) → (a || b) ≡ true → (a ≡ true) ⊎ (b ≡ true)
 or_cases true b h = inl refl
 or_cases false b h = inr h
+
+-- two tests, if each passes when the other does, are equal
+pub same_tests : (a b : Bool) → (a ≡ true → b ≡ true) → (b ≡ true → a ≡ true) → a ≡ b
+same_tests true b there back = sym (there refl)
+same_tests false true there back = back refl
+same_tests false false there back = refl
+
+pub same_either : {X : Type 0} (b : Bool) (x : X) → cond b x x ≡ x
+same_either true x = refl
+same_either false x = refl
+
+pub own_number : (n : ℕ) → nat_eq n n ≡ true
+own_number n = grind (arith, nat_tests)
 
 -- whether all numbers below a bound pass a test
 abbrev pub all_below : ℕ → (ℕ → Bool) → Bool

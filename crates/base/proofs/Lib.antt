@@ -1,4 +1,5 @@
 pub mod Booleans
 pub mod Lists
 pub mod Options
+pub mod Results
 mod OpcodeOrder

@@ -1,8 +1,8 @@
 -- Items of lists at a place, of lists joined, and tests and properties of all items.
-use Rattle.std.proofs.Common.{◌≡◌, ℕ, suc, zero, ◌+◌, ◌-◌, ◌<◌, ◌≤◌, List, [], ◌∷◌, ◌++◌, length, Option, Some, None, Bool, true, slice_get, take, refl, sym, ap, ◌∙◌, subst, arith}
+use Rattle.std.proofs.Common.{◌≡◌, ℕ, suc, zero, ◌+◌, ◌-◌, ◌<◌, ◌≤◌, List, [], ◌∷◌, ◌++◌, length, Option, Some, None, Bool, true, is_some, get_or, slice_get, take, drop-cons, refl, sym, ap, ◌∙◌, subst, arith}
 use Rattle.std.specs.Prelude.{drop, map, reverse, slice_set}
 use Rattle.std.specs.List.{All, AllByRecursion, list_all, slice_index_or}
-use Rattle.std.proofs.lemmas.List.{drop_all, reverse-append, set_split, take_all, take_more}
+use Rattle.std.proofs.lemmas.List.{drop_all, reverse-append, set-append_left, set_split, take_all, take_more}
 use Rattle.std.proofs.lemmas.Option.{get_or_from_slice_get, slice_get_within}
 use Rattle.std.proofs.lemmas.List.Elements.{All-get_or, All-head, All-tail}
 use Rattle.base.proofs.Booleans.{and_parts}
@@ -31,6 +31,22 @@ mapped_item f [] i d = refl
 mapped_item f (x ∷ xs) zero d = refl
 mapped_item f (x ∷ xs) (suc i) d = mapped_item f xs i d
 
+pub first_there : {X : Type 0} (xs : List X) → 0 < length xs → is_some (slice_get xs 0) ≡ true
+first_there [] there = absurd (omega (arith, there))
+first_there (x ∷ xs) there = refl
+
+-- the items from a place on, if the item there was read
+pub drop_at_item : {X : Type 0} (xs : List X) (i : ℕ) (x : X) → i < length xs → x ≡ get_or xs i x
+    → drop i xs ≡ x ∷ drop (i + 1) xs
+drop_at_item xs i x within is =
+    let next : suc i ≡ i + 1 = omega arith in
+    drop-cons xs i x within ∙ ap (λ y. y ∷ drop (suc i) xs) (sym is) ∙ ap (λ n. x ∷ drop n xs) next
+
+pub set_there : {X : Type 0} (xs : List X) (i : ℕ) (x : X) → i < length xs → slice_get (slice_set xs i x) i ≡ Some x
+set_there [] i x below = absurd (omega (arith, below))
+set_there (y ∷ xs) zero x below = refl
+set_there (y ∷ xs) (suc i) x below = set_there xs i x (omega (arith, below))
+
 -- ---- lists joined
 
 pub get_front : {A : Type 0} (xs ys : List A) (i : ℕ) → i < length xs → slice_get (xs ++ ys) i ≡ slice_get xs i
@@ -55,6 +71,10 @@ get_after_by (x ∷ xs) ys (suc i) j e = get_after_by xs ys i j (omega (arith, e
 pub nil_parts : {X : Type 0} (xs ys : List X) → xs ++ ys ≡ [] → (xs ≡ []) × (ys ≡ [])
 nil_parts [] ys h = (refl, h)
 nil_parts (x ∷ xs) ys h = cc
+
+pub set_front : {X : Type 0} (xs ys : List X) (i : ℕ) (old x : X) → slice_get xs i ≡ Some old
+    → slice_set (xs ++ ys) i x ≡ slice_set xs i x ++ ys
+set_front xs ys i old x there = set-append_left xs ys i x (slice_get_within xs i old there)
 
 -- ---- the last item, which is the first of the reverse
 

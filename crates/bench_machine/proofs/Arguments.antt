@@ -2,6 +2,7 @@
 use Rattle.std.proofs.Common.{◌≡◌, ℕ, suc, List, [], ◌∷◌, length, Bool, true, false, ◌&&◌, IsTrue, Option, Some, refl, sym, ap, ◌∙◌, subst, ◌≤◌}
 use Rattle.std.specs.Prelude.{map, All}
 use Rattle.std.proofs.lemmas.List.Elements.{All-nil, All-cons, All-head, All-tail}
+use Rattle.base.proofs.Booleans.{and_true, and_false, and_left, and_right}
 use Rattle.wasm_syntax.specs.declared.values.ValType.{ValType}
 use Rattle.wasm_syntax.specs.declared.values.Val.{Val}
 use Rattle.wasm_syntax.specs.Alike.{same_type}
@@ -13,40 +14,24 @@ use Rattle.wasm_syntax.specs.Index.{func_type, imported_funcs}
 use Rattle.host_script.specs.Fits.{AreOfTypes, IsCallable}
 use Rattle.bench_machine.specs.Arguments.{are_of, is_of}
 
-false_right : (x : Bool) → (x && false) ≡ false
-false_right true = refl
-false_right false = refl
-
 -- lists of two lengths
 pub differ_long : (types : List ValType) (values : List Val) → (length types ≡ length values → ⊥) → false ≡ are_of types values
 differ_long [] [] h = absurd (h refl)
 differ_long [] (v ∷ vs) h = refl
 differ_long (t ∷ ts) [] h = refl
 differ_long (t ∷ ts) (v ∷ vs) h =
-    sym (ap (λ r. is_of t v && r) (sym (differ_long ts vs (λ e. h (ap suc e)))) ∙ false_right (is_of t v))
-
-first : (a b : Bool) → (a && b) ≡ true → a ≡ true
-first true b h = refl
-first false b h = h
-
-second : (a b : Bool) → (a && b) ≡ true → b ≡ true
-second true b h = h
-second false b h = cc
-
-both : (a b : Bool) → a ≡ true → b ≡ true → (a && b) ≡ true
-both true b e h = h
-both false b e h = e
+    sym (ap (λ r. is_of t v && r) (sym (differ_long ts vs (λ e. h (ap suc e)))) ∙ and_false (is_of t v))
 
 pub are_of_types : (types : List ValType) (values : List Val) → are_of types values ≡ true → AreOfTypes types values
 are_of_types [] [] h = record { in_range = All-nil (λ value. IsTrue (is_constant value)); typed = refl }
 are_of_types [] (v ∷ vs) h = cc
 are_of_types (t ∷ ts) [] h = cc
 are_of_types (t ∷ ts) (v ∷ vs) h =
-    let here : is_of t v ≡ true = first (is_of t v) (are_of ts vs) h in
-    let rest : AreOfTypes ts vs = are_of_types ts vs (second (is_of t v) (are_of ts vs) h) in
-    let same : t ≡ v.ty = type_same t v.ty (first (same_type t v.ty) (is_constant v) here) in
+    let here : is_of t v ≡ true = and_left (is_of t v) (are_of ts vs) h in
+    let rest : AreOfTypes ts vs = are_of_types ts vs (and_right (is_of t v) (are_of ts vs) h) in
+    let same : t ≡ v.ty = type_same t v.ty (and_left (same_type t v.ty) (is_constant v) here) in
     record {
-      in_range = All-cons (λ value. IsTrue (is_constant value)) v vs (second (same_type t v.ty) (is_constant v) here) rest.in_range;
+      in_range = All-cons (λ value. IsTrue (is_constant value)) v vs (and_right (same_type t v.ty) (is_constant v) here) rest.in_range;
       typed = ap (λ a. a ∷ map (λ value. value.ty) vs) (sym same) ∙ ap (λ as'. t ∷ as') rest.typed;
     }
 
@@ -68,8 +53,8 @@ of_types_are [] (v ∷ vs) h = absurd (no_head v.ty (map (λ value. value.ty) vs
 of_types_are (t ∷ ts) [] h = absurd (no_nil t ts h.typed)
 of_types_are (t ∷ ts) (v ∷ vs) h =
     let same : v.ty ≡ t = head_is v.ty t (map (λ value. value.ty) vs) ts h.typed in
-    both (is_of t v) (are_of ts vs)
-    (both (same_type t v.ty) (is_constant v) (ap (same_type t) same ∙ type_own t) (All-head (λ value. IsTrue (is_constant value)) v vs h.in_range))
+    and_true (is_of t v) (are_of ts vs)
+    (and_true (same_type t v.ty) (is_constant v) (ap (same_type t) same ∙ type_own t) (All-head (λ value. IsTrue (is_constant value)) v vs h.in_range))
     (of_types_are ts vs (record { in_range = All-tail (λ value. IsTrue (is_constant value)) v vs h.in_range; typed = tail_is v.ty t (map (λ value. value.ty) vs) ts h.typed }))
 
 one_type : (found : Option FuncType) (a b : FuncType) → Some a ≡ found → found ≡ Some b → b ≡ a

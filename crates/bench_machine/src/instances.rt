@@ -7,7 +7,7 @@ ghost use Rattle.wasm_flat.specs.Sizes.{IsShort};
 ghost use Rattle.host_script.specs.Fits.{Fits};
 ghost use Rattle.type_safety.specs.Stores.{IsStore};
 ghost use Rattle.wasm_interp.specs.State.{state};
-ghost use Rattle.wasm_syntax.specs.declared.limits.TheConstants.{MOST_FILE_BYTES};
+ghost use Rattle.wasm_syntax.specs.declared.limits.TheConstants.{MAX_FILE_BYTES};
 ghost use Rattle.bench_machine.specs.declared.instances.MachineFault.TheVariants as machine;
 ghost use Rattle.bench_machine.specs.Instances.{HasCause, IsInstance};
 ghost use Rattle.bench_machine.specs.Positions.{IsIdle};
@@ -70,13 +70,13 @@ impl From<NoMemory> for MachineFault {
 }
 
 /// The instance of a module (Core 1.0, 4.5.4) with the store that its run under a script begins with, before
-/// the host's first action and before the start function is called. The module has at most `MOST_FILE_BYTES`.
+/// the host's first action and before the start function is called. The module has at most `MAX_FILE_BYTES`.
 ///
 /// # Errors
 ///
 /// The module or the script is refused, the module does not link with the script, or memory runs out.
 pub fn instance_of(alloc: Global, module: &[u8], script: &[u8]) -> Result<Instance, MachineFault>
-    requires { length «module».now ≤ MOST_FILE_BYTES }
+    requires { length «module».now ≤ MAX_FILE_BYTES }
     ensures instance { IfOk result (λ instance. IsInstance «module».now script.now instance.«module» instance.machine) }
     ensures idle { IfOk result (λ instance. IsIdle instance.«module» instance.machine) }
     ensures cause { IfErr result (λ fault. HasCause «module».now script.now fault) }

@@ -3,7 +3,7 @@
 #![tactic(auto)]
 
 ghost use Rattle.std.specs.Prelude.{◌≤◌, IfOk, length};
-ghost use Rattle.wasm_syntax.specs.declared.limits.TheConstants.{MOST_FILE_BYTES};
+ghost use Rattle.wasm_syntax.specs.declared.limits.TheConstants.{MAX_FILE_BYTES};
 
 mod calls;
 mod runs;
@@ -17,10 +17,10 @@ use runs::line_of_run;
 use std::alloc::Global;
 use std::process::ExitCode;
 use wasm_syntax::Name;
-use wasm_syntax::limits::MOST_FILE_BYTES;
+use wasm_syntax::limits::MAX_FILE_BYTES;
 
 /// The most bytes of a module.
-const MODULE: u64 = MOST_FILE_BYTES;
+const MODULE: u64 = MAX_FILE_BYTES;
 
 fn main(rt: HostRuntime) -> ExitCode {
     let mut out = StdSink::new(rt.stdout());
@@ -44,16 +44,21 @@ fn run<F: Files, O: Sink>(
     out: &mut O,
 ) -> Result<(), Fault> {
     let words = words?;
-    let call = call_of(&words)?;
-    let bytes = module_in(alloc, files, call.module)?;
-    let line = line_of_run(alloc, &bytes, &call)?;
+    let line = line_for(alloc, &words, files)?;
     put_all(out, line.as_bytes())?;
     Ok(())
 }
 
+/// The line of what the words ask for.
+fn line_for<F: Files>(alloc: Global, words: &[String], files: &mut F) -> Result<String, Fault> {
+    let call = call_of(words)?;
+    let bytes = module_in(alloc, files, call.module)?;
+    line_of_run(alloc, &bytes, &call)
+}
+
 /// The bytes of a module's file.
 fn module_in<F: Files>(alloc: Global, files: &mut F, name: &str) -> Result<Vec<u8>, Fault>
-    ensures { IfOk result (λ bytes. length bytes.items ≤ MOST_FILE_BYTES) }
+    ensures { IfOk result (λ bytes. length bytes.items ≤ MAX_FILE_BYTES) }
 {
     match load(alloc, files, name, MODULE) {
         Ok(bytes) => Ok(bytes),

@@ -1,7 +1,7 @@
 // A run of a function by the machine alone.
 
 ghost use Rattle.std.specs.Prelude.{◌≤◌, IfOk, length};
-ghost use Rattle.wasm_syntax.specs.declared.limits.TheConstants.{MOST_FILE_BYTES};
+ghost use Rattle.wasm_syntax.specs.declared.limits.TheConstants.{MAX_FILE_BYTES};
 ghost use Rattle.bench_machine.specs.Positions.{IsIdle};
 
 use crate::calls::Call;
@@ -19,17 +19,30 @@ const NOTHING: &[u8] = br#"{"main":[]}"#;
 
 /// Where the machine pauses, and how many turns it took.
 pub(crate) fn line_of_run(alloc: Global, bytes: &[u8], call: &Call) -> Result<String, Fault>
-    requires { length bytes.now ≤ MOST_FILE_BYTES }
+    requires { length bytes.now ≤ MAX_FILE_BYTES }
 {
     let mut instance = bare_instance(alloc, bytes)?;
-    let Some(func) = func_of(&instance.module, call.function) else {
-        return Err(Fault::Usage);
-    };
-    let Some(argument) = argument_of(alloc, &instance.module, func, call.argument)? else {
-        return Err(Fault::Usage);
-    };
-    match run(alloc, &mut instance, func, argument, call.turns)? {
+    line_in(alloc, &mut instance, call)
+}
+
+/// The line of a call in an instance.
+fn line_in(alloc: Global, instance: &mut Instance, call: &Call) -> Result<String, Fault>
+    requires { IsIdle instance.old.«module» instance.old.machine }
+{
+    let (func, argument) = function_and_argument(alloc, &instance.module, call)?;
+    match run(alloc, instance, func, argument, call.turns)? {
         Some((pause, turns)) => Ok(line_of(alloc, pause, turns)?),
+        None => Err(Fault::Usage),
+    }
+}
+
+/// The function that a call names, and its argument.
+fn function_and_argument(alloc: Global, module: &Module, call: &Call) -> Result<(u32, Val), Fault> {
+    let Some(func) = func_of(module, call.function) else {
+        return Err(Fault::Usage);
+    };
+    match argument_of(alloc, module, func, call.argument)? {
+        Some(argument) => Ok((func, argument)),
         None => Err(Fault::Usage),
     }
 }
@@ -55,14 +68,21 @@ fn run(
 
 /// The instance of a module to which nothing is supplied.
 fn bare_instance(alloc: Global, bytes: &[u8]) -> Result<Instance, Fault>
-    requires { length bytes.now ≤ MOST_FILE_BYTES }
+    requires { length bytes.now ≤ MAX_FILE_BYTES }
     ensures { IfOk result (λ instance. IsIdle instance.«module» instance.machine) }
 {
     match instance_of(alloc, bytes, NOTHING) {
         Ok(instance) => Ok(instance),
-        Err(MachineFault::Input { fault }) => Err(fault),
-        Err(MachineFault::Link { fault }) => Err(fault_of_link(fault)),
-        Err(MachineFault::Memory) => Err(Fault::Memory),
+        Err(fault) => Err(fault_of_machine(fault)),
+    }
+}
+
+/// Why there is no instance.
+fn fault_of_machine(fault: MachineFault) -> Fault {
+    match fault {
+        MachineFault::Input { fault } => fault,
+        MachineFault::Link { fault } => fault_of_link(fault),
+        MachineFault::Memory => Fault::Memory,
     }
 }
 

@@ -24,7 +24,7 @@ use Rattle.generated_code_laws.proofs.Each.{effect_made}
 record AreMade (w : Watched) (s : Standing) (store after : Store) (effects : List Effect) : Type 0 where
   pub items : List Item
   pub does : Does w s store after [] [] (effects_code effects) items
-  pub told : AreItemsOf store effects items
+  pub known : AreItemsOf store effects items
 
 module _ (w : Watched) (s : Standing) (outside : IsOutside w.layout s.frame.func) where
   are_made : (store after : Store) (effects : List Effect) → AreWritable w.globals store effects
@@ -35,7 +35,7 @@ module _ (w : Watched) (s : Standing) (outside : IsOutside w.layout s.frame.func
       (record {
         items = [];
         does = does_nothing w s store [];
-        told = record { silent = refl; changes = λ any. same_is [] [] refl; steps = omega arith; blocks = refl };
+        known = record { silent = refl; changes = λ any. same_is [] [] refl; steps = omega arith; blocks = refl };
       })
   are_made store after (effect ∷ effects) can h =
       let b = and_then_some (store_after_effect store effect) (store_after_effects effects) after h in
@@ -47,24 +47,24 @@ module _ (w : Watched) (s : Standing) (outside : IsOutside w.layout s.frame.func
         does =
             does_both w s store next after [] [] [] (effect_code effect) (effects_code effects) one.items more.items
             one.does more.does;
-        told = record {
+        known = record {
           silent =
               entries_over one.items more.items
-              ∙ ap (λ l. l ++ entries_in more.items) one.silent ∙ more.told.silent;
+              ∙ ap (λ l. l ++ entries_in more.items) one.silent ∙ more.known.silent;
           changes = λ grows.
               subst (λ l. AreSameChanges l (effect ∷ effects)) (sym (changes_of_both one.items more.items))
               (same_both (effect ∷ []) effects (changes_in one.items) (changes_in more.items) (one.changes grows.0)
-              (more.told.changes (grows.1 next b.1)));
+              (more.known.changes (grows.1 next b.1)));
           steps =
               let sum = steps_of_both one.items more.items in
               let first = one.steps in
-              let second = more.told.steps in
+              let second = more.known.steps in
               let all = sum_by-cons effect_weight effect effects in
               omega (arith, sum, first, second, all);
           blocks =
               let sum = blocks_of_both one.items more.items in
               let first = one.blocks in
-              let second = more.told.blocks in
+              let second = more.known.blocks in
               omega (arith, sum, first, second);
         };
       }
@@ -73,4 +73,4 @@ pub effects_made : EffectsAreMade
 effects_made w s store after effects labels i rest number outside can h =
     let all = are_made w s outside store after effects can h in
     let here = all.does labels (Plain i rest) number refl in
-    record { items = all.items; at = here.at; leads = here.leads; told = all.told }
+    record { items = all.items; at = here.at; leads = here.leads; known = all.known }

@@ -3,12 +3,12 @@ use Rattle.std.proofs.Common.{◌≡◌, ℕ, zero, suc, ◌+◌, List, [], ◌�
 use Rattle.std.specs.Prelude.{map}
 use Rattle.std.proofs.lemmas.List.{append_assoc}
 use Rattle.wasm_syntax.specs.declared.values.Val.{Val}
-use Rattle.history_spec.specs.declared.entries.Entry.{Entry}
 use Rattle.history_spec.specs.Step.{Program, Progress, Running, Finished, Faulted, Stuck, step}
 use Rattle.history_spec.specs.Run.{Meter, all_one, steps}
 use Rattle.history_spec.specs.Projection.{Layout, shown_entries}
 use Rattle.replay_run_spec.specs.Inside.{inside_after, args_after, inside_after_all, args_after_all}
 use Rattle.replay_run_spec.specs.Items.{Item, Makes, Changes, Steps, entries_in, step_items, steps_items, shown_items}
+use Rattle.replay_run_spec.proofs.Histories.{inside_over}
 use Rattle.generated_code_laws.specs.Leads.{Watched, Place, Leads, items_from}
 use Rattle.generated_code_laws.specs.GeneratedStepLaws.{LeadsRunAlong}
 
@@ -54,11 +54,6 @@ entries_over [] second = refl
 entries_over (Makes entry ∷ first) second = ap (λ later. entry ∷ later) (entries_over first second)
 entries_over (Changes change ∷ first) second = entries_over first second
 entries_over (Steps block ∷ first) second = entries_over first second
-
-inside_over : (inside : List ℕ) (first second : List Entry)
-    → inside_after_all inside (first ++ second) ≡ inside_after_all (inside_after_all inside first) second
-inside_over inside [] second = refl
-inside_over inside (entry ∷ first) second = inside_over (inside_after inside entry) first second
 
 pub shown_over : (layout : Layout) (inside : List ℕ) (args : List Val) (first second : List Item)
     → shown_items layout inside args (first ++ second)

@@ -1,5 +1,5 @@
 -- The remaining steps at a place of a run, beside the rest of the tape.
-use Rattle.std.proofs.Common.{◌≡◌, ℕ, zero, suc, ◌+◌, ◌*◌, ◌/◌, ◌<◌, ◌≤◌, List, [], ◌∷◌, ◌++◌, length, Some, None, Bool, true, false, slice_get, slice_set, replicate, refl, sym, ap, ◌∙◌, subst, arith}
+use Rattle.std.proofs.Common.{◌≡◌, ℕ, zero, suc, ◌+◌, ◌*◌, ◌/◌, ◌<◌, ◌≤◌, List, [], ◌∷◌, ◌++◌, length, Some, Bool, true, false, slice_get, slice_set, replicate, refl, sym, ap, ◌∙◌, subst, arith}
 use Rattle.std.specs.Prelude.{map, nat_eq, sum_by}
 use Rattle.std.specs.List.{slice_index_or}
 use Rattle.std.proofs.lemmas.Bool.Decides.{nat_tests}
@@ -16,8 +16,9 @@ use Rattle.replay_module_spec.specs.declared.plans.Plan.{Plan}
 use Rattle.replay_module_spec.specs.Plans.{innermost, around_innermost, left_of, with_origin, with_segment}
 use Rattle.replay_run_spec.specs.Items.{Item, Makes, Changes, Steps, entries_in}
 use Rattle.replay_run_spec.specs.Steps.{StepCount, StepsLeft, IsWithinBound, innermost_count, around_innermost as around_counts, no_steps, one_more, steps_left, with_entry, with_step}
+use Rattle.replay_module_laws.proofs.FittingPlans.{left_length, next_weighs}
 use Rattle.generated_code_laws.specs.Counts.{steps_in}
-use Rattle.generated_code_laws.proofs.CallsLeft.{many_left, none_replicated, set_is, set_length, set_other, replicate_length}
+use Rattle.generated_code_laws.proofs.CallsLeft.{none_replicated, set_is, set_length, set_other, replicate_length}
 
 -- ---- the bound at a place
 
@@ -212,13 +213,6 @@ with_next next begun = [] ∷ begun
 abbrev pub segment_steps : Segment → ℕ
 segment_steps segment = 8 * sum_by effect_weight segment.effects + 7 * next_weight segment.next
 
-pub next_weighs : (next : Next) → 1 ≤ next_weight next
-next_weighs (Calls func args) = omega arith
-next_weighs (Returns None) = omega arith
-next_weighs (Returns (Some value)) = omega arith
-next_weighs Ends = omega arith
-next_weighs Traps = omega arith
-
 -- the most steps with which control reaches a segment, by the segment's origin
 abbrev pub most_before : Plan → Origin → StepCount
 most_before plan Begin = record { steps = 0; blocks = 0 }
@@ -378,7 +372,7 @@ module _ (plan : Plan) (imports : ℕ) (segment : Segment) (later : List Segment
           many = let e = steps_many imports (items ++ rest) in omega (arith, e, below)
 
           many_calls : import < length next_calls
-          many_calls = let e = many_left imports later in omega (arith, e, below)
+          many_calls = let e = left_length imports later in omega (arith, e, below)
 
           go : (t : Bool) → nat_eq import other ≡ t
               → IsWithinBound (length (slice_index_or plan.imports other []))

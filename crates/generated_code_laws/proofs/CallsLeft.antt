@@ -1,10 +1,6 @@
 -- The lists of calls that remain of a tape.
-use Rattle.std.proofs.Common.{◌≡◌, ℕ, zero, suc, ◌<◌, List, [], ◌∷◌, length, slice_set, replicate, refl, ap, ◌∙◌, arith}
+use Rattle.std.proofs.Common.{◌≡◌, ℕ, zero, suc, ◌<◌, List, [], ◌∷◌, length, slice_set, replicate, refl, ap, arith}
 use Rattle.std.specs.List.{slice_index_or}
-use Rattle.trace_model.specs.declared.tapes.Origin.{Origin}
-use Rattle.trace_model.specs.declared.tapes.Origin.TheVariants.{Begin, Back, Import}
-use Rattle.trace_model.specs.declared.tapes.Segment.{Segment}
-use Rattle.replay_module_spec.specs.Plans.{innermost, with_segment, with_origin, left_of}
 
 -- ---- the number of lists of calls that remain
 
@@ -12,13 +8,6 @@ pub set_length : {X : Type 0} (xs : List X) (i : ℕ) (x : X) → length (slice_
 set_length [] i x = refl
 set_length (y ∷ xs) zero x = refl
 set_length (y ∷ xs) (suc i) x = ap suc (set_length xs i x)
-
-many_with : (origin : Origin) (begun : List (List Segment)) (calls : List (List (List Segment)))
-    → length (with_origin origin begun calls).calls ≡ length calls
-many_with Begin begun calls = refl
-many_with Back begun calls = refl
-many_with (Import import) begun calls =
-    set_length calls import (innermost begun ∷ slice_index_or calls import [])
 
 pub replicate_length : {X : Type 0} (count : ℕ) (x : X) → length (replicate count x) ≡ count
 replicate_length zero x = refl
@@ -28,13 +17,6 @@ pub none_replicated : {X : Type 0} (count i : ℕ) → slice_index_or (replicate
 none_replicated zero i = refl
 none_replicated (suc count) zero = refl
 none_replicated (suc count) (suc i) = none_replicated count i
-
-pub many_left : (imports : ℕ) (segments : List Segment) → length (left_of imports segments).calls ≡ imports
-many_left imports [] = replicate_length imports []
-many_left imports (segment ∷ later) =
-    many_with segment.origin (with_segment segment segment.next (left_of imports later).begun)
-    (left_of imports later).calls
-    ∙ many_left imports later
 
 -- ---- a list with one item set
 

@@ -16,7 +16,7 @@ use Rattle.history_spec.specs.Instruction.{Operands, on, gives, operands_if, ope
 use Rattle.replay_run_spec.specs.Items.{Steps}
 use Rattle.generated_code_laws.specs.Leads.{Watched, IsOutside, Standing}
 use Rattle.generated_code_laws.proofs.Does.{Does, does_nothing, does_both, does_one, does_const}
-use Rattle.generated_code_laws.proofs.Written.{take_front, drop_front}
+use Rattle.generated_code_laws.proofs.WrittenItems.{take_front, drop_front}
 
 -- ---- operands
 

@@ -18,19 +18,20 @@ use Rattle.replay_module_spec.specs.Effects.{Width, Eight, Four, Two, One, byte_
 use Rattle.replay_run_spec.specs.Items.{Item, Changes, Steps, change_at, entries_in, global_change, page_count, entry_count, MemorySize as OfMemory, TableSize as OfTable}
 use Rattle.replay_run_spec.specs.Stretches.{AreSameChanges}
 use Rattle.replay_run_spec.specs.Steps.{StepCount}
+use Rattle.replay_run_spec.proofs.Histories.{changes_silent}
 use Rattle.replay_module_spec.proofs.Widths.{counts_of, counts_of_all}
 use Rattle.generated_code_laws.specs.Leads.{Watched, IsOutside, Standing}
 use Rattle.generated_code_laws.specs.Bytes.{AreBytes}
 use Rattle.generated_code_laws.specs.Counts.{changes_in, steps_in}
 use Rattle.generated_code_laws.specs.EffectLaws.{IsWritable, GrowsSize}
 use Rattle.generated_code_laws.proofs.Does.{Does}
-use Rattle.generated_code_laws.proofs.Stored.{memory_with_bytes, stores_items}
-use Rattle.generated_code_laws.proofs.Written.{bytes_placed}
+use Rattle.generated_code_laws.proofs.StoredBytes.{memory_with_bytes, stores_items}
+use Rattle.generated_code_laws.proofs.WrittenItems.{bytes_placed}
 use Rattle.generated_code_laws.proofs.Runs.{stores_run, split}
 use Rattle.generated_code_laws.proofs.Effects.{does_global, does_entry, set_there}
 use Rattle.generated_code_laws.proofs.Growth.{does_growth}
 use Rattle.generated_code_laws.proofs.TableGrowth.{does_table_growth}
-use Rattle.generated_code_laws.proofs.Items.{changes_silent, changes_there, changes_still}
+use Rattle.generated_code_laws.proofs.Items.{changes_there, changes_still}
 use Rattle.generated_code_laws.proofs.Same.{same_is, bytes_apart}
 
 -- the code of an effect performs it

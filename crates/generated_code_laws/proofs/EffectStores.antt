@@ -1,8 +1,8 @@
 -- An effect does to the store of a replay module what it does to the store of the original.
-use Rattle.std.proofs.Common.{◌≡◌, ℕ, zero, suc, ◌+◌, ◌-◌, List, [], ◌∷◌, ◌++◌, Option, Some, None, Bool, true, false, cond, nat_le, slice_get, slice_set, refl, ap, ◌∙◌}
+use Rattle.std.proofs.Common.{◌≡◌, ℕ, ◌+◌, ◌-◌, List, [], ◌∷◌, Option, Some, None, Bool, true, false, cond, nat_le, slice_get, refl, ap, ◌∙◌}
 use Rattle.std.specs.Prelude.{option_map, option_and_then}
 use Rattle.std.proofs.lemmas.Option.{none-some, slice_get_within}
-use Rattle.base.proofs.Lists.{get_front}
+use Rattle.base.proofs.Lists.{get_front, set_front}
 use Rattle.wasm_syntax.specs.declared.values.Val.{Val}
 use Rattle.trace_model.specs.declared.tapes.Effect.{Effect}
 use Rattle.trace_model.specs.declared.tapes.Effect.TheVariants.{Grow, Table as GrowTable, Bytes, Entry as SetEntry, Global}
@@ -11,13 +11,6 @@ use Rattle.record_replay_spec.specs.TapeRun.{memory_of_size, table_of_size, memo
 use Rattle.record_replay_spec.specs.StoreAnswers.{allows_pages}
 use Rattle.replay_module_laws.specs.Stores.{memory_cut, with_own}
 use Rattle.generated_code_laws.proofs.Shared.{cut_same}
-
-set_before : {X : Type 0} (items own : List X) (i : ℕ) (old x : X) → slice_get items i ≡ Some old
-    → slice_set (items ++ own) i x ≡ slice_set items i x ++ own
-set_before [] own zero old x there = absurd (cc there)
-set_before [] own (suc i) old x there = absurd (cc there)
-set_before (y ∷ items) own zero old x there = refl
-set_before (y ∷ items) own (suc i) old x there = ap (λ l. y ∷ l) (set_before items own i old x there)
 
 module _ (own : List Val) (store after : Store) where
   abbrev beside : Store
@@ -50,7 +43,7 @@ module _ (own : List Val) (store after : Store) where
   global_beside global value (Some old) there h =
       ap (option_map (λ old. with_global beside global value))
       (get_front store.globals own global (slice_get_within store.globals global old there) ∙ there)
-      ∙ ap (λ globals. Some (record beside { globals = globals })) (set_before store.globals own global old value there)
+      ∙ ap (λ globals. Some (record beside { globals = globals })) (set_front store.globals own global old value there)
       ∙ ap (option_map (with_own own)) h
 
 size_same : (size : ℕ) (memory : Memory)

@@ -36,7 +36,7 @@ use Rattle.generated_code_laws.proofs.Relation.{AreBeside, Runs, imports_in, ret
 use Rattle.generated_code_laws.proofs.Sides.{appended_side, below_start, import_side, original_side}
 use Rattle.generated_code_laws.proofs.Settled.{delivered, returned, settled}
 use Rattle.generated_code_laws.proofs.Codes.{topmost_pushed}
-use Rattle.generated_code_laws.proofs.Answered.{step_alone, unchanged_by}
+use Rattle.generated_code_laws.proofs.AnsweredCalls.{step_alone, unchanged_by}
 use Rattle.generated_code_laws.proofs.Together.{Ending, none_first, IsPlayed, IsEnded, Follows}
 use Rattle.generated_code_laws.proofs.Bounded.{bounded_before, bounded_return, made_bounded, none_bounded}
 use Rattle.generated_code_laws.proofs.Parts.{follows_after, follows_settled}

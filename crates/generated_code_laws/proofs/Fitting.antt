@@ -19,6 +19,7 @@ use Rattle.trace_model.specs.declared.tapes.Origin.TheVariants.{Begin, Import, B
 use Rattle.trace_model.specs.declared.tapes.Segment.{Segment}
 use Rattle.trace_model.specs.Effects.{are_ordered}
 use Rattle.trace_model.specs.Fitting.{came, effect_fits, effects_fit, fitting_step, gives_values, left, takes_values, types_of, unfit_from}
+use Rattle.replay_module_laws.proofs.TypedSegments.{typed_values}
 use Rattle.generated_code_laws.specs.Playable.{AllWriteBytes, WritesBytes}
 use Rattle.generated_code_laws.proofs.Together.{AreFit}
 
@@ -94,11 +95,6 @@ pub record FitsCall (m : Module) (opened : List ℕ) (func : ℕ) (args : List V
   pub typed : func_type m func ≡ Some ty
   pub given : types_of args ≡ ty.params
   pub same : opened ≡ after
-
-typed_values : (types : List ValType) (o : Option FuncType) → takes_values types o ≡ true
-    → (ty : FuncType) × (o ≡ Some ty) × (types ≡ ty.params)
-typed_values types None h = absurd (cc h)
-typed_values types (Some ty) h = (ty, refl, types_same types ty.params h)
 
 given_values : (types : List ValType) (o : Option FuncType) → gives_values types o ≡ true
     → (ty : FuncType) × (o ≡ Some ty) × (types ≡ ty.results)

@@ -43,7 +43,7 @@ use Rattle.generated_code_laws.proofs.Sides.{appended_side}
 use Rattle.generated_code_laws.proofs.Sound.{IsSound, effects_writable, grow_beside}
 use Rattle.generated_code_laws.proofs.EffectStores.{effects_beside}
 use Rattle.generated_code_laws.proofs.Groups.{next_some}
-use Rattle.generated_code_laws.proofs.Answered.{same_steps}
+use Rattle.generated_code_laws.proofs.AnsweredCalls.{same_steps}
 use Rattle.generated_code_laws.proofs.Together.{AreWithin, MakesFirst, Playing, WithinBy, AreFit, IsHostOn, IsPlayed, Follows}
 use Rattle.generated_code_laws.proofs.Settled.{HasOneResult}
 use Rattle.generated_code_laws.proofs.Bounded.{bounded_before, segment_steps, steps_counted, with_next}
@@ -81,7 +81,7 @@ module _ (laws : RunLaws) (effects_law : EffectsAreMade) (m : Module) (plan : Pl
       pub leads : Leads (watched m code)
           (standing s (with_own (counters counts) store) [] labels (sequence (effects_code effects ++ leaving) Empty)
           number) items (standing s (with_own (counters counts) after) [] labels (sequence leaving Empty) at)
-      pub told : AreItemsOf store effects items
+      pub known : AreItemsOf store effects items
 
     to_next : ComesToNext
     to_next =
@@ -103,11 +103,11 @@ module _ (laws : RunLaws) (effects_law : EffectsAreMade) (m : Module) (plan : Pl
               (standing s (with_own own store) [] labels (sequence (effects_code effects) nest) number) r.items
               (standing s (with_own own after) [] labels nest r.at))
               (ap (λ code. sequence code Empty) (sym some.is)) r.leads);
-          told = record {
-            silent = r.told.silent;
-            changes = λ grows. r.told.changes (grow_beside own store after effects done grows);
-            steps = r.told.steps;
-            blocks = r.told.blocks;
+          known = record {
+            silent = r.known.silent;
+            changes = λ grows. r.known.changes (grow_beside own store after effects done grows);
+            steps = r.known.steps;
+            blocks = r.known.blocks;
           };
         }
 
@@ -144,11 +144,11 @@ module _ (laws : RunLaws) (effects_law : EffectsAreMade) (m : Module) (plan : Pl
         let t = to_next in
         follows_after laws m plan code (AllGrowSizes store effects)
         (WithinBy m plan (7 * next_weight next) (with_next next begun) later) (Playing m plan segment later) _ _ t.items
-        t.leads t.told.silent (λ grows rest c. claimed_before t.items t.told.silent (t.told.changes grows) rest c)
+        t.leads t.known.silent (λ grows rest c. claimed_before t.items t.known.silent (t.known.changes grows) rest c)
         (λ rest c.
-        let few = t.told.steps in
+        let few = t.known.steps in
         bounded_before plan (with_next next begun) (left_of (imported_funcs m) later).calls (imported_funcs m)
-        (7 * next_weight next) (segment_steps segment) t.items rest t.told.silent (omega (arith, few)) t.told.blocks
+        (7 * next_weight next) (segment_steps segment) t.items rest t.known.silent (omega (arith, few)) t.known.blocks
         c)
         r.entries r.next
         (f t.at)

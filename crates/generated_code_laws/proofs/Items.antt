@@ -2,7 +2,7 @@
 use Rattle.std.proofs.Common.{◌≡◌, ◌+◌, List, [], ◌∷◌, ◌++◌, true, false, refl, ap, arith}
 use Rattle.std.specs.Prelude.{map}
 use Rattle.trace_model.specs.declared.tapes.Effect.{Effect}
-use Rattle.replay_run_spec.specs.Items.{Item, Makes, Changes, Steps, entries_in}
+use Rattle.replay_run_spec.specs.Items.{Item, Makes, Changes, Steps}
 use Rattle.generated_code_laws.specs.Counts.{changes_in, steps_in}
 
 -- ---- two parts
@@ -41,11 +41,6 @@ pub blocks_of_both : (first second : List Item)
 blocks_of_both first second = (counts_of_both first second).1
 
 -- ---- changes first
-
-pub changes_silent : (changes : List Effect) (later : List Item)
-    → entries_in (map Changes changes ++ later) ≡ entries_in later
-changes_silent [] later = refl
-changes_silent (change ∷ changes) later = changes_silent changes later
 
 pub changes_there : (changes : List Effect) (later : List Item)
     → changes_in (map Changes changes ++ later) ≡ changes ++ changes_in later

@@ -10,7 +10,7 @@ mod Sound
 mod Codes
 mod Counted
 mod Groups
-mod Answered
+mod AnsweredCalls
 mod Together
 mod Parts
 mod Reached
@@ -29,8 +29,8 @@ mod Quiet
 mod Singles
 mod Bytes
 pub mod Does
-pub mod Written
-mod Stored
+pub mod WrittenItems
+mod StoredBytes
 mod Runs
 pub mod Effects
 mod Lacking

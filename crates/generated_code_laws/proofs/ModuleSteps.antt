@@ -33,13 +33,14 @@ use Rattle.replay_module_laws.specs.Stores.{counters, with_own}
 use Rattle.replay_module_laws.specs.Codes.{IsDefined, IsReplayCode, import_definition}
 use Rattle.generated_code_laws.proofs.Relation.{AreBeside, Runs, imports_in, own_place, watched}
 use Rattle.generated_code_laws.proofs.Shared.{IsBeside, executed_beside}
-use Rattle.generated_code_laws.proofs.Sides.{below_start, import_side, never_outside, original_side}
+use Rattle.generated_code_laws.proofs.Sides.{below_start, import_side, never_outside, none_imported, original_side}
 use Rattle.generated_code_laws.proofs.Sound.{IsSound, changes_sound}
 use Rattle.generated_code_laws.proofs.Settled.{none_settles, returned, settled}
 use Rattle.generated_code_laws.proofs.Together.{Within, none_first, AtCall, IsPlayed, IsEnded, Follows, at_call}
 use Rattle.generated_code_laws.proofs.Bounded.{made_bounded, none_bounded}
-use Rattle.generated_code_laws.proofs.Parts.{MakesStep, follows_settled, nothing_shown, shown_made}
+use Rattle.generated_code_laws.proofs.Parts.{MakesStep, follows_settled, nothing_shown}
 use Rattle.generated_code_laws.specs.Below.{RunLaws, InstructionLaws}
+use Rattle.generated_code_laws.proofs.Singles.{entries_made}
 
 repeated_there : {X : Type 0} (count i : ℕ) (x : X) → i < count → slice_get (replicate count x) i ≡ Some x
 repeated_there zero i x below = absurd (omega (arith, below))
@@ -66,9 +67,6 @@ module _ (laws : RunLaws) (instructions : InstructionLaws) (m : Module) (plan : 
 
   abbrev step_entry : (operands results : List Val) → (found : Option ℕ) → Entry
   step_entry operands results found = Step frame.func frame.at.number operands results found
-
-  never_imported : (func : ℕ) → nat_lt func code.imported ≡ false
-  never_imported func = let e = is.imported in grind (arith, nat_tests, e)
 
   -- a function of the original remains typed, entered or waiting
   module _ (next : Frame) (same : IsSameActivation frame next) where
@@ -166,7 +164,7 @@ module _ (laws : RunLaws) (instructions : InstructionLaws) (m : Module) (plan : 
         ap (after_instruction (watched m code).program here.config frame own) e
         ∙ ap (λ b. after_entries (step_entry operands results found ∷ [])
         (call_function (watched m code).program b (with_own (counters counts) store) [] func args
-        (InModule waiting ∷ own))) (never_imported func)
+        (InModule waiting ∷ own))) (none_imported m plan code is func)
         ∙ ap (λ o. after_entries call_entries
         (enter_defined o (definition code func) (with_own (counters counts) store) [] func args
         (InModule waiting ∷ own))) has_type
@@ -295,7 +293,7 @@ module _ (laws : RunLaws) (instructions : InstructionLaws) (m : Module) (plan : 
                     ∙ ap (λ l. step_entry operands results found ∷ ImportCall func l ∷ []) (sym call.given);
                 control = ap (λ f. func ∷ f ∷ inside) (sym same.func);
               })).1 own_side;
-          shown = shown_made [] shown;
+          shown = entries_made [] shown;
           together =
               AtCall store func args callee waiting stack counts segments (InModule waiting ∷ own)
               (waiting.func ∷ inside)

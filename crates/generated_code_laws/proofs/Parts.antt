@@ -21,9 +21,10 @@ use Rattle.history_spec.specs.Projection.{Original, side, shown_entries}
 use Rattle.replay_module_spec.specs.declared.plans.Plan.{Plan}
 use Rattle.replay_module_spec.specs.Plans.{left_of}
 use Rattle.record_replay_spec.specs.TapeRun.{TapeConfig, TapeProgress, tape_progress, Plays, Over, Disagrees, NoRule, after_step, origin_after}
-use Rattle.replay_run_spec.specs.Inside.{inside_after, inside_after_all, args_after_all}
+use Rattle.replay_run_spec.specs.Inside.{inside_after_all, args_after_all}
 use Rattle.replay_run_spec.specs.Items.{Item, Makes, Changes, changes_of, is_block, Steps, entries_in}
 use Rattle.replay_run_spec.specs.Stretches.{Stretches, at_entry, stretches_from}
+use Rattle.replay_run_spec.proofs.Histories.{inside_over}
 use Rattle.generated_code_laws.specs.Leads.{Place, Leads, IsOutside}
 use Rattle.generated_code_laws.proofs.Along.{entries_over}
 use Rattle.generated_code_laws.specs.Ends.{Shows}
@@ -37,13 +38,9 @@ use Rattle.generated_code_laws.proofs.Settled.{ArePlaced, AreReturned, AreSettle
 use Rattle.generated_code_laws.proofs.Together.{AreFit, IsHostOn, AreTogether, InOriginal, AtReturn, IsPlayed, IsMoved, HasShown, Follows, FollowsTo, tape_config, Claim, claim_at, AreBounded, AreWithin, AtHost, MakesFirst, Within, WithinBy}
 use Rattle.generated_code_laws.proofs.Bounded.{AreWithinCalls}
 use Rattle.generated_code_laws.specs.Below.{RunLaws}
+use Rattle.generated_code_laws.proofs.Singles.{entries_made}
 
 -- ---- lists of entries
-
-pub inside_of_both : (inside : List ℕ) (first second : List Entry)
-    → inside_after_all inside (first ++ second) ≡ inside_after_all (inside_after_all inside first) second
-inside_of_both inside [] second = refl
-inside_of_both inside (entry ∷ first) second = inside_of_both (inside_after inside entry) first second
 
 origin_of_both : (came : Origin) (first second : List Entry)
     → origin_after (first ++ second) came ≡ origin_after second (origin_after first came)
@@ -57,12 +54,6 @@ origin_of_both came (Exit func results ∷ first) second = origin_of_both came f
 origin_of_both came (Step func number operands results found ∷ first) second = origin_of_both came first second
 origin_of_both came (Trap func number kind operands found ∷ first) second = origin_of_both came first second
 origin_of_both came (HostTrap ∷ first) second = origin_of_both came first second
-
-pub shown_made : (changes : List Effect) (entries : List Entry)
-    → entries_in (map Changes changes ++ map Makes entries) ≡ entries
-shown_made [] [] = refl
-shown_made [] (entry ∷ entries) = ap (λ l. entry ∷ l) (shown_made [] entries)
-shown_made (change ∷ changes) entries = shown_made changes entries
 
 -- ---- stretches
 
@@ -196,7 +187,7 @@ module _ (laws : RunLaws) (m : Module) (plan : Plan) (code : Code) where
 
     control_all : inside_after_all p.inside (own_first ++ own.entries) ≡ inside_after_all inside own.entries
     control_all =
-        inside_of_both p.inside own_first own.entries ∙ ap (λ i. inside_after_all i own.entries) made.control
+        inside_over p.inside own_first own.entries ∙ ap (λ i. inside_after_all i own.entries) made.control
 
     outside_stretches : IsOutside (layout_of m) frame.func → (rest : List Item)
         → stretches_from (outside_step (watched m code) p frame entries ++ rest)
@@ -276,7 +267,7 @@ module _ (laws : RunLaws) (m : Module) (plan : Plan) (code : Code) where
               next = end;
               items = outside_step (watched m code) p frame entries;
               leads = lead.0 outside;
-              shown = shown_made own_changes entries;
+              shown = entries_made own_changes entries;
               together = together;
               claimed = λ pr rest c. subst (AreWithin segments) (sym (outside_stretches outside rest)) (closes rest c);
               bounded = λ rest c.
@@ -290,7 +281,7 @@ module _ (laws : RunLaws) (m : Module) (plan : Plan) (code : Code) where
               next = end;
               items = map Makes entries;
               leads = lead.1 original;
-              shown = shown_made [] entries;
+              shown = entries_made [] entries;
               together = together;
               claimed = λ pr rest c. subst (AreWithin segments) (sym (made_stretches entries rest)) (closes rest c);
               bounded = λ rest c. bounded tape.entries settles.keeps rest (closes_bound rest c);
@@ -312,10 +303,10 @@ module _ (laws : RunLaws) (m : Module) (plan : Plan) (code : Code) where
             record {
               items = outside_step (watched m code) p frame entries;
               shows = shows.0 outside;
-              shown = shown_made own_changes entries;
+              shown = entries_made own_changes entries;
             }
         go shows (inr original) =
-            record { items = map Makes entries; shows = shows.1 original; shown = shown_made [] entries }
+            record { items = map Makes entries; shows = shows.1 original; shown = entries_made [] entries }
 
     -- what the tape's run does after the step
     pub follows_settled : Follows m plan code premise (WithinBy m plan extra begun segments) p

@@ -1,7 +1,6 @@
 -- The activation of the host plays its next segment.
-use Rattle.std.proofs.Common.{◌≡◌, ℕ, ◌+◌, ◌≤◌, List, [], ◌∷◌, ◌++◌, length, reverse, Option, Some, None, false, nat_lt, replicate, refl, sym, ap, ◌∙◌, subst, arith, inl}
+use Rattle.std.proofs.Common.{◌≡◌, ℕ, ◌+◌, ◌≤◌, List, [], ◌∷◌, ◌++◌, length, reverse, Option, Some, None, false, replicate, refl, sym, ap, ◌∙◌, subst, arith, inl}
 use Rattle.std.specs.Prelude.{map}
-use Rattle.std.proofs.lemmas.Bool.Decides.{nat_tests}
 use Rattle.wasm_syntax.specs.declared.values.Val.{Val}
 use Rattle.wasm_syntax.specs.declared.signatures.FuncType.{FuncType}
 use Rattle.wasm_syntax.specs.declared.instructions.Instr.{Instr}
@@ -33,9 +32,9 @@ use Rattle.replay_module_spec.specs.Merge.{layout_of}
 use Rattle.replay_module_laws.specs.Stores.{counters, with_own}
 use Rattle.replay_module_laws.specs.Codes.{IsReplayCode}
 use Rattle.generated_code_laws.proofs.Relation.{AreBeside, imports_in, waiting_frame, watched}
-use Rattle.generated_code_laws.proofs.Sides.{appended_side, below_start, original_side}
+use Rattle.generated_code_laws.proofs.Sides.{appended_side, below_start, none_imported, original_side}
 use Rattle.generated_code_laws.proofs.Settled.{none_settles, returned, settled}
-use Rattle.generated_code_laws.proofs.Answered.{unchanged_by}
+use Rattle.generated_code_laws.proofs.AnsweredCalls.{unchanged_by}
 use Rattle.generated_code_laws.proofs.Codes.{does_consts, pops_pushed}
 use Rattle.generated_code_laws.proofs.Together.{WithinBy, IsPlayed, Follows}
 use Rattle.generated_code_laws.proofs.Bounded.{bounded_before, made_bounded}
@@ -122,7 +121,7 @@ module _ (laws : RunLaws) (m : Module) (plan : Plan) (code : Code) (is : IsRepla
               (pops_pushed ty.params args [] given)
               ∙ ap (λ b. after_entries (Step base.func number args [] None ∷ [])
               (call_function (watched m code).program b beside [] func args
-              (InModule (waiting labels number) ∷ below))) (none_imported' func)
+              (InModule (waiting labels number) ∷ below))) (none_imported m plan code is func)
               ∙ ap (λ o. after_entries (first_entries number)
               (enter_defined o (definition code func) beside [] func args
               (InModule (waiting labels number) ∷ below))) (is.shares.signatures func ty typed)
@@ -153,10 +152,6 @@ module _ (laws : RunLaws) (m : Module) (plan : Plan) (code : Code) (is : IsRepla
 
         config : Config
         config = (call_place labels number).config
-
-        none_imported' : (func : ℕ) → nat_lt func code.imported ≡ false
-        none_imported' func =
-            let e = is.imported in grind (arith, nat_tests, e)
 
     pub calls_original : (labels : List Label) (number : ℕ)
         → Follows m plan code premise (WithinBy m plan 2 begun segments) (call_place labels number)

@@ -50,7 +50,7 @@ use Rattle.generated_code_laws.proofs.Counted.{counted}
 use Rattle.generated_code_laws.proofs.Bounded.{most_before, steps_counted}
 use Rattle.generated_code_laws.proofs.CallsLeft.{set_is, set_other}
 use Rattle.generated_code_laws.proofs.Groups.{segments_some}
-use Rattle.generated_code_laws.proofs.Answered.{IsReached, answers_call, same_steps}
+use Rattle.generated_code_laws.proofs.AnsweredCalls.{IsReached, answers_call, same_steps}
 use Rattle.generated_code_laws.proofs.Together.{IsHostOn, at_call}
 use Rattle.generated_code_laws.specs.Below.{StepLaws}
 

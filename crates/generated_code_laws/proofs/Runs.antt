@@ -8,8 +8,8 @@ use Rattle.generated_code_laws.specs.Leads.{Watched, IsOutside, Standing}
 use Rattle.generated_code_laws.specs.Bytes.{AreBytes}
 use Rattle.generated_code_laws.proofs.Bytes.{first_bytes, last_bytes}
 use Rattle.generated_code_laws.proofs.Does.{Does, does_nothing, does_both}
-use Rattle.generated_code_laws.proofs.Written.{written_length, written_twice, written_nothing}
-use Rattle.generated_code_laws.proofs.Stored.{memory_with_bytes, store_items, stores_items, stores_bytes}
+use Rattle.generated_code_laws.proofs.WrittenItems.{written_length, written_twice, written_nothing}
+use Rattle.generated_code_laws.proofs.StoredBytes.{memory_with_bytes, store_items, stores_items, stores_bytes}
 
 -- bytes for stores of these widths: as many as the first writes, and the others
 pub record AreSplit (width : Width) (widths : List Width) (bytes : List ℕ) : Type 0 where

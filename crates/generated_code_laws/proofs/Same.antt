@@ -1,13 +1,13 @@
 -- Changes that are equal to effects.
 use Rattle.std.proofs.Common.{◌≡◌, ℕ, ◌+◌, List, [], ◌∷◌, ◌++◌, length, Option, None, refl, sym, ap, ◌∙◌, subst}
 use Rattle.std.specs.Option.{option_or}
+use Rattle.base.proofs.Options.{or_none, or_assoc}
 use Rattle.trace_model.specs.declared.tapes.Effect.{Effect}
 use Rattle.trace_model.specs.declared.tapes.Effect.TheVariants.{Bytes}
 use Rattle.record_replay_spec.specs.Known.{last_some}
 use Rattle.record_replay_spec.specs.Needed.{effect_byte, effect_entry, effect_global, effect_pages, effect_entries}
-use Rattle.record_replay_spec.proofs.OneList.{or_none}
 use Rattle.replay_run_spec.specs.Stretches.{AreSameChanges}
-use Rattle.replay_run_spec.proofs.Joined.{or_assoc, bytes_split}
+use Rattle.replay_run_spec.proofs.Joined.{bytes_split}
 
 -- what the last of two parts gives
 last_both : {X : Type 0} (part : Effect → Option X) (first second : List Effect)

@@ -5,7 +5,7 @@ use Rattle.std.proofs.lemmas.Bool.Decides.{nat_tests}
 use Rattle.std.proofs.lemmas.Option.{none-some, slice_get_within}
 use Rattle.base.proofs.Options.{map_some}
 use Rattle.base.proofs.Lists.{get_front}
-use Rattle.wasm_syntax.specs.declared.limits.TheConstants.{MOST_PAGES}
+use Rattle.wasm_syntax.specs.declared.limits.TheConstants.{MAX_DECLARED_PAGES, MAX_PAGES}
 use Rattle.wasm_syntax.specs.declared.values.Val.{Val}
 use Rattle.wasm_syntax.specs.declared.values.ValType.{ValType}
 use Rattle.host_script.specs.Supply.{is_within}
@@ -19,7 +19,6 @@ use Rattle.record_replay_spec.specs.StoreAnswers.{BothOrNeither, AllowSamePages,
 use Rattle.record_replay_spec.specs.Changes.{CanChange, CanChangeAll, IsChangedAs, with_change, with_changes}
 use Rattle.record_replay_spec.specs.Executions.{Shares, IsCallOf, IsExecutedAlike, IsSameActivation}
 use Rattle.record_replay_spec.specs.ObservedStepLaws.{observed, ObservedStepsAreAlike, StoresAnswerThemselves}
-use Rattle.replay_module_spec.specs.Merge.{most_written}
 use Rattle.replay_module_laws.specs.Stores.{memory_cut, with_own}
 
 -- ---- one kind
@@ -29,8 +28,8 @@ pub cut_same : (memory : Memory) (size : ℕ) → allows_pages (memory_cut memor
 cut_same memory size = go memory.max
   where
     go : (max : Option ℕ)
-        → (is_within size (option_map (λ max. min max most_written) max) && nat_le size MOST_PAGES)
-        ≡ (is_within size max && nat_le size MOST_PAGES)
+        → (is_within size (option_map (λ max. min max MAX_DECLARED_PAGES) max) && nat_le size MAX_PAGES)
+        ≡ (is_within size max && nat_le size MAX_PAGES)
     go None = refl
     go (Some most) = grind (arith, nat_tests)
 

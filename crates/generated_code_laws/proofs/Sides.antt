@@ -7,12 +7,14 @@ use Rattle.base.proofs.Options.{and_then_some}
 use Rattle.wasm_syntax.specs.declared.signatures.FuncType.{FuncType}
 use Rattle.wasm_syntax.specs.declared.modules.Module.{Module}
 use Rattle.wasm_syntax.specs.Index.{func_indices, imported_funcs}
-use Rattle.history_spec.specs.Code.{code_of, signature}
+use Rattle.history_spec.specs.Code.{Code, code_of, signature}
 use Rattle.history_spec.specs.Projection.{Import, Original, Appended, side, side_from, side_past}
 use Rattle.replay_module_spec.specs.Fragments.{start_index}
 use Rattle.generated_code_laws.specs.Leads.{IsOutside, InPlace, Behind}
 use Rattle.replay_module_laws.proofs.Functions.{functions}
+use Rattle.replay_module_laws.specs.Codes.{IsReplayCode}
 use Rattle.replay_module_spec.specs.Merge.{layout_of}
+use Rattle.replay_module_spec.specs.declared.plans.Plan.{Plan}
 
 module _ (m : Module) where
   pub import_side : (func : ℕ) → func < imported_funcs m → side (layout_of m) func ≡ Import
@@ -47,3 +49,8 @@ module _ (m : Module) where
 pub never_outside : (m : Module) (func : ℕ) → side (layout_of m) func ≡ Original → IsOutside (layout_of m) func → ⊥
 never_outside m func original (InPlace e) = let same = sym original ∙ e in cc
 never_outside m func original (Behind e) = let same = sym original ∙ e in cc
+
+-- the replay module imports no function
+pub none_imported : (m : Module) (plan : Plan) (code : Code) → IsReplayCode m plan code → (func : ℕ)
+    → nat_lt func code.imported ≡ false
+none_imported m plan code is func = let e = is.imported in grind (arith, nat_tests, e)

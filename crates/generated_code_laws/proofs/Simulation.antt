@@ -28,17 +28,18 @@ use Rattle.replay_module_spec.specs.Fragments.{start_index}
 use Rattle.generated_code_laws.specs.Laws.{AreEffectsOfFirst}
 use Rattle.generated_code_laws.specs.Playable.{GrowsNext}
 use Rattle.replay_module_laws.specs.Codes.{IsReplayCode}
+use Rattle.replay_module_laws.proofs.FittingPlans.{left_length}
 use Rattle.generated_code_laws.proofs.Relation.{own_place, AreBeside, Runs, AreLeft, imports_in, watched}
 use Rattle.generated_code_laws.proofs.Sound.{IsSound}
 use Rattle.generated_code_laws.proofs.Settled.{AreReturned}
 use Rattle.generated_code_laws.proofs.Counted.{counted}
-use Rattle.generated_code_laws.proofs.Answered.{IsReached}
+use Rattle.generated_code_laws.proofs.AnsweredCalls.{IsReached}
 use Rattle.generated_code_laws.proofs.Together.{Claim, claim_at, Playing, AtHost, tape_config, AreFit, AreTogether, InOriginal, AtBegin, AtReturn, AtCall, IsHostOn, HasShown, at_call, IsEnded, Follows, FollowsTo}
 use Rattle.generated_code_laws.proofs.Parts.{steps_stretches, follows_after, nothing_shown}
 use Rattle.generated_code_laws.proofs.Reached.{begun_parts, reached_back, reached_begin, reached_call}
 use Rattle.generated_code_laws.proofs.Settled.{HasOneResult}
 use Rattle.generated_code_laws.proofs.Bounded.{arrives, most_before}
-use Rattle.generated_code_laws.proofs.CallsLeft.{many_left, set_length}
+use Rattle.generated_code_laws.proofs.CallsLeft.{set_length}
 use Rattle.generated_code_laws.proofs.Fitting.{came_back, came_begin, came_call, first_fits}
 use Rattle.generated_code_laws.proofs.HostSteps.{host_follows}
 use Rattle.generated_code_laws.proofs.ModuleSteps.{module_follows}
@@ -201,7 +202,7 @@ module _ (laws : FollowLaws) (m : Module) (plan : Plan) (code : Code) (is : IsRe
       let reached =
       reached_call laws.steps m plan code is store import args ty caller stack before own inside all
       (left_of (imported_funcs m) later).calls typed below given played.many
-      (many_left (imported_funcs m) later) played.sound
+      (left_length (imported_funcs m) later) played.sound
       (subst (λ (l : Left). AreLeft plan.imports before l.calls) l played.calls)
       (short import)
       (subst (λ (l : Left).

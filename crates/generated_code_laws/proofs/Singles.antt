@@ -24,7 +24,7 @@ use Rattle.generated_code_laws.proofs.Quiet.{NoTraps, run_quiet, outcome_after}
 
 -- ---- items of changes and entries
 
-entries_made : (changes : List Effect) (entries : List Entry)
+pub entries_made : (changes : List Effect) (entries : List Entry)
     → entries_in (map Changes changes ++ map Makes entries) ≡ entries
 entries_made [] [] = refl
 entries_made [] (entry ∷ entries) = ap (λ later. entry ∷ later) (entries_made [] entries)

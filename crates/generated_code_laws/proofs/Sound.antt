@@ -10,7 +10,7 @@ use Rattle.std.proofs.lemmas.Option.{none-some, slice_get_within, slice_get-map}
 use Rattle.base.proofs.Booleans.{and_parts}
 use Rattle.base.proofs.Lists.{get_front}
 use Rattle.base.proofs.Options.{map_some, and_then_some, cond_some}
-use Rattle.wasm_syntax.specs.declared.limits.TheConstants.{MOST_ENTRIES, MOST_PAGES, PAGE_SIZE}
+use Rattle.wasm_syntax.specs.declared.limits.TheConstants.{MAX_ENTRIES, MAX_PAGES, PAGE_SIZE}
 use Rattle.wasm_syntax.specs.declared.values.Val.{Val}
 use Rattle.wasm_syntax.specs.declared.values.ValType.{ValType}
 use Rattle.wasm_syntax.specs.declared.signatures.Limits.{Limits}
@@ -31,7 +31,7 @@ use Rattle.record_replay_spec.specs.Changes.{CanChange, CanChangeAll, with_bytes
 use Rattle.type_safety.specs.Stores.{global_types}
 use Rattle.replay_run_spec.specs.Items.{page_count}
 use Rattle.generated_code_laws.specs.EffectLaws.{AllGrowSizes, AreWritable, GrowsSize, IsWritable}
-use Rattle.generated_code_laws.proofs.Written.{written_length, bytes_placed}
+use Rattle.generated_code_laws.proofs.WrittenItems.{written_length, bytes_placed}
 use Rattle.generated_code_laws.specs.Playable.{WritesBytes}
 use Rattle.replay_module_laws.specs.Stores.{memory_cut, with_own}
 use Rattle.generated_code_laws.proofs.EffectStores.{effect_beside}
@@ -202,10 +202,10 @@ module _ (m : Module) where
       → WritesBytes effect → IsSound m store → store_after_effect store effect ≡ Some next
       → IsWritable (length (all_globals m)) (with_own own store) effect
   effect_writable own store next (Grow size) fits bytes s h =
-      let most : size ≤ 4096 = grows_small MOST_PAGES size (slice_get (all_memories m) 0) fits in
+      let most : size ≤ 4096 = grows_small MAX_PAGES size (slice_get (all_memories m) 0) fits in
       omega (arith, most)
   effect_writable own store next (GrowTable size) fits bytes s h =
-      let most : size ≤ 1000000 = grows_small MOST_ENTRIES size (slice_get (all_tables m) 0) fits in
+      let most : size ≤ 1000000 = grows_small MAX_ENTRIES size (slice_get (all_tables m) 0) fits in
       omega (arith, most)
   effect_writable own store next (Bytes address written) fits bytes s h = bytes
   effect_writable own store next (SetEntry index func) fits bytes s h = tt

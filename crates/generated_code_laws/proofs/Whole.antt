@@ -5,8 +5,6 @@ use Rattle.std.specs.List.{slice_index_or}
 use Rattle.std.proofs.lemmas.List.{append-nil}
 use Rattle.std.proofs.lemmas.List.Sums.{sum_by-cons}
 use Rattle.wasm_syntax.specs.declared.limits.TheConstants.{PAGE_SIZE}
-use Rattle.wasm_syntax.specs.declared.values.Val.{Val}
-use Rattle.wasm_syntax.specs.declared.values.ValType.{ValType}
 use Rattle.wasm_syntax.specs.declared.signatures.Limits.{Limits}
 use Rattle.wasm_syntax.specs.declared.modules.Module.{Module}
 use Rattle.wasm_syntax.specs.Index.{all_memories, func_indices, imported_funcs}
@@ -21,7 +19,7 @@ use Rattle.trace_model.specs.declared.tapes.Tape.{Tape}
 use Rattle.trace_model.specs.Fitting.{unfit_from}
 use Rattle.trace_model.specs.Weight.{effect_weight, next_weight, segment_weight}
 use Rattle.history_spec.specs.declared.entries.Entry.{Entry}
-use Rattle.history_spec.specs.Code.{code_of, types_of}
+use Rattle.history_spec.specs.Code.{code_of}
 use Rattle.history_spec.specs.Configuration.{InMain}
 use Rattle.history_spec.specs.Projection.{Projection, shown_entries, shown_outcome}
 use Rattle.history_spec.specs.Replay.{Replays, instructions, program_alone, run_start_alone, start_alone_or_fault}
@@ -38,19 +36,19 @@ use Rattle.replay_run_spec.specs.Laws.{ItemsHoldHistories, ItemsShowProjections}
 use Rattle.replay_run_spec.specs.Steps.{AreWithinBound, call_steps}
 use Rattle.generated_code_laws.specs.Leads.{Place, items_from}
 use Rattle.type_safety.specs.Stores.{IsStore, MayBeMemory, func_count, global_types}
-use Rattle.type_safety.specs.Values.{AreValues}
+use Rattle.type_safety.proofs.Values.{types_values}
 use Rattle.replay_module_spec.specs.Merge.{layout_of}
 use Rattle.generated_code_laws.specs.Playable.{GrowsAlways, shown_run, IsPlayable, replay_of, replay_run}
 use Rattle.generated_code_laws.specs.Laws.{AreBothOver, AreEffectsOfFirst, ReplaysAreWithinBound, ReplaysMakeEffects, ReplaysBegin, ReplaysShowHistories, ReplaysShowOutcomes, ShowsHistory}
 use Rattle.generated_code_laws.proofs.Relation.{AreLeft, own_place, watched}
 use Rattle.generated_code_laws.proofs.Sound.{IsSound}
 use Rattle.generated_code_laws.proofs.Together.{AtHost, AreFit, AreTogether, AtBegin, tape_config}
-use Rattle.generated_code_laws.proofs.CallsLeft.{many_left, none_replicated, replicate_length}
-use Rattle.generated_code_laws.proofs.Bounded.{next_weighs}
+use Rattle.generated_code_laws.proofs.CallsLeft.{none_replicated, replicate_length}
 use Rattle.generated_code_laws.proofs.Settled.{HasOneResult}
 use Rattle.base.proofs.Lists.{all_at}
 use Rattle.base.proofs.Options.{and_then_some}
 use Rattle.replay_module_laws.specs.CodeLaws.{ReplayModulesBegin}
+use Rattle.replay_module_laws.proofs.FittingPlans.{left_length, next_weighs}
 use Rattle.generated_code_laws.proofs.Along.{items_over}
 use Rattle.generated_code_laws.proofs.Simulation.{PlaysOut, run_follows}
 use Rattle.generated_code_laws.specs.Below.{FollowLaws, StartLaws, LawsOfReplays}
@@ -126,19 +124,11 @@ segments_weigh (segment ∷ later) =
 
 -- ---- the start
 
-types_are : (funcs : ℕ) (types : List ValType) (values : List Val) → AreValues funcs types values → types_of values
-    ≡ types
-types_are funcs [] [] h = refl
-types_are funcs [] (value ∷ values) h = absurd h
-types_are funcs (ty ∷ types) [] h = absurd h
-types_are funcs (ty ∷ types) (value ∷ values) h =
-    ap (λ t. t ∷ types_of values) h.0.typed ∙ ap (λ l. ty ∷ l) (types_are funcs types values h.1)
-
 pub store_sound : (m : Module) (store : Store) → IsStore m store → IsSound m store
 store_sound m store s =
     record {
       whole = go (all_memories m) store.memory s.memory;
-      types = types_are (func_count m) (global_types m) store.globals s.globals;
+      types = types_values (func_count m) (global_types m) store.globals s.globals;
     }
   where
     go : (limits : List Limits) (o : Option Memory) → MayBeMemory limits o
@@ -215,12 +205,12 @@ module _ (laws : FollowLaws) (start : StartLaws) (m : Module) (supply : Supply) 
       omega (arith, few, weigh, most)
 
   plays : (k : ℕ) → PlaysOut laws m plan (code_of replay)
-      (start.code m supply plan can.runnable.valid (many_left imports tape.segments)) short
+      (start.code m supply plan can.runnable.valid (left_length imports tape.segments)) short
       (one_result m can.runnable.valid) (GrowsAlways m store tape) (AtHost m plan Begin tape.segments) first_place
       (tape_run (code_of m) store tape.segments k)
   plays k =
       run_follows laws m plan (code_of replay)
-      (start.code m supply plan can.runnable.valid (many_left imports tape.segments)) short
+      (start.code m supply plan can.runnable.valid (left_length imports tape.segments)) short
       (one_result m can.runnable.valid) k
       (tape_config store (InMain (pause ∷ []) ∷ []) zeros tape.segments Begin) first_place together
 

@@ -62,7 +62,7 @@ pub record MakesEffects (w : Watched) (s : Standing) (store after : Store) (effe
   pub at : ℕ
   pub leads : Leads w (standing s store [] labels (sequence (effects_code effects) rest) number) items
       (standing s after [] labels rest at)
-  pub told : AreItemsOf store effects items
+  pub known : AreItemsOf store effects items
 
 -- the code of effects performs them, if code can perform them and they can be performed on the store
 abbrev pub EffectsAreMade : Type 0

@@ -1,5 +1,6 @@
 -- Tapes from which a replay module can be made, that module, and what its run shows of the original.
 use Rattle.std.specs.Prelude.{◌≡◌, ℕ, ◌≤◌, List, [], ◌∷◌, length, Ok, All}
+use Rattle.wasm_syntax.specs.declared.limits.TheConstants.{MAX_TAPE_WEIGHT}
 use Rattle.wasm_syntax.specs.declared.modules.Module.{Module}
 use Rattle.wasm_syntax.specs.Index.{imported_funcs, all_globals}
 use Rattle.host_script.specs.declared.scripts.Supply.{Supply}
@@ -27,10 +28,6 @@ use Rattle.generated_code_laws.specs.EffectLaws.{AllGrowSizes}
 
 -- ---- tapes
 
--- the greatest allowed weight of a tape
-abbrev pub most_weight : ℕ
-most_weight = 2000000
-
 -- the bytes that an effect writes are bytes
 abbrev pub WritesBytes : Effect → Type 0
 WritesBytes (Bytes addr bytes) = AreBytes bytes
@@ -48,7 +45,7 @@ pub record IsPlayable (m : Module) (supply : Supply) (store : Store) (tape : Tap
   pub begins : instantiate m supply ≡ Ok store
   pub fits : IsFitting m tape
   pub bytes : All AllWriteBytes tape.segments
-  pub weight : tape_weight tape ≤ most_weight
+  pub weight : tape_weight tape ≤ MAX_TAPE_WEIGHT
 
 -- if control is with the host, the effects of the next segment that give a size give a greater one
 abbrev pub GrowsNext : Store → List Activation → List Segment → Type 0

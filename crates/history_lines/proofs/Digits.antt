@@ -1,9 +1,10 @@
 -- Two digits more of a number in hexadecimal, from the lowest on.
-use Rattle.std.proofs.Common.{◌≡◌, inl, inr, ℕ, zero, suc, ◌+◌, ◌*◌, ◌/◌, ◌%◌, ◌-◌, ◌<◌, ◌≤◌, Bool, true, false, ◌&&◌, ◌==◌, List, [], ◌∷◌, ◌++◌, length, take, drop, refl, sym, ◌∙◌, ap, ap₂, subst, append_assoc, append-nil, arith, eq-zero-or-pos}
+use Rattle.std.proofs.Common.{◌≡◌, inl, inr, ℕ, zero, suc, ◌+◌, ◌*◌, ◌/◌, ◌%◌, ◌-◌, ◌<◌, ◌≤◌, Bool, true, ◌&&◌, ◌==◌, List, [], ◌∷◌, ◌++◌, length, take, drop, refl, sym, ◌∙◌, ap, ap₂, subst, append_assoc, append-nil, arith, eq-zero-or-pos}
 use Rattle.std.specs.Prelude.{codes, slice_index, slice_set}
 use Rattle.std.proofs.Math.ListN.{drop_of_length-le}
-use Rattle.std.proofs.lemmas.Bool.Decides.{nat_tests}
 use Rattle.std.proofs.lemmas.List.{drop_more, drop-set, drop-set-add, take-append-drop}
+use Rattle.std.proofs.lemmas.Bool.{eqb-true}
+use Rattle.base.proofs.Booleans.{and_parts}
 use Rattle.history_lines.specs.declared.words.TheConstants.{PAIRS}
 use Rattle.history_spec.specs.Line.{hex_digits}
 
@@ -16,22 +17,15 @@ abbrev are_pairs : ℕ → Bool
 are_pairs zero = true
 are_pairs (suc b) = ((slice_index PAIRS (b * 2) == digit (b / 16)) && (slice_index PAIRS (b * 2 + 1) == digit (b % 16))) && are_pairs b
 
-both : (x y : Bool) → (x && y) ≡ true → (x ≡ true) × (y ≡ true)
-both true y h = (refl, h)
-both false y h = absurd cc
-
-equal : (a b : ℕ) → (a == b) ≡ true → a ≡ b
-equal a b h = grind (arith, nat_tests)
-
 pair_below : (n b : ℕ) → are_pairs n ≡ true → b < n → (slice_index PAIRS (b * 2) ≡ digit (b / 16)) × (slice_index PAIRS (b * 2 + 1) ≡ digit (b % 16))
 pair_below zero b h within = absurd (omega (arith, within))
 pair_below (suc n) b h within =
-    let last = both ((slice_index PAIRS (n * 2) == digit (n / 16)) && (slice_index PAIRS (n * 2 + 1) == digit (n % 16))) (are_pairs n) h in
+    let last = and_parts ((slice_index PAIRS (n * 2) == digit (n / 16)) && (slice_index PAIRS (n * 2 + 1) == digit (n % 16))) (are_pairs n) h in
     elim (eq-zero-or-pos (n - b)) [
       | inl z ↦
           let same : n ≡ b = omega (arith, z, within) in
-          let pair = both (slice_index PAIRS (n * 2) == digit (n / 16)) (slice_index PAIRS (n * 2 + 1) == digit (n % 16)) last.0 in
-          subst (λ k. (slice_index PAIRS (k * 2) ≡ digit (k / 16)) × (slice_index PAIRS (k * 2 + 1) ≡ digit (k % 16))) same (equal _ _ pair.0, equal _ _ pair.1)
+          let pair = and_parts (slice_index PAIRS (n * 2) == digit (n / 16)) (slice_index PAIRS (n * 2 + 1) == digit (n % 16)) last.0 in
+          subst (λ k. (slice_index PAIRS (k * 2) ≡ digit (k / 16)) × (slice_index PAIRS (k * 2 + 1) ≡ digit (k % 16))) same (eqb-true _ _ pair.0, eqb-true _ _ pair.1)
       | inr more ↦ pair_below n b last.1 (omega (arith, more))
     ]
 

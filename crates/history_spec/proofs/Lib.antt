@@ -1,1 +1,2 @@
-mod Budgets
+pub mod Budgets
+pub mod ByteNumbers

@@ -7,17 +7,17 @@ use Rattle.module_index.specs.declared.opcodes.Transfer.{Transfer}
 use Rattle.module_index.specs.Tables.{Reach, reach_of, reach_of_transfer}
 use Rattle.record_replay_spec.specs.Hooks.{on}
 
-pub told : (before : List Instr) (found : Option Access) (looked : Option Transfer) (transfer : Transfer)
+pub reported : (before : List Instr) (found : Option Access) (looked : Option Transfer) (transfer : Transfer)
     (make : Access → List Instr) (after : List Instr)
     → looked ≡ Some transfer → option_map reach_of_transfer looked ≡ option_map reach_of found
     → ((signed : Bool) → after ≡ before ++ make (access transfer.ty transfer.width signed))
     → after ≡ before ++ on found make
-told before None looked transfer make after is same given =
+reported before None looked transfer make after is same given =
     absurd (none (ap (option_map reach_of_transfer) (sym is) ∙ same))
   where
     none : Some (reach_of_transfer transfer) ≡ None → ⊥
     none e = cc e
-told before (Some a) looked transfer make after is same given =
+reported before (Some a) looked transfer make after is same given =
     let reaches : reach_of_transfer transfer ≡ reach_of a = cc (ap (option_map reach_of_transfer) (sym is) ∙ same) in
     given a.signed ∙ ap (λ (r : Reach). before ++ make (access r.ty r.width a.signed)) reaches
 
@@ -27,13 +27,13 @@ on_ok (Ok x) leads holds = leads holds
 on_ok (Err e) leads holds = holds
 
 -- a piece that was appended for each sign of an access is that of the access
-pub told_on_ok : {X E : Type 0} (r : Result X E) (before : List Instr) (found : Option Access)
+pub reported_on_ok : {X E : Type 0} (r : Result X E) (before : List Instr) (found : Option Access)
     (looked : Option Transfer) (transfer : Transfer) (make : Access → List Instr) (after : List Instr)
     → looked ≡ Some transfer → option_map reach_of_transfer looked ≡ option_map reach_of found
     → OnOk r ((signed : Bool) → after ≡ before ++ make (access transfer.ty transfer.width signed))
     → OnOk r (after ≡ before ++ on found make)
-told_on_ok r before found looked transfer make after is same given =
-    on_ok r (told before found looked transfer make after is same) given
+reported_on_ok r before found looked transfer make after is same given =
+    on_ok r (reported before found looked transfer make after is same) given
 
 -- two things that hold after success
 pub if_ok_both : {X E : Type 0} {P Q R : X → Type 0} (r : Result X E) → ((x : X) → P x → Q x → R x)

@@ -5,7 +5,7 @@ use Rattle.std.specs.List.{AllByRecursion}
 use Rattle.std.proofs.lemmas.Bool.Decides.{nat_tests}
 use Rattle.std.proofs.lemmas.List.Elements.{All-from_recursion, recursion_from_All}
 use Rattle.base.proofs.Lists.{all_at, joined_all}
-use Rattle.wasm_syntax.specs.declared.limits.TheConstants.{MOST_PARAMETERS}
+use Rattle.wasm_syntax.specs.declared.limits.TheConstants.{MAX_PARAMETERS}
 use Rattle.wasm_syntax.specs.declared.forms.Form.{Form}
 use Rattle.wasm_syntax.specs.declared.values.ValType.{ValType}
 use Rattle.wasm_syntax.specs.declared.signatures.FuncType.{FuncType}
@@ -29,7 +29,7 @@ use Rattle.hook_insert.specs.Rounds.{instrumented_code, is_call_within, round}
 use Rattle.module_index.proofs.Counts.{locals_count}
 use Rattle.hook_insert.proofs.FlatFunctions.{func_is}
 use Rattle.hook_insert.proofs.Rounds.{code_of_body}
-use Rattle.hook_insert.proofs.Inserted.{HasTold, HoldsOfKinds, each_after, each_at_end, each_at_enter, each_before}
+use Rattle.hook_insert.proofs.Inserted.{HasReported, HoldsOfKinds, each_after, each_at_end, each_at_enter, each_before}
 use Rattle.hook_insert.proofs.EncodedLocals.{added_count, counts_fit, runs_are}
 use Rattle.hook_insert.proofs.Meters.{place_less}
 use Rattle.hook_insert.proofs.Parts.{low_fits}
@@ -37,13 +37,13 @@ use Rattle.hook_insert.proofs.Parts.{low_fits}
 -- ---- instructions
 
 -- the numbers that hooks are passed for an instruction that has an encoding are words
-words_told : (form : Form) (i : Instr) → FitsInstr form i → HasTold FitsU32 i
-words_told form (Call func) fits = fits
-words_told form (Load at) fits = fits.1.1
-words_told form (Store at) fits = fits.1.1
-words_told form (GlobalGet global) fits = fits
-words_told form (GlobalSet global) fits = fits
-words_told form i fits = tt
+words_reported : (form : Form) (i : Instr) → FitsInstr form i → HasReported FitsU32 i
+words_reported form (Call func) fits = fits
+words_reported form (Load at) fits = fits.1.1
+words_reported form (Store at) fits = fits.1.1
+words_reported form (GlobalGet global) fits = fits
+words_reported form (GlobalSet global) fits = fits
+words_reported form i fits = tt
 
 renumbered_fits : (form : Form) (n : ℕ) (i : Instr) → FitsInstr form i → IsTrue (is_call_within list_limit i)
     → FitsInstr form (renumbered n i)
@@ -60,7 +60,7 @@ module _ (form : Form) (s : Site) (few : imported_funcs s.m < list_limit) (own :
 
   kinds : HoldsOfKinds (FitsInstr form) FitsU32 s
   kinds = record {
-    told = λ bits q. q;
+    reported = λ bits q. q;
     hook = λ kind. let less = place_less kind in omega (arith, less, few);
     get = λ local there. omega (arith, there, room);
     set = λ local there. omega (arith, there, room);
@@ -76,9 +76,9 @@ module _ (form : Form) (s : Site) (few : imported_funcs s.m < list_limit) (own :
   round_fits : (i : Instr) → FitsInstr form i → IsTrue (is_call_within list_limit i) → Each (round s i)
   round_fits i fits within =
       joined_all (FitsInstr form) (inserted_before s i) (renumbered (imports_at s) i ∷ inserted_after s i)
-      (each_before (FitsInstr form) FitsU32 s kinds i (words_told form i fits)) (
+      (each_before (FitsInstr form) FitsU32 s kinds i (words_reported form i fits)) (
         renumbered_fits form (imports_at s) i fits within,
-        each_after (FitsInstr form) FitsU32 s kinds i (words_told form i fits),
+        each_after (FitsInstr form) FitsU32 s kinds i (words_reported form i fits),
       )
 
   rounds_fit : (body : List Instr) → Each body → AllByRecursion (λ i. IsTrue (is_call_within list_limit i)) body
@@ -116,12 +116,12 @@ locals_fit bodies runs fits roomy =
 
 module _ (read : BodiesAreRead) (bodies : BodiesAreInstrumented) (form : Form) (m : Module)
     (few : imported_funcs m < list_limit) (types : AllByRecursion FitsFuncType m.types)
-    (params : All (λ (ty : FuncType). length ty.params ≤ MOST_PARAMETERS) m.types) where
+    (params : All (λ (ty : FuncType). length ty.params ≤ MAX_PARAMETERS) m.types) where
   type_fits : (at : ℕ) (ty : FuncType) → type_at m at ≡ Some ty → FitsFuncType ty
   type_fits at ty is = all_at FitsFuncType m.types at ty (All-from_recursion FitsFuncType m.types types) is
 
-  params_few : (at : ℕ) (ty : FuncType) → type_at m at ≡ Some ty → length ty.params ≤ MOST_PARAMETERS
-  params_few at ty is = all_at (λ (t : FuncType). length t.params ≤ MOST_PARAMETERS) m.types at ty params is
+  params_few : (at : ℕ) (ty : FuncType) → type_at m at ≡ Some ty → length ty.params ≤ MAX_PARAMETERS
+  params_few at ty is = all_at (λ (t : FuncType). length t.params ≤ MAX_PARAMETERS) m.types at ty params is
 
   body_fits : (index : ℕ) (f : Func) → index < list_limit → FitsFunc form f → (can : IsInsertable m f)
       → FitsBody form (func_of_rounds m index can.typed.ty f).body

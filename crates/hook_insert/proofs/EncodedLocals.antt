@@ -10,17 +10,14 @@ use Rattle.wasm_syntax.specs.Alike.{same_type}
 use Rattle.wasm_syntax.specs.Encoding.Encodable.{FitsLocals, FitsRun}
 use Rattle.wasm_syntax.specs.Encoding.Sections.{AreRuns}
 use Rattle.wasm_syntax.specs.Validity.{each_local}
+use Rattle.wasm_syntax.proofs.ValTypes.{type_own}
 use Rattle.record_replay_spec.specs.Instrumented.{locals_of, other_locals, with_added_locals}
 use Rattle.record_replay_spec.specs.HookLaws.{BodiesAreInstrumented}
 use Rattle.hook_insert.specs.Functions.{AreRoomyRuns}
 use Rattle.module_index.proofs.Counts.{locals_count}
 
-same_self : (t : ValType) → same_type t t ≡ true
-same_self I32 = refl
-same_self t = refl
-
 differ : (a b : ValType) → same_type a b ≡ false → a ≢ b
-differ a b test same = absurd (no (sym (same_self a) ∙ ap (λ t. same_type a t) same ∙ test))
+differ a b test same = absurd (no (sym (type_own a) ∙ ap (λ t. same_type a t) same ∙ test))
   where
     no : true ≡ false → ⊥
     no h = cc

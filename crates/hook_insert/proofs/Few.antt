@@ -5,7 +5,7 @@ use Rattle.std.specs.List.{cons_option}
 use Rattle.std.proofs.lemmas.Bool.{ltb-false}
 use Rattle.std.proofs.lemmas.List.Elements.{All-nil, All-cons}
 use Rattle.base.proofs.Lists.{nil_parts}
-use Rattle.wasm_syntax.specs.declared.limits.TheConstants.{MOST_ENTRIES, MOST_LOCALS_HOOKED, MOST_PAGES, MOST_PARAMETERS}
+use Rattle.wasm_syntax.specs.declared.limits.TheConstants.{MAX_ENTRIES, MAX_LOCALS_HOOKED, MAX_PAGES, MAX_PARAMETERS}
 use Rattle.wasm_syntax.specs.declared.profile.Which.{Which}
 use Rattle.wasm_syntax.specs.declared.profile.Which.TheVariants.{Parameters, Table, Memory, Locals}
 use Rattle.wasm_syntax.specs.declared.signatures.FuncType.{FuncType}
@@ -41,25 +41,25 @@ all_within most which quantity (x ∷ xs) none =
 
 module _ (m : Module) (none : quantities_past true m ≡ []) where
   abbrev params_past : List Refusal
-  params_past = filter_map (λ (ty : FuncType). past MOST_PARAMETERS Parameters (length ty.params)) m.types
+  params_past = filter_map (λ (ty : FuncType). past MAX_PARAMETERS Parameters (length ty.params)) m.types
 
   abbrev tables_past : List Refusal
-  tables_past = filter_map (λ (limits : Limits). past MOST_ENTRIES Table limits.min) (all_tables m)
+  tables_past = filter_map (λ (limits : Limits). past MAX_ENTRIES Table limits.min) (all_tables m)
 
   abbrev memories_past : List Refusal
-  memories_past = filter_map (λ (limits : Limits). past MOST_PAGES Memory limits.min) (all_memories m)
+  memories_past = filter_map (λ (limits : Limits). past MAX_PAGES Memory limits.min) (all_memories m)
 
   abbrev locals_past : List Refusal
-  locals_past = filter_map (λ (f : Func). past MOST_LOCALS_HOOKED Locals (count_of_locals f)) m.funcs
+  locals_past = filter_map (λ (f : Func). past MAX_LOCALS_HOOKED Locals (count_of_locals f)) m.funcs
 
-  pub few_locals : All (λ (f : Func). count_of_locals f ≤ MOST_LOCALS_HOOKED) m.funcs
+  pub few_locals : All (λ (f : Func). count_of_locals f ≤ MAX_LOCALS_HOOKED) m.funcs
   few_locals =
-      all_within MOST_LOCALS_HOOKED Locals count_of_locals m.funcs
+      all_within MAX_LOCALS_HOOKED Locals count_of_locals m.funcs
       (nil_parts (params_past ++ tables_past ++ memories_past) locals_past none).1
 
-  pub few_params : All (λ (ty : FuncType). length ty.params ≤ MOST_PARAMETERS) m.types
+  pub few_params : All (λ (ty : FuncType). length ty.params ≤ MAX_PARAMETERS) m.types
   few_params =
-      all_within MOST_PARAMETERS Parameters (λ (ty : FuncType). length ty.params) m.types
+      all_within MAX_PARAMETERS Parameters (λ (ty : FuncType). length ty.params) m.types
       (nil_parts params_past tables_past
       (nil_parts (params_past ++ tables_past) memories_past
       (nil_parts (params_past ++ tables_past ++ memories_past) locals_past none).0).0).0

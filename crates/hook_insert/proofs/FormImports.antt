@@ -27,9 +27,6 @@ counted p (x ∷ xs) = sum_by-cons (λ y. cond (p y) 1 0) x xs ∙ filtered p x 
 pub hooks_counted : (imports : List Import) → count_by is_from_hooks imports ≡ length (filter is_from_hooks imports)
 hooks_counted imports = counted is_from_hooks imports
 
-is_func_import : Import → Bool
-is_func_import import = is_func_kind import.kind
-
 one_more : (kind : ImportKind) (indices : List ℕ) (n : ℕ) → n ≡ length indices
     → cond (is_func_kind kind) 1 0 + n ≡ length (cons_option (func_import kind) indices)
 one_more (Func ty) indices n h = omega (arith, h)
@@ -56,11 +53,6 @@ module _ (m : Module) (kinds : List Hook) (place skipped : ℕ) (imports : List 
     (lt : i < length imports) (here : import ≡ get_or imports i d) where
   front : drop i imports ≡ import ∷ drop (i + 1) imports
   front = drop_more imports i d lt ∙ ap (λ x. x ∷ drop (i + 1) imports) (sym here)
-
-  pub passed : is_func_kind import.kind ≡ false
-      → left_are_hooks m kinds place skipped (drop i imports)
-      ≡ left_are_hooks m kinds place skipped (drop (i + 1) imports)
-  passed other = rw (front, other) refl
 
   pub skips : (less : ℕ) → is_func_kind import.kind ≡ true → suc less ≡ skipped
       → left_are_hooks m kinds place skipped (drop i imports)

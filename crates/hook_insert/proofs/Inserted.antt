@@ -21,20 +21,20 @@ use Rattle.wasm_syntax.specs.Opcodes.{Access, is_from, load_of, load_table, stor
 use Rattle.record_replay_spec.specs.declared.hooks.Hook.{Hook}
 use Rattle.record_replay_spec.specs.declared.hooks.Hook.TheVariants as hook
 use Rattle.record_replay_spec.specs.Hooks.{on}
-use Rattle.record_replay_spec.specs.Insertions.{Site, after_call, before_load, before_store, bits_of_local, calls, inserted_after, inserted_at_end, inserted_at_enter, inserted_before, number, range_operands, tells_global, tells_index, tells_local, tells_number, tells_params, tells_range, value_local, widened}
+use Rattle.record_replay_spec.specs.Insertions.{Site, after_call, before_load, before_store, bits_of_local, calls, inserted_after, inserted_at_end, inserted_at_enter, inserted_before, number, range_operands, reports_global, reports_index, reports_local, reports_number, reports_params, reports_range, value_local, widened}
 
 -- a property of the numbers that hooks are passed for an instruction
-abbrev pub HasTold : (ℕ → Type 0) → Instr → Type 0
-HasTold Q (Call func) = Q func
-HasTold Q (instrs.Load at) = Q at.offset
-HasTold Q (instrs.Store at) = Q at.offset
-HasTold Q (instrs.GlobalGet global) = Q global
-HasTold Q (instrs.GlobalSet global) = Q global
-HasTold Q i = Unit {0}
+abbrev pub HasReported : (ℕ → Type 0) → Instr → Type 0
+HasReported Q (Call func) = Q func
+HasReported Q (instrs.Load at) = Q at.offset
+HasReported Q (instrs.Store at) = Q at.offset
+HasReported Q (instrs.GlobalGet global) = Q global
+HasReported Q (instrs.GlobalSet global) = Q global
+HasReported Q i = Unit {0}
 
 -- a property of each kind of inserted instruction, if the numbers passed to hooks have theirs
 pub record HoldsOfKinds (P : Instr → Type 0) (Q : ℕ → Type 0) (s : Site) : Type 0 where
-  pub told : (bits : ℕ) → Q bits → P (number bits)
+  pub reported : (bits : ℕ) → Q bits → P (number bits)
   pub hook : (kind : Hook) → P (calls s kind)
   pub get : (local : ℕ) → local ≤ s.locals + 4 → P (LocalGet local)
   pub set : (local : ℕ) → local ≤ s.locals + 4 → P (LocalSet local)
@@ -105,28 +105,28 @@ module _ (P : Instr → Type 0) (Q : ℕ → Type 0) (s : Site) (has : HoldsOfKi
   each_bits : (ty : ValType) (local : ℕ) → local ≤ s.locals + 4 → Each (bits_of_local ty local)
   each_bits ty local there = (has.get local there, widens ty)
 
-  each_local : (ty : ValType) (local : ℕ) → local ≤ s.locals + 4 → Each (tells_local s ty local)
+  each_local : (ty : ValType) (local : ℕ) → local ≤ s.locals + 4 → Each (reports_local s ty local)
   each_local ty local there = (
-    has.told (type_byte ty) (has.small (type_byte ty) (byte_small ty)),
+    has.reported (type_byte ty) (has.small (type_byte ty) (byte_small ty)),
     joined (bits_of_local ty local) (calls s hook.Arg ∷ []) (each_bits ty local there) (has.hook hook.Arg, tt),
   )
 
-  each_number : (kind : Hook) (bits : ℕ) → Q bits → Each (tells_number s kind bits)
-  each_number kind bits q = (has.told bits q, (has.hook kind, tt))
+  each_number : (kind : Hook) (bits : ℕ) → Q bits → Each (reports_number s kind bits)
+  each_number kind bits q = (has.reported bits q, (has.hook kind, tt))
 
-  each_param : (local : ℕ) (types : List ValType) → local + length types ≤ s.locals → Each (tells_params s local types)
+  each_param : (local : ℕ) (types : List ValType) → local + length types ≤ s.locals → Each (reports_params s local types)
   each_param local [] few = tt
   each_param local (ty ∷ types) few =
-      joined (tells_local s ty local) (tells_params s (local + 1) types) (each_local ty local (omega (arith, few)))
+      joined (reports_local s ty local) (reports_params s (local + 1) types) (each_local ty local (omega (arith, few)))
       (each_param (local + 1) types (omega (arith, few)))
 
-  each_index : (kind : Hook) → Each (tells_index s kind)
+  each_index : (kind : Hook) → Each (reports_index s kind)
   each_index kind = (has.tee, (has.hook kind, (address_get, tt)))
 
   each_operand : Each (range_operands s)
   each_operand = (value_get I64, (has.wrapped, (address_get, (value_get I32, tt))))
 
-  each_range : (kind : Hook) → Each (tells_range s kind)
+  each_range : (kind : Hook) → Each (reports_range s kind)
   each_range kind = (
     value_set I32,
     (
@@ -143,7 +143,7 @@ module _ (P : Instr → Type 0) (Q : ℕ → Type 0) (s : Site) (has : HoldsOfKi
 
   each_load : (at : MemArg) (a : Access) → Q at.offset → a.width < 128 → Each (before_load s at a)
   each_load at a q less =
-      (has.tee, (has.told at.offset q, (has.told a.width (has.small a.width less), (has.hook hook.Load, (address_get, tt)))))
+      (has.tee, (has.reported at.offset q, (has.reported a.width (has.small a.width less), (has.hook hook.Load, (address_get, tt)))))
 
   each_store : (at : MemArg) (a : Access) → Q at.offset → a.width < 128 → Each (before_store s at a)
   each_store at a q less = (
@@ -151,9 +151,9 @@ module _ (P : Instr → Type 0) (Q : ℕ → Type 0) (s : Site) (has : HoldsOfKi
     (
       has.tee,
       (
-        has.told at.offset q,
+        has.reported at.offset q,
         (
-          has.told a.width (has.small a.width less),
+          has.reported a.width (has.small a.width less),
           joined (bits_of_local a.ty (value_local s a.ty)) (calls s hook.Store ∷ LocalGet s.locals ∷ LocalGet (value_local s a.ty) ∷ [])
               (each_bits a.ty (value_local s a.ty) (value_there s a.ty)) (has.hook hook.Store, (address_get, (value_get a.ty, tt))),
         ),
@@ -161,11 +161,11 @@ module _ (P : Instr → Type 0) (Q : ℕ → Type 0) (s : Site) (has : HoldsOfKi
     ),
   )
 
-  each_global : (kind : Hook) (global : ℕ) (ty : ValType) → Q global → Each (tells_global s kind global ty)
+  each_global : (kind : Hook) (global : ℕ) (ty : ValType) → Q global → Each (reports_global s kind global ty)
   each_global kind global ty q = (
     value_set ty,
     (
-      has.told global q,
+      has.reported global q,
       joined (bits_of_local ty (value_local s ty)) (calls s kind ∷ LocalGet (value_local s ty) ∷ [])
           (each_bits ty (value_local s ty) (value_there s ty)) (has.hook kind, (value_get ty, tt)),
     ),
@@ -175,7 +175,7 @@ module _ (P : Instr → Type 0) (Q : ℕ → Type 0) (s : Site) (has : HoldsOfKi
   each_over over [] h = h
   each_over over (ty ∷ types) h = (
     value_set ty,
-    joined (tells_local s ty (value_local s ty)) (over ++ LocalGet (value_local s ty) ∷ [])
+    joined (reports_local s ty (value_local s ty)) (over ++ LocalGet (value_local s ty) ∷ [])
         (each_local ty (value_local s ty) (value_there s ty)) (joined over (LocalGet (value_local s ty) ∷ []) h (value_get ty, tt)),
   )
 
@@ -185,13 +185,13 @@ module _ (P : Instr → Type 0) (Q : ℕ → Type 0) (s : Site) (has : HoldsOfKi
   each_on None make h = tt
   each_on (Some x) make h = h x refl
 
-  mutable_global : (b : Bool) (global : ℕ) (ty : ValType) → Q global → Each (cond b (tells_global s hook.Gget global ty) [])
+  mutable_global : (b : Bool) (global : ℕ) (ty : ValType) → Q global → Each (cond b (reports_global s hook.Gget global ty) [])
   mutable_global true global ty q = each_global hook.Gget global ty q
   mutable_global false global ty q = tt
 
   -- ---- around an instruction
 
-  pub each_before : (i : Instr) → HasTold Q i → Each (inserted_before s i)
+  pub each_before : (i : Instr) → HasReported Q i → Each (inserted_before s i)
   each_before instrs.Return q = each_number hook.Leave s.func has.own
   each_before (Call func) q = each_number hook.Pre func q
   each_before (instrs.CallIndirect ty) q = each_index hook.Ipre
@@ -201,22 +201,22 @@ module _ (P : Instr → Type 0) (Q : ℕ → Type 0) (s : Site) (has : HoldsOfKi
       each_on (store_of at.op) (before_store s at) (λ a found. each_store at a q (store_narrow at.op a found))
   each_before instrs.MemorySize q = (has.hook hook.Size, tt)
   each_before (instrs.GlobalSet global) q =
-      each_on (slice_get (all_globals s.m) global) (λ (ty : GlobalType). tells_global s hook.Gset global ty.ty)
+      each_on (slice_get (all_globals s.m) global) (λ (ty : GlobalType). reports_global s hook.Gset global ty.ty)
       (λ ty found. each_global hook.Gset global ty.ty q)
   each_before instrs.MemoryCopy q = each_range hook.Copy
   each_before instrs.MemoryFill q = each_range hook.Fill
   each_before i q = tt
 
-  pub each_after : (i : Instr) → HasTold Q i → Each (inserted_after s i)
+  pub each_after : (i : Instr) → HasReported Q i → Each (inserted_after s i)
   each_after (Call func) q =
-      each_on (func_type s.m func) (λ (ty : FuncType). after_call s (tells_number s hook.Post func) ty.results)
-      (λ ty found. each_over (tells_number s hook.Post func) ty.results (each_number hook.Post func q))
+      each_on (func_type s.m func) (λ (ty : FuncType). after_call s (reports_number s hook.Post func) ty.results)
+      (λ ty found. each_over (reports_number s hook.Post func) ty.results (each_number hook.Post func q))
   each_after (instrs.CallIndirect ty) q =
       each_on (type_at s.m ty) (λ (found : FuncType). after_call s (calls s hook.Ipost ∷ []) found.results)
       (λ found is. each_over (calls s hook.Ipost ∷ []) found.results (has.hook hook.Ipost, tt))
   each_after instrs.MemoryGrow q = each_index hook.Grow
   each_after (instrs.GlobalGet global) q =
-      each_on (slice_get (all_globals s.m) global) (λ (ty : GlobalType). cond ty.mutable (tells_global s hook.Gget global ty.ty) [])
+      each_on (slice_get (all_globals s.m) global) (λ (ty : GlobalType). cond ty.mutable (reports_global s hook.Gget global ty.ty) [])
       (λ ty found. mutable_global ty.mutable global ty.ty q)
   each_after i q = tt
 
@@ -224,7 +224,7 @@ module _ (P : Instr → Type 0) (Q : ℕ → Type 0) (s : Site) (has : HoldsOfKi
 
   pub each_at_enter : (params : List ValType) → length params ≤ s.locals → Each (inserted_at_enter s params)
   each_at_enter params few =
-      joined (tells_params s 0 params) (tells_number s hook.Enter s.func) (each_param 0 params (omega (arith, few)))
+      joined (reports_params s 0 params) (reports_number s hook.Enter s.func) (each_param 0 params (omega (arith, few)))
       (each_number hook.Enter s.func has.own)
 
   pub each_at_end : Each (inserted_at_end s)

@@ -5,7 +5,7 @@ use Rattle.std.specs.Prelude.{slice_get, slice_index_or, option_and_then, sum_by
 use Rattle.std.proofs.lemmas.List.Elements.{All-nil, All-cons, All-weaker, All-append}
 use Rattle.std.proofs.lemmas.List.Sums.{sum_by-cons}
 use Rattle.std.proofs.lemmas.Option.{slice_get_within}
-use Rattle.wasm_syntax.specs.declared.limits.TheConstants.{MOST_LOCALS_HOOKED}
+use Rattle.wasm_syntax.specs.declared.limits.TheConstants.{MAX_LOCALS_HOOKED}
 use Rattle.wasm_syntax.specs.declared.signatures.FuncType.{FuncType}
 use Rattle.wasm_syntax.specs.declared.instructions.Instr.TheVariants.{End}
 use Rattle.wasm_syntax.specs.declared.modules.Run.{Run}
@@ -73,14 +73,14 @@ module _ (m : Module) (few : length (func_indices m) < list_limit) where
       let others : sum_by (λ (run : Run). run.count) runs ≤ most = omega (arith, all, fits) in
       All-cons (λ (run : Run). run.count ≤ most) run runs first (runs_within most runs others)
 
-  roomy_runs : (runs : List Run) → sum_by (λ (run : Run). run.count) runs ≤ MOST_LOCALS_HOOKED → AreRoomyRuns runs
+  roomy_runs : (runs : List Run) → sum_by (λ (run : Run). run.count) runs ≤ MAX_LOCALS_HOOKED → AreRoomyRuns runs
   roomy_runs runs fits = record {
     few = fits;
-    each = All-weaker (λ (run : Run). run.count ≤ MOST_LOCALS_HOOKED) (λ (run : Run). run.count + 2 < 2 ^ 32)
-        (λ run is. omega (arith, is)) runs (runs_within MOST_LOCALS_HOOKED runs fits);
+    each = All-weaker (λ (run : Run). run.count ≤ MAX_LOCALS_HOOKED) (λ (run : Run). run.count + 2 < 2 ^ 32)
+        (λ run is. omega (arith, is)) runs (runs_within MAX_LOCALS_HOOKED runs fits);
   }
 
-  insertable : (f : Func) → IsTypedFunc m f → count_of_locals f ≤ MOST_LOCALS_HOOKED → IsInsertable m f
+  insertable : (f : Func) → IsTypedFunc m f → count_of_locals f ≤ MAX_LOCALS_HOOKED → IsInsertable m f
   insertable f typed locals =
       let at_most : length (func_indices m) ≤ list_limit = omega (arith, few) in
       record {

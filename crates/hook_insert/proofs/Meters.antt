@@ -61,7 +61,7 @@ module _ (keep : InstrumentedKeepIndices) (read : BodiesAreRead) (m : Module) (d
 
   kinds : (s : Site) → s.m ≡ m → HoldsOfKinds IsAhead (λ n. Unit {0}) s
   kinds s is = record {
-    told = λ bits q. (refl, refl);
+    reported = λ bits q. (refl, refl);
     hook = hook_ahead s is;
     get = λ local there. (refl, refl);
     set = λ local there. (refl, refl);

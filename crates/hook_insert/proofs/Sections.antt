@@ -6,6 +6,7 @@ use Rattle.std.proofs.lemmas.List.{drop_more, drop_all, length-drop, length-take
 use Rattle.std.proofs.lemmas.Bool.{cases_lt}
 use Rattle.record_replay_spec.specs.HookedForm.{HookedForm}
 use Rattle.std.proofs.lemmas.Slice.Eq.{bytes_eq-Decides}
+use Rattle.base.proofs.Booleans.{same_tests}
 use Rattle.wasm_syntax.specs.declared.modules.Custom.{Custom}
 use Rattle.record_replay_spec.specs.Instrumented.{section_name}
 use Rattle.leb_bytes.specs.Unsigned.{u32_bytes}
@@ -67,11 +68,6 @@ pub left_of : (front rest : List ℕ) → left_after front (front ++ rest) ≡ S
 left_of [] rest = refl
 left_of (f ∷ front) rest = grind (arith, nat_tests, left_of front rest)
 
-same_bool : (a b : Bool) → (a ≡ true → b ≡ true) → (b ≡ true → a ≡ true) → a ≡ b
-same_bool true b f g = sym (f refl)
-same_bool false true f g = g refl
-same_bool false false f g = refl
-
 same_some : (xs ys : List ℕ) → Some xs ≡ Some ys → xs ≡ ys
 same_some xs ys h = cc
 
@@ -84,14 +80,14 @@ from_false b h = cc
 -- bytes that do not begin with a prefix are not the prefix and others
 pub eq_none : (front back bytes : List ℕ) → left_after front bytes ≡ None → false ≡ bytes_eq bytes (front ++ back)
 eq_none front back bytes none =
-    same_bool false (bytes_eq bytes (front ++ back)) (from_false (bytes_eq bytes (front ++ back)))
+    same_tests false (bytes_eq bytes (front ++ back)) (from_false (bytes_eq bytes (front ++ back)))
     (λ e. none_some back (sym none ∙ ap (left_after front) ((bytes_eq-Decides bytes (front ++ back)).0 e) ∙ left_of front back))
 
 -- bytes that begin with a prefix are the prefix and others if and only if those others are left
 pub eq_some : (front back bytes rest : List ℕ) → left_after front bytes ≡ Some rest
     → bytes_eq rest back ≡ bytes_eq bytes (front ++ back)
 eq_some front back bytes rest some =
-    same_bool (bytes_eq rest back) (bytes_eq bytes (front ++ back))
+    same_tests (bytes_eq rest back) (bytes_eq bytes (front ++ back))
     (λ e. (bytes_eq-Decides bytes (front ++ back)).1
     (both front bytes rest some ∙ ap (λ xs. front ++ xs) ((bytes_eq-Decides rest back).0 e)))
     (λ e. (bytes_eq-Decides rest back).1
@@ -100,7 +96,7 @@ eq_some front back bytes rest some =
 -- a place is the length of the bytes if and only if no byte is left from there on
 pub eq_end : (bytes : List ℕ) («end» : ℕ) → «end» ≤ length bytes → nat_eq «end» (length bytes) ≡ bytes_eq (drop «end» bytes) []
 eq_end bytes «end» within =
-    same_bool (nat_eq «end» (length bytes)) (bytes_eq (drop «end» bytes) [])
+    same_tests (nat_eq «end» (length bytes)) (bytes_eq (drop «end» bytes) [])
     (λ e. (bytes_eq-Decides (drop «end» bytes) []).1 (drop_all «end» bytes (whole e)))
     (λ e. last (ap length ((bytes_eq-Decides (drop «end» bytes) []).0 e)))
   where

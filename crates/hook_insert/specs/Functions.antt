@@ -1,6 +1,6 @@
 -- Functions that can be instrumented.
 use Rattle.std.specs.Prelude.{◌≡◌, ℕ, ◌+◌, ◌^◌, ◌<◌, ◌≤◌, List, sum_by, All}
-use Rattle.wasm_syntax.specs.declared.limits.TheConstants.{MOST_LOCALS_HOOKED}
+use Rattle.wasm_syntax.specs.declared.limits.TheConstants.{MAX_LOCALS_HOOKED}
 use Rattle.wasm_syntax.specs.declared.modules.Run.{Run}
 use Rattle.wasm_syntax.specs.declared.modules.Func.{Func}
 use Rattle.wasm_syntax.specs.declared.modules.Module.{Module}
@@ -14,7 +14,7 @@ use Rattle.wasm_flat.specs.Sizes.{list_limit}
 
 -- locals that leave room for the added ones
 pub record AreRoomyRuns (runs : List Run) : Type 0 where
-  pub few : sum_by (λ (run : Run). run.count) runs ≤ MOST_LOCALS_HOOKED
+  pub few : sum_by (λ (run : Run). run.count) runs ≤ MAX_LOCALS_HOOKED
   pub each : All (λ (run : Run). run.count + 2 < 2 ^ 32) runs
 
 -- a function that is well typed, has few locals, and calls only functions of low indices

@@ -5,8 +5,8 @@ use Rattle.wasm_syntax.specs.declared.modules.Func.{Func}
 use Rattle.wasm_syntax.specs.declared.modules.Module.{Module}
 use Rattle.wasm_syntax.specs.Index.{func_indices}
 use Rattle.wasm_flat.specs.Sizes.{list_limit}
-use Rattle.hook_insert.specs.declared.modules.Hooking.{Hooking}
-use Rattle.hook_insert.specs.declared.modules.Kept.{Kept}
+use Rattle.hook_insert.specs.declared.modules.HookParts.{HookParts}
+use Rattle.hook_insert.specs.declared.modules.OriginalParts.{OriginalParts}
 use Rattle.hook_insert.specs.Sites.{IsLowElem, IsLowKind}
 
 -- the indices of a module leave room for the hooks
@@ -18,7 +18,7 @@ pub record HasLowNumbers (m : Module) : Type 0 where
   pub start : IfSome m.start (λ func. func < list_limit)
 
 -- the module with these functions, with the parts that it gets and the parts that it keeps
-abbrev pub module_of_parts : List Func → Hooking → Kept → Module
+abbrev pub module_of_parts : List Func → HookParts → OriginalParts → Module
 module_of_parts funcs hooking kept = record {
   types = hooking.types;
   imports = hooking.imports;

@@ -5,14 +5,14 @@ use Rattle.wasm_syntax.specs.declared.instructions.Instr.{Instr}
 use Rattle.wasm_syntax.specs.declared.instructions.Instr.TheVariants.{Block, Call, End}
 use Rattle.wasm_syntax.specs.Profile.{is_numbered}
 use Rattle.record_replay_spec.specs.declared.hooks.Hook.TheVariants.{Post, Ipost}
-use Rattle.record_replay_spec.specs.Insertions.{Site, imports_at, calls, inserted_after, inserted_at_end, inserted_at_enter, inserted_before, tells_number}
+use Rattle.record_replay_spec.specs.Insertions.{Site, imports_at, calls, inserted_after, inserted_at_end, inserted_at_enter, inserted_before, reports_number}
 use Rattle.record_replay_spec.specs.Instrumented.{renumbered, weightless}
 use Rattle.hook_insert.specs.declared.insertions.Over.{Over}
 use Rattle.hook_insert.specs.declared.insertions.Over.TheVariants as over
 
 -- the instructions that report the end of a call
 abbrev pub over_piece : Site → Over → List Instr
-over_piece s (over.Direct func) = tells_number s Post func
+over_piece s (over.Direct func) = reports_number s Post func
 over_piece s over.Indirect = calls s Ipost ∷ []
 
 -- an instruction with the instructions inserted before and after it

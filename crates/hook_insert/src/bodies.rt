@@ -4,7 +4,7 @@ ghost use Rattle.std.specs.Prelude.{◌≡◌, ◌<◌, List, ◌++◌, ◌∷�
 ghost use Rattle.wasm_syntax.specs.declared.instructions.Instr.{Instr as Instruction};
 ghost use Rattle.wasm_syntax.specs.declared.instructions.Instr.TheVariants.{Block, End};
 ghost use Rattle.wasm_syntax.specs.Profile as profile;
-ghost use Rattle.record_replay_spec.specs.Insertions.{imports_at, inserted_at_end, inserted_at_enter, tells_params};
+ghost use Rattle.record_replay_spec.specs.Insertions.{imports_at, inserted_at_end, inserted_at_enter, reports_params};
 ghost use Rattle.record_replay_spec.specs.Instrumented.{renumbered, weightless};
 ghost use Rattle.hook_insert.specs.Rounds.{AreCallsWithin, code_weights, instrumented_code, is_call_within, round, weights_round};
 ghost use Rattle.wasm_flat.specs.Sizes.{list_limit};
@@ -67,7 +67,7 @@ impl<'a> BodySite<'a> {
     /// Appends hook calls that report the parameters.
     fn push_params(&self, code: &mut Vec<Instr>, params: &[ValType]) -> Result<(), NoMemory>
         requires { length params.now < list_limit }
-        ensures { OnOk result (code.new.items ≡ code.old.items ++ tells_params self.now 0 params.now) }
+        ensures { OnOk result (code.new.items ≡ code.old.items ++ reports_params self.now 0 params.now) }
     {
         'params: for (local, ty) in params.iter().enumerate() {
             self.push_local(code, *ty, local as u32)?;
@@ -122,7 +122,7 @@ impl<'a> BodySite<'a> {
         ensures { IfOk result (λ own. own ≡ renumbered (imports_at self.now) instr.now) }
     {
         match instr {
-            Instr::Call(func) => Ok(Instr::Call(self.renumbered(*func))),
+            Instr::Call(func) => Ok(Instr::Call(self.new_index(*func))),
             other => other.copy(),
         }
     }

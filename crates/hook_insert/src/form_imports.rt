@@ -7,8 +7,8 @@ ghost use Rattle.wasm_flat.specs.Sizes.{list_limit};
 ghost use Rattle.record_replay_spec.specs.Hooks.{hook_params, hook_type, hooks};
 ghost use Rattle.record_replay_spec.specs.HookedForm.{are_hooks, brings, imports_hooks, is_from_hooks, is_func_kind, is_hook, own_imports};
 
-use crate::hook_imports::{HOOKS, hook_name};
-use hook_names::{HOOK_COUNT, Hook};
+use crate::hook_imports::hook_name;
+use hook_names::{HOOK_COUNT, HOOKS, Hook};
 use module_index::same_type;
 use wasm_syntax::ValType::{I32, I64};
 use wasm_syntax::{FuncType, Import, ImportKind, Module, ValType};

@@ -6,29 +6,11 @@ ghost use Rattle.record_replay_spec.specs.Instrumented.{hook_import, hook_types,
 ghost use Rattle.wasm_flat.specs.Sizes.{list_limit};
 
 use base::NoMemory;
+use hook_names::HOOKS;
 use record_replay_spec::Hook;
 use std::alloc::Global;
 use wasm_syntax::ValType::{I32, I64};
 use wasm_syntax::{FuncType, FuncTypes, Import, ImportKind, Imports, List, Module, Name, ValType};
-
-/// The hooks in the order of their imports.
-pub(crate) static HOOKS: [Hook; 15] = [
-    Hook::Arg,
-    Hook::Enter,
-    Hook::Leave,
-    Hook::Pre,
-    Hook::Post,
-    Hook::Ipre,
-    Hook::Ipost,
-    Hook::Load,
-    Hook::Store,
-    Hook::Size,
-    Hook::Grow,
-    Hook::Gget,
-    Hook::Gset,
-    Hook::Copy,
-    Hook::Fill,
-];
 
 /// The types of a module and, after them, those of the hooks, each once.
 pub(crate) fn hooked_types(alloc: Global, module: &Module) -> Result<FuncTypes, NoMemory>

@@ -5,7 +5,7 @@ ghost use Rattle.wasm_syntax.specs.Index.{all_globals, func_type as type_of_func
 ghost use Rattle.wasm_syntax.specs.Opcodes.{load_of, store_of};
 ghost use Rattle.record_replay_spec.specs.declared.hooks.Hook.TheVariants.{Gget, Gset};
 ghost use Rattle.record_replay_spec.specs.Hooks.{on};
-ghost use Rattle.record_replay_spec.specs.Insertions.{after_call, calls, before_load, before_store, inserted_after, inserted_before, tells_global};
+ghost use Rattle.record_replay_spec.specs.Insertions.{after_call, calls, before_load, before_store, inserted_after, inserted_before, reports_global};
 ghost use Rattle.hook_insert.specs.declared.insertions.Over.TheVariants as over;
 ghost use Rattle.hook_insert.specs.Rounds.{over_piece};
 
@@ -72,7 +72,7 @@ impl<'a> BodySite<'a> {
     /// Appends what is inserted before a global is set, if the global exists.
     fn push_before_set(&self, code: &mut Vec<Instr>, global: u32) -> Result<(), NoMemory>
         ensures { OnOk result (code.new.items ≡ code.old.items
-            ++ on (slice_get (all_globals self.now.m) global) (λ ty. tells_global self.now Gset global ty.ty)) }
+            ++ on (slice_get (all_globals self.now.m) global) (λ ty. reports_global self.now Gset global ty.ty)) }
     {
         match self.scope().global(global) {
             Some(ty) => self.push_global(code, Hook::Gset, global, ty.ty),
@@ -121,7 +121,7 @@ impl<'a> BodySite<'a> {
     fn push_after_get(&self, code: &mut Vec<Instr>, global: u32) -> Result<(), NoMemory>
         ensures { OnOk result (code.new.items ≡ code.old.items
             ++ on (slice_get (all_globals self.now.m) global)
-            (λ ty. cond ty.mutable (tells_global self.now Gget global ty.ty) [])) }
+            (λ ty. cond ty.mutable (reports_global self.now Gget global ty.ty) [])) }
     {
         match self.scope().global(global) {
             Some(ty) if ty.mutable => self.push_global(code, Hook::Gget, global, ty.ty),

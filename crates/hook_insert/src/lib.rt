@@ -18,4 +18,4 @@ mod sites;
 pub use base::NoMemory;
 pub use encoding_laws::{files_are_of_words, instrumented_are_encodable, instrumented_meters_fit};
 pub use forms::{HookedFault, HookedForm, hooked_form};
-pub use modules::{Hooked, instrument};
+pub use modules::{InstrumentedModule, instrument};

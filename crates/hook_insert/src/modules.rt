@@ -28,14 +28,14 @@ use wasm_validate::Checked;
 
 /// An instrumented module, which is valid, with the meter under which its run takes the turns of the original's.
 #[derive(Drop)]
-pub struct Hooked {
+pub struct InstrumentedModule {
     pub module: Checked,
     pub meter: Meter,
 }
 
 /// The parts that an instrumented module gets in addition to its functions.
 #[derive(Drop)]
-pub(crate) struct Hooking {
+pub(crate) struct HookParts {
     types: FuncTypes,
     imports: Imports,
     exports: Exports,
@@ -45,7 +45,7 @@ pub(crate) struct Hooking {
 
 /// The parts that an instrumented module keeps from the original.
 #[derive(Drop)]
-pub(crate) struct Kept {
+pub(crate) struct OriginalParts {
     tables: LimitsList,
     memories: LimitsList,
     globals: Globals,
@@ -59,7 +59,11 @@ pub(crate) struct Kept {
 /// # Errors
 ///
 /// `NoMemory` if an allocation failed.
-pub fn instrument(alloc: Global, checked: &Checked, digest: &[u8; 32]) -> Result<Hooked, NoMemory>
+pub fn instrument(
+    alloc: Global,
+    checked: &Checked,
+    digest: &[u8; 32],
+) -> Result<InstrumentedModule, NoMemory>
     requires short { IsShort checked.now }
     requires core { IsCoreModule checked.now }
     requires words { HasWords checked.now }
@@ -70,7 +74,7 @@ pub fn instrument(alloc: Global, checked: &Checked, digest: &[u8; 32]) -> Result
     instrumented_are_valid();
     let original = checked.module();
     let (module, weights) = instrumented_parts(alloc, original, digest)?;
-    Ok(Hooked {
+    Ok(InstrumentedModule {
         module: Checked::new(module),
         meter: Meter::of(List::from_vec(weights)),
     })
@@ -113,19 +117,23 @@ fn with_functions(
 }
 
 /// The instrumented module with these parts, and the weights of its functions.
-fn joined_parts(functions: Functions, hooking: Hooking, kept: Kept) -> (Module, Vec<Bytes>)
+fn joined_parts(
+    functions: Functions,
+    hooking: HookParts,
+    kept: OriginalParts,
+) -> (Module, Vec<Bytes>)
     ensures module { result.0 ≡ module_of_parts functions.funcs.items hooking kept }
     ensures weights { result.1.items ≡ functions.weights.items }
 {
     let Functions { funcs, weights } = functions;
-    let Hooking {
+    let HookParts {
         types,
         imports,
         exports,
         elems,
         customs,
     } = hooking;
-    let Kept {
+    let OriginalParts {
         tables,
         memories,
         globals,
@@ -154,7 +162,7 @@ fn hooking_of(
     module: &Module,
     imports: u32,
     digest: &[u8; 32],
-) -> Result<Hooking, NoMemory>
+) -> Result<HookParts, NoMemory>
     requires imports { imports ≡ imported_funcs «module».now }
     requires low { HasLowNumbers «module».now }
     ensures types { IfOk result (λ made. made.types ≡ «module».now.types ++ hook_types) }
@@ -169,7 +177,7 @@ fn hooking_of(
     let exports = renumbered_exports(alloc, imports, module.exports.as_slice())?;
     let elems = renumbered_elems(alloc, imports, module.elems.as_slice())?;
     let customs = hooked_sections(alloc, digest, imports, module.funcs.as_slice().len() as u32)?;
-    Ok(Hooking {
+    Ok(HookParts {
         types,
         imports: hooked,
         exports,
@@ -179,7 +187,7 @@ fn hooking_of(
 }
 
 /// The parts that an instrumented module keeps from the original.
-fn kept_of(module: &Module, imports: u32) -> Result<Kept, NoMemory>
+fn kept_of(module: &Module, imports: u32) -> Result<OriginalParts, NoMemory>
     requires low { HasLowNumbers «module».now }
     ensures tables { IfOk result (λ kept. kept.tables ≡ «module».now.tables) }
     ensures memories { IfOk result (λ kept. kept.memories ≡ «module».now.memories) }
@@ -191,7 +199,7 @@ fn kept_of(module: &Module, imports: u32) -> Result<Kept, NoMemory>
     let memories = module.memories.clone()?;
     let globals = module.globals.clone()?;
     let datas = module.datas.clone()?;
-    Ok(Kept {
+    Ok(OriginalParts {
         tables,
         memories,
         globals,

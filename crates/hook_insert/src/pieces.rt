@@ -4,7 +4,7 @@
 ghost use Rattle.std.specs.Prelude.{◌≡◌, ◌∷◌, [], ◌++◌, Bool, OnOk};
 ghost use Rattle.wasm_syntax.specs.Alike.{type_byte};
 ghost use Rattle.wasm_syntax.specs.Opcodes as accesses;
-ghost use Rattle.record_replay_spec.specs.Insertions.{before_load, before_store, bits_of_local, number, range_operands, tells_global, tells_index, tells_local, tells_number, tells_range, widened};
+ghost use Rattle.record_replay_spec.specs.Insertions.{before_load, before_store, bits_of_local, number, range_operands, reports_global, reports_index, reports_local, reports_number, reports_range, widened};
 
 use crate::sites::BodySite;
 use base::NoMemory;
@@ -56,7 +56,7 @@ impl<'a> BodySite<'a> {
         ty: ValType,
         local: u32,
     ) -> Result<(), NoMemory>
-        ensures { OnOk result (code.new.items ≡ code.old.items ++ tells_local self.now ty local) }
+        ensures { OnOk result (code.new.items ≡ code.old.items ++ reports_local self.now ty local) }
     {
         code.push(number(type_byte(ty)))?;
         push_bits(code, ty, local)?;
@@ -71,7 +71,7 @@ impl<'a> BodySite<'a> {
         kind: Hook,
         bits: u32,
     ) -> Result<(), NoMemory>
-        ensures { OnOk result (code.new.items ≡ code.old.items ++ tells_number self.now kind bits) }
+        ensures { OnOk result (code.new.items ≡ code.old.items ++ reports_number self.now kind bits) }
     {
         code.push(number(bits))?;
         code.push(self.hook_call(kind))?;
@@ -130,7 +130,7 @@ impl<'a> BodySite<'a> {
         global: u32,
         ty: ValType,
     ) -> Result<(), NoMemory>
-        ensures { OnOk result (code.new.items ≡ code.old.items ++ tells_global self.now kind global ty) }
+        ensures { OnOk result (code.new.items ≡ code.old.items ++ reports_global self.now kind global ty) }
     {
         let value = self.value_local(ty);
         code.push(Instr::LocalSet(value))?;
@@ -155,7 +155,7 @@ impl<'a> BodySite<'a> {
     /// Appends a hook call that passes the operands of a copy or a fill, which are on the stack before and
     /// after.
     pub(crate) fn push_range(&self, code: &mut Vec<Instr>, kind: Hook) -> Result<(), NoMemory>
-        ensures { OnOk result (code.new.items ≡ code.old.items ++ tells_range self.now kind) }
+        ensures { OnOk result (code.new.items ≡ code.old.items ++ reports_range self.now kind) }
     {
         code.push(Instr::LocalSet(self.value_local(ValType::I32)))?;
         code.push(Instr::LocalSet(self.address_local()))?;
@@ -169,7 +169,7 @@ impl<'a> BodySite<'a> {
     /// Appends a hook call that passes an index or the result of a growth, which is on the stack before and
     /// after.
     pub(crate) fn push_index(&self, code: &mut Vec<Instr>, kind: Hook) -> Result<(), NoMemory>
-        ensures { OnOk result (code.new.items ≡ code.old.items ++ tells_index self.now kind) }
+        ensures { OnOk result (code.new.items ≡ code.old.items ++ reports_index self.now kind) }
     {
         let address = self.address_local();
         code.push(Instr::LocalTee(address))?;

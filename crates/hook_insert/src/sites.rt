@@ -71,7 +71,7 @@ impl<'a> BodySite<'a> {
     }
 
     /// The index in the instrumented module of a function of the original.
-    pub(crate) fn renumbered(&self, func: u32) -> u32
+    pub(crate) fn new_index(&self, func: u32) -> u32
         requires { func < list_limit }
         ensures { result ≡ renumber (imports_at self.now) func }
     {

@@ -1,7 +1,29 @@
-// Indices of functions in an instrumented module, in which the hooks are between imported and defined functions.
+// The hooks in their order, and indices of functions in an instrumented module, in which the hooks are between
+// imported and defined functions.
 
 ghost use Rattle.std.specs.Prelude.{◌≡◌, ◌+◌, ◌^◌, ◌<◌};
 ghost use Rattle.record_replay_spec.specs.Hooks.{hook_count, original, renumber};
+
+use record_replay_spec::Hook;
+
+/// The hooks in the order of their imports.
+pub static HOOKS: [Hook; 15] = [
+    Hook::Arg,
+    Hook::Enter,
+    Hook::Leave,
+    Hook::Pre,
+    Hook::Post,
+    Hook::Ipre,
+    Hook::Ipost,
+    Hook::Load,
+    Hook::Store,
+    Hook::Size,
+    Hook::Grow,
+    Hook::Gget,
+    Hook::Gset,
+    Hook::Copy,
+    Hook::Fill,
+];
 
 /// The number of hooks.
 pub const HOOK_COUNT: u32 = 15;

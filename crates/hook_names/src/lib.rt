@@ -7,6 +7,6 @@ mod indices;
 mod view;
 
 pub use hooks::{HookFault, Hooks, NoHooks};
-pub use indices::{HOOK_COUNT, original, renumber};
+pub use indices::{HOOK_COUNT, HOOKS, original, renumber};
 pub use record_replay_spec::Hook;
 pub use view::View;

@@ -1,7 +1,7 @@
 // What a hook call sees of the store.
 
 ghost use Rattle.std.specs.Prelude.{◌≡◌, ◌*◌, ◌≤◌, is_some, length, slice_get};
-ghost use Rattle.wasm_syntax.specs.declared.limits.TheConstants.{MOST_PAGES, PAGE_SIZE};
+ghost use Rattle.wasm_syntax.specs.declared.limits.TheConstants.{MAX_PAGES, PAGE_SIZE};
 ghost use Rattle.wasm_store.specs.Calls.{bytes_in, entries_in, entry_at, pages_in};
 
 use std::marker::Model;
@@ -49,7 +49,7 @@ impl<'a> View<'a> {
     #[inline]
     pub fn bytes(&self) -> &[u8]
         ensures bytes { result.now ≡ bytes_in self.now }
-        ensures most { length result.now ≤ MOST_PAGES * PAGE_SIZE }
+        ensures most { length result.now ≤ MAX_PAGES * PAGE_SIZE }
     {
         let _pages = self.store.pages();
         self.store.bytes()

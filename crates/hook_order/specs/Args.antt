@@ -14,4 +14,4 @@ HaveBits args at (b ∷ bits) = (bits_at args at ≡ b) × HaveBits args (suc at
 -- arguments of these types with these bits
 pub record AreArgs (types : List ValType) (args : List Val) (bits : List ℕ) : Type 0 where
   pub typed : same_types types (types_of args) ≡ true
-  pub told : HaveBits args 0 bits
+  pub reported : HaveBits args 0 bits

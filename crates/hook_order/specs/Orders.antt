@@ -72,7 +72,8 @@ pub record IsAccess (args : List Val) (access : Access) : Type 0 where
 -- a global that exists, and the value of its type
 pub record IsGlobal (parts : OrderParts) (args : List Val) (global : ℕ) (value : Val) : Type 0 where
   pub index : bits_at args 0 ≡ global
-  pub told : option_map (λ ty. value_of_global ty (bits_at args 1)) (slice_get parts.shape.globals global) ≡ Some value
+  pub reported : option_map (λ ty. value_of_global ty (bits_at args 1)) (slice_get parts.shape.globals global)
+      ≡ Some value
 
 -- ---- calls by the table
 

@@ -20,7 +20,7 @@ pub struct EntryCall {
 
 /// A global and a value of its type.
 #[derive(Clone, Copy)]
-pub struct ToldGlobal {
+pub struct ReportedGlobal {
     pub global: u32,
     pub value: Val,
 }

@@ -11,8 +11,8 @@ ghost use Rattle.hook_order.specs.Shapes.{shape_from};
 use crate::access::EntryCall;
 use crate::args;
 use crate::frames::Frame;
+use crate::hook_values::value_reported;
 use crate::order::Order;
-use crate::told::value_told;
 use crate::types::are_of_types;
 use hook_names::{View, original};
 use wasm_syntax::Val;
@@ -25,12 +25,12 @@ impl Order {
             (λ value. LeadsTo self.now Arg args.now (Some (parts_pending self.now value))) }
     {
         let (byte, bits) = args::two(args)?;
-        value_told(byte, bits)
+        value_reported(byte, bits)
     }
 
     /// The function that `Enter` enters.
     #[inline]
-    pub fn entered(&self, args: &[Val]) -> Option<u32>
+    pub fn entered_function(&self, args: &[Val]) -> Option<u32>
         ensures { MatchOption result (LeadsTo self.now Enter args.now None)
             (λ func. bits_at args.now 0 ≡ func × LeadsTo self.now Enter args.now (Some (parts_entered self.now func))) }
     {
@@ -99,7 +99,7 @@ impl Order {
 
     /// The function that `Leave` leaves.
     #[inline]
-    pub fn left(&self, args: &[Val]) -> Option<u32>
+    pub fn left_function(&self, args: &[Val]) -> Option<u32>
         ensures { MatchOption result (LeadsTo self.now Leave args.now None)
             (λ func. bits_at args.now 0 ≡ func × LeadsTo self.now Leave args.now (Some (parts_closed self.now))) }
     {
@@ -114,13 +114,13 @@ impl Order {
 
     /// The function that `Pre` reports.
     #[inline]
-    pub fn called(&self, args: &[Val]) -> Option<u32>
+    pub fn called_function(&self, args: &[Val]) -> Option<u32>
         ensures { MatchOption result (LeadsTo self.now Pre args.now None)
             (λ func. bits_at args.now 0 ≡ func
             × LeadsTo self.now Pre args.now (Some (parts_called self.now true (Some func)))) }
     {
         let func = args::one(args)?;
-        if self.may_tell() && self.shape.is_function(func) {
+        if self.may_report() && self.shape.is_function(func) {
             Some(func as u32)
         } else {
             None
@@ -178,7 +178,7 @@ impl Order {
             (IsEntryCall self.now args.now known view.now) }
     {
         let index = args::one(args)?;
-        if !self.may_tell() || view.table_size() < known {
+        if !self.may_report() || view.table_size() < known {
             return None;
         }
         let callee = self.callee_at(index, view)?;

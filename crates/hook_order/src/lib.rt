@@ -4,14 +4,14 @@
 mod access;
 mod args;
 mod calls;
+mod frameless_calls;
 mod frames;
+mod hook_values;
 mod order;
 mod shape;
-mod stays;
-mod told;
 mod types;
 
-pub use access::{Access, EntryCall, ToldGlobal};
+pub use access::{Access, EntryCall, ReportedGlobal};
 pub use base::NoMemory;
 pub use order::Order;
 pub use shape::Shape;

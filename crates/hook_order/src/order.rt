@@ -1,7 +1,7 @@
 // The order of hook calls. Each call is checked first, which changes nothing, and then taken.
 
 ghost use Rattle.std.specs.Prelude.{◌≡◌, OnOk};
-ghost use Rattle.record_replay_spec.specs.Order.{may_tell};
+ghost use Rattle.record_replay_spec.specs.Order.{may_report};
 ghost use Rattle.hook_order.specs.Frames.{frame_of};
 ghost use Rattle.hook_order.specs.Orders.{parts_at_start, parts_called, parts_closed, parts_entered, parts_pending, state_of};
 
@@ -62,8 +62,8 @@ impl Order {
 
     /// Whether a function is on top and no value is pending.
     #[inline(always)]
-    pub(crate) fn may_tell(&self) -> bool
-        ensures { result ≡ may_tell (state_of 0 self.now) }
+    pub(crate) fn may_report(&self) -> bool
+        ensures { result ≡ may_report (state_of 0 self.now) }
     {
         matches!(self.frames.top(), Some(Frame::Function(_))) && self.pending.is_empty()
     }
@@ -73,7 +73,7 @@ impl Order {
     /// # Errors
     /// `NoMemory` if an allocation failed.
     #[inline]
-    pub fn tell(&mut self, value: Val) -> Result<(), NoMemory>
+    pub fn report(&mut self, value: Val) -> Result<(), NoMemory>
         ensures ok { OnOk result (self.new ≡ parts_pending self.old value) }
         ensures shape { self.new.shape ≡ self.old.shape }
     {

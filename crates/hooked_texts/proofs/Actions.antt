@@ -16,8 +16,8 @@ use Rattle.module_names.specs.declared.index_spaces.Space.TheVariants.{Memories,
 use Rattle.std.specs.List.{list_any}
 use Rattle.script_text.specs.declared.faults.ScriptFault.{ScriptFault}
 use Rattle.script_text.specs.declared.faults.ScriptFault.TheVariants.{CallsOwn}
-use Rattle.script_text.specs.declared.leads.Lead.{Lead}
-use Rattle.script_text.specs.declared.leads.Lead.TheVariants.{Write, Copy, SetTable, SetGlobal, Grow, GrowTable, Call, CallTable}
+use Rattle.script_text.specs.declared.action_keys.Lead.{Lead}
+use Rattle.script_text.specs.declared.action_keys.Lead.TheVariants.{Write, Copy, SetTable, SetGlobal, Grow, GrowTable, Call, CallTable}
 use Rattle.script_text.specs.Actions.{Place, Target, address_of, fits_address, name_of, target_of, Exported, Imported, access_to, action_by, action_of, action_with, actions_under, are_arguments, call_of, call_table_of, copy_of, entry_named, fits_global, fits_params, func_named, global_at, global_from, grow_of, grow_table_of, index_or_unknown, is_defined, is_set_by, leads_in, memory_access, set_global_of, set_table_of, table_access, write_of}
 use Rattle.script_text.specs.Walk.{list_of, only, under}
 use Rattle.script_text.specs.Values.{bytes_of, text_of, text_or_null, u32_of, value_of, values_under}

@@ -9,8 +9,8 @@ use Rattle.history_spec.specs.Store.{Store}
 use Rattle.history_spec.specs.Code.{Code}
 use Rattle.history_spec.specs.Action as history
 use Rattle.history_spec.specs.Action.{Changes, Fails, perform}
-use Rattle.host_actions.specs.declared.actions.Done.{Done}
-use Rattle.host_actions.specs.declared.actions.Done.TheVariants.{Changed, Enters}
+use Rattle.host_actions.specs.declared.actions.ActionEnd.{ActionEnd}
+use Rattle.host_actions.specs.declared.actions.ActionEnd.TheVariants.{Changed, Enters}
 use Rattle.host_actions.specs.declared.actions.ActionFault.{ActionFault}
 use Rattle.host_actions.specs.declared.actions.ActionFault.TheVariants.{Fault, Memory}
 
@@ -37,14 +37,14 @@ takes_memory (Call func given) = false
 takes_memory (CallTable index given) = false
 
 -- the result of an action that grows a memory or a table
-abbrev pub growth_result : Result (Option ℕ) NoMemory → Result Done ActionFault
+abbrev pub growth_result : Result (Option ℕ) NoMemory → Result ActionEnd ActionFault
 growth_result (Ok (Some size)) = Ok Changed
 growth_result (Ok None) = Err (Fault GrowRefused)
 growth_result (Err fault) = Err Memory
 
 -- the store is changed by the action; or it is as it was, and the host calls this function with the action's
 -- arguments, or there is this fault, or an allocation failed
-abbrev pub Does : Code → List Val → Action → Result Done ActionFault → (old new : Store) → Type 0
+abbrev pub Does : Code → List Val → Action → Result ActionEnd ActionFault → (old new : Store) → Type 0
 Does code args action (Ok Changed) old new = perform code old args action ≡ Changes new
 Does code args action (Ok (Enters func)) old new =
     (perform code old args action ≡ history.Enters func (args_in action)) × (new ≡ old)

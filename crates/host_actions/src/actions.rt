@@ -20,7 +20,7 @@ use wasm_syntax::Val;
 
 /// What an action did.
 #[derive(Clone, Copy, PartialEq, Eq, Debug)]
-pub enum Done {
+pub enum ActionEnd {
     /// The store is changed.
     Changed,
     /// The host calls this function, with the arguments that the action has.
@@ -49,7 +49,7 @@ pub fn perform(
     functions: &Functions,
     addresses: Addresses,
     action: &Action,
-) -> Result<Done, ActionFault>
+) -> Result<ActionEnd, ActionFault>
     requires { IsReady functions.now store.old action.now }
     ensures { (code : Code) (args : List Val) → AreOf code functions.now
         → AreAddresses args action.now addresses
@@ -62,10 +62,10 @@ pub fn perform(
         Action::SetGlobal { global, value } => set_global(store, *global, *value),
         Action::Grow { pages } => grow(store, *pages),
         Action::GrowTable { entries } => grow_table(store, *entries),
-        Action::Call { func, .. } => Ok(Done::Enters { func: *func }),
+        Action::Call { func, .. } => Ok(ActionEnd::Enters { func: *func }),
         Action::CallTable { index, args } => {
             match call_table(store, functions, *index, args.as_slice()) {
-                Ok(func) => Ok(Done::Enters { func }),
+                Ok(func) => Ok(ActionEnd::Enters { func }),
                 Err(kind) => Err(ActionFault::Fault { kind }),
             }
         }
@@ -73,13 +73,13 @@ pub fn perform(
 }
 
 /// Writes bytes.
-fn write(store: &mut Store, at: u64, bytes: &[u8]) -> Result<Done, ActionFault>
+fn write(store: &mut Store, at: u64, bytes: &[u8]) -> Result<ActionEnd, ActionFault>
     requires { IsSome store.old.memory }
     ensures { (code : Code) (args : List Val) (to : Address) → address_of args to ≡ Some at
         → Does code args (Write to bytes.now) result store.old store.new }
 {
     match store.put_bytes(at, bytes) {
-        Ok(()) => Ok(Done::Changed),
+        Ok(()) => Ok(ActionEnd::Changed),
         Err(_) => Err(ActionFault::Fault {
             kind: FaultKind::Outside,
         }),
@@ -87,14 +87,14 @@ fn write(store: &mut Store, at: u64, bytes: &[u8]) -> Result<Done, ActionFault>
 }
 
 /// Copies bytes, as if all were read first.
-fn copy(store: &mut Store, at: u64, from: u64, count: u32) -> Result<Done, ActionFault>
+fn copy(store: &mut Store, at: u64, from: u64, count: u32) -> Result<ActionEnd, ActionFault>
     requires { IsSome store.old.memory }
     ensures { (code : Code) (args : List Val) (to source : Address) → address_of args to ≡ Some at
         → address_of args source ≡ Some from
         → Does code args (Copy to source count) result store.old store.new }
 {
     match store.move_bytes(at, from, u64::from(count)) {
-        Ok(()) => Ok(Done::Changed),
+        Ok(()) => Ok(ActionEnd::Changed),
         Err(_) => Err(ActionFault::Fault {
             kind: FaultKind::Outside,
         }),
@@ -102,13 +102,13 @@ fn copy(store: &mut Store, at: u64, from: u64, count: u32) -> Result<Done, Actio
 }
 
 /// Sets or empties an entry of the table.
-fn set_table(store: &mut Store, index: u32, func: Option<u32>) -> Result<Done, ActionFault>
+fn set_table(store: &mut Store, index: u32, func: Option<u32>) -> Result<ActionEnd, ActionFault>
     requires { IsSome store.old.table }
     ensures { (code : Code) (args : List Val)
         → Does code args (SetTable index func) result store.old store.new }
 {
     match store.set_entry(index, func) {
-        Ok(()) => Ok(Done::Changed),
+        Ok(()) => Ok(ActionEnd::Changed),
         Err(_) => Err(ActionFault::Fault {
             kind: FaultKind::TableOutside,
         }),
@@ -116,17 +116,17 @@ fn set_table(store: &mut Store, index: u32, func: Option<u32>) -> Result<Done, A
 }
 
 /// Gives a value to a global.
-fn set_global(store: &mut Store, global: u32, value: Val) -> Result<Done, ActionFault>
+fn set_global(store: &mut Store, global: u32, value: Val) -> Result<ActionEnd, ActionFault>
     requires { global < length store.old.globals }
     ensures { (code : Code) (args : List Val)
         → Does code args (SetGlobal global value) result store.old store.new }
 {
     store.set_global(global, value);
-    Ok(Done::Changed)
+    Ok(ActionEnd::Changed)
 }
 
 /// Adds pages to the memory.
-fn grow(store: &mut Store, pages: u32) -> Result<Done, ActionFault>
+fn grow(store: &mut Store, pages: u32) -> Result<ActionEnd, ActionFault>
     requires { IsSome store.old.memory }
     ensures { (code : Code) (args : List Val)
         → Does code args (Grow pages) result store.old store.new }
@@ -135,7 +135,7 @@ fn grow(store: &mut Store, pages: u32) -> Result<Done, ActionFault>
 }
 
 /// Adds empty entries to the table.
-fn grow_table(store: &mut Store, entries: u32) -> Result<Done, ActionFault>
+fn grow_table(store: &mut Store, entries: u32) -> Result<ActionEnd, ActionFault>
     requires { IsSome store.old.table }
     ensures { (code : Code) (args : List Val)
         → Does code args (GrowTable entries) result store.old store.new }
@@ -144,11 +144,11 @@ fn grow_table(store: &mut Store, entries: u32) -> Result<Done, ActionFault>
 }
 
 /// The result of an action that grows a memory or a table.
-fn growth_result(answer: Result<Option<u32>, NoMemory>) -> Result<Done, ActionFault>
+fn growth_result(answer: Result<Option<u32>, NoMemory>) -> Result<ActionEnd, ActionFault>
     ensures { result ≡ growth_result answer }
 {
     match answer {
-        Ok(Some(_)) => Ok(Done::Changed),
+        Ok(Some(_)) => Ok(ActionEnd::Changed),
         Ok(None) => Err(ActionFault::Fault {
             kind: FaultKind::GrowRefused,
         }),

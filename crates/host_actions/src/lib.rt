@@ -6,7 +6,7 @@ mod addresses;
 mod calls;
 mod laws;
 
-pub use actions::{ActionFault, Done, perform};
+pub use actions::{ActionEnd, ActionFault, perform};
 pub use addresses::Addresses;
 pub use base::NoMemory;
 pub use calls::Functions;

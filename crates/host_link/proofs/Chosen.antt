@@ -4,7 +4,7 @@ use Rattle.std.specs.Prelude.{All, nat_le}
 use Rattle.std.proofs.lemmas.Bool.{leb-true}
 use Rattle.std.proofs.lemmas.List.Elements.{All-head}
 use Rattle.base.proofs.Booleans.{and_right}
-use Rattle.wasm_syntax.specs.declared.limits.TheConstants.{MOST_ENTRIES, MOST_PAGES}
+use Rattle.wasm_syntax.specs.declared.limits.TheConstants.{MAX_ENTRIES, MAX_PAGES}
 use Rattle.wasm_syntax.specs.declared.signatures.Limits.{Limits}
 use Rattle.wasm_syntax.specs.declared.modules.Module.{Module}
 use Rattle.wasm_syntax.specs.Index.{of_kind, memory_import, table_import}
@@ -45,11 +45,11 @@ are_chosen : (m : Module) (script : Script) (supply : Supply) → IsSupported m 
 are_chosen m script supply supported matches is =
     subst (λ s. IsSupply m s → HasLimits m s) (supply_is m script supply is)
     (λ given. record {
-      memory = chosen_limits MOST_PAGES (of_kind memory_import m.imports) m.memories script.memory given.memory;
-      table = chosen_limits MOST_ENTRIES (of_kind table_import m.imports) m.tables script.table given.table;
-      few_pages = small_limits MOST_PAGES (of_kind memory_import m.imports) m.memories script.memory given.memory
+      memory = chosen_limits MAX_PAGES (of_kind memory_import m.imports) m.memories script.memory given.memory;
+      table = chosen_limits MAX_ENTRIES (of_kind table_import m.imports) m.tables script.table given.table;
+      few_pages = small_limits MAX_PAGES (of_kind memory_import m.imports) m.memories script.memory given.memory
           (small_memories m supported);
-      few_entries = small_limits MOST_ENTRIES (of_kind table_import m.imports) m.tables script.table given.table
+      few_entries = small_limits MAX_ENTRIES (of_kind table_import m.imports) m.tables script.table given.table
           (small_tables m supported);
     }) matches
 

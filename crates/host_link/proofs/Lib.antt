@@ -1,3 +1,4 @@
 pub mod Chosen
+pub mod FirstSizes
 pub mod Places
 pub mod Supplied

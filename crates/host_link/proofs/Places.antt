@@ -5,11 +5,12 @@ use Rattle.std.proofs.lemmas.List.{length-map}
 use Rattle.wasm_syntax.specs.declared.values.Val.{Val}
 use Rattle.wasm_syntax.specs.declared.modules.Module.{Module}
 use Rattle.wasm_syntax.specs.declared.modules.ElemSeg.{ElemSeg}
+use Rattle.wasm_syntax.specs.declared.modules.ElemSeg.TheVariants.{Active, Declared}
 use Rattle.wasm_syntax.specs.declared.modules.DataSeg.{DataSeg}
 use Rattle.history_spec.specs.Store.{Store}
-use Rattle.history_spec.specs.Instantiation.{data_fits, elem_fits, first_false, first_unfit}
+use Rattle.history_spec.specs.Instantiation.{data_fits, elem_fits, first_false, first_unfit, memory_length, table_length}
 use Rattle.instantiation_parts.proofs.Segments.{all_true}
-use Rattle.host_link.specs.Link.{with_elems_in}
+use Rattle.host_link.specs.Link.{data_fits_in, elem_fits_in, with_elems_in}
 
 -- the first false test of two lists, if the first list has one
 first_before : (at place : ℕ) (xs ys : List Bool) → first_false at xs ≡ Some place
@@ -38,6 +39,27 @@ first_later more at [] = refl
 first_later more at (true ∷ ys) = ap (λ k. first_false k ys) (omega arith) ∙ first_later more (at + 1) ys
 first_later more at (false ∷ ys) = refl
 
+-- a segment fits within a store if it fits within sizes that are the store's
+elems_fit_alike : (imported : List Val) (store : Store) (entries : ℕ) → entries ≡ table_length store.table
+    → (elems : List ElemSeg) → map (elem_fits_in entries imported) elems ≡ map (elem_fits imported store) elems
+elems_fit_alike imported store entries size elems =
+    subst (λ n. map (elem_fits_in n imported) elems ≡ map (elem_fits imported store) elems) (sym size) (go elems) where
+      go : (elems : List ElemSeg)
+          → map (elem_fits_in (table_length store.table) imported) elems ≡ map (elem_fits imported store) elems
+      go [] = refl
+      go (Active table offset funcs ∷ elems) =
+          ap (λ rest. elem_fits imported store (Active table offset funcs) ∷ rest) (go elems)
+      go (Declared funcs ∷ elems) = ap (λ rest. true ∷ rest) (go elems)
+
+datas_fit_alike : (imported : List Val) (store : Store) (bytes : ℕ) → bytes ≡ memory_length store.memory
+    → (datas : List DataSeg) → map (data_fits_in bytes imported) datas ≡ map (data_fits imported store) datas
+datas_fit_alike imported store bytes size datas =
+    subst (λ n. map (data_fits_in n imported) datas ≡ map (data_fits imported store) datas) (sym size) (go datas) where
+      go : (datas : List DataSeg)
+          → map (data_fits_in (memory_length store.memory) imported) datas ≡ map (data_fits imported store) datas
+      go [] = refl
+      go (segment ∷ datas) = ap (λ rest. data_fits imported store segment ∷ rest) (go datas)
+
 module _ (m : Module) (imported : List Val) (store : Store) (elems : List ElemSeg) (e : elems ≡ m.elems) where
   abbrev elem_tests : List Bool
   elem_tests = map (elem_fits imported store) elems
@@ -53,14 +75,21 @@ module _ (m : Module) (imported : List Val) (store : Store) (elems : List ElemSe
       ∙ ap (λ ds. first_false 0 (map (elem_fits imported store) m.elems ++ data_tests ds)) f)
 
   -- an element segment does not fit
-  pub elem_unfit : (place : ℕ) → Some place ≡ first_false 0 elem_tests → Some place ≡ first_unfit m imported store
-  elem_unfit place is = sym (unfit_is m.datas refl ∙ first_before 0 place elem_tests (data_tests m.datas) (sym is))
+  pub elem_unfit : (entries place : ℕ) → entries ≡ table_length store.table
+      → Some place ≡ first_false 0 (map (elem_fits_in entries imported) elems)
+      → Some place ≡ first_unfit m imported store
+  elem_unfit entries place size is =
+      let found = is ∙ ap (first_false 0) (elems_fit_alike imported store entries size elems) in
+      sym (unfit_is m.datas refl ∙ first_before 0 place elem_tests (data_tests m.datas) (sym found))
 
   -- all element segments fit, and so do the data segments, or one of the data segments does not
-  pub data_unfit : (datas : List DataSeg) (place : Option ℕ) → datas ≡ m.datas → None ≡ first_false 0 elem_tests
-      → place ≡ first_false 0 (data_tests datas)
+  pub data_unfit : (entries bytes : ℕ) (datas : List DataSeg) (place : Option ℕ) → datas ≡ m.datas
+      → entries ≡ table_length store.table → None ≡ first_false 0 (map (elem_fits_in entries imported) elems)
+      → bytes ≡ memory_length store.memory → place ≡ first_false 0 (map (data_fits_in bytes imported) datas)
       → option_map (λ k. length elems + k) place ≡ first_unfit m imported store
-  data_unfit datas place f none is =
+  data_unfit entries bytes datas place f table all_fit memory found =
+      let none = all_fit ∙ ap (first_false 0) (elems_fit_alike imported store entries table elems) in
+      let is = found ∙ ap (first_false 0) (datas_fit_alike imported store bytes memory datas) in
       ap (option_map (λ k. length elems + k)) is
       ∙ sym (unfit_is datas f
       ∙ first_after 0 elem_tests (data_tests datas) (sym none)

@@ -3,7 +3,8 @@
 
 mod links;
 mod segments;
+mod sizes;
 
 pub use base::NoMemory;
 pub use host_script::LinkFault;
-pub use links::{link, link_with_supply};
+pub use links::{link, link_with_supply, linked_supply};

@@ -2,77 +2,85 @@
 
 ghost use Rattle.std.specs.Prelude.{◌≡◌, ◌+◌, [], ◌∷◌, All, IsTrue, None, map, nat_le};
 ghost use Rattle.history_spec.specs.Instantiation as history;
-ghost use Rattle.history_spec.specs.Instantiation.{data_fits, elem_fits, first_false};
-ghost use Rattle.host_link.specs.Link.{with_datas_in, with_elems_in};
+ghost use Rattle.history_spec.specs.Instantiation.{data_fits, elem_fits, first_false, new_store};
+ghost use Rattle.host_link.specs.Link.{HasLimits, data_fits_in, elem_fits_in, with_datas_in, with_elems_in};
 
+use crate::sizes::{memory_size, table_size};
+use host_script::Supply;
 use instantiation_parts::offset_of;
 use wasm_store::{OutOfBounds, OutOfTable, Store};
 use wasm_syntax::{DataSeg, ElemSeg, Module, Val};
 
 /// The place of the first segment that does not fit, element segments before data segments (Core
 /// 1.0, 4.5.4). It is below the sum of two lengths, which 64 bits may not hold.
-pub(crate) fn first_unfit(store: &Store, imported: &[Val], module: &Module) -> Option<u128>
-    ensures { result ≡ history.first_unfit «module».now imported.now store.now }
+pub(crate) fn first_unfit(module: &Module, supply: &Supply) -> Option<u128>
+    requires { HasLimits «module».now supply.now }
+    ensures { result ≡ history.first_unfit «module».now supply.now.globals (new_store «module».now supply.now) }
 {
+    let imported = supply.globals.as_slice();
     let elems = module.elems.as_slice();
-    if let Some(at) = first_unfit_elem(store, imported, elems) {
+    if let Some(at) = first_unfit_elem(table_size(module, supply), imported, elems) {
         return Some(at as u128);
     }
-    let at = first_unfit_data(store, imported, module.datas.as_slice())?;
+    let at = first_unfit_data(
+        memory_size(module, supply),
+        imported,
+        module.datas.as_slice(),
+    )?;
     Some(elems.len() as u128 + at as u128)
 }
 
 /// The place of the first element segment that does not fit, counted among these.
-fn first_unfit_elem(store: &Store, imported: &[Val], elems: &[ElemSeg]) -> Option<usize>
-    ensures { result ≡ first_false 0 (map (elem_fits imported.now store.now) elems.now) }
+fn first_unfit_elem(entries: u64, imported: &[Val], elems: &[ElemSeg]) -> Option<usize>
+    ensures { result ≡ first_false 0 (map (elem_fits_in entries imported.now) elems.now) }
 {
     'elems: for (at, elem) in elems.iter().enumerate() {
-        if !elem_fits(store, imported, elem) {
+        if !elem_fits(entries, imported, elem) {
             return Some(at);
         }
     }
     None
 }
 
-/// Whether an element segment fits within the table. A segment that is only declared always fits.
-fn elem_fits(store: &Store, imported: &[Val], elem: &ElemSeg) -> bool
-    ensures { result ≡ elem_fits imported.now store.now elem.now }
+/// Whether an element segment fits within a table. A segment that is only declared always fits.
+fn elem_fits(entries: u64, imported: &[Val], elem: &ElemSeg) -> bool
+    ensures { result ≡ elem_fits_in entries imported.now elem.now }
 {
     match elem {
         ElemSeg::Active { offset, funcs, .. } => {
             let offset = offset_of(imported, offset.as_slice());
-            is_within(offset, funcs.as_slice().len(), store.table_size() as usize)
+            is_within(offset, funcs.as_slice().len(), entries)
         }
         ElemSeg::Declared { .. } => true,
     }
 }
 
 /// The place of the first data segment that does not fit, counted among these.
-fn first_unfit_data(store: &Store, imported: &[Val], datas: &[DataSeg]) -> Option<usize>
-    ensures { result ≡ first_false 0 (map (data_fits imported.now store.now) datas.now) }
+fn first_unfit_data(bytes: u64, imported: &[Val], datas: &[DataSeg]) -> Option<usize>
+    ensures { result ≡ first_false 0 (map (data_fits_in bytes imported.now) datas.now) }
 {
     'datas: for (at, segment) in datas.iter().enumerate() {
-        if !data_fits(store, imported, segment) {
+        if !data_fits(bytes, imported, segment) {
             return Some(at);
         }
     }
     None
 }
 
-/// Whether a data segment is within the memory.
-fn data_fits(store: &Store, imported: &[Val], segment: &DataSeg) -> bool
-    ensures { result ≡ data_fits imported.now store.now segment.now }
+/// Whether a data segment is within a memory.
+fn data_fits(bytes: u64, imported: &[Val], segment: &DataSeg) -> bool
+    ensures { result ≡ data_fits_in bytes imported.now segment.now }
 {
     let offset = offset_of(imported, segment.offset.as_slice());
-    is_within(offset, segment.bytes.as_slice().len(), store.bytes().len())
+    is_within(offset, segment.bytes.as_slice().len(), bytes)
 }
 
 /// Whether `count` bytes or entries from an offset on end within a size.
-fn is_within(offset: u64, count: usize, size: usize) -> bool
+fn is_within(offset: u64, count: usize, size: u64) -> bool
     ensures { result ≡ nat_le (offset + count) size }
 {
     match offset.checked_add(count as u64) {
-        Some(end) => end <= size as u64,
+        Some(end) => end <= size,
         None => false,
     }
 }

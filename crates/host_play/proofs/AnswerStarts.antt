@@ -65,7 +65,7 @@ module _ (m : Module) (heights : Heights) (script : Script) (counts : List ℕ) 
             comes.same
             ∙ ap (λ r. after_entries comes.before (answer_call r machine.store counts index comes.args (InModule comes.frame ∷ comes.below))) chosen
             ∙ sym (after_both comes.before (ImportCall index comes.args ∷ []) next)
-            ∙ ap (λ es. after_entries es next) (sym comes.told);
+            ∙ ap (λ es. after_entries es next) (sym comes.recorded);
         standing = record {
           heights = heights;
           counts = new_counts;

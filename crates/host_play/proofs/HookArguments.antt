@@ -1,11 +1,7 @@
 -- The arguments of a hook's call, read one by one.
 use Rattle.std.proofs.Common.{◌≡◌, ℕ, zero, suc, ◌+◌, ◌≤◌, ◌<◌, List, [], ◌∷◌, length, take, Option, Some, slice_get, slice_set, refl, sym, ap, ◌∙◌, arith, ◌⊎◌, inl, inr}
 use Rattle.base.proofs.Booleans.{below_cases}
-
-set_here : {A : Type 0} (xs : List A) (i : ℕ) (x : A) → i < length xs → slice_get (slice_set xs i x) i ≡ Some x
-set_here [] i x there = absurd (omega (arith, there))
-set_here (y ∷ xs) zero x there = refl
-set_here (y ∷ xs) (suc i) x there = set_here xs i x (omega (arith, there))
+use Rattle.base.proofs.Lists.{set_there}
 
 set_later : {A : Type 0} (xs : List A) (i j : ℕ) (x : A) → j < i → slice_get (slice_set xs i x) j ≡ slice_get xs j
 set_later [] i j x before = refl
@@ -20,7 +16,7 @@ one_more_read want xs i x there is so_far j below = go (below_cases j i (omega (
   where
     go : (j < i) ⊎ (j ≡ i) → want j ≡ slice_get (slice_set xs i x) j
     go (inl before) = so_far j before ∙ sym (set_later xs i j x before)
-    go (inr here) = ap want here ∙ is ∙ sym (set_here xs i x there) ∙ ap (slice_get (slice_set xs i x)) (sym here)
+    go (inr here) = ap want here ∙ is ∙ sym (set_there xs i x there) ∙ ap (slice_get (slice_set xs i x)) (sym here)
 
 -- items that are the first ones of a list
 pub first_items : {A : Type 0} (xs ys : List A) (count : ℕ) → length ys ≡ count → count ≤ length xs → ((i : ℕ) → i < count → slice_get xs i ≡ slice_get ys i) → take count xs ≡ ys

@@ -1,7 +1,8 @@
 -- The calls of hooks in a run: in steps after steps, and in entries without such calls.
-use Rattle.std.proofs.Common.{◌≡◌, ℕ, zero, suc, ◌+◌, List, [], ◌∷◌, ◌++◌, length, Bool, true, false, cond, refl, sym, ap, ◌∙◌, subst, arith, append_assoc, zero-add}
+use Rattle.std.proofs.Common.{◌≡◌, ℕ, zero, suc, ◌+◌, List, [], ◌∷◌, ◌++◌, length, Bool, true, false, cond, refl, sym, ap, ◌∙◌, subst, append_assoc, zero-add, suc-add}
 use Rattle.std.specs.Prelude.{filter, nat_lt, not, All, slice_get, ◌-◌}
 use Rattle.std.proofs.lemmas.List.Elements.{All-head, All-tail, filter-append}
+use Rattle.base.proofs.Lists.{nil_parts}
 use Rattle.history_spec.specs.declared.entries.Entry.{Entry}
 use Rattle.history_spec.specs.declared.entries.Entry.TheVariants.{HostCall, HostReturn, ImportCall, ImportReturn, Enter, Exit, Step, Trap, HostTrap}
 use Rattle.history_spec.specs.Store.{Store}
@@ -102,12 +103,8 @@ calls_none n view (HostTrap ∷ es) none = calls_none n view es none
 
 -- ---- calls in steps
 
-both_none : {A : Type 0} (xs ys : List A) → xs ++ ys ≡ [] → (xs ≡ []) × (ys ≡ [])
-both_none [] ys none = (refl, none)
-both_none (x ∷ xs) ys none = cc
-
 pub none_in_both : (test : Entry → Bool) (xs ys : List Entry) → filter test (xs ++ ys) ≡ [] → (filter test xs ≡ []) × (filter test ys ≡ [])
-none_in_both test xs ys none = both_none (filter test xs) (filter test ys) (sym (filter-append test xs ys) ∙ none)
+none_in_both test xs ys none = nil_parts (filter test xs) (filter test ys) (sym (filter-append test xs ys) ∙ none)
 
 -- steps without calls of hooks
 pub quiet : (n : ℕ) (program : Program) (meter : Meter) (k : ℕ) (at : Progress) → filter (is_hook_call n) (steps program meter k at).history ≡ [] → hook_calls n program k at ≡ []
@@ -120,29 +117,26 @@ quiet n program meter (suc k) (Finished outcome) none = refl
 quiet n program meter (suc k) (Faulted kind) none = refl
 quiet n program meter (suc k) Stuck none = refl
 
-more_number : (k j : ℕ) → suc k + j ≡ suc (k + j)
-more_number k j = omega arith
-
 -- a number of steps, and then another number of steps
 pub calls_joined : (n : ℕ) (program : Program) (meter : Meter) (k j : ℕ) (at : Progress)
     → hook_calls n program (k + j) at ≡ hook_calls n program k at ++ hook_calls n program j (steps program meter k at).at
 calls_joined n program meter zero j at = ap (λ i. hook_calls n program i at) (zero-add j)
 calls_joined n program meter (suc k) j (Running config) =
     let s : StepResult = step program config in
-    ap (λ i. hook_calls n program i (Running config)) (more_number k j)
+    ap (λ i. hook_calls n program i (Running config)) (suc-add k j)
     ∙ ap (λ es. calls_among n config.store s.entries ++ es) (calls_joined n program meter k j s.next)
     ∙ sym (append_assoc (calls_among n config.store s.entries) (hook_calls n program k s.next) (hook_calls n program j (steps program meter k s.next).at))
-calls_joined n program meter (suc k) j (Finished outcome) = ap (λ i. hook_calls n program i (Finished outcome)) (more_number k j) ∙ sym (over j)
+calls_joined n program meter (suc k) j (Finished outcome) = ap (λ i. hook_calls n program i (Finished outcome)) (suc-add k j) ∙ sym (over j)
   where
     over : (j : ℕ) → hook_calls n program j (Finished outcome) ≡ []
     over zero = refl
     over (suc j) = refl
-calls_joined n program meter (suc k) j (Faulted kind) = ap (λ i. hook_calls n program i (Faulted kind)) (more_number k j) ∙ sym (over j)
+calls_joined n program meter (suc k) j (Faulted kind) = ap (λ i. hook_calls n program i (Faulted kind)) (suc-add k j) ∙ sym (over j)
   where
     over : (j : ℕ) → hook_calls n program j (Faulted kind) ≡ []
     over zero = refl
     over (suc j) = refl
-calls_joined n program meter (suc k) j Stuck = ap (λ i. hook_calls n program i Stuck) (more_number k j) ∙ sym (over j)
+calls_joined n program meter (suc k) j Stuck = ap (λ i. hook_calls n program i Stuck) (suc-add k j) ∙ sym (over j)
   where
     over : (j : ℕ) → hook_calls n program j Stuck ≡ []
     over zero = refl

@@ -5,7 +5,6 @@ use Rattle.wasm_syntax.specs.declared.modules.Module.{Module}
 use Rattle.host_script.specs.declared.scripts.Script.{Script}
 use Rattle.history_spec.specs.declared.entries.Entry.TheVariants.{ImportReturn}
 use Rattle.history_spec.specs.Step.{StepResult, response_to}
-use Rattle.wasm_flat.specs.Meters.{Weighing}
 use Rattle.record_replay_spec.specs.HookedRuns.{call_of_hook}
 use Rattle.hook_names.specs.Steps.{IsRun, Steps}
 use Rattle.wasm_interp.specs.declared.machine.Pause.{Pause}
@@ -13,6 +12,7 @@ use Rattle.wasm_interp.specs.declared.machine.Pause.TheVariants as pause
 use Rattle.wasm_interp.specs.Calls.{AdvancesRun, ResumesRun}
 use Rattle.wasm_interp.specs.Laws.{ResultsAreValues}
 use Rattle.wasm_interp.specs.State.{State}
+use Rattle.host_play.specs.declared.hooked_plays.RunSettings.{RunSettings}
 use Rattle.host_play.specs.declared.host_steps.HostStep.TheVariants as host_step
 use Rattle.host_play.specs.declared.play_state.Host.{Host}
 use Rattle.host_play.specs.declared.play_state.Host.TheVariants as host
@@ -26,18 +26,18 @@ use Rattle.host_play.proofs.Ends.{Answered, answered, return_leads}
 use Rattle.host_play.proofs.HookWaits as waits
 use Rattle.host_play.proofs.HooksOn.{host_did, part_to_import}
 
-module _ {H : Type 0} (is_step : Steps H) (m : Module) (script : Script) (weighing : Weighing) (n : ℕ)
-    (initial : StepResult) (budget : ℕ) (begun now : H) (playing : PlayState) (given : ℕ)
-    (t : HooksSoFar is_step m script weighing n initial budget begun now at.Module playing given)
-    (end : Pause) (new : State) (left : ℕ) (run : AdvancesRun playing.machine weighing given end left new)
-    (index : ℕ) (is : end ≡ pause.Import index) (past : n ≤ index) where
+module _ {H : Type 0} (is_step : Steps H) (m : Module) (script : Script) (settings : RunSettings)
+    (initial : StepResult) (begun now : H) (playing : PlayState) (given : ℕ)
+    (t : HooksSoFar is_step m script settings initial begun now at.Module playing given)
+    (end : Pause) (new : State) (left : ℕ) (run : AdvancesRun playing.machine settings.meter.now given end left new)
+    (index : ℕ) (is : end ≡ pause.Import index) (past : settings.imports ≤ index) where
   abbrev stands : StandsAt m script at.Module playing t.reached.pending
   stands = t.reached.standing
 
   replies : (count : ℕ) → response_to script.imports index count ≡ Some nothing_done
   replies count =
       t.can_play.hooks.answered index count past
-      (waits.there m script weighing n t.can_play t.reached.pending playing stands given end new left run index is)
+      (waits.there m script settings t.can_play t.reached.pending playing stands given end new left run index is)
 
   -- the answer to the call, before its end
   abbrev answer : Host
@@ -53,17 +53,17 @@ module _ {H : Type 0} (is_step : Steps H) (m : Module) (script : Script) (weighi
       record { response = nothing_done; chosen = λ count same. replies count; pushed = refl; counted = counted }
 
   pub hook_answered : ResultsAreValues → (later : H)
-      → IsRun is_step now (call_of_hook n index
-      (waits.to m script weighing n t.can_play t.reached.pending playing stands given end new left run index is).args
+      → IsRun is_step now (call_of_hook settings.imports index
+      (waits.to m script settings t.can_play t.reached.pending playing stands given end new left run index is).args
       new.store) (Ok tt) later
       → (after : PlayState) → ResumesRun new None after.machine → after.functions ≡ playing.functions
       → after.hosts ≡ playing.hosts
       → after.counts.items ≡ counts_after_call playing.counts.items index
-      → HooksSoFar is_step m script weighing n initial budget begun later at.Module after left
+      → HooksSoFar is_step m script settings initial begun later at.Module after left
   hook_answered results later taken after resumes functions hosts counted =
       let before : PlayState = record after { machine = new; hosts = answer ∷ playing.hosts } in
-      let at_host : HooksSoFar is_step m script weighing n initial budget begun later at.Host before left =
-      part_to_import is_step m script weighing n initial budget begun now playing given t end new left run index is
+      let at_host : HooksSoFar is_step m script settings initial begun later at.Host before left =
+      part_to_import is_step m script settings initial begun now playing given t end new left run index is
       later taken (answer ∷ playing.hosts) before refl functions refl (begins after counted) in
       let s : StepResult = at_host.reached.pending in
       let a : Answered m script s before index answer nothing_done.«end» at_host.reached.standing =
@@ -72,5 +72,5 @@ module _ {H : Type 0} (is_step : Steps H) (m : Module) (script : Script) (weighi
       let leads : Leads m script s (ImportReturn index [] ∷ []) at.Module after =
       return_leads m script s before answer at_host.reached.standing a.done index None after a.same_import results
       a.same_end resumes refl refl hosts in
-      host_did is_step m script weighing n initial budget begun later before left at_host (host_step.Returns index None)
+      host_did is_step m script settings initial begun later before left at_host (host_step.Returns index None)
       after left (inl (refl, leads))

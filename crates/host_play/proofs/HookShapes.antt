@@ -21,7 +21,7 @@ use Rattle.host_script.specs.declared.scripts.Answer.{Answer}
 use Rattle.host_script.specs.declared.scripts.Script.{Script}
 use Rattle.host_script.specs.Fits.{Fits, FitsAction, FitsImport, FitsResponse}
 use Rattle.history_spec.specs.Code.{code_of, signature}
-use Rattle.wasm_flat.specs.Meters.{FitsMeter, Weighing}
+use Rattle.wasm_flat.specs.Meters.{FitsMeter}
 use Rattle.record_replay_spec.specs.declared.hooks.Hook.{Hook}
 use Rattle.record_replay_spec.specs.Hooks.{hooks, hook_count, hook_name, hook_type}
 use Rattle.record_replay_spec.specs.HookedForm.{HookedForm, are_hooks, brings, digest_length, form_of_sections, func_imports, hooked_sections, imports_hooks, is_from_hooks, is_func_kind, is_hook, is_of_type, own_imports}
@@ -29,6 +29,7 @@ use Rattle.record_replay_spec.specs.Instrumented.{section_bytes}
 use Rattle.wasm_syntax.specs.declared.modules.Custom.{Custom}
 use Rattle.record_replay_spec.specs.HookedRuns.{first_answers, hook_answer, hooked_script}
 use Rattle.host_play.specs.HookedResults.{FormsHaveHooks, HasHooksAfter}
+use Rattle.host_play.specs.declared.hooked_plays.RunSettings.{RunSettings}
 use Rattle.host_play.specs.HooksSoFar.{CanPlay, HasHooks}
 use Rattle.host_play.proofs.HookAnswers.{hook_answered}
 
@@ -167,8 +168,9 @@ module _ (m : Module) (n : ℕ) (has : HasHooksAfter m n) where
     main = fits.main;
   }
 
-pub can_play : (m : Module) (n : ℕ) (script : Script) (weighing : Weighing) → HasHooksAfter m n → FitsMeter m weighing → CanPlay m (hooked_script n script) weighing n
-can_play m n script weighing has fits = record { fits = fits; hooks = has_hooks m n has script }
+pub can_play : (m : Module) (script : Script) (settings : RunSettings) → HasHooksAfter m settings.imports
+    → FitsMeter m settings.meter.now → CanPlay m (hooked_script settings.imports script) settings
+can_play m script settings has fits = record { fits = fits; hooks = has_hooks m settings.imports has script }
 
 -- ---- modules in the hooked form
 

@@ -25,6 +25,7 @@ use Rattle.wasm_interp.specs.Calls.{AdvancesRun, ComesToImport, RunPart}
 use Rattle.wasm_interp.specs.Laws.{AdvancesLessen, ArgumentsAreThere, ImportsWait}
 use Rattle.wasm_interp.specs.State.{IsInModule, State, StandsFor}
 use Rattle.wasm_interp.specs.Walks.{FitsWeights}
+use Rattle.host_play.specs.declared.hooked_plays.RunSettings.{RunSettings}
 use Rattle.host_play.specs.declared.play_state.Host.{Host}
 use Rattle.host_play.specs.declared.play_state.Host.TheVariants as host
 use Rattle.host_play.specs.declared.play_state.PlayState.{PlayState}
@@ -34,13 +35,13 @@ use Rattle.host_play.specs.Stands.{StandsAt}
 use Rattle.host_play.proofs.HookShapes.{zip_length}
 use Rattle.host_play.proofs.ModuleParts.{comes, no_more_left}
 
-module _ (m : Module) (script : Script) (weighing : Weighing) (imports : ℕ) (can_play : CanPlay m script weighing imports) (s : StepResult) (playing : PlayState) (standing : StandsAt m script at.Module playing s)
-    (given : ℕ) (end : Pause) (new : State) (left : ℕ) (run : AdvancesRun playing.machine weighing given end left new) (index : ℕ) (is : end ≡ pause.Import index) where
-  abbrev part : RunPart m standing.heights (program_of m script) (meter_of m weighing) (outside_of standing.goes_on.below) standing.counts (after_settling playing.machine.store standing.counts (settle (InModule standing.goes_on.frame ∷ standing.goes_on.below))) given end left new
+module _ (m : Module) (script : Script) (settings : RunSettings) (can_play : CanPlay m script settings) (s : StepResult) (playing : PlayState) (standing : StandsAt m script at.Module playing s)
+    (given : ℕ) (end : Pause) (new : State) (left : ℕ) (run : AdvancesRun playing.machine settings.meter.now given end left new) (index : ℕ) (is : end ≡ pause.Import index) where
+  abbrev part : RunPart m standing.heights (program_of m script) (meter_of m settings.meter.now) (outside_of standing.goes_on.below) standing.counts (after_settling playing.machine.store standing.counts (settle (InModule standing.goes_on.frame ∷ standing.goes_on.below))) given end left new
   part = run m standing.heights (program_of m script) standing.counts standing.goes_on.frame standing.goes_on.below standing.is_run standing.goes_on.stack.machine
 
   abbrev pub to : ComesToImport m standing.heights (program_of m script) (outside_of standing.goes_on.below) standing.counts index part.entries new part.last
-  to = comes m script weighing s playing standing given end new left run index is
+  to = comes m script settings.meter.now s playing standing given end new left run index is
 
   stands : StandsFor m standing.heights (InImport index to.args [] Trap ∷ InModule to.frame ∷ to.below) new
   stands = to.stands [] Trap (λ k d below. absurd (omega arith)) tt
@@ -48,20 +49,20 @@ module _ (m : Module) (script : Script) (weighing : Weighing) (imports : ℕ) (c
   pub there : index < imported_funcs m
   there = stands.holds.laid.2
 
-  counted : (place : ℕ) (kind : Hook) → slice_get hooks place ≡ Some kind → index ≡ imports + place → length to.args ≡ length (hook_params kind)
+  counted : (place : ℕ) (kind : Hook) → slice_get hooks place ≡ Some kind → index ≡ settings.imports + place → length to.args ≡ length (hook_params kind)
   counted place kind found at =
       let types : Some to.ty ≡ Some (hook_type kind) = sym to.has_type ∙ ap (signature (code_of m)) at ∙ can_play.hooks.has_type place kind found in
       let same : to.ty ≡ hook_type kind = cc in
       sym (zip_length (IsValue (func_count m)) to.ty.params to.args to.values) ∙ ap (λ (ty : FuncType). length ty.params) same
 
-  pub awaits_call : ImportsWait → ArgumentsAreThere → AwaitsCall new imports index to.args
+  pub awaits_call : ImportsWait → ArgumentsAreThere → AwaitsCall new settings.imports index to.args
   awaits_call waits arguments = (
     record {
       waits = waits m standing.heights index to.args [] Trap (InModule to.frame ∷ to.below) new stands;
       each = λ number. arguments m standing.heights index to.args [] Trap (InModule to.frame ∷ to.below) new number stands;
     },
     record {
-      there = λ past. let imported : imported_funcs m ≡ imports + hook_count = can_play.hooks.imported in omega (arith, there, imported);
+      there = λ past. let imported : imported_funcs m ≡ settings.imports + hook_count = can_play.hooks.imported in omega (arith, there, imported);
       count = counted;
     },
   )

@@ -10,7 +10,6 @@ use Rattle.host_script.specs.declared.scripts.ResponseEnd.TheVariants.{Trap}
 use Rattle.host_script.specs.declared.scripts.Script.{Script}
 use Rattle.history_spec.specs.declared.entries.Entry.{Entry}
 use Rattle.history_spec.specs.declared.entries.Entry.TheVariants.{HostCall, ImportCall}
-use Rattle.history_spec.specs.declared.entries.Entry.TheVariants as entry
 use Rattle.history_spec.specs.Code.{code_of}
 use Rattle.history_spec.specs.Configuration.{Activation, Config, InModule, InImport}
 use Rattle.history_spec.specs.Settle.{settle}
@@ -67,9 +66,9 @@ record BeforeCall (before entries : List Entry) : Type 0 where
   more_hosts : hosts_in entries ≡ []
 
 before_call : (index : ℕ) (args : List Val) (before entries whole : List Entry) → whole ≡ entries ++ ImportCall index args ∷ [] → AreOwnUpTo (pause.Import index) (before ++ whole) → BeforeCall before entries
-before_call index args before entries whole told own =
+before_call index args before entries whole printed own =
     let call : List Entry = ImportCall index args ∷ [] in
-    let all : before ++ (entries ++ call) ≡ own.0 ++ ImportCall index own.1 ∷ [] = ap (λ es. before ++ es) (sym told) ∙ own.2 in
+    let all : before ++ (entries ++ call) ≡ own.0 ++ ImportCall index own.1 ∷ [] = ap (λ es. before ++ es) (sym printed) ∙ own.2 in
     let imports : imports_in before ++ (imports_in entries ++ call) ≡ ImportCall index own.1 ∷ [] =
     ap (λ es. imports_in before ++ es) (sym (filter-append is_import_call entries call)) ∙ sym (filter-append is_import_call before (entries ++ call)) ∙ ap imports_in all
     ∙ filter-append is_import_call own.0 (ImportCall index own.1 ∷ []) ∙ ap (λ front. front ++ ImportCall index own.1 ∷ []) (none_own is_import_call import_is_call own.0 own.3) in
@@ -141,7 +140,7 @@ module _ (m : Module) (script : Script) (weighing : Weighing) (s : StepResult) (
     to = comes m script weighing s playing standing left end new now run index is
 
     before : BeforeCall a.before to.before
-    before = before_call index to.args a.before to.before a.entries to.told (own_as m script weighing s playing standing left end new now run (pause.Import index) is)
+    before = before_call index to.args a.before to.before a.entries to.recorded (own_as m script weighing s playing standing left end new now run (pause.Import index) is)
 
     abbrev response : Option Response
     response = response_to script.imports index (slice_index standing.counts index)
@@ -186,7 +185,7 @@ module _ (m : Module) (script : Script) (weighing : Weighing) (s : StepResult) (
       to_other = subst (λ e. EndsRun m standing.heights instead (meter_of m weighing) (outside_of standing.goes_on.below) standing.counts e now b.entries new b.last) is b.ends
 
       other_before : BeforeCall b.before to_other.before
-      other_before = before_call index to_other.args b.before to_other.before b.entries to_other.told (subst (λ e. AreOwnUpTo e (b.before ++ b.entries)) is b.own)
+      other_before = before_call index to_other.args b.before to_other.before b.entries to_other.recorded (subst (λ e. AreOwnUpTo e (b.before ++ b.entries)) is b.own)
 
       abbrev waiting : Config
       waiting = record {

@@ -28,6 +28,7 @@ use Rattle.wasm_interp.specs.declared.machine.Pause.{Pause}
 use Rattle.wasm_interp.specs.declared.machine.Pause.TheVariants as pause
 use Rattle.wasm_interp.specs.State.{State}
 use Rattle.wasm_interp.specs.Calls.{AdvancesRun, ComesToImport, RunPart}
+use Rattle.host_play.specs.declared.hooked_plays.RunSettings.{RunSettings}
 use Rattle.host_play.specs.declared.host_steps.HostStep.{HostStep}
 use Rattle.host_play.specs.declared.play_state.Host.{Host}
 use Rattle.host_play.specs.declared.play_state.PlayState.{PlayState}
@@ -53,7 +54,7 @@ use Rattle.host_play.proofs.HookRuns.{runs_on}
 use Rattle.host_play.proofs.HostParts.{step_made}
 use Rattle.host_play.proofs.ModuleParts as parts
 use Rattle.host_play.proofs.Joins.{run_of}
-use Rattle.host_play.proofs.Reaches.{begins, goes_free, goes_step, host_weight, over_within, spends, stepped, whole}
+use Rattle.host_play.proofs.NextSteps.{begins, goes_free, goes_step, host_weight, over_within, spends, stepped, whole}
 
 -- ---- the host calls no hook
 
@@ -77,27 +78,36 @@ module _ (program : Program) (n : ℕ) where
 
 -- ---- the place of a run with hooks
 
-module _ {H : Type 0} (is_step : Steps H) (m : Module) (script : Script) (weighing : Weighing) (n : ℕ) (initial : StepResult) (budget : ℕ) (begun : H) where
+module _ {H : Type 0} (is_step : Steps H) (m : Module) (script : Script) (settings : RunSettings) (initial : StepResult) (begun : H) where
+  abbrev weighing : Weighing
+  weighing = settings.meter.now
+
+  abbrev n : ℕ
+  n = settings.imports
+
+  abbrev budget : ℕ
+  budget = settings.turns
+
   abbrev r : HookedRun
-  r = run_in m script weighing n initial budget
+  r = run_in m script settings initial
 
   -- the run with hooks begins with what the host did first
-  pub hooks_begun : (entries : List Entry) (stand : Stand) (playing : PlayState) → CanPlay m script weighing n → Leads m script initial entries stand playing
-      → HooksSoFar is_step m script weighing n initial budget begun begun stand playing budget
+  pub hooks_begun : (entries : List Entry) (stand : Stand) (playing : PlayState) → CanPlay m script settings → Leads m script initial entries stand playing
+      → HooksSoFar is_step m script settings initial begun begun stand playing budget
   hooks_begun entries stand playing can_play leads = record {
     can_play = can_play;
     history = [] ++ entries;
     reached = begins m script weighing initial budget entries stand playing leads;
-    told = (refl, refl);
+    printed = (refl, refl);
   }
 
-  module _ (now : H) (stand : Stand) (playing : PlayState) (left : ℕ) (t : HooksSoFar is_step m script weighing n initial budget begun now stand playing left) where
+  module _ (now : H) (stand : Stand) (playing : PlayState) (left : ℕ) (t : HooksSoFar is_step m script settings initial begun now stand playing left) where
     -- memory is exhausted: the hooks took the calls so far
     pub taken_so_far : AnswersWithin is_step r (Ok tt) begun now
     taken_so_far =
         let spent : t.reached.used + left ≡ budget = t.reached.spent in
         let same : (steps_of r t.reached.steps).turns ≡ t.reached.used = ap (λ (x : Run). x.turns) t.reached.run in
-        record { count = t.reached.steps; in_budget = omega (arith, spent, same); hooks = t.told }
+        record { count = t.reached.steps; in_budget = omega (arith, spent, same); hooks = t.printed }
 
     -- the hooks take the calls of more steps
     leads_on : (more : ℕ) (next : Progress) (calls : List HookCall) (answer : Result ⊤ HookFault) (later : H) → t.reached.pending.next ≡ next
@@ -107,20 +117,20 @@ module _ {H : Type 0} (is_step : Steps H) (m : Module) (script : Script) (weighi
         subst (λ all. IsRun is_step begun all answer later)
         (ap (λ more. hook_calls n (program_of m script) t.reached.steps initial.next ++ more) (sym calls_are ∙ ap (hook_calls n (program_of m script) more) (sym there))
         ∙ sym (calls_joined n (program_of m script) (meter_of m weighing) t.reached.steps more initial.next))
-        (runs_on is_step begun now later (hook_calls n (program_of m script) t.reached.steps initial.next) calls answer t.told run)
+        (runs_on is_step begun now later (hook_calls n (program_of m script) t.reached.steps initial.next) calls answer t.printed run)
 
   -- the run is over by an outcome
-  pub ends_with_hooks : (outcome : Outcome) (now : H) (playing : PlayState) (left : ℕ) → HooksSoFar is_step m script weighing n initial budget begun now (at.Over outcome) playing left → EndsWithHooks is_step r outcome begun now
+  pub ends_with_hooks : (outcome : Outcome) (now : H) (playing : PlayState) (left : ℕ) → HooksSoFar is_step m script settings initial begun now (at.Over outcome) playing left → EndsWithHooks is_step r outcome begun now
   ends_with_hooks outcome now playing left t = record {
     run = whole m script weighing initial budget outcome t.history playing left t.reached;
     within = over_within m script weighing initial budget outcome t.history playing left t.reached;
     ends = refl;
-    hooks = t.told;
+    hooks = t.printed;
   }
 
   -- ---- the host's part
 
-  module _ (now : H) (playing : PlayState) (left : ℕ) (t : HooksSoFar is_step m script weighing n initial budget begun now at.Host playing left) where
+  module _ (now : H) (playing : PlayState) (left : ℕ) (t : HooksSoFar is_step m script settings initial begun now at.Host playing left) where
     -- a step of the host calls no hook
     leads_by_host : (c : Config) → t.reached.pending.next ≡ Running c → AwaitsHost c.stack → HooksLead is_step r (suc t.reached.steps) begun (Ok tt) now
     leads_by_host c standing awaits =
@@ -129,14 +139,14 @@ module _ {H : Type 0} (is_step : Steps H) (m : Module) (script : Script) (weighi
         (leads_on now at.Host playing left t 1 (Running c) [] (Ok tt) now standing (append-nil (calls_among n c.store (step (program_of m script) c).entries) ∙ host_none (program_of m script) n c c.stack awaits) (refl, refl))
 
     pub host_did : (did : HostStep) (new_playing : PlayState) (later : ℕ) → HostDid m script t.reached.pending left did new_playing later
-        → HooksSoFar is_step m script weighing n initial budget begun now (stand_after did) new_playing later
+        → HooksSoFar is_step m script settings initial begun now (stand_after did) new_playing later
     host_did did new_playing later (inl free) =
-        subst (HooksSoFar is_step m script weighing n initial budget begun now (stand_after did) new_playing) (sym free.0)
+        subst (HooksSoFar is_step m script settings initial begun now (stand_after did) new_playing) (sym free.0)
         (record {
           can_play = t.can_play;
           history = t.history ++ entries_of did;
           reached = goes_free m script weighing initial budget t.history at.Host playing left t.reached (play_step_of did) new_playing free.1;
-          told = t.told;
+          printed = t.printed;
         })
     host_did did new_playing later (inr made) = record {
       can_play = t.can_play;
@@ -144,7 +154,7 @@ module _ {H : Type 0} (is_step : Steps H) (m : Module) (script : Script) (weighi
       reached =
           goes_step m script weighing initial budget t.history at.Host playing left t.reached (play_step_of did) new_playing later made.0 (step_made m script t.reached.pending (Ok (play_step_of did)) new_playing made.1)
           (host_weight m weighing made.1.before.config.stack made.1.before.awaits);
-      told = leads_by_host made.1.before.config (ap (λ (s : StepResult). s.next) made.1.before.standing) made.1.before.awaits;
+      printed = leads_by_host made.1.before.config (ap (λ (s : StepResult). s.next) made.1.before.standing) made.1.before.awaits;
     }
 
     pub host_stops : (fault : PlayFault) (new_playing : PlayState) (later : ℕ) → HostStops m script t.reached.pending budget left fault new_playing later → RefusesWithHooks is_step r fault begun now
@@ -165,14 +175,14 @@ module _ {H : Type 0} (is_step : Steps H) (m : Module) (script : Script) (weighi
         }
     host_stops refusal.Spent new_playing later stops = record {
       spent = spends m script weighing initial budget t.history at.Host playing left t.reached stops.1.config stops.0 (host_weight m weighing stops.1.config.stack stops.1.awaits) stops.1.standing;
-      hooks = t.told;
+      hooks = t.printed;
     }
     host_stops (refusal.Hook number) new_playing later stops = absurd stops
     host_stops refusal.Memory new_playing later stops = inl (taken_so_far now at.Host playing left t)
 
   -- ---- the module's part
 
-  module _ (now : H) (playing : PlayState) (given : ℕ) (t : HooksSoFar is_step m script weighing n initial budget begun now at.Module playing given) (end : Pause) (new : State) (left : ℕ)
+  module _ (now : H) (playing : PlayState) (given : ℕ) (t : HooksSoFar is_step m script settings initial begun now at.Module playing given) (end : Pause) (new : State) (left : ℕ)
       (run : AdvancesRun playing.machine weighing given end left new) where
     abbrev standing : StandsAt m script at.Module playing t.reached.pending
     standing = t.reached.standing
@@ -187,20 +197,20 @@ module _ {H : Type 0} (is_step : Steps H) (m : Module) (script : Script) (weighi
         → HooksLead is_step r (t.reached.steps + a.count) begun answer later
     leads_after calls answer later are taken = leads_on now at.Module playing given t a.count start.next calls answer later (ap (λ (s : StepResult). s.next) standing.goes_on.same) are taken
 
-    pub part_to_host : end ≡ pause.Returned → HooksSoFar is_step m script weighing n initial budget begun now at.Host (record playing { machine = new }) left
+    pub part_to_host : end ≡ pause.Returned → HooksSoFar is_step m script settings initial begun now at.Host (record playing { machine = new }) left
     part_to_host is = record {
       can_play = t.can_play;
       history = (t.history ++ a.before) ++ a.entries;
       reached = parts.to_host m script weighing t.reached.pending playing standing given end new left run initial budget t.reached.steps t.reached.used t.history t.reached.run t.reached.spent is;
-      told = leads_after [] (Ok tt) now (hooked.none_to_host m script weighing t.reached.pending playing standing given end new left run n is) (refl, refl);
+      printed = leads_after [] (Ok tt) now (hooked.none_to_host m script weighing t.reached.pending playing standing given end new left run n is) (refl, refl);
     }
 
-    pub part_to_trap : end ≡ pause.Trapped → HooksSoFar is_step m script weighing n initial budget begun now (at.Over ByTrap) (record playing { machine = new }) left
+    pub part_to_trap : end ≡ pause.Trapped → HooksSoFar is_step m script settings initial begun now (at.Over ByTrap) (record playing { machine = new }) left
     part_to_trap is = record {
       can_play = t.can_play;
       history = (t.history ++ a.before) ++ a.entries;
       reached = parts.to_trap m script weighing t.reached.pending playing standing given end new left run initial budget t.reached.steps t.reached.used t.history t.reached.run t.reached.spent is;
-      told = leads_after [] (Ok tt) now (hooked.none_to_trap m script weighing t.reached.pending playing standing given end new left run n is) (refl, refl);
+      printed = leads_after [] (Ok tt) now (hooked.none_to_trap m script weighing t.reached.pending playing standing given end new left run n is) (refl, refl);
     }
 
     pub part_to_spent : end ≡ pause.Spent → RefusesWithHooks is_step r refusal.Spent begun now
@@ -247,14 +257,14 @@ module _ {H : Type 0} (is_step : Steps H) (m : Module) (script : Script) (weighi
 
       pub part_to_import : (later : H) → IsRun is_step now (call_of_hook n index to.args new.store) (Ok tt) later
           → (hosts : List Host) (new_playing : PlayState) → new_playing.machine ≡ new → new_playing.functions ≡ playing.functions → new_playing.hosts ≡ hosts
-          → BeginsAnswer script playing.hosts playing.counts.items index hosts new_playing.counts.items → HooksSoFar is_step m script weighing n initial budget begun later at.Host new_playing left
+          → BeginsAnswer script playing.hosts playing.counts.items index hosts new_playing.counts.items → HooksSoFar is_step m script settings initial begun later at.Host new_playing left
       part_to_import later taken hosts new_playing same_machine same_functions same_hosts begins_answer = record {
         can_play = t.can_play;
         history = (t.history ++ a.before) ++ a.entries;
         reached =
             parts.to_import m script weighing t.reached.pending playing standing given end new left run initial budget t.reached.steps t.reached.used t.history t.reached.run t.reached.spent index is
             hosts new_playing same_machine same_functions same_hosts begins_answer;
-        told = call_taken (Ok tt) later taken;
+        printed = call_taken (Ok tt) later taken;
       }
 
       pub part_without_response : (later : H) → IsRun is_step now (call_of_hook n index to.args new.store) (Ok tt) later → (refused : Refusal) (turn : ℕ) → turn + left ≡ budget

@@ -7,6 +7,7 @@ use Rattle.history_spec.specs.declared.entries.Entry.{Entry}
 use Rattle.history_spec.specs.Configuration.{Config}
 use Rattle.history_spec.specs.Step.{Running, StepResult, step_result, step}
 use Rattle.history_spec.specs.Run.{program_of}
+use Rattle.history_spec.proofs.Budgets.{takes_one}
 use Rattle.wasm_flat.specs.Meters.{Weighing}
 use Rattle.host_play.specs.declared.host_steps.HostStep.{HostStep}
 use Rattle.host_play.specs.declared.host_steps.HostStep.TheVariants as host_step
@@ -22,7 +23,7 @@ use Rattle.host_play.specs.HostSteps.{play_step_of, entries_of, stand_after}
 use Rattle.host_play.specs.Results.{Refuses, play_fault}
 use Rattle.host_play.specs.RunsSoFar.{BeginsPart, ComesTo}
 use Rattle.host_play.specs.Stands.{LeadsBy, MakesStep}
-use Rattle.host_play.proofs.Reaches.{goes_free, goes_step, host_weight, spends, step_fails, weight_one}
+use Rattle.host_play.proofs.NextSteps.{goes_free, goes_step, host_weight, spends, step_fails}
 
 same_config : (s : StepResult) (a b : Config) → s ≡ step_result [] (Running a) → s ≡ step_result [] (Running b) → a ≡ b
 same_config s a b first second = let same : Running a ≡ Running b = ap (λ (t : StepResult). t.next) (sym first ∙ second) in cc
@@ -73,6 +74,6 @@ host_refuses m script initial budget history playing left r (refusal.Fault turn 
     step_fails m script initial budget history at.Host playing left r (unmade.Fault kind) new_playing now turn stops.0 (omega (arith, stops.0, stops.1))
     (step_made m script r.pending (Err (unmade.Fault kind)) new_playing stops.2)
 host_refuses m script initial budget history playing left r refusal.Spent new_playing now stops =
-    spends m script None initial budget history at.Host playing left r stops.1.config stops.0 (weight_one stops.1.config.stack) stops.1.standing
+    spends m script None initial budget history at.Host playing left r stops.1.config stops.0 (takes_one stops.1.config.stack) stops.1.standing
 host_refuses m script initial budget history playing left r (refusal.Hook number) new_playing now stops = absurd stops
 host_refuses m script initial budget history playing left r refusal.Memory new_playing now stops = tt

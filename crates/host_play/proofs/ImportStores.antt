@@ -189,9 +189,9 @@ module _ (code : Code) (answers : List (Option Answer)) (func : ℕ) (given : Li
             ((none_in_both is_host_call (asked calling).entries (steps other other_meter l (Running waiting)).history hosts').1)
             (subst (λ (s : StepResult). (steps other other_meter l s.next).at ≡ Running d) is at)
 
-        told : (r : Response) → by_own ≡ asked r → imports_in (by_own.entries ++ (steps own meter k by_own.next).history) ≡ ImportCall import args ∷ [] → c.store ≡ d.store
+        printed : (r : Response) → by_own ≡ asked r → imports_in (by_own.entries ++ (steps own meter k by_own.next).history) ≡ ImportCall import args ∷ [] → c.store ≡ d.store
             → calls_among n c.store by_own.entries ++ hook_calls n own k by_own.next ≡ call_of_hook n import args d.store
-        told r is first store =
+        printed r is first store =
             let after : List Entry = (answering r).entries in
             let rest : List Entry = (steps own meter k (answering r).next).history in
             let first' : ImportCall x.import x.args ∷ imports_in (after ++ rest) ≡ ImportCall import args ∷ [] = subst (λ (s : StepResult). imports_in (s.entries ++ (steps own meter k s.next).history) ≡ ImportCall import args ∷ []) is first in
@@ -219,7 +219,7 @@ module _ (code : Code) (answers : List (Option Answer)) (func : ℕ) (given : Li
                 let no : [] ≡ ImportCall import args ∷ [] = sym (ap imports_in (over_none meter k fault.next (λ config running. cc))) ∙ some in
                 cc
             go (Some r) is =
-                told r (x.is_own ∙ ap (λ r. after_entries (entry ∷ []) (answer_call r c.store c.counts x.import x.args x.under)) is) first
+                printed r (x.is_own ∙ ap (λ r. after_entries (entry ∷ []) (answer_call r c.store c.counts x.import x.args x.under)) is) first
                 (same_store (x.is_other ∙ ap (λ r. after_entries (entry ∷ []) (answer_call r c.store c.counts x.import x.args x.under)) (answered_instead x.import (slice_index c.counts x.import) (slice_index c.counts x.import) r is)) hosts at)
 
     claims : (k l : ℕ) (at : Progress) (d : Config) (import : ℕ) (args other_args : List Val)

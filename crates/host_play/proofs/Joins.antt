@@ -1,5 +1,5 @@
 -- Steps after steps of a run.
-use Rattle.std.proofs.Common.{◌≡◌, ℕ, suc, zero, ◌+◌, List, [], ◌++◌, refl, sym, ap, ◌∙◌, arith, append_assoc, zero-add}
+use Rattle.std.proofs.Common.{◌≡◌, ℕ, suc, zero, ◌+◌, List, [], ◌++◌, refl, sym, ap, ◌∙◌, arith, append_assoc, zero-add, suc-add}
 use Rattle.base.specs.declared.outcomes.Outcome.{Outcome}
 use Rattle.history_spec.specs.declared.entries.Entry.{Entry}
 use Rattle.history_spec.specs.declared.entries.FaultKind.{FaultKind}
@@ -22,9 +22,6 @@ stuck : (program : Program) (meter : Meter) (n : ℕ) → steps program meter n 
 stuck program meter zero = refl
 stuck program meter (suc n) = refl
 
-more_number : (k n : ℕ) → suc k + n ≡ suc (k + n)
-more_number k n = omega arith
-
 -- a number of steps, and then another number of steps
 joined : (program : Program) (meter : Meter) (k n : ℕ) (at : Progress)
     → steps program meter (k + n) at ≡ run_after (steps program meter k at).history (steps program meter k at).turns (steps program meter n (steps program meter k at).at)
@@ -36,16 +33,16 @@ joined program meter (suc k) n (Running config) =
     let w : ℕ = weight meter config in
     let inner : Run = steps program meter k first.next in
     let last : Run = steps program meter n inner.at in
-    ap (λ j. steps program meter j (Running config)) (more_number k n)
+    ap (λ j. steps program meter j (Running config)) (suc-add k n)
     ∙ ap (run_after first.entries w) (joined program meter k n first.next)
     ∙ ap (λ es. run_of es (w + (inner.turns + last.turns)) last.at) (sym (append_assoc first.entries inner.history last.history))
     ∙ ap (λ t. run_of ((first.entries ++ inner.history) ++ last.history) t last.at) (omega arith)
 joined program meter (suc k) n (Finished outcome) =
-    ap (λ j. steps program meter j (Finished outcome)) (more_number k n) ∙ sym (ap (run_after [] 0) (finished program meter n outcome))
+    ap (λ j. steps program meter j (Finished outcome)) (suc-add k n) ∙ sym (ap (run_after [] 0) (finished program meter n outcome))
 joined program meter (suc k) n (Faulted kind) =
-    ap (λ j. steps program meter j (Faulted kind)) (more_number k n) ∙ sym (ap (run_after [] 0) (faulted program meter n kind))
+    ap (λ j. steps program meter j (Faulted kind)) (suc-add k n) ∙ sym (ap (run_after [] 0) (faulted program meter n kind))
 joined program meter (suc k) n Stuck =
-    ap (λ j. steps program meter j Stuck) (more_number k n) ∙ sym (ap (run_after [] 0) (stuck program meter n))
+    ap (λ j. steps program meter j Stuck) (suc-add k n) ∙ sym (ap (run_after [] 0) (stuck program meter n))
 
 -- a run goes on from the point to which it has come
 pub run_continued : (program : Program) (meter : Meter) (initial : StepResult) (k n : ℕ) (history entries : List Entry) (used taken : ℕ) (next last : Progress)

@@ -1,3 +1,4 @@
+mod Errors
 mod Stacks
 mod Outside
 mod Arrivals
@@ -9,8 +10,8 @@ mod NextActions
 mod ActionSteps
 mod Ends
 pub mod Joins
-mod Reaches
-mod ToldRuns
+mod NextSteps
+mod PrintedRuns
 mod HostParts
 mod ModuleParts
 mod RunStarts

@@ -31,7 +31,7 @@ use Rattle.host_play.specs.Stands.{StandsAt, Stops}
 use Rattle.host_play.proofs.AnswerStarts as answering
 use Rattle.host_play.proofs.Arrivals.{at_host, at_trap}
 use Rattle.host_play.proofs.Joins.{run_joined, run_of}
-use Rattle.host_play.proofs.Reaches.{led}
+use Rattle.host_play.proofs.NextSteps.{led}
 
 pub no_more_left : {f : Flat} {store : Store} {frames : List FlatFrame} {slots : List ℕ} {weighing : Weighing} {given left : ℕ} {end : Pause} {new : State} → Advances f store frames slots weighing given end left new → left ≤ given
 no_more_left {f = f} {store = store} {frames = frames} {slots = slots} {weighing = weighing} {given = given} {left = left} a =

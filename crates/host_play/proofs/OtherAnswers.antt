@@ -1,10 +1,11 @@
 -- The module that is run, under other answers: each answer that exists is a call of a function that is active, which
 -- fits every module.
-use Rattle.std.proofs.Common.{◌≡◌, ℕ, zero, suc, List, [], ◌∷◌, Option, Some, None, Bool, false, true, cond, map, option_map, refl, ap, subst}
+use Rattle.std.proofs.Common.{◌≡◌, ℕ, zero, suc, List, [], ◌∷◌, Option, Some, None, map, option_map, refl, ap, subst}
 use Rattle.std.specs.Prelude.{All, IsTrue, nat_lt, option_and_then, slice_get, ◌-◌}
 use Rattle.std.specs.List.{AllZip}
 use Rattle.std.proofs.lemmas.Bool.{ltb-false}
 use Rattle.std.proofs.lemmas.List.Elements.{All-cons, All-head, All-nil, All-tail}
+use Rattle.base.proofs.Options.{cond_none_some}
 use Rattle.wasm_syntax.specs.declared.values.ValType.{ValType}
 use Rattle.wasm_syntax.specs.declared.values.ValType.TheVariants.{I32, I64, F32, F64, FuncRef}
 use Rattle.wasm_syntax.specs.declared.values.Val.{Val}
@@ -46,10 +47,6 @@ zeros_fit (ty ∷ types) numbers =
 
 -- ---- a function that is active
 
-not_imported : {X : Type 0} (b : Bool) (o : Option X) (x : X) → cond b None o ≡ Some x → b ≡ false
-not_imported true o x is = cc
-not_imported false o x is = refl
-
 typed_at : (types : List FuncType) (i : ℕ) (ty : FuncType) → All IsFuncType types → slice_get types i ≡ Some ty → AreNumbers ty.params
 typed_at [] i ty all is = cc
 typed_at (first ∷ types) zero ty all is =
@@ -63,7 +60,7 @@ indexed_at types (Some t) ty all is = typed_at types t ty all is
 
 pub active_callable : (m : Module) (func : ℕ) (ty : FuncType) (body : Definition) → IsValid m → IsFunction m func ty body → IsCallable m func (zeros ty.params)
 active_callable m func ty body valid f = record {
-  defined = ltb-false func (imported_funcs m) (not_imported (nat_lt func (imported_funcs m)) (option_and_then (λ (d : Option Definition). d) (slice_get (code_of m).defined (func - imported_funcs m))) body f.defined);
+  defined = ltb-false func (imported_funcs m) (cond_none_some (nat_lt func (imported_funcs m)) (option_and_then (λ (d : Option Definition). d) (slice_get (code_of m).defined (func - imported_funcs m))) body f.defined).0;
   ty = ty;
   has_type = f.has_type;
   fit = zeros_fit ty.params (indexed_at m.types (slice_get (func_indices m) func) ty valid.outside.types f.has_type);

@@ -29,7 +29,7 @@ use Rattle.host_play.specs.declared.host_steps.HostStep.{HostStep}
 use Rattle.host_play.specs.declared.play_state.Host.TheVariants as host
 use Rattle.host_play.specs.declared.play_state.Stand.TheVariants as at
 use Rattle.host_play.specs.declared.play_state.PlayState.{PlayState}
-use Rattle.host_play.specs.declared.plays.Play.{Play}
+use Rattle.host_play.specs.declared.script_runs.Play.{Play}
 use Rattle.host_play.specs.Starts.{AtWork, CanBegin, Starts, StartsBy, CallsStart, CanStart, functions_in}
 use Rattle.host_play.specs.HostSteps.{stand_after, entries_of}
 use Rattle.host_play.specs.Hosts.{Plays, kept}

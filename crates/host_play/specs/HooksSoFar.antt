@@ -8,13 +8,14 @@ use Rattle.history_spec.specs.declared.entries.Entry.{Entry}
 use Rattle.history_spec.specs.Code.{code_of, signature}
 use Rattle.history_spec.specs.Run.{program_of}
 use Rattle.history_spec.specs.Step.{StepResult, response_to}
-use Rattle.wasm_flat.specs.Meters.{FitsMeter, Weighing, meter_of}
+use Rattle.wasm_flat.specs.Meters.{FitsMeter, meter_of}
 use Rattle.wasm_interp.specs.Ahead.{ahead}
 use Rattle.wasm_interp.specs.Frames.{argument_of}
 use Rattle.wasm_interp.specs.State.{IsWaiting, State}
 use Rattle.record_replay_spec.specs.declared.hooks.Hook.{Hook}
 use Rattle.record_replay_spec.specs.Hooks.{hooks, hook_count, hook_params, hook_type}
 use Rattle.hook_names.specs.Steps.{Steps}
+use Rattle.host_play.specs.declared.hooked_plays.RunSettings.{RunSettings}
 use Rattle.host_play.specs.declared.play_state.PlayState.{PlayState}
 use Rattle.host_play.specs.declared.play_state.Stand.{Stand}
 use Rattle.host_play.specs.declared.results.PlayFault.{PlayFault}
@@ -54,41 +55,40 @@ AwaitsCall machine imports import args = HasArguments machine args × CallsHook 
 -- ---- runs
 
 -- the run of a module under a script, as one with hooks
-abbrev pub run_in : Module → Script → Weighing → (imports : ℕ) → StepResult → (budget : ℕ) → HookedRun
-run_in m script weighing imports initial budget =
+abbrev pub run_in : Module → Script → RunSettings → StepResult → HookedRun
+run_in m script settings initial =
     record {
-      imports = imports;
+      imports = settings.imports;
       program = program_of m script;
-      meter = meter_of m weighing;
+      meter = meter_of m settings.meter.now;
       initial = initial;
-      budget = budget;
+      budget = settings.turns;
     }
 
 -- what a run with hooks requires
-pub record CanPlay (m : Module) (script : Script) (weighing : Weighing) (imports : ℕ) : Type 0 where
-  pub fits : FitsMeter m weighing
-  pub hooks : HasHooks m script imports
+pub record CanPlay (m : Module) (script : Script) (settings : RunSettings) : Type 0 where
+  pub fits : FitsMeter m settings.meter.now
+  pub hooks : HasHooks m script settings.imports
 
 -- the run has come to this point, and the hooks took its calls so far
-pub record HooksSoFar {H : Type 0} (is_step : Steps H) (m : Module) (script : Script) (weighing : Weighing)
-    (imports : ℕ) (initial : StepResult) (budget : ℕ) (begun now : H) (stand : Stand) (playing : PlayState)
-    (left : ℕ) : Type 0 where
-  pub can_play : CanPlay m script weighing imports
+pub record HooksSoFar {H : Type 0} (is_step : Steps H) (m : Module) (script : Script) (settings : RunSettings)
+    (initial : StepResult) (begun now : H) (stand : Stand) (playing : PlayState) (left : ℕ) : Type 0 where
+  pub can_play : CanPlay m script settings
   pub history : List Entry
-  pub reached : ComesTo m script weighing initial budget history stand playing left
-  pub told : HooksLead is_step (run_in m script weighing imports initial budget) reached.steps begun (Ok tt) now
+  pub reached : ComesTo m script settings.meter.now initial settings.turns history stand playing left
+  pub printed : HooksLead is_step (run_in m script settings initial) reached.steps begun (Ok tt) now
 
-abbrev pub HooksOn : {H : Type 0} → Steps H → Module → Script → Weighing → (imports : ℕ) → StepResult → (budget : ℕ)
-    → (begun now : H) → Result Stand PlayFault → PlayState → (left : ℕ) → Type 0
-HooksOn is_step m script weighing imports initial budget begun now (Ok stand) playing left =
-    HooksSoFar is_step m script weighing imports initial budget begun now stand playing left
-HooksOn is_step m script weighing imports initial budget begun now (Err fault) playing left =
-    RefusesWithHooks is_step (run_in m script weighing imports initial budget) fault begun now
+abbrev pub HooksOn : {H : Type 0} → Steps H → Module → Script → RunSettings → StepResult → (begun now : H)
+    → Result Stand PlayFault → PlayState → (left : ℕ) → Type 0
+HooksOn is_step m script settings initial begun now (Ok stand) playing left =
+    HooksSoFar is_step m script settings initial begun now stand playing left
+HooksOn is_step m script settings initial begun now (Err fault) playing left =
+    RefusesWithHooks is_step (run_in m script settings initial) fault begun now
 
 -- some run with hooks is at this point
-abbrev pub IsHooked : Script → Weighing → (imports : ℕ) → Stand → PlayState → Type 0
-IsHooked script weighing imports stand playing =
-    (m : Module) × (s : StepResult) × StandsAt m script stand playing s × CanPlay m script weighing imports
+abbrev pub IsHooked : Script → RunSettings → Stand → PlayState → Type 0
+IsHooked script settings stand playing =
+    (m : Module) × (s : StepResult) × StandsAt m script stand playing s × CanPlay m script settings
 
 -- ---- how much a run has left to do
 

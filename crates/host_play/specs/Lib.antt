@@ -4,7 +4,7 @@ pub mod HostSteps
 pub mod Starts
 pub mod Hosts
 pub mod Replies
-pub mod ToldLines
+pub mod PrintedLines
 pub mod Stands
 pub mod HostParts
 pub mod HookFaults

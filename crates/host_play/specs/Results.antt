@@ -9,16 +9,16 @@ use Rattle.host_play.specs.declared.results.PlayFault.{PlayFault}
 use Rattle.host_play.specs.declared.results.PlayFault.TheVariants as refusal
 use Rattle.host_play.specs.declared.play_state.Refusal.{Refusal}
 use Rattle.host_play.specs.declared.play_state.Refusal.TheVariants as unmade
-use Rattle.host_play.specs.declared.results.Told.{Told}
+use Rattle.host_play.specs.declared.results.PrintedRun.{PrintedRun}
 
 -- the run is over by an outcome: its history and its outcome as lines, how many entries it has, the turns that it took
-pub record TellsRun (program : Program) (initial : StepResult) (budget : ℕ) (told : Told) : Type 0 where
+pub record PrintsRun (program : Program) (initial : StepResult) (budget : ℕ) (printed : PrintedRun) : Type 0 where
   pub run : Run
   pub within : IsOverWithin (run_from program all_one initial) budget run
-  pub outcome : run.at ≡ Finished told.outcome
-  pub text : told.text ≡ history_text run.history told.outcome
-  pub entries : told.entries ≡ length run.history
-  pub turns : told.turns ≡ run.turns
+  pub outcome : run.at ≡ Finished printed.outcome
+  pub text : printed.text ≡ history_text run.history printed.outcome
+  pub entries : printed.entries ≡ length run.history
+  pub turns : printed.turns ≡ run.turns
 
 -- the run is over by this fault of the script, with these turns, that of the faulty action among them
 pub record IsFault (program : Program) (initial : StepResult) (budget turn : ℕ) (kind : FaultKind) : Type 0 where
@@ -35,9 +35,9 @@ Refuses program initial budget (refusal.Hook number) = ⊥
 Refuses program initial budget refusal.Memory = Unit {0}
 
 -- the result of a run within a budget of turns: its history and outcome as lines, or why there is no outcome
-abbrev pub IsTold : Program → (initial : StepResult) → (budget : ℕ) → Result Told PlayFault → Type 0
-IsTold program initial budget (Ok told) = TellsRun program initial budget told
-IsTold program initial budget (Err fault) = Refuses program initial budget fault
+abbrev pub IsPrinted : Program → (initial : StepResult) → (budget : ℕ) → Result PrintedRun PlayFault → Type 0
+IsPrinted program initial budget (Ok printed) = PrintsRun program initial budget printed
+IsPrinted program initial budget (Err fault) = Refuses program initial budget fault
 
 -- the fault of a run in which a step is refused
 abbrev pub play_fault : Refusal → (turn : ℕ) → PlayFault

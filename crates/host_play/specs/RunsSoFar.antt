@@ -14,7 +14,7 @@ use Rattle.host_play.specs.declared.results.PlayFault.{PlayFault}
 use Rattle.host_play.specs.declared.results.RunEnd.{RunEnd}
 use Rattle.host_play.specs.Results.{Refuses}
 use Rattle.host_play.specs.Stands.{StandsAt}
-use Rattle.host_play.specs.ToldLines.{HasTold, ToldLines}
+use Rattle.host_play.specs.PrintedLines.{HasPrinted, PrintedLines}
 
 -- a number of steps is made, with this history, and the run goes on from here with what is left of the turns, which
 -- are taken by a meter of this weighing
@@ -46,17 +46,17 @@ GoesFrom script budget stand playing left result after after_left =
 -- ---- what is kept of the history
 
 -- the lines of the history so far are printed
-pub record TellsSoFar (m : Module) (script : Script) (initial : StepResult) (budget : ℕ) (told : ToldLines)
+pub record PrintsSoFar (m : Module) (script : Script) (initial : StepResult) (budget : ℕ) (printed : PrintedLines)
     (stand : Stand) (playing : PlayState) (left : ℕ) : Type 0 where
   pub history : List Entry
   pub reached : ComesTo m script None initial budget history stand playing left
-  pub tells : HasTold told history
+  pub prints : HasPrinted printed history
 
-abbrev pub TellsOn : Module → Script → (initial : StepResult) → (budget : ℕ)
-    → Result Stand PlayFault → ToldLines → PlayState → (left : ℕ) → Type 0
-TellsOn m script initial budget (Ok stand) told playing left =
-    TellsSoFar m script initial budget told stand playing left
-TellsOn m script initial budget (Err fault) told playing left = Refuses (program_of m script) initial budget fault
+abbrev pub PrintsOn : Module → Script → (initial : StepResult) → (budget : ℕ)
+    → Result Stand PlayFault → PrintedLines → PlayState → (left : ℕ) → Type 0
+PrintsOn m script initial budget (Ok stand) printed playing left =
+    PrintsSoFar m script initial budget printed stand playing left
+PrintsOn m script initial budget (Err fault) printed playing left = Refuses (program_of m script) initial budget fault
 
 -- if the run is over, the property holds of its whole history; or there is no outcome
 abbrev pub UpToEnd : Program → (initial : StepResult) → (budget : ℕ) → (Kept : Stand → (left : ℕ) → Type 0)

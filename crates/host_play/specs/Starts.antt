@@ -17,7 +17,7 @@ use Rattle.wasm_interp.specs.State.{IsAtHost}
 use Rattle.host_play.specs.declared.host_steps.HostStep.{HostStep}
 use Rattle.host_play.specs.declared.host_steps.HostStep.TheVariants as host_step
 use Rattle.host_play.specs.declared.play_state.PlayState.{PlayState}
-use Rattle.host_play.specs.declared.plays.Play.{Play}
+use Rattle.host_play.specs.declared.script_runs.Play.{Play}
 use Rattle.host_play.specs.HostSteps.{entries_of, stand_after}
 use Rattle.host_play.specs.Stands.{Leads}
 

@@ -20,7 +20,9 @@ use crate::host_steps::HostStep;
 use crate::play_state::{Host, PlayState, Refusal, Stand};
 use crate::scripted_host::ScriptedHost;
 use base::NoMemory;
-use host_actions::{ActionFault, Addresses, Done, Functions, fitting_actions, perform as do_act};
+use host_actions::{
+    ActionEnd, ActionFault, Addresses, Functions, fitting_actions, perform as do_act,
+};
 use host_script::{Action, Address, ResponseEnd};
 use std::alloc::Global;
 use type_safety::rules_hold;
@@ -62,7 +64,7 @@ fn change(
     functions: &Functions,
     addresses: Addresses,
     action: &Action,
-) -> Result<Done, ActionFault>
+) -> Result<ActionEnd, ActionFault>
     requires { IsReady functions.now machine.old.store action.now }
     ensures does { (code : Code) (args : List Val)
         → AreOf code functions.now → AreAddresses args action.now addresses
@@ -95,8 +97,8 @@ fn args_of(alloc: Global, action: &Action) -> Result<Vals, NoMemory>
 
 /// The host's next action.
 pub(crate) fn perform(
-    script: &ScriptedHost<'_>,
     alloc: Global,
+    script: &ScriptedHost<'_>,
     playing: &mut PlayState,
     top: Host,
     action: &Action,
@@ -118,11 +120,11 @@ pub(crate) fn perform(
     let addresses = addresses_of(&playing.machine, action);
     match change(&mut playing.machine, &playing.functions, addresses, action) {
         Ok(done) => match done {
-            Done::Changed => {
+            ActionEnd::Changed => {
                 playing.hosts.replace_top(top.after_next_action());
                 Ok(HostStep::Stays)
             }
-            Done::Enters { func } => {
+            ActionEnd::Enters { func } => {
                 let Ok(args) = args_of(alloc, action) else {
                     return Err(Refusal::Memory);
                 };

@@ -8,29 +8,10 @@ ghost use Rattle.record_replay_spec.specs.HookedRuns.{call_of_hook};
 ghost use Rattle.wasm_interp.specs.Frames.{argument_of};
 ghost use Rattle.host_play.specs.HooksSoFar.{AreArguments, AwaitsCall, HasArguments};
 
-use hook_names::{HookFault, Hooks, View};
+use hook_names::{HOOKS, HookFault, Hooks, View};
 use record_replay_spec::Hook;
 use wasm_interp::Machine;
 use wasm_syntax::{Val, ValType};
-
-/// The hooks in the order of their imports.
-static HOOKS: [Hook; 15] = [
-    Hook::Arg,
-    Hook::Enter,
-    Hook::Leave,
-    Hook::Pre,
-    Hook::Post,
-    Hook::Ipre,
-    Hook::Ipost,
-    Hook::Load,
-    Hook::Store,
-    Hook::Size,
-    Hook::Grow,
-    Hook::Gget,
-    Hook::Gset,
-    Hook::Copy,
-    Hook::Fill,
-];
 
 /// A hook by its place among the hooks.
 fn hook_at(place: u32) -> Hook

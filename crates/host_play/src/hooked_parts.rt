@@ -9,6 +9,7 @@ ghost use Rattle.host_play.specs.HooksSoFar.{HooksOn, HooksSoFar, IsHooked, IsLe
 
 use crate::hook_answers::answer_hook;
 use crate::hook_calls::take_call;
+use crate::hooked_plays::RunSettings;
 use crate::modules::begin_answer;
 use crate::play_state::{PlayState, Stand};
 use crate::results::PlayFault;
@@ -17,7 +18,6 @@ use crate::steps::{go_host, play_fault};
 use history_spec::Outcome;
 use hook_names::Hooks;
 use std::alloc::Global;
-use wasm_flat::Meter;
 use wasm_interp::{Pause, calls_are_ready, hosts_go_on, meters_fit, weightless_turns_end};
 
 /// The module's part, by many turns at once: up to the host's next part, the call of a hook, or an outcome. The call of
@@ -25,39 +25,35 @@ use wasm_interp::{Pause, calls_are_ready, hosts_go_on, meters_fit, weightless_tu
 fn advance_module<H: Hooks>(
     script: &ScriptedHost<'_>,
     hooks: &mut H,
-    imports: u32,
+    settings: &RunSettings<'_>,
     playing: &mut PlayState,
-    meter: &Meter,
-    turns: u64,
     left: &mut u64,
 ) -> Result<Stand, PlayFault>
-    requires hooked { IsHooked script.now meter.now imports Stand.Module playing.old }
-    requires left { left.old ≤ turns }
+    requires hooked { IsHooked script.now settings.now Stand.Module playing.old }
+    requires left { left.old ≤ settings.now.turns }
     ensures goes { (m : Module) (initial : StepResult) (begun : H)
-        → HooksSoFar H.is_step m script.now meter.now imports initial turns begun hooks.old Stand.Module playing.old
+        → HooksSoFar H.is_step m script.now settings.now initial begun hooks.old Stand.Module playing.old
         left.old
-        → HooksOn H.is_step m script.now meter.now imports initial turns begun hooks.new result playing.new left.new }
+        → HooksOn H.is_step m script.now settings.now initial begun hooks.new result playing.new left.new }
     ensures less { IfOk result (λ next. IsLess left.old Stand.Module playing.old left.new next playing.new) }
     ensures part { IfOk result (λ next. BeginsPart next) }
-    ensures left { OnOk result (left.new ≤ turns) }
+    ensures left { OnOk result (left.new ≤ settings.now.turns) }
 {
     calls_are_ready();
     hosts_go_on();
     meters_fit();
     weightless_turns_end();
-    let pause = playing.machine.advance(meter, left)?;
+    let pause = playing.machine.advance(settings.meter, left)?;
     match pause {
         Pause::Import { index } => {
-            if let Err(fault) = take_call(hooks, &playing.machine, imports, index) {
-                return Err(PlayFault::from(fault));
-            }
-            if index >= imports {
+            take_call(hooks, &playing.machine, settings.imports, index)?;
+            if index >= settings.imports {
                 answer_hook(playing, index);
                 return Ok(Stand::Module);
             }
             match begin_answer(script, &mut playing.hosts, &mut playing.counts, index) {
                 Ok(()) => Ok(Stand::Host),
-                Err(refusal) => Err(play_fault(refusal, turns, *left)),
+                Err(refusal) => Err(play_fault(refusal, settings.turns, *left)),
             }
         }
         Pause::Returned => Ok(Stand::Host),
@@ -70,107 +66,89 @@ fn advance_module<H: Hooks>(
 
 /// The module's part, or the host's next action or its end.
 fn go_on<H: Hooks>(
-    script: &ScriptedHost<'_>,
     alloc: Global,
+    script: &ScriptedHost<'_>,
     hooks: &mut H,
-    imports: u32,
+    settings: &RunSettings<'_>,
     playing: &mut PlayState,
-    meter: &Meter,
     stand: Stand,
-    turns: u64,
     left: &mut u64,
 ) -> Result<Stand, PlayFault>
-    requires hooked { IsHooked script.now meter.now imports stand playing.old }
+    requires hooked { IsHooked script.now settings.now stand playing.old }
     requires on { IsOn stand }
     requires part { BeginsPart stand }
-    requires left { left.old ≤ turns }
+    requires left { left.old ≤ settings.now.turns }
     ensures goes { (m : Module) (initial : StepResult) (begun : H)
-        → HooksSoFar H.is_step m script.now meter.now imports initial turns begun hooks.old stand playing.old left.old
-        → HooksOn H.is_step m script.now meter.now imports initial turns begun hooks.new result playing.new left.new }
+        → HooksSoFar H.is_step m script.now settings.now initial begun hooks.old stand playing.old left.old
+        → HooksOn H.is_step m script.now settings.now initial begun hooks.new result playing.new left.new }
     ensures less { IfOk result (λ next. IsLess left.old stand playing.old left.new next playing.new) }
     ensures part { IfOk result (λ next. BeginsPart next) }
-    ensures left { OnOk result (left.new ≤ turns) }
+    ensures left { OnOk result (left.new ≤ settings.now.turns) }
 {
     match stand {
-        Stand::Module => advance_module(script, hooks, imports, playing, meter, turns, left),
-        Stand::Host => match go_host(script, alloc, playing, turns, left) {
-            Ok(host_step) => Ok(host_step.stand()),
-            Err(fault) => Err(fault),
-        },
+        Stand::Module => advance_module(script, hooks, settings, playing, left),
+        Stand::Host => {
+            let host_step = go_host(alloc, script, playing, settings.turns, left)?;
+            Ok(host_step.stand())
+        }
         Stand::Instruction | Stand::Over { .. } => unreachable!(),
     }
 }
 
 /// Goes on until a turn is taken or the run is over.
 fn go_until_turn<H: Hooks>(
-    script: &ScriptedHost<'_>,
     alloc: Global,
+    script: &ScriptedHost<'_>,
     hooks: &mut H,
-    imports: u32,
+    settings: &RunSettings<'_>,
     playing: &mut PlayState,
-    meter: &Meter,
     first: Stand,
-    turns: u64,
     left: &mut u64,
 ) -> Result<Stand, PlayFault>
     requires so_far { (m : Module) × (initial : StepResult) × (begun : H)
-        × HooksSoFar H.is_step m script.now meter.now imports initial turns begun hooks.old first playing.old left.old }
+        × HooksSoFar H.is_step m script.now settings.now initial begun hooks.old first playing.old left.old }
     requires on { IsOn first }
     requires part { BeginsPart first }
-    requires left { left.old ≤ turns }
+    requires left { left.old ≤ settings.now.turns }
     ensures goes { (m : Module) (initial : StepResult) (begun : H)
-        → HooksSoFar H.is_step m script.now meter.now imports initial turns begun hooks.old first playing.old left.old
-        → HooksOn H.is_step m script.now meter.now imports initial turns begun hooks.new result playing.new left.new }
+        → HooksSoFar H.is_step m script.now settings.now initial begun hooks.old first playing.old left.old
+        → HooksOn H.is_step m script.now settings.now initial begun hooks.new result playing.new left.new }
     ensures less { IfOk result (λ next. (left.new < left.old) ⊎ ((left.new ≤ left.old) × IsOver next)) }
     ensures part { IfOk result (λ next. BeginsPart next) }
-    ensures left { OnOk result (left.new ≤ turns) }
+    ensures left { OnOk result (left.new ≤ settings.now.turns) }
 {
     let before = *left;
     let mut stand = first;
     'parts: loop {
-        match go_on(
-            script, alloc, hooks, imports, playing, meter, stand, turns, left,
-        ) {
-            Ok(next) => {
-                if *left < before || next.is_over() {
-                    return Ok(next);
-                }
-                stand = next;
-            }
-            Err(fault) => return Err(fault),
+        stand = go_on(alloc, script, hooks, settings, playing, stand, left)?;
+        if *left < before || stand.is_over() {
+            return Ok(stand);
         }
     }
 }
 
 /// Goes on until the run is over.
 pub(crate) fn play_parts<H: Hooks>(
-    script: &ScriptedHost<'_>,
     alloc: Global,
+    script: &ScriptedHost<'_>,
     hooks: &mut H,
-    imports: u32,
+    settings: &RunSettings<'_>,
     playing: &mut PlayState,
-    meter: &Meter,
     first: Stand,
-    turns: u64,
 ) -> Result<Outcome, PlayFault>
     requires so_far { (m : Module) × (initial : StepResult) × (begun : H)
-        × HooksSoFar H.is_step m script.now meter.now imports initial turns begun hooks.old first playing.old turns }
+        × HooksSoFar H.is_step m script.now settings.now initial begun hooks.old first playing.old settings.now.turns }
     requires part { BeginsPart first }
     ensures { (m : Module) (initial : StepResult) (begun : H)
-        → HooksSoFar H.is_step m script.now meter.now imports initial turns begun hooks.old first playing.old turns
-        → IsPlayedWithHooks H.is_step (run_in m script.now meter.now imports initial turns) result begun hooks.new }
+        → HooksSoFar H.is_step m script.now settings.now initial begun hooks.old first playing.old settings.now.turns
+        → IsPlayedWithHooks H.is_step (run_in m script.now settings.now initial) result begun hooks.new }
 {
     let mut stand = first;
-    let mut left = turns;
+    let mut left = settings.turns;
     'turns: loop {
         if let Stand::Over { outcome } = stand {
             return Ok(outcome);
         }
-        match go_until_turn(
-            script, alloc, hooks, imports, playing, meter, stand, turns, &mut left,
-        ) {
-            Ok(next) => stand = next,
-            Err(fault) => return Err(fault),
-        }
+        stand = go_until_turn(alloc, script, hooks, settings, playing, stand, &mut left)?;
     }
 }

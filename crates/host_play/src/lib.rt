@@ -3,6 +3,7 @@
 #![tactic(auto)]
 
 mod actions;
+pub mod history_text;
 mod hook_answers;
 mod hook_calls;
 mod hooked_parts;
@@ -11,17 +12,16 @@ pub mod host_steps;
 mod laws;
 mod modules;
 pub mod play_state;
-mod plays;
+mod printed_runs;
 mod responses;
 pub mod results;
+mod script_runs;
 mod scripted_host;
 mod starts;
 mod steps;
-mod tells;
-pub mod told_text;
 
 pub use base::NoMemory;
-pub use hooked_plays::play;
+pub use hooked_plays::{RunSettings, play};
 pub use laws::forms_have_hooks;
-pub use plays::{Play, tell};
-pub use results::{PlayFault, Told};
+pub use results::{PlayFault, PrintedRun};
+pub use script_runs::{Play, print};

@@ -61,10 +61,8 @@ pub(crate) fn turn(
                 outcome: Outcome::Trapped,
             }),
             Pause::Import { index } => {
-                match begin_answer(script, &mut playing.hosts, &mut playing.counts, index) {
-                    Ok(()) => Ok(Stand::Host),
-                    Err(refused) => Err(refused),
-                }
+                begin_answer(script, &mut playing.hosts, &mut playing.counts, index)?;
+                Ok(Stand::Host)
             }
             Pause::Spent => unreachable!(),
         },

@@ -13,7 +13,7 @@ use wasm_syntax::Bytes;
 /// A run that has an outcome: the lines of its history and of its outcome, how many entries the history
 /// has, and how many turns it took.
 #[derive(Debug, Drop)]
-pub struct Told {
+pub struct PrintedRun {
     pub text: Bytes,
     pub entries: u64,
     pub turns: u64,

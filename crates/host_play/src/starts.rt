@@ -9,7 +9,7 @@ ghost use Rattle.host_play.specs.Starts.{CanBegin, CanStart, LeadsFirst, Starts,
 use crate::actions::call;
 use crate::host_steps::HostStep;
 use crate::play_state::{Host, Hosts, PlayState};
-use crate::plays::Play;
+use crate::script_runs::Play;
 use crate::scripted_host::ScriptedHost;
 use base::NoMemory;
 use flat_steps::stores_fit;
@@ -56,10 +56,8 @@ fn with_first_step(
     ensures { IfOk result (λ started. Starts start playing started.1 started.0) }
 {
     let mut playing = playing;
-    match first_step(alloc, &mut playing, start) {
-        Ok(host_step) => Ok((playing, host_step)),
-        Err(refused) => Err(refused),
-    }
+    let host_step = first_step(alloc, &mut playing, start)?;
+    Ok((playing, host_step))
 }
 
 /// What the host does first: its own work, or the call of the start function if the module
@@ -92,6 +90,23 @@ fn new_play_state(alloc: Global, flat: Flat, store: Store) -> Result<PlayState, 
     ensures counts { IfOk result (λ playing. playing.counts.items ≡ replicate flat.imported 0) }
 {
     let functions = functions_of(alloc, &flat)?;
+    with_functions(alloc, flat, store, functions)
+}
+
+/// The machine and the host before its first action, beside the module's functions.
+fn with_functions(
+    alloc: Global,
+    flat: Flat,
+    store: Store,
+    functions: Functions,
+) -> Result<PlayState, NoMemory>
+    requires bound { IsBound flat }
+    requires fits { FitsCode flat store }
+    ensures machine { IfOk result (λ playing. playing.machine ≡ state flat store [] [] false) }
+    ensures functions { IfOk result (λ playing. playing.functions ≡ functions) }
+    ensures hosts { IfOk result (λ playing. playing.hosts ≡ Host.Main 0 ∷ []) }
+    ensures counts { IfOk result (λ playing. playing.counts.items ≡ replicate flat.imported 0) }
+{
     let (hosts, counts) = host_at_start(alloc, flat.imported)?;
     with_machine(alloc, flat, store, functions, hosts, counts)
 }

@@ -37,8 +37,8 @@ pub(crate) fn play_fault(refusal: Refusal, turns: u64, left: u64) -> PlayFault
 
 /// The host's next action, if a turn is left for it, or the end of what it has to do.
 pub(crate) fn go_host(
-    script: &ScriptedHost<'_>,
     alloc: Global,
+    script: &ScriptedHost<'_>,
     playing: &mut PlayState,
     turns: u64,
     left: &mut u64,
@@ -63,7 +63,7 @@ pub(crate) fn go_host(
         return Err(PlayFault::Spent);
     }
     *left -= 1;
-    match perform(script, alloc, playing, top, action) {
+    match perform(alloc, script, playing, top, action) {
         Ok(host_step) => Ok(host_step),
         Err(refusal) => Err(play_fault(refusal, turns, *left)),
     }
@@ -98,8 +98,8 @@ pub(crate) fn go_instruction(
 /// The beginning of the module's or the host's part: what follows without a turn, or the host's next action, if a
 /// turn is left for it, with the entries.
 pub(crate) fn go(
-    script: &ScriptedHost<'_>,
     alloc: Global,
+    script: &ScriptedHost<'_>,
     playing: &mut PlayState,
     stand: Stand,
     turns: u64,
@@ -119,14 +119,10 @@ pub(crate) fn go(
             Ok(moved) => Ok(moved),
             Err(refusal) => Err(play_fault(refusal, turns, *left)),
         },
-        Stand::Host => match go_host(script, alloc, playing, turns, left) {
-            Ok(host_step) => match host_step.play_step(alloc) {
-                Ok(moved) => Ok(moved),
-                Err(_) => Err(PlayFault::Memory),
-            },
-            Err(fault) => Err(fault),
-        },
-        Stand::Instruction => unreachable!(),
-        Stand::Over { .. } => unreachable!(),
+        Stand::Host => {
+            let host_step = go_host(alloc, script, playing, turns, left)?;
+            Ok(host_step.play_step(alloc)?)
+        }
+        Stand::Instruction | Stand::Over { .. } => unreachable!(),
     }
 }

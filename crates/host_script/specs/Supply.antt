@@ -1,6 +1,6 @@
 -- What a script supplies for a module's imports, or the first import that it does not match (Core 1.0, 4.5.2).
 use Rattle.std.specs.Prelude.{ℕ, ◌+◌, List, [], ◌∷◌, Option, Some, None, Result, Ok, Err, Bool, true, false, ◌&&◌, nat_le, slice_get, option_and_then}
-use Rattle.wasm_syntax.specs.declared.limits.TheConstants.{MOST_ENTRIES, MOST_PAGES}
+use Rattle.wasm_syntax.specs.declared.limits.TheConstants.{MAX_ENTRIES, MAX_PAGES}
 use Rattle.wasm_syntax.specs.declared.values.Val.{Val}
 use Rattle.wasm_syntax.specs.declared.signatures.Limits.{Limits}
 use Rattle.wasm_syntax.specs.declared.signatures.GlobalType.{GlobalType}
@@ -56,8 +56,8 @@ match_of_value (Some value) wanted = alike_if (same_type value.ty wanted.ty)
 -- how a script matches an import that has `globals` imported globals before it; functions are always supplied
 abbrev pub import_match : Script → (globals : ℕ) → ImportKind → ImportMatch
 import_match script globals (Func ty) = Alike
-import_match script globals (Table limits) = match_of_limits MOST_ENTRIES script.table limits
-import_match script globals (Memory limits) = match_of_limits MOST_PAGES script.memory limits
+import_match script globals (Table limits) = match_of_limits MAX_ENTRIES script.table limits
+import_match script globals (Memory limits) = match_of_limits MAX_PAGES script.memory limits
 import_match script globals (Global ty) =
     match_of_value (option_and_then (λ value. value) (slice_get script.globals globals)) ty
 

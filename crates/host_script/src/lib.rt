@@ -7,7 +7,7 @@ mod types;
 
 pub use base::NoMemory;
 pub use scripts::{
-    Action, Actions, Address, Answer, Answers, Given, LinkFault, Response, ResponseEnd, Responses,
-    Script, Supply,
+    Action, Actions, Address, Answer, Answers, GivenGlobals, LinkFault, Response, ResponseEnd,
+    Responses, Script, Supply,
 };
 pub use types::is_type;

@@ -10,7 +10,7 @@ use wasm_syntax::{Bytes, Limits, List, Val, Vals};
 pub struct Script {
     pub memory: Option<Limits>,
     pub table: Option<Limits>,
-    pub globals: Given,
+    pub globals: GivenGlobals,
     pub imports: Answers,
     pub main: Actions,
 }
@@ -81,7 +81,7 @@ pub enum Action {
 }
 
 /// What a script gives for each imported global.
-pub type Given = List<Option<Val>>;
+pub type GivenGlobals = List<Option<Val>>;
 
 /// The answers of a script for each imported function.
 pub type Answers = List<Option<Answer>>;

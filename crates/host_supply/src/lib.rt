@@ -1,7 +1,7 @@
 //! What a script supplies for a module's imports, or the first import that it does not match.
 #![tactic(auto)]
 
-mod matches;
+mod match_rules;
 mod supply;
 
 pub use base::NoMemory;

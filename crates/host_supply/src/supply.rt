@@ -6,11 +6,11 @@ ghost use Rattle.host_script.specs.declared.scripts.LinkFault.TheVariants.{Memor
 ghost use Rattle.host_script.specs.Supply.{import_match, globals_in as global_count, fault_or, first_fault, given_values as values_given, supply_of as supply_meant};
 ghost use Rattle.wasm_syntax.specs.Index.{memory_import, table_import};
 
-use crate::matches::{limits_fault, value_fault};
+use crate::match_rules::{limits_fault, value_fault};
 use base::NoMemory;
 use host_script::{LinkFault, Script, Supply};
 use std::alloc::Global;
-use wasm_syntax::limits::{MOST_ENTRIES, MOST_PAGES};
+use wasm_syntax::limits::{MAX_ENTRIES, MAX_PAGES};
 use wasm_syntax::{Import, ImportKind, Limits, List, Module, Val, Vals};
 
 /// The value given for an imported global, by its place among these.
@@ -29,8 +29,8 @@ fn import_fault(script: &Script, globals: usize, import: u32, kind: ImportKind) 
 {
     match kind {
         ImportKind::Func(_) => None,
-        ImportKind::Table(wanted) => limits_fault(import, MOST_ENTRIES, script.table, wanted),
-        ImportKind::Memory(wanted) => limits_fault(import, MOST_PAGES, script.memory, wanted),
+        ImportKind::Table(wanted) => limits_fault(import, MAX_ENTRIES, script.table, wanted),
+        ImportKind::Memory(wanted) => limits_fault(import, MAX_PAGES, script.memory, wanted),
         ImportKind::Global(wanted) => value_fault(import, given_at(script, globals), wanted),
     }
 }

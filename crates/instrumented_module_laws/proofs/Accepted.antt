@@ -6,7 +6,7 @@ use Rattle.std.proofs.lemmas.Bool.Decides.{nat_tests}
 use Rattle.std.proofs.lemmas.List.Sums.{sum_by-append}
 use Rattle.std.proofs.lemmas.List.Elements.{recursion_from_All, filter_map-append}
 use Rattle.base.proofs.Lists.{nil_parts}
-use Rattle.wasm_syntax.specs.declared.limits.TheConstants.{MOST_ENTRIES, MOST_LOCALS, MOST_LOCALS_HOOKED, MOST_PAGES, MOST_PARAMETERS}
+use Rattle.wasm_syntax.specs.declared.limits.TheConstants.{MAX_ENTRIES, MAX_LOCALS, MAX_LOCALS_HOOKED, MAX_PAGES, MAX_PARAMETERS}
 use Rattle.wasm_syntax.specs.declared.profile.Which.TheVariants.{Parameters, Table, Memory, Locals}
 use Rattle.wasm_syntax.specs.declared.values.ValType.TheVariants.{I32}
 use Rattle.wasm_syntax.specs.declared.signatures.FuncType.{FuncType}
@@ -95,41 +95,41 @@ count_of_made m index func None nest = omega arith
 count_of_made m index func (Some ty) None = omega arith
 count_of_made m index func (Some ty) (Some nest) = let e = sum_added func.locals in omega (arith, e)
 
-few_locals : (n : ℕ) → n ≤ MOST_LOCALS_HOOKED → past MOST_LOCALS_HOOKED Locals n ≡ None
+few_locals : (n : ℕ) → n ≤ MAX_LOCALS_HOOKED → past MAX_LOCALS_HOOKED Locals n ≡ None
 few_locals n h =
-    let t : nat_lt MOST_LOCALS_HOOKED n ≡ false = grind (arith, nat_tests, h) in
+    let t : nat_lt MAX_LOCALS_HOOKED n ≡ false = grind (arith, nat_tests, h) in
     ap (λ b. cond b (Some (Limit Locals n)) None) t
 
 locals_within : (m : Module) (index : ℕ) (funcs : List Func)
-    → filter_map (λ f. past MOST_LOCALS Locals (count_of_locals f)) funcs ≡ []
-    → filter_map (λ f. past MOST_LOCALS_HOOKED Locals (count_of_locals f))
+    → filter_map (λ f. past MAX_LOCALS Locals (count_of_locals f)) funcs ≡ []
+    → filter_map (λ f. past MAX_LOCALS_HOOKED Locals (count_of_locals f))
     (each_func m (instrumented_func m) index funcs)
     ≡ []
 locals_within m index [] h = refl
 locals_within m index (func ∷ funcs) h =
-    by (nat_lt MOST_LOCALS (count_of_locals func)) refl h (λ k. locals_within m (index + 1) funcs k)
+    by (nat_lt MAX_LOCALS (count_of_locals func)) refl h (λ k. locals_within m (index + 1) funcs k)
   where
-    by : (b : Bool) → nat_lt MOST_LOCALS (count_of_locals func) ≡ b
+    by : (b : Bool) → nat_lt MAX_LOCALS (count_of_locals func) ≡ b
         → cons_option (cond b (Some (Limit Locals (count_of_locals func))) None)
-        (filter_map (λ f. past MOST_LOCALS Locals (count_of_locals f)) funcs)
+        (filter_map (λ f. past MAX_LOCALS Locals (count_of_locals f)) funcs)
         ≡ []
-        → (filter_map (λ f. past MOST_LOCALS Locals (count_of_locals f)) funcs ≡ []
-        → filter_map (λ f. past MOST_LOCALS_HOOKED Locals (count_of_locals f))
+        → (filter_map (λ f. past MAX_LOCALS Locals (count_of_locals f)) funcs ≡ []
+        → filter_map (λ f. past MAX_LOCALS_HOOKED Locals (count_of_locals f))
         (each_func m (instrumented_func m) (index + 1) funcs) ≡ [])
-        → filter_map (λ f. past MOST_LOCALS_HOOKED Locals (count_of_locals f))
+        → filter_map (λ f. past MAX_LOCALS_HOOKED Locals (count_of_locals f))
         (each_func m (instrumented_func m) index (func ∷ funcs))
         ≡ []
     by true e k later = absurd (named k)
       where
         named : Limit Locals (count_of_locals func)
-            ∷ filter_map (λ f. past MOST_LOCALS Locals (count_of_locals f)) funcs ≡ [] → ⊥
+            ∷ filter_map (λ f. past MAX_LOCALS Locals (count_of_locals f)) funcs ≡ [] → ⊥
         named e = cc
     by false e k later =
         let made = instrumented_func m index func (type_at m func.ty) (nest_of func.body) in
-        let few : count_of_locals func ≤ MOST_LOCALS = grind (arith, nat_tests, e) in
+        let few : count_of_locals func ≤ MAX_LOCALS = grind (arith, nat_tests, e) in
         let more = count_of_made m index func (type_at m func.ty) (nest_of func.body) in
-        let within : count_of_locals made ≤ MOST_LOCALS_HOOKED = omega (arith, few, more) in
-        ap (λ o. cons_option o (filter_map (λ f. past MOST_LOCALS_HOOKED Locals (count_of_locals f))
+        let within : count_of_locals made ≤ MAX_LOCALS_HOOKED = omega (arith, few, more) in
+        ap (λ o. cons_option o (filter_map (λ f. past MAX_LOCALS_HOOKED Locals (count_of_locals f))
         (each_func m (instrumented_func m) (index + 1) funcs))) (few_locals (count_of_locals made) within)
         ∙ later k
 
@@ -157,13 +157,13 @@ module _ (keep : InstrumentedKeepIndices) (m : Module) (digest : List ℕ) (acce
       (λ k func is t. body_supported (imported_funcs m) m.funcs k func t.nest refused_parts.0 is t.is_body)
 
   abbrev types_past : Module → List Refusal
-  types_past n = filter_map (λ (ty : FuncType). past MOST_PARAMETERS Parameters (length ty.params)) n.types
+  types_past n = filter_map (λ (ty : FuncType). past MAX_PARAMETERS Parameters (length ty.params)) n.types
 
   abbrev tables_past : List Limits → List Refusal
-  tables_past limits = filter_map (λ (l : Limits). past MOST_ENTRIES Table l.min) limits
+  tables_past limits = filter_map (λ (l : Limits). past MAX_ENTRIES Table l.min) limits
 
   abbrev memories_past : List Limits → List Refusal
-  memories_past limits = filter_map (λ (l : Limits). past MOST_PAGES Memory l.min) limits
+  memories_past limits = filter_map (λ (l : Limits). past MAX_PAGES Memory l.min) limits
 
   abbrev locals_past : ℕ → List Func → List Refusal
   locals_past most funcs = filter_map (λ (f : Func). past most Locals (count_of_locals f)) funcs
@@ -173,10 +173,10 @@ module _ (keep : InstrumentedKeepIndices) (m : Module) (digest : List ℕ) (acce
       let types_m = types_past m in
       let tables_m = tables_past (all_tables m) in
       let memories_m = memories_past (all_memories m) in
-      let a = nil_parts ((types_m ++ tables_m) ++ memories_m) (locals_past MOST_LOCALS m.funcs) refused_parts.1 in
+      let a = nil_parts ((types_m ++ tables_m) ++ memories_m) (locals_past MAX_LOCALS m.funcs) refused_parts.1 in
       let b = nil_parts (types_m ++ tables_m) memories_m a.0 in
       let c = nil_parts types_m tables_m b.0 in
-      let ty = λ (ty : FuncType). past MOST_PARAMETERS Parameters (length ty.params) in
+      let ty = λ (ty : FuncType). past MAX_PARAMETERS Parameters (length ty.params) in
       let types : types_past hooked ≡ [] =
       filter_map-append ty m.types hook_types ∙ ap (λ refused. refused ++ filter_map ty hook_types) c.0
       in

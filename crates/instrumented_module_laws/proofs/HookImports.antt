@@ -15,7 +15,7 @@ use Rattle.instrumented_module_laws.specs.SizeLaws.{InstrumentedImportHooks}
 use Rattle.instrumented_module_laws.proofs.ShortParts.{none_past}
 
 -- if no import is reserved, no import is from the hooks' module
-none_from_hooks : (at : ℕ) (imports : List Import) → filter_map reserved_import (enumerate_from at imports) ≡ []
+pub none_from_hooks : (at : ℕ) (imports : List Import) → filter_map reserved_import (enumerate_from at imports) ≡ []
     → filter is_from_hooks imports ≡ []
 none_from_hooks at [] none = refl
 none_from_hooks at (i ∷ imports) none =

@@ -11,7 +11,7 @@ use Rattle.wasm_syntax.specs.Opcodes.{load_of, store_of}
 use Rattle.record_replay_spec.specs.declared.hooks.Hook.{Hook}
 use Rattle.record_replay_spec.specs.declared.hooks.Hook.TheVariants as hook
 use Rattle.record_replay_spec.specs.Hooks.{on}
-use Rattle.record_replay_spec.specs.Insertions.{Site, imports_at, value_local, calls, widened, tells_local, tells_number, tells_params, tells_global, before_load, before_store, after_call, inserted_before, inserted_after, inserted_at_enter, inserted_at_end}
+use Rattle.record_replay_spec.specs.Insertions.{Site, imports_at, value_local, calls, widened, reports_local, reports_number, reports_params, reports_global, before_load, before_store, after_call, inserted_before, inserted_after, inserted_at_enter, inserted_at_end}
 use Rattle.record_replay_spec.specs.Instrumented.{renumbered, before_nest, instrumented_nest, instrumented_body}
 
 -- ---- pieces
@@ -29,19 +29,19 @@ widened_length F32 is = omega arith
 widened_length F64 is = omega arith
 widened_length FuncRef is = omega arith
 
-local_length : (s : Site) (ty : ValType) (local : ℕ) → length (tells_local s ty local) ≤ 5
+local_length : (s : Site) (ty : ValType) (local : ℕ) → length (reports_local s ty local) ≤ 5
 local_length s ty local = let h = widened_length ty (calls s hook.Arg ∷ []) in omega (arith, h)
 
-global_length : (s : Site) (kind : Hook) (global : ℕ) (ty : ValType) → length (tells_global s kind global ty) ≤ 7
+global_length : (s : Site) (kind : Hook) (global : ℕ) (ty : ValType) → length (reports_global s kind global ty) ≤ 7
 global_length s kind global ty =
     let h = widened_length ty (calls s kind ∷ LocalGet (value_local s ty) ∷ []) in omega (arith, h)
 
-params_length : (s : Site) (local : ℕ) (types : List ValType) → length (tells_params s local types) ≤ 5 * length types
+params_length : (s : Site) (local : ℕ) (types : List ValType) → length (reports_params s local types) ≤ 5 * length types
 params_length s local [] = omega arith
 params_length s local (ty ∷ types) =
     let first = local_length s ty local in
     let rest = params_length s (local + 1) types in
-    let both = length-append (tells_local s ty local) (tells_params s (local + 1) types) in
+    let both = length-append (reports_local s ty local) (reports_params s (local + 1) types) in
     omega (arith, first, rest, both)
 
 after_call_length : (s : Site) (over : List Instr) (results : List ValType) → length over ≤ 2
@@ -50,7 +50,7 @@ after_call_length s over [] few = omega (arith, few)
 after_call_length s over (ty ∷ types) few =
     let last : List Instr = LocalGet (value_local s ty) ∷ [] in
     let own = local_length s ty (value_local s ty) in
-    let more = length-append (tells_local s ty (value_local s ty)) (over ++ last) in
+    let more = length-append (reports_local s ty (value_local s ty)) (over ++ last) in
     let end = length-append over last in omega (arith, few, own, more, end)
 
 before_length : (s : Site) (i : Instr) → length (inserted_before s i) ≤ 13
@@ -60,7 +60,7 @@ before_length s (Store at) =
     (λ a. let h = widened_length a.ty (calls s hook.Store ∷ LocalGet s.locals ∷ LocalGet (value_local s a.ty) ∷ []) in
     omega (arith, h))
 before_length s (GlobalSet global) =
-    on_length (slice_get (all_globals s.m) global) (λ ty. tells_global s hook.Gset global ty.ty) 13
+    on_length (slice_get (all_globals s.m) global) (λ ty. reports_global s hook.Gset global ty.ty) 13
     (λ ty. let h = global_length s hook.Gset global ty.ty in omega (arith, h))
 before_length s Return = omega arith
 before_length s (Call func) = omega arith
@@ -76,15 +76,15 @@ mutable_length false is most h = omega arith
 
 after_length : (s : Site) (i : Instr) → length (inserted_after s i) ≤ 9
 after_length s (Call func) =
-    on_length (func_type s.m func) (λ ty. after_call s (tells_number s hook.Post func) ty.results) 9
-    (λ ty. after_call_length s (tells_number s hook.Post func) ty.results (omega arith))
+    on_length (func_type s.m func) (λ ty. after_call s (reports_number s hook.Post func) ty.results) 9
+    (λ ty. after_call_length s (reports_number s hook.Post func) ty.results (omega arith))
 after_length s (CallIndirect t) =
     on_length (type_at s.m t) (λ ty. after_call s (calls s hook.Ipost ∷ []) ty.results) 9
     (λ ty. after_call_length s (calls s hook.Ipost ∷ []) ty.results (omega arith))
 after_length s MemoryGrow = omega arith
 after_length s (GlobalGet global) =
-    on_length (slice_get (all_globals s.m) global) (λ ty. cond ty.mutable (tells_global s hook.Gget global ty.ty) []) 9
-    (λ ty. mutable_length ty.mutable (tells_global s hook.Gget global ty.ty) 9
+    on_length (slice_get (all_globals s.m) global) (λ ty. cond ty.mutable (reports_global s hook.Gget global ty.ty) []) 9
+    (λ ty. mutable_length ty.mutable (reports_global s hook.Gget global ty.ty) 9
     (let h = global_length s hook.Gget global ty.ty in omega (arith, h)))
 after_length s i = omega arith
 
@@ -142,7 +142,7 @@ body_length s ty nest =
     let block = InBlock (slice_get ty.results 0) (instrumented_nest s nest) end in
     let a = length-append (flat (before_nest first block)) (End ∷ []) in
     let b = flat_before first block in
-    let c = length-append (tells_params s 0 ty.params) (tells_number s hook.Enter s.func) in
+    let c = length-append (reports_params s 0 ty.params) (reports_number s hook.Enter s.func) in
     let d = params_length s 0 ty.params in
     let e = length-append (flat (instrumented_nest s nest)) (End ∷ flat end) in
     let f = nest_length s nest in omega (arith, a, b, c, d, e, f)

@@ -12,5 +12,5 @@ mod ShortParts
 mod Lengths
 mod Short
 mod EncodedWords
-mod HookImports
+pub mod HookImports
 mod Stores

@@ -21,7 +21,7 @@ use Rattle.wasm_syntax.specs.Typing.{is_number, is_block_type, results_of}
 use Rattle.wasm_syntax.specs.Validity.{IsFuncType, IsImport, IsGlobal, IsValidOutside}
 use Rattle.record_replay_spec.specs.Instrumented.{with_added_locals, locals_of, other_locals, hook_types}
 use Rattle.instrumented_module_laws.specs.Laws.{HasWordOffset}
-use Rattle.instrumented_module_laws.proofs.Nests.{IsTold}
+use Rattle.instrumented_module_laws.proofs.Nests.{IsReported}
 
 -- ---- the types of hooks
 
@@ -96,10 +96,10 @@ body_labels label results e (suc l) x h = absurd (none-some x h)
 
 -- ---- instructions that hooks report
 
-pub told_all : (is : List Instr) → AllByRecursion IsCoreInstr is → AllByRecursion HasWordOffset is
-    → AllByRecursion IsTold is
-told_all [] core words = tt
-told_all (i ∷ is) core words = ((core.0, words.0), told_all is core.1 words.1)
+pub reported_all : (is : List Instr) → AllByRecursion IsCoreInstr is → AllByRecursion HasWordOffset is
+    → AllByRecursion IsReported is
+reported_all [] core words = tt
+reported_all (i ∷ is) core words = ((core.0, words.0), reported_all is core.1 words.1)
 
 -- ---- globals
 

@@ -15,7 +15,7 @@ use Rattle.wasm_syntax.specs.Typing.{Context, Moves, Leads, is_number, if_true, 
 use Rattle.record_replay_spec.specs.declared.hooks.Hook.{Hook}
 use Rattle.record_replay_spec.specs.declared.hooks.Hook.TheVariants.{Arg, Enter, Load, Store}
 use Rattle.record_replay_spec.specs.Hooks.{hook_func, hook_params, hook_type}
-use Rattle.record_replay_spec.specs.Insertions.{Site, imports_at, calls, number, address_local, value_local, widened, bits_of_local, tells_local, tells_number, tells_params, before_load, before_store, tells_global, range_operands, tells_range, tells_index, after_call, inserted_at_enter}
+use Rattle.record_replay_spec.specs.Insertions.{Site, imports_at, calls, number, address_local, value_local, widened, bits_of_local, reports_local, reports_number, reports_params, before_load, before_store, reports_global, range_operands, reports_range, reports_index, after_call, inserted_at_enter}
 use Rattle.record_replay_spec.specs.Instrumented.{before_nest}
 
 -- a sequence leads from one stack to another
@@ -103,9 +103,9 @@ module _ (s : Site) (ctx : Context) (has : HasHooks s ctx) where
   hook_is : (kind : Hook) → instr_type ctx (calls s kind) ≡ Some (Moves (reverse (hook_params kind)) [])
   hook_is kind = ap (option_map call_of) (has.hook kind)
 
-  told : (kind : Hook) (is : List Instr) (below after : List ValType)
+  reported : (kind : Hook) (is : List Instr) (below after : List ValType)
       → Sequence ctx is below after → Sequence ctx (calls s kind ∷ is) (reverse (hook_params kind) ++ below) after
-  told kind is below after more = run (calls s kind) is (reverse (hook_params kind)) [] below after (hook_is kind) more
+  reported kind is below after more = run (calls s kind) is (reverse (hook_params kind)) [] below after (hook_is kind) more
 
   -- a value is converted to its bits
   wide : (ty : ValType) (is : List Instr) (below after : List ValType) → IsTrue (is_number ty)
@@ -125,19 +125,19 @@ module _ (s : Site) (ctx : Context) (has : HasHooks s ctx) where
   byte_word F64 = refl
   byte_word FuncRef = refl
 
-  tells_local_runs : (ty : ValType) (local : ℕ) (below : List ValType) → IsTrue (is_number ty)
-      → slice_get ctx.locals local ≡ Some ty → Sequence ctx (tells_local s ty local) below below
-  tells_local_runs ty local below num there =
+  reports_local_runs : (ty : ValType) (local : ℕ) (below : List ValType) → IsTrue (is_number ty)
+      → slice_get ctx.locals local ≡ Some ty → Sequence ctx (reports_local s ty local) below below
+  reports_local_runs ty local below num there =
       constant (type_byte ty) (bits_of_local ty local ++ calls s Arg ∷ []) below below (byte_word ty)
       (get local ty (widened ty ++ calls s Arg ∷ []) (I32 ∷ below) below there
-      (wide ty (calls s Arg ∷ []) (I32 ∷ below) below num (told Arg [] below below (nothing ctx below))))
+      (wide ty (calls s Arg ∷ []) (I32 ∷ below) below num (reported Arg [] below below (nothing ctx below))))
 
-  pub tells_number_runs : (kind : Hook) (n : ℕ) (below : List ValType) → FitsU32 n → hook_params kind ≡ I32 ∷ []
-      → Sequence ctx (tells_number s kind n) below below
-  tells_number_runs kind n below word takes =
+  pub reports_number_runs : (kind : Hook) (n : ℕ) (below : List ValType) → FitsU32 n → hook_params kind ≡ I32 ∷ []
+      → Sequence ctx (reports_number s kind n) below below
+  reports_number_runs kind n below word takes =
       constant n (calls s kind ∷ []) below below (word_test n word)
       (subst (λ params. Sequence ctx (calls s kind ∷ []) (reverse params ++ below) below) takes
-      (told kind [] below below (nothing ctx below)))
+      (reported kind [] below below (nothing ctx below)))
 
   pub load_runs : (at : MemArg) (access : Access) (below : List ValType) → FitsU32 at.offset
       → nat_lt access.width (2 ^ 32) ≡ true → Sequence ctx (before_load s at access) (I32 ∷ below) (I32 ∷ below)
@@ -147,7 +147,7 @@ module _ (s : Site) (ctx : Context) (has : HasHooks s ctx) where
       tee address I32 _ below (I32 ∷ below) has.address
       (constant at.offset _ (I32 ∷ below) (I32 ∷ below) (word_test at.offset offset)
       (constant access.width (calls s Load ∷ last) (I32 ∷ I32 ∷ below) (I32 ∷ below) width
-      (told Load last below (I32 ∷ below)
+      (reported Load last below (I32 ∷ below)
       (get address I32 [] below (I32 ∷ below) has.address (nothing ctx (I32 ∷ below))))))
 
   pub store_runs : (at : MemArg) (access : Access) (below : List ValType) → FitsU32 at.offset
@@ -165,13 +165,13 @@ module _ (s : Site) (ctx : Context) (has : HasHooks s ctx) where
       (constant access.width _ (I32 ∷ I32 ∷ below) end width
       (get value access.ty _ (I32 ∷ I32 ∷ I32 ∷ below) end there
       (wide access.ty (calls s Store ∷ last) (I32 ∷ I32 ∷ I32 ∷ below) end num
-      (told Store last below end
+      (reported Store last below end
       (get address I32 _ below end has.address
       (get value access.ty [] (I32 ∷ below) end there (nothing ctx end)))))))))
 
   pub global_runs : (kind : Hook) (global : ℕ) (ty : ValType) (below : List ValType) → FitsU32 global
       → hook_params kind ≡ I32 ∷ I64 ∷ [] → IsTrue (is_number ty)
-      → Sequence ctx (tells_global s kind global ty) (ty ∷ below) (ty ∷ below)
+      → Sequence ctx (reports_global s kind global ty) (ty ∷ below) (ty ∷ below)
   global_runs kind global ty below word takes num =
       let value = value_local s ty in
       let there = has.value ty num in
@@ -181,7 +181,7 @@ module _ (s : Site) (ctx : Context) (has : HasHooks s ctx) where
       (get value ty _ (I32 ∷ below) (ty ∷ below) there
       (wide ty (calls s kind ∷ last) (I32 ∷ below) (ty ∷ below) num
       (subst (λ params. Sequence ctx (calls s kind ∷ last) (reverse params ++ below) (ty ∷ below)) takes
-      (told kind last below (ty ∷ below) (get value ty [] below (ty ∷ below) there (nothing ctx (ty ∷ below))))))))
+      (reported kind last below (ty ∷ below) (get value ty [] below (ty ∷ below) there (nothing ctx (ty ∷ below))))))))
 
   abbrev three : List ValType → List ValType
   three below = I32 ∷ I32 ∷ I32 ∷ below
@@ -195,7 +195,7 @@ module _ (s : Site) (ctx : Context) (has : HasHooks s ctx) where
       (get (value_local s I32) I32 is (I32 ∷ I32 ∷ below) after (has.value I32 refl) more)))
 
   pub range_runs : (kind : Hook) (below : List ValType) → hook_params kind ≡ I32 ∷ I32 ∷ I32 ∷ []
-      → Sequence ctx (tells_range s kind) (three below) (three below)
+      → Sequence ctx (reports_range s kind) (three below) (three below)
   range_runs kind below takes =
       set (value_local s I32) I32 _ (I32 ∷ I32 ∷ below) (three below) (has.value I32 refl)
       (set (address_local s) I32 _ (I32 ∷ below) (three below) has.address
@@ -203,16 +203,16 @@ module _ (s : Site) (ctx : Context) (has : HasHooks s ctx) where
       (set (value_local s I64) I64 _ below (three below) (has.value I64 refl)
       (operands_run (calls s kind ∷ range_operands s) below (three below)
       (subst (λ params. Sequence ctx (calls s kind ∷ range_operands s) (reverse params ++ below) (three below)) takes
-      (told kind (range_operands s) below (three below)
+      (reported kind (range_operands s) below (three below)
       (operands_run [] below (three below) (nothing ctx (three below)))))))))
 
   pub index_runs : (kind : Hook) (below : List ValType) → hook_params kind ≡ I32 ∷ []
-      → Sequence ctx (tells_index s kind) (I32 ∷ below) (I32 ∷ below)
+      → Sequence ctx (reports_index s kind) (I32 ∷ below) (I32 ∷ below)
   index_runs kind below takes =
       let last : List Instr = LocalGet (address_local s) ∷ [] in
       tee (address_local s) I32 (calls s kind ∷ last) below (I32 ∷ below) has.address
       (subst (λ params. Sequence ctx (calls s kind ∷ last) (reverse params ++ below) (I32 ∷ below)) takes
-      (told kind last below (I32 ∷ below)
+      (reported kind last below (I32 ∷ below)
       (get (address_local s) I32 [] below (I32 ∷ below) has.address (nothing ctx (I32 ∷ below)))))
 
   -- a call of a hook without parameters
@@ -220,7 +220,7 @@ module _ (s : Site) (ctx : Context) (has : HasHooks s ctx) where
       → Sequence ctx (calls s kind ∷ []) below below
   alone_runs kind below takes =
       subst (λ params. Sequence ctx (calls s kind ∷ []) (reverse params ++ below) below) takes
-      (told kind [] below below (nothing ctx below))
+      (reported kind [] below below (nothing ctx below))
 
   pub after_call_runs : (over : List Instr) (results below : List ValType)
       → ((types : List ValType) → Sequence ctx over types types) → length results ≤ 1
@@ -231,8 +231,8 @@ module _ (s : Site) (ctx : Context) (has : HasHooks s ctx) where
       let value = value_local s ty in
       let there = has.value ty (num ty refl) in
       set value ty _ below (ty ∷ below) there
-      (both ctx (tells_local s ty value) _ below below (ty ∷ below)
-      (tells_local_runs ty value below (num ty refl) there)
+      (both ctx (reports_local s ty value) _ below below (ty ∷ below)
+      (reports_local_runs ty value below (num ty refl) there)
       (both ctx over (LocalGet value ∷ []) below below (ty ∷ below) (runs below)
       (get value ty [] below (ty ∷ below) there (nothing ctx (ty ∷ below)))))
   after_call_runs over (ty ∷ next ∷ types) below runs few num = absurd (omega (arith, few))
@@ -240,14 +240,14 @@ module _ (s : Site) (ctx : Context) (has : HasHooks s ctx) where
   params_run : (local : ℕ) (types : List ValType)
       → ((place : ℕ) (ty : ValType) → slice_get types place ≡ Some ty
       → IsTrue (is_number ty) × (slice_get ctx.locals (local + place) ≡ Some ty))
-      → Sequence ctx (tells_params s local types) [] []
+      → Sequence ctx (reports_params s local types) [] []
   params_run local [] each = nothing ctx []
   params_run local (ty ∷ types) each =
       let first = each 0 ty refl in
       let at : local + 0 ≡ local = omega arith in
       let there = ap (slice_get ctx.locals) (sym at) ∙ first.1 in
-      both ctx (tells_local s ty local) (tells_params s (local + 1) types) [] [] []
-      (tells_local_runs ty local [] first.0 there)
+      both ctx (reports_local s ty local) (reports_params s (local + 1) types) [] [] []
+      (reports_local_runs ty local [] first.0 there)
       (params_run (local + 1) types (λ place t is.
       let found = each (suc place) t is in
       let e : local + 1 + place ≡ local + suc place = omega arith in
@@ -258,8 +258,8 @@ module _ (s : Site) (ctx : Context) (has : HasHooks s ctx) where
       → IsTrue (is_number ty) × (slice_get ctx.locals place ≡ Some ty))
       → Sequence ctx (inserted_at_enter s params) [] []
   enter_runs params word each =
-      both ctx (tells_params s 0 params) (tells_number s Enter s.func) [] [] []
+      both ctx (reports_params s 0 params) (reports_number s Enter s.func) [] [] []
       (params_run 0 params (λ place ty is.
       let found = each place ty is in
       let e : 0 + place ≡ place = omega arith in (found.0, ap (slice_get ctx.locals) e ∙ found.1)))
-      (tells_number_runs Enter s.func [] word refl)
+      (reports_number_runs Enter s.func [] word refl)

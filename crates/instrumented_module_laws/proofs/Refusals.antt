@@ -15,7 +15,7 @@ use Rattle.wasm_syntax.specs.Profile.{Unsupported, refused_feature, is_numbered}
 use Rattle.type_safety.specs.Frames.{HasNoneRefused}
 use Rattle.record_replay_spec.specs.declared.hooks.Hook.TheVariants as hook
 use Rattle.record_replay_spec.specs.Hooks.{on}
-use Rattle.record_replay_spec.specs.Insertions.{Site, imports_at, value_local, calls, widened, tells_local, tells_number, tells_params, tells_global, before_load, before_store, after_call, inserted_before, inserted_after, inserted_at_enter, inserted_at_end}
+use Rattle.record_replay_spec.specs.Insertions.{Site, imports_at, value_local, calls, widened, reports_local, reports_number, reports_params, reports_global, before_load, before_store, after_call, inserted_before, inserted_after, inserted_at_enter, inserted_at_end}
 use Rattle.record_replay_spec.specs.Instrumented.{renumbered, before_nest, instrumented_nest, instrumented_body}
 
 abbrev IsUnrefused : Instr → Type 0
@@ -39,13 +39,13 @@ with_widened F32 is h = (refl, (refl, h))
 with_widened F64 is h = (refl, h)
 with_widened FuncRef is h = h
 
-local_unrefused : (s : Site) (ty : ValType) (local : ℕ) → AreUnrefused (tells_local s ty local)
+local_unrefused : (s : Site) (ty : ValType) (local : ℕ) → AreUnrefused (reports_local s ty local)
 local_unrefused s ty local = (refl, (refl, with_widened ty (calls s hook.Arg ∷ []) (refl, tt)))
 
-params_unrefused : (s : Site) (local : ℕ) (types : List ValType) → AreUnrefused (tells_params s local types)
+params_unrefused : (s : Site) (local : ℕ) (types : List ValType) → AreUnrefused (reports_params s local types)
 params_unrefused s local [] = tt
 params_unrefused s local (ty ∷ types) =
-    joined_all IsUnrefused (tells_local s ty local) (tells_params s (local + 1) types) (local_unrefused s ty local)
+    joined_all IsUnrefused (reports_local s ty local) (reports_params s (local + 1) types) (local_unrefused s ty local)
     (params_unrefused s (local + 1) types)
 
 after_call_unrefused : (s : Site) (over : List Instr) (results : List ValType) → AreUnrefused over
@@ -54,15 +54,15 @@ after_call_unrefused s over [] h = h
 after_call_unrefused s over (ty ∷ types) h =
     let last : List Instr = LocalGet (value_local s ty) ∷ [] in (
       refl,
-      joined_all IsUnrefused (tells_local s ty (value_local s ty)) (over ++ last)
+      joined_all IsUnrefused (reports_local s ty (value_local s ty)) (over ++ last)
           (local_unrefused s ty (value_local s ty)) (joined_all IsUnrefused over last h (refl, tt)),
     )
 
-global_get_unrefused : (s : Site) (global : ℕ) (ty : ValType) → AreUnrefused (tells_global s hook.Gget global ty)
+global_get_unrefused : (s : Site) (global : ℕ) (ty : ValType) → AreUnrefused (reports_global s hook.Gget global ty)
 global_get_unrefused s global ty =
     (refl, (refl, (refl, with_widened ty (calls s hook.Gget ∷ LocalGet (value_local s ty) ∷ []) (refl, (refl, tt)))))
 
-global_set_unrefused : (s : Site) (global : ℕ) (ty : ValType) → AreUnrefused (tells_global s hook.Gset global ty)
+global_set_unrefused : (s : Site) (global : ℕ) (ty : ValType) → AreUnrefused (reports_global s hook.Gset global ty)
 global_set_unrefused s global ty =
     (refl, (refl, (refl, with_widened ty (calls s hook.Gset ∷ LocalGet (value_local s ty) ∷ []) (refl, (refl, tt)))))
 
@@ -93,7 +93,7 @@ before_unrefused s (Store at) =
     ))
 before_unrefused s MemorySize = (refl, tt)
 before_unrefused s (GlobalSet global) =
-    unrefused_on (slice_get (all_globals s.m) global) (λ ty. tells_global s hook.Gset global ty.ty)
+    unrefused_on (slice_get (all_globals s.m) global) (λ ty. reports_global s hook.Gset global ty.ty)
     (λ ty. global_set_unrefused s global ty.ty)
 before_unrefused s MemoryCopy =
     (refl, (refl, (refl, (refl, (refl, (refl, (refl, (refl, (refl, (refl, (refl, (refl, (refl, tt)))))))))))))
@@ -107,16 +107,16 @@ mutable_unrefused false is h = tt
 
 after_unrefused : (s : Site) (i : Instr) → AreUnrefused (inserted_after s i)
 after_unrefused s (Call func) =
-    unrefused_on (func_type s.m func) (λ ty. after_call s (tells_number s hook.Post func) ty.results)
-    (λ ty. after_call_unrefused s (tells_number s hook.Post func) ty.results (refl, (refl, tt)))
+    unrefused_on (func_type s.m func) (λ ty. after_call s (reports_number s hook.Post func) ty.results)
+    (λ ty. after_call_unrefused s (reports_number s hook.Post func) ty.results (refl, (refl, tt)))
 after_unrefused s (CallIndirect t) =
     unrefused_on (type_at s.m t) (λ ty. after_call s (calls s hook.Ipost ∷ []) ty.results)
     (λ ty. after_call_unrefused s (calls s hook.Ipost ∷ []) ty.results (refl, tt))
 after_unrefused s MemoryGrow = (refl, (refl, (refl, tt)))
 after_unrefused s (GlobalGet global) =
     unrefused_on (slice_get (all_globals s.m) global)
-    (λ ty. cond ty.mutable (tells_global s hook.Gget global ty.ty) [])
-    (λ ty. mutable_unrefused ty.mutable (tells_global s hook.Gget global ty.ty) (global_get_unrefused s global ty.ty))
+    (λ ty. cond ty.mutable (reports_global s hook.Gget global ty.ty) [])
+    (λ ty. mutable_unrefused ty.mutable (reports_global s hook.Gget global ty.ty) (global_get_unrefused s global ty.ty))
 after_unrefused s i = tt
 
 renumbered_unrefused : (n : ℕ) (i : Instr) → IsUnrefused i → IsUnrefused (renumbered n i)
@@ -176,7 +176,7 @@ body_unrefused s ty nest h =
     let block = InBlock (slice_get ty.results 0) (instrumented_nest s nest) end in
     joined_all IsUnrefused (flat (before_nest first block)) (End ∷ [])
     (flat_before first block
-    (joined_all IsUnrefused (tells_params s 0 ty.params) (tells_number s hook.Enter s.func)
+    (joined_all IsUnrefused (reports_params s 0 ty.params) (reports_number s hook.Enter s.func)
     (params_unrefused s 0 ty.params) (refl, (refl, tt))) (
       refl,
       joined_all IsUnrefused (flat (instrumented_nest s nest)) (End ∷ flat end) (nest_unrefused s nest h)

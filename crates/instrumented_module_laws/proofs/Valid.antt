@@ -1,5 +1,5 @@
 -- Instrumented modules are valid.
-use Rattle.std.proofs.Common.{◌≡◌, ◌≢◌, ℕ, ◌+◌, ◌^◌, ◌<◌, ◌≤◌, List, [], ◌∷◌, ◌++◌, length, map, reverse, Option, Some, None, IsTrue, slice_get, option_map, option_and_then, All, refl, sym, ap, ◌∙◌, subst, arith, length-append, append-nil}
+use Rattle.std.proofs.Common.{◌≡◌, ◌≢◌, ℕ, ◌+◌, ◌^◌, ◌<◌, ◌≤◌, List, [], ◌∷◌, ◌++◌, length, map, reverse, Option, Some, None, IsTrue, is_some, slice_get, option_map, option_and_then, All, refl, sym, ap, ◌∙◌, subst, arith, length-append, append-nil}
 use Rattle.std.specs.Prelude.{IfSome, AllPairs}
 use Rattle.std.specs.List.{AllByRecursion}
 use Rattle.std.proofs.lemmas.List.{append_assoc, length-map, get_or-map}
@@ -37,12 +37,13 @@ use Rattle.record_replay_spec.specs.declared.hooks.Hook.TheVariants as hook
 use Rattle.record_replay_spec.specs.Hooks.{hooks, renumber}
 use Rattle.record_replay_spec.specs.Insertions.{Site, value_local, inserted_at_enter, inserted_at_end}
 use Rattle.record_replay_spec.specs.Instrumented.{before_nest, instrumented_nest, instrumented_body, with_added_locals, site_of, instrumented_func, each_func, hook_types, hook_import, renumbered_kind, renumbered_export, renumbered_elem, instrumented_module}
+use Rattle.type_safety.proofs.Wider.{both_parts}
 use Rattle.record_replay_spec.specs.HookLaws.{BodiesAreInstrumented, InstrumentedKeepsIndices, InstrumentedKeepIndices}
 use Rattle.instrumented_module_laws.specs.Laws.{HasWordOffset, HasWords, InstrumentedAreValid}
-use Rattle.instrumented_module_laws.proofs.Pieces.{HasHooks, typed_after, enter_runs, tells_number_runs}
-use Rattle.instrumented_module_laws.proofs.Nests.{Widens, IsTold, told_parts, typed_round}
+use Rattle.instrumented_module_laws.proofs.Pieces.{HasHooks, typed_after, enter_runs, reports_number_runs}
+use Rattle.instrumented_module_laws.proofs.Nests.{IsHooked, IsReported, typed_round}
 use Rattle.instrumented_module_laws.proofs.Indices.{type_kept, globals_kept, renumbered_there}
-use Rattle.instrumented_module_laws.proofs.Parts.{hook_types_good, added, numbers_added, added_at, block_results, block_type_good, body_labels, told_all, global_numbers}
+use Rattle.instrumented_module_laws.proofs.Parts.{hook_types_good, added, numbers_added, added_at, block_results, block_type_good, body_labels, reported_all, global_numbers}
 
 -- ---- the module
 
@@ -135,8 +136,8 @@ module _ (bodies_are_instrumented : BodiesAreInstrumented) (instrumented_keep_in
     label_is : label ≡ reverse t.ty.results
     label_is = block_results t.ty.results good.one_result
 
-    widens : Widens site ctx (inside label wider)
-    widens =
+    is_hooked : IsHooked site ctx (inside label wider)
+    is_hooked =
         record {
           has = record { address = has_hooks.address; value = has_hooks.value; hook = has_hooks.hook };
           func_of_site = λ f. refl;
@@ -146,14 +147,17 @@ module _ (bodies_are_instrumented : BodiesAreInstrumented) (instrumented_keep_in
           func_good = func_good;
           type_good = λ i ty h. all_at IsFuncType m.types i ty valid.outside.types h;
           global_good = global_good;
-          types = type_kept instrumented_keep_indices m digest;
-          funcs = keeps.type_of;
-          tables = keeps.tables;
-          memories = keeps.memories;
-          globals = keeps.globals;
-          results = refl;
-          locals = kept_local;
-          labels = body_labels label (reverse t.ty.results) label_is;
+          known =
+              record {
+                types = type_kept instrumented_keep_indices m digest;
+                funcs = keeps.type_of;
+                tables = λ x. ap (λ (ts : List Limits). is_some (slice_get ts x)) (sym keeps.tables);
+                memory = ap (λ (ms : List Limits). is_some (slice_get ms 0)) (sym keeps.memories);
+                globals = λ x g h. ap (λ (gs : List GlobalType). slice_get gs x) keeps.globals ∙ h;
+                locals = kept_local;
+                labels = body_labels label (reverse t.ty.results) label_is;
+                results = refl;
+              };
         }
 
     param_there : (place : ℕ) (ty : ValType) → slice_get t.ty.params place ≡ Some ty
@@ -170,25 +174,25 @@ module _ (bodies_are_instrumented : BodiesAreInstrumented) (instrumented_keep_in
     end_typed : IsTyped wider end_nest (label ++ []) (reverse t.ty.results)
     end_typed =
         typed_after wider (inserted_at_end site) Empty (label ++ []) (label ++ []) (reverse t.ty.results)
-        (tells_number_runs site wider has_hooks hook.Leave index (label ++ []) low refl)
+        (reports_number_runs site wider has_hooks hook.Leave index (label ++ []) low refl)
         (append-nil label ∙ label_is)
 
-    inner_typed : AllByRecursion IsTold (flat t.nest)
+    inner_typed : AllByRecursion IsReported (flat t.nest)
         → IsTyped (inside label wider) (instrumented_nest site t.nest) [] label
-    inner_typed told =
+    inner_typed reported =
         subst (IsTyped (inside label wider) (instrumented_nest site t.nest) []) (sym label_is)
-        (typed_round site t.nest ctx (inside label wider) [] (reverse t.ty.results) widens told t.typed)
+        (typed_round site t.nest ctx (inside label wider) [] (reverse t.ty.results) is_hooked reported t.typed)
 
-    body_typed : AllByRecursion IsTold (flat t.nest)
+    body_typed : AllByRecursion IsReported (flat t.nest)
         → IsTyped wider (instrumented_body site t.ty t.nest) [] (reverse t.ty.results)
-    body_typed told =
+    body_typed reported =
         typed_after wider (inserted_at_enter site t.ty.params)
         (InBlock (slice_get t.ty.results 0) (instrumented_nest site t.nest) end_nest) [] [] (reverse t.ty.results)
         (enter_runs site wider has_hooks t.ty.params low param_there)
-        (block_type_good t.ty.results good.results, inner_typed told, end_typed)
+        (block_type_good t.ty.results good.results, inner_typed reported, end_typed)
 
-    func_typed : AllByRecursion IsTold (flat t.nest) → IsTypedFunc hooked hooked_func
-    func_typed told =
+    func_typed : AllByRecursion IsReported (flat t.nest) → IsTypedFunc hooked hooked_func
+    func_typed reported =
         record {
           ty = t.ty;
           nest = instrumented_body site t.ty t.nest;
@@ -197,7 +201,7 @@ module _ (bodies_are_instrumented : BodiesAreInstrumented) (instrumented_keep_in
             nested = bodies_are_instrumented.nested site t.ty t.nest t.is_body.nested;
             written = refl;
           };
-          typed = body_typed told;
+          typed = body_typed reported;
         }
 
     func_declared : IsDeclaredFunc m func → IsDeclaredFunc hooked hooked_func
@@ -219,11 +223,11 @@ module _ (bodies_are_instrumented : BodiesAreInstrumented) (instrumented_keep_in
 
   -- ---- all functions
 
-  func_told : (func : Func) (t : IsTypedFunc m func) → AreCoreInstrs func.body → AllByRecursion HasWordOffset func.body
-      → AllByRecursion IsTold (flat t.nest)
-  func_told func t core_body offsets =
-      (told_parts (flat t.nest) (End ∷ [])
-      (subst (AllByRecursion IsTold) (sym t.is_body.written) (told_all func.body core_body offsets))).0
+  func_reported : (func : Func) (t : IsTypedFunc m func) → AreCoreInstrs func.body → AllByRecursion HasWordOffset func.body
+      → AllByRecursion IsReported (flat t.nest)
+  func_reported func t core_body offsets =
+      (both_parts IsReported (flat t.nest) (End ∷ [])
+      (subst (AllByRecursion IsReported) (sym t.is_body.written) (reported_all func.body core_body offsets))).0
 
   all_typed : (index : ℕ) (funcs : List Func) → index + length funcs ≤ 2 ^ 32 → AllByRecursion (IsTypedFunc m) funcs
       → AllByRecursion (λ f. AreCoreInstrs f.body) funcs
@@ -234,7 +238,7 @@ module _ (bodies_are_instrumented : BodiesAreInstrumented) (instrumented_keep_in
       let low : FitsU32 index = omega (arith, few) in
       let fewer : index + 1 + length funcs ≤ 2 ^ 32 = omega (arith, few) in (
         subst (IsTypedFunc hooked) (sym (made_is index func typed.0 low))
-            (func_typed index func typed.0 low (func_told func typed.0 cores.0 offsets.0)),
+            (func_typed index func typed.0 low (func_reported func typed.0 cores.0 offsets.0)),
         all_typed (index + 1) funcs fewer typed.1 cores.1 offsets.1,
       )
 

@@ -2,7 +2,7 @@
 -- hooks report are words, their lists are short, their last imports are the hooks, and stores of their originals are
 -- theirs, with functions renumbered.
 use Rattle.std.specs.Prelude.{◌≡◌, ℕ, ◌≤◌, List, length, true, false}
-use Rattle.wasm_syntax.specs.declared.limits.TheConstants.{MOST_FILE_BYTES}
+use Rattle.wasm_syntax.specs.declared.limits.TheConstants.{MAX_FILE_BYTES}
 use Rattle.wasm_syntax.specs.declared.forms.Form.TheVariants.{Core}
 use Rattle.wasm_syntax.specs.declared.modules.Module.{Module}
 use Rattle.wasm_syntax.specs.Encoding.Forms.{IsCoreModule}
@@ -22,7 +22,7 @@ use Rattle.instrumented_module_laws.specs.Laws.{HasWords}
 -- report of it are words
 abbrev pub EncodedHaveWords : Type 0
 EncodedHaveWords =
-    (bytes : List ℕ) (m : Module) → Encodes Core bytes m → length bytes ≤ MOST_FILE_BYTES
+    (bytes : List ℕ) (m : Module) → Encodes Core bytes m → length bytes ≤ MAX_FILE_BYTES
     → IsCoreModule m × HasWords m
 
 -- the instrumented module of an accepted one has short lists, if no list of the original has more items than a file
@@ -30,7 +30,7 @@ EncodedHaveWords =
 abbrev pub InstrumentedAreShort : Type 0
 InstrumentedAreShort =
     (m : Module) (digest : List ℕ) (most : ℕ) → IsAccepted false m → IsCoreModule m → HasWords m
-    → HasListsWithin most m → most ≤ MOST_FILE_BYTES → IsShort (instrumented_module m digest)
+    → HasListsWithin most m → most ≤ MAX_FILE_BYTES → IsShort (instrumented_module m digest)
 
 -- the last imports of functions of an instrumented module are the hooks, no other import is from their module, and
 -- before them are as many imports of functions as the original has

@@ -4,7 +4,7 @@ use Rattle.std.proofs.Common.{◌≡◌, ℕ, ◌+◌, List, ◌∷◌, ◌++◌
 use Rattle.std.proofs.lemmas.List.{length-map, map-append, map-set}
 use Rattle.std.proofs.lemmas.Option.{slice_get-map}
 use Rattle.wasm_syntax.specs.declared.values.Val.{Val}
-use Rattle.wasm_syntax.specs.declared.limits.TheConstants.{MOST_ENTRIES}
+use Rattle.wasm_syntax.specs.declared.limits.TheConstants.{MAX_ENTRIES}
 use Rattle.wasm_syntax.specs.declared.modules.Module.{Module}
 use Rattle.wasm_syntax.specs.Alike.{same_types}
 use Rattle.host_script.specs.Supply.{is_within}
@@ -54,10 +54,10 @@ module _ (n : ℕ) where
       → grown_table (renumbered_table n table) by None ≡ option_map (renumbered_table n) (grown_table table by None)
   table_grown table by =
       ap
-      (λ k. grown_table_if (is_within (k + by) table.max && nat_le (k + by) MOST_ENTRIES) (renumbered_table n table) by
+      (λ k. grown_table_if (is_within (k + by) table.max && nat_le (k + by) MAX_ENTRIES) (renumbered_table n table) by
       None)
       (length-map table.entries (option_map (renumber n)))
-      ∙ go (is_within (length table.entries + by) table.max && nat_le (length table.entries + by) MOST_ENTRIES)
+      ∙ go (is_within (length table.entries + by) table.max && nat_le (length table.entries + by) MAX_ENTRIES)
     where
       go : (b : Bool)
           → grown_table_if b (renumbered_table n table) by None

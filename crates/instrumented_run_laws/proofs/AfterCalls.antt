@@ -15,7 +15,7 @@ use Rattle.record_replay_spec.specs.declared.hooks.Hook.{Hook}
 use Rattle.record_replay_spec.specs.declared.hooks.Hook.TheVariants.{Arg, Post, Ipost}
 use Rattle.record_replay_spec.specs.Hooks.{HookCall, renumbered_view}
 use Rattle.record_replay_spec.specs.Insertions.{Site, imports_at, after_call}
-use Rattle.record_replay_spec.specs.ToldCalls.{told, told_values, told_over}
+use Rattle.record_replay_spec.specs.ReportedCalls.{reported, reported_values, reported_over}
 use Rattle.instrumented_run_laws.proofs.Leads as leads
 use Rattle.instrumented_run_laws.proofs.PieceSteps.{typed, pop_none}
 use Rattle.instrumented_run_laws.proofs.Relation.{over_piece}
@@ -30,8 +30,8 @@ module _ (s : Site) (program : Program) (meter : Meter) (has : HasHooks (imports
   abbrev n : ℕ
   n = imports_at s
 
-  abbrev Tells : List ℕ → Scratch → List Val → List Instr → List HookCall → Type 0
-  Tells = before.Tells s program meter has store below outer own whole
+  abbrev Reports : List ℕ → Scratch → List Val → List Instr → List HookCall → Type 0
+  Reports = before.Reports s program meter has store below outer own whole
 
   abbrev Makes : (counts : List ℕ) (x : Scratch) (values : List Val) (is : List Instr) (calls : List HookCall)
       (after : List ℕ) (y : Scratch) (left : List Val) → Type 0
@@ -51,25 +51,25 @@ module _ (s : Site) (program : Program) (meter : Meter) (has : HasHooks (imports
 
   over_makes : (callee : Option ℕ) (counts : List ℕ) (x : Scratch) (values : List Val)
       → Makes counts x values (over_piece s callee)
-      (told (over_hook callee) (over_args callee) (renumbered_view n store)) (counted counts (over_hook callee)) x
+      (reported (over_hook callee) (over_args callee) (renumbered_view n store)) (counted counts (over_hook callee)) x
       values
   over_makes (Some func) counts x values =
-      pieces.tells_one s program meter has (renumbered_view n store) below outer own whole Post refl counts x values
+      pieces.reports_one s program meter has (renumbered_view n store) below outer own whole Post refl counts x values
       func
   over_makes None counts x values =
       pieces.calls_hook s program meter has (renumbered_view n store) below outer own whole Ipost counts x values values
       [] (pop_none values)
 
-  told_none : (callee : Option ℕ) (counts : List ℕ) (x : Scratch) (values : List Val)
-      → Tells counts x values (over_piece s callee) (told_over callee store)
-  told_none (Some func) counts x values =
+  reported_none : (callee : Option ℕ) (counts : List ℕ) (x : Scratch) (values : List Val)
+      → Reports counts x values (over_piece s callee) (reported_over callee store)
+  reported_none (Some func) counts x values =
       record {
         after = counted counts Post;
         scratch = x;
         makes = over_makes (Some func) counts x values;
         counted = before.counted_alike s program meter has store below outer own whole counts Post;
       }
-  told_none None counts x values =
+  reported_none None counts x values =
       record {
         after = counted counts Ipost;
         scratch = x;
@@ -77,26 +77,26 @@ module _ (s : Site) (program : Program) (meter : Meter) (has : HasHooks (imports
         counted = before.counted_alike s program meter has store below outer own whole counts Ipost;
       }
 
-  told_one : (callee : Option ℕ) (counts : List ℕ) (x : Scratch) (values : List Val) (ty : ValType) (bits : ℕ)
+  reported_one : (callee : Option ℕ) (counts : List ℕ) (x : Scratch) (values : List Val) (ty : ValType) (bits : ℕ)
       → IsNumber ty
-      → Tells counts x (typed ty bits ∷ values) (after_call s (over_piece s callee) (ty ∷ []))
-      (told_values store (typed ty bits ∷ []) ++ told_over callee store)
-  told_one (Some func) counts x values ty bits number =
+      → Reports counts x (typed ty bits ∷ values) (after_call s (over_piece s callee) (ty ∷ []))
+      (reported_values store (typed ty bits ∷ []) ++ reported_over callee store)
+  reported_one (Some func) counts x values ty bits number =
       record {
         after = counted (counted counts Arg) Post;
         scratch = with_value ty x bits;
-        makes = pieces.tells_result s program meter has (renumbered_view n store) below outer own whole
+        makes = pieces.reports_result s program meter has (renumbered_view n store) below outer own whole
             (over_piece s (Some func)) Post (i32_value func ∷ []) (over_makes (Some func)) counts x values ty bits
             number;
         counted = λ import less.
             before.counted_alike s program meter has store below outer own whole (counted counts Arg) Post import less
             ∙ before.counted_alike s program meter has store below outer own whole counts Arg import less;
       }
-  told_one None counts x values ty bits number =
+  reported_one None counts x values ty bits number =
       record {
         after = counted (counted counts Arg) Ipost;
         scratch = with_value ty x bits;
-        makes = pieces.tells_result s program meter has (renumbered_view n store) below outer own whole
+        makes = pieces.reports_result s program meter has (renumbered_view n store) below outer own whole
             (over_piece s None) Ipost [] (over_makes None) counts x values ty bits number;
         counted = λ import less.
             before.counted_alike s program meter has store below outer own whole (counted counts Arg) Ipost import less
@@ -104,20 +104,20 @@ module _ (s : Site) (program : Program) (meter : Meter) (has : HasHooks (imports
       }
 
   -- the code after a call of a function with these results, at most one, makes the hook calls of the call's end
-  pub over_told : (counts : List ℕ) (x : Scratch) (callee : Option ℕ) (types : List ValType) (results values : List Val)
+  pub over_reported : (counts : List ℕ) (x : Scratch) (callee : Option ℕ) (types : List ValType) (results values : List Val)
       (funcs : ℕ) → length types ≤ 1 → AllByRecursion (λ ty. is_number ty ≡ true) types
       → AreValues funcs types results
-      → Tells counts x (push_all results values) (after_call s (over_piece s callee) types)
-      (told_values store results ++ told_over callee store)
-  over_told counts x callee [] [] values funcs one numbers are = told_none callee counts x values
-  over_told counts x callee [] (v ∷ results) values funcs one numbers are = absurd are
-  over_told counts x callee (ty ∷ types) [] values funcs one numbers are = absurd are
-  over_told counts x callee (ty ∷ []) (v ∷ []) values funcs one numbers are =
+      → Reports counts x (push_all results values) (after_call s (over_piece s callee) types)
+      (reported_values store results ++ reported_over callee store)
+  over_reported counts x callee [] [] values funcs one numbers are = reported_none callee counts x values
+  over_reported counts x callee [] (v ∷ results) values funcs one numbers are = absurd are
+  over_reported counts x callee (ty ∷ types) [] values funcs one numbers are = absurd are
+  over_reported counts x callee (ty ∷ []) (v ∷ []) values funcs one numbers are =
       let is : typed ty v.bits ≡ v = ap (λ t. typed t v.bits) (sym are.0.typed) in
       subst
-      (λ u. Tells counts x (u ∷ values) (after_call s (over_piece s callee) (ty ∷ []))
-      (told_values store (u ∷ []) ++ told_over callee store))
-      is (told_one callee counts x values ty v.bits (number_type ty numbers.0))
-  over_told counts x callee (ty ∷ []) (v ∷ w ∷ results) values funcs one numbers are = absurd are.1
-  over_told counts x callee (ty ∷ other ∷ types) (v ∷ results) values funcs one numbers are =
+      (λ u. Reports counts x (u ∷ values) (after_call s (over_piece s callee) (ty ∷ []))
+      (reported_values store (u ∷ []) ++ reported_over callee store))
+      is (reported_one callee counts x values ty v.bits (number_type ty numbers.0))
+  over_reported counts x callee (ty ∷ []) (v ∷ w ∷ results) values funcs one numbers are = absurd are.1
+  over_reported counts x callee (ty ∷ other ∷ types) (v ∷ results) values funcs one numbers are =
       absurd (omega (arith, one))

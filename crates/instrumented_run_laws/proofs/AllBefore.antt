@@ -17,9 +17,9 @@ use Rattle.history_spec.specs.Run.{Meter}
 use Rattle.type_safety.specs.Stores.{func_count}
 use Rattle.type_safety.specs.Values.{count_of, AreValues}
 use Rattle.record_replay_spec.specs.Insertions.{Site, imports_at, inserted_before}
-use Rattle.record_replay_spec.specs.ToldCalls.{told_before}
+use Rattle.record_replay_spec.specs.ReportedCalls.{reported_before}
 use Rattle.tape_laws.proofs.RunCalls.{global_at}
-use Rattle.tape_laws.proofs.Tellable.{in_range}
+use Rattle.tape_laws.proofs.Reportable.{in_range}
 use Rattle.instrumented_run_laws.proofs.Scratch.{Scratch}
 use Rattle.instrumented_run_laws.proofs.Pieces.{HasHooks}
 use Rattle.instrumented_run_laws.proofs.Before as before
@@ -43,26 +43,26 @@ number_global m store has x value there =
 module _ (s : Site) (program : Program) (meter : Meter) (has : HasHooks (imports_at s) program meter) (store : Store)
     (below : List Activation) (outer : Frame) (own : List Val) (whole : s.locals ≡ length own) (counts : List ℕ)
     (x : Scratch) (code : Code) (frame : Frame) (next : Place) where
-  abbrev IsTold : Instr → Type 0
-  IsTold i =
-      before.Tells s program meter has store below outer own whole counts x frame.values (inserted_before s i)
-      (told_before i (operands_of (execute_plain code store frame next i)) store)
+  abbrev IsReported : Instr → Type 0
+  IsReported i =
+      before.Reports s program meter has store below outer own whole counts x frame.values (inserted_before s i)
+      (reported_before i (operands_of (execute_plain code store frame next i)) store)
 
-  pub before_told : (i : Instr) → IsCoreInstr i → IsNoReturn i → (types : List ValType) (funcs : ℕ)
+  pub before_reported : (i : Instr) → IsCoreInstr i → IsNoReturn i → (types : List ValType) (funcs : ℕ)
       → AreValues funcs types frame.values → HasGlobals s.m store → IsRule (execute_plain code store frame next i)
-      → IsTold i
-  before_told i core returns types funcs are globals rule = go i returns rule
+      → IsReported i
+  before_reported i core returns types funcs are globals rule = go i returns rule
     where
       words : (j : ℕ) (value : Val) → slice_get frame.values j ≡ Some value → value.ty ≡ I32 → value.bits < 2 ^ 32
       words j value there is =
           subst (λ ty. value.bits < count_of funcs ty) is (in_range funcs types frame.values j value are there)
 
-      go : (i : Instr) → IsNoReturn i → IsRule (execute_plain code store frame next i) → IsTold i
+      go : (i : Instr) → IsNoReturn i → IsRule (execute_plain code store frame next i) → IsReported i
       go (instrs.Call func) returns rule =
           (calls.before_call s program meter has store below outer own whole counts x frame.values func
-          (execute_plain code store frame next (instrs.Call func))).tells rule
+          (execute_plain code store frame next (instrs.Call func))).reports rule
       go (instrs.CallIndirect t) returns rule =
-          (calls.before_call_indirect s program meter has store below outer own whole counts x code frame next t).tells
+          (calls.before_call_indirect s program meter has store below outer own whole counts x code frame next t).reports
           rule
       go (instrs.Load at) returns rule =
           before.before_loads s program meter has store below outer own whole counts x code frame next at rule
@@ -72,11 +72,11 @@ module _ (s : Site) (program : Program) (meter : Meter) (has : HasHooks (imports
           before.before_size s program meter has store below outer own whole counts x code frame next
       go (instrs.GlobalSet global) returns rule =
           (writes.before_global_set s program meter has store below outer own whole counts x code frame next global
-          (number_global s.m store globals global)).tells rule
+          (number_global s.m store globals global)).reports rule
       go instrs.MemoryCopy returns rule =
-          (writes.before_copy s program meter has store below outer own whole counts x code frame next words).tells rule
+          (writes.before_copy s program meter has store below outer own whole counts x code frame next words).reports rule
       go instrs.MemoryFill returns rule =
-          (writes.before_fill s program meter has store below outer own whole counts x code frame next words).tells rule
+          (writes.before_fill s program meter has store below outer own whole counts x code frame next words).reports rule
       go instrs.Return returns rule = absurd returns
       go i returns rule =
-          before.tells_none s program meter has store below outer own whole counts x frame.values
+          before.reports_none s program meter has store below outer own whole counts x frame.values

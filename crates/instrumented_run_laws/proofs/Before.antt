@@ -21,8 +21,8 @@ use Rattle.record_replay_spec.specs.declared.hooks.Hook.{Hook}
 use Rattle.record_replay_spec.specs.declared.hooks.Hook.TheVariants.{Load, Store as ToStore, Size}
 use Rattle.record_replay_spec.specs.Hooks as hooks
 use Rattle.record_replay_spec.specs.Hooks.{HookCall, hook_func, hook_place, renumbered_view, renumbered_call}
-use Rattle.record_replay_spec.specs.Insertions.{Site, imports_at, tells_number, before_load, before_store, inserted_before}
-use Rattle.record_replay_spec.specs.ToldCalls.{i64_value, told, told_number, told_before}
+use Rattle.record_replay_spec.specs.Insertions.{Site, imports_at, reports_number, before_load, before_store, inserted_before}
+use Rattle.record_replay_spec.specs.ReportedCalls.{i64_value, reported, reported_number, reported_before}
 use Rattle.instrumented_run_laws.proofs.Leads as leads
 use Rattle.instrumented_run_laws.proofs.PieceSteps.{typed, pop_none}
 use Rattle.instrumented_run_laws.proofs.Relation.{AreCounted}
@@ -73,7 +73,7 @@ module _ (s : Site) (program : Program) (meter : Meter) (has : HasHooks (imports
       get_before counts (hook_func n kind) import (slice_index counts (hook_func n kind) + 1) further
 
   -- inserted instructions make these hook calls, in the instrumented module's store, and leave the values unchanged
-  pub record Tells (counts : List ℕ) (x : Scratch) (values : List Val) (is : List Instr) (calls : List HookCall)
+  pub record Reports (counts : List ℕ) (x : Scratch) (values : List Val) (is : List Instr) (calls : List HookCall)
       : Type 0 where
     pub after : List ℕ
     pub scratch : Scratch
@@ -82,8 +82,8 @@ module _ (s : Site) (program : Program) (meter : Meter) (has : HasHooks (imports
     pub counted : AreCounted n counts after
 
   -- no instruction is inserted
-  pub tells_none : (counts : List ℕ) (x : Scratch) (values : List Val) → Tells counts x values [] []
-  tells_none counts x values =
+  pub reports_none : (counts : List ℕ) (x : Scratch) (values : List Val) → Reports counts x values [] []
+  reports_none counts x values =
       record {
         after = counts;
         scratch = x;
@@ -92,21 +92,21 @@ module _ (s : Site) (program : Program) (meter : Meter) (has : HasHooks (imports
       }
 
   -- inserted instructions make these hook calls, with equal values and operands in place of the known ones
-  pub retold : (counts : List ℕ) (x : Scratch) (values known operands taken : List Val) (is : List Instr)
-      (calls : List Val → List HookCall) → values ≡ known → operands ≡ taken → Tells counts x known is (calls taken)
-      → Tells counts x values is (calls operands)
-  retold counts x values known operands taken is calls same alike tells =
-      subst (λ v. Tells counts x v is (calls operands)) (sym same)
-      (subst (λ o. Tells counts x known is (calls o)) (sym alike) tells)
+  pub reported_again : (counts : List ℕ) (x : Scratch) (values known operands taken : List Val) (is : List Instr)
+      (calls : List Val → List HookCall) → values ≡ known → operands ≡ taken → Reports counts x known is (calls taken)
+      → Reports counts x values is (calls operands)
+  reported_again counts x values known operands taken is calls same alike reports =
+      subst (λ v. Reports counts x v is (calls operands)) (sym same)
+      (subst (λ o. Reports counts x known is (calls o)) (sym alike) reports)
 
   -- the code that passes one number to a hook
-  pub tells_number_told : (kind : Hook) → hooks.hook_params kind ≡ I32 ∷ [] → (counts : List ℕ) (x : Scratch)
-      (values : List Val) (bits : ℕ) → Tells counts x values (tells_number s kind bits) (told_number kind bits store)
-  tells_number_told kind params counts x values bits =
+  pub reports_number_reported : (kind : Hook) → hooks.hook_params kind ≡ I32 ∷ [] → (counts : List ℕ) (x : Scratch)
+      (values : List Val) (bits : ℕ) → Reports counts x values (reports_number s kind bits) (reported_number kind bits store)
+  reports_number_reported kind params counts x values bits =
       record {
         after = leads.counted n program meter counts kind;
         scratch = x;
-        makes = pieces.tells_one s program meter has (renumbered_view n store) below outer own whole kind params counts
+        makes = pieces.reports_one s program meter has (renumbered_view n store) below outer own whole kind params counts
             x
             values bits;
         counted = counted_alike counts kind;
@@ -119,17 +119,17 @@ module _ (s : Site) (program : Program) (meter : Meter) (has : HasHooks (imports
     loaded_operands memory access operands rest None = refl
     loaded_operands memory access operands rest (Some bytes) = refl
 
-    load_told : (at : MemArg) (access : Access) (memory : Memory) (o : Option Operands)
+    load_reported : (at : MemArg) (access : Access) (memory : Memory) (o : Option Operands)
         → pop (I32 ∷ []) frame.values ≡ o
         → (e : Execution)
         → e ≡ on o (λ p. load_result store frame next memory access p.operands p.rest
         (bytes_at memory.bytes (bits_at p.operands 0 + at.offset) access.width))
         → IsRule e
-        → Tells counts x frame.values (before_load s at access)
-        (told Load
+        → Reports counts x frame.values (before_load s at access)
+        (reported Load
         (i32_value (bits_at (operands_of e) 0) ∷ i32_value at.offset ∷ i32_value access.width ∷ []) store)
-    load_told at access memory None popped e is rule = absurd (subst IsRule is rule)
-    load_told at access memory (Some p) popped e is rule =
+    load_reported at access memory None popped e is rule = absurd (subst IsRule is rule)
+    load_reported at access memory (Some p) popped e is rule =
         let t = one_taken I32 frame.values p popped in
         let operands : operands_of e ≡ i32_value t.a ∷ [] =
         ap operands_of is
@@ -137,15 +137,15 @@ module _ (s : Site) (program : Program) (meter : Meter) (has : HasHooks (imports
         (bytes_at memory.bytes (bits_at p.operands 0 + at.offset) access.width)
         ∙ t.operands_are
         in
-        retold counts x frame.values (i32_value t.a ∷ p.rest) (operands_of e) (i32_value t.a ∷ [])
+        reported_again counts x frame.values (i32_value t.a ∷ p.rest) (operands_of e) (i32_value t.a ∷ [])
         (before_load s at access)
-        (λ operands. told Load
+        (λ operands. reported Load
         (i32_value (bits_at operands 0) ∷ i32_value at.offset ∷ i32_value access.width ∷ []) store)
         t.values_are operands
         (record {
           after = leads.counted n program meter counts Load;
           scratch = with_address x t.a;
-          makes = pieces.tells_load s program meter has (renumbered_view n store) below outer own whole counts x p.rest
+          makes = pieces.reports_load s program meter has (renumbered_view n store) below outer own whole counts x p.rest
               at
               access t.a;
           counted = counted_alike counts Load;
@@ -153,8 +153,8 @@ module _ (s : Site) (program : Program) (meter : Meter) (has : HasHooks (imports
 
     -- the code before a load
     pub before_loads : (at : MemArg) → IsRule (execute_plain code store frame next (instrs.Load at))
-        → Tells counts x frame.values (inserted_before s (instrs.Load at))
-        (told_before (instrs.Load at) (operands_of (execute_plain code store frame next (instrs.Load at))) store)
+        → Reports counts x frame.values (inserted_before s (instrs.Load at))
+        (reported_before (instrs.Load at) (operands_of (execute_plain code store frame next (instrs.Load at))) store)
     before_loads at rule = go (load_of at.op) store.memory rule
       where
         read : Access → Memory → Execution
@@ -165,20 +165,20 @@ module _ (s : Site) (program : Program) (meter : Meter) (has : HasHooks (imports
 
         go : (o : Option Access) (m : Option Memory)
             → IsRule (on o (λ access. on m (λ memory. read access memory)))
-            → Tells counts x frame.values (hooks.on o (before_load s at))
+            → Reports counts x frame.values (hooks.on o (before_load s at))
             (hooks.on o (λ access.
-            told Load
+            reported Load
             (i32_value (bits_at (operands_of (on o (λ access. on m (λ memory. read access memory)))) 0)
             ∷ i32_value at.offset ∷ i32_value access.width ∷ [])
             store))
         go None m rule = absurd rule
         go (Some access) None rule = absurd rule
         go (Some access) (Some memory) rule =
-            load_told at access memory (pop (I32 ∷ []) frame.values) refl (read access memory) refl rule
+            load_reported at access memory (pop (I32 ∷ []) frame.values) refl (read access memory) refl rule
 
     -- the code before an instruction that reads the memory's size
-    pub before_size : Tells counts x frame.values (inserted_before s instrs.MemorySize)
-        (told_before instrs.MemorySize [] store)
+    pub before_size : Reports counts x frame.values (inserted_before s instrs.MemorySize)
+        (reported_before instrs.MemorySize [] store)
     before_size =
         record {
           after = leads.counted n program meter counts Size;
@@ -195,20 +195,20 @@ module _ (s : Site) (program : Program) (meter : Meter) (has : HasHooks (imports
     stored_operands memory operands rest None = refl
     stored_operands memory operands rest (Some bytes) = refl
 
-    store_told : (at : MemArg) (access : Access) (memory : Memory) → IsNumber access.ty → (o : Option Operands)
+    store_reported : (at : MemArg) (access : Access) (memory : Memory) → IsNumber access.ty → (o : Option Operands)
         → pop (I32 ∷ access.ty ∷ []) frame.values ≡ o
         → (e : Execution)
         → e ≡ on o (λ p. store_result store frame next memory p.operands p.rest
         (with_bytes_at memory.bytes (bits_at p.operands 0 + at.offset)
         (bytes_of access.width (bits_at p.operands 1))))
         → IsRule e
-        → Tells counts x frame.values (before_store s at access)
-        (told ToStore
+        → Reports counts x frame.values (before_store s at access)
+        (reported ToStore
         (i32_value (bits_at (operands_of e) 0) ∷ i32_value at.offset ∷ i32_value access.width
         ∷ i64_value (bits_at (operands_of e) 1) ∷ [])
         store)
-    store_told at access memory number None popped e is rule = absurd (subst IsRule is rule)
-    store_told at access memory number (Some p) popped e is rule =
+    store_reported at access memory number None popped e is rule = absurd (subst IsRule is rule)
+    store_reported at access memory number (Some p) popped e is rule =
         let t = two_taken I32 access.ty frame.values p popped in
         let operands : operands_of e ≡ i32_value t.a ∷ typed access.ty t.b ∷ [] =
         ap operands_of is
@@ -216,9 +216,9 @@ module _ (s : Site) (program : Program) (meter : Meter) (has : HasHooks (imports
         (with_bytes_at memory.bytes (bits_at p.operands 0 + at.offset) (bytes_of access.width (bits_at p.operands 1)))
         ∙ t.operands_are
         in
-        retold counts x frame.values (typed access.ty t.b ∷ i32_value t.a ∷ p.rest) (operands_of e)
+        reported_again counts x frame.values (typed access.ty t.b ∷ i32_value t.a ∷ p.rest) (operands_of e)
         (i32_value t.a ∷ typed access.ty t.b ∷ []) (before_store s at access)
-        (λ operands. told ToStore
+        (λ operands. reported ToStore
         (i32_value (bits_at operands 0) ∷ i32_value at.offset ∷ i32_value access.width
         ∷ i64_value (bits_at operands 1) ∷ [])
         store)
@@ -226,15 +226,15 @@ module _ (s : Site) (program : Program) (meter : Meter) (has : HasHooks (imports
         (record {
           after = leads.counted n program meter counts ToStore;
           scratch = with_address (with_value access.ty x t.b) t.a;
-          makes = pieces.tells_store s program meter has (renumbered_view n store) below outer own whole counts x p.rest
+          makes = pieces.reports_store s program meter has (renumbered_view n store) below outer own whole counts x p.rest
               at
               access t.a t.b number;
           counted = counted_alike counts ToStore;
         })
 
     pub before_stores : (at : MemArg) → IsRule (execute_plain code store frame next (instrs.Store at))
-        → Tells counts x frame.values (inserted_before s (instrs.Store at))
-        (told_before (instrs.Store at) (operands_of (execute_plain code store frame next (instrs.Store at))) store)
+        → Reports counts x frame.values (inserted_before s (instrs.Store at))
+        (reported_before (instrs.Store at) (operands_of (execute_plain code store frame next (instrs.Store at))) store)
     before_stores at rule = go (store_of at.op) refl store.memory rule
       where
         written : Access → Memory → Execution
@@ -246,9 +246,9 @@ module _ (s : Site) (program : Program) (meter : Meter) (has : HasHooks (imports
 
         go : (o : Option Access) → store_of at.op ≡ o → (m : Option Memory)
             → IsRule (on o (λ access. on m (λ memory. written access memory)))
-            → Tells counts x frame.values (hooks.on o (before_store s at))
+            → Reports counts x frame.values (hooks.on o (before_store s at))
             (hooks.on o (λ access.
-            told ToStore
+            reported ToStore
             (i32_value (bits_at (operands_of (on o (λ access. on m (λ memory. written access memory)))) 0)
             ∷ i32_value at.offset ∷ i32_value access.width
             ∷ i64_value (bits_at (operands_of (on o (λ access. on m (λ memory. written access memory)))) 1) ∷ [])
@@ -256,5 +256,5 @@ module _ (s : Site) (program : Program) (meter : Meter) (has : HasHooks (imports
         go None e m rule = absurd rule
         go (Some access) e None rule = absurd rule
         go (Some access) e (Some memory) rule =
-            store_told at access memory (store_number at.op access e) (pop (I32 ∷ access.ty ∷ []) frame.values) refl
+            store_reported at access memory (store_number at.op access e) (pop (I32 ∷ access.ty ∷ []) frame.values) refl
             (written access memory) refl rule

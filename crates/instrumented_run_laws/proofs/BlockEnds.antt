@@ -8,6 +8,7 @@ use Rattle.wasm_syntax.specs.Nest.{Nest, Empty, Plain, InBlock, InLoop, InIf, In
 use Rattle.history_spec.specs.Configuration.{Label, Point, point, leave}
 use Rattle.history_spec.specs.Run.{Meter}
 use Rattle.type_safety.specs.Configurations.{IsGoing}
+use Rattle.type_safety.proofs.SettleEnds.{leaves_none}
 use Rattle.record_replay_spec.specs.Insertions.{Site, inserted_before, inserted_at_end}
 use Rattle.record_replay_spec.specs.Instrumented.{before_nest, instrumented_nest}
 use Rattle.instrumented_run_laws.proofs.Relation.{hooked_labels, IsWeighed, AreWeighed}
@@ -24,21 +25,6 @@ on_instrumented s (InBlock ty body rest) h = tt
 on_instrumented s (InLoop ty body rest) h = tt
 on_instrumented s (InIf ty body rest) h = tt
 on_instrumented s (InIfElse ty body other rest) h = tt
-
--- before an instruction no block is left
-pub leaves_none : (labels : List Label) (values : List Val) (rest : Nest) (number : ℕ) → IsGoing rest
-    → leave labels values rest number ≡ point values labels rest number
-leaves_none labels values Empty number h = absurd h
-leaves_none [] values (Plain i rest) number h = refl
-leaves_none (label ∷ labels) values (Plain i rest) number h = refl
-leaves_none [] values (InBlock ty body rest) number h = refl
-leaves_none (label ∷ labels) values (InBlock ty body rest) number h = refl
-leaves_none [] values (InLoop ty body rest) number h = refl
-leaves_none (label ∷ labels) values (InLoop ty body rest) number h = refl
-leaves_none [] values (InIf ty body rest) number h = refl
-leaves_none (label ∷ labels) values (InIf ty body rest) number h = refl
-leaves_none [] values (InIfElse ty body other rest) number h = refl
-leaves_none (label ∷ labels) values (InIfElse ty body other rest) number h = refl
 
 module _ (meter : Meter) (s : Site) (ty : FuncType) (last : ℕ) where
   -- if the original goes on before an instruction, so does the instrumented body, at places that have their weights

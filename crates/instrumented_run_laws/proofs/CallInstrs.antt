@@ -14,11 +14,11 @@ use Rattle.history_spec.specs.Code.{Code, code_of, signature}
 use Rattle.history_spec.specs.Configuration.{Place, Frame}
 use Rattle.history_spec.specs.Instruction.{Goes, Calls, Returns, Execution, Did, Traps, NoRule, on, pop, bits_at, calls_if, calls_entry, execute_plain}
 use Rattle.record_replay_spec.specs.Insertions as insertions
-use Rattle.record_replay_spec.specs.Insertions.{Site, tells_number, inserted_after, after_call}
+use Rattle.record_replay_spec.specs.Insertions.{Site, reports_number, inserted_after, after_call}
 use Rattle.record_replay_spec.specs.declared.hooks.Hook.TheVariants.{Post, Ipost}
 use Rattle.record_replay_spec.specs.Hooks as hooks
 use Rattle.record_replay_spec.specs.Hooks.{HookCall}
-use Rattle.record_replay_spec.specs.ToldCalls.{WaitingCall, told_after, waiting_after}
+use Rattle.record_replay_spec.specs.ReportedCalls.{WaitingCall, reported_after, waiting_after}
 use Rattle.tape_laws.proofs.CoreFrames.{CallsAs}
 use Rattle.instrumented_run_laws.proofs.Relation.{over_piece}
 use Rattle.instrumented_run_laws.proofs.PieceFacts.{IsCallInstr}
@@ -86,7 +86,7 @@ pub record IsCallOf (m : Module) (s : Site) (i : Instr) (operands args : List Va
   pub waits : waiting_after i operands waiting ≡ call ∷ waiting
   pub args_are : call.args ≡ args
   pub piece : inserted_after s i ≡ after_call s (over_piece s call.callee) ty.results
-  pub quiet : (globals : List GlobalType) (results : List Val) (view : Store) → told_after globals i results view ≡ []
+  pub quiet : (globals : List GlobalType) (results : List Val) (view : Store) → reported_after globals i results view ≡ []
 
 pub call_of : (m : Module) (s : Site) → s.m ≡ m → (store : Store) (frame : Frame) (next : Place) (i : Instr)
     → IsCallInstr i → (operands results : List Val) (found : Option ℕ) (wait : Frame) (func : ℕ) (args : List Val)
@@ -99,7 +99,7 @@ call_of m s same store frame next (instrs.Call callee) is operands results found
       waits = refl;
       args_are = sym named.1;
       piece = ap
-          (λ o. hooks.on o (λ (t : FuncType). after_call s (tells_number s Post callee) t.results))
+          (λ o. hooks.on o (λ (t : FuncType). after_call s (reports_number s Post callee) t.results))
           (ap (λ x. signature (code_of x) callee) same ∙ ap (signature (code_of m)) named.0 ∙ has);
       quiet = λ globals results view. refl;
     }

@@ -24,7 +24,7 @@ use Rattle.type_safety.specs.Results.{HasRule, IsControl}
 use Rattle.record_replay_spec.specs.Hooks.{renumber, renumbered_view}
 use Rattle.record_replay_spec.specs.Insertions.{inserted_after}
 use Rattle.record_replay_spec.specs.Instrumented.{renumbered, weightless, weights_of_nest}
-use Rattle.record_replay_spec.specs.ToldCalls.{WaitingCall, told_before, told_after}
+use Rattle.record_replay_spec.specs.ReportedCalls.{WaitingCall, reported_before, reported_after}
 use Rattle.tape_laws.proofs.CoreFrames.{CallsAs}
 use Rattle.instrumented_run_laws.proofs.Before.{operands_of, IsRule}
 use Rattle.instrumented_run_laws.proofs.CallInstrs.{IsCallOf, call_of}
@@ -39,8 +39,8 @@ use Rattle.instrumented_run_laws.proofs.Ready.{IsReady}
 use Rattle.instrumented_run_laws.proofs.Relation.{Beside, frame_beside, awaited_piece}
 use Rattle.instrumented_run_laws.proofs.Scratch.{scratch_values}
 use Rattle.instrumented_run_laws.proofs.Settled as settled
-use Rattle.instrumented_run_laws.proofs.ToldBefore as told_first
-use Rattle.instrumented_run_laws.proofs.Untold.{called_untold}
+use Rattle.instrumented_run_laws.proofs.ReportedBefore as reported_first
+use Rattle.instrumented_run_laws.proofs.QuietSteps.{called_unreported}
 use Rattle.instrumented_run_laws.proofs.PieceFacts.{HasPieces, HasProgram, IsCallInstr, IsCalledAlike, IsNoReturn}
 use Rattle.instrumented_run_laws.proofs.Weights.{AreWeights}
 
@@ -70,7 +70,7 @@ module _ (m : Module) (heights : Heights) (valid : IsValid m) (typed : IsTypedCo
     module _ (known : IsReady m heights meter store counts frame below waiting b bs second body) (is : IsCallInstr i)
         (core : IsCoreInstr i) (rule : IsRule exec) (long : length counts ≡ n) where
       -- the hook calls of the code before the instruction are made
-      open (told_first.names m heights valid program other meter has pieces store counts f i rest number below waiting b bs second body known (call_no_return i is) core rule) use {t, at_instr, middle, next_there, hooked_exec, to_instr, weighs, trapped}
+      open (reported_first.names m heights valid program other meter has pieces store counts f i rest number below waiting b bs second body known (call_no_return i is) core rule) use {t, at_instr, middle, next_there, hooked_exec, to_instr, weighs, trapped}
 
       abbrev IsAlike : Execution → Type 0
       IsAlike x =
@@ -97,24 +97,24 @@ module _ (m : Module) (heights : Heights) (valid : IsValid m) (typed : IsTypedCo
         called_on e fine named =
             subst
             (λ w. settled.Follows m heights other meter has
-            ((told_before i operands store ++ told_after (all_globals m) i results store)
-            ++ settled.told_of m heights other meter has (Some i) store store w s.entries)
+            ((reported_before i operands store ++ reported_after (all_globals m) i results store)
+            ++ settled.reported_of m heights other meter has (Some i) store store w s.entries)
             (settled.waiting_of m heights other meter has (Some i) store store w s.entries) s.next start 1)
             (sym of.waits)
             (subst
-            (λ told. settled.Follows m heights other meter has
-            (told ++ settled.told_of m heights other meter has (Some i) store store waiting_now s.entries)
+            (λ reported. settled.Follows m heights other meter has
+            (reported ++ settled.reported_of m heights other meter has (Some i) store store waiting_now s.entries)
             (settled.waiting_of m heights other meter has (Some i) store store waiting_now s.entries) s.next start 1)
-            (ap (λ x. told_before i (operands_of x) store) e
-            ∙ sym (append-nil (told_before i operands store))
-            ∙ ap (λ told. told_before i operands store ++ told) (sym (of.quiet (all_globals m) results store)))
-            (follows.after_way m other meter (told_before i (operands_of exec) store)
-            (settled.told_of m heights other meter has (Some i) store store waiting_now s.entries)
+            (ap (λ x. reported_before i (operands_of x) store) e
+            ∙ sym (append-nil (reported_before i operands store))
+            ∙ ap (λ reported. reported_before i operands store ++ reported) (sym (of.quiet (all_globals m) results store)))
+            (follows.after_way m other meter (reported_before i (operands_of exec) store)
+            (settled.reported_of m heights other meter has (Some i) store store waiting_now s.entries)
             (settled.waiting_of m heights other meter has (Some i) store store waiting_now s.entries) s.next start
             middle 0 1
             to_instr
             (follows.after_way m other meter []
-            (settled.told_of m heights other meter has (Some i) store store waiting_now s.entries)
+            (settled.reported_of m heights other meter has (Some i) store store waiting_now s.entries)
             (settled.waiting_of m heights other meter has (Some i) store store waiting_now s.entries) s.next middle
             (hooked_result (awaited_piece m meter wait of.call callee.results)).next 1 0
             (subst
@@ -123,7 +123,7 @@ module _ (m : Module) (heights : Heights) (valid : IsValid m) (typed : IsTypedCo
             (executed.calls_there m other meter has (renumbered_view n store) t.after hooked_below at_instr weighs
             (frame_beside m meter wait (inserted_after site i) beside_next) (renumber n func) args operands results
             second_call.0 second_call.1
-            (called_untold n (renumbered_view n store) other func (renumbered_view n store) t.after args
+            (called_unreported n (renumbered_view n store) other func (renumbered_view n store) t.after args
             (InModule (frame_beside m meter wait (inserted_after site i) beside_next) ∷ hooked_below) (knows.own
             func))))
             (calls.called m heights valid typed answers fits other meter has pieces knows (Some i) store store counts

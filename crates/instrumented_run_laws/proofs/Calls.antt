@@ -29,7 +29,7 @@ use Rattle.type_safety.proofs.Responses.{response_fits}
 use Rattle.type_safety.proofs.SettleEnds.{IsEnd, results_end}
 use Rattle.record_replay_spec.specs.Hooks.{renumber, hook_count, renumbered_view}
 use Rattle.record_replay_spec.specs.HookedRuns.{renumbered_action, renumbered_response}
-use Rattle.record_replay_spec.specs.ToldCalls.{WaitingCall, told_enter, latest_args}
+use Rattle.record_replay_spec.specs.ReportedCalls.{WaitingCall, reported_enter, latest_args}
 use Rattle.tape_laws.proofs.Ordered.{types_are}
 use Rattle.tape_laws.proofs.ModuleFacts.{entered_frame}
 use Rattle.instrumented_run_laws.proofs.DefinedFunctions.{type_is}
@@ -108,8 +108,8 @@ module _ (m : Module) (heights : Heights) (valid : IsValid m) (typed : IsTypedCo
         (waiting : List WaitingCall) (bs : List Beside) (second : List ℕ) → StepResult → Type 0
     FollowsEntry func ty args stack waiting bs second r =
         settled.Follows m heights other meter has
-        (told_enter func args store
-        ++ settled.told_of m heights other meter has instr earlier store waiting r.entries)
+        (reported_enter func args store
+        ++ settled.reported_of m heights other meter has instr earlier store waiting r.entries)
         (settled.waiting_of m heights other meter has instr earlier store waiting r.entries) r.next
         (enter_function other.code (renumbered_view n store) second (renumber n func) args
         (waiting_stack m meter ty.results stack waiting bs)).next
@@ -124,15 +124,15 @@ module _ (m : Module) (heights : Heights) (valid : IsValid m) (typed : IsTypedCo
         → FollowsEntry func ty args stack waiting bs second (enter_function (code_of m) store counts func args stack)
     entered func ty args stack waiting bs second has_type own p a w counted =
         subst (FollowsEntry func ty args stack waiting bs second) entering
-        (follows.after_way m other meter (told_enter func args store)
-        (settled.told_of m heights other meter has instr earlier store waiting s.entries)
+        (follows.after_way m other meter (reported_enter func args store)
+        (settled.reported_of m heights other meter has instr earlier store waiting s.entries)
         (settled.waiting_of m heights other meter has instr earlier store waiting s.entries) s.next
         (enter_function other.code (renumbered_view n store) second (renumber n func) args hooked_stack).next
         (leads.settled n other meter (renumbered_view n store) e.after hooked_stack (frame_beside m meter frame [] e.b))
         0 0 e.led
         (subst
         (λ types. settled.Follows m heights other meter has
-        (settled.told_of m heights other meter has instr earlier store waiting s.entries)
+        (settled.reported_of m heights other meter has instr earlier store waiting s.entries)
         (settled.waiting_of m heights other meter has instr earlier store waiting s.entries) s.next
         (leads.settled n other meter (renumbered_view n store) e.after (waiting_stack m meter types stack waiting bs)
         (frame_beside m meter frame [] e.b)) 0)
@@ -186,7 +186,7 @@ module _ (m : Module) (heights : Heights) (valid : IsValid m) (typed : IsTypedCo
     abbrev FollowsCall : List WaitingCall → (s r : StepResult) → Type 0
     FollowsCall waiting s r =
         settled.Follows m heights other meter has
-        (settled.told_of m heights other meter has instr earlier store waiting s.entries)
+        (settled.reported_of m heights other meter has instr earlier store waiting s.entries)
         (settled.waiting_of m heights other meter has instr earlier store waiting s.entries) s.next r.next 0
 
     module _ (func : ℕ) (ty : FuncType) (args : List Val) (frame : Frame) (below : List Activation)
@@ -240,7 +240,7 @@ module _ (m : Module) (heights : Heights) (valid : IsValid m) (typed : IsTypedCo
                 let top = InImport func args response.actions response.«end» in
                 subst
                 (λ types. settled.Follows m heights other meter has
-                (settled.told_of m heights other meter has instr earlier store waiting (deliver (top ∷ stack)
+                (settled.reported_of m heights other meter has instr earlier store waiting (deliver (top ∷ stack)
                 []).entries)
                 (settled.waiting_of m heights other meter has instr earlier store waiting (deliver (top ∷ stack)
                 []).entries)
@@ -281,8 +281,8 @@ module _ (m : Module) (heights : Heights) (valid : IsValid m) (typed : IsTypedCo
                 let s = enter_function (code_of m) store counts func args stack in
                 subst
                 (λ given. settled.Follows m heights other meter has
-                (told_enter func given store
-                ++ settled.told_of m heights other meter has instr earlier store waiting s.entries)
+                (reported_enter func given store
+                ++ settled.reported_of m heights other meter has instr earlier store waiting s.entries)
                 (settled.waiting_of m heights other meter has instr earlier store waiting s.entries) s.next
                 (enter_function other.code (renumbered_view n store) second (renumber n func) args hooked_stack).next 0)
                 (sym latest)

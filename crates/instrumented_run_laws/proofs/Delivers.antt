@@ -23,7 +23,7 @@ use Rattle.type_safety.specs.Values.{AreValues}
 use Rattle.type_safety.proofs.Constants.{fit_values}
 use Rattle.type_safety.proofs.SettleEnds.{IsEnd, results_end}
 use Rattle.record_replay_spec.specs.Hooks.{renumbered_view}
-use Rattle.record_replay_spec.specs.ToldCalls.{WaitingCall, told_values, told_over}
+use Rattle.record_replay_spec.specs.ReportedCalls.{WaitingCall, reported_values, reported_over}
 use Rattle.tape_laws.proofs.Ordered.{types_are}
 use Rattle.instrumented_run_laws.proofs.DefinedFunctions.{type_is}
 use Rattle.instrumented_run_laws.proofs.Follows as follows
@@ -77,8 +77,8 @@ module _ (m : Module) (heights : Heights) (valid : IsValid m) (other : Program) 
         results
         (call ∷ waiting) (b ∷ bs) second
     to_frame frame below rest awaited results call waiting b bs second a p good w counted =
-        follows.after_way m other meter (told_values store results ++ told_over call.callee store)
-        (settled.told_of m heights other meter has instr earlier store waiting (deliver (InModule frame ∷ below)
+        follows.after_way m other meter (reported_values store results ++ reported_over call.callee store)
+        (settled.reported_of m heights other meter has instr earlier store waiting (deliver (InModule frame ∷ below)
         results).entries)
         (settled.waiting_of m heights other meter has instr earlier store waiting (deliver (InModule frame ∷ below)
         results).entries)
@@ -121,14 +121,14 @@ module _ (m : Module) (heights : Heights) (valid : IsValid m) (other : Program) 
               last = w.0.last;
             }
 
-        t : settled.PieceTold m heights other meter has store second (waiting_stack m meter ty.results below waiting bs)
-            pushed (awaited_piece m meter frame call awaited) b (told_values store results ++ told_over call.callee
+        t : settled.PieceReported m heights other meter has store second (waiting_stack m meter ty.results below waiting bs)
+            pushed (awaited_piece m meter frame call awaited) b (reported_values store results ++ reported_over call.callee
             store)
-        t = settled.piece_told m heights other meter has store second (waiting_stack m meter ty.results below waiting
+        t = settled.piece_reported m heights other meter has store second (waiting_stack m meter ty.results below waiting
             bs)
             pushed (awaited_piece m meter frame call awaited) b
-            (told_values store results ++ told_over call.callee store) beside
-            (pieces.over_told (site_at m frame.func) has store (waiting_stack m meter ty.results below waiting bs)
+            (reported_values store results ++ reported_over call.callee store) beside
+            (pieces.over_reported (site_at m frame.func) has store (waiting_stack m meter ty.results below waiting bs)
             (frame_beside m meter pushed (awaited_piece m meter frame call awaited) b) frame.locals w.0.locals second
             b.scratch call.callee (record { params = []; results = awaited }) results frame.values (func_count m) good
             p)

@@ -17,11 +17,12 @@ use Rattle.record_replay_spec.specs.Hooks.{HookCall, renumber, renumbered_view, 
 use Rattle.record_replay_spec.specs.HookedRuns.{calls_among}
 use Rattle.record_replay_spec.specs.Insertions.{Site, inserted_before, inserted_after}
 use Rattle.record_replay_spec.specs.Instrumented.{renumbered, before_nest, instrumented_nest, weightless, weights_of_nest}
+use Rattle.record_replay_spec.proofs.Bodies.{length_weightless}
 use Rattle.instrumented_run_laws.proofs.Before as before
 use Rattle.instrumented_run_laws.proofs.Leads as leads
-use Rattle.instrumented_run_laws.proofs.Leads.{returns_tell_none, settles_untold}
+use Rattle.instrumented_run_laws.proofs.Leads.{returns_report_none, settles_unreported}
 use Rattle.instrumented_run_laws.proofs.BlockEnds.{on_instrumented}
-use Rattle.instrumented_run_laws.proofs.Pieces.{HasHooks, weightless_length}
+use Rattle.instrumented_run_laws.proofs.Pieces.{HasHooks}
 use Rattle.instrumented_run_laws.proofs.Relation.{Beside, site_at, frame_beside, IsBeside}
 use Rattle.instrumented_run_laws.proofs.Scratch.{Scratch, scratch_values}
 use Rattle.instrumented_run_laws.proofs.Weights.{AreWeights, first_weights, later_weights}
@@ -44,18 +45,18 @@ module _ (m : Module) (other : Program) (meter : Meter) (has : HasHooks (importe
     stepped : (e : Execution) → execute other.code store frame ≡ e
         → calls_among n store (after_instruction other config frame below e).entries ≡ []
         → Comes (after_instruction other config frame below e).next
-    stepped e does untold =
+    stepped e does unreported =
         subst
         (λ w. leads.Leads n other meter (Running config) (after_instruction other config frame below e).next w [])
         weighs
         (leads.one n other meter config (after_instruction other config frame below e) []
-        (ap (after_instruction other config frame below) does) untold)
+        (ap (after_instruction other config frame below) does) unreported)
 
     pub goes_there : (after : Store) (next : Frame) (operands results : List Val) (found : Option ℕ)
         → execute other.code store frame ≡ Did operands results found (Goes after next)
         → Comes (leads.settled n other meter after counts below next)
     goes_there after next operands results found does =
-        stepped (Did operands results found (Goes after next)) does (settles_untold n store (InModule next ∷ below) [])
+        stepped (Did operands results found (Goes after next)) does (settles_unreported n store (InModule next ∷ below) [])
 
     pub traps_there : (kind : TrapKind) (operands : List Val) (found : Option ℕ)
         → execute other.code store frame ≡ Traps kind operands found → Comes (Finished Trapped)
@@ -66,8 +67,8 @@ module _ (m : Module) (other : Program) (meter : Meter) (has : HasHooks (importe
         → Comes (after_settling store counts (deliver below given)).next
     returns_there given operands results found does =
         stepped (Did operands results found (Returns given)) does
-        (returns_tell_none n frame.func store given below (deliver below given).entries
-        ∙ settles_untold n store below given)
+        (returns_report_none n frame.func store given below (deliver below given).entries
+        ∙ settles_unreported n store below given)
 
     pub calls_there : (waiting : Frame) (func : ℕ) (args operands results : List Val) (found : Option ℕ)
         → execute other.code store frame ≡ Did operands results found (Calls waiting func args)
@@ -77,8 +78,8 @@ module _ (m : Module) (other : Program) (meter : Meter) (has : HasHooks (importe
         ≡ []
         → Comes (call_function other (nat_lt func other.code.imported) store counts func args (InModule waiting ∷
         below)).next
-    calls_there waiting func args operands results found does untold =
-        stepped (Did operands results found (Calls waiting func args)) does untold
+    calls_there waiting func args operands results found does unreported =
+        stepped (Did operands results found (Calls waiting func args)) does unreported
 
   -- ---- the code inserted before an instruction
 
@@ -120,7 +121,7 @@ module _ (m : Module) (other : Program) (meter : Meter) (has : HasHooks (importe
           subst
           (λ k. AreWeights meter (renumber n f.func) (b.number + k)
           (1 ∷ (weightless (inserted_after site i) ++ weights_of_nest site rest)))
-          (weightless_length (inserted_before site i))
+          (length_weightless (inserted_before site i))
           (later_weights meter (renumber n f.func) b.number (weightless (inserted_before site i)) _ beside.weights)
 
       pub weight_there : meter.instruction (renumber n f.func) instr_number ≡ 1
@@ -131,13 +132,13 @@ module _ (m : Module) (other : Program) (meter : Meter) (has : HasHooks (importe
       weights_after = weights_there.1
 
       -- the hook calls of the code before the instruction are made
-      pub told_there : (calls : List HookCall)
-          → (t : before.Tells site other meter has store below hooked f.locals beside.locals counts b.scratch f.values
+      pub reported_there : (calls : List HookCall)
+          → (t : before.Reports site other meter has store below hooked f.locals beside.locals counts b.scratch f.values
           (inserted_before site i) calls)
           → leads.Leads n other meter (leads.running n other meter (renumbered_view n store) counts below hooked)
           (leads.running n other meter (renumbered_view n store) t.after below (at_instr (renumbered n i) t.scratch)) 0
           (map (renumbered_call n) calls)
-      told_there calls t =
+      reported_there calls t =
           subst
           (λ at. leads.Leads n other meter at
           (leads.running n other meter (renumbered_view n store) t.after below (at_instr (renumbered n i) t.scratch)) 0

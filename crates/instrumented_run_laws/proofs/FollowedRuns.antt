@@ -9,10 +9,10 @@ use Rattle.history_spec.specs.Step.{Program, Progress, Running, Finished, Faulte
 use Rattle.record_replay_spec.specs.Hooks.{HookCall, renumbered_call}
 use Rattle.record_replay_spec.specs.Instrumented.{instrumented_meter}
 use Rattle.record_replay_spec.specs.Order.{order_start, first_disorder}
-use Rattle.record_replay_spec.specs.ToldCalls.{WaitingCall, told_by_run}
+use Rattle.record_replay_spec.specs.ReportedCalls.{WaitingCall, reported_by_run}
 use Rattle.tape_laws.specs.CallLaws.{OriginalRun, hooked_shape, calls_of_run, HookCallsAreInOrder}
 use Rattle.instrumented_module_laws.specs.Links.{script_with_hooks}
-use Rattle.instrumented_run_laws.specs.Laws.{original_program, original_start, original_run, instrumented_of, instrumented_program, instrumented_start, instrumented_run, instrumented_calls, AreAlike, IsTold, IsFollowed}
+use Rattle.instrumented_run_laws.specs.Laws.{original_program, original_start, original_run, instrumented_of, instrumented_program, instrumented_start, instrumented_run, instrumented_calls, AreAlike, IsReported, IsFollowed}
 use Rattle.instrumented_run_laws.proofs.Follows.{Follows}
 use Rattle.instrumented_run_laws.proofs.FunctionWeights.{weight_at_most_one}
 use Rattle.instrumented_run_laws.proofs.Relation.{ComesBeside}
@@ -25,7 +25,7 @@ over_at at to same over = subst IsOver (sym same) over
 module _ (run : OriginalRun) (waiting : ℕ → List WaitingCall)
     (reached : (count : ℕ)
     → Follows run.m (instrumented_program run) (instrumented_meter run.m)
-    (told_by_run run.m (original_program run) run.store (original_start run) count) (waiting count)
+    (reported_by_run run.m (original_program run) run.store (original_start run) count) (waiting count)
     (original_run run count).at (instrumented_start run).next (original_run run count).turns)
     (begins : run_start (instrumented_of run) (script_with_hooks run.m run.script) ≡ Ok (instrumented_start run))
     (one_result : RunsHaveOneResultAtMost) (some_result : RunsHaveSomeResult) (in_order : HookCallsAreInOrder) where
@@ -54,7 +54,7 @@ module _ (run : OriginalRun) (waiting : ℕ → List WaitingCall)
   reaches count =
       let f = reached count in
       let e = arrives n other meter start f.to (original_run run count).turns
-      (map (renumbered_call n) (told_by_run run.m (original_program run) run.store (original_start run) count)) f.led in
+      (map (renumbered_call n) (reported_by_run run.m (original_program run) run.store (original_start run) count)) f.led in
       record { there = e.count; at = f.to; is = e.at; beside = f.beside; turns = e.turns; calls = e.calls }
 
   -- if the original's run is over, so is the instrumented one
@@ -133,8 +133,8 @@ module _ (run : OriginalRun) (waiting : ℕ → List WaitingCall)
 
   -- ---- calls
 
-  is_told : (count : ℕ) → IsTold run count
-  is_told count =
+  is_reported : (count : ℕ) → IsReported run count
+  is_reported count =
       let r = reaches count in
       record {
         steps = r.there;
@@ -142,9 +142,9 @@ module _ (run : OriginalRun) (waiting : ℕ → List WaitingCall)
         outcome = λ outcome is. r.is ∙ ends_alike count (Finished outcome) is tt r;
       }
 
-  told_all : (count steps : ℕ) (outcome found : Outcome) → (original_run run count).at ≡ Finished outcome
+  reported_all : (count steps : ℕ) (outcome found : Outcome) → (original_run run count).at ≡ Finished outcome
       → (instrumented_run run steps).at ≡ Finished found → instrumented_calls run steps ≡ calls_of_run run count
-  told_all count number outcome found is there =
+  reported_all count number outcome found is there =
       let r = reaches count in
       let at = r.is ∙ ends_alike count (Finished outcome) is tt r in
       over_same n other meter number r.there start
@@ -196,7 +196,7 @@ module _ (run : OriginalRun) (waiting : ℕ → List WaitingCall)
         begins = begins;
         results = comes_out;
         instrumented_results = comes_of;
-        told = is_told;
-        told_all = told_all;
+        reported = is_reported;
+        reported_all = reported_all;
         ordered = ordered;
       }

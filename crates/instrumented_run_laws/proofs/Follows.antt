@@ -13,7 +13,7 @@ use Rattle.history_spec.specs.Settle.{return_entry}
 use Rattle.history_spec.specs.Step.{Program, Progress}
 use Rattle.record_replay_spec.specs.declared.hooks.Hook.TheVariants.{Leave}
 use Rattle.record_replay_spec.specs.Hooks.{HookCall, renumbered_call}
-use Rattle.record_replay_spec.specs.ToldCalls.{WaitingCall, Moment, told_number, told_return, told_calls, waiting_at, without_latest}
+use Rattle.record_replay_spec.specs.ReportedCalls.{WaitingCall, Moment, reported_number, reported_return, reported_calls, waiting_at, without_latest}
 use Rattle.tape_laws.proofs.RunCalls.{moments_at}
 use Rattle.instrumented_run_laws.proofs.Leads as leads
 use Rattle.instrumented_run_laws.proofs.Relation.{ComesBeside}
@@ -26,9 +26,9 @@ waiting_after_all waiting [] = waiting
 waiting_after_all waiting (m ∷ later) = waiting_after_all (waiting_at waiting m m.entry) later
 
 -- the hook calls of the activation to which results are delivered: the call for which it waited has ended
-abbrev pub told_results : List Activation → List WaitingCall → List Val → Store → List HookCall
-told_results (InModule frame ∷ below) waiting results view = told_return waiting results view
-told_results stack waiting results view = []
+abbrev pub reported_results : List Activation → List WaitingCall → List Val → Store → List HookCall
+reported_results (InModule frame ∷ below) waiting results view = reported_return waiting results view
+reported_results stack waiting results view = []
 
 -- the waiting calls after results are delivered
 abbrev pub waiting_below : List Activation → List WaitingCall → List WaitingCall
@@ -39,24 +39,24 @@ module _ (m : Module) (other : Program) (meter : Meter) where
   abbrev n : ℕ
   n = imported_funcs m
 
-  abbrev pub told_of : Option Instr → (before after : Store) → List WaitingCall → List Entry → List HookCall
-  told_of instr before after waiting entries =
-      told_calls (all_globals m) waiting (moments_at instr before after entries)
+  abbrev pub reported_of : Option Instr → (before after : Store) → List WaitingCall → List Entry → List HookCall
+  reported_of instr before after waiting entries =
+      reported_calls (all_globals m) waiting (moments_at instr before after entries)
 
   abbrev pub waiting_of : Option Instr → (before after : Store) → List WaitingCall → List Entry → List WaitingCall
   waiting_of instr before after waiting entries = waiting_after_all waiting (moments_at instr before after entries)
 
   -- a return is reported by the function that ends, and by the activation to which it returns
-  pub told_return_entry : (instr : Option Instr) (before after : Store) (waiting : List WaitingCall) (func : ℕ)
+  pub reported_return_entry : (instr : Option Instr) (before after : Store) (waiting : List WaitingCall) (func : ℕ)
       (results : List Val) (below : List Activation) (entries : List Entry)
-      → told_of instr before after waiting (return_entry func results below ∷ entries)
-      ≡ told_number Leave func after
-      ++ (told_results below waiting results after
-      ++ told_of instr before after (waiting_below below waiting) entries)
-  told_return_entry instr before after waiting func results [] entries = refl
-  told_return_entry instr before after waiting func results (InModule frame ∷ below) entries = refl
-  told_return_entry instr before after waiting func results (InMain actions ∷ below) entries = refl
-  told_return_entry instr before after waiting func results (InImport import args actions end ∷ below) entries = refl
+      → reported_of instr before after waiting (return_entry func results below ∷ entries)
+      ≡ reported_number Leave func after
+      ++ (reported_results below waiting results after
+      ++ reported_of instr before after (waiting_below below waiting) entries)
+  reported_return_entry instr before after waiting func results [] entries = refl
+  reported_return_entry instr before after waiting func results (InModule frame ∷ below) entries = refl
+  reported_return_entry instr before after waiting func results (InMain actions ∷ below) entries = refl
+  reported_return_entry instr before after waiting func results (InImport import args actions end ∷ below) entries = refl
 
   pub waiting_return_entry : (instr : Option Instr) (before after : Store) (waiting : List WaitingCall) (func : ℕ)
       (results : List Val) (below : List Activation) (entries : List Entry)

@@ -26,10 +26,10 @@ use Rattle.type_safety.specs.Values.{AreValues}
 use Rattle.type_safety.proofs.Values.{length_values, types_values}
 use Rattle.record_replay_spec.specs.declared.hooks.Hook.TheVariants.{Arg, Enter}
 use Rattle.record_replay_spec.specs.Hooks.{HookCall, renumber, renumbered_view, renumbered_call}
-use Rattle.record_replay_spec.specs.Insertions.{Site, tells_params, inserted_at_enter, inserted_at_end}
+use Rattle.record_replay_spec.specs.Insertions.{Site, reports_params, inserted_at_enter, inserted_at_end}
 use Rattle.record_replay_spec.specs.Instrumented.{before_nest, instrumented_nest, weightless, weights_of_nest, weights_of_body, instrumented_meter}
 use Rattle.record_replay_spec.specs.HookLaws.{BodiesAreInstrumented}
-use Rattle.record_replay_spec.specs.ToldCalls.{i64_value, told, told_values, told_number, told_enter}
+use Rattle.record_replay_spec.specs.ReportedCalls.{i64_value, reported, reported_values, reported_number, reported_enter}
 use Rattle.instrumented_run_laws.proofs.Before as before
 use Rattle.instrumented_run_laws.proofs.Before.{number_type}
 use Rattle.instrumented_run_laws.proofs.ControlMoves.{nest_weighed}
@@ -54,21 +54,21 @@ one_arity [] one = refl
 one_arity (ty ∷ []) one = refl
 one_arity (ty ∷ other ∷ results) one = absurd (omega (arith, one))
 
-values_told : (n : ℕ) (store : Store) (values : List Val)
-    → map (renumbered_call n) (told_values store values) ≡ told_values (renumbered_view n store) values
-values_told n store [] = refl
-values_told n store (v ∷ values) =
+values_reported : (n : ℕ) (store : Store) (values : List Val)
+    → map (renumbered_call n) (reported_values store values) ≡ reported_values (renumbered_view n store) values
+values_reported n store [] = refl
+values_reported n store (v ∷ values) =
     ap
-    (λ calls. told Arg (i32_value (type_byte v.ty) ∷ i64_value v.bits ∷ []) (renumbered_view n store) ++ calls)
-    (values_told n store values)
+    (λ calls. reported Arg (i32_value (type_byte v.ty) ∷ i64_value v.bits ∷ []) (renumbered_view n store) ++ calls)
+    (values_reported n store values)
 
 -- the hook calls of an entry, in the instrumented module's store
-entry_told : (n : ℕ) (store : Store) (func : ℕ) (args : List Val)
-    → told_values (renumbered_view n store) args ++ told_number Enter func (renumbered_view n store)
-    ≡ map (renumbered_call n) (told_enter func args store)
-entry_told n store func args =
-    ap (λ calls. calls ++ told_number Enter func (renumbered_view n store)) (sym (values_told n store args))
-    ∙ sym (map-append (renumbered_call n) (told_values store args) (told_number Enter func store))
+entry_reported : (n : ℕ) (store : Store) (func : ℕ) (args : List Val)
+    → reported_values (renumbered_view n store) args ++ reported_number Enter func (renumbered_view n store)
+    ≡ map (renumbered_call n) (reported_enter func args store)
+entry_reported n store func args =
+    ap (λ calls. calls ++ reported_number Enter func (renumbered_view n store)) (sym (values_reported n store args))
+    ∙ sym (map-append (renumbered_call n) (reported_values store args) (reported_number Enter func store))
 
 module _ (m : Module) (digest : List ℕ) (script : Script) (facts : HookedFacts m digest script)
     (bodies : BodiesAreInstrumented) (store : Store) (counts : List ℕ) (func : ℕ) (d : Definition) (args : List Val)
@@ -136,20 +136,20 @@ module _ (m : Module) (digest : List ℕ) (script : Script) (facts : HookedFacts
   abbrev after : List ℕ
   after = leads.counted n program meter after_args Enter
 
-  args_told : Makes counts (tells_params s 0 ty.params) (told_values (renumbered_view n store) args) after_args
-  args_told =
-      subst (λ types. Makes counts (tells_params s 0 types) (told_values (renumbered_view n store) args) after_args)
+  args_reported : Makes counts (reports_params s 0 ty.params) (reported_values (renumbered_view n store) args) after_args
+  args_reported =
+      subst (λ types. Makes counts (reports_params s 0 types) (reported_values (renumbered_view n store) args) after_args)
       (types_values (func_count m) ty.params args are)
-      (pieces.tells_args s program meter (facts.has meter) (renumbered_view n store) others first own whole counts zeros
+      (pieces.reports_args s program meter (facts.has meter) (renumbered_view n store) others first own whole counts zeros
       [] args 0 (numbers ty.params args type_fine.params are)
       (λ j v there. let e : 0 + j ≡ j = omega arith in
       ap (slice_get own) e ∙ get_more args (map zero_of d.locals) j v there))
 
-  enter_told : Makes counts (inserted_at_enter s ty.params) (map (renumbered_call n) (told_enter func args store)) after
-  enter_told =
-      subst (λ calls. Makes counts (inserted_at_enter s ty.params) calls after) (entry_told n store func args)
-      (pieces.both s program meter (facts.has meter) (renumbered_view n store) others first own whole args_told
-      (pieces.tells_one s program meter (facts.has meter) (renumbered_view n store) others first own whole Enter refl
+  enter_reported : Makes counts (inserted_at_enter s ty.params) (map (renumbered_call n) (reported_enter func args store)) after
+  enter_reported =
+      subst (λ calls. Makes counts (inserted_at_enter s ty.params) calls after) (entry_reported n store func args)
+      (pieces.both s program meter (facts.has meter) (renumbered_view n store) others first own whole args_reported
+      (pieces.reports_one s program meter (facts.has meter) (renumbered_view n store) others first own whole Enter refl
       after_args zeros [] func))
 
   args_counted : (counts : List ℕ) (values : List Val)
@@ -225,14 +225,14 @@ module _ (m : Module) (digest : List ℕ) (script : Script) (facts : HookedFacts
 
   -- the steps to the inserted block, with the hook calls before it
   to_block : Leads (settled counts first) (settled after (standing after block block_at))
-      (map (renumbered_call n) (told_enter func args store))
+      (map (renumbered_call n) (reported_enter func args store))
   to_block =
       subst
       (λ locals. Leads (settled counts (record first { locals = locals })) (settled after (standing after block
       block_at))
-      (map (renumbered_call n) (told_enter func args store)))
+      (map (renumbered_call n) (reported_enter func args store)))
       (sym locals_are)
-      (enter_told.leads block 0
+      (enter_reported.leads block 0
       (first_weights meter (renumber n func) 0 (weightless piece)
       (0 ∷ (weights_of_nest s d.body ++ weightless (inserted_at_end s))) all_weights))
 
@@ -266,15 +266,15 @@ module _ (m : Module) (digest : List ℕ) (script : Script) (facts : HookedFacts
         counted = counted;
         led = subst
             (λ p. Leads p (settled after (frame_beside m meter (frame_of func ty d args) [] b))
-            (map (renumbered_call n) (told_enter func args store)))
+            (map (renumbered_call n) (reported_enter func args store)))
             (sym entered)
             (subst
             (λ calls. Leads (settled counts first) (settled after (frame_beside m meter (frame_of func ty d args) [] b))
             calls)
-            (append-nil (map (renumbered_call n) (told_enter func args store)))
+            (append-nil (map (renumbered_call n) (reported_enter func args store)))
             (leads.then n program meter (settled counts first) (settled after (standing after block block_at))
             (settled after (frame_beside m meter (frame_of func ty d args) [] b)) 0 0
-            (map (renumbered_call n) (told_enter func args store)) [] to_block into_block));
+            (map (renumbered_call n) (reported_enter func args store)) [] to_block into_block));
       }
 
 -- control enters a defined function

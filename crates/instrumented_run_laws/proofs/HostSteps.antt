@@ -23,17 +23,17 @@ use Rattle.type_safety.specs.Laws.{FittingActionsHaveResults}
 use Rattle.type_safety.specs.Results.{IsActionResult}
 use Rattle.record_replay_spec.specs.Hooks.{renumber, renumbered_view}
 use Rattle.record_replay_spec.specs.HookedRuns.{renumbered_action}
-use Rattle.record_replay_spec.specs.ToldCalls.{WaitingCall, told_enter, store_performed, moments_of_step, told_calls}
+use Rattle.record_replay_spec.specs.ReportedCalls.{WaitingCall, reported_enter, store_performed, moments_of_step, reported_calls}
 use Rattle.instrumented_run_laws.proofs.Calls as calls
 use Rattle.instrumented_run_laws.proofs.Delivers as delivers
 use Rattle.instrumented_run_laws.proofs.Delivers.{none_good}
 use Rattle.instrumented_run_laws.proofs.Follows as follows
-use Rattle.instrumented_run_laws.proofs.Follows.{told_results, waiting_below}
+use Rattle.instrumented_run_laws.proofs.Follows.{reported_results, waiting_below}
 use Rattle.instrumented_run_laws.proofs.Leads as leads
 use Rattle.instrumented_run_laws.proofs.Pieces.{HasHooks}
 use Rattle.instrumented_run_laws.proofs.Relation.{Beside, waiting_stack, AreWaiting, AreCounted}
 use Rattle.instrumented_run_laws.proofs.Settled as settled
-use Rattle.instrumented_run_laws.proofs.Untold.{acted_untold}
+use Rattle.instrumented_run_laws.proofs.QuietSteps.{acted_unreported}
 use Rattle.instrumented_run_laws.proofs.PieceFacts.{HasPieces, HasProgram, IsActedAlike}
 
 module _ (m : Module) (heights : Heights) (valid : IsValid m) (typed : IsTypedCode m heights)
@@ -62,7 +62,7 @@ module _ (m : Module) (heights : Heights) (valid : IsValid m) (typed : IsTypedCo
     abbrev FollowsAction : ActionResult → ActionResult → List Activation → Type 0
     FollowsAction r acted hooked_stack =
         settled.Follows m heights other meter has
-        (settled.told_of m heights other meter has None store (store_performed store r) waiting
+        (settled.reported_of m heights other meter has None store (store_performed store r) waiting
         (after_action program config below r).entries)
         (settled.waiting_of m heights other meter has None store (store_performed store r) waiting
         (after_action program config below r).entries)
@@ -70,45 +70,45 @@ module _ (m : Module) (heights : Heights) (valid : IsValid m) (typed : IsTypedCo
         (after_action other (hooked_config hooked_stack) hooked acted).next 0
 
     acts : (r acted : ActionResult) (hooked_stack : List Activation) → IsActionResult m r → IsActedAlike n r acted
-        → ((left : Store) → told_results below waiting [] left ≡ [])
+        → ((left : Store) → reported_results below waiting [] left ≡ [])
         → waiting_below below waiting ≡ waiting → FollowsAction r acted hooked_stack
-    acts (Changes left) acted hooked_stack fine same untold unwaited =
+    acts (Changes left) acted hooked_stack fine same unreported unwaited =
         subst (λ a. FollowsAction (Changes left) a hooked_stack) (sym same)
         (subst
         (λ h. settled.Follows m heights other meter has
-        (settled.told_of m heights other meter has None store left waiting (deliver below []).entries)
+        (settled.reported_of m heights other meter has None store left waiting (deliver below []).entries)
         (settled.waiting_of m heights other meter has None store left waiting (deliver below []).entries)
         (after_settling left counts (deliver below [])).next
         (after_settling (renumbered_view n left) second (deliver h [])).next 0)
         (alike [])
         (subst
         (λ w. settled.Follows m heights other meter has
-        (settled.told_of m heights other meter has None store left w (deliver below []).entries)
+        (settled.reported_of m heights other meter has None store left w (deliver below []).entries)
         (settled.waiting_of m heights other meter has None store left w (deliver below []).entries)
         (after_settling left counts (deliver below [])).next
         (after_settling (renumbered_view n left) second (deliver (waiting_stack m meter [] below waiting bs) [])).next
         0)
         unwaited
         (subst
-        (λ told. settled.Follows m heights other meter has
-        (told
-        ++ settled.told_of m heights other meter has None store left (waiting_below below waiting) (deliver below
+        (λ reported. settled.Follows m heights other meter has
+        (reported
+        ++ settled.reported_of m heights other meter has None store left (waiting_below below waiting) (deliver below
         []).entries)
         (settled.waiting_of m heights other meter has None store left (waiting_below below waiting) (deliver below
         []).entries)
         (after_settling left counts (deliver below [])).next
         (after_settling (renumbered_view n left) second (deliver (waiting_stack m meter [] below waiting bs) [])).next
         0)
-        (untold left)
+        (unreported left)
         (delivers.deliver_from m heights valid other meter has pieces None store left counts below [] [] waiting bs
         second
         none_good (accepts []) tt (waits []) counted))))
-    acts (Enters func args) acted hooked_stack fine same untold unwaited =
+    acts (Enters func args) acted hooked_stack fine same unreported unwaited =
         subst (λ a. FollowsAction (Enters func args) a hooked_stack) (sym same)
         (subst
         (λ h. settled.Follows m heights other meter has
-        (told_enter func args store
-        ++ settled.told_of m heights other meter has None store store waiting
+        (reported_enter func args store
+        ++ settled.reported_of m heights other meter has None store store waiting
         (enter_function (code_of m) store counts func args below).entries)
         (settled.waiting_of m heights other meter has None store store waiting
         (enter_function (code_of m) store counts func args below).entries)
@@ -118,16 +118,16 @@ module _ (m : Module) (heights : Heights) (valid : IsValid m) (typed : IsTypedCo
         (calls.entered m heights valid typed answers fits other meter has pieces knows None store store counts func
         fine.0 args below waiting bs second fine.1 fine.2 fine.3 (accepts fine.0.results) (waits fine.0.results)
         counted))
-    acts (Fails kind) acted hooked_stack fine same untold unwaited =
+    acts (Fails kind) acted hooked_stack fine same unreported unwaited =
         subst (λ a. FollowsAction (Fails kind) a hooked_stack) (sym same)
         (follows.stands_there m other meter waiting (Faulted kind) _ (Faulted kind) refl refl)
-    acts Unfit acted hooked_stack fine same untold unwaited = absurd fine
+    acts Unfit acted hooked_stack fine same unreported unwaited = absurd fine
 
   -- ---- the host's own work, and its work for an import
 
   abbrev FollowsStep : Config → List WaitingCall → Config → Type 0
   FollowsStep config waiting hooked =
-      settled.Follows m heights other meter has (told_calls (all_globals m) waiting (moments_of_step program config))
+      settled.Follows m heights other meter has (reported_calls (all_globals m) waiting (moments_of_step program config))
       (follows.waiting_after_all waiting (moments_of_step program config)) (step program config).next (Running hooked) 1
 
   module _ (store : Store) (counts : List ℕ) (waiting : List WaitingCall) (bs : List Beside) (second : List ℕ)
@@ -143,18 +143,18 @@ module _ (m : Module) (heights : Heights) (valid : IsValid m) (typed : IsTypedCo
     then_follows : (config hooked : Config) (r : ActionResult) (stack : List Activation)
         → step other hooked ≡ after_action other hooked stack r → weight meter hooked ≡ meter.action
         → settled.Follows m heights other meter has
-        (told_calls (all_globals m) waiting (moments_of_step program config))
+        (reported_calls (all_globals m) waiting (moments_of_step program config))
         (follows.waiting_after_all waiting (moments_of_step program config)) (step program config).next
         (after_action other hooked stack r).next 0
         → FollowsStep config waiting hooked
     then_follows config hooked r stack is weighs f =
-        follows.after_way m other meter [] (told_calls (all_globals m) waiting (moments_of_step program config))
+        follows.after_way m other meter [] (reported_calls (all_globals m) waiting (moments_of_step program config))
         (follows.waiting_after_all waiting (moments_of_step program config)) (step program config).next (Running hooked)
         (after_action other hooked stack r).next 1 0
         (subst
         (λ w. leads.Leads n other meter (Running hooked) (after_action other hooked stack r).next w []) (weighs ∙ host)
         (leads.one n other meter hooked (after_action other hooked stack r) [] is
-        (acted_untold n hooked.store other hooked stack r)))
+        (acted_unreported n hooked.store other hooked stack r)))
         f
 
     pub main_step : (action : Action) (actions : List Action) (below : List Activation)

@@ -12,7 +12,7 @@ use Rattle.history_spec.specs.Configuration.{Place, Frame}
 use Rattle.history_spec.specs.Instruction.{NoRule, execute_plain}
 use Rattle.record_replay_spec.specs.Insertions.{Site}
 use Rattle.record_replay_spec.specs.Instrumented.{renumbered, instrumented_nest, weights_of_nest}
-use Rattle.record_replay_spec.specs.ToldCalls.{told_before, told_after, waiting_after, WaitingCall}
+use Rattle.record_replay_spec.specs.ReportedCalls.{reported_before, reported_after, waiting_after, WaitingCall}
 use Rattle.tape_laws.proofs.CoreFrames.{IsNoCall}
 use Rattle.instrumented_run_laws.proofs.Straight.{IsStraight}
 use Rattle.instrumented_run_laws.proofs.PieceFacts.{IsNoReturn, IsCallInstr, IsBranch}
@@ -75,15 +75,15 @@ straight_plainly n i is = record { no_call = tt; no_return = tt; same = refl }
 pub record IsBranchPlainly (s : Site) (i : Instr) : Type 0 where
   pub nest : (rest : Nest) → instrumented_nest s (Plain i rest) ≡ Plain i (instrumented_nest s rest)
   pub weights : (rest : Nest) → weights_of_nest s (Plain i rest) ≡ 1 ∷ weights_of_nest s rest
-  pub before : (operands : List Val) (view : Store) → told_before i operands view ≡ []
-  pub after : (globals : List GlobalType) (results : List Val) (view : Store) → told_after globals i results view ≡ []
+  pub before : (operands : List Val) (view : Store) → reported_before i operands view ≡ []
+  pub after : (globals : List GlobalType) (results : List Val) (view : Store) → reported_after globals i results view ≡ []
   pub waits : (operands : List Val) (waiting : List WaitingCall) → waiting_after i operands waiting ≡ waiting
 
 plainly : {s : Site} {i : Instr}
     → ((rest : Nest) → instrumented_nest s (Plain i rest) ≡ Plain i (instrumented_nest s rest))
     → ((rest : Nest) → weights_of_nest s (Plain i rest) ≡ 1 ∷ weights_of_nest s rest)
-    → ((operands : List Val) (view : Store) → told_before i operands view ≡ [])
-    → ((globals : List GlobalType) (results : List Val) (view : Store) → told_after globals i results view ≡ [])
+    → ((operands : List Val) (view : Store) → reported_before i operands view ≡ [])
+    → ((globals : List GlobalType) (results : List Val) (view : Store) → reported_after globals i results view ≡ [])
     → ((operands : List Val) (waiting : List WaitingCall) → waiting_after i operands waiting ≡ waiting)
     → IsBranchPlainly s i
 plainly nest weights before after waits =

@@ -18,19 +18,19 @@ use Rattle.record_replay_spec.specs.HookedRuns.{calls_among, hook_calls}
 
 -- ---- what follows without a turn calls no hook
 
-pub returns_tell_none : (n func : ℕ) (view : Store) (results : List Val) (below : List Activation) (entries : List
+pub returns_report_none : (n func : ℕ) (view : Store) (results : List Val) (below : List Activation) (entries : List
     Entry)
     → calls_among n view (return_entry func results below ∷ entries) ≡ calls_among n view entries
-returns_tell_none n func view results [] entries = refl
-returns_tell_none n func view results (InModule frame ∷ below) entries = refl
-returns_tell_none n func view results (InMain actions ∷ below) entries = refl
-returns_tell_none n func view results (InImport import args actions end ∷ below) entries = refl
+returns_report_none n func view results [] entries = refl
+returns_report_none n func view results (InModule frame ∷ below) entries = refl
+returns_report_none n func view results (InMain actions ∷ below) entries = refl
+returns_report_none n func view results (InImport import args actions end ∷ below) entries = refl
 
-pub settles_untold : (n : ℕ) (view : Store) (stack : List Activation) (results : List Val)
+pub settles_unreported : (n : ℕ) (view : Store) (stack : List Activation) (results : List Val)
     → calls_among n view (deliver stack results).entries ≡ []
-settles_untold n view [] results = refl
-settles_untold n view (InModule frame ∷ below) results =
-    go (at_end (with_results frame results)) (λ given. settles_untold n view below given)
+settles_unreported n view [] results = refl
+settles_unreported n view (InModule frame ∷ below) results =
+    go (at_end (with_results frame results)) (λ given. settles_unreported n view below given)
   where
     next : Frame
     next = with_results frame results
@@ -39,25 +39,25 @@ settles_untold n view (InModule frame ∷ below) results =
         → calls_among n view (return_from e next below (deliver below)).entries ≡ []
     go Within rest = refl
     go (Gives given) rest =
-        returns_tell_none n next.func view given below (deliver below given).entries ∙ rest given
+        returns_report_none n next.func view given below (deliver below given).entries ∙ rest given
     go TooFew rest = refl
-settles_untold n view (InMain [] ∷ below) results = refl
-settles_untold n view (InMain (action ∷ actions) ∷ below) results = refl
-settles_untold n view (InImport import args [] (Return None) ∷ below) results = settles_untold n view below []
-settles_untold n view (InImport import args [] (Return (Some value)) ∷ below) results =
-    settles_untold n view below (value ∷ [])
-settles_untold n view (InImport import args [] EndsInTrap ∷ below) results = refl
-settles_untold n view (InImport import args (action ∷ actions) end ∷ below) results = refl
+settles_unreported n view (InMain [] ∷ below) results = refl
+settles_unreported n view (InMain (action ∷ actions) ∷ below) results = refl
+settles_unreported n view (InImport import args [] (Return None) ∷ below) results = settles_unreported n view below []
+settles_unreported n view (InImport import args [] (Return (Some value)) ∷ below) results =
+    settles_unreported n view below (value ∷ [])
+settles_unreported n view (InImport import args [] EndsInTrap ∷ below) results = refl
+settles_unreported n view (InImport import args (action ∷ actions) end ∷ below) results = refl
 
 -- ---- leads
 
 module _ (n : ℕ) (program : Program) (meter : Meter) where
   -- from this state the run reaches another in `used` turns, with these hook calls
-  pub record Ends (from to : Progress) (used : ℕ) (told : List HookCall) : Type 0 where
+  pub record Ends (from to : Progress) (used : ℕ) (reported : List HookCall) : Type 0 where
     pub count : ℕ
     pub at : (steps program meter count from).at ≡ to
     pub turns : (steps program meter count from).turns ≡ used
-    pub calls : hook_calls n program count from ≡ told
+    pub calls : hook_calls n program count from ≡ reported
 
   -- a state that the run reaches from `next` it reaches from `from`, with these turns and hook calls in addition
   abbrev pub Leads : Progress → Progress → ℕ → List HookCall → Type 0
@@ -85,7 +85,7 @@ module _ (n : ℕ) (program : Program) (meter : Meter) where
   pub one : (config : Config) (s : StepResult) (calls : List HookCall) → step program config ≡ s
       → calls_among n config.store s.entries ≡ calls
       → Leads (Running config) s.next (weight meter config) calls
-  one config s calls is told to more later ends =
+  one config s calls is reported to more later ends =
       record {
         count = suc ends.count;
         at = ap (λ (r : StepResult). (steps program meter ends.count r.next).at) is ∙ ends.at;
@@ -94,7 +94,7 @@ module _ (n : ℕ) (program : Program) (meter : Meter) where
             ∙ ap (λ t. weight meter config + t) ends.turns;
         calls =
             ap (λ (r : StepResult). calls_among n config.store r.entries ++ hook_calls n program ends.count r.next) is
-            ∙ ap (λ l. l ++ hook_calls n program ends.count s.next) told
+            ∙ ap (λ l. l ++ hook_calls n program ends.count s.next) reported
             ∙ ap (λ l. calls ++ l) ends.calls;
       }
 
@@ -121,7 +121,7 @@ module _ (n : ℕ) (program : Program) (meter : Meter) where
       (after_entries (Step frame.func frame.at.number operands results found ∷ [])
       (after_settling after counts (settle (InModule next ∷ below))))
       [] (ap (after_instruction program config frame below) does)
-      (settles_untold n store (InModule next ∷ below) [])
+      (settles_unreported n store (InModule next ∷ below) [])
 
   -- the facts about a hook: it is an import, which the host answers by doing nothing
   pub record IsAnswered (kind : Hook) : Type 0 where
@@ -164,7 +164,7 @@ module _ (n : ℕ) (program : Program) (meter : Meter) where
       (λ o. on o (λ kind. record { kind = kind; args = args; view = store } ∷ []) ++ calls_among n store rest.entries)
       is.place
       ∙ ap (λ l. record { kind = kind; args = args; view = store } ∷ l)
-      (settles_untold n store (InModule waiting ∷ below) []))
+      (settles_unreported n store (InModule waiting ∷ below) []))
 
   -- ---- before an instruction nothing ends
 

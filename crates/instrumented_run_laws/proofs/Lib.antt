@@ -8,12 +8,12 @@ pub mod Kept
 pub mod Settled
 pub mod Delivers
 pub mod Calls
-pub mod Untold
+pub mod QuietSteps
 pub mod HostSteps
 pub mod Executed
 pub mod InstrKinds
 pub mod Ready
-pub mod ToldBefore
+pub mod ReportedBefore
 pub mod StraightSteps
 pub mod Moves
 pub mod ReturnSteps

@@ -27,7 +27,7 @@ use Rattle.type_safety.specs.Values.{AreValues}
 use Rattle.type_safety.proofs.Values.{length_values}
 use Rattle.record_replay_spec.specs.Hooks.{renumber, renumbered_view}
 use Rattle.record_replay_spec.specs.Instrumented.{instrumented_nest}
-use Rattle.record_replay_spec.specs.ToldCalls.{WaitingCall, Moment, next_of_nest, told_by_step, told_by_trap, waiting_after_step}
+use Rattle.record_replay_spec.specs.ReportedCalls.{WaitingCall, Moment, next_of_nest, reported_by_step, reported_by_trap, waiting_after_step}
 use Rattle.instrumented_run_laws.proofs.Branches as branches
 use Rattle.instrumented_run_laws.proofs.Executed as executed
 use Rattle.instrumented_run_laws.proofs.Follows as follows
@@ -83,8 +83,8 @@ module _ (m : Module) (heights : Heights) (valid : IsValid m) (program other : P
     -- hooks do not report the instruction, and no call waits for it
     pub record IsQuiet : Type 0 where
       pub step : (operands results : List Val) (moment : Moment)
-          → told_by_step (all_globals m) instr operands results moment ≡ []
-      pub trap : (operands : List Val) (moment : Moment) → told_by_trap instr operands moment ≡ []
+          → reported_by_step (all_globals m) instr operands results moment ≡ []
+      pub trap : (operands : List Val) (moment : Moment) → reported_by_trap instr operands moment ≡ []
       pub waits : (operands : List Val) → waiting_after_step instr operands waiting ≡ waiting
 
     module _ (known : IsReady m heights meter store counts frame below waiting b bs second body) (quiet : IsQuiet)
@@ -96,30 +96,30 @@ module _ (m : Module) (heights : Heights) (valid : IsValid m) (program other : P
       quietly : (left : Store) (operands results : List Val) (found : Option ℕ) (entries : List Entry)
           (later : Progress)
           → settled.Follows m heights other meter has
-          (settled.told_of m heights other meter has instr store left waiting entries)
+          (settled.reported_of m heights other meter has instr store left waiting entries)
           (settled.waiting_of m heights other meter has instr store left waiting entries) later start 1
           → settled.Follows m heights other meter has
-          (told_by_step (all_globals m) instr operands results
+          (reported_by_step (all_globals m) instr operands results
           (record {
             entry = Step f.func number operands results found;
             instr = instr;
             before = store;
             after = left;
           })
-          ++ settled.told_of m heights other meter has instr store left (waiting_after_step instr operands waiting)
+          ++ settled.reported_of m heights other meter has instr store left (waiting_after_step instr operands waiting)
           entries)
           (settled.waiting_of m heights other meter has instr store left (waiting_after_step instr operands waiting)
           entries) later start 1
       quietly left operands results found entries later alone =
           subst
           (λ w. settled.Follows m heights other meter has
-          (told_by_step (all_globals m) instr operands results moment
-          ++ settled.told_of m heights other meter has instr store left w entries)
+          (reported_by_step (all_globals m) instr operands results moment
+          ++ settled.reported_of m heights other meter has instr store left w entries)
           (settled.waiting_of m heights other meter has instr store left w entries) later start 1)
           (sym (quiet.waits operands))
           (subst
-          (λ told. settled.Follows m heights other meter has
-          (told ++ settled.told_of m heights other meter has instr store left waiting entries)
+          (λ reported. settled.Follows m heights other meter has
+          (reported ++ settled.reported_of m heights other meter has instr store left waiting entries)
           (settled.waiting_of m heights other meter has instr store left waiting entries) later start 1)
           (sym (quiet.step operands results moment)) alone)
         where
@@ -142,7 +142,7 @@ module _ (m : Module) (heights : Heights) (valid : IsValid m) (program other : P
       went left values labels at operands results found g framed =
           quietly left operands results found entries later
           (follows.after_way m other meter []
-          (settled.told_of m heights other meter has instr store left waiting entries)
+          (settled.reported_of m heights other meter has instr store left waiting entries)
           (settled.waiting_of m heights other meter has instr store left waiting entries) later start
           (leads.settled n other meter (renumbered_view n left) second hooked_below (frame_beside m meter next []
           beside_next))
@@ -184,20 +184,20 @@ module _ (m : Module) (heights : Heights) (valid : IsValid m) (program other : P
       left_body given operands results found held e are =
           quietly store operands results found entries later
           (subst
-          (λ told. settled.Follows m heights other meter has told
+          (λ reported. settled.Follows m heights other meter has reported
           (settled.waiting_of m heights other meter has instr store store waiting entries) later start 1)
           (sym
-          (follows.told_return_entry m other meter instr store store waiting f.func given below
+          (follows.reported_return_entry m other meter instr store store waiting f.func given below
           (deliver below given).entries))
           (subst
           (λ w. settled.Follows m heights other meter has
-          (settled.told_ended m heights other meter has instr store store counts below waiting bs frame given) w later
+          (settled.reported_ended m heights other meter has instr store store counts below waiting bs frame given) w later
           start 1)
           (sym
           (follows.waiting_return_entry m other meter instr store store waiting f.func given below
           (deliver below given).entries))
           (follows.after_way m other meter []
-          (settled.told_ended m heights other meter has instr store store counts below waiting bs frame given)
+          (settled.reported_ended m heights other meter has instr store store counts below waiting bs frame given)
           (settled.waiting_ended m heights other meter has instr store store counts below waiting bs frame given) later
           start
           (leads.settled n other meter (renumbered_view n store) second hooked_below ended) 1 0
@@ -229,7 +229,7 @@ module _ (m : Module) (heights : Heights) (valid : IsValid m) (program other : P
       move NoRule e fine = absurd fine
       move (Traps kind operands found) e fine =
           subst
-          (λ told. settled.Follows m heights other meter has (told ++ []) waiting (Finished Trapped) start 1)
+          (λ reported. settled.Follows m heights other meter has (reported ++ []) waiting (Finished Trapped) start 1)
           (sym
           (quiet.trap operands
           (record { entry = Trap f.func number kind operands found; instr = instr; before = store; after = store })))

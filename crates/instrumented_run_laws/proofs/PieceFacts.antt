@@ -27,7 +27,7 @@ use Rattle.record_replay_spec.specs.Hooks.{renumber, renumbered_view, renumbered
 use Rattle.record_replay_spec.specs.HookedRuns.{renumbered_action, renumbered_response}
 use Rattle.record_replay_spec.specs.Insertions.{Site, imports_at, inserted_before, inserted_after, after_call}
 use Rattle.record_replay_spec.specs.Instrumented.{renumbered, instrumented_nest}
-use Rattle.record_replay_spec.specs.ToldCalls.{told_before, told_after, told_values, told_over, told_enter}
+use Rattle.record_replay_spec.specs.ReportedCalls.{reported_before, reported_after, reported_values, reported_over, reported_enter}
 use Rattle.instrumented_run_laws.proofs.Before as before
 use Rattle.instrumented_run_laws.proofs.Before.{operands_of, IsRule}
 use Rattle.instrumented_run_laws.proofs.Branches as branches
@@ -98,30 +98,30 @@ module _ (m : Module) (program : Program) (meter : Meter) where
         args others).next
         (leads.settled (imported_funcs m) program meter (renumbered_view (imported_funcs m) store) after others
         (frame_beside m meter (frame_of func ty d args) [] b))
-        0 (map (renumbered_call (imported_funcs m)) (told_enter func args store))
+        0 (map (renumbered_call (imported_funcs m)) (reported_enter func args store))
 
   pub record HasPieces (has : HasHooks (imported_funcs m) program meter) : Type 0 where
-    pub before_told : (s : Site) (same : s.m ≡ m) (has : HasHooks (imports_at s) program meter) (store : Store)
+    pub before_reported : (s : Site) (same : s.m ≡ m) (has : HasHooks (imports_at s) program meter) (store : Store)
         (below : List Activation) (outer : Frame) (own : List Val) (whole : s.locals ≡ length own)
         (counts : List ℕ) (x : Scratch) (code : Code) (frame : Frame) (next : Place) (i : Instr)
         → IsCoreInstr i → IsNoReturn i → (types : List ValType) (funcs : ℕ) → AreValues funcs types frame.values
         → HasGlobals s.m store → IsRule (execute_plain code store frame next i)
-        → before.Tells s program meter has store below outer own whole counts x frame.values (inserted_before s i)
-        (told_before i (operands_of (execute_plain code store frame next i)) store)
-    pub over_told : (s : Site) (has : HasHooks (imports_at s) program meter) (store : Store)
+        → before.Reports s program meter has store below outer own whole counts x frame.values (inserted_before s i)
+        (reported_before i (operands_of (execute_plain code store frame next i)) store)
+    pub over_reported : (s : Site) (has : HasHooks (imports_at s) program meter) (store : Store)
         (below : List Activation) (outer : Frame) (own : List Val) (whole : s.locals ≡ length own)
         (counts : List ℕ) (x : Scratch) (callee : Option ℕ) (ty : FuncType) (results values : List Val) (funcs : ℕ)
         → IsFuncType ty → AreValues funcs ty.results results
-        → before.Tells s program meter has store below outer own whole counts x (push_all results values)
-        (after_call s (over_piece s callee) ty.results) (told_values store results ++ told_over callee store)
-    pub after_told : (s : Site) (same : s.m ≡ m) (has : HasHooks (imports_at s) program meter) (first after : Store)
+        → before.Reports s program meter has store below outer own whole counts x (push_all results values)
+        (after_call s (over_piece s callee) ty.results) (reported_values store results ++ reported_over callee store)
+    pub after_reported : (s : Site) (same : s.m ≡ m) (has : HasHooks (imports_at s) program meter) (first after : Store)
         (below : List Activation) (outer : Frame) (own : List Val) (whole : s.locals ≡ length own)
         (counts : List ℕ) (x : Scratch) (code : Code) (frame left : Frame) (next : Place) (i : Instr)
         (operands results : List Val) (found : Option ℕ)
         → IsStraight i → execute_plain code first frame next i ≡ Did operands results found (Goes after left)
         → HasGlobals s.m first
-        → before.Tells s program meter has after below outer own whole counts x left.values (inserted_after s i)
-        (told_after (all_globals s.m) i results after)
+        → before.Reports s program meter has after below outer own whole counts x left.values (inserted_after s i)
+        (reported_after (all_globals s.m) i results after)
     pub enters_body : (store : Store) (counts : List ℕ) (func : ℕ) (ty : FuncType) (d : Definition) (args : List Val)
         (others : List Activation)
         → signature (code_of m) func ≡ Some ty → definition (code_of m) func ≡ Some d → imported_funcs m ≤ func

@@ -146,20 +146,20 @@ module _ (n : ℕ) (program : Program) (meter : Meter) (store : Store) (below : 
       number (typed F64 bits ∷ []) (typed I64 bits ∷ []) free (rw (pop_one (typed F64 bits) values) refl)
 
   -- a hook is called with these arguments
-  pub tells : (kind : Hook) → leads.IsAnswered n program meter kind
+  pub reports : (kind : Hook) → leads.IsAnswered n program meter kind
       → signature program.code (hook_func n kind) ≡ Some (hook_type kind)
       → (counts : List ℕ) (locals values left args : List Val) (rest : Nest) (number : ℕ) → IsFree number
       → pop (hook_params kind) values ≡ taken args left
       → Leads (piece counts locals values (Plain (Call (hook_func n kind)) rest) number)
       (piece (leads.counted n program meter counts kind) locals left rest (number + 1)) 0
       (record { kind = kind; args = args; view = store } ∷ [])
-  tells kind is ty counts locals values left args rest number free popped =
+  reports kind is ty counts locals values left args rest number free popped =
       let from = standing locals values (Plain (Call (hook_func n kind)) rest) number in
       let waiting = standing locals left rest (number + 1) in
       let to = piece (leads.counted n program meter counts kind) locals left rest (number + 1) in
-      let told : List HookCall = record { kind = kind; args = args; view = store } ∷ [] in
-      subst (λ p. Leads p to 0 told) (sym (leads.settled_before n program meter store counts below from tt))
-      (subst (λ w. Leads (leads.running n program meter store counts below from) to w told) free
+      let reported : List HookCall = record { kind = kind; args = args; view = store } ∷ [] in
+      subst (λ p. Leads p to 0 reported) (sym (leads.settled_before n program meter store counts below from tt))
+      (subst (λ w. Leads (leads.running n program meter store counts below from) to w reported) free
       (leads.hook_called n program meter kind is store counts below from waiting args
       (ap
       (λ o. on o (λ (ty : FuncType). takes from ty.params (λ operands rest'.

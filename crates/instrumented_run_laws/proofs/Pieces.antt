@@ -21,9 +21,10 @@ use Rattle.history_spec.specs.Run.{Meter}
 use Rattle.record_replay_spec.specs.declared.hooks.Hook.{Hook}
 use Rattle.record_replay_spec.specs.declared.hooks.Hook.TheVariants.{Arg, Load, Store as ToStore}
 use Rattle.record_replay_spec.specs.Hooks.{HookCall, hook_func, hook_params, hook_type}
-use Rattle.record_replay_spec.specs.Insertions.{Site, imports_at, calls, number, address_local, value_local, widened, tells_local, tells_number, tells_params, tells_index, tells_global, range_operands, tells_range, before_load, before_store, after_call}
+use Rattle.record_replay_spec.specs.Insertions.{Site, imports_at, calls, number, address_local, value_local, widened, reports_local, reports_number, reports_params, reports_index, reports_global, range_operands, reports_range, before_load, before_store, after_call}
 use Rattle.record_replay_spec.specs.Instrumented.{before_nest, weightless}
-use Rattle.record_replay_spec.specs.ToldCalls.{i64_value, told, told_number, told_values, told_global}
+use Rattle.record_replay_spec.specs.ReportedCalls.{i64_value, reported, reported_number, reported_values, reported_global}
+use Rattle.record_replay_spec.proofs.Bodies.{length_weightless}
 use Rattle.instrumented_run_laws.proofs.Leads as leads
 use Rattle.instrumented_run_laws.proofs.Weights.{first_weights, later_weights}
 use Rattle.instrumented_run_laws.proofs.PieceSteps as one
@@ -44,10 +45,6 @@ pub weightless_both : (a b : List Instr) → weightless (a ++ b) ≡ weightless 
 weightless_both [] b = refl
 weightless_both (i ∷ a) b = ap (λ l. 0 ∷ l) (weightless_both a b)
 
-pub weightless_length : (a : List Instr) → length (weightless a) ≡ length a
-weightless_length [] = refl
-weightless_length (i ∷ a) = let e = weightless_length a in omega (arith, e)
-
 module _ (s : Site) (program : Program) (meter : Meter) (has : HasHooks (imports_at s) program meter) (store : Store)
     (below : List Activation) (frame : Frame) (own : List Val) (whole : s.locals ≡ length own) where
   abbrev n : ℕ
@@ -64,11 +61,11 @@ module _ (s : Site) (program : Program) (meter : Meter) (has : HasHooks (imports
   counted = leads.counted n program meter
 
   -- with these counts, scratch locals and values, instructions of weight 0 lead to others, and make these hook calls
-  pub record Makes (counts : List ℕ) (x : Scratch) (values : List Val) (is : List Instr) (told : List HookCall)
+  pub record Makes (counts : List ℕ) (x : Scratch) (values : List Val) (is : List Instr) (reported : List HookCall)
       (after : List ℕ) (y : Scratch) (left : List Val) : Type 0 where
     pub leads : (rest : Nest) (at : ℕ) → AreFree at (weightless is)
         → leads.Leads n program meter (piece counts x values (before_nest is rest) at)
-        (piece after y left rest (at + length is)) 0 told
+        (piece after y left rest (at + length is)) 0 reported
 
   -- two sequences of instructions
   pub both : {counts middle after : List ℕ} {x y z : Scratch} {values between left : List Val} {a b : List Instr}
@@ -84,7 +81,7 @@ module _ (s : Site) (program : Program) (meter : Meter) (has : HasHooks (imports
       go rest at free =
           let parts = subst (AreFree at) (weightless_both a b) free in
           let second_free =
-          subst (λ k. AreFree (at + k) (weightless b)) (weightless_length a)
+          subst (λ k. AreFree (at + k) (weightless b)) (length_weightless a)
           (later_weights meter frame.func at (weightless a) (weightless b) parts)
           in
           let long = length-append a b in
@@ -180,11 +177,11 @@ module _ (s : Site) (program : Program) (meter : Meter) (has : HasHooks (imports
 
   pub calls_hook : (kind : Hook) (counts : List ℕ) (x : Scratch) (values left args : List Val)
       → pop (hook_params kind) values ≡ taken args left
-      → Makes counts x values (calls s kind ∷ []) (told kind args store) (counted counts kind) x left
+      → Makes counts x values (calls s kind ∷ []) (reported kind args store) (counted counts kind) x left
   calls_hook kind counts x values left args popped =
       record {
         leads = λ rest at free.
-            one.tells n program meter store below frame kind (has.answered kind) (has.types kind) counts
+            one.reports n program meter store below frame kind (has.answered kind) (has.types kind) counts
             (own ++ scratch_values x) values left args rest at free.0 popped;
       }
 
@@ -232,21 +229,21 @@ module _ (s : Site) (program : Program) (meter : Meter) (has : HasHooks (imports
   -- ---- pieces
 
   -- a hook reports one number
-  pub tells_one : (kind : Hook) → hook_params kind ≡ I32 ∷ [] → (counts : List ℕ) (x : Scratch) (values : List Val)
+  pub reports_one : (kind : Hook) → hook_params kind ≡ I32 ∷ [] → (counts : List ℕ) (x : Scratch) (values : List Val)
       (bits : ℕ)
-      → Makes counts x values (tells_number s kind bits) (told_number kind bits store) (counted counts kind) x values
-  tells_one kind params counts x values bits =
+      → Makes counts x values (reports_number s kind bits) (reported_number kind bits store) (counted counts kind) x values
+  reports_one kind params counts x values bits =
       also (puts counts x values bits)
       (calls_hook kind counts x (i32_value bits ∷ values) values (i32_value bits ∷ [])
       (ap (λ types. pop types (i32_value bits ∷ values)) params ∙ pop_one (i32_value bits) values))
 
   -- a hook reports an index or a result on the stack
-  pub tells_top : (kind : Hook) → hook_params kind ≡ I32 ∷ [] → (counts : List ℕ) (x : Scratch) (values : List Val)
+  pub reports_top : (kind : Hook) → hook_params kind ≡ I32 ∷ [] → (counts : List ℕ) (x : Scratch) (values : List Val)
       (bits : ℕ)
-      → Makes counts x (i32_value bits ∷ values) (tells_index s kind) (told_number kind bits store) (counted counts
+      → Makes counts x (i32_value bits ∷ values) (reports_index s kind) (reported_number kind bits store) (counted counts
       kind)
       (with_address x bits) (i32_value bits ∷ values)
-  tells_top kind params counts x values bits =
+  reports_top kind params counts x values bits =
       let y = with_address x bits in
       also (keeps_address counts x values bits)
       (also
@@ -255,11 +252,11 @@ module _ (s : Site) (program : Program) (meter : Meter) (has : HasHooks (imports
       (gets_address (counted counts kind) y values))
 
   -- the code before a load
-  pub tells_load : (counts : List ℕ) (x : Scratch) (values : List Val) (at : MemArg) (access : Access) (base : ℕ)
+  pub reports_load : (counts : List ℕ) (x : Scratch) (values : List Val) (at : MemArg) (access : Access) (base : ℕ)
       → Makes counts x (i32_value base ∷ values) (before_load s at access)
-      (told Load (i32_value base ∷ i32_value at.offset ∷ i32_value access.width ∷ []) store) (counted counts Load)
+      (reported Load (i32_value base ∷ i32_value at.offset ∷ i32_value access.width ∷ []) store) (counted counts Load)
       (with_address x base) (i32_value base ∷ values)
-  tells_load counts x values at access base =
+  reports_load counts x values at access base =
       let y = with_address x base in
       let v = i32_value base in
       let o = i32_value at.offset in
@@ -287,11 +284,11 @@ module _ (s : Site) (program : Program) (meter : Meter) (has : HasHooks (imports
       also (gets_kept counts x values ty bits is kept) (widens counts x values ty bits is)
 
   -- the code around an access of a global
-  pub tells_value : (kind : Hook) → hook_params kind ≡ I32 ∷ I64 ∷ [] → (counts : List ℕ) (x : Scratch)
+  pub reports_value : (kind : Hook) → hook_params kind ≡ I32 ∷ I64 ∷ [] → (counts : List ℕ) (x : Scratch)
       (values : List Val) (global bits : ℕ) (ty : ValType) → IsNumber ty
-      → Makes counts x (typed ty bits ∷ values) (tells_global s kind global ty) (told_global kind global bits store)
+      → Makes counts x (typed ty bits ∷ values) (reports_global s kind global ty) (reported_global kind global bits store)
       (counted counts kind) (with_value ty x bits) (typed ty bits ∷ values)
-  tells_value kind params counts x values global bits ty is =
+  reports_value kind params counts x values global bits ty is =
       let y = with_value ty x bits in
       let g = i32_value global in
       let b = i64_value bits in
@@ -312,13 +309,13 @@ module _ (s : Site) (program : Program) (meter : Meter) (has : HasHooks (imports
   value_beside FuncRef x bits base = refl
 
   -- the code before a store
-  pub tells_store : (counts : List ℕ) (x : Scratch) (values : List Val) (at : MemArg) (access : Access)
+  pub reports_store : (counts : List ℕ) (x : Scratch) (values : List Val) (at : MemArg) (access : Access)
       (base bits : ℕ) → IsNumber access.ty
       → Makes counts x (typed access.ty bits ∷ i32_value base ∷ values) (before_store s at access)
-      (told ToStore (i32_value base ∷ i32_value at.offset ∷ i32_value access.width ∷ i64_value bits ∷ []) store)
+      (reported ToStore (i32_value base ∷ i32_value at.offset ∷ i32_value access.width ∷ i64_value bits ∷ []) store)
       (counted counts ToStore) (with_address (with_value access.ty x bits) base)
       (typed access.ty bits ∷ i32_value base ∷ values)
-  tells_store counts x values at access base bits is =
+  reports_store counts x values at access base bits is =
       let y = with_value access.ty x bits in
       let z = with_address y base in
       let v = i32_value base in
@@ -349,12 +346,12 @@ module _ (s : Site) (program : Program) (meter : Meter) (has : HasHooks (imports
       }
 
   -- a hook reports a value that a local holds
-  tells_held : (counts : List ℕ) (x : Scratch) (values : List Val) (ty : ValType) (bits local : ℕ) → IsNumber ty
+  reports_held : (counts : List ℕ) (x : Scratch) (values : List Val) (ty : ValType) (bits local : ℕ) → IsNumber ty
       → ((values : List Val)
       → Makes counts x values (LocalGet local ∷ []) [] counts x (typed ty bits ∷ values))
-      → Makes counts x values (tells_local s ty local)
-      (told Arg (i32_value (type_byte ty) ∷ i64_value bits ∷ []) store) (counted counts Arg) x values
-  tells_held counts x values ty bits local is gets =
+      → Makes counts x values (reports_local s ty local)
+      (reported Arg (i32_value (type_byte ty) ∷ i64_value bits ∷ []) store) (counted counts Arg) x values
+  reports_held counts x values ty bits local is gets =
       let t = i32_value (type_byte ty) in
       let b = i64_value bits in
       also (puts counts x values (type_byte ty))
@@ -371,35 +368,35 @@ module _ (s : Site) (program : Program) (meter : Meter) (has : HasHooks (imports
   counted_args counts (v ∷ args) = counted_args (counted counts Arg) args
 
   -- hooks report the parameters
-  pub tells_args : (counts : List ℕ) (x : Scratch) (values args : List Val) (local : ℕ) → AreNumbers args
+  pub reports_args : (counts : List ℕ) (x : Scratch) (values args : List Val) (local : ℕ) → AreNumbers args
       → ((j : ℕ) (v : Val) → slice_get args j ≡ Some v → slice_get own (local + j) ≡ Some v)
-      → Makes counts x values (tells_params s local (types_of args)) (told_values store args) (counted_args counts args)
+      → Makes counts x values (reports_params s local (types_of args)) (reported_values store args) (counted_args counts args)
       x
       values
-  tells_args counts x values [] local are there = nothing counts x values
-  tells_args counts x values (v ∷ args) local are there =
+  reports_args counts x values [] local are there = nothing counts x values
+  reports_args counts x values (v ∷ args) local are there =
       let first : slice_get own local ≡ Some v =
       (let e : local ≡ local + 0 = omega arith in ap (slice_get own) e ∙ there 0 v refl)
       in
-      both (tells_held counts x values v.ty v.bits local are.0 (λ values. gets_own counts x values local v first))
-      (tells_args (counted counts Arg) x values args (local + 1) are.1
+      both (reports_held counts x values v.ty v.bits local are.0 (λ values. gets_own counts x values local v first))
+      (reports_args (counted counts Arg) x values args (local + 1) are.1
       (λ j w h. let e : local + 1 + j ≡ local + suc j = omega arith in ap (slice_get own) e ∙ there (suc j) w h))
 
   -- the code after a call with a result
-  pub tells_result : (over : List Instr) (kind : Hook) (args : List Val)
+  pub reports_result : (over : List Instr) (kind : Hook) (args : List Val)
       → ((counts : List ℕ) (x : Scratch) (values : List Val)
-      → Makes counts x values over (told kind args store) (counted counts kind) x values)
+      → Makes counts x values over (reported kind args store) (counted counts kind) x values)
       → (counts : List ℕ) (x : Scratch) (values : List Val) (ty : ValType) (bits : ℕ) → IsNumber ty
       → Makes counts x (typed ty bits ∷ values) (after_call s over (ty ∷ []))
-      (told_values store (typed ty bits ∷ []) ++ told kind args store) (counted (counted counts Arg) kind)
+      (reported_values store (typed ty bits ∷ []) ++ reported kind args store) (counted (counted counts Arg) kind)
       (with_value ty x bits) (typed ty bits ∷ values)
-  tells_result over kind args over_told counts x values ty bits is =
+  reports_result over kind args over_reported counts x values ty bits is =
       let y = with_value ty x bits in
       also (sets_value counts x values ty bits is)
       (both
-      (tells_held counts y values ty bits (value_local s ty) is
+      (reports_held counts y values ty bits (value_local s ty) is
       (λ values. gets_kept counts y values ty bits is (value_kept ty x bits)))
-      (both (over_told (counted counts Arg) y values)
+      (both (over_reported (counted counts Arg) y values)
       (gets_kept (counted (counted counts Arg) kind) y values ty bits is (value_kept ty x bits))))
 
   -- ---- copies and fills
@@ -422,12 +419,12 @@ module _ (s : Site) (program : Program) (meter : Meter) (has : HasHooks (imports
       tt)))
 
   -- the code around the operands of a copy or a fill
-  pub tells_operands : (kind : Hook) → hook_params kind ≡ I32 ∷ I32 ∷ I32 ∷ [] → (counts : List ℕ) (x : Scratch)
+  pub reports_operands : (kind : Hook) → hook_params kind ≡ I32 ∷ I32 ∷ I32 ∷ [] → (counts : List ℕ) (x : Scratch)
       (values : List Val) (a b c : ℕ) → wrap a ≡ a
-      → Makes counts x (i32_value c ∷ i32_value b ∷ i32_value a ∷ values) (tells_range s kind)
-      (told kind (i32_value a ∷ i32_value b ∷ i32_value c ∷ []) store) (counted counts kind)
+      → Makes counts x (i32_value c ∷ i32_value b ∷ i32_value a ∷ values) (reports_range s kind)
+      (reported kind (i32_value a ∷ i32_value b ∷ i32_value c ∷ []) store) (counted counts kind)
       (with_value I64 (with_address (with_value I32 x c) b) a) (i32_value c ∷ i32_value b ∷ i32_value a ∷ values)
-  tells_operands kind params counts x values a b c within =
+  reports_operands kind params counts x values a b c within =
       let y = with_value I32 x c in
       let z = with_address y b in
       let u = i32_value a in

@@ -10,9 +10,9 @@ use Rattle.host_script.specs.declared.scripts.Script.{Script}
 use Rattle.record_replay_spec.specs.Instrumented.{instrumented_meter}
 use Rattle.record_replay_spec.specs.HookLaws.{BodiesAreInstrumented}
 use Rattle.instrumented_run_laws.proofs.ActionsAlike.{acted_alike}
-use Rattle.instrumented_run_laws.proofs.AfterCalls.{over_told}
-use Rattle.instrumented_run_laws.proofs.AfterInstructions.{after_told}
-use Rattle.instrumented_run_laws.proofs.AllBefore.{before_told}
+use Rattle.instrumented_run_laws.proofs.AfterCalls.{over_reported}
+use Rattle.instrumented_run_laws.proofs.AfterInstructions.{after_reported}
+use Rattle.instrumented_run_laws.proofs.AllBefore.{before_reported}
 use Rattle.instrumented_run_laws.proofs.CallsAlike.{called_alike}
 use Rattle.instrumented_run_laws.proofs.ControlMoves.{nest_weighed, moved_block, moved_branch}
 use Rattle.instrumented_run_laws.proofs.FunctionEntries.{enters_body}
@@ -32,20 +32,20 @@ pub has_pieces : (m : Module) (digest : List ℕ) (script : Script) (facts : Hoo
     → HasPieces m (hooked_program m digest script) (instrumented_meter m) (facts.has (instrumented_meter m))
 has_pieces m digest script facts bodies =
     record {
-      before_told = λ s same has store below outer own whole counts x code frame next i core returns types funcs are
+      before_reported = λ s same has store below outer own whole counts x code frame next i core returns types funcs are
           globals
           rule.
-          before_told s _ _ has store below outer own whole counts x code frame next i core returns types funcs are
+          before_reported s _ _ has store below outer own whole counts x code frame next i core returns types funcs are
           globals
           rule;
-      over_told = λ s has store below outer own whole counts x callee ty results values funcs fine are.
-          over_told s _ _ has store below outer own whole counts x callee ty.results results values funcs
+      over_reported = λ s has store below outer own whole counts x callee ty results values funcs fine are.
+          over_reported s _ _ has store below outer own whole counts x callee ty.results results values funcs
           fine.one_result
           (each_number ty.results fine.results) are;
-      after_told = λ s same has first after below outer own whole counts x code frame left next i operands results found
+      after_reported = λ s same has first after below outer own whole counts x code frame left next i operands results found
           is
           executed globals.
-          after_told s _ _ has below outer own whole counts x first globals code frame next i is after left operands
+          after_reported s _ _ has below outer own whole counts x first globals code frame next i is after left operands
           results found executed;
       enters_body = λ store counts func ty d args others signed defined past fine are.
           enters_body m digest script facts bodies store counts func ty d args others signed defined fine are;

@@ -15,7 +15,7 @@ use Rattle.history_spec.specs.Step.{Program, Progress, after_instruction}
 use Rattle.type_safety.specs.Configurations.{scope, Accept}
 use Rattle.type_safety.specs.Frames.{IsFrame}
 use Rattle.type_safety.specs.Heights.{Heights}
-use Rattle.record_replay_spec.specs.ToldCalls.{WaitingCall, store_executed}
+use Rattle.record_replay_spec.specs.ReportedCalls.{WaitingCall, store_executed}
 use Rattle.record_replay_spec.specs.Hooks.{renumbered_view}
 use Rattle.record_replay_spec.specs.Insertions.{Site}
 use Rattle.instrumented_run_laws.proofs.Leads as leads
@@ -82,7 +82,7 @@ module _ (m : Module) (heights : Heights) (valid : IsValid m) (program other : P
   FollowsExecution instr store counts frame below waiting e from turns =
       let config : Config = record { store = store; stack = InModule frame ∷ below; counts = counts } in
       settled.Follows m heights other meter has
-      (settled.told_of m heights other meter has instr store (store_executed store e) waiting
+      (settled.reported_of m heights other meter has instr store (store_executed store e) waiting
       (after_instruction program config frame below e).entries)
       (settled.waiting_of m heights other meter has instr store (store_executed store e) waiting
       (after_instruction program config frame below e).entries)

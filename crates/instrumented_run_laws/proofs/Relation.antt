@@ -14,9 +14,9 @@ use Rattle.history_spec.specs.Run.{Meter}
 use Rattle.record_replay_spec.specs.declared.hooks.Hook.TheVariants.{Post, Ipost}
 use Rattle.record_replay_spec.specs.Hooks.{renumber, renumbered_view}
 use Rattle.record_replay_spec.specs.HookedRuns.{renumbered_action}
-use Rattle.record_replay_spec.specs.Insertions.{Site, imports_at, calls, tells_number, after_call, inserted_at_end}
+use Rattle.record_replay_spec.specs.Insertions.{Site, imports_at, calls, reports_number, after_call, inserted_at_end}
 use Rattle.record_replay_spec.specs.Instrumented.{before_nest, instrumented_nest, weightless, weights_of_nest}
-use Rattle.record_replay_spec.specs.ToldCalls.{WaitingCall}
+use Rattle.record_replay_spec.specs.ReportedCalls.{WaitingCall}
 use Rattle.tape_laws.specs.RealReads.{IsModule}
 use Rattle.instrumented_run_laws.proofs.Scratch.{Scratch, scratch_values}
 use Rattle.instrumented_run_laws.proofs.Weights.{AreWeights}
@@ -91,7 +91,7 @@ AreCounted n counts others = (import : ℕ) → import < n → slice_get others 
 
 -- the piece after a call, which reports the end of the call
 abbrev pub over_piece : Site → (callee : Option ℕ) → List Instr
-over_piece s (Some func) = tells_number s Post func
+over_piece s (Some func) = reports_number s Post func
 over_piece s None = calls s Ipost ∷ []
 
 -- ---- functions of a module, by their indices

@@ -20,11 +20,11 @@ use Rattle.type_safety.specs.Results.{HasRule}
 use Rattle.record_replay_spec.specs.declared.hooks.Hook.TheVariants.{Leave}
 use Rattle.record_replay_spec.specs.Hooks.{HookCall, renumbered_view}
 use Rattle.record_replay_spec.specs.Insertions.{inserted_before}
-use Rattle.record_replay_spec.specs.ToldCalls.{WaitingCall, told_number}
+use Rattle.record_replay_spec.specs.ReportedCalls.{WaitingCall, reported_number}
 use Rattle.instrumented_run_laws.proofs.Before as before
 use Rattle.instrumented_run_laws.proofs.Executed as executed
 use Rattle.instrumented_run_laws.proofs.Follows as follows
-use Rattle.instrumented_run_laws.proofs.Follows.{told_results, waiting_below}
+use Rattle.instrumented_run_laws.proofs.Follows.{reported_results, waiting_below}
 use Rattle.instrumented_run_laws.proofs.Leads as leads
 use Rattle.instrumented_run_laws.proofs.Pieces.{HasHooks}
 use Rattle.instrumented_run_laws.proofs.Ready as ready
@@ -59,10 +59,10 @@ module _ (m : Module) (heights : Heights) (valid : IsValid m) (program other : P
         frame below waiting x start 1)
         is (go (topmost f.arity f.values) refl (subst (HasRule (scope m heights f.func ty body)) (sym is) fine))
       where
-        t : before.Tells site other meter has store hooked_below hooked f.locals known.beside.locals second b.scratch
+        t : before.Reports site other meter has store hooked_below hooked f.locals known.beside.locals second b.scratch
             f.values
-            (inserted_before site instrs.Return) (told_number Leave f.func store)
-        t = before.tells_number_told site other meter has store hooked_below hooked f.locals known.beside.locals Leave
+            (inserted_before site instrs.Return) (reported_number Leave f.func store)
+        t = before.reports_number_reported site other meter has store hooked_below hooked f.locals known.beside.locals Leave
             refl
             second b.scratch f.values f.func
 
@@ -81,28 +81,28 @@ module _ (m : Module) (heights : Heights) (valid : IsValid m) (program other : P
         go None top fine = absurd fine
         go (Some given) top fine =
             subst
-            (λ told. settled.Follows m heights other meter has told
+            (λ reported. settled.Follows m heights other meter has reported
             (settled.waiting_of m heights other meter has (Some instrs.Return) store store waiting entries) later start
             1)
             (sym
-            (follows.told_return_entry m other meter (Some instrs.Return) store store waiting f.func given below
+            (follows.reported_return_entry m other meter (Some instrs.Return) store store waiting f.func given below
             (deliver below given).entries))
             (subst
             (λ w. settled.Follows m heights other meter has
-            (settled.told_ended m heights other meter has (Some instrs.Return) store store counts below waiting bs frame
+            (settled.reported_ended m heights other meter has (Some instrs.Return) store store counts below waiting bs frame
             given)
             w later start 1)
             (sym
             (follows.waiting_return_entry m other meter (Some instrs.Return) store store waiting f.func given below
             (deliver below given).entries))
-            (follows.after_way m other meter (told_number Leave f.func store) told_later
+            (follows.after_way m other meter (reported_number Leave f.func store) reported_later
             (settled.waiting_ended m heights other meter has (Some instrs.Return) store store counts below waiting bs
             frame
             given)
             later start middle 0 1
-            (executed.told_there m other meter has store second hooked_below f instrs.Return rest number b known.beside
-            (told_number Leave f.func store) t)
-            (follows.after_way m other meter [] told_later
+            (executed.reported_there m other meter has store second hooked_below f instrs.Return rest number b known.beside
+            (reported_number Leave f.func store) t)
+            (follows.after_way m other meter [] reported_later
             (settled.waiting_ended m heights other meter has (Some instrs.Return) store store counts below waiting bs
             frame
             given)
@@ -119,10 +119,10 @@ module _ (m : Module) (heights : Heights) (valid : IsValid m) (program other : P
             entries : List Entry
             entries = return_entry f.func given below ∷ (deliver below given).entries
 
-            told_later : List HookCall
-            told_later =
-                told_results below waiting given store
-                ++ settled.told_of m heights other meter has (Some instrs.Return) store store
+            reported_later : List HookCall
+            reported_later =
+                reported_results below waiting given store
+                ++ settled.reported_of m heights other meter has (Some instrs.Return) store store
                 (waiting_below below waiting) (deliver below given).entries
 
             later : Progress

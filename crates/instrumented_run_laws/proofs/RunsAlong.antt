@@ -5,11 +5,12 @@ use Rattle.std.proofs.lemmas.List.{append_assoc, append-nil}
 use Rattle.wasm_syntax.specs.declared.modules.Module.{Module}
 use Rattle.wasm_syntax.specs.Index.{imported_funcs, all_globals}
 use Rattle.history_spec.specs.Store.{Store}
-use Rattle.history_spec.specs.Configuration.{Activation, InModule, InMain, InImport, Config}
+use Rattle.history_spec.specs.Configuration.{Config}
 use Rattle.history_spec.specs.Step.{Program, Progress, Running, Finished, Faulted, Stuck, StepResult, step}
-use Rattle.history_spec.specs.Run.{Meter, all_one, weight, weight_of, steps, run_from}
+use Rattle.history_spec.specs.Run.{Meter, all_one, weight, steps, run_from}
+use Rattle.history_spec.proofs.Budgets.{takes_one}
 use Rattle.record_replay_spec.specs.Hooks.{HookCall}
-use Rattle.record_replay_spec.specs.ToldCalls.{WaitingCall, Moment, moments_of_step, moments, run_moments, told_at, waiting_at, told_calls, told_by_run}
+use Rattle.record_replay_spec.specs.ReportedCalls.{WaitingCall, Moment, moments_of_step, moments, run_moments, reported_at, waiting_at, reported_calls, reported_by_run}
 use Rattle.instrumented_run_laws.proofs.Follows as follows
 use Rattle.instrumented_run_laws.proofs.Follows.{Follows, waiting_after_all}
 use Rattle.instrumented_run_laws.proofs.Leads as leads
@@ -18,30 +19,24 @@ use Rattle.instrumented_run_laws.proofs.Relation.{ComesBeside}
 -- ---- moments, one after another
 
 module _ (m : Module) where
-  abbrev told : List WaitingCall → List Moment → List HookCall
-  told waiting items = told_calls (all_globals m) waiting items
+  abbrev reported : List WaitingCall → List Moment → List HookCall
+  reported waiting items = reported_calls (all_globals m) waiting items
 
-  pub told_both : (waiting : List WaitingCall) (first later : List Moment)
-      → told waiting (first ++ later) ≡ told waiting first ++ told (waiting_after_all waiting first) later
-  told_both waiting [] later = refl
-  told_both waiting (item ∷ first) later =
-      ap (λ calls. told_at (all_globals m) waiting item item.entry ++ calls)
-      (told_both (waiting_at waiting item item.entry) first later)
+  pub reported_both : (waiting : List WaitingCall) (first later : List Moment)
+      → reported waiting (first ++ later) ≡ reported waiting first ++ reported (waiting_after_all waiting first) later
+  reported_both waiting [] later = refl
+  reported_both waiting (item ∷ first) later =
+      ap (λ calls. reported_at (all_globals m) waiting item item.entry ++ calls)
+      (reported_both (waiting_at waiting item item.entry) first later)
       ∙ sym
-      (append_assoc (told_at (all_globals m) waiting item item.entry)
-      (told (waiting_at waiting item item.entry) first)
-      (told (waiting_after_all (waiting_at waiting item item.entry) first) later))
+      (append_assoc (reported_at (all_globals m) waiting item item.entry)
+      (reported (waiting_at waiting item item.entry) first)
+      (reported (waiting_after_all (waiting_at waiting item item.entry) first) later))
 
 pub waiting_both : (waiting : List WaitingCall) (first later : List Moment)
     → waiting_after_all waiting (first ++ later) ≡ waiting_after_all (waiting_after_all waiting first) later
 waiting_both waiting [] later = refl
 waiting_both waiting (item ∷ first) later = waiting_both (waiting_at waiting item item.entry) first later
-
-one_turn : (stack : List Activation) → weight_of all_one stack ≡ 1
-one_turn [] = refl
-one_turn (InModule frame ∷ below) = refl
-one_turn (InMain actions ∷ below) = refl
-one_turn (InImport import args actions end ∷ below) = refl
 
 -- ---- the two runs
 
@@ -49,14 +44,14 @@ module _ (m : Module) (program other : Program) (meter : Meter) (IsFine : Progre
     (keeps : (config : Config) → IsFine (Running config) → IsFine (step program config).next)
     (follows_step : (config : Config) (waiting : List WaitingCall) (from : Progress) → IsFine (Running config)
     → ComesBeside m meter (Running config) waiting from
-    → Follows m other meter (told_calls (all_globals m) waiting (moments_of_step program config))
+    → Follows m other meter (reported_calls (all_globals m) waiting (moments_of_step program config))
     (waiting_after_all waiting (moments_of_step program config)) (step program config).next from 1) where
   abbrev n : ℕ
   n = imported_funcs m
 
   abbrev FollowsAfter : ℕ → List WaitingCall → Progress → Progress → Type 0
   FollowsAfter k waiting at from =
-      Follows m other meter (told_calls (all_globals m) waiting (moments program k at))
+      Follows m other meter (reported_calls (all_globals m) waiting (moments program k at))
       (waiting_after_all waiting (moments program k at)) (steps program all_one k at).at from
       (steps program all_one k at).turns
 
@@ -84,29 +79,29 @@ module _ (m : Module) (program other : Program) (meter : Meter) (IsFine : Progre
       let rest = along k between next first.to (keeps config fine) first.beside in
       let turns : 1 + (steps program all_one k next).turns ≡ weight all_one config + (steps program all_one k
       next).turns =
-      ap (λ w. w + (steps program all_one k next).turns) (sym (one_turn config.stack)) in
+      ap (λ w. w + (steps program all_one k next).turns) (sym (takes_one config.stack)) in
       subst
       (λ calls. Follows m other meter calls (waiting_after_all waiting (items ++ later))
       (steps program all_one k next).at from (weight all_one config + (steps program all_one k next).turns))
-      (sym (told_both m waiting items later))
+      (sym (reported_both m waiting items later))
       (subst
-      (λ left. Follows m other meter (told_calls (all_globals m) waiting items ++ told_calls (all_globals m) between
+      (λ left. Follows m other meter (reported_calls (all_globals m) waiting items ++ reported_calls (all_globals m) between
       later)
       left (steps program all_one k next).at from (weight all_one config + (steps program all_one k next).turns))
       (sym (waiting_both waiting items later))
       (subst
-      (Follows m other meter (told_calls (all_globals m) waiting items ++ told_calls (all_globals m) between later)
+      (Follows m other meter (reported_calls (all_globals m) waiting items ++ reported_calls (all_globals m) between later)
       (waiting_after_all between later) (steps program all_one k next).at from)
       turns
-      (follows.after_way m other meter (told_calls (all_globals m) waiting items)
-      (told_calls (all_globals m) between later) (waiting_after_all between later) (steps program all_one k next).at
+      (follows.after_way m other meter (reported_calls (all_globals m) waiting items)
+      (reported_calls (all_globals m) between later) (waiting_after_all between later) (steps program all_one k next).at
       from
       first.to 1 (steps program all_one k next).turns first.led rest)))
 
   -- the starts of the two runs
   module _ (store : Store) (initial : StepResult) (start : Progress) (fine : IsFine initial.next)
       (follows_start : Follows m other meter
-      (told_calls (all_globals m) [] (map (λ entry. record {
+      (reported_calls (all_globals m) [] (map (λ entry. record {
         entry = entry;
         instr = None;
         before = store;
@@ -120,7 +115,7 @@ module _ (m : Module) (program other : Program) (meter : Meter) (IsFine : Progre
     begun = map (λ entry. record { entry = entry; instr = None; before = store; after = store }) initial.entries
 
     pub from_start : (k : ℕ)
-        → Follows m other meter (told_by_run m program store initial k)
+        → Follows m other meter (reported_by_run m program store initial k)
         (waiting_after_all [] (run_moments program store initial k)) (run_from program all_one initial k).at start
         (run_from program all_one initial k).turns
     from_start k =
@@ -131,13 +126,13 @@ module _ (m : Module) (program other : Program) (meter : Meter) (IsFine : Progre
         subst
         (λ calls. Follows m other meter calls (waiting_after_all [] (begun ++ later))
         (steps program all_one k initial.next).at start (0 + (steps program all_one k initial.next).turns))
-        (sym (told_both m [] begun later))
+        (sym (reported_both m [] begun later))
         (subst
-        (λ left. Follows m other meter (told_calls (all_globals m) [] begun ++ told_calls (all_globals m) between later)
+        (λ left. Follows m other meter (reported_calls (all_globals m) [] begun ++ reported_calls (all_globals m) between later)
         left (steps program all_one k initial.next).at start (0 + (steps program all_one k initial.next).turns))
         (sym (waiting_both [] begun later))
-        (follows.after_way m other meter (told_calls (all_globals m) [] begun)
-        (told_calls (all_globals m) between later) (waiting_after_all between later)
+        (follows.after_way m other meter (reported_calls (all_globals m) [] begun)
+        (reported_calls (all_globals m) between later) (waiting_after_all between later)
         (steps program all_one k initial.next).at start first.to 0 (steps program all_one k initial.next).turns
         first.led
         rest))

@@ -24,14 +24,15 @@ use Rattle.record_replay_spec.specs.declared.hooks.Hook.TheVariants.{Leave}
 use Rattle.record_replay_spec.specs.Hooks.{HookCall, renumber, renumbered_view, renumbered_call}
 use Rattle.record_replay_spec.specs.Insertions.{Site, inserted_at_end}
 use Rattle.record_replay_spec.specs.Instrumented.{before_nest, instrumented_nest, weightless, weights_of_nest}
-use Rattle.record_replay_spec.specs.ToldCalls.{WaitingCall, told_number}
+use Rattle.record_replay_spec.specs.ReportedCalls.{WaitingCall, reported_number}
+use Rattle.record_replay_spec.proofs.Bodies.{length_weightless}
 use Rattle.instrumented_run_laws.proofs.Before as before
 use Rattle.instrumented_run_laws.proofs.Follows as follows
-use Rattle.instrumented_run_laws.proofs.Follows.{told_results, waiting_below}
+use Rattle.instrumented_run_laws.proofs.Follows.{reported_results, waiting_below}
 use Rattle.instrumented_run_laws.proofs.Leads as leads
 use Rattle.instrumented_run_laws.proofs.BlockEnds as block_ends
 use Rattle.instrumented_run_laws.proofs.BlockEnds.{on_instrumented}
-use Rattle.instrumented_run_laws.proofs.Pieces.{HasHooks, weightless_length}
+use Rattle.instrumented_run_laws.proofs.Pieces.{HasHooks}
 use Rattle.instrumented_run_laws.proofs.Relation.{Beside, hooked_labels, type_of, site_at, frame_beside, IsBeside, beside_at, waiting_stack, AreWaiting, going_stack, AreCounted}
 use Rattle.instrumented_run_laws.proofs.Scratch.{Scratch, scratch_values}
 use Rattle.instrumented_run_laws.proofs.Weights.{AreWeights, first_weights, later_weights}
@@ -44,8 +45,8 @@ module _ (m : Module) (heights : Heights) (other : Program) (meter : Meter)
   abbrev pub Follows : List HookCall → List WaitingCall → (next from : Progress) → (turns : ℕ) → Type 0
   Follows = follows.Follows m other meter
 
-  abbrev pub told_of : Option Instr → (before after : Store) → List WaitingCall → List Entry → List HookCall
-  told_of = follows.told_of m other meter
+  abbrev pub reported_of : Option Instr → (before after : Store) → List WaitingCall → List Entry → List HookCall
+  reported_of = follows.reported_of m other meter
 
   abbrev pub waiting_of : Option Instr → (before after : Store) → List WaitingCall → List Entry → List WaitingCall
   waiting_of = follows.waiting_of m other meter
@@ -56,8 +57,8 @@ module _ (m : Module) (heights : Heights) (other : Program) (meter : Meter)
       → (awaited : List ValType) → (results : List Val) → List WaitingCall → List Beside → (second : List ℕ) → Type 0
   Delivered instr before store counts stack awaited results waiting bs second =
       Follows
-      (told_results stack waiting results store
-      ++ told_of instr before store (waiting_below stack waiting) (deliver stack results).entries)
+      (reported_results stack waiting results store
+      ++ reported_of instr before store (waiting_below stack waiting) (deliver stack results).entries)
       (waiting_of instr before store (waiting_below stack waiting) (deliver stack results).entries)
       (after_settling store counts (deliver stack results)).next
       (after_settling (renumbered_view n store) second (deliver (waiting_stack m meter awaited stack waiting bs)
@@ -72,7 +73,7 @@ module _ (m : Module) (heights : Heights) (other : Program) (meter : Meter)
   -- ---- a piece whose hook calls come before the original goes on
 
   -- the instrumented activation after a piece
-  pub record PieceTold (store : Store) (counts : List ℕ) (below : List Activation) (frame : Frame) (is : List Instr)
+  pub record PieceReported (store : Store) (counts : List ℕ) (below : List Activation) (frame : Frame) (is : List Instr)
       (b : Beside) (calls : List HookCall) : Type 0 where
     pub after : List ℕ
     pub next : Beside
@@ -83,12 +84,12 @@ module _ (m : Module) (heights : Heights) (other : Program) (meter : Meter)
         (leads.settled n other meter (renumbered_view n store) after below (frame_beside m meter frame [] next)) 0
         (map (renumbered_call n) calls)
 
-  pub piece_told : (store : Store) (counts : List ℕ) (below : List Activation) (frame : Frame) (is : List Instr)
+  pub piece_reported : (store : Store) (counts : List ℕ) (below : List Activation) (frame : Frame) (is : List Instr)
       (b : Beside) (calls : List HookCall) (beside : IsBeside m meter frame is b)
-      → before.Tells (site_at m frame.func) other meter has store below (frame_beside m meter frame is b) frame.locals
+      → before.Reports (site_at m frame.func) other meter has store below (frame_beside m meter frame is b) frame.locals
       beside.locals counts b.scratch frame.values is calls
-      → PieceTold store counts below frame is b calls
-  piece_told store counts below frame is b calls beside t =
+      → PieceReported store counts below frame is b calls
+  piece_reported store counts below frame is b calls beside t =
       record {
         after = t.after;
         next = record {
@@ -103,7 +104,7 @@ module _ (m : Module) (heights : Heights) (other : Program) (meter : Meter)
           weights = subst
               (λ k. AreWeights meter (renumber n frame.func) (b.number + k) (weights_of_nest (site_at m frame.func)
               frame.at.rest))
-              (weightless_length is)
+              (length_weightless is)
               (later_weights meter (renumber n frame.func) b.number (weightless is) _ beside.weights);
           labels = beside.labels;
           last = beside.last;
@@ -133,11 +134,11 @@ module _ (m : Module) (heights : Heights) (other : Program) (meter : Meter)
         → Delivered instr earlier store counts below ty.results given waiting bs second
 
     -- the hook calls of a function's end
-    abbrev pub told_ended : List Val → List HookCall
-    told_ended given =
-        told_number Leave frame.func store
-        ++ (told_results below waiting given store
-        ++ told_of instr earlier store (waiting_below below waiting) (deliver below given).entries)
+    abbrev pub reported_ended : List Val → List HookCall
+    reported_ended given =
+        reported_number Leave frame.func store
+        ++ (reported_results below waiting given store
+        ++ reported_of instr earlier store (waiting_below below waiting) (deliver below given).entries)
 
     abbrev pub waiting_ended : List Val → List WaitingCall
     waiting_ended given = waiting_of instr earlier store (waiting_below below waiting) (deliver below given).entries
@@ -162,28 +163,28 @@ module _ (m : Module) (heights : Heights) (other : Program) (meter : Meter)
         → AreWeights meter (renumber n frame.func) b.last (weightless (inserted_at_end site))
         → topmost frame.arity values ≡ Some given → AreValues (func_count m) ty.results given
         → AreCounted n counts second → Below
-        → Follows (told_ended given) (waiting_ended given) (after_settling store counts (deliver below given)).next
+        → Follows (reported_ended given) (waiting_ended given) (after_settling store counts (deliver below given)).next
         (leads.settled n other meter (renumbered_view n store) second hooked_below (ended_frame b values)) 0
     ends b values given second whole free top are counted rest =
-        follows.after_way m other meter (told_number Leave frame.func store)
-        (told_results below waiting given store
-        ++ told_of instr earlier store (waiting_below below waiting) (deliver below given).entries)
+        follows.after_way m other meter (reported_number Leave frame.func store)
+        (reported_results below waiting given store
+        ++ reported_of instr earlier store (waiting_below below waiting) (deliver below given).entries)
         (waiting_ended given) (after_settling store counts (deliver below given)).next
         (leads.settled n other meter (renumbered_view n store) second hooked_below (ended_frame b values))
         (after_settling (renumbered_view n store) t.after (deliver hooked_below given)).next 0 0
         (subst
         (λ at. leads.Leads n other meter
         (leads.settled n other meter (renumbered_view n store) second hooked_below (ended_frame b values)) at 0
-        (map (renumbered_call n) (told_number Leave frame.func store)))
+        (map (renumbered_call n) (reported_number Leave frame.func store)))
         (ap
         (λ o. progress_of (renumbered_view n store) t.after
         (return_from (end_results o) last hooked_below (deliver hooked_below)).next) top)
         (t.makes.leads Empty b.last free))
         (rest given t.after are (counted_after counts second t.after counted t.counted))
       where
-        t : before.Tells site other meter has store hooked_below (ended_frame b values) frame.locals whole second
-            b.scratch values (inserted_at_end site) (told_number Leave frame.func store)
-        t = before.tells_number_told site other meter has store hooked_below (ended_frame b values) frame.locals whole
+        t : before.Reports site other meter has store hooked_below (ended_frame b values) frame.locals whole second
+            b.scratch values (inserted_at_end site) (reported_number Leave frame.func store)
+        t = before.reports_number_reported site other meter has store hooked_below (ended_frame b values) frame.locals whole
             Leave refl second b.scratch values frame.func
 
         last : Frame
@@ -199,7 +200,7 @@ module _ (m : Module) (heights : Heights) (other : Program) (meter : Meter)
       -- what follows from a point of the original, and from one of the instrumented activation
       abbrev FollowsAt : (rest : Nest) → AtEnd → Frame → (q : Point) → Type 0
       FollowsAt nest e next q =
-          Follows (told_of instr earlier store waiting (return_from e next below (deliver below)).entries)
+          Follows (reported_of instr earlier store waiting (return_from e next below (deliver below)).entries)
           (waiting_of instr earlier store waiting (return_from e next below (deliver below)).entries)
           (progress_of store counts (return_from e next below (deliver below)).next)
           (progress_of (renumbered_view n store) second
@@ -259,10 +260,10 @@ module _ (m : Module) (heights : Heights) (other : Program) (meter : Meter)
           (waiting_of instr earlier store waiting (return_entry frame.func given below ∷ (deliver below given).entries))
           (after_settling store counts (deliver below given)).next from 0)
           (sym
-          (follows.told_return_entry m other meter instr earlier store waiting frame.func given below
+          (follows.reported_return_entry m other meter instr earlier store waiting frame.func given below
           (deliver below given).entries))
           (subst
-          (λ w. Follows (told_ended given) w (after_settling store counts (deliver below given)).next from 0)
+          (λ w. Follows (reported_ended given) w (after_settling store counts (deliver below given)).next from 0)
           (sym
           (follows.waiting_return_entry m other meter instr earlier store waiting frame.func given below
           (deliver below given).entries))
@@ -297,7 +298,7 @@ module _ (m : Module) (heights : Heights) (other : Program) (meter : Meter)
       -- an activation settles as the original's does
       pub settles : IsEnd (scope m heights frame.func ty body) (with_results frame []).at.rest
           (at_end (with_results frame []))
-          → Follows (told_of instr earlier store waiting (settle (InModule frame ∷ below)).entries)
+          → Follows (reported_of instr earlier store waiting (settle (InModule frame ∷ below)).entries)
           (waiting_of instr earlier store waiting (settle (InModule frame ∷ below)).entries)
           (after_settling store counts (settle (InModule frame ∷ below))).next
           (leads.settled n other meter (renumbered_view n store) second hooked_below hooked) 0

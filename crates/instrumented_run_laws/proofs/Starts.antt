@@ -61,7 +61,7 @@ module _ (m : Module) (heights : Heights) (valid : IsValid m) (typed : IsTypedCo
   abbrev FollowsStart : StepResult → StepResult → Type 0
   FollowsStart s r =
       settled.Follows m heights other meter has
-      (settled.told_of m heights other meter has None store store [] s.entries)
+      (settled.reported_of m heights other meter has None store store [] s.entries)
       (settled.waiting_of m heights other meter has None store store [] s.entries) s.next r.next 0
 
   without_call : FollowsStart (start program None store counts main) (start other None (renumbered_view n store) second

@@ -24,7 +24,7 @@ use Rattle.type_safety.specs.Results.{HasRule}
 use Rattle.record_replay_spec.specs.Hooks.{renumber, renumbered_view}
 use Rattle.record_replay_spec.specs.Insertions.{Site}
 use Rattle.record_replay_spec.specs.Instrumented.{instrumented_nest, weights_of_nest}
-use Rattle.record_replay_spec.specs.ToldCalls.{WaitingCall, Moment, moments_of_step, next_of_nest, told_after, told_by_step, told_by_trap, waiting_after_step, told_calls}
+use Rattle.record_replay_spec.specs.ReportedCalls.{WaitingCall, Moment, moments_of_step, next_of_nest, reported_after, reported_by_step, reported_by_trap, waiting_after_step, reported_calls}
 use Rattle.tape_laws.proofs.CoreFrames.{CoreFrame, CoreStack, KeepsCore, execute_keeps}
 use Rattle.tape_laws.proofs.TrailRuns.{globals_are_numbers}
 use Rattle.tape_laws.proofs.Ordered.{types_are}
@@ -120,10 +120,10 @@ module _ (m : Module) (heights : Heights) (valid : IsValid m) (typed : IsTypedCo
         weighs (exec nest) refl fine
       where
         quiet_step : Option Instr → List Val → List Val → Moment → Type 0
-        quiet_step o operands results moment = told_by_step (all_globals m) o operands results moment ≡ []
+        quiet_step o operands results moment = reported_by_step (all_globals m) o operands results moment ≡ []
 
         quiet_trap : Option Instr → List Val → Moment → Type 0
-        quiet_trap o operands moment = told_by_trap o operands moment ≡ []
+        quiet_trap o operands moment = reported_by_trap o operands moment ≡ []
 
         quiet_waits : Option Instr → List Val → Type 0
         quiet_waits o operands = waiting_after_step o operands waiting ≡ waiting
@@ -136,7 +136,7 @@ module _ (m : Module) (heights : Heights) (valid : IsValid m) (typed : IsTypedCo
         bs
         second body known
         (record {
-          step = λ operands results moment. ap (λ told. told ++ told_after (all_globals m) i results moment.after)
+          step = λ operands results moment. ap (λ reported. reported ++ reported_after (all_globals m) i results moment.after)
               (q.before operands moment.before)
               ∙ q.after (all_globals m) results moment.after;
           trap = λ operands moment. q.before operands moment.before;
@@ -256,7 +256,7 @@ module _ (m : Module) (heights : Heights) (valid : IsValid m) (typed : IsTypedCo
 
   abbrev pub FollowsStep : Config → List WaitingCall → Progress → Type 0
   FollowsStep config waiting at =
-      settled.Follows m heights other meter has (told_calls (all_globals m) waiting (moments_of_step program config))
+      settled.Follows m heights other meter has (reported_calls (all_globals m) waiting (moments_of_step program config))
       (waiting_after_all waiting (moments_of_step program config)) (step program config).next at 1
 
   module _ (rules : InstructionsHaveRules) (actions : FittingActionsHaveResults) where

@@ -1,9 +1,8 @@
 -- An instruction that neither branches nor calls does in an activation with more locals what it does in the original's.
 use Rattle.std.proofs.Common.{◌≡◌, ℕ, ◌+◌, ◌%◌, List, [], ◌∷◌, ◌++◌, Option, Some, None, slice_get, slice_set, refl, sym, ap, ◌∙◌, subst}
 use Rattle.std.specs.List.{slice_index_or}
-use Rattle.std.proofs.lemmas.List.{set-append_left}
 use Rattle.std.proofs.lemmas.Option.{slice_get_within}
-use Rattle.base.proofs.Lists.{get_front}
+use Rattle.base.proofs.Lists.{get_front, set_front}
 use Rattle.wasm_syntax.specs.declared.values.ValType.{ValType}
 use Rattle.wasm_syntax.specs.declared.values.ValType.TheVariants.{I32}
 use Rattle.wasm_syntax.specs.declared.values.Val.{Val}
@@ -41,10 +40,6 @@ IsStraight i = Unit {0}
 
 pub get_more : {A : Type 0} (xs ys : List A) (i : ℕ) (x : A) → slice_get xs i ≡ Some x → slice_get (xs ++ ys) i ≡ Some x
 get_more xs ys i x h = get_front xs ys i (slice_get_within xs i x h) ∙ h
-
-pub set_more : {A : Type 0} (xs ys : List A) (i : ℕ) (old x : A) → slice_get xs i ≡ Some old
-    → slice_set (xs ++ ys) i x ≡ slice_set xs i x ++ ys
-set_more xs ys i old x h = set-append_left xs ys i x (slice_get_within xs i old h)
 
 module _ (n : ℕ) (outer : Frame) (more : List Val) where
   -- an activation of the original in that of the instrumented function, at a place of the instrumented body
@@ -125,7 +120,7 @@ module _ (n : ℕ) (outer : Frame) (more : List Val) where
         (λ operands rest. ap
         (λ l. Did operands [] None
         (Goes (renumbered_view n store) (record outer { locals = l; values = rest; at = after })))
-        (set_more frame.locals more x old (slice_index_or operands 0 old) e)))
+        (set_front frame.locals more x old (slice_index_or operands 0 old) e)))
     straight (LocalTee x) is =
         on_alike after (slice_get frame.locals x) (slice_get (frame.locals ++ more) x) _ _
         (λ old e. get_more frame.locals more x old e)
@@ -152,7 +147,7 @@ module _ (n : ℕ) (outer : Frame) (more : List Val) where
             (λ l. Did operands operands None
             (Goes (renumbered_view n store)
             (record outer { locals = l; values = push_all operands rest; at = after })))
-            (set_more frame.locals more x old (slice_index_or operands 0 old) e)
+            (set_front frame.locals more x old (slice_index_or operands 0 old) e)
     straight (GlobalGet x) is = same_on (slice_get store.globals x) _ _ (λ v. refl)
     straight (GlobalSet x) is =
         same_on (slice_get store.globals x) _ _ (λ old. takes_alike (old.ty ∷ []) _ _ (λ operands rest. refl))

@@ -23,7 +23,7 @@ use Rattle.type_safety.specs.Stores.{func_count}
 use Rattle.type_safety.proofs.Values.{length_values}
 use Rattle.record_replay_spec.specs.Hooks.{HookCall, renumbered_view}
 use Rattle.record_replay_spec.specs.Insertions.{inserted_after}
-use Rattle.record_replay_spec.specs.ToldCalls.{WaitingCall, told_before, told_after}
+use Rattle.record_replay_spec.specs.ReportedCalls.{WaitingCall, reported_before, reported_after}
 use Rattle.tape_laws.proofs.ModuleFacts.{no_call_waits}
 use Rattle.instrumented_run_laws.proofs.Before.{operands_of, IsRule}
 use Rattle.instrumented_run_laws.proofs.Executed as executed
@@ -37,7 +37,7 @@ use Rattle.instrumented_run_laws.proofs.Ready.{IsReady}
 use Rattle.instrumented_run_laws.proofs.Relation.{Beside, frame_beside, IsBeside, AreCounted}
 use Rattle.instrumented_run_laws.proofs.Scratch.{scratch_values}
 use Rattle.instrumented_run_laws.proofs.Settled as settled
-use Rattle.instrumented_run_laws.proofs.ToldBefore as told_first
+use Rattle.instrumented_run_laws.proofs.ReportedBefore as reported_first
 use Rattle.instrumented_run_laws.proofs.Straight as straight
 use Rattle.instrumented_run_laws.proofs.Straight.{IsStraight}
 use Rattle.type_safety.proofs.SettleEnds.{results_end}
@@ -62,14 +62,14 @@ module _ (m : Module) (heights : Heights) (valid : IsValid m) (program other : P
       plainly = straight_plainly n i is
 
       -- the hook calls of the code before the instruction are made
-      open (told_first.names m heights valid program other meter has pieces store counts f i rest number below waiting b bs second body known plainly.no_return core rule) use {t, at_instr, middle, next_there, hooked_exec, to_instr, weighs, trapped}
+      open (reported_first.names m heights valid program other meter has pieces store counts f i rest number below waiting b bs second body known plainly.no_return core rule) use {t, at_instr, middle, next_there, hooked_exec, to_instr, weighs, trapped}
 
       alike : straight.IsAlike n hooked (scratch_values t.scratch) next_there exec hooked_exec
       alike =
           subst
           (λ j. straight.IsAlike n hooked (scratch_values t.scratch) next_there exec
           (execute_plain other.code (renumbered_view n store)
-          (told_first.at_instr m heights valid program other meter has pieces store counts f i rest number below waiting
+          (reported_first.at_instr m heights valid program other meter has pieces store counts f i rest number below waiting
           b bs second body known plainly.no_return core rule j) next_there j))
           (sym plainly.same)
           (straight.straight n hooked (scratch_values t.scratch) (code_of m) other.code store frame (place rest (number
@@ -91,15 +91,15 @@ module _ (m : Module) (heights : Heights) (valid : IsValid m) (program other : P
       went left locals values operands results found e framed =
           subst
           (λ w. settled.Follows m heights other meter has
-          ((told_before i operands store ++ told_after (all_globals m) i results left)
-          ++ settled.told_of m heights other meter has (Some i) store left w entries)
+          ((reported_before i operands store ++ reported_after (all_globals m) i results left)
+          ++ settled.reported_of m heights other meter has (Some i) store left w entries)
           (settled.waiting_of m heights other meter has (Some i) store left w entries) later start 1)
           (sym (no_call_waits (Some i) operands plainly.no_call waiting))
           (subst (λ calls. Follows calls start 1)
-          (sym (append_assoc (told_before i operands store) (told_after (all_globals m) i results left) told_later))
+          (sym (append_assoc (reported_before i operands store) (reported_after (all_globals m) i results left) reported_later))
           (subst
-          (λ calls. Follows (calls ++ (told_after (all_globals m) i results left ++ told_later)) start 1)
-          (ap (λ x. told_before i (operands_of x) store) e) all))
+          (λ calls. Follows (calls ++ (reported_after (all_globals m) i results left ++ reported_later)) start 1)
+          (ap (λ x. reported_before i (operands_of x) store) e) all))
         where
           next : Frame
           next = record frame { locals = locals; values = values; at = place rest (number + 1) }
@@ -124,13 +124,13 @@ module _ (m : Module) (heights : Heights) (valid : IsValid m) (program other : P
                   ∙ length_values (func_count m) _ f.locals known.framed.around.locals
                   ∙ sym (length_values (func_count m) _ locals framed.around.locals)
 
-          u : settled.PieceTold m heights other meter has left t.after hooked_below next (inserted_after site i)
+          u : settled.PieceReported m heights other meter has left t.after hooked_below next (inserted_after site i)
               beside_next
-              (told_after (all_globals m) i results left)
-          u = settled.piece_told m heights other meter has left t.after hooked_below next (inserted_after site i)
+              (reported_after (all_globals m) i results left)
+          u = settled.piece_reported m heights other meter has left t.after hooked_below next (inserted_after site i)
               beside_next
-              (told_after (all_globals m) i results left) beside
-              (pieces.after_told site refl has store left hooked_below
+              (reported_after (all_globals m) i results left) beside
+              (pieces.after_reported site refl has store left hooked_below
               (frame_beside m meter next (inserted_after site i) beside_next) locals beside.locals t.after t.scratch
               (code_of m) frame next (place rest (number + 1)) i operands results found is e known.globals)
 
@@ -142,8 +142,8 @@ module _ (m : Module) (heights : Heights) (valid : IsValid m) (program other : P
           entries : List Entry
           entries = (settle (InModule next ∷ below)).entries
 
-          told_later : List HookCall
-          told_later = settled.told_of m heights other meter has (Some i) store left waiting entries
+          reported_later : List HookCall
+          reported_later = settled.reported_of m heights other meter has (Some i) store left waiting entries
 
           waiting_later : List WaitingCall
           waiting_later = settled.waiting_of m heights other meter has (Some i) store left waiting entries
@@ -154,7 +154,7 @@ module _ (m : Module) (heights : Heights) (valid : IsValid m) (program other : P
           Follows : List HookCall → Progress → ℕ → Type 0
           Follows calls from turns = settled.Follows m heights other meter has calls waiting_later later from turns
 
-          after_piece : Follows told_later
+          after_piece : Follows reported_later
               (leads.settled n other meter (renumbered_view n left) u.after hooked_below (frame_beside m meter next []
               u.next))
               0
@@ -177,20 +177,20 @@ module _ (m : Module) (heights : Heights) (valid : IsValid m) (program other : P
               found
               (subst (λ x. straight.IsAlike n hooked (scratch_values t.scratch) next_there x hooked_exec) e alike)
 
-          all : Follows (told_before i (operands_of exec) store ++ (told_after (all_globals m) i results left ++
-              told_later))
+          all : Follows (reported_before i (operands_of exec) store ++ (reported_after (all_globals m) i results left ++
+              reported_later))
               start 1
           all =
-              follows.after_way m other meter (told_before i (operands_of exec) store)
-              (told_after (all_globals m) i results left ++ told_later) waiting_later later start middle 0 1
+              follows.after_way m other meter (reported_before i (operands_of exec) store)
+              (reported_after (all_globals m) i results left ++ reported_later) waiting_later later start middle 0 1
               to_instr
-              (follows.after_way m other meter [] (told_after (all_globals m) i results left ++ told_later)
+              (follows.after_way m other meter [] (reported_after (all_globals m) i results left ++ reported_later)
               waiting_later
               later middle
               (leads.settled n other meter (renumbered_view n left) t.after hooked_below
               (frame_beside m meter next (inserted_after site i) beside_next))
               1 0 before_piece
-              (follows.after_way m other meter (told_after (all_globals m) i results left) told_later waiting_later
+              (follows.after_way m other meter (reported_after (all_globals m) i results left) reported_later waiting_later
               later
               (leads.settled n other meter (renumbered_view n left) t.after hooked_below
               (frame_beside m meter next (inserted_after site i) beside_next))

@@ -63,7 +63,7 @@ AreAlike result other = ⊥
 
 -- after some steps the instrumented run has made the hook calls of the first `count` steps of the original's run, and
 -- has the original's outcome if that has one
-pub record IsTold (run : OriginalRun) (count : ℕ) : Type 0 where
+pub record IsReported (run : OriginalRun) (count : ℕ) : Type 0 where
   pub steps : ℕ
   pub calls : instrumented_calls run steps ≡ calls_of_run run count
   pub outcome : (outcome : Outcome) → (original_run run count).at ≡ Finished outcome
@@ -82,8 +82,8 @@ pub record IsFollowed (run : OriginalRun) : Type 0 where
   pub instrumented_results : (budget : ℕ) (other : RunResult)
       → IsResult (instrumented_run run) (instrumented_meter run.m) budget other
       → (result : RunResult) × IsResult (original_run run) all_one budget result × AreAlike result other
-  pub told : (count : ℕ) → IsTold run count
-  pub told_all : (count steps : ℕ) (outcome found : Outcome) → (original_run run count).at ≡ Finished outcome
+  pub reported : (count : ℕ) → IsReported run count
+  pub reported_all : (count steps : ℕ) (outcome found : Outcome) → (original_run run count).at ≡ Finished outcome
       → (instrumented_run run steps).at ≡ Finished found → instrumented_calls run steps ≡ calls_of_run run count
   pub ordered : (steps : ℕ)
       → first_disorder (hooked_shape run) (order_start (table_length run.store.table)) 0 (instrumented_calls run steps)

@@ -97,7 +97,7 @@ fn front_signed(bytes: &[u8], width: u32) -> Option<(i64, usize)>
     for (before, &byte) in bytes.iter().enumerate() {
         let left = width - shift;
         if byte < 0x80 {
-            let number = ended(low, shift, left, byte)?;
+            let number = last_signed(low, shift, left, byte)?;
             return Some((number, before + 1));
         }
         if left <= 7 {
@@ -111,7 +111,7 @@ fn front_signed(bytes: &[u8], width: u32) -> Option<(i64, usize)>
 
 /// The number with these `shift` low bits and a last byte above them, for which `left` bits are left.
 #[inline(always)]
-fn ended(low: u64, shift: u32, left: u32, byte: u8) -> Option<i64>
+fn last_signed(low: u64, shift: u32, left: u32, byte: u8) -> Option<i64>
     requires bits { low < 2 ^ shift }
     requires left { (0 < left) × (shift + left ≤ 64) }
     requires last { byte < 128 }

@@ -6,10 +6,10 @@ ghost use Rattle.leb_bytes.specs.Unsigned.{u32_bytes};
 use base::NoMemory;
 
 /// The most bytes that a u32 needs.
-const MOST_U32: usize = 5;
+const MAX_U32_BYTES: usize = 5;
 
 /// The most bytes that an s64 needs.
-const MOST_S64: usize = 10;
+const MAX_S64_BYTES: usize = 10;
 
 /// Appends the shortest encoding of a u32.
 ///
@@ -20,7 +20,7 @@ pub fn push_u32(out: &mut Vec<u8>, number: u32) -> Result<(), NoMemory>
     ensures ok { OnOk result (out.new.items ≡ out.old.items ++ u32_bytes number) }
     ensures refused { OnErr result (out.new.items ≡ out.old.items) }
 {
-    out.reserve(MOST_U32)?;
+    out.reserve(MAX_U32_BYTES)?;
     let mut rest = number;
     'bytes: while rest >= 0x80 {
         out.push_reserved((rest % 0x80) as u8 + 0x80);
@@ -39,7 +39,7 @@ pub fn push_i64(out: &mut Vec<u8>, number: i64) -> Result<(), NoMemory>
     ensures ok { OnOk result (out.new.items ≡ out.old.items ++ s64_bytes number) }
     ensures refused { OnErr result (out.new.items ≡ out.old.items) }
 {
-    out.reserve(MOST_S64)?;
+    out.reserve(MAX_S64_BYTES)?;
     let mut rest = number;
     'bytes: while !fits_seven_bits(rest) {
         out.push_reserved(low_bits(rest) + 0x80);

@@ -5,4 +5,4 @@ pub mod load_module;
 mod scripts;
 
 pub use base::NoMemory;
-pub use scripts::{MOST_CALLS, make_load};
+pub use scripts::make_load;

@@ -1,7 +1,7 @@
 // The script of a load.
 
 ghost use Rattle.std.specs.Prelude.{◌≡◌, ◌≤◌, [], ◌∷◌, ◌++◌, codes, decimal, OnOk, IfOk, length};
-ghost use Rattle.wasm_syntax.specs.declared.limits.TheConstants.{MOST_FILE_BYTES};
+ghost use Rattle.wasm_syntax.specs.declared.limits.TheConstants.{MAX_LOAD_CALLS, MAX_FILE_BYTES};
 ghost use Rattle.hex.specs.Hex.{encode_lower};
 ghost use Rattle.load_maker.specs.Loads.{comma_before, load_byte, load_script, response_text, responses_text, tick_text};
 ghost use Rattle.load_maker.specs.declared.load_module.TheConstants.{LOAD_MODULE};
@@ -12,20 +12,17 @@ use hex::encode_to_slice;
 use itoa::Buffer;
 use std::alloc::Global;
 
-/// The most calls of a load.
-pub const MOST_CALLS: u32 = 60_000;
-
 /// The bytes of a module and of a script for it, in which the module calls an import this number of times, at
-/// most 60,000. Both are within the limits of files.
+/// most `MAX_LOAD_CALLS`. Both are within the limits of files.
 ///
 /// # Errors
 /// `NoMemory` if an allocation failed.
 #[tactic(auto, using(crate::proofs::Sizes::short_script))]
 pub fn make_load(alloc: Global, number: u32) -> Result<(Vec<u8>, Vec<u8>), NoMemory>
-    requires { number ≤ MOST_CALLS }
+    requires { number ≤ MAX_LOAD_CALLS }
     ensures code { IfOk result (λ load. load.0.items ≡ LOAD_MODULE) }
     ensures script { IfOk result (λ load. load.1.items ≡ load_script number) }
-    ensures within { IfOk result (λ load. length load.1.items ≤ MOST_FILE_BYTES) }
+    ensures within { IfOk result (λ load. length load.1.items ≤ MAX_FILE_BYTES) }
 {
     let module = Vec::from_slice(alloc, &LOAD_MODULE)?;
     let script = script_of(alloc, number)?;

@@ -8,7 +8,7 @@ use Rattle.wasm_syntax.specs.declared.modules.ImportKind.TheVariants.{Func, Tabl
 use Rattle.wasm_syntax.specs.Index.{of_kind, func_import, table_import, memory_import, global_import}
 use Rattle.module_index.specs.IndexSpaces.{Spaces, spaces, imported_spaces, with_import}
 
-cons-append : {K : Type 0} (o : Option K) (ks ls : List K) → cons_option o (ks ++ ls) ≡ cons_option o ks ++ ls
+pub cons-append : {K : Type 0} (o : Option K) (ks ls : List K) → cons_option o (ks ++ ls) ≡ cons_option o ks ++ ls
 cons-append None ks ls = refl
 cons-append (Some k) ks ls = refl
 

@@ -1,6 +1,6 @@
 mod Alignment
 pub mod Counts
 mod IndexLemmas
-mod MarkLemmas
+pub mod MarkLemmas
 mod RunLemmas
 mod TableLemmas

@@ -1,9 +1,10 @@
 -- Lemmas on marks.
-use Rattle.std.proofs.Common.{◌≡◌, ℕ, ◌+◌, ◌<◌, ◌≤◌, List, [], ◌∷◌, ◌++◌, length, take, get_or, replicate, Option, Some, None, Bool, false, refl, sym, ap, ◌∙◌, append_assoc}
+use Rattle.std.proofs.Common.{◌≡◌, ℕ, ◌+◌, ◌<◌, ◌≤◌, List, [], ◌∷◌, ◌++◌, length, take, get_or, replicate, Option, Bool, false, refl, sym, ap, ◌∙◌, append_assoc}
 use Rattle.std.specs.Prelude.{filter_map, flat_map}
 use Rattle.std.specs.List.{cons_option}
 use Rattle.std.proofs.lemmas.List.{take_more, take_all, flat_map_more, length-replicate, get_or-replicate}
 use Rattle.module_index.specs.Marks.{AreMarks}
+use Rattle.module_index.proofs.IndexLemmas.{cons-append}
 
 -- one more element
 pub done-more : {A : Type 0} (done xs : List A) (i : ℕ) (d : A) → i < length xs
@@ -17,10 +18,6 @@ pub flat-more : {A : Type 0} (f : A → List ℕ) (done : List ℕ) (xs : List A
     → x ≡ get_or xs i x → (done ++ flat_map f (take i xs)) ++ f x ≡ done ++ flat_map f (take (i + 1) xs)
 flat-more f done xs i x h is =
     flat_map_more f done (take i xs) x ∙ ap (λ l. done ++ flat_map f l) (ap (λ y. take i xs ++ y ∷ []) is ∙ sym (take_more xs i x h))
-
-cons-append : {A : Type 0} (o : Option A) (xs ys : List A) → cons_option o (xs ++ ys) ≡ cons_option o xs ++ ys
-cons-append None xs ys = refl
-cons-append (Some x) xs ys = refl
 
 filter_map-push : {A B : Type 0} (f : A → Option B) (xs : List A) (x : A)
     → filter_map f (xs ++ x ∷ []) ≡ filter_map f xs ++ cons_option (f x) []

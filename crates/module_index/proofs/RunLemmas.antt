@@ -4,6 +4,7 @@ use Rattle.std.specs.Prelude.{slice_get, option_map}
 use Rattle.std.proofs.lemmas.List.{append-nil, length-append, length-replicate, get_or-replicate, get_or_append_left, take_more, take_all, length-drop, take-append-drop}
 use Rattle.std.proofs.lemmas.Grind.{flat_map-append}
 use Rattle.std.proofs.lemmas.Option.{slice_get-get_or}
+use Rattle.base.proofs.Lists.{get_after, get_front}
 use Rattle.wasm_syntax.specs.declared.values.ValType.{ValType}
 use Rattle.wasm_syntax.specs.declared.modules.Run.{Run}
 use Rattle.wasm_syntax.specs.Validity.{each_local}
@@ -75,17 +76,6 @@ in-first n i t rest lt =
     slice_get-get_or (replicate n t ++ rest) i t (omega (arith, length-append (replicate n t) rest, length-replicate n t))
     ∙ ap Some (get_or_append_left (replicate n t) rest t i (omega (arith, length-replicate n t)) ∙ get_or-replicate n i t t lt)
 
-pub in-second : {A : Type 0} (xs ys : List A) (i : ℕ) → length xs ≤ i
-    → slice_get (xs ++ ys) i ≡ slice_get ys (i - length xs)
-in-second [] ys i h = ap (slice_get ys) (omega arith)
-in-second (x ∷ xs) ys zero h = absurd (omega arith)
-in-second (x ∷ xs) ys (suc i) h = in-second xs ys i (omega arith) ∙ ap (slice_get ys) (omega arith)
-
-pub in-front : {A : Type 0} (xs ys : List A) (i : ℕ) → i < length xs → slice_get (xs ++ ys) i ≡ slice_get xs i
-in-front [] ys i h = absurd (omega arith)
-in-front (x ∷ xs) ys zero h = refl
-in-front (x ∷ xs) ys (suc i) h = in-front xs ys i (omega arith)
-
 pub run-over : (start : ℕ) (ends : List RunEnd) (place at : ℕ) → AreEnds start ends → start ≤ place
     → ((k : ℕ) (d : RunEnd) → k < at → k < length ends → (get_or ends k d).end ≤ place)
     → ((k : ℕ) (d : RunEnd) → at ≤ k → k < length ends → place < (get_or ends k d).end)
@@ -99,13 +89,13 @@ run-over start (e ∷ ends) place (suc at) h low before behind =
     let first : start ≤ e.end = h.0 in
     run-over e.end ends place at h.1 passed (λ k d lt le. before (suc k) d (omega arith) (omega arith)) (λ k d le lt. behind (suc k) d (omega arith) (omega arith))
     ∙ ap (slice_get (locals_from e.end ends)) (omega (arith, length-replicate (e.end - start) e.ty))
-    ∙ sym (in-second (replicate (e.end - start) e.ty) (locals_from e.end ends) (place - start) (omega (arith, length-replicate (e.end - start) e.ty)))
+    ∙ sym (get_after (replicate (e.end - start) e.ty) (locals_from e.end ends) (place - start) (omega (arith, length-replicate (e.end - start) e.ty)))
 
 -- no local is out of reach of an index, if runs after it are left
 kept-front : (kept : List ValType) (rest : List Run) (place : ℕ) → (0 < length rest → place < length kept)
     → slice_get kept place ≡ slice_get (kept ++ each_local rest) place
 kept-front kept [] place h = ap (λ l. slice_get l place) (sym (append-nil kept))
-kept-front kept (run ∷ rest) place h = sym (in-front kept (each_local (run ∷ rest)) place (h (omega arith)))
+kept-front kept (run ∷ rest) place h = sym (get_front kept (each_local (run ∷ rest)) place (h (omega arith)))
 
 -- all runs, a given number of them kept
 pub kept-and_rest : (params : List ValType) (ends : List RunEnd) (count : ℕ) (runs : List Run)
@@ -125,8 +115,4 @@ local-after params ends rest index place e small h =
     let count : length (locals_from 0 ends) + 0 ≡ last_end 0 ends = length-locals_from 0 ends h.rising in
     let at : index - length params ≡ place = omega arith in
     kept-front (locals_from 0 ends) rest place (λ some. let far : 2 ^ 32 ≤ last_end 0 ends = h.enough some in omega (arith, count, far))
-    ∙ sym (in-second params (locals_from 0 ends ++ each_local rest) index (omega arith) ∙ ap (slice_get (locals_from 0 ends ++ each_local rest)) at)
-
-pub local-param : (params locals : List ValType) (index : ℕ) (t : ValType) → index < length params
-    → t ≡ get_or params index t → Some t ≡ slice_get (params ++ locals) index
-local-param params locals index t h is = sym (in-front params locals index h ∙ slice_get-get_or params index t h ∙ ap Some (sym is))
+    ∙ sym (get_after params (locals_from 0 ends ++ each_local rest) index (omega arith) ∙ ap (slice_get (locals_from 0 ends ++ each_local rest)) at)

@@ -6,7 +6,7 @@ use base::NoMemory;
 use wasm_syntax::List;
 
 /// A list and another after it.
-pub(crate) fn joined<T: Drop>(first: List<T>, second: List<T>) -> Result<List<T>, NoMemory>
+pub(crate) fn concat<T: Drop>(first: List<T>, second: List<T>) -> Result<List<T>, NoMemory>
     ensures { IfOk result (λ list. list ≡ first ++ second) }
 {
     let mut items = first.into_vec();

@@ -13,7 +13,7 @@ ghost use Rattle.replay_module_laws.specs.Laws.{StatesMaximum};
 ghost use Rattle.module_merge.specs.Generated.{IsGenerated};
 
 use crate::globals::kept_globals;
-use crate::lists::joined;
+use crate::lists::concat;
 use crate::sections::{layout_sections, limits_list, start_exports, written_limits};
 use crate::segments::{constant_datas, merged_elems};
 use base::NoMemory;
@@ -200,8 +200,8 @@ fn merged_code(
         types: own_types,
         funcs,
     } = code;
-    let types = joined(own_types, types)?;
-    let funcs = joined(bodies, joined(funcs, helpers)?)?;
+    let types = concat(own_types, types)?;
+    let funcs = concat(bodies, concat(funcs, helpers)?)?;
     Ok(Code { types, funcs })
 }
 
@@ -224,7 +224,7 @@ fn with_exports(
     } = outline;
     let Code { types, funcs } = code;
     let Segments { elems, datas } = segments;
-    let globals = joined(own_globals, globals)?;
+    let globals = concat(own_globals, globals)?;
     let exports = start_exports(alloc, entry)?;
     Ok(Module {
         types,

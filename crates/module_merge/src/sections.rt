@@ -2,20 +2,19 @@
 
 ghost use Rattle.std.specs.Prelude.{◌≡◌, ◌<◌, ◌^◌, [], ◌∷◌, length, min, option_map, IfOk};
 ghost use Rattle.std.specs.Option.{option_to_list};
+ghost use Rattle.wasm_syntax.specs.declared.limits.TheConstants.{MAX_DECLARED_PAGES};
 ghost use Rattle.wasm_syntax.specs.Index.{func_indices};
-ghost use Rattle.replay_module_spec.specs.Merge.{layout_section, memory_written, most_written};
+ghost use Rattle.replay_module_spec.specs.Merge.{layout_section, memory_written};
 ghost use Rattle.module_merge.specs.Parts.{start_export};
 
 use base::NoMemory;
 use leb_bytes::push_u32;
 use module_index::scope::Scope;
 use std::alloc::Global;
+use wasm_syntax::limits::MAX_DECLARED_PAGES;
 use wasm_syntax::{
     Bytes, Custom, Customs, Export, ExportKind, Exports, Limits, LimitsList, List, Name,
 };
-
-/// The most pages that a memory's limits may declare (Core 1.0, 3.2.4).
-const MOST_PAGES: u32 = 65_536;
 
 /// A list of the limits, empty if there are none.
 pub(crate) fn limits_list(alloc: Global, limits: Option<Limits>) -> Result<LimitsList, NoMemory>
@@ -43,10 +42,10 @@ pub(crate) fn written_limits(limits: Option<Limits>) -> Option<Limits>
 
 /// A maximum that is too great is lowered to the greatest allowed, which changes no growth.
 fn written_maximum(max: Option<u32>) -> Option<u32>
-    ensures { result ≡ option_map (λ most. min most most_written) max }
+    ensures { result ≡ option_map (λ most. min most MAX_DECLARED_PAGES) max }
 {
     match max {
-        Some(max) => Some(max.min(MOST_PAGES)),
+        Some(max) => Some(max.min(MAX_DECLARED_PAGES)),
         None => None,
     }
 }

@@ -2,7 +2,7 @@
 use Rattle.std.proofs.Common.{◌≡◌, ℕ, ◌+◌, ◌<◌, List, length, drop, get_or, Option, Some, None, option_map, is_some, cond, Bool, true, false, refl}
 use Rattle.std.specs.Prelude.{find}
 use Rattle.std.specs.Option.{option_or}
-use Rattle.module_names.proofs.Lists.{front}
+use Rattle.base.proofs.Lists.{drop_at_item}
 
 module _ {X V Q : Type 0} (value : X → V) (test : Q → X → Bool) where
   -- what the first item gives that passes the test
@@ -13,7 +13,7 @@ module _ {X V Q : Type 0} (value : X → V) (test : Q → X → Bool) where
   pub passed : (L : Q → Option V) (xs : List X) (i : ℕ) (x : X) → i < length xs → x ≡ get_or xs i x
       → ((q : Q) → test q x ≡ true → is_some (L q) ≡ true)
       → (q : Q) → option_or (L q) (first_in (drop i xs) q) ≡ option_or (L q) (first_in (drop (i + 1) xs) q)
-  passed L xs i x lt is there q = rw (front xs i x lt is) (by (test q x) (L q) (there q))
+  passed L xs i x lt is there q = rw (drop_at_item xs i x lt is) (by (test q x) (L q) (there q))
     where
       by : (b : Bool) (l : Option V) → (b ≡ true → is_some l ≡ true)
           → option_or l (option_map value (cond b (Some x) (find (test q) (drop (i + 1) xs)))) ≡ option_or l (option_map value (find (test q) (drop (i + 1) xs)))
@@ -26,7 +26,7 @@ module _ {X V Q : Type 0} (value : X → V) (test : Q → X → Bool) where
       → ((q : Q) → test q x ≡ true → L q ≡ None)
       → ((q : Q) → M q ≡ cond (test q x) (Some (value x)) (L q))
       → (q : Q) → option_or (M q) (first_in (drop (i + 1) xs) q) ≡ option_or (L q) (first_in (drop i xs) q)
-  added L M xs i x lt is none new q = rw (front xs i x lt is, new q) (by (test q x) (L q) (none q))
+  added L M xs i x lt is none new q = rw (drop_at_item xs i x lt is, new q) (by (test q x) (L q) (none q))
     where
       by : (b : Bool) (l : Option V) → (b ≡ true → l ≡ None)
           → option_or (cond b (Some (value x)) l) (option_map value (find (test q) (drop (i + 1) xs))) ≡ option_or l (option_map value (cond b (Some x) (find (test q) (drop (i + 1) xs))))

@@ -3,6 +3,7 @@ use Rattle.std.proofs.Common.{◌≡◌, ℕ, zero, suc, ◌-◌, ◌<◌, ◌�
 use Rattle.std.specs.List.{cons_option}
 use Rattle.std.proofs.lemmas.List.{length-map}
 use Rattle.std.proofs.lemmas.Option.{slice_get-map, slice_get-get_or}
+use Rattle.base.proofs.Lists.{get_after, get_front}
 use Rattle.wasm_syntax.specs.declared.modules.Import.{Import}
 use Rattle.wasm_syntax.specs.declared.modules.ImportKind.{ImportKind}
 use Rattle.wasm_syntax.specs.Index.{of_kind}
@@ -32,19 +33,6 @@ module _ {K : Type 0} (pick : ImportKind → Option K) where
       by zero (Some k) e h = sym e
       by (suc i) (Some k) e h = h i
 
-pub get-first : {A : Type 0} (xs ys : List A) (i : ℕ) → i < length xs → slice_get (xs ++ ys) i ≡ slice_get xs i
-get-first [] ys i lt = absurd (omega arith)
-get-first (x ∷ xs) ys zero lt = refl
-get-first (x ∷ xs) ys (suc i) lt = get-first xs ys i (omega arith)
-
-pub get-second : {A : Type 0} (xs ys : List A) (i : ℕ) → length xs ≤ i
-    → slice_get (xs ++ ys) i ≡ slice_get ys (i - length xs)
-get-second [] ys i le = let e : i - 0 ≡ i = omega arith in rw e refl
-get-second (x ∷ xs) ys zero le = absurd (omega arith)
-get-second (x ∷ xs) ys (suc i) le =
-    let e : suc i - length (x ∷ xs) ≡ i - length xs = omega arith in
-    rw e (get-second xs ys i (omega arith))
-
 module _ {K : Type 0} (pick : ImportKind → Option K) where
   same_length : (found : List (Bor Import)) (imports : List Import)
       → map (λ import. import.now) found ≡ filter (is_kind pick) imports → length found ≡ length (of_kind pick imports)
@@ -56,7 +44,7 @@ module _ {K : Type 0} (pick : ImportKind → Option K) where
   at_import found imports rest i x h lt is =
       let lt' : i < length (of_kind pick imports) = omega (arith, same_length found imports h) in
       let here : slice_get found i ≡ Some x = slice_get-get_or found i x lt ∙ ap Some (sym is) in
-      get-first (of_kind pick imports) rest i lt' ∙ get-of_kind pick imports i
+      get_front (of_kind pick imports) rest i lt' ∙ get-of_kind pick imports i
       ∙ ap (λ l. option_and_then (λ (y : Import). pick y.kind) (slice_get l i)) (sym h)
       ∙ ap (option_and_then (λ (y : Import). pick y.kind)) (slice_get-map (λ import. import.now) found i ∙ ap (option_map (λ import. import.now)) here)
 
@@ -66,4 +54,4 @@ module _ {K : Type 0} (pick : ImportKind → Option K) where
   past_imports found imports rest i h le =
       let same = same_length found imports h in
       let le' : length (of_kind pick imports) ≤ i = omega (arith, same) in
-      get-second (of_kind pick imports) rest i le' ∙ ap (λ n. slice_get rest (i - n)) (sym same)
+      get_after (of_kind pick imports) rest i le' ∙ ap (λ n. slice_get rest (i - n)) (sym same)

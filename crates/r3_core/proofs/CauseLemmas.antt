@@ -57,7 +57,7 @@ module _ {X : Type 0} (p : X → Bool) where
 -- a file was not loaded: it could not be read, or it is too long
 module _ (reading : Reading) (files : List (List ℕ × ℕ)) (P : Fault → Type 0)
     (read : (name : List ℕ) → Contains (map (λ file. file.0) files) name → Rose (reading.faults_before name) (reading.faults_now name) → P (faults.Read name))
-    (too_long : (name : List ℕ) (limit : ℕ) → Contains files (name, limit) → Took (reading.taken_before name) (reading.taken_now name) (limit + 1) → ForSome reading.contents (λ told. first_longer told files ≡ Some (name, limit)) → P (faults.TooLong name limit)) where
+    (too_long : (name : List ℕ) (limit : ℕ) → Contains files (name, limit) → Took (reading.taken_before name) (reading.taken_now name) (limit + 1) → ForSome reading.contents (λ known. first_longer known files ≡ Some (name, limit)) → P (faults.TooLong name limit)) where
   pub load-cases : (fault : Fault) → IsLoadCause reading files fault → P fault
   load-cases (faults.Read name) c = read name c.0 c.1
   load-cases (faults.TooLong name limit) c = too_long name limit c.0 c.1 c.2
@@ -95,14 +95,14 @@ module _ (reading : Reading) (files : List (List ℕ × ℕ)) (P : Fault → Typ
   load-cases faults.HookedLimit c = absurd c
 
 -- the cause of one file's fault, among files before it that are not too long
-module _ (told : Option FileMap) (fb fm fn tb tm tn : List ℕ → ℕ) (before : List (List ℕ × ℕ)) (file : List ℕ × ℕ)
+module _ (known : Option FileMap) (fb fm fn tb tm tn : List ℕ → ℕ) (before : List (List ℕ × ℕ)) (file : List ℕ × ℕ)
     (after : List (List ℕ × ℕ)) (f : NoneFell fb fm) (t : NoneFell tb tm)
-    (within : ForSome told (λ told. first_longer told before ≡ None)) where
-  pub IsLoadCause-among : (fault : Fault) → IsLoadCause (reading_of told fm fn tm tn) (file ∷ []) fault
-      → IsLoadCause (reading_of told fb fn tb tn) (before ++ file ∷ after) fault
+    (within : ForSome known (λ known. first_longer known before ≡ None)) where
+  pub IsLoadCause-among : (fault : Fault) → IsLoadCause (reading_of known fm fn tm tn) (file ∷ []) fault
+      → IsLoadCause (reading_of known fb fn tb tn) (before ++ file ∷ after) fault
   IsLoadCause-among =
-      load-cases (reading_of told fm fn tm tn) (file ∷ [])
-      (λ fault. IsLoadCause (reading_of told fb fn tb tn) (before ++ file ∷ after) fault)
+      load-cases (reading_of known fm fn tm tn) (file ∷ [])
+      (λ fault. IsLoadCause (reading_of known fb fn tb tn) (before ++ file ∷ after) fault)
       (λ name listed rose. (
         subst (λ names. Contains names name) (sym (map-append (λ file. file.0) before (file ∷ after)))
             (Contains-append_right (map (λ file. file.0) before) _ name
@@ -117,30 +117,30 @@ module _ (told : Option FileMap) (fb fm fn tb tm tn : List ℕ → ℕ) (before 
 
 module _ {Y : Type 0} (names : List (String Y)) (limits : List ℕ) where
   -- the cause of a fault of the file at `i`, if the files before it are not too long
-  pub IsLoadCause-at : (i : ℕ) (d : String Y) (told told' : Option FileMap) (fb fm fn tb tm tn : List ℕ → ℕ) (name : List ℕ)
-      → i < length names → length names ≡ length limits → name ≡ string_bytes (get_or names i d) → told' ≡ told
-      → NoneFell fb fm → NoneFell tb tm → ForSome told (λ told. first_longer told (take i (zip (texts names) limits)) ≡ None)
-      → (fault : Fault) → IsLoadCause (reading_of told' fm fn tm tn) ((name, get_or limits i 0) ∷ []) fault
-      → IsLoadCause (reading_of told fb fn tb tn) (zip (texts names) limits) fault
-  IsLoadCause-at i d told told' fb fm fn tb tm tn name h same is_name same_told f t within fault cause =
-      let here : IsLoadCause (reading_of told fm fn tm tn) ((string_bytes (get_or names i d), get_or limits i 0) ∷ []) fault =
-      subst (λ name. IsLoadCause (reading_of told fm fn tm tn) ((name, get_or limits i 0) ∷ []) fault) is_name
-      (subst (λ told. IsLoadCause (reading_of told fm fn tm tn) ((name, get_or limits i 0) ∷ []) fault) same_told cause)
+  pub IsLoadCause-at : (i : ℕ) (d : String Y) (known known' : Option FileMap) (fb fm fn tb tm tn : List ℕ → ℕ) (name : List ℕ)
+      → i < length names → length names ≡ length limits → name ≡ string_bytes (get_or names i d) → known' ≡ known
+      → NoneFell fb fm → NoneFell tb tm → ForSome known (λ known. first_longer known (take i (zip (texts names) limits)) ≡ None)
+      → (fault : Fault) → IsLoadCause (reading_of known' fm fn tm tn) ((name, get_or limits i 0) ∷ []) fault
+      → IsLoadCause (reading_of known fb fn tb tn) (zip (texts names) limits) fault
+  IsLoadCause-at i d known known' fb fm fn tb tm tn name h same is_name same_reported f t within fault cause =
+      let here : IsLoadCause (reading_of known fm fn tm tn) ((string_bytes (get_or names i d), get_or limits i 0) ∷ []) fault =
+      subst (λ name. IsLoadCause (reading_of known fm fn tm tn) ((name, get_or limits i 0) ∷ []) fault) is_name
+      (subst (λ known. IsLoadCause (reading_of known fm fn tm tn) ((name, get_or limits i 0) ∷ []) fault) same_reported cause)
       in
-      subst (λ files. IsLoadCause (reading_of told fb fn tb tn) files fault) (files-at names limits i d 0 h same)
-      (IsLoadCause-among told fb fm fn tb tm tn _ _ _ f t within fault here)
+      subst (λ files. IsLoadCause (reading_of known fb fn tb tn) files fault) (files-at names limits i d 0 h same)
+      (IsLoadCause-among known fb fm fn tb tm tn _ _ _ f t within fault here)
 
   -- no file up to the one at `i` is too long
-  pub first_longer-more : (told : FileMap) (i : ℕ) (d : String Y) (name : List ℕ) → i < length names
+  pub first_longer-more : (known : FileMap) (i : ℕ) (d : String Y) (name : List ℕ) → i < length names
       → length names ≡ length limits → name ≡ string_bytes (get_or names i d)
-      → first_longer told (take i (zip (texts names) limits)) ≡ None
-      → first_longer told ((name, get_or limits i 0) ∷ []) ≡ None
-      → first_longer told (take (i + 1) (zip (texts names) limits)) ≡ None
-  first_longer-more told i d name h same is_name before here =
-      let here' = subst (λ name. first_longer told ((name, get_or limits i 0) ∷ []) ≡ None) is_name here in
-      ap (λ n. first_longer told (take n (zip (texts names) limits))) (add-one i)
-      ∙ ap (first_longer told) (files-more names limits i d 0 h same)
-      ∙ find-more (λ file. nat_lt file.1 (length (file_bytes told file.0))) (take i (zip (texts names) limits)) (string_bytes (get_or names i d), get_or limits i 0) before here'
+      → first_longer known (take i (zip (texts names) limits)) ≡ None
+      → first_longer known ((name, get_or limits i 0) ∷ []) ≡ None
+      → first_longer known (take (i + 1) (zip (texts names) limits)) ≡ None
+  first_longer-more known i d name h same is_name before here =
+      let here' = subst (λ name. first_longer known ((name, get_or limits i 0) ∷ []) ≡ None) is_name here in
+      ap (λ n. first_longer known (take n (zip (texts names) limits))) (add-one i)
+      ∙ ap (first_longer known) (files-more names limits i d 0 h same)
+      ∙ find-more (λ file. nat_lt file.1 (length (file_bytes known file.0))) (take i (zip (texts names) limits)) (string_bytes (get_or names i d), get_or limits i 0) before here'
 
 -- all files
 pub files-all : {Y : Type 0} (names : List (String Y)) (limits : List ℕ) (i : ℕ) → length names ≤ i
@@ -155,17 +155,17 @@ files-all (n ∷ ns) (l ∷ ls) (suc i) h = ap (λ files. (string_bytes n, l) �
 -- the bytes of one more file
 pub AreBytesOf-more : {Y Z : Type 0} (contents : Option FileMap) (names : List (String Y)) (i : ℕ) (d : String Y) (loaded more : List (Vec ℕ Z)) (bytes : Vec ℕ Z)
     → i < length names → more ≡ loaded ++ bytes ∷ [] → AreBytesOf contents (texts (take i names)) (all_bytes loaded)
-    → ForSome contents (λ told. bytes.items ≡ file_bytes told (string_bytes (get_or names i d)))
+    → ForSome contents (λ known. bytes.items ≡ file_bytes known (string_bytes (get_or names i d)))
     → AreBytesOf contents (texts (take (i + 1) names)) (all_bytes more)
-AreBytesOf-more contents names i d loaded more bytes h pushed before here = λ told e.
+AreBytesOf-more contents names i d loaded more bytes h pushed before here = λ known e.
     let one = string_bytes (get_or names i d) in
     ap all_bytes pushed
     ∙ map-append (λ bytes. bytes.items) loaded (bytes ∷ [])
-    ∙ ap (λ l. l ++ bytes.items ∷ []) (before told e)
-    ∙ ap (λ x. map (file_bytes told) (texts (take i names)) ++ x ∷ []) (here told e)
-    ∙ sym (map-append (file_bytes told) (texts (take i names)) (one ∷ []))
-    ∙ ap (map (file_bytes told)) (sym (map-append string_bytes (take i names) (get_or names i d ∷ [])))
-    ∙ ap (λ l. map (file_bytes told) (texts l)) (sym (take_more names i d h))
+    ∙ ap (λ l. l ++ bytes.items ∷ []) (before known e)
+    ∙ ap (λ x. map (file_bytes known) (texts (take i names)) ++ x ∷ []) (here known e)
+    ∙ sym (map-append (file_bytes known) (texts (take i names)) (one ∷ []))
+    ∙ ap (map (file_bytes known)) (sym (map-append string_bytes (take i names) (get_or names i d ∷ [])))
+    ∙ ap (λ l. map (file_bytes known) (texts l)) (sym (take_more names i d h))
 
 -- one more list within its limit
 AreWithin-after : (lists : List (List ℕ)) (bytes : List ℕ) (limits : List ℕ) → length lists < length limits

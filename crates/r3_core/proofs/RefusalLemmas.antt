@@ -4,6 +4,7 @@ use Rattle.r3_faults.specs.Lines.{status_of}
 use Rattle.r3_faults.specs.declared.faults.Fault.{Fault}
 use Rattle.r3_faults.specs.declared.faults.Fault.TheVariants as faults
 use Rattle.wasm_syntax.specs.Profile as profile
+use Rattle.wasm_syntax.specs.declared.limits.TheConstants.{LOAD_TURNS}
 use Rattle.wasm_syntax.specs.Profile.{Refusal}
 use Rattle.script_text.specs.declared.faults.ScriptFault.{ScriptFault}
 use Rattle.script_text.specs.declared.faults.ScriptFault.TheVariants as script
@@ -17,7 +18,7 @@ use Rattle.host_script.specs.declared.scripts.Script.{Script}
 use Rattle.host_script.specs.declared.scripts.LinkFault.{LinkFault}
 use Rattle.host_script.specs.declared.scripts.LinkFault.TheVariants as link
 use Rattle.r3_history.specs.Histories as histories
-use Rattle.r3_history.specs.Histories.{IsHistoryRefusal, IsUntold, OfRun, OfLink}
+use Rattle.r3_history.specs.Histories.{IsHistoryRefusal, IsUnprinted, OfRun, OfLink}
 use Rattle.replay_run.specs.declared.results.ReplayFault.{ReplayFault}
 use Rattle.replay_run.specs.declared.results.ReplayFault.TheVariants as replay
 use Rattle.r3_inputs.specs.declared.module_files.ModuleFile.{ModuleFile}
@@ -26,21 +27,20 @@ use Rattle.r3_replay.specs.ReplayTexts as texts
 use Rattle.r3_replay.specs.ReplayTexts.{IsReplayRefusal, replay_fault}
 use Rattle.trace_format.specs.declared.files.FormatFault.{FormatFault}
 use Rattle.trace_format.specs.declared.files.FormatFault.TheVariants as format
-use Rattle.r3_show.specs.Shown.{IsShowRefusal, fault_of}
+use Rattle.r3_show.specs.FileLines.{IsShowRefusal, fault_of}
 use Rattle.sha2.specs.Sha256.{sha256}
 use Rattle.host_play.specs.declared.results.PlayFault.{PlayFault}
 use Rattle.host_play.specs.declared.results.PlayFault.TheVariants as play
-use Rattle.r3_instrument.specs.Hooked as hooked
-use Rattle.r3_instrument.specs.Hooked.{IsHookedRefusal}
+use Rattle.r3_instrument.specs.InstrumentedBytes as hooked
+use Rattle.r3_instrument.specs.InstrumentedBytes.{IsHookedRefusal}
 use Rattle.r3_make.specs.LogFiles as logs
 use Rattle.r3_make.specs.LogFiles.{HasNoModuleLog, IsLogRefusal, record_fault}
 use Rattle.trace_model.specs.Weight.{tape_weight}
-use Rattle.r3_reduce.specs.Reduced.{IsReduceRefusal}
+use Rattle.r3_reduce.specs.TapeFiles.{IsReduceRefusal}
 use Rattle.r3_make.specs.BuildRefusals as tapes
 use Rattle.r3_make.specs.BuildRefusals.{IsBuildRefusal, IsUntaken}
 use Rattle.load_maker.specs.Loads.{load_script}
 use Rattle.load_maker.specs.declared.load_module.TheConstants.{LOAD_MODULE}
-use Rattle.r3_make.specs.Summaries.{load_turns}
 use Rattle.r3_core.specs.declared.words.Command.{Command}
 use Rattle.r3_core.specs.declared.words.Command.TheVariants.{Make, Instrument, Record, Reduce, Build, History, Replay, Show, Load}
 use Rattle.r3_core.specs.Words.{form}
@@ -113,16 +113,16 @@ make-status : (module_bytes script_bytes : List ℕ) (turns : ℕ) (fault : Faul
 make-status m s turns fault (OfInputs refused) = inputs-other m s fault refused
 make-status m s turns fault (OfModule n played inputs unmade) = unmade-status n played turns fault unmade
 
-untold-status : (m : Module) (played : Script) (turns : ℕ) (fault : Fault) → IsUntold m played turns fault
+unreported-status : (m : Module) (played : Script) (turns : ℕ) (fault : Fault) → IsUnprinted m played turns fault
     → IsOther (status_of fault)
-untold-status m played turns fault (OfLink u) = named-other fault (unlinked.link_fault u.found) u.named (link-other u.found u.differs)
-untold-status m played turns fault (histories.OfOutcome (runs.OfScript u)) = named-other fault (faults.Script u.turn u.kind) u.named refl
-untold-status m played turns fault (histories.OfOutcome (runs.OfTurns u)) = named-other fault (faults.Spent turns) u.named refl
+unreported-status m played turns fault (OfLink u) = named-other fault (unlinked.link_fault u.found) u.named (link-other u.found u.differs)
+unreported-status m played turns fault (histories.OfOutcome (runs.OfScript u)) = named-other fault (faults.Script u.turn u.kind) u.named refl
+unreported-status m played turns fault (histories.OfOutcome (runs.OfTurns u)) = named-other fault (faults.Spent turns) u.named refl
 
 history-status : (module_bytes script_bytes : List ℕ) (turns : ℕ) (fault : Fault)
     → IsHistoryRefusal module_bytes script_bytes turns fault → IsOther (status_of fault)
 history-status m s turns fault (histories.OfInputs refused) = inputs-other m s fault refused
-history-status m s turns fault (OfRun original played inputs untold) = untold-status original played turns fault untold
+history-status m s turns fault (OfRun original played inputs unreported) = unreported-status original played turns fault unreported
 
 replay-other : (turns : ℕ) (found : ReplayFault) → (found ≡ replay.Memory → ⊥) → is_other (status_of (replay_fault turns found)) ≡ true
 replay-other turns replay.NoLayout differs = refl
@@ -223,5 +223,5 @@ refusal-status Show (trace ∷ []) None fault c = show-status trace fault c
 refusal-status Show (trace ∷ []) (Some number) fault c = absurd c
 refusal-status Show (trace ∷ t ∷ more) number fault c = absurd c
 refusal-status Load [] None fault c = absurd c
-refusal-status Load [] (Some number) fault c = make-status LOAD_MODULE (load_script number) load_turns fault c
+refusal-status Load [] (Some number) fault c = make-status LOAD_MODULE (load_script number) LOAD_TURNS fault c
 refusal-status Load (m ∷ more) number fault c = absurd c

@@ -3,7 +3,7 @@ use Rattle.std.proofs.Common.{◌≡◌, List, ℕ, sym, subst, inl, inr, Option
 use Rattle.std.specs.Result.{IsErrAnd}
 use Rattle.r3_outside.specs.Count.{Rose}
 use Rattle.r3_outside.specs.Growth.{Grew, GrewByPrefix}
-use Rattle.r3_faults.specs.Lines.{IsTold}
+use Rattle.r3_faults.specs.Lines.{IsReported}
 
 -- a property of an error that is passed on
 pub IfErr-from : {T E : Type 0} (r : Result T E) (e : E) (P : E → Type 0) → IsErrAnd r (λ y. y ≡ e) → P e → IfErr r P
@@ -16,8 +16,8 @@ IsErrAnd-from (Ok x) e P h p = h
 IsErrAnd-from (Err y) e P h p = subst P (sym h) p
 
 -- a line as `put_line` leaves it
-pub IsTold-from : {E : Type 0} (r : Result (Unit {0}) E) (before now : Option (List ℕ)) (faults_before faults_now : ℕ) (line : List ℕ)
+pub IsReported-from : {E : Type 0} (r : Result (Unit {0}) E) (before now : Option (List ℕ)) (faults_before faults_now : ℕ) (line : List ℕ)
     → OnOk r (Grew before now line) → OnErr r (GrewByPrefix before now line) → OnErr r (Rose faults_before faults_now)
-    → IsTold before now faults_before faults_now line
-IsTold-from (Ok x) before now fb fn line whole prefix rose = inl whole
-IsTold-from (Err e) before now fb fn line whole prefix rose = inr (prefix, rose)
+    → IsReported before now faults_before faults_now line
+IsReported-from (Ok x) before now fb fn line whole prefix rose = inl whole
+IsReported-from (Err e) before now fb fn line whole prefix rose = inr (prefix, rose)

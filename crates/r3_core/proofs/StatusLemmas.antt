@@ -37,7 +37,7 @@ module _ (reading : Reading) (files : List (List ℕ × ℕ)) where
   abbrev pub HasLongFile : Type 0
   HasLongFile =
       (file : List ℕ × ℕ) × Contains files file × Took (reading.taken_before file.0) (reading.taken_now file.0) (file.1 + 1)
-      × ForSome reading.contents (λ told. first_longer told files ≡ Some file)
+      × ForSome reading.contents (λ known. first_longer known files ≡ Some file)
 
   pub load-status_too_long : (fault : Fault) → IsLoadCause reading files fault → status_of fault ≡ 4 → HasLongFile
   load-status_too_long =
@@ -61,24 +61,24 @@ none-differs : (file : List ℕ × ℕ) (found : Option (List ℕ × ℕ)) → f
 none-differs file None none some = cc some
 none-differs file (Some other) none some = cc none
 
-pub load-refused : (reading : Reading) (files : List (List ℕ × ℕ)) (fault : Fault) (other : ℕ) (told : FileMap)
-    → reading.contents ≡ Some told → first_longer told files ≡ None
+pub load-refused : (reading : Reading) (files : List (List ℕ × ℕ)) (fault : Fault) (other : ℕ) (known : FileMap)
+    → reading.contents ≡ Some known → first_longer known files ≡ None
     → (fault ≡ faults.Memory) ⊎ IsLoadCause reading files fault → Contains (other ∷ 3 ∷ 14 ∷ []) (status_of fault)
-load-refused reading files fault other told e none (inl memory) = (2, omega arith, sym (ap status_of memory))
-load-refused reading files fault other told e none (inr cause) =
+load-refused reading files fault other known e none (inl memory) = (2, omega arith, sym (ap status_of memory))
+load-refused reading files fault other known e none (inr cause) =
     elim (load-statuses reading files fault cause) [
       | inl three ↦ (1, omega arith, sym three)
-      | inr four ↦ (let long = load-status_too_long reading files fault cause four in absurd (none-differs long.0 (first_longer told files) none (long.3 told e)))
+      | inr four ↦ (let long = load-status_too_long reading files fault cause four in absurd (none-differs long.0 (first_longer known files) none (long.3 known e)))
     ]
 
-pub load-done : (reading : Reading) (files : List (List ℕ × ℕ)) (fault : Fault) (told : FileMap)
-    → reading.contents ≡ Some told → first_longer told files ≡ None
+pub load-done : (reading : Reading) (files : List (List ℕ × ℕ)) (fault : Fault) (known : FileMap)
+    → reading.contents ≡ Some known → first_longer known files ≡ None
     → (fault ≡ faults.Memory) ⊎ IsLoadCause reading files fault → Contains (3 ∷ 13 ∷ 14 ∷ []) (status_of fault)
-load-done reading files fault told e none (inl memory) = (2, omega arith, sym (ap status_of memory))
-load-done reading files fault told e none (inr cause) =
+load-done reading files fault known e none (inl memory) = (2, omega arith, sym (ap status_of memory))
+load-done reading files fault known e none (inr cause) =
     elim (load-statuses reading files fault cause) [
       | inl three ↦ (0, omega arith, sym three)
-      | inr four ↦ (let long = load-status_too_long reading files fault cause four in absurd (none-differs long.0 (first_longer told files) none (long.3 told e)))
+      | inr four ↦ (let long = load-status_too_long reading files fault cause four in absurd (none-differs long.0 (first_longer known files) none (long.3 known e)))
     ]
 
 -- ---- the cause of a call's fault
@@ -252,28 +252,28 @@ module _ (words : List (List ℕ)) (command : Command) (names : List (List ℕ))
       (subst (λ c. IsAfterFiles (form c).most again.after number') same-command again.number))
 
   -- a refusal for one reading of the words is one for another
-  pub IsRefusal-said : (told : FileMap) (fault : Fault)
-      → IsRefusal command' (map (file_bytes told) names') number' fault
-      → IsRefusal command (map (file_bytes told) names) number fault
-  IsRefusal-said told fault sure =
-      subst (λ c. IsRefusal c (map (file_bytes told) names) number fault) same-command
-      (subst (λ ns. IsRefusal command' (map (file_bytes told) ns) number fault) same-names
-      (subst (λ k. IsRefusal command' (map (file_bytes told) names') k fault) same-number sure))
+  pub IsRefusal-said : (known : FileMap) (fault : Fault)
+      → IsRefusal command' (map (file_bytes known) names') number' fault
+      → IsRefusal command (map (file_bytes known) names) number fault
+  IsRefusal-said known fault sure =
+      subst (λ c. IsRefusal c (map (file_bytes known) names) number fault) same-command
+      (subst (λ ns. IsRefusal command' (map (file_bytes known) ns) number fault) same-names
+      (subst (λ k. IsRefusal command' (map (file_bytes known) names') k fault) same-number sure))
 
   -- a job that can be done for one reading of the words can be done for another
-  pub IsDoable-said : (told : FileMap) → IsDoable command' (map (file_bytes told) names') number'
-      → IsDoable command (map (file_bytes told) names) number
-  IsDoable-said told done =
-      subst (λ c. IsDoable c (map (file_bytes told) names) number) same-command
-      (subst (λ ns. IsDoable command' (map (file_bytes told) ns) number) same-names
-      (subst (λ k. IsDoable command' (map (file_bytes told) names') k) same-number done))
+  pub IsDoable-said : (known : FileMap) → IsDoable command' (map (file_bytes known) names') number'
+      → IsDoable command (map (file_bytes known) names) number
+  IsDoable-said known done =
+      subst (λ c. IsDoable c (map (file_bytes known) names) number) same-command
+      (subst (λ ns. IsDoable command' (map (file_bytes known) ns) number) same-names
+      (subst (λ k. IsDoable command' (map (file_bytes known) names') k) same-number done))
 
 -- a file is too long by one reading of the words, and by another
 pub longer-said : (words : List (List ℕ)) (command : Command) (names : List (List ℕ)) (number : Option ℕ)
-    → Says words command names number → (told : FileMap) → IsSome (first_longer told (files_of words))
-    → IsSome (first_longer told (zip names (form command).limits))
-longer-said words command names number says told longer =
-    subst (λ files. IsSome (first_longer told files)) (files_of-Says words command names number says) longer
+    → Says words command names number → (known : FileMap) → IsSome (first_longer known (files_of words))
+    → IsSome (first_longer known (zip names (form command).limits))
+longer-said words command names number says known longer =
+    subst (λ files. IsSome (first_longer known files)) (files_of-Says words command names number says) longer
 
 -- words that name no file
 zip-none : (names : List (List ℕ)) (limits : List ℕ) → length names ≡ length limits → zip names limits ≡ [] → names ≡ []

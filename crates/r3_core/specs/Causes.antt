@@ -7,17 +7,18 @@ use Rattle.r3_faults.specs.declared.faults.Fault.{Fault}
 use Rattle.r3_faults.specs.declared.faults.Fault.TheVariants.{Usage, Read, TooLong, Write, Memory}
 use Rattle.r3_make.specs.Refusals.{AreReplayable, IsMakeRefusal}
 use Rattle.r3_make.specs.Printed.{IsPrinted}
-use Rattle.r3_instrument.specs.Hooked.{IsHookedOf, IsHookedRefusal}
+use Rattle.r3_instrument.specs.InstrumentedBytes.{IsHookedOf, IsHookedRefusal}
 use Rattle.r3_make.specs.LogFiles.{IsLogFile, IsLogRefusal}
-use Rattle.r3_reduce.specs.Reduced.{IsReduced, IsReduceRefusal}
+use Rattle.r3_reduce.specs.TapeFiles.{IsReduced, IsReduceRefusal}
 use Rattle.r3_make.specs.BuildRefusals.{IsBuildRefusal}
 use Rattle.r3_make.specs.BuiltReplays as built
 use Rattle.r3_history.specs.Histories.{IsHistory, IsHistoryRefusal}
 use Rattle.r3_replay.specs.ReplayTexts.{IsReplayText, IsReplayRefusal}
-use Rattle.r3_show.specs.Shown.{IsShown, IsShowRefusal}
+use Rattle.r3_show.specs.FileLines.{IsShown, IsShowRefusal}
 use Rattle.load_maker.specs.Loads.{load_script}
 use Rattle.load_maker.specs.declared.load_module.TheConstants.{LOAD_MODULE}
-use Rattle.r3_make.specs.Summaries.{IsSummary, load_turns}
+use Rattle.wasm_syntax.specs.declared.limits.TheConstants.{LOAD_TURNS}
+use Rattle.r3_make.specs.Summaries.{IsSummary}
 use Rattle.r3_core.specs.declared.words.Command.{Command}
 use Rattle.r3_core.specs.declared.words.Command.TheVariants.{Make, Instrument, Record, Reduce, Build, History, Replay, Show, Load}
 use Rattle.r3_core.specs.Words.{form, IsListed, Says, files_of}
@@ -26,7 +27,7 @@ use Rattle.r3_core.specs.Words.{form, IsListed, Says, files_of}
 
 -- the first of these files, each with its limit, that is longer than its limit
 abbrev pub first_longer : FileMap → List (List ℕ × ℕ) → Option (List ℕ × ℕ)
-first_longer told files = find (λ file. nat_lt file.1 (length (file_bytes told file.0))) files
+first_longer known files = find (λ file. nat_lt file.1 (length (file_bytes known file.0))) files
 
 -- what the files contained when a call began, and their counts by name then and now
 pub record Reading : Type 0 where
@@ -52,12 +53,12 @@ IsLoadCause reading files (Read name) =
     Contains (map (λ file. file.0) files) name × Rose (reading.faults_before name) (reading.faults_now name)
 IsLoadCause reading files (TooLong name limit) =
     Contains files (name, limit) × Took (reading.taken_before name) (reading.taken_now name) (limit + 1)
-    × ForSome reading.contents (λ told. first_longer told files ≡ Some (name, limit))
+    × ForSome reading.contents (λ known. first_longer known files ≡ Some (name, limit))
 IsLoadCause reading files fault = ⊥
 
 -- the bytes of the files of these names, if the contents of files are known
 abbrev pub AreBytesOf : Option FileMap → (names loaded : List (List ℕ)) → Type 0
-AreBytesOf contents names loaded = ForSome contents (λ told. loaded ≡ map (file_bytes told) names)
+AreBytesOf contents names loaded = ForSome contents (λ known. loaded ≡ map (file_bytes known) names)
 
 -- the bytes of each list
 abbrev pub all_bytes : {Z : Type 0} → List (Vec ℕ Z) → List (List ℕ)
@@ -85,7 +86,7 @@ IsRefusal History (module_bytes ∷ script_bytes ∷ []) (Some turns) fault =
     IsHistoryRefusal module_bytes script_bytes turns fault
 IsRefusal Replay (binary ∷ []) (Some turns) fault = IsReplayRefusal binary turns fault
 IsRefusal Show (trace ∷ []) None fault = IsShowRefusal trace fault
-IsRefusal Load [] (Some number) fault = IsMakeRefusal LOAD_MODULE (load_script number) load_turns fault
+IsRefusal Load [] (Some number) fault = IsMakeRefusal LOAD_MODULE (load_script number) LOAD_TURNS fault
 IsRefusal command loaded number fault = ⊥
 
 -- a command can do its job for the bytes of its files
@@ -101,7 +102,7 @@ IsDoable History (module_bytes ∷ script_bytes ∷ []) (Some turns) =
     (text : List ℕ) × IsHistory module_bytes script_bytes turns text
 IsDoable Replay (binary ∷ []) (Some turns) = (text : List ℕ) × IsReplayText binary turns text
 IsDoable Show (trace ∷ []) None = (text : List ℕ) × IsShown trace text
-IsDoable Load [] (Some number) = AreReplayable LOAD_MODULE (load_script number) load_turns
+IsDoable Load [] (Some number) = AreReplayable LOAD_MODULE (load_script number) LOAD_TURNS
 IsDoable command loaded number = ⊥
 
 -- a command prints these bytes for the bytes of its files

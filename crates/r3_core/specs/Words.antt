@@ -3,9 +3,9 @@ use Rattle.std.specs.Prelude.{◌≡◌, ℕ, ◌≤◌, List, [], ◌∷◌, �
 use Rattle.std.specs.List.{zip}
 use Rattle.std.specs.Option.{option_map_or}
 use Rattle.std.specs.Str.{bytes_eq}
+use Rattle.wasm_syntax.specs.declared.limits.TheConstants.{MAX_LOAD_CALLS, MAX_TRACE_BYTES, MAX_RECORD_TURNS, MAX_FILE_BYTES, MAX_INSTRUMENTED_BYTES, MAX_REPLAY_BYTES, MAX_TURNS, MAX_HISTORY_TURNS}
 use Rattle.r3_core.specs.declared.words.Command.{Command}
 use Rattle.r3_core.specs.declared.words.Command.TheVariants.{Make, Instrument, Record, Reduce, Build, History, Replay, Show, Load}
-use Rattle.r3_core.specs.Limits.{module_bytes, script_bytes, hooked_bytes, trace_bytes, binary_bytes, most_turns, most_turns_told, most_record_turns, most_load}
 
 -- a command's name, the limit of each of its files, and the greatest number if the command takes one
 pub record Form : Type 0 where
@@ -14,15 +14,27 @@ pub record Form : Type 0 where
   pub most : Option ℕ
 
 abbrev pub form : Command → Form
-form Make = record { name = codes "make"; limits = module_bytes ∷ script_bytes ∷ []; most = Some most_turns }
-form Instrument = record { name = codes "instrument"; limits = module_bytes ∷ []; most = None }
-form Record = record { name = codes "record"; limits = hooked_bytes ∷ script_bytes ∷ []; most = Some most_record_turns }
-form Reduce = record { name = codes "reduce"; limits = trace_bytes ∷ []; most = None }
-form Build = record { name = codes "build"; limits = module_bytes ∷ script_bytes ∷ trace_bytes ∷ []; most = None }
-form History = record { name = codes "history"; limits = module_bytes ∷ script_bytes ∷ []; most = Some most_turns_told }
-form Replay = record { name = codes "replay"; limits = binary_bytes ∷ []; most = Some most_record_turns }
-form Show = record { name = codes "show"; limits = trace_bytes ∷ []; most = None }
-form Load = record { name = codes "load"; limits = []; most = Some most_load }
+form Make =
+    record { name = codes "make"; limits = MAX_FILE_BYTES ∷ MAX_FILE_BYTES ∷ []; most = Some MAX_TURNS }
+form Instrument = record { name = codes "instrument"; limits = MAX_FILE_BYTES ∷ []; most = None }
+form Record =
+    record {
+      name = codes "record";
+      limits = MAX_INSTRUMENTED_BYTES ∷ MAX_FILE_BYTES ∷ [];
+      most = Some MAX_RECORD_TURNS;
+    }
+form Reduce = record { name = codes "reduce"; limits = MAX_TRACE_BYTES ∷ []; most = None }
+form Build =
+    record {
+      name = codes "build";
+      limits = MAX_FILE_BYTES ∷ MAX_FILE_BYTES ∷ MAX_TRACE_BYTES ∷ [];
+      most = None;
+    }
+form History =
+    record { name = codes "history"; limits = MAX_FILE_BYTES ∷ MAX_FILE_BYTES ∷ []; most = Some MAX_HISTORY_TURNS }
+form Replay = record { name = codes "replay"; limits = MAX_REPLAY_BYTES ∷ []; most = Some MAX_RECORD_TURNS }
+form Show = record { name = codes "show"; limits = MAX_TRACE_BYTES ∷ []; most = None }
+form Load = record { name = codes "load"; limits = []; most = Some MAX_LOAD_CALLS }
 
 -- the bytes of each word
 abbrev pub texts : {Y : Type 0} → List (String Y) → List (List ℕ)

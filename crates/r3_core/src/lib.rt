@@ -6,25 +6,24 @@ ghost use Rattle.std.specs.Option.{ForSome};
 ghost use Rattle.r3_outside.specs.Contents.{file_bytes};
 ghost use Rattle.r3_outside.specs.Count.{Rose, Took};
 ghost use Rattle.r3_outside.specs.Growth.{Grew, GrewByPrefix};
-ghost use Rattle.r3_faults.specs.Lines.{status_of, line_of, IsTold};
+ghost use Rattle.r3_faults.specs.Lines.{status_of, line_of, IsReported};
 ghost use Rattle.r3_faults.specs.declared.faults.Fault.{Fault};
 ghost use Rattle.r3_faults.specs.declared.faults.Fault.TheVariants.{Memory, Write as WriteFault};
 ghost use Rattle.r3_core.specs.Words.{form, texts, files_of, IsAfterFiles, IsListed, Says};
 ghost use Rattle.r3_core.specs.Causes.{reading_of, first_longer, AreBytesOf, Prints, IsRefusal, IsDoable, IsPrintedFor, IsPrintCause, IsCause, AreWithin, all_bytes};
 
-use loads::load_files;
+use command_files::load_files;
 use r3_outside::{Files, Sink, put_all};
 use std::alloc::Global;
 use words::{Call, Command, call_of};
 
-mod limits;
-mod loads;
+mod command_files;
 mod sure;
 mod words;
 
 pub use r3_faults::Fault;
 pub use r3_history::history;
-pub use r3_instrument::hooked;
+pub use r3_instrument::instrument_bytes;
 pub use r3_make::{build, load_summary, log_run, make};
 pub use r3_reduce::reduce_log;
 pub use r3_replay::replay_text;
@@ -55,23 +54,23 @@ pub fn r3<F: Files, O: Sink, E: Sink>(
     ensures too_long { result ≡ 4 → (file : List ℕ × ℕ) × Contains (files_of (texts words.now)) file
         × Took (F.taken files.old file.0) (F.taken files.new file.0) (file.1 + 1)
         × ForSome (F.contents files.old)
-        (λ told. first_longer told (files_of (texts words.now)) ≡ Some file) }
+        (λ known. first_longer known (files_of (texts words.now)) ≡ Some file) }
     ensures longer { IsListed (texts words.now) → ForSome (F.contents files.old)
-        (λ told. IsSome (first_longer told (files_of (texts words.now)))
+        (λ known. IsSome (first_longer known (files_of (texts words.now)))
         → Contains (3 ∷ 4 ∷ 14 ∷ []) result) }
 
     // The bytes of the files are refused, by the first cause that applies.
     ensures refused { (command : Command) (names : List (List ℕ)) (number : Option ℕ) (fault : Fault)
         → Says (texts words.now) command names number
-        → ForSome (F.contents files.old) (λ told. first_longer told (files_of (texts words.now)) ≡ None
-        → IsRefusal command (map (file_bytes told) names) number fault
+        → ForSome (F.contents files.old) (λ known. first_longer known (files_of (texts words.now)) ≡ None
+        → IsRefusal command (map (file_bytes known) names) number fault
         → Contains (status_of fault ∷ 3 ∷ 14 ∷ []) result) }
 
     // The job can be done for the bytes of the files.
     ensures done { (command : Command) (names : List (List ℕ)) (number : Option ℕ)
         → Says (texts words.now) command names number
-        → ForSome (F.contents files.old) (λ told. first_longer told (files_of (texts words.now)) ≡ None
-        → IsDoable command (map (file_bytes told) names) number
+        → ForSome (F.contents files.old) (λ known. first_longer known (files_of (texts words.now)) ≡ None
+        → IsDoable command (map (file_bytes known) names) number
         → Contains (0 ∷ 3 ∷ 13 ∷ 14 ∷ []) result) }
 
     // What is printed.
@@ -86,12 +85,12 @@ pub fn r3<F: Files, O: Sink, E: Sink>(
 
     // The line that reports the fault.
     ensures silent { result ≡ 0 → err.new ≡ err.old }
-    ensures told { result ≢ 0 → (fault : Fault) × (status_of fault ≡ result)
+    ensures reported { result ≢ 0 → (fault : Fault) × (status_of fault ≡ result)
         × IsCause (texts words.now)
         (reading_of (F.contents files.old)
         (F.faults files.old) (F.faults files.new) (F.taken files.old) (F.taken files.new))
         (O.faults out.old) (O.faults out.new) fault
-        × IsTold (E.written err.old) (E.written err.new) (E.faults err.old) (E.faults err.new)
+        × IsReported (E.written err.old) (E.written err.new) (E.faults err.old) (E.faults err.new)
         (line_of fault) }
 {
     match run(alloc, words, files, out) {
@@ -115,17 +114,17 @@ fn run<F: Files, O: Sink>(
     ensures unlisted { result ≡ Err Fault.Usage → files.new ≡ files.old }
     ensures unread { files_of (texts words.now) ≡ [] → files.new ≡ files.old }
     ensures longer { IsListed (texts words.now) → ForSome (F.contents files.old)
-        (λ told. IsSome (first_longer told (files_of (texts words.now)))
+        (λ known. IsSome (first_longer known (files_of (texts words.now)))
         → IsErrAnd result (λ fault. Contains (3 ∷ 4 ∷ 14 ∷ []) (status_of fault))) }
     ensures refused { (command : Command) (names : List (List ℕ)) (number : Option ℕ) (fault : Fault)
         → Says (texts words.now) command names number
-        → ForSome (F.contents files.old) (λ told. first_longer told (files_of (texts words.now)) ≡ None
-        → IsRefusal command (map (file_bytes told) names) number fault
+        → ForSome (F.contents files.old) (λ known. first_longer known (files_of (texts words.now)) ≡ None
+        → IsRefusal command (map (file_bytes known) names) number fault
         → IsErrAnd result (λ other. Contains (status_of fault ∷ 3 ∷ 14 ∷ []) (status_of other))) }
     ensures done { (command : Command) (names : List (List ℕ)) (number : Option ℕ)
         → Says (texts words.now) command names number
-        → ForSome (F.contents files.old) (λ told. first_longer told (files_of (texts words.now)) ≡ None
-        → IsDoable command (map (file_bytes told) names) number
+        → ForSome (F.contents files.old) (λ known. first_longer known (files_of (texts words.now)) ≡ None
+        → IsDoable command (map (file_bytes known) names) number
         → IfErr result (λ other. Contains (3 ∷ 13 ∷ 14 ∷ []) (status_of other))) }
     ensures printed { OnOk result ((bytes : List ℕ)
         × IsPrintedFor (texts words.now) (F.contents files.old) bytes
@@ -152,15 +151,15 @@ fn output_of_call<F: Files>(alloc: Global, call: &Call<'_>, files: &mut F) -> Re
     ensures contents_unchanged { F.contents files.new ≡ F.contents files.old }
     ensures unread { texts call.now.names.now ≡ [] → files.new ≡ files.old }
     ensures longer { ForSome (F.contents files.old)
-        (λ told. IsSome (first_longer told (zip (texts call.now.names.now) (form call.now.command).limits))
+        (λ known. IsSome (first_longer known (zip (texts call.now.names.now) (form call.now.command).limits))
         → IsErrAnd result (λ fault. Contains (3 ∷ 4 ∷ 14 ∷ []) (status_of fault))) }
     ensures refused { (fault : Fault) → ForSome (F.contents files.old)
-        (λ told. first_longer told (zip (texts call.now.names.now) (form call.now.command).limits) ≡ None
-        → IsRefusal call.now.command (map (file_bytes told) (texts call.now.names.now)) call.now.number fault
+        (λ known. first_longer known (zip (texts call.now.names.now) (form call.now.command).limits) ≡ None
+        → IsRefusal call.now.command (map (file_bytes known) (texts call.now.names.now)) call.now.number fault
         → IsErrAnd result (λ other. Contains (status_of fault ∷ 3 ∷ 14 ∷ []) (status_of other))) }
     ensures done { ForSome (F.contents files.old)
-        (λ told. first_longer told (zip (texts call.now.names.now) (form call.now.command).limits) ≡ None
-        → IsDoable call.now.command (map (file_bytes told) (texts call.now.names.now)) call.now.number
+        (λ known. first_longer known (zip (texts call.now.names.now) (form call.now.command).limits) ≡ None
+        → IsDoable call.now.command (map (file_bytes known) (texts call.now.names.now)) call.now.number
         → IfErr result (λ other. Contains (3 ∷ 13 ∷ 14 ∷ []) (status_of other))) }
     ensures printed { IfOk result (λ bytes. (loaded : List (List ℕ))
         × AreBytesOf (F.contents files.old) (texts call.now.names.now) loaded
@@ -194,7 +193,7 @@ fn output_of_command(
 {
     match (command, loaded, number) {
         (Command::Make, [module, script], Some(turns)) => make(alloc, module, script, turns),
-        (Command::Instrument, [original], None) => hooked(alloc, original),
+        (Command::Instrument, [original], None) => instrument_bytes(alloc, original),
         (Command::Record, [instrumented, played], Some(turns)) => log_run(
             alloc,
             instrumented,
@@ -203,7 +202,12 @@ fn output_of_command(
         ),
         (Command::Reduce, [log], None) => reduce_log(alloc, log),
         (Command::Build, [kept, supplied, tape], None) => build(alloc, kept, supplied, tape),
-        (Command::History, [told, telling], Some(turns)) => history(alloc, told, telling, turns),
+        (Command::History, [known, known_script], Some(turns)) => history(
+            alloc,
+            known,
+            known_script,
+            turns,
+        ),
         (Command::Replay, [binary], Some(turns)) => replay_text(alloc, binary, turns),
         (Command::Show, [trace], None) => show(alloc, trace),
         (Command::Load, [], Some(number)) => load_summary(alloc, number as u32),

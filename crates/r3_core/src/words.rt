@@ -3,12 +3,12 @@
 ghost use Rattle.std.specs.Prelude.{◌≡◌, ℕ, Option, IfOk, IfErr, MatchOption};
 ghost use Rattle.r3_core.specs.Words.{form, texts, command_of_name, IsNumber, IsAfterFiles, IsListed, Says};
 
-use crate::limits::{
-    BINARY_BYTES, HOOKED_BYTES, LOAD_NUMBER, MODULE_BYTES, RECORD_TURNS, SCRIPT_BYTES, TOLD_TURNS,
-    TRACE_BYTES, TURNS,
-};
 use itoa::Buffer;
 use r3_faults::Fault;
+use wasm_syntax::limits::{
+    MAX_FILE_BYTES, MAX_HISTORY_TURNS, MAX_INSTRUMENTED_BYTES, MAX_LOAD_CALLS, MAX_RECORD_TURNS,
+    MAX_REPLAY_BYTES, MAX_TRACE_BYTES, MAX_TURNS,
+};
 
 /// A command of the program.
 #[derive(Clone, Copy)]
@@ -48,12 +48,12 @@ impl Command {
         ensures { result.now ≡ (form self).limits }
     {
         match self {
-            Command::Make | Command::History => &[MODULE_BYTES, SCRIPT_BYTES],
-            Command::Instrument => &[MODULE_BYTES],
-            Command::Record => &[HOOKED_BYTES, SCRIPT_BYTES],
-            Command::Reduce | Command::Show => &[TRACE_BYTES],
-            Command::Build => &[MODULE_BYTES, SCRIPT_BYTES, TRACE_BYTES],
-            Command::Replay => &[BINARY_BYTES],
+            Command::Make | Command::History => &[MAX_FILE_BYTES, MAX_FILE_BYTES],
+            Command::Instrument => &[MAX_FILE_BYTES],
+            Command::Record => &[MAX_INSTRUMENTED_BYTES, MAX_FILE_BYTES],
+            Command::Reduce | Command::Show => &[MAX_TRACE_BYTES],
+            Command::Build => &[MAX_FILE_BYTES, MAX_FILE_BYTES, MAX_TRACE_BYTES],
+            Command::Replay => &[MAX_REPLAY_BYTES],
             Command::Load => &[],
         }
     }
@@ -63,10 +63,10 @@ impl Command {
         ensures { result ≡ (form self).most }
     {
         match self {
-            Command::Make => Some(TURNS),
-            Command::History => Some(TOLD_TURNS),
-            Command::Record | Command::Replay => Some(RECORD_TURNS),
-            Command::Load => Some(LOAD_NUMBER),
+            Command::Make => Some(MAX_TURNS),
+            Command::History => Some(MAX_HISTORY_TURNS),
+            Command::Record | Command::Replay => Some(MAX_RECORD_TURNS),
+            Command::Load => Some(u64::from(MAX_LOAD_CALLS)),
             Command::Instrument | Command::Reduce | Command::Build | Command::Show => None,
         }
     }

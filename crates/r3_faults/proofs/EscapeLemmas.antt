@@ -2,7 +2,7 @@
 use Rattle.std.proofs.Common.{◌≡◌, ℕ, ◌+◌, ◌<◌, ◌/◌, ◌%◌, true, false, cond, List, [], ◌∷◌, ◌++◌, length, get_or, take, drop, sym, ◌∙◌, ap, subst, arith, ◌≤◌}
 use Rattle.std.proofs.lemmas.Grind.{flat_map-append}
 use Rattle.std.proofs.Math.Seq.{take-add}
-use Rattle.std.proofs.lemmas.List.{take_more, take-append-drop}
+use Rattle.std.proofs.lemmas.List.{take-append-drop}
 use Rattle.r3_faults.specs.Lines.{escaped, escaped_byte, is_plain, hex_digit}
 
 -- a text is escaped part by part
@@ -13,17 +13,6 @@ escaped-split text k =
 escaped-plain : (byte : ℕ) → is_plain byte ≡ true → escaped (byte ∷ []) ≡ byte ∷ []
 escaped-plain byte plain =
     ap (λ t. cond t (byte ∷ []) (92 ∷ hex_digit (byte / 16) ∷ hex_digit (byte % 16) ∷ []) ++ []) plain
-
--- one more plain byte
-pub escaped-plain_more : (text : List ℕ) (i : ℕ) → i < length text → escaped (take i text) ≡ take i text
-    → is_plain (get_or text i 0) ≡ true → escaped (take (i + 1) text) ≡ take (i + 1) text
-escaped-plain_more text i h before plain =
-    let byte = get_or text i 0 in
-    ap escaped (take_more text i 0 h)
-    ∙ flat_map-append escaped_byte (take i text) (byte ∷ [])
-    ∙ ap (λ l. l ++ escaped (byte ∷ [])) before
-    ∙ ap (λ l. take i text ++ l) (escaped-plain byte plain)
-    ∙ sym (take_more text i 0 h)
 
 -- a first byte that is not plain
 pub escaped-first : (text : List ℕ) → 0 < length text → is_plain (get_or text 0 0) ≡ false

@@ -131,6 +131,6 @@ line_of (TapeLimit weight) = with_number (codes "tape limit: ") weight
 line_of HookedLimit = codes "hooked limit: 134217728\n"
 
 -- the line was written whole, or a first part of it was written and the count of faults rose
-abbrev pub IsTold : (before now : Option (List ℕ)) (faults_before faults_now : ℕ) → List ℕ → Type 0
-IsTold before now faults_before faults_now line =
+abbrev pub IsReported : (before now : Option (List ℕ)) (faults_before faults_now : ℕ) → List ℕ → Type 0
+IsReported before now faults_before faults_now line =
     Grew before now line ⊎ (GrewByPrefix before now line × Rose faults_before faults_now)

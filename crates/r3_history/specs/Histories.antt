@@ -20,9 +20,9 @@ pub record IsHistoryOf (m : Module) (script : Script) (turns : ℕ) (text : List
   pub lines : text ≡ history_text run.history outcome
 
 -- why a run has no history: the module does not link, or its run has no outcome
-pub data IsUntold (m : Module) (script : Script) (turns : ℕ) (fault : Fault) : Type 0 where
-  OfLink : (unlinked : IsUnlinkedFor m script fault) → IsUntold m script turns fault
-  OfOutcome : (none : HasNoOutcome m script turns fault) → IsUntold m script turns fault
+pub data IsUnprinted (m : Module) (script : Script) (turns : ℕ) (fault : Fault) : Type 0 where
+  OfLink : (unlinked : IsUnlinkedFor m script fault) → IsUnprinted m script turns fault
+  OfOutcome : (none : HasNoOutcome m script turns fault) → IsUnprinted m script turns fault
 
 -- ---- the bytes of a module and of a script
 
@@ -38,4 +38,4 @@ pub data IsHistoryRefusal (module_bytes script_bytes : List ℕ) (turns : ℕ) (
   OfInputs : (refused : AreRefused module_bytes script_bytes fault)
       → IsHistoryRefusal module_bytes script_bytes turns fault
   OfRun : (m : Module) (script : Script) (inputs : AreInputs module_bytes script_bytes m script)
-      (untold : IsUntold m script turns fault) → IsHistoryRefusal module_bytes script_bytes turns fault
+      (unprinted : IsUnprinted m script turns fault) → IsHistoryRefusal module_bytes script_bytes turns fault

@@ -1,7 +1,7 @@
 // `history`: the lines of a run.
 
 ghost use Rattle.std.specs.Prelude.{◌≤◌, length};
-ghost use Rattle.wasm_syntax.specs.declared.limits.TheConstants.{MOST_FILE_BYTES};
+ghost use Rattle.wasm_syntax.specs.declared.limits.TheConstants.{MAX_FILE_BYTES};
 ghost use Rattle.r3_faults.specs.Answers.{IsExact};
 ghost use Rattle.r3_history.specs.Histories.{IsHistory, IsHistoryRefusal};
 
@@ -11,7 +11,7 @@ use r3_faults::Fault;
 use std::alloc::Global;
 
 /// The lines of the history and of the outcome of the run of a module with a script, within a number of turns.
-/// The module has at most 8,388,608 bytes.
+/// The module has at most `MAX_FILE_BYTES`.
 ///
 /// # Errors
 ///
@@ -19,7 +19,7 @@ use std::alloc::Global;
 /// what the script says, or the run needs more turns. Each is reported if and only if it is the first cause that
 /// applies. `Memory` if memory is out.
 pub fn history(alloc: Global, module: &[u8], script: &[u8], turns: u64) -> Result<Vec<u8>, Fault>
-    requires { length «module».now ≤ MOST_FILE_BYTES }
+    requires { length «module».now ≤ MAX_FILE_BYTES }
     ensures { IsExact (IsHistory «module».now script.now turns)
         (IsHistoryRefusal «module».now script.now turns) result }
 {

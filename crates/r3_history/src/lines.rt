@@ -3,9 +3,9 @@
 ghost use Rattle.type_safety.specs.Supplies.{HasBytes};
 ghost use Rattle.accepted_runs.specs.Runnable.{CanRun};
 ghost use Rattle.r3_faults.specs.Answers.{IsCaused, IsExact};
-ghost use Rattle.r3_history.specs.Histories.{IsHistoryOf, IsUntold};
+ghost use Rattle.r3_history.specs.Histories.{IsHistoryOf, IsUnprinted};
 
-use accepted_runs::{start_store, told_run};
+use accepted_runs::{printed_run, start_store};
 use history_spec::runs_have_one_result_at_most;
 use host_script::Script;
 use r3_faults::Fault;
@@ -21,7 +21,7 @@ pub(crate) fn history_of(
 ) -> Result<Vec<u8>, Fault>
     requires runnable { CanRun checked.now script.now }
     requires bytes { HasBytes checked.now }
-    ensures { IsExact (IsHistoryOf checked.now script.now turns) (IsUntold checked.now script.now turns) result }
+    ensures { IsExact (IsHistoryOf checked.now script.now turns) (IsUnprinted checked.now script.now turns) result }
 {
     runs_have_one_result_at_most();
     lines_of(alloc, checked, script, turns)
@@ -31,9 +31,9 @@ pub(crate) fn history_of(
 fn lines_of(alloc: Global, checked: &Checked, script: &Script, turns: u64) -> Result<Vec<u8>, Fault>
     requires runnable { CanRun checked.now script.now }
     requires bytes { HasBytes checked.now }
-    ensures { IsCaused (IsHistoryOf checked.now script.now turns) (IsUntold checked.now script.now turns) result }
+    ensures { IsCaused (IsHistoryOf checked.now script.now turns) (IsUnprinted checked.now script.now turns) result }
 {
     let store = start_store(alloc, checked, script)?;
-    let told = told_run(alloc, checked, script, store, turns)?;
-    Ok(told.text.into_vec())
+    let printed = printed_run(alloc, checked, script, store, turns)?;
+    Ok(printed.text.into_vec())
 }

@@ -2,6 +2,7 @@
 use Rattle.std.proofs.Common.{◌≡◌, ◌≢◌, ◌↔◌, ◌⊎◌, inl, inr, ℕ, ◌+◌, ◌<◌, ◌≤◌, ◌^◌, List, [], ◌∷◌, Option, Some, None, Result, Ok, Err, IfOk, IfErr, length, All, get_or, refl, sym, ◌∙◌, ap, subst, arith, Bool}
 use Rattle.std.specs.List.{slice_get, AllByRecursion}
 use Rattle.std.proofs.lemmas.List.Elements.{All-head, All-tail}
+use Rattle.base.proofs.Options.{none_some, same_some}
 use Rattle.wasm_syntax.specs.declared.forms.Form.{Form}
 use Rattle.wasm_syntax.specs.declared.modules.Module.{Module}
 use Rattle.wasm_syntax.specs.declared.modules.Func.{Func}
@@ -15,17 +16,10 @@ use Rattle.r3_inputs.specs.declared.module_files.ModuleFile.{ModuleFile}
 use Rattle.r3_inputs.specs.ModuleFiles.{form_of, is_instrumented}
 use Rattle.r3_inputs.specs.Inputs.{invalid_fault, refusal_fault, IsModuleIn, IsRefusedIn, ByBytes, ByRules, ByProfile}
 
-none-some : {X : Type 0} (o : Option X) (x : X) → o ≡ None → o ≡ Some x → ⊥
-none-some None x e f = cc f
-none-some (Some y) x e f = cc e
-
-some-one : {X : Type 0} (o : Option X) (x y : X) → o ≡ Some x → o ≡ Some y → x ≡ y
-some-one o x y e f = cc (sym e ∙ f)
-
 -- an accepted module has no refusal
 no-refusal : (hooked : Bool) (m : Module) (refusal : Refusal) → IsAccepted hooked m → first_refusal hooked m ≡ Some refusal → ⊥
 no-refusal hooked m refusal accepted first =
-    none-some (first_refusal hooked m) refusal (ap (λ refusals. slice_get refusals 0) accepted.none_refused) first
+    none_some (first_refusal hooked m) refusal (ap (λ refusals. slice_get refusals 0) accepted.none_refused) first
 
 module _ (file : ModuleFile) (one : (form : Form) (bytes : List ℕ) (m n : Module) → Encodes form bytes m → Encodes form bytes n → m ≡ n)
     (place-one : (form : Form) (bytes : List ℕ) (a b : ℕ) → IsFaultPlace form bytes a → IsFaultPlace form bytes b → a
@@ -35,7 +29,7 @@ module _ (file : ModuleFile) (one : (form : Form) (bytes : List ℕ) (m n : Modu
   -- a valid module has no invalid place
   not-both : (m : Module) (place : Option ℕ) → IsValid m → IsInvalidAt m place → ⊥
   not-both m place valid invalid =
-      none-some (invalid_at m) place ((valid-decided m).0 valid) ((invalid-decided m place).0 invalid)
+      none_some (invalid_at m) place ((valid-decided m).0 valid) ((invalid-decided m place).0 invalid)
 
   -- a refused module is not accepted
   refused-not_taken : (bytes : List ℕ) (fault : Fault) (m : Module) → IsRefusedIn file bytes fault → IsModuleIn file bytes m
@@ -58,7 +52,7 @@ module _ (file : ModuleFile) (one : (form : Form) (bytes : List ℕ) (m n : Modu
   refusal-one bytes f g (ByRules m encoded a) (ByRules n other b) =
       let same = subst (λ m. IsInvalidAt m a.place) (one (form_of file) bytes m n encoded other) a.invalid in
       a.named ∙ ap invalid_fault
-      (some-one (invalid_at n) a.place b.place ((invalid-decided n a.place).0 same)
+      (same_some (invalid_at n) a.place b.place ((invalid-decided n a.place).0 same)
       ((invalid-decided n b.place).0 b.invalid)) ∙ sym b.named
   refusal-one bytes f g (ByRules m encoded a) (ByProfile n other valid b) =
       absurd (not-both n a.place valid
@@ -68,7 +62,7 @@ module _ (file : ModuleFile) (one : (form : Form) (bytes : List ℕ) (m n : Modu
       absurd (not-both n b.place (subst IsValid (one (form_of file) bytes m n encoded other) valid) b.invalid)
   refusal-one bytes f g (ByProfile m encoded valid a) (ByProfile n other valid' b) =
       let same = subst (λ m. first_refusal (is_instrumented file) m ≡ Some a.refusal) (one (form_of file) bytes m n encoded other) a.first in
-      a.named ∙ ap refusal_fault (some-one (first_refusal (is_instrumented file) n) a.refusal b.refusal same b.first) ∙ sym b.named
+      a.named ∙ ap refusal_fault (same_some (first_refusal (is_instrumented file) n) a.refusal b.refusal same b.first) ∙ sym b.named
 
   -- a result with its cause, for a refusal; for an accepted module
   pub refused-answered : (r : Result Module Fault) (bytes : List ℕ) (fault : Fault) → IfOk r (λ m. IsModuleIn file bytes m)

@@ -3,10 +3,9 @@
 use Rattle.std.specs.Prelude.{ℕ, Bool, true, false}
 use Rattle.wasm_syntax.specs.declared.forms.Form.{Form}
 use Rattle.wasm_syntax.specs.declared.forms.Form.TheVariants as form
-use Rattle.wasm_syntax.specs.declared.limits.TheConstants.{MOST_FILE_BYTES}
+use Rattle.wasm_syntax.specs.declared.limits.TheConstants.{MAX_FILE_BYTES, MAX_INSTRUMENTED_BYTES, MAX_REPLAY_BYTES}
 use Rattle.r3_inputs.specs.declared.module_files.ModuleFile.{ModuleFile}
 use Rattle.r3_inputs.specs.declared.module_files.ModuleFile.TheVariants.{Original, Instrumented, Replay}
-use Rattle.r3_inputs.specs.declared.module_files.TheConstants.{MOST_INSTRUMENTED_BYTES, MOST_REPLAY_BYTES}
 
 -- the form of the binary format
 abbrev pub form_of : ModuleFile → Form
@@ -21,7 +20,7 @@ is_instrumented Instrumented = true
 is_instrumented Replay = false
 
 -- the most bytes of the file
-abbrev pub most_bytes : ModuleFile → ℕ
-most_bytes Original = MOST_FILE_BYTES
-most_bytes Instrumented = MOST_INSTRUMENTED_BYTES
-most_bytes Replay = MOST_REPLAY_BYTES
+abbrev pub max_bytes : ModuleFile → ℕ
+max_bytes Original = MAX_FILE_BYTES
+max_bytes Instrumented = MAX_INSTRUMENTED_BYTES
+max_bytes Replay = MAX_REPLAY_BYTES

@@ -1,7 +1,7 @@
 // Modules and scripts from bytes.
 
 ghost use Rattle.std.specs.Prelude.{◌≡◌, ◌<◌, ◌≤◌, ◌⊎◌, ◌^◌, Ok, Err, length, All, IfOk, IfErr, OnOk};
-ghost use Rattle.wasm_syntax.specs.declared.limits.TheConstants.{MOST_FILE_BYTES};
+ghost use Rattle.wasm_syntax.specs.declared.limits.TheConstants.{MAX_FILE_BYTES};
 ghost use Rattle.wasm_syntax.specs.Encoding.Modules.{Encodes};
 ghost use Rattle.wasm_syntax.specs.Index.{func_indices};
 ghost use Rattle.wasm_syntax.specs.Profile.{IsAccepted, IsSupported};
@@ -16,7 +16,7 @@ ghost use Rattle.script_text.specs.Texts.{script_of_text};
 ghost use Rattle.r3_faults.specs.declared.faults.Fault.{Fault};
 ghost use Rattle.r3_faults.specs.declared.faults.Fault.TheVariants.{Memory};
 ghost use Rattle.r3_inputs.specs.Inputs.{IsModuleIn, IsModuleOf, IsMalformedIn, IsInvalidFor, IsUnacceptedIn, IsRefusedIn, IsRefusedModule, IsRefusedScript};
-ghost use Rattle.r3_inputs.specs.ModuleFiles.{form_of, is_instrumented, most_bytes};
+ghost use Rattle.r3_inputs.specs.ModuleFiles.{form_of, is_instrumented, max_bytes};
 
 use crate::module_files::ModuleFile;
 use host_script::Script;
@@ -28,7 +28,7 @@ use wasm_profile::{ProfileFault, accept};
 use wasm_syntax::{Module, fault_places, module_encoding, validity_is_decided};
 use wasm_validate::{Checked, InvalidFault, validate};
 
-/// The original module that bytes encode, if it is valid and accepted. There are at most `MOST_FILE_BYTES`
+/// The original module that bytes encode, if it is valid and accepted. There are at most `MAX_FILE_BYTES`
 /// bytes.
 ///
 /// # Errors
@@ -36,7 +36,7 @@ use wasm_validate::{Checked, InvalidFault, validate};
 /// Why the bytes are refused, by the first cause that applies: they are malformed, the module is invalid, or it
 /// is not accepted. `Memory` if memory is out.
 pub fn module_of(alloc: Global, bytes: &[u8]) -> Result<Checked, Fault>
-    requires { length bytes.now ≤ MOST_FILE_BYTES }
+    requires { length bytes.now ≤ MAX_FILE_BYTES }
     ensures taken { IfOk result (λ checked. IsModuleOf bytes.now checked) }
     ensures bytes { IfOk result (λ checked. All (λ segment. All (λ byte. byte < 256) segment.bytes) checked.datas) }
     // A run needs this: no instruction is refused, and the module's lists are short.
@@ -53,14 +53,14 @@ pub fn module_of(alloc: Global, bytes: &[u8]) -> Result<Checked, Fault>
     module_in(alloc, ModuleFile::Original, bytes)
 }
 
-/// The module of a file of this kind, if it is valid and accepted. The file has at most `MOST_FILE_BYTES`,
-/// `MOST_INSTRUMENTED_BYTES` or `MOST_REPLAY_BYTES` bytes.
+/// The module of a file of this kind, if it is valid and accepted. The file has at most `MAX_FILE_BYTES`,
+/// `MAX_INSTRUMENTED_BYTES` or `MAX_REPLAY_BYTES` bytes.
 ///
 /// # Errors
 ///
 /// The faults of `module_of`.
 pub fn module_in(alloc: Global, file: ModuleFile, bytes: &[u8]) -> Result<Checked, Fault>
-    requires { length bytes.now ≤ most_bytes file }
+    requires { length bytes.now ≤ max_bytes file }
     ensures taken { IfOk result (λ checked. IsModuleIn file bytes.now checked) }
     ensures bytes { IfOk result (λ checked. All (λ segment. All (λ byte. byte < 256) segment.bytes) checked.datas) }
     ensures supported { IfOk result (λ checked. IsSupported checked) }
@@ -81,7 +81,7 @@ pub fn module_in(alloc: Global, file: ModuleFile, bytes: &[u8]) -> Result<Checke
 
 /// The accepted module of a file, or a fault with its cause.
 fn accepted_module(alloc: Global, file: ModuleFile, bytes: &[u8]) -> Result<Checked, Fault>
-    requires { length bytes.now ≤ most_bytes file }
+    requires { length bytes.now ≤ max_bytes file }
     ensures taken { IfOk result (λ checked. IsModuleIn file bytes.now checked) }
     ensures bytes { IfOk result (λ checked. All (λ segment. All (λ byte. byte < 256) segment.bytes) checked.datas) }
     ensures supported { IfOk result (λ checked. IsSupported checked) }

@@ -5,4 +5,4 @@ mod inputs;
 mod module_files;
 
 pub use inputs::{module_in, module_of, script_of};
-pub use module_files::{MOST_INSTRUMENTED_BYTES, MOST_REPLAY_BYTES, ModuleFile};
+pub use module_files::ModuleFile;

@@ -5,12 +5,6 @@ ghost use Rattle.r3_inputs.specs.ModuleFiles.{form_of, is_instrumented};
 
 use wasm_syntax::Form;
 
-/// The most bytes of an instrumented module.
-pub const MOST_INSTRUMENTED_BYTES: u64 = 134_217_728;
-
-/// The most bytes of a replay module.
-pub const MOST_REPLAY_BYTES: u64 = 536_870_912;
-
 /// What a module file contains: an original module, an instrumented one, or a replay module.
 #[derive(Clone, Copy, PartialEq, Eq, Debug)]
 pub enum ModuleFile {

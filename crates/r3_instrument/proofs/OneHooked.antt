@@ -1,12 +1,12 @@
 -- Bytes have at most one instrumented module, and otherwise one fault.
 use Rattle.std.proofs.Common.{◌≡◌, ◌⊎◌, inl, inr, ℕ, ◌<◌, ◌≤◌, List, length, Result, Ok, Err, IfOk, IfErr, sym, ◌∙◌, ap, subst, arith}
+use Rattle.wasm_syntax.specs.declared.limits.TheConstants.{MAX_INSTRUMENTED_BYTES}
 use Rattle.wasm_syntax.specs.declared.modules.Module.{Module}
 use Rattle.r3_faults.specs.declared.faults.Fault.{Fault}
 use Rattle.r3_faults.specs.declared.faults.Fault.TheVariants.{Memory}
 use Rattle.r3_faults.proofs.OneAnswer.{accepted_answer, refused_answer}
 use Rattle.r3_inputs.specs.Inputs.{IsModuleOf, IsRefusedModule}
-use Rattle.r3_inputs.specs.declared.module_files.TheConstants.{MOST_INSTRUMENTED_BYTES}
-use Rattle.r3_instrument.specs.Hooked.{IsHooked, IsHookedOf, IsHookedRefusal, IsTooLong, OfLength, OfModule, hooked_bytes}
+use Rattle.r3_instrument.specs.InstrumentedBytes.{IsHooked, IsHookedOf, IsHookedRefusal, IsTooLong, OfLength, OfModule, hooked_bytes}
 
 ok_same : {A : Type 0} (a b : A) → ◌≡◌ {A = Result A Fault} (Ok a) (Ok b) → a ≡ b
 ok_same a b h = cc h
@@ -22,7 +22,7 @@ too_long : (bytes : List ℕ) (m : Module) (text : List ℕ) (fault : Fault) →
     → IsTooLong bytes m fault → ⊥
 too_long bytes m text fault is long = least (length (hooked_bytes bytes m)) is.within long.long
   where
-    least : (n : ℕ) → n ≤ MOST_INSTRUMENTED_BYTES → MOST_INSTRUMENTED_BYTES < n → ⊥
+    least : (n : ℕ) → n ≤ MAX_INSTRUMENTED_BYTES → MAX_INSTRUMENTED_BYTES < n → ⊥
     least n a b = omega (arith, a, b)
 
 module _ (bytes : List ℕ) (found : Result Module Fault)

@@ -1,1 +1,1 @@
-pub mod Hooked
+pub mod InstrumentedBytes

@@ -1,7 +1,7 @@
 //! The instrumented module of the module that bytes encode, as bytes.
 #![tactic(auto)]
 
-mod instrumented;
+mod instrumentation;
 
-pub use instrumented::hooked;
+pub use instrumentation::instrument_bytes;
 pub use r3_faults::Fault;

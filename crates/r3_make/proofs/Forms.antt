@@ -11,17 +11,17 @@ use Rattle.host_play.specs.HookedResults.{HasHooksAfter}
 some_same : (a b : HookedForm) → Some a ≡ Some b → a ≡ b
 some_same a b e = cc e
 
-imports_told : (imports defined : ℕ) (customs : List Custom) (form : HookedForm)
+imports_reported : (imports defined : ℕ) (customs : List Custom) (form : HookedForm)
     → form_of_sections imports defined customs ≡ Some form → imports ≡ form.imports
-imports_told imports defined [] form is = absurd (cc is)
-imports_told imports defined (custom ∷ []) form is =
+imports_reported imports defined [] form is = absurd (cc is)
+imports_reported imports defined (custom ∷ []) form is =
     let digest = take digest_length custom.bytes in
-    let told : HookedForm = record { digest = digest; imports = imports; defined = defined } in
+    let reported : HookedForm = record { digest = digest; imports = imports; defined = defined } in
     let found = cond_some
     (nat_eq (length digest) digest_length && bytes_eq custom.bytes (section_bytes digest imports defined))
-    (Some told) form is in
-    ap (λ (form : HookedForm). form.imports) (some_same told form found.1)
-imports_told imports defined (custom ∷ other ∷ customs) form is = absurd (cc is)
+    (Some reported) form is in
+    ap (λ (form : HookedForm). form.imports) (some_same reported form found.1)
+imports_reported imports defined (custom ∷ other ∷ customs) form is = absurd (cc is)
 
 pub hooks_after : (m : Module) (form : HookedForm) → hooked_form m ≡ Some form → HasHooksAfter m form.imports
 hooks_after m form is =
@@ -29,5 +29,5 @@ hooks_after m form is =
     (form_of_sections (own_imports m) (length m.funcs) (hooked_sections m)) form is in
     record {
       hooks = found.0;
-      before = imports_told (own_imports m) (length m.funcs) (hooked_sections m) form found.1;
+      before = imports_reported (own_imports m) (length m.funcs) (hooked_sections m) form found.1;
     }

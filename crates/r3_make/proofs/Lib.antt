@@ -2,7 +2,7 @@ pub mod OneAnswer
 mod Originals
 mod Recordings
 mod LogTapes
-mod Shown
+mod ShownRun
 mod OneSummary
 mod OneTape
 mod OneBuilt

@@ -1,5 +1,6 @@
 -- The tape of the log of a run is the one that the run needs.
 use Rattle.std.proofs.Common.{◌≡◌, ◌⊎◌, inl, inr, ℕ, ◌≤◌, List, Result, Ok, Err, IfOk, IfErr, refl, sym, ◌∙◌, subst}
+use Rattle.wasm_syntax.specs.declared.limits.TheConstants.{MAX_TAPE_WEIGHT}
 use Rattle.wasm_syntax.specs.Index.{imported_funcs}
 use Rattle.base.specs.declared.outcomes.Outcome.{Outcome}
 use Rattle.trace_model.specs.declared.events.Event.{Event}
@@ -8,9 +9,8 @@ use Rattle.trace_model.specs.declared.tapes.Tape.{Tape}
 use Rattle.trace_model.specs.Balance.{IsBalanced}
 use Rattle.trace_model.specs.Weight.{tape_weight}
 use Rattle.history_spec.specs.declared.entries.FaultKind.{FaultKind}
-use Rattle.history_spec.specs.Budget.{IsOver, IsSpent}
+use Rattle.history_spec.specs.Budget.{IsSpent}
 use Rattle.history_spec.specs.Run.{all_one, program_of, start_in_store}
-use Rattle.history_spec.specs.Step.{Progress, Finished}
 use Rattle.history_spec.specs.Store.{Store}
 use Rattle.record_replay_spec.specs.LogTapes.{IsLogTape}
 use Rattle.record_replay_spec.specs.Logs.{log_with}
@@ -22,11 +22,11 @@ use Rattle.tape_laws.specs.NeededTape.{IsOneNeededTape}
 use Rattle.trace_reduce.specs.declared.reducer.Reducer.{Reducer}
 use Rattle.trace_reduce.specs.Reducer.{HasTaken}
 use Rattle.run_recorder.specs.Records.{HasTakenLog, IsLog}
-use Rattle.replay_theorem.specs.RecordedOriginalLaws.{IsLogOfRun, TellsOriginal, record_of}
+use Rattle.replay_theorem.specs.RecordedOriginalLaws.{IsLogOfRun, ReportsOriginal, record_of}
+use Rattle.replay_theorem.proofs.Recorded.{over_at}
 use Rattle.accepted_runs.specs.Linked.{IsLinked}
 use Rattle.accepted_runs.specs.Runs.{OfScript, OfTurns}
 use Rattle.accepted_runs.proofs.OneResult.{linked-starts}
-use Rattle.generated_code_laws.specs.Playable.{most_weight}
 use Rattle.r3_faults.specs.declared.faults.Fault.{Fault}
 use Rattle.r3_faults.specs.declared.faults.Fault.TheVariants.{Memory, Script as ScriptFault, Spent}
 use Rattle.r3_make.specs.Answers.{IsHeavyLog, IsLightTape}
@@ -42,10 +42,7 @@ log_is : (imports : ℕ) (outcome : Outcome) (found : Result (List Event) ℕ) (
 log_is imports outcome (Ok events) log e = cc e
 log_is imports outcome (Err number) log e = absurd (cc e)
 
-over_at : (at : Progress) (outcome : Outcome) → at ≡ Finished outcome → IsOver at
-over_at at outcome e = subst IsOver (sym e) tt
-
-module _ (run : OriginalRun) (turns : ℕ) (tells : TellsOriginal run turns)
+module _ (run : OriginalRun) (turns : ℕ) (reports : ReportsOriginal run turns)
     (linked : IsLinked run.m run.script run.supply run.store) where
   -- a log of the record has the record's imports, its own events and the outcome
   pub log_parts : (outcome : Outcome) (log : Log) → IsLog (record_of run turns) outcome log
@@ -55,7 +52,7 @@ module _ (run : OriginalRun) (turns : ℕ) (tells : TellsOriginal run turns)
   pub log_balanced : LogsAreBalanced → (outcome : Outcome) (log : Log) → IsLog (record_of run turns) outcome log
       → IsBalanced (log_for (imported_funcs run.m) log.events outcome)
   log_balanced balanced outcome log is =
-      let of = tells.logs outcome log is in
+      let of = reports.logs outcome log is in
       subst IsBalanced (log_parts outcome log is) (balanced run of.count outcome of.ends log of.logged)
 
   same_log : (found : Result Log ℕ) (a b : Log) → found ≡ Ok a → found ≡ Ok b → b ≡ a
@@ -65,7 +62,7 @@ module _ (run : OriginalRun) (turns : ℕ) (tells : TellsOriginal run turns)
   module _ (outcome : Outcome) (log : Log) (is : IsLog (record_of run turns) outcome log) (tape : Tape)
       (is_tape : IsLogTape (log_for (imported_funcs run.m) log.events outcome) tape) where
     of : IsLogOfRun run turns outcome log
-    of = tells.logs outcome log is
+    of = reports.logs outcome log is
 
     tape_same : tape ≡ of.shown.tape
     tape_same =
@@ -134,46 +131,46 @@ module _ (run : OriginalRun) (turns : ℕ) (tells : TellsOriginal run turns)
   -- ---- what is recorded, with the number of imports that the inputs have
 
   module _ (imports : ℕ) (same : imports ≡ imported_funcs run.m) (reducer : Reducer) (outcome : Outcome)
-      (told : HasTakenLog HasTaken (record_of run turns) reducer outcome) where
+      (reported : HasTakenLog HasTaken (record_of run turns) reducer outcome) where
     pub taken : LogsAreBalanced
         → (events : List Event) × HasTaken reducer events × IsBalanced (log_for imports events outcome)
     taken balanced = (
-      told.log.events,
-      told.taken,
-      subst (λ n. IsBalanced (log_for n told.log.events outcome)) (sym same)
-          (log_balanced balanced outcome told.log told.is_log),
+      reported.log.events,
+      reported.taken,
+      subst (λ n. IsBalanced (log_for n reported.log.events outcome)) (sym same)
+          (log_balanced balanced outcome reported.log reported.is_log),
     )
 
     module _ (result : Result Tape Fault)
         (answers : (events : List Event) → HasTaken reducer events
         → IsLightTape (log_for imports events outcome) result) where
-      answered : IsLightTape (log_for (imported_funcs run.m) told.log.events outcome) result
+      answered : IsLightTape (log_for (imported_funcs run.m) reported.log.events outcome) result
       answered =
-          subst (λ n. IsLightTape (log_for n told.log.events outcome) result) same
-          (answers told.log.events told.taken)
+          subst (λ n. IsLightTape (log_for n reported.log.events outcome) result) same
+          (answers reported.log.events reported.taken)
 
       pub needed_answer : IfOk result (λ tape.
           (store : Store) × NeedsTape run.m run.script turns run.supply store tape)
       needed_answer = go result answered
         where
-          go : (r : Result Tape Fault) → IsLightTape (log_for (imported_funcs run.m) told.log.events outcome) r
+          go : (r : Result Tape Fault) → IsLightTape (log_for (imported_funcs run.m) reported.log.events outcome) r
               → IfOk r (λ tape. (store : Store) × NeedsTape run.m run.script turns run.supply store tape)
-          go (Ok tape) is = (run.store, needs outcome told.log told.is_log tape is.0)
+          go (Ok tape) is = (run.store, needs outcome reported.log reported.is_log tape is.0)
           go (Err fault) is = tt
 
-      pub light_answer : IfOk result (λ tape. tape_weight tape ≤ most_weight)
+      pub light_answer : IfOk result (λ tape. tape_weight tape ≤ MAX_TAPE_WEIGHT)
       light_answer = go result answered
         where
-          go : (r : Result Tape Fault) → IsLightTape (log_for (imported_funcs run.m) told.log.events outcome) r
-              → IfOk r (λ tape. tape_weight tape ≤ most_weight)
+          go : (r : Result Tape Fault) → IsLightTape (log_for (imported_funcs run.m) reported.log.events outcome) r
+              → IfOk r (λ tape. tape_weight tape ≤ MAX_TAPE_WEIGHT)
           go (Ok tape) is = is.1
           go (Err fault) is = tt
 
       pub heavy_answer : IfErr result (λ fault. (fault ≡ Memory) ⊎ IsUnmade run.m run.script turns fault)
       heavy_answer = go result answered
         where
-          go : (r : Result Tape Fault) → IsLightTape (log_for (imported_funcs run.m) told.log.events outcome) r
+          go : (r : Result Tape Fault) → IsLightTape (log_for (imported_funcs run.m) reported.log.events outcome) r
               → IfErr r (λ fault. (fault ≡ Memory) ⊎ IsUnmade run.m run.script turns fault)
           go (Ok tape) is = tt
           go (Err fault) (inl memory) = inl memory
-          go (Err fault) (inr is) = inr (heavy outcome told.log told.is_log fault is)
+          go (Err fault) (inr is) = inr (heavy outcome reported.log reported.is_log fault is)

@@ -3,7 +3,7 @@ use Rattle.std.proofs.Common.{◌≡◌, ℕ, List, sym, ◌∙◌, ap}
 use Rattle.wasm_syntax.specs.declared.modules.Module.{Module}
 use Rattle.wasm_syntax.specs.Encoding.Shortest.{encoding_of}
 use Rattle.host_script.specs.declared.scripts.Script.{Script}
-use Rattle.trace_format.specs.Laws.{TapesAreToldApart}
+use Rattle.trace_format.specs.Laws.{TapesAreDistinguished}
 use Rattle.generated_code_laws.specs.Playable.{replay_of}
 use Rattle.accepted_runs.proofs.OneResult.{linked-unlinked, one-supply, unlinked-one}
 use Rattle.r3_faults.specs.declared.faults.Fault.{Fault}
@@ -12,7 +12,7 @@ use Rattle.r3_make.specs.BuiltReplays.{IsBuilt}
 use Rattle.r3_make.proofs.OneTape.{taken_one, taken_untaken, untaken_one}
 
 module _ (m : Module) (script : Script) where
-  module _ (tapes : TapesAreToldApart) (digest bytes : List ℕ) where
+  module _ (tapes : TapesAreDistinguished) (digest bytes : List ℕ) where
     pub unbuilt_one : (f g : Fault) → IsUnbuilt m script digest bytes f → IsUnbuilt m script digest bytes g → f ≡ g
     unbuilt_one f g (OfLink u) (OfLink v) = unlinked-one m script f g u v
     unbuilt_one f g (OfLink u) (OfTape links v) = absurd (linked-unlinked m script links.supply links.store f links.linked u)

@@ -1,5 +1,7 @@
 -- The run of a module in the hooked form under the script that bytes encode has at most one result.
-use Rattle.std.proofs.Common.{◌≡◌, ℕ, List, Vec, Option, Some, None, Result, Ok, Err, sym, ◌∙◌, ap, subst}
+use Rattle.std.proofs.Common.{◌≡◌, ℕ, List, Vec, Some, Result, Ok, Err, sym, ◌∙◌, ap, subst}
+use Rattle.base.proofs.Options.{none_some, same_some}
+use Rattle.base.proofs.Results.{same_ok, ok_err}
 use Rattle.wasm_syntax.specs.declared.modules.Module.{Module}
 use Rattle.host_script.specs.declared.scripts.Script.{Script}
 use Rattle.script_text.specs.Texts.{script_of_text}
@@ -21,20 +23,8 @@ use Rattle.r3_make.specs.LogFiles.{HasLogFile, HasNoLogFile, OfLink, OfRun, HasM
 
 -- ---- values that differ, and that are the same
 
-some-one : {X : Type 0} (o : Option X) (a b : X) → o ≡ Some a → o ≡ Some b → a ≡ b
-some-one o a b e f = cc (sym e ∙ f)
-
-none-some : {X : Type 0} (o : Option X) (a : X) → o ≡ None → o ≡ Some a → ⊥
-none-some o a e f = absurd (cc (sym e ∙ f))
-
-ok-one : {X Y : Type 0} (r : Result X Y) (a b : X) → r ≡ Ok a → r ≡ Ok b → a ≡ b
-ok-one r a b e f = cc (sym e ∙ f)
-
 err-one : {X Y : Type 0} (r : Result X Y) (a b : Y) → r ≡ Err a → r ≡ Err b → a ≡ b
 err-one r a b e f = cc (sym e ∙ f)
-
-ok-err : {X Y : Type 0} (r : Result X Y) (a : X) (b : Y) → r ≡ Ok a → r ≡ Err b → ⊥
-ok-err r a b e f = absurd (cc (sym e ∙ f))
 
 -- the results of a recorded run
 abbrev logged : Log → Result Log PlayFault
@@ -114,11 +104,11 @@ module _ (one : RecordsAreOne) (m : Module) (turns : ℕ) where
     -- a property of one form or script of the module holds of the other, which is equal
     same-form : (P : HookedForm → Type 0) (a b : HookedForm) → hooked_form m ≡ Some a → hooked_form m ≡ Some b → P b
         → P a
-    same-form P a b e f p = subst P (some-one (hooked_form m) b a f e) p
+    same-form P a b e f p = subst P (same_some (hooked_form m) b a f e) p
 
     same-script : (P : Script → Type 0) (a b : Script) → script_of_text m bytes ≡ Ok a
         → script_of_text m bytes ≡ Ok b → P b → P a
-    same-script P a b e f p = subst P (ok-one (script_of_text m bytes) b a f e) p
+    same-script P a b e f p = subst P (same_ok (script_of_text m bytes) b a f e) p
 
     module-one : (a b : List ℕ) → HasModuleLog m bytes turns a → HasModuleLog m bytes turns b → a ≡ b
     module-one a b x y =
@@ -128,9 +118,9 @@ module _ (one : RecordsAreOne) (m : Module) (turns : ℕ) where
 
     module-none : (file : List ℕ) (fault : Fault) → HasModuleLog m bytes turns file
         → HasNoModuleLog m bytes turns fault → ⊥
-    module-none file fault x (OfForm none named) = none-some (hooked_form m) x.form none x.has_form
+    module-none file fault x (OfForm none named) = none_some (hooked_form m) x.form none x.has_form
     module-none file fault x (OfScript form has_form cause) =
-        ok-err (script_of_text m bytes) x.script cause.found x.is_script cause.first
+        ok_err (script_of_text m bytes) x.script cause.found x.is_script cause.first
     module-none file fault x (OfLog form has_form script is_script none) =
         file-none x.form x.script file fault x.logged
         (same-form (λ form. HasNoLogFile m form x.script turns fault) x.form form x.has_form has_form
@@ -139,18 +129,18 @@ module _ (one : RecordsAreOne) (m : Module) (turns : ℕ) where
     why-one : (f g : Fault) → HasNoModuleLog m bytes turns f → HasNoModuleLog m bytes turns g → f ≡ g
     why-one f g (OfForm none named) (OfForm other too) = named ∙ sym too
     why-one f g (OfForm none named) (OfScript form has_form cause) =
-        absurd (none-some (hooked_form m) form none has_form)
+        absurd (none_some (hooked_form m) form none has_form)
     why-one f g (OfForm none named) (OfLog form has_form script is_script other) =
-        absurd (none-some (hooked_form m) form none has_form)
+        absurd (none_some (hooked_form m) form none has_form)
     why-one f g (OfScript form has_form cause) (OfForm none named) =
-        absurd (none-some (hooked_form m) form none has_form)
+        absurd (none_some (hooked_form m) form none has_form)
     why-one f g (OfScript form has_form cause) (OfScript other has_too too) = script-one f g cause too
     why-one f g (OfScript form has_form cause) (OfLog other has_too script is_script none) =
-        absurd (ok-err (script_of_text m bytes) script cause.found is_script cause.first)
+        absurd (ok_err (script_of_text m bytes) script cause.found is_script cause.first)
     why-one f g (OfLog form has_form script is_script none) (OfForm other named) =
-        absurd (none-some (hooked_form m) form other has_form)
+        absurd (none_some (hooked_form m) form other has_form)
     why-one f g (OfLog form has_form script is_script none) (OfScript other has_too cause) =
-        absurd (ok-err (script_of_text m bytes) script cause.found is_script cause.first)
+        absurd (ok_err (script_of_text m bytes) script cause.found is_script cause.first)
     why-one f g (OfLog form has_form script is_script none) (OfLog other has_too text is_text too) =
         fault-one form script f g none
         (same-form (λ form. HasNoLogFile m form script turns g) form other has_form has_too

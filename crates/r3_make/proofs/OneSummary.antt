@@ -1,5 +1,6 @@
 -- The summary of a run is determined by the run and by the one tape that it needs.
 use Rattle.std.proofs.Common.{◌≡◌, ℕ, List, ◌≤◌, length, ◌∙◌, ap}
+use Rattle.wasm_syntax.specs.declared.limits.TheConstants.{MAX_TAPE_WEIGHT}
 use Rattle.wasm_syntax.specs.declared.modules.Module.{Module}
 use Rattle.host_script.specs.declared.scripts.Script.{Script}
 use Rattle.host_script.specs.declared.scripts.Supply.{Supply}
@@ -9,7 +10,6 @@ use Rattle.history_spec.specs.Budget.{HasOneResultAtMost}
 use Rattle.history_spec.specs.Run.{Run, all_one, program_of, run_from}
 use Rattle.history_spec.specs.Step.{StepResult}
 use Rattle.history_spec.specs.Store.{Store}
-use Rattle.generated_code_laws.specs.Playable.{most_weight}
 use Rattle.accepted_runs.proofs.OneResult.{run-one}
 use Rattle.r3_faults.specs.declared.faults.Fault.{Fault}
 use Rattle.r3_make.specs.Refusals.{IsUnmade}
@@ -29,7 +29,7 @@ module _ (m : Module) (script : Script) (turns : ℕ)
 
     -- the lines of the counts of a run and of the tape that it needs
     pub summary-of_counts : (counts : Counts) (supply : Supply) (store : Store) (tape : Tape) (printed : List ℕ)
-        → HasCounts m script turns counts → NeedsTape m script turns supply store tape → tape_weight tape ≤ most_weight
+        → HasCounts m script turns counts → NeedsTape m script turns supply store tape → tape_weight tape ≤ MAX_TAPE_WEIGHT
         → printed ≡ summary_text counts.turns counts.entries (length tape.segments) (tape_weight tape)
         → IsSummaryOf m script turns printed
     summary-of_counts counts supply store tape printed is needed light lines =

@@ -1,26 +1,24 @@
 -- Bytes encode at most one tape for a module, and are otherwise refused for one cause.
 use Rattle.std.proofs.Common.{◌≡◌, ℕ, ◌^◌, ◌-◌, List, Option, Some, None, true, sym, ◌∙◌, ap, subst, refl, arith}
 use Rattle.std.specs.Prelude.{min}
+use Rattle.base.proofs.Options.{same_some}
 use Rattle.wasm_syntax.specs.declared.modules.Module.{Module}
 use Rattle.trace_model.specs.declared.tapes.Tape.{Tape}
 use Rattle.trace_model.specs.Fitting.{IsFitting, first_unfit}
 use Rattle.trace_model.specs.Weight.{tape_weight}
 use Rattle.trace_format.specs.Faults.{IsTapeOf}
-use Rattle.trace_format.specs.Laws.{TapesAreToldApart}
+use Rattle.trace_format.specs.Laws.{TapesAreDistinguished}
 use Rattle.trace_format.specs.Text.{tape_text}
 use Rattle.r3_faults.specs.declared.faults.Fault.{Fault}
 use Rattle.r3_faults.specs.declared.faults.Fault.TheVariants.{OtherModule, TapeLimit, Unfit}
-use Rattle.r3_show.specs.Shown.{IsUnshownAs}
+use Rattle.r3_show.specs.FileLines.{IsUnshownAs}
 use Rattle.r3_show.proofs.OneShown.{one_refusal, shown_apart}
 use Rattle.r3_make.specs.BuildRefusals.{ByBytes, ByDigest, ByForm, ByWeight, IsOfOther, IsTakenAs, IsTooHeavy, IsUnfit, IsUntaken}
-
-same_segment : (o : Option ℕ) (a b : ℕ) → o ≡ Some a → o ≡ Some b → a ≡ b
-same_segment o a b e f = cc (sym e ∙ f)
 
 fits_or_not : (o : Option ℕ) (a : ℕ) → o ≡ None → o ≡ Some a → ⊥
 fits_or_not o a e f = absurd (cc (sym e ∙ f))
 
-module _ (tapes : TapesAreToldApart) (m : Module) (digest bytes : List ℕ) where
+module _ (tapes : TapesAreDistinguished) (m : Module) (digest bytes : List ℕ) where
   read_or_not : (found : List ℕ) (tape : Tape) (fault : Fault) → IsTapeOf bytes found tape
       → IsUnshownAs true bytes fault → ⊥
   read_or_not found tape fault read refused =
@@ -41,7 +39,7 @@ module _ (tapes : TapesAreToldApart) (m : Module) (digest bytes : List ℕ) wher
   unfit_one : (f g : Fault) → IsUnfit m digest bytes f → IsUnfit m digest bytes g → f ≡ g
   unfit_one f g u v =
       u.unfit.named
-      ∙ ap Unfit (same_segment (first_unfit m v.tape) u.unfit.segment v.unfit.segment
+      ∙ ap Unfit (same_some (first_unfit m v.tape) u.unfit.segment v.unfit.segment
       (subst (λ t. first_unfit m t ≡ Some u.unfit.segment) (same_tape u.tape v.tape u.read v.read) u.unfit.first)
       v.unfit.first)
       ∙ sym v.unfit.named

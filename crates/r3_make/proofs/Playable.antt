@@ -3,6 +3,7 @@ use Rattle.std.proofs.Common.{◌≡◌, ◌<◌, ◌≤◌, List, [], ◌∷◌
 use Rattle.std.specs.Prelude.{All}
 use Rattle.std.specs.List.{AllByRecursion}
 use Rattle.std.proofs.lemmas.List.Elements.{All-cons, All-from_recursion, All-nil}
+use Rattle.wasm_syntax.specs.declared.limits.TheConstants.{MAX_TAPE_WEIGHT}
 use Rattle.wasm_syntax.specs.declared.modules.Module.{Module}
 use Rattle.host_script.specs.declared.scripts.Supply.{Supply}
 use Rattle.history_spec.specs.Instantiation.{instantiate}
@@ -15,7 +16,7 @@ use Rattle.trace_model.specs.declared.tapes.Tape.{Tape}
 use Rattle.trace_model.specs.Fitting.{IsFitting}
 use Rattle.trace_model.specs.Weight.{tape_weight}
 use Rattle.replay_module_laws.specs.Written.{IsConstantEffect, IsConstantSegment, IsConstantTape}
-use Rattle.generated_code_laws.specs.Playable.{AllWriteBytes, IsPlayable, WritesBytes, most_weight}
+use Rattle.generated_code_laws.specs.Playable.{AllWriteBytes, IsPlayable, WritesBytes}
 
 writes : (effect : Effect) → IsConstantEffect effect → WritesBytes effect
 writes (Bytes addr bytes) h = All-from_recursion (λ byte. byte < 256) bytes h
@@ -34,7 +35,7 @@ write_bytes (segment ∷ segments) h =
     All-cons AllWriteBytes segment segments (all_write segment.effects h.0.effects) (write_bytes segments h.1)
 
 pub playable : (m : Module) (supply : Supply) (store : Store) (tape : Tape) → IsRunnable m → IsSupply m supply
-    → instantiate m supply ≡ Ok store → IsFitting m tape → IsConstantTape tape → tape_weight tape ≤ most_weight
+    → instantiate m supply ≡ Ok store → IsFitting m tape → IsConstantTape tape → tape_weight tape ≤ MAX_TAPE_WEIGHT
     → IsPlayable m supply store tape
 playable m supply store tape runnable supplied begins fits constants light = record {
   runnable = runnable;

@@ -10,20 +10,17 @@ use Rattle.host_script.specs.Supply.{supply_of}
 use Rattle.history_spec.specs.Instantiation.{instantiate}
 use Rattle.history_spec.specs.Store.{Store}
 use Rattle.type_safety.specs.Stores.{IsStore}
-use Rattle.type_safety.specs.Supplies.{IsRunnable}
 use Rattle.wasm_flat.specs.Meters.{FitsMeter, Weighing}
 use Rattle.wasm_flat.specs.Sizes.{IsShort}
 use Rattle.record_replay_spec.specs.Hooks.{renumbered_view}
 use Rattle.record_replay_spec.specs.Instrumented.{instrumented_weights}
-use Rattle.record_replay_spec.specs.Order.{shape_of}
 use Rattle.host_link.specs.Link.{link_result, with_supply}
-use Rattle.host_play.specs.HookedResults.{HasHooksAfter, hooked_run}
+use Rattle.host_play.specs.HookedResults.{HasHooksAfter}
 use Rattle.tape_laws.specs.CallLaws.{OriginalRun}
 use Rattle.hook_insert.specs.EncodingLaws.{InstrumentedMetersFit}
 use Rattle.instrumented_module_laws.specs.SizeLaws.{InstrumentedAreShort, InstrumentedHaveStores, InstrumentedImportHooks}
-use Rattle.instrumented_module_laws.specs.Links.{InstrumentedAreFitted, InstrumentedAreInstantiated, InstrumentedAreRunnable, InstrumentedAreSupplied, renumbered_link, script_with_hooks}
+use Rattle.instrumented_module_laws.specs.Links.{InstrumentedAreFitted, InstrumentedAreInstantiated, InstrumentedAreSupplied, renumbered_link, script_with_hooks}
 use Rattle.instrumented_run_laws.specs.Laws.{instrumented_of}
-use Rattle.run_recorder.specs.Records.{RecordedRun}
 use Rattle.replay_theorem.specs.RecordLaws.{recorded_run}
 use Rattle.replay_theorem.specs.RecordedOriginalLaws.{record_of}
 use Rattle.r3_make.specs.Records.{IsOriginal}
@@ -47,9 +44,6 @@ recorded_same run turns hooked script store meter imports a b c d e =
 
 -- ---- a link has one result
 
-pub one_link : (r : Result Store LinkFault) (a b : Store) → r ≡ Ok a → r ≡ Ok b → a ≡ b
-one_link r a b e f = cc (sym e ∙ f)
-
 linked_or_not : (r : Result Store LinkFault) (a : Store) (fault : LinkFault) → r ≡ Ok a → r ≡ Err fault → ⊥
 linked_or_not r a fault e f = absurd (cc (sym e ∙ f))
 
@@ -65,9 +59,6 @@ segment_memory number fault e f = absurd (cc (sym e ∙ f))
 -- ---- what holds of the instrumented module of an original
 
 module _ (run : OriginalRun) (is : IsOriginal run) where
-  pub hooked_runnable : InstrumentedAreRunnable → IsRunnable (instrumented_of run)
-  hooked_runnable law = law run.m run.digest is.accepted is.bytes run.core is.words
-
   pub hooked_short : InstrumentedAreShort → IsShort (instrumented_of run)
   hooked_short law = law run.m run.digest is.most is.accepted run.core is.words is.within is.few
 

@@ -2,7 +2,7 @@
 use Rattle.std.proofs.Common.{ℕ, ◌<◌, ◌≤◌, ◌^◌, List, length, arith}
 use Rattle.std.specs.Prelude.{IfSome}
 use Rattle.wasm_syntax.specs.declared.forms.Form.TheVariants.{Core, Replay}
-use Rattle.wasm_syntax.specs.declared.limits.TheConstants.{MOST_FILE_BYTES}
+use Rattle.wasm_syntax.specs.declared.limits.TheConstants.{MAX_TAPE_WEIGHT, MAX_FILE_BYTES}
 use Rattle.wasm_syntax.specs.declared.modules.Module.{Module}
 use Rattle.wasm_syntax.specs.Encoding.Encodable.{IsEncodable}
 use Rattle.wasm_syntax.specs.Encoding.Laws.{EncodableInCore, EncodedIsEncodable}
@@ -17,23 +17,20 @@ use Rattle.trace_model.specs.Fitting.{IsFitting}
 use Rattle.trace_model.specs.Weight.{tape_weight}
 use Rattle.replay_module_spec.specs.Plans.{plan_of}
 use Rattle.replay_gen.specs.Bounds.{FitsIndices}
-use Rattle.replay_module_spec.specs.Size.{most_bytes}
+use Rattle.replay_module_spec.specs.Size.{max_bytes}
 use Rattle.replay_module_laws.specs.Written.{IsConstantTape}
 use Rattle.replay_encoding_laws.specs.Laws.{BoundsAreShort, PlansFitIndices, ReplayModulesAreEncodable, ReplayModulesAreShort}
 use Rattle.replay_encoding_laws.specs.Premises.{IsFromFile, IsTakenTape}
-use Rattle.generated_code_laws.specs.Playable.{most_weight, replay_of}
+use Rattle.generated_code_laws.specs.Playable.{replay_of}
 
 module _ (bytes : List ℕ) (m : Module) (tape : Tape) (encoded : Encodes Core bytes m)
-    (few : length bytes ≤ MOST_FILE_BYTES) (valid : IsValid m) (fits : IsFitting m tape)
-    (constants : IsConstantTape tape) (light : tape_weight tape ≤ most_weight) where
+    (few : length bytes ≤ MAX_FILE_BYTES) (valid : IsValid m) (fits : IsFitting m tape)
+    (constants : IsConstantTape tape) (light : tape_weight tape ≤ MAX_TAPE_WEIGHT) where
   from_file : IsFromFile bytes m
   from_file = record { encoded = encoded; valid = valid; few = few }
 
-  small : tape_weight tape < 2 ^ 21
-  small = omega (arith, light)
-
   taken : IsTakenTape m tape
-  taken = record { fits = fits; constants = constants; weight = small }
+  taken = record { fits = fits; constants = constants; weight = light }
 
   pub fits_indices : PlansFitIndices → FitsIndices m (plan_of (imported_funcs m) tape)
   fits_indices law = law bytes m tape from_file taken
@@ -46,12 +43,12 @@ module _ (bytes : List ℕ) (m : Module) (tape : Tape) (encoded : Encodes Core b
         law bytes m supply tape from_file (record { matches = supplied; table = table }) taken
 
     pub is_within : ReplayModulesAreShort → EncodableInCore → EncodedIsEncodable
-        → length (encoding_of (replay_of m supply tape)) ≤ most_bytes m (tape_weight tape)
+        → length (encoding_of (replay_of m supply tape)) ≤ max_bytes m (tape_weight tape)
     is_within law core encodable = law m supply tape valid (core m (encodable Core bytes m encoded))
 
     pub is_short : ReplayModulesAreShort → BoundsAreShort → EncodableInCore → EncodedIsEncodable
         → length (encoding_of (replay_of m supply tape)) < 2 ^ 29
     is_short law bounds core encodable =
         let within = is_within law core encodable in
-        let below = bounds bytes m tape from_file small in
+        let below = bounds bytes m tape from_file light in
         omega (arith, within, below)

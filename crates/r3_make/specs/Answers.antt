@@ -4,7 +4,7 @@ use Rattle.trace_model.specs.declared.events.Log.{Log}
 use Rattle.trace_model.specs.declared.tapes.Tape.{Tape}
 use Rattle.trace_model.specs.Weight.{tape_weight}
 use Rattle.record_replay_spec.specs.LogTapes.{IsLogTape}
-use Rattle.generated_code_laws.specs.Playable.{most_weight}
+use Rattle.wasm_syntax.specs.declared.limits.TheConstants.{MAX_TAPE_WEIGHT}
 use Rattle.r3_faults.specs.declared.faults.Fault.{Fault}
 use Rattle.r3_faults.specs.declared.faults.Fault.TheVariants.{Memory, TapeLimit}
 
@@ -12,10 +12,10 @@ use Rattle.r3_faults.specs.declared.faults.Fault.TheVariants.{Memory, TapeLimit}
 pub record IsHeavyLog (log : Log) (fault : Fault) : Type 0 where
   pub tape : Tape
   pub is_tape : IsLogTape log tape
-  pub heavy : most_weight < tape_weight tape
+  pub heavy : MAX_TAPE_WEIGHT < tape_weight tape
   pub named : fault ≡ TapeLimit (min (tape_weight tape) (2 ^ 64 - 1))
 
 -- the log's tape, or why it is refused
 abbrev pub IsLightTape : Log → Result Tape Fault → Type 0
-IsLightTape log (Ok tape) = IsLogTape log tape × (tape_weight tape ≤ most_weight)
+IsLightTape log (Ok tape) = IsLogTape log tape × (tape_weight tape ≤ MAX_TAPE_WEIGHT)
 IsLightTape log (Err fault) = (fault ≡ Memory) ⊎ IsHeavyLog log fault

@@ -1,6 +1,7 @@
 -- Why no replay module is built of a tape, by the first cause that applies.
 use Rattle.std.specs.Prelude.{◌≡◌, ◌≢◌, ℕ, ◌<◌, ◌≤◌, ◌-◌, ◌^◌, List, Some, min, true}
 use Rattle.sha2.specs.Sha256.{sha256}
+use Rattle.wasm_syntax.specs.declared.limits.TheConstants.{MAX_TAPE_WEIGHT}
 use Rattle.wasm_syntax.specs.declared.modules.Module.{Module}
 use Rattle.host_script.specs.declared.scripts.Script.{Script}
 use Rattle.host_script.specs.declared.scripts.Supply.{Supply}
@@ -9,13 +10,12 @@ use Rattle.trace_model.specs.declared.tapes.Tape.{Tape}
 use Rattle.trace_model.specs.Fitting.{IsFitting, first_unfit}
 use Rattle.trace_model.specs.Weight.{tape_weight}
 use Rattle.trace_format.specs.Faults.{IsTapeOf}
-use Rattle.generated_code_laws.specs.Playable.{most_weight}
 use Rattle.accepted_runs.specs.Linked.{IsLinked}
 use Rattle.accepted_runs.specs.Unlinked.{IsUnlinkedFor}
 use Rattle.r3_faults.specs.declared.faults.Fault.{Fault}
 use Rattle.r3_faults.specs.declared.faults.Fault.TheVariants.{OtherModule, TapeLimit, Unfit}
 use Rattle.r3_inputs.specs.Inputs.{AreInputs, AreRefused}
-use Rattle.r3_show.specs.Shown.{IsUnshownAs}
+use Rattle.r3_show.specs.FileLines.{IsUnshownAs}
 
 -- ---- links
 
@@ -31,7 +31,7 @@ pub record Links (m : Module) (script : Script) : Type 0 where
 pub record IsTakenAs (m : Module) (digest bytes : List ℕ) (tape : Tape) : Type 0 where
   pub read : IsTapeOf bytes digest tape
   pub fits : IsFitting m tape
-  pub light : tape_weight tape ≤ most_weight
+  pub light : tape_weight tape ≤ MAX_TAPE_WEIGHT
 
 -- the bytes encode a tape with another digest
 pub record IsOfOther (digest bytes : List ℕ) (fault : Fault) : Type 0 where
@@ -59,7 +59,7 @@ pub record IsTooHeavy (m : Module) (digest bytes : List ℕ) (fault : Fault) : T
   pub tape : Tape
   pub read : IsTapeOf bytes digest tape
   pub fits : IsFitting m tape
-  pub heavy : most_weight < tape_weight tape
+  pub heavy : MAX_TAPE_WEIGHT < tape_weight tape
   pub named : fault ≡ TapeLimit (min (tape_weight tape) (2 ^ 64 - 1))
 
 -- why bytes are refused as a tape for a module whose bytes have this digest

@@ -11,7 +11,7 @@ use Rattle.host_script.specs.declared.scripts.Supply.{Supply}
 use Rattle.history_spec.specs.Store.{Store}
 use Rattle.trace_model.specs.declared.tapes.Tape.{Tape}
 use Rattle.trace_model.specs.Weight.{tape_weight}
-use Rattle.replay_module_spec.specs.Size.{most_bytes}
+use Rattle.replay_module_spec.specs.Size.{max_bytes}
 use Rattle.generated_code_laws.specs.Playable.{replay_of}
 use Rattle.replay_laws.specs.Follows.{FollowsTape}
 use Rattle.replay_laws.specs.Stands.{StandsForOriginal}
@@ -20,14 +20,14 @@ use Rattle.accepted_runs.specs.Linked.{IsLinked}
 use Rattle.r3_make.specs.BuildRefusals.{IsTakenAs}
 
 -- The bytes are the shortest encoding of the replay module of the tape. The module is valid, keeps the
--- original's functions, imports nothing, and its run follows the tape. The bytes are at most `most_bytes`.
+-- original's functions, imports nothing, and its run follows the tape. The bytes are at most `max_bytes`.
 pub record IsReplayOf (m : Module) (supply : Supply) (store : Store) (tape : Tape) (printed : List ℕ) : Type 0 where
   pub shortest : printed ≡ encoding_of (replay_of m supply tape)
   pub encoded : Encodes Replay printed (replay_of m supply tape)
   pub valid : IsValid (replay_of m supply tape)
   pub stands : StandsForOriginal m supply tape
   pub follows : FollowsTape m supply store tape
-  pub most : length printed ≤ most_bytes m (tape_weight tape)
+  pub most : length printed ≤ max_bytes m (tape_weight tape)
 
 -- the module links with the script, the tape is accepted, and this is its replay module
 pub record IsBuilt (m : Module) (script : Script) (digest tape_bytes printed : List ℕ) : Type 0 where

@@ -1,5 +1,6 @@
 -- What `make` prints.
 use Rattle.std.specs.Prelude.{ℕ, ◌≤◌, List}
+use Rattle.wasm_syntax.specs.declared.limits.TheConstants.{MAX_TAPE_WEIGHT}
 use Rattle.wasm_syntax.specs.declared.modules.Module.{Module}
 use Rattle.host_script.specs.declared.scripts.Script.{Script}
 use Rattle.host_script.specs.declared.scripts.Supply.{Supply}
@@ -10,7 +11,7 @@ use Rattle.history_spec.specs.Store.{Store}
 use Rattle.tape_laws.specs.Dropped.{HasNothingToSpare}
 use Rattle.replay_module_spec.specs.Fragments.{start_index}
 use Rattle.replay_module_spec.specs.Merge.{layout_of}
-use Rattle.generated_code_laws.specs.Playable.{most_weight, replay_of}
+use Rattle.generated_code_laws.specs.Playable.{replay_of}
 use Rattle.replay_theorem.specs.Laws.{MakesEffectsOf}
 use Rattle.r3_make.specs.BuiltReplays.{IsReplayOf}
 use Rattle.r3_inputs.specs.Inputs.{AreInputs}
@@ -25,7 +26,7 @@ pub record IsReplayFor (m : Module) (script : Script) (turns : ℕ) (printed : L
   pub store : Store
   pub tape : Tape
   pub needed : NeedsTape m script turns supply store tape
-  pub light : tape_weight tape ≤ most_weight
+  pub light : tape_weight tape ≤ MAX_TAPE_WEIGHT
   pub nothing_spare : HasNothingToSpare m script store tape.segments needed.is_one.is_needed
   pub replay : IsReplayOf m supply store tape printed
   pub shows : Replays (replay_of m supply tape) (layout_of m) (start_index m) needed.run.history needed.outcome

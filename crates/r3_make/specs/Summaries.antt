@@ -1,5 +1,6 @@
 -- The summary of the run of a module under a script, and of the tape that it needs.
 use Rattle.std.specs.Prelude.{◌≡◌, ℕ, ◌≤◌, List, ◌++◌, length, codes}
+use Rattle.wasm_syntax.specs.declared.limits.TheConstants.{LOAD_TURNS, MAX_TAPE_WEIGHT}
 use Rattle.wasm_syntax.specs.declared.modules.Module.{Module}
 use Rattle.host_script.specs.declared.scripts.Script.{Script}
 use Rattle.host_script.specs.declared.scripts.Supply.{Supply}
@@ -8,7 +9,6 @@ use Rattle.trace_model.specs.declared.tapes.Tape.{Tape}
 use Rattle.trace_model.specs.Weight.{tape_weight}
 use Rattle.history_spec.specs.Run.{Run}
 use Rattle.history_spec.specs.Store.{Store}
-use Rattle.generated_code_laws.specs.Playable.{most_weight}
 use Rattle.accepted_runs.specs.Runs.{HasOutcome}
 use Rattle.load_maker.specs.Loads.{load_script}
 use Rattle.load_maker.specs.declared.load_module.TheConstants.{LOAD_MODULE}
@@ -38,7 +38,7 @@ pub record IsSummaryOf (m : Module) (script : Script) (turns : ℕ) (printed : L
   pub store : Store
   pub tape : Tape
   pub needed : NeedsTape m script turns supply store tape
-  pub light : tape_weight tape ≤ most_weight
+  pub light : tape_weight tape ≤ MAX_TAPE_WEIGHT
   pub lines : printed
       ≡ summary_text needed.run.turns (length needed.run.history) (length tape.segments) (tape_weight tape)
 
@@ -49,10 +49,6 @@ pub record IsSummaryFor (module_bytes script_bytes : List ℕ) (turns : ℕ) (pr
   pub inputs : AreInputs module_bytes script_bytes m script
   pub summary : IsSummaryOf m script turns printed
 
--- the turns within which a load is run
-abbrev pub load_turns : ℕ
-load_turns = 2000000
-
 -- the summary of the load of a number of calls
 abbrev pub IsSummary : (number : ℕ) → (printed : List ℕ) → Type 0
-IsSummary number printed = IsSummaryFor LOAD_MODULE (load_script number) load_turns printed
+IsSummary number printed = IsSummaryFor LOAD_MODULE (load_script number) LOAD_TURNS printed

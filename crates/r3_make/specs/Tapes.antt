@@ -1,5 +1,6 @@
 -- The tape that the run of a module under a script needs.
 use Rattle.std.specs.Prelude.{◌≡◌, ℕ, ◌<◌, ◌≤◌, ◌-◌, ◌^◌, min}
+use Rattle.wasm_syntax.specs.declared.limits.TheConstants.{MAX_TAPE_WEIGHT}
 use Rattle.wasm_syntax.specs.declared.modules.Module.{Module}
 use Rattle.host_script.specs.declared.scripts.Script.{Script}
 use Rattle.host_script.specs.declared.scripts.Supply.{Supply}
@@ -9,7 +10,6 @@ use Rattle.trace_model.specs.Weight.{tape_weight}
 use Rattle.history_spec.specs.Run.{Run}
 use Rattle.history_spec.specs.Store.{Store}
 use Rattle.tape_laws.specs.NeededTape.{IsOneNeededTape}
-use Rattle.generated_code_laws.specs.Playable.{most_weight}
 use Rattle.accepted_runs.specs.Runs.{HasOutcome}
 use Rattle.accepted_runs.specs.Linked.{IsLinked}
 use Rattle.r3_faults.specs.declared.faults.Fault.{Fault}
@@ -31,7 +31,7 @@ pub record NeedsLightTape (m : Module) (script : Script) (turns : ℕ) : Type 0 
   pub store : Store
   pub tape : Tape
   pub needed : NeedsTape m script turns supply store tape
-  pub light : tape_weight tape ≤ most_weight
+  pub light : tape_weight tape ≤ MAX_TAPE_WEIGHT
 
 -- the run needs a tape that is too heavy; a weight of more than 64 bits is reported as the greatest of 64
 pub record NeedsHeavyTape (m : Module) (script : Script) (turns : ℕ) (fault : Fault) : Type 0 where
@@ -39,5 +39,5 @@ pub record NeedsHeavyTape (m : Module) (script : Script) (turns : ℕ) (fault : 
   pub store : Store
   pub tape : Tape
   pub needed : NeedsTape m script turns supply store tape
-  pub heavy : most_weight < tape_weight tape
+  pub heavy : MAX_TAPE_WEIGHT < tape_weight tape
   pub named : fault ≡ TapeLimit (min (tape_weight tape) (2 ^ 64 - 1))

@@ -2,7 +2,7 @@
 
 ghost use Rattle.std.specs.Prelude.{◌≡◌, ◌<◌, ◌≤◌, ◌^◌, Ok, IfErr, IfOk, IfSome, length};
 ghost use Rattle.sha2.specs.Sha256.{sha256};
-ghost use Rattle.wasm_syntax.specs.declared.limits.TheConstants.{MOST_FILE_BYTES};
+ghost use Rattle.wasm_syntax.specs.declared.limits.TheConstants.{MAX_TAPE_WEIGHT, MAX_FILE_BYTES};
 ghost use Rattle.wasm_syntax.specs.declared.forms.Form.TheVariants.{Core};
 ghost use Rattle.wasm_syntax.specs.Encoding.Modules.{Encodes};
 ghost use Rattle.history_spec.specs.Instantiation.{instantiate};
@@ -11,7 +11,6 @@ ghost use Rattle.trace_model.specs.Fitting.{IsFitting};
 ghost use Rattle.trace_model.specs.Weight.{tape_weight};
 ghost use Rattle.type_safety.specs.Supplies.{HasBytes, IsRunnable, IsSupply};
 ghost use Rattle.replay_module_laws.specs.Written.{IsConstantTape};
-ghost use Rattle.generated_code_laws.specs.Playable.{most_weight};
 ghost use Rattle.accepted_runs.specs.Runnable.{CanRun};
 ghost use Rattle.r3_faults.specs.Answers.{IsCaused, IsExact};
 ghost use Rattle.r3_faults.specs.declared.faults.Fault.TheVariants.{Memory};
@@ -19,7 +18,7 @@ ghost use Rattle.r3_make.specs.BuiltReplays.{IsBuilt, IsReplayOf};
 ghost use Rattle.r3_make.specs.BuildRefusals.{IsUnbuilt};
 
 use crate::read_tapes::tape_for;
-use accepted_runs::supply_and_store;
+use accepted_runs::supply_that_links;
 use host_script::{Script, Supply};
 use r3_faults::Fault;
 use replay_encoding_laws::{
@@ -44,7 +43,7 @@ pub(crate) fn replay_for(
     tape: &[u8],
 ) -> Result<Vec<u8>, Fault>
     requires encoded { Encodes Core bytes.now checked }
-    requires small { length bytes.now ≤ MOST_FILE_BYTES }
+    requires small { length bytes.now ≤ MAX_FILE_BYTES }
     requires runnable { CanRun checked script.now }
     requires bytes { HasBytes checked }
     ensures { IsExact (IsBuilt checked script.now (sha256 bytes.now) tape.now)
@@ -64,14 +63,14 @@ fn built_replay(
     tape: &[u8],
 ) -> Result<Vec<u8>, Fault>
     requires encoded { Encodes Core bytes.now checked }
-    requires small { length bytes.now ≤ MOST_FILE_BYTES }
+    requires small { length bytes.now ≤ MAX_FILE_BYTES }
     requires runnable { CanRun checked script.now }
     requires bytes { HasBytes checked }
     ensures { IsCaused (IsBuilt checked script.now (sha256 bytes.now) tape.now)
         (IsUnbuilt checked script.now (sha256 bytes.now) tape.now) result }
 {
     typed_store();
-    let (supply, _) = supply_and_store(alloc, &checked, script)?;
+    let supply = supply_that_links(alloc, &checked, script)?;
     let tape = tape_for(alloc, digest_of(bytes), checked.module(), tape)?;
     replay_bytes(alloc, bytes, checked, &supply, tape)
 }
@@ -96,11 +95,11 @@ pub fn replay_bytes(
     tape: Tape,
 ) -> Result<Vec<u8>, Fault>
     requires encoded { Encodes Core bytes.now checked }
-    requires small { length bytes.now ≤ MOST_FILE_BYTES }
+    requires small { length bytes.now ≤ MAX_FILE_BYTES }
     requires runnable { IsRunnable checked }
     requires supplied { IsSupply checked supply.now }
     requires fits { IsFitting checked tape }
-    requires light { tape_weight tape ≤ most_weight }
+    requires light { tape_weight tape ≤ MAX_TAPE_WEIGHT }
     requires constants { IsConstantTape tape }
     ensures cause { IfErr result (λ fault. fault ≡ Memory) }
     ensures printed { IfOk result (λ printed. (store : Store) → instantiate checked supply.now ≡ Ok store

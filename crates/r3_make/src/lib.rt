@@ -2,23 +2,23 @@
 //! refuse.
 #![tactic(auto)]
 
-mod builds;
+mod build_command;
 mod built_replays;
 mod lines;
 mod log_files;
-mod makes;
+mod make_command;
 mod module_logs;
 mod read_tapes;
-mod records;
-mod replays;
+mod recorded_runs;
+mod replay_binary;
 mod run_logs;
 mod summaries;
 mod tapes;
 
-pub use builds::build;
+pub use build_command::build;
 pub use built_replays::replay_bytes;
 pub use log_files::log_run;
-pub use makes::make;
+pub use make_command::make;
 pub use r3_faults::Fault;
 pub use summaries::load_summary;
 pub use tapes::needed_tape;

@@ -1,11 +1,10 @@
 // The lines on the run of an accepted module under a script, and on the tape that it needs.
 
 ghost use Rattle.std.specs.Prelude.{◌≡◌, ◌≤◌, ◌⊎◌, ◌++◌, Err, IfErr, IfOk, OnOk, length};
-ghost use Rattle.wasm_syntax.specs.declared.limits.TheConstants.{MOST_FILE_BYTES};
+ghost use Rattle.wasm_syntax.specs.declared.limits.TheConstants.{MAX_TAPE_WEIGHT, MAX_FILE_BYTES};
 ghost use Rattle.wasm_syntax.specs.ListsWithin.{HasListsWithin};
 ghost use Rattle.type_safety.specs.Supplies.{HasBytes};
 ghost use Rattle.trace_model.specs.Weight.{tape_weight};
-ghost use Rattle.generated_code_laws.specs.Playable.{most_weight};
 ghost use Rattle.accepted_runs.specs.Runnable.{CanRun, StartsWith};
 ghost use Rattle.accepted_runs.specs.Runs.{HasNoOutcome};
 ghost use Rattle.r3_inputs.specs.Inputs.{IsModuleOf};
@@ -17,7 +16,7 @@ ghost use Rattle.r3_make.specs.Tapes.{NeedsLightTape};
 ghost use Rattle.r3_make.specs.Summaries.{HasCounts, IsSummaryOf, summary_text};
 
 use crate::needed_tape;
-use accepted_runs::{supply_and_store, told_run};
+use accepted_runs::{printed_run, supply_and_store};
 use base::NoMemory;
 use history_spec::runs_have_one_result_at_most;
 use host_script::Script;
@@ -44,7 +43,7 @@ pub(crate) fn lines_of(
     turns: u64,
 ) -> Result<Vec<u8>, Fault>
     requires is_module { IsModuleOf bytes.now checked.now }
-    requires small { length bytes.now ≤ MOST_FILE_BYTES }
+    requires small { length bytes.now ≤ MAX_FILE_BYTES }
     requires within { HasListsWithin (length bytes.now) checked.now }
     requires runnable { CanRun checked.now script }
     requires bytes { HasBytes checked.now }
@@ -67,7 +66,7 @@ fn printed_lines(
     turns: u64,
 ) -> Result<Vec<u8>, Fault>
     requires is_module { IsModuleOf bytes.now checked.now }
-    requires small { length bytes.now ≤ MOST_FILE_BYTES }
+    requires small { length bytes.now ≤ MAX_FILE_BYTES }
     requires within { HasListsWithin (length bytes.now) checked.now }
     requires runnable { CanRun checked.now script }
     requires bytes { HasBytes checked.now }
@@ -94,16 +93,16 @@ fn counts_of_run(
     ensures counts { IfOk result (λ counts. HasCounts checked.now script.now turns counts) }
     ensures cause { IfErr result (λ fault. (fault ≡ Memory) ⊎ HasNoOutcome checked.now script.now turns fault) }
 {
-    let told = told_run(alloc, checked, script, store, turns)?;
+    let printed_history = printed_run(alloc, checked, script, store, turns)?;
     Ok(Counts {
-        turns: told.turns,
-        entries: told.entries,
+        turns: printed_history.turns,
+        entries: printed_history.entries,
     })
 }
 
 /// The lines of a run with these counts and of its tape.
 fn summary_text(alloc: Global, counts: Counts, tape: &Tape) -> Result<Vec<u8>, NoMemory>
-    requires light { tape_weight tape.now ≤ most_weight }
+    requires light { tape_weight tape.now ≤ MAX_TAPE_WEIGHT }
     ensures { IfOk result (λ text. text.items
         ≡ summary_text counts.turns counts.entries (length tape.now.segments) (tape_weight tape.now)) }
 {
@@ -121,7 +120,7 @@ fn summary_text(alloc: Global, counts: Counts, tape: &Tape) -> Result<Vec<u8>, N
 
 /// The weight of a tape that is light enough.
 fn weight_of(tape: &Tape) -> u64
-    requires { tape_weight tape.now ≤ most_weight }
+    requires { tape_weight tape.now ≤ MAX_TAPE_WEIGHT }
     ensures { result ≡ tape_weight tape.now }
 {
     tape.weight()

@@ -2,7 +2,7 @@
 
 ghost use Rattle.std.specs.Prelude.{◌≤◌, length};
 ghost use Rattle.r3_faults.specs.Answers.{IsExact};
-ghost use Rattle.r3_inputs.specs.declared.module_files.TheConstants.{MOST_INSTRUMENTED_BYTES};
+ghost use Rattle.wasm_syntax.specs.declared.limits.TheConstants.{MAX_INSTRUMENTED_BYTES};
 ghost use Rattle.r3_make.specs.LogFiles.{IsLogFile, IsLogRefusal};
 
 use crate::module_logs::log_file;
@@ -12,7 +12,8 @@ use std::alloc::Global;
 
 /// The file of the log of the run of a module in the hooked form under a script, which is read for that module,
 /// within a number of turns; each instruction of the module takes one turn. The log is that of the hook calls
-/// that the module makes, and has the digest that the module declares. The module has at most 134,217,728 bytes.
+/// that the module makes, and has the digest that the module declares. The module has at most
+/// `MAX_INSTRUMENTED_BYTES`.
 ///
 /// # Errors
 ///
@@ -21,7 +22,7 @@ use std::alloc::Global;
 /// needs more turns, or a hook call before that is out of order. Each is reported if and only if it is the first
 /// cause that applies. `Memory` if memory is out.
 pub fn log_run(alloc: Global, hooked: &[u8], script: &[u8], turns: u64) -> Result<Vec<u8>, Fault>
-    requires { length hooked.now ≤ MOST_INSTRUMENTED_BYTES }
+    requires { length hooked.now ≤ MAX_INSTRUMENTED_BYTES }
     ensures { IsExact (IsLogFile hooked.now script.now turns) (IsLogRefusal hooked.now script.now turns) result }
 {
     let checked = module_in(alloc, ModuleFile::Instrumented, hooked)?;

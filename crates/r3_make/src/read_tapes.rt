@@ -5,7 +5,7 @@ ghost use Rattle.trace_model.specs.Fitting.{IsFitting};
 ghost use Rattle.trace_format.specs.Faults.{IsTapeOf};
 ghost use Rattle.replay_module_laws.specs.Written.{IsConstantTape};
 ghost use Rattle.r3_faults.specs.declared.faults.Fault.TheVariants.{Memory};
-ghost use Rattle.r3_show.specs.Shown.{IsUnshownAs};
+ghost use Rattle.r3_show.specs.FileLines.{IsUnshownAs};
 ghost use Rattle.r3_make.specs.BuildRefusals.{IsTakenAs, IsUnfitFor, IsUntaken};
 
 use r3_faults::Fault;
@@ -15,9 +15,7 @@ use std::alloc::Global;
 use trace_format::{Digest, read_tape};
 use trace_model::{Tape, TapeFault, fits};
 use wasm_syntax::Module;
-
-/// The limit of a tape's weight.
-const MOST_WEIGHT: u64 = 2_000_000;
+use wasm_syntax::limits::MAX_TAPE_WEIGHT;
 
 /// The tape that bytes encode for a module whose own bytes have this digest.
 ///
@@ -45,7 +43,7 @@ pub(crate) fn tape_for(
     }
     check_form(alloc, &tape, module)?;
     let weight = tape.weight();
-    if weight > MOST_WEIGHT {
+    if weight > MAX_TAPE_WEIGHT {
         return Err(Fault::TapeLimit { weight });
     }
     Ok(tape)

@@ -15,7 +15,7 @@ ghost use Rattle.r3_make.specs.LogFiles.{CanBeRecorded, HasLogFile, HasNoLogFile
 
 use accepted_runs::supply_and_store;
 use hook_insert::HookedForm;
-use host_play::{Play, PlayFault};
+use host_play::{Play, PlayFault, RunSettings};
 use host_script::{Script, Supply};
 use r3_faults::Fault;
 use replay_theorem::logs_have_spellings;
@@ -101,7 +101,12 @@ fn recorded_log(
         script,
         store,
     };
-    match record_log(alloc, checked, supply, form.imports, play, &meter, turns) {
+    let settings = RunSettings {
+        imports: form.imports,
+        meter: &meter,
+        turns,
+    };
+    match record_log(alloc, checked, supply, play, &settings) {
         Ok(log) => Ok(log),
         Err(fault) => Err(record_fault(fault, turns)),
     }

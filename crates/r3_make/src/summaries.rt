@@ -1,39 +1,35 @@
 // `load`: the summary of a load.
 
 ghost use Rattle.std.specs.Prelude.{◌≡◌, ◌≤◌, ◌⊎◌, Err, IfErr, IfOk, length};
-ghost use Rattle.wasm_syntax.specs.declared.limits.TheConstants.{MOST_FILE_BYTES};
+ghost use Rattle.wasm_syntax.specs.declared.limits.TheConstants.{LOAD_TURNS, MAX_LOAD_CALLS, MAX_FILE_BYTES};
 ghost use Rattle.load_maker.specs.Loads.{load_script};
 ghost use Rattle.load_maker.specs.declared.load_module.TheConstants.{LOAD_MODULE};
-ghost use Rattle.load_maker.specs.declared.scripts.TheConstants.{MOST_CALLS};
 ghost use Rattle.r3_faults.specs.declared.faults.Fault.{Fault};
 ghost use Rattle.r3_faults.specs.declared.faults.Fault.TheVariants.{Memory};
 ghost use Rattle.r3_make.specs.Refusals.{AreReplayable, IsMakeRefusal};
-ghost use Rattle.r3_make.specs.Summaries.{IsSummary, IsSummaryFor, load_turns};
+ghost use Rattle.r3_make.specs.Summaries.{IsSummary, IsSummaryFor};
 
 use crate::lines::lines_of;
 use accepted_runs::inputs_of;
 use load_maker::make_load;
 use r3_faults::Fault;
 use std::alloc::Global;
+use wasm_syntax::limits::LOAD_TURNS;
 
-/// The turns within which a load is run.
-const LOAD_TURNS: u64 = 2_000_000;
-
-/// Four lines on the load of a number of calls, at most 60,000: the turns of its run, the entries of the run's
-/// history, the segments of the tape that the run needs, and the tape's weight.
+/// Four lines on the load of a number of calls, at most `MAX_LOAD_CALLS`: the turns of its run, the entries of the
+/// run's history, the segments of the tape that the run needs, and the tape's weight.
 ///
 /// # Errors
 ///
-/// The faults of `make` with the module and the script of the load and 2,000,000 turns. `Memory` if memory is
-/// out.
+/// The faults of `make` with the module and the script of the load and `LOAD_TURNS`. `Memory` if memory is out.
 pub fn load_summary(alloc: Global, number: u32) -> Result<Vec<u8>, Fault>
-    requires { number ≤ MOST_CALLS }
+    requires { number ≤ MAX_LOAD_CALLS }
     ensures cause { IfErr result (λ fault.
-        (fault ≡ Memory) ⊎ IsMakeRefusal LOAD_MODULE (load_script number) load_turns fault) }
-    ensures refused { (fault : Fault) → IsMakeRefusal LOAD_MODULE (load_script number) load_turns fault
+        (fault ≡ Memory) ⊎ IsMakeRefusal LOAD_MODULE (load_script number) LOAD_TURNS fault) }
+    ensures refused { (fault : Fault) → IsMakeRefusal LOAD_MODULE (load_script number) LOAD_TURNS fault
         → (result ≡ Err fault) ⊎ (result ≡ Err Memory) }
     ensures printed { IfOk result (λ bytes. IsSummary number bytes.items) }
-    ensures accepted { AreReplayable LOAD_MODULE (load_script number) load_turns
+    ensures accepted { AreReplayable LOAD_MODULE (load_script number) LOAD_TURNS
         → IfErr result (λ fault. fault ≡ Memory) }
 {
     let (module, script) = make_load(alloc, number)?;
@@ -42,7 +38,7 @@ pub fn load_summary(alloc: Global, number: u32) -> Result<Vec<u8>, Fault>
 
 /// The summary of the run of a module under a script, from the bytes of both.
 fn summary_of(alloc: Global, module: &[u8], script: &[u8], turns: u64) -> Result<Vec<u8>, Fault>
-    requires { length «module».now ≤ MOST_FILE_BYTES }
+    requires { length «module».now ≤ MAX_FILE_BYTES }
     ensures cause { IfErr result (λ fault. (fault ≡ Memory) ⊎ IsMakeRefusal «module».now script.now turns fault) }
     ensures refused { (fault : Fault) → IsMakeRefusal «module».now script.now turns fault
         → (result ≡ Err fault) ⊎ (result ≡ Err Memory) }

@@ -1,7 +1,7 @@
 // The tape that the run of a module needs.
 
 ghost use Rattle.std.specs.Prelude.{◌≡◌, ◌≤◌, ◌⊎◌, List, IfErr, IfOk, length};
-ghost use Rattle.wasm_syntax.specs.declared.limits.TheConstants.{MOST_FILE_BYTES};
+ghost use Rattle.wasm_syntax.specs.declared.limits.TheConstants.{MAX_TAPE_WEIGHT, MAX_FILE_BYTES};
 ghost use Rattle.wasm_syntax.specs.ListsWithin.{HasListsWithin};
 ghost use Rattle.trace_model.specs.declared.events.Event.{Event};
 ghost use Rattle.trace_model.specs.Weight.{tape_weight};
@@ -9,7 +9,6 @@ ghost use Rattle.history_spec.specs.Store.{Store};
 ghost use Rattle.type_safety.specs.Supplies.{HasBytes};
 ghost use Rattle.trace_model.specs.Balance.{IsBalanced};
 ghost use Rattle.trace_reduce.specs.Reducer.{HasTaken};
-ghost use Rattle.generated_code_laws.specs.Playable.{most_weight};
 ghost use Rattle.accepted_runs.specs.Runnable.{CanRun};
 ghost use Rattle.r3_inputs.specs.Inputs.{IsModuleOf};
 ghost use Rattle.accepted_runs.specs.Linked.{IsLinked};
@@ -18,18 +17,19 @@ ghost use Rattle.r3_make.specs.Answers.{IsLightTape};
 ghost use Rattle.r3_make.specs.Refusals.{IsUnmade};
 ghost use Rattle.r3_make.specs.Tapes.{NeedsTape};
 
-use crate::records::{MOST_WEIGHT, hooked_inputs, recorded_run};
+use crate::recorded_runs::{hooked_inputs, recorded_run};
 use history_spec::Outcome;
 use host_play::PlayFault;
 use host_script::{Script, Supply};
 use instrumented_module_laws::encoded_have_words;
 use r3_faults::Fault;
 use replay_laws::tape_from;
-use replay_theorem::records_tell_originals;
+use replay_theorem::records_report_originals;
 use std::alloc::Global;
 use tape_laws::logs_are_balanced;
 use trace_model::Tape;
 use trace_reduce::{Reducer, ReducerFault};
+use wasm_syntax::limits::MAX_TAPE_WEIGHT;
 use wasm_validate::Checked;
 
 /// The tape that the run of a module under a script needs, if the run has an outcome within the turns; `bytes`
@@ -38,7 +38,7 @@ use wasm_validate::Checked;
 /// # Errors
 ///
 /// `Script` if the host cannot do what the script says, `Spent` if the run needs more turns, `TapeLimit` if the
-/// tape weighs more than 2,000,000. `Memory` if memory is out.
+/// tape weighs more than `MAX_TAPE_WEIGHT`. `Memory` if memory is out.
 pub fn needed_tape(
     alloc: Global,
     bytes: &[u8],
@@ -48,16 +48,16 @@ pub fn needed_tape(
     turns: u64,
 ) -> Result<Tape, Fault>
     requires is_module { IsModuleOf bytes.now checked.now }
-    requires small { length bytes.now ≤ MOST_FILE_BYTES }
+    requires small { length bytes.now ≤ MAX_FILE_BYTES }
     requires within { HasListsWithin (length bytes.now) checked.now }
     requires runnable { CanRun checked.now script }
     requires bytes { HasBytes checked.now }
     requires linked { (store : Store) × IsLinked checked.now script supply.now store }
     ensures needed { IfOk result (λ tape. (store : Store) × NeedsTape checked.now script turns supply.now store tape) }
-    ensures light { IfOk result (λ tape. tape_weight tape ≤ most_weight) }
+    ensures light { IfOk result (λ tape. tape_weight tape ≤ MAX_TAPE_WEIGHT) }
     ensures cause { IfErr result (λ fault. (fault ≡ Memory) ⊎ IsUnmade checked.now script turns fault) }
 {
-    records_tell_originals();
+    records_report_originals();
     encoded_have_words();
     logs_are_balanced();
     let inputs = hooked_inputs(alloc, bytes, checked, script)?;
@@ -78,7 +78,7 @@ fn tape_of(reducer: Reducer, imports: u32, outcome: Outcome) -> Result<Tape, Fau
         → IsLightTape (record { imports = imports; events = taken; outcome = outcome }) result }
 {
     // The contract on what a sink has taken does not say that the sink is the reducer that was passed in.
-    if !reducer.is_for(imports, MOST_WEIGHT) {
+    if !reducer.is_for(imports, MAX_TAPE_WEIGHT) {
         return Err(Fault::Memory);
     }
     match tape_from(reducer, outcome) {

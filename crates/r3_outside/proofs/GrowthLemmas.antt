@@ -48,7 +48,7 @@ GrewByPrefix-failed before between now bytes done p same = record {
   prefix = take done bytes;
   rest = drop done bytes;
   whole = take-append-drop done bytes;
-  grew = subst (λ told. Grew before told (take done bytes)) (sym same) p;
+  grew = subst (λ known. Grew before known (take done bytes)) (sym same) p;
 }
 
 -- what holds of any outcome, at an error

@@ -10,20 +10,20 @@ ghost use Rattle.r3_outside.specs.Growth.{Grew};
 
 use thiserror::Error;
 
+mod byte_writer;
 mod counts;
+mod file_reader;
 mod memory;
-mod reading;
 mod sure;
 mod system;
 mod table;
-mod writing;
 
 pub use base::NoMemory;
+pub use byte_writer::{PutFault, put_all, put_parts};
+pub use file_reader::{LoadFault, load};
 pub use memory::{MemFiles, MemSink};
-pub use reading::{LoadFault, load};
 pub use sure::{SureFiles, SureSink};
 pub use system::{DiskFiles, StdSink};
-pub use writing::{PutFault, put_all, put_parts};
 
 /// A call on the world outside failed. The count of faults rose; for files, that of the name.
 #[derive(Clone, Copy, PartialEq, Eq, Debug, Error)]

@@ -1,27 +1,20 @@
 -- Bytes have at most one reduction, and otherwise one fault.
-use Rattle.std.proofs.Common.{◌≡◌, ℕ, inl, inr, List, Option, Some, None, false, refl, sym, ◌∙◌, ap, subst}
+use Rattle.std.proofs.Common.{◌≡◌, ℕ, inl, inr, List, Some, None, false, refl, sym, ◌∙◌, ap, subst}
+use Rattle.base.proofs.Options.{none_some, same_some}
 use Rattle.trace_model.specs.Balance.{first_unbalanced}
 use Rattle.trace_model.specs.declared.events.Log.{Log}
 use Rattle.trace_bytes.specs.declared.tags.TheConstants.{VERSION_2}
 use Rattle.trace_bytes.specs.Spelling.{tape_bytes}
 use Rattle.trace_format.specs.Faults.{IsLogOf}
-use Rattle.trace_format.specs.Laws.{LogsAreToldApart}
+use Rattle.trace_format.specs.Laws.{LogsAreDistinguished}
 use Rattle.trace_format.specs.Text.{log_text}
 use Rattle.record_replay_spec.specs.LogTapes.{IsLogTape}
 use Rattle.record_replay_spec.specs.HookLaws.{LogTapeIsOne}
 use Rattle.r3_faults.specs.declared.faults.Fault.{Fault}
 use Rattle.r3_faults.specs.declared.faults.Fault.TheVariants.{Unbalanced}
-use Rattle.r3_show.specs.Shown.{IsUnshownAs}
+use Rattle.r3_show.specs.FileLines.{IsUnshownAs}
 use Rattle.r3_show.proofs.OneShown.{one_refusal, shown_apart}
-use Rattle.r3_reduce.specs.Reduced.{IsReduced, IsReduceRefusal}
-
-some_same : {X : Type 0} (o : Option X) (x y : X) → o ≡ Some x → o ≡ Some y → x ≡ y
-some_same None x y h k = cc
-some_same (Some z) x y h k = cc
-
-none_some : {X : Type 0} (o : Option X) (x : X) → o ≡ None → o ≡ Some x → ⊥
-none_some None x h k = cc
-none_some (Some y) x h k = cc
+use Rattle.r3_reduce.specs.TapeFiles.{IsReduced, IsReduceRefusal}
 
 -- a file that is a log is not refused as one
 no_log_refused : (bytes digest : List ℕ) (log : Log) (fault : Fault) → IsLogOf bytes digest log
@@ -30,7 +23,7 @@ no_log_refused bytes digest log fault read refused =
     shown_apart false bytes (log_text digest log) fault
     (record { digest = digest; log = log; spelled = read; lines = refl }) refused
 
-module _ (logs : LogsAreToldApart) (tapes : LogTapeIsOne) where
+module _ (logs : LogsAreDistinguished) (tapes : LogTapeIsOne) where
   pub one_file : (bytes x y : List ℕ) → IsReduced bytes x → IsReduced bytes y → x ≡ y
   one_file bytes x y one two =
       let same = logs bytes one.digest two.digest one.log two.log one.read two.read in
@@ -50,7 +43,7 @@ module _ (logs : LogsAreToldApart) (tapes : LogTapeIsOne) where
       let same = logs bytes one.digest two.digest one.log two.log one.read two.read in
       one.unbalanced.named
       ∙ ap Unbalanced
-      (some_same (first_unbalanced two.log) one.unbalanced.event two.unbalanced.event
+      (same_some (first_unbalanced two.log) one.unbalanced.event two.unbalanced.event
       (subst (λ log. first_unbalanced log ≡ Some one.unbalanced.event) same.1 one.unbalanced.first)
       two.unbalanced.first)
       ∙ sym two.unbalanced.named

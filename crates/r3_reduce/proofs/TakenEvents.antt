@@ -9,14 +9,14 @@ use Rattle.trace_format.specs.Faults.{IsLogOf}
 use Rattle.trace_format.specs.Taken.{BeginsLog, IsLogTaken, TakesAll}
 use Rattle.trace_format.specs.declared.files.FormatFault.{FormatFault}
 use Rattle.trace_reduce.specs.Reducer.{HasTaken, imports_of}
-use Rattle.r3_reduce.specs.Reduced.{IsTaken, TakesNext}
+use Rattle.r3_reduce.specs.TapeFiles.{IsTaken, TakesNext}
 use Rattle.r3_reduce.specs.declared.reducer_sink.ReducerSink.{ReducerSink}
 
 -- the result for a header
-abbrev pub told : List ℕ → ℕ → Result (List ℕ × ℕ) FormatFault
-told digest imports = Ok (digest, imports)
+abbrev pub reported : List ℕ → ℕ → Result (List ℕ × ℕ) FormatFault
+reported digest imports = Ok (digest, imports)
 
-pub ok_pair : (a b : List ℕ) (m n : ℕ) → told a m ≡ told b n → (a ≡ b) × (m ≡ n)
+pub ok_pair : (a b : List ℕ) (m n : ℕ) → reported a m ≡ reported b n → (a ≡ b) × (m ≡ n)
 ok_pair a b m n same = (ap first same, ap second same) where
   first : Result (List ℕ × ℕ) FormatFault → List ℕ
   first (Ok header) = header.0

@@ -1,1 +1,1 @@
-pub mod Reduced
+pub mod TapeFiles

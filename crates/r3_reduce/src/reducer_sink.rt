@@ -37,7 +37,7 @@ impl ReducerSink {
 }
 
 impl LogSink for ReducerSink {
-    ghost use Rattle.r3_reduce.specs.Reduced.{TakesNext};
+    ghost use Rattle.r3_reduce.specs.TapeFiles.{TakesNext};
 
     ghost takes = { λ before event now. TakesNext before.reducer event now.reducer };
 

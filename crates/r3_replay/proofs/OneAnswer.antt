@@ -1,5 +1,7 @@
 -- The run of a replay module has at most one result.
-use Rattle.std.proofs.Common.{◌≡◌, ◌≢◌, ℕ, List, Vec, Option, Some, Result, Ok, Err, refl, sym, ◌∙◌, ap, subst}
+use Rattle.std.proofs.Common.{◌≡◌, ◌≢◌, ℕ, List, Vec, Result, Ok, Err, refl, sym, ◌∙◌, ap, subst}
+use Rattle.base.proofs.Options.{same_some}
+use Rattle.base.proofs.Results.{same_ok}
 use Rattle.wasm_syntax.specs.declared.modules.Module.{Module}
 use Rattle.host_script.specs.declared.scripts.LinkFault.{LinkFault}
 use Rattle.host_script.specs.declared.scripts.LinkFault.TheVariants as link
@@ -12,27 +14,21 @@ use Rattle.history_spec.specs.Replay.{alone, entry_function, instructions, progr
 use Rattle.history_spec.specs.Run.{Run, run_from}
 use Rattle.history_spec.specs.Step.{StepResult}
 use Rattle.history_spec.specs.Store.{Store}
-use Rattle.host_play.specs.declared.results.Told.{Told}
+use Rattle.host_play.specs.declared.results.PrintedRun.{PrintedRun}
 use Rattle.replay_form.specs.Forms.{HasEntry, HasLayout}
 use Rattle.replay_run.specs.declared.results.ReplayFault.{ReplayFault}
 use Rattle.replay_run.specs.declared.results.ReplayFault.TheVariants as replay
-use Rattle.replay_run.specs.Results.{IsUnlinked, RefusesReplay, TellsReplay}
+use Rattle.replay_run.specs.Results.{IsUnlinked, RefusesReplay, PrintsReplay}
 use Rattle.r3_faults.specs.declared.faults.Fault.{Fault}
 use Rattle.r3_faults.specs.Answers.{IsCaused, IsExact}
 use Rattle.r3_faults.proofs.OneAnswer.{exact_answer}
-use Rattle.accepted_runs.proofs.OneResult.{over-spent, same-outcome, same-run}
+use Rattle.type_safety.proofs.OneResult.{over_spent, same_outcome, same_run}
 use Rattle.r3_replay.specs.ReplayTexts.{HasNoReplayText, HasReplayText, replay_fault}
 
 -- ---- values that differ, and that are the same
 
-same-some : (o : Option ℕ) (a b : ℕ) → o ≡ Some a → o ≡ Some b → a ≡ b
-same-some o a b e f = cc (sym e ∙ f)
-
 same-segment : (r : Result Store LinkFault) (a b : ℕ) → r ≡ Err (link.Segment a) → r ≡ Err (link.Segment b) → a ≡ b
 same-segment r a b e f = cc (sym e ∙ f)
-
-same-start : (r : Result StepResult LinkFault) (a b : StepResult) → r ≡ Ok a → r ≡ Ok b → a ≡ b
-same-start r a b e f = cc (sym e ∙ f)
 
 unfit-started : (m : Module) (entry : ℕ) (r : Result Store LinkFault) (found : LinkFault) (initial : StepResult) → r ≡ Err found
     → start_alone_or_fault m entry r ≡ Ok initial → ⊥
@@ -42,11 +38,11 @@ unfit-started m entry (Err other) found initial e f = cc f
 module _ (m : Module) (turns : ℕ) (layout-one : (a b : Layout) → HasLayout m a → HasLayout m b → a ≡ b)
     (one : (initial : StepResult) → HasOneResultAtMost (run_from (program_alone m) instructions initial) instructions turns) where
   entry-one : (a b : ℕ) → HasEntry m a → HasEntry m b → a ≡ b
-  entry-one a b x y = same-some (entry_function m) a b x.exported y.exported
+  entry-one a b x y = same_some (entry_function m) a b x.exported y.exported
 
   start-one : (a b : ℕ) (x y : StepResult) → HasEntry m a → HasEntry m b → run_start_alone m a ≡ Ok x → run_start_alone m b ≡ Ok y → x ≡ y
   start-one a b x y p q e f =
-      same-start (run_start_alone m b) x y (subst (λ (entry : ℕ). run_start_alone m entry ≡ Ok x) (entry-one a b p q) e) f
+      same_ok (run_start_alone m b) x y (subst (λ (entry : ℕ). run_start_alone m entry ≡ Ok x) (entry-one a b p q) e) f
 
   -- ---- why there are no lines
 
@@ -95,23 +91,23 @@ module _ (m : Module) (turns : ℕ) (layout-one : (a b : Layout) → HasLayout m
       one i x y is
       (subst (λ initial. IsResult (run_from (program_alone m) instructions initial) instructions turns y) (start-one b a j i q p f e) is_too)
 
-  told-none : (told : Told) (found : ReplayFault) → found ≢ replay.Memory → TellsReplay m turns told → RefusesReplay m turns found → ⊥
-  told-none told replay.Memory d t x = d refl
-  told-none told replay.NoLayout d t x = x t.layout t.form.laid
-  told-none told replay.Imports d t x = x.1 t.form.alone
-  told-none told replay.NoEntry d t x = x.2 t.entry t.form.enters
-  told-none told (replay.Link segment) d t x = unlinked-started segment t.entry t.initial x t.starts
-  told-none told replay.Spent d t x =
-      over-spent t.run
+  printed-none : (printed : PrintedRun) (found : ReplayFault) → found ≢ replay.Memory → PrintsReplay m turns printed → RefusesReplay m turns found → ⊥
+  printed-none printed replay.Memory d t x = d refl
+  printed-none printed replay.NoLayout d t x = x t.layout t.form.laid
+  printed-none printed replay.Imports d t x = x.1 t.form.alone
+  printed-none printed replay.NoEntry d t x = x.2 t.entry t.form.enters
+  printed-none printed (replay.Link segment) d t x = unlinked-started segment t.entry t.initial x t.starts
+  printed-none printed replay.Spent d t x =
+      over_spent t.run
       (result-one t.entry x.entry t.initial x.initial (budget.Over t.run) budget.Spent t.form.enters x.form.enters t.starts x.starts t.within x.spent)
 
-  told-one : (a b : Told) → TellsReplay m turns a → TellsReplay m turns b → a.text ≡ b.text
-  told-one a b x y =
+  printed-one : (a b : PrintedRun) → PrintsReplay m turns a → PrintsReplay m turns b → a.text ≡ b.text
+  printed-one a b x y =
       let same : x.run ≡ y.run =
-      same-run x.run y.run
+      same_run x.run y.run
       (result-one x.entry y.entry x.initial y.initial (budget.Over x.run) (budget.Over y.run) x.form.enters y.form.enters x.starts y.starts x.within y.within)
       in
-      let own : x.own ≡ y.own = same-outcome x.run.at x.own y.own x.ended (ap (λ (run : Run). run.at) same ∙ y.ended) in
+      let own : x.own ≡ y.own = same_outcome x.run.at x.own y.own x.ended (ap (λ (run : Run). run.at) same ∙ y.ended) in
       let shown : x.shown ≡ y.shown =
       sym x.projected ∙ ap (λ (layout : Layout). projection layout x.run.history x.own) (layout-one x.layout y.layout x.form.laid y.form.laid)
       ∙ ap (λ (run : Run). projection y.layout run.history x.own) same
@@ -120,10 +116,10 @@ module _ (m : Module) (turns : ℕ) (layout-one : (a b : Layout) → HasLayout m
       x.text ∙ ap (λ (shown : Projection). history_text shown.history shown.outcome) shown ∙ sym y.text
 
   text-one : (a b : List ℕ) → HasReplayText m turns a → HasReplayText m turns b → a ≡ b
-  text-one a b x y = x.lines ∙ told-one x.told y.told x.tells y.tells ∙ sym y.lines
+  text-one a b x y = x.lines ∙ printed-one x.printed y.printed x.prints y.prints ∙ sym y.lines
 
   text-none : (text : List ℕ) (fault : Fault) → HasReplayText m turns text → HasNoReplayText m turns fault → ⊥
-  text-none text fault x y = told-none x.told y.found y.differs x.tells y.refused
+  text-none text fault x y = printed-none x.printed y.found y.differs x.prints y.refused
 
   -- a result with its cause is exact
   pub exact : {Z : Type 0} (r : Result (Vec ℕ Z) Fault)

@@ -1,10 +1,10 @@
 -- The lines that the run of a replay module shows of its original within a budget of turns, or why there are none.
 use Rattle.std.specs.Prelude.{◌≡◌, ◌≢◌, ℕ, List}
 use Rattle.wasm_syntax.specs.declared.modules.Module.{Module}
-use Rattle.host_play.specs.declared.results.Told.{Told}
+use Rattle.host_play.specs.declared.results.PrintedRun.{PrintedRun}
 use Rattle.replay_run.specs.declared.results.ReplayFault.{ReplayFault}
 use Rattle.replay_run.specs.declared.results.ReplayFault.TheVariants as replay
-use Rattle.replay_run.specs.Results.{RefusesReplay, TellsReplay}
+use Rattle.replay_run.specs.Results.{RefusesReplay, PrintsReplay}
 use Rattle.r3_faults.specs.declared.faults.Fault.{Fault}
 use Rattle.r3_faults.specs.declared.faults.Fault.TheVariants.{NoLayout, NoImports, NoEntry, Segment, Spent, Memory}
 use Rattle.r3_inputs.specs.declared.module_files.ModuleFile.TheVariants.{Replay}
@@ -23,9 +23,9 @@ replay_fault turns replay.Memory = Memory
 
 -- the run has an outcome within the turns, and these are the lines of what it shows
 pub record HasReplayText (m : Module) (turns : ℕ) (text : List ℕ) : Type 0 where
-  pub told : Told
-  pub tells : TellsReplay m turns told
-  pub lines : text ≡ told.text
+  pub printed : PrintedRun
+  pub prints : PrintsReplay m turns printed
+  pub lines : text ≡ printed.text
 
 -- why there are no lines: the module does not have the form of a replay module, a segment does not fit, or the
 -- turns are spent

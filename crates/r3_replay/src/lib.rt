@@ -1,7 +1,7 @@
 //! The lines of what the run of a replay module shows of its original, from the bytes of the module.
 #![tactic(auto)]
 
-mod replays;
+mod replay_command;
 mod texts;
 
-pub use replays::replay_text;
+pub use replay_command::replay_text;

@@ -23,18 +23,18 @@ pub(crate) fn text_of(alloc: Global, checked: &Checked, turns: u64) -> Result<Ve
 {
     layouts_are_one();
     runs_have_one_result_at_most();
-    told_text(alloc, checked, turns)
+    replay_text(alloc, checked, turns)
 }
 
 /// The lines of the run of a module, or a fault with its cause.
-fn told_text(alloc: Global, checked: &Checked, turns: u64) -> Result<Vec<u8>, Fault>
+fn replay_text(alloc: Global, checked: &Checked, turns: u64) -> Result<Vec<u8>, Fault>
     requires supported { IsSupported checked.now }
     requires short { IsShort checked.now }
     requires bytes { HasBytes checked.now }
     ensures { IsCaused (HasReplayText checked.now turns) (HasNoReplayText checked.now turns) result }
 {
     match replay(alloc, checked, turns) {
-        Ok(told) => Ok(told.text.into_vec()),
+        Ok(printed) => Ok(printed.text.into_vec()),
         Err(found) => Err(fault_of(found, turns)),
     }
 }

@@ -4,7 +4,7 @@ use Rattle.trace_model.specs.declared.events.Log.{Log}
 use Rattle.trace_model.specs.declared.tapes.Tape.{Tape}
 use Rattle.trace_bytes.specs.declared.tags.TheConstants.{LOG_MAGIC, TAPE_MAGIC}
 use Rattle.trace_format.specs.Faults.{IsFaultOf, IsFaultPlace, IsLogFront, IsLogOf, IsOtherVersion, IsTapeFront, IsTapeOf}
-use Rattle.trace_format.specs.Laws.{LogsAreToldApart, TapesAreToldApart}
+use Rattle.trace_format.specs.Laws.{LogsAreDistinguished, TapesAreDistinguished}
 use Rattle.trace_format.specs.Text.{log_text, tape_text}
 use Rattle.trace_format.specs.declared.files.FormatFault.{FormatFault}
 use Rattle.trace_format.specs.declared.files.FormatFault.TheVariants.{Version, Bad, Memory}
@@ -12,7 +12,7 @@ use Rattle.trace_format.proofs.Versions.{fifth_same, log_version, tape_version}
 use Rattle.r3_faults.specs.Answers.{IsCaused, IsExact}
 use Rattle.r3_faults.specs.declared.faults.Fault.{Fault}
 use Rattle.r3_faults.proofs.OneAnswer.{exact_answer}
-use Rattle.r3_show.specs.Shown.{IsCauseAs, IsShownAs, IsUnshownAs, fault_of}
+use Rattle.r3_show.specs.FileLines.{IsCauseAs, IsShownAs, IsUnshownAs, fault_of}
 
 -- ---- causes
 
@@ -43,7 +43,7 @@ module _ {C : Type 0} (magic bytes : List ℕ) (IsOf : C → Type 0) (IsFront : 
 
 -- ---- what is shown
 
-module _ (logs : LogsAreToldApart) (tapes : TapesAreToldApart) where
+module _ (logs : LogsAreDistinguished) (tapes : TapesAreDistinguished) where
   one_text : (is_tape : Bool) (bytes x y : List ℕ) → IsShownAs is_tape bytes x → IsShownAs is_tape bytes y → x ≡ y
   one_text true bytes x y one two =
       let same = tapes bytes one.digest two.digest one.tape two.tape one.spelled two.spelled in
@@ -73,7 +73,7 @@ shown_apart false bytes text fault shown refused =
     (shown.digest, shown.log) refused.found refused.differs shown.spelled refused.cause
 
 -- a result with its cause is exact
-pub shown_exactly : {Z : Type 0} → LogsAreToldApart → TapesAreToldApart → (is_tape : Bool) (bytes : List ℕ)
+pub shown_exactly : {Z : Type 0} → LogsAreDistinguished → TapesAreDistinguished → (is_tape : Bool) (bytes : List ℕ)
     (answer : Result (Vec ℕ Z) Fault) → IsCaused (IsShownAs is_tape bytes) (IsUnshownAs is_tape bytes) answer
     → IsExact (IsShownAs is_tape bytes) (IsUnshownAs is_tape bytes) answer
 shown_exactly logs tapes is_tape bytes answer is =

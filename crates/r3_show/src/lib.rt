@@ -1,7 +1,7 @@
 //! The lines of the log or of the tape that the bytes of a file encode.
 #![tactic(auto)]
 
-mod shown;
+mod file_lines;
 
+pub use file_lines::{fault_of, show};
 pub use r3_faults::Fault;
-pub use shown::{fault_of, show};

@@ -18,7 +18,7 @@ use Rattle.wasm_syntax.specs.Validity.{each_local}
 use Rattle.wasm_syntax.proofs.ValTypes.{type_same}
 use Rattle.record_replay_spec.specs.declared.hooks.Hook.TheVariants.{Enter}
 use Rattle.record_replay_spec.specs.Hooks.{on}
-use Rattle.record_replay_spec.specs.Insertions.{Site, imports_at, value_local, widened, tells_local, tells_number, tells_params, before_load, before_store, after_call, inserted_before, inserted_after, inserted_at_enter, inserted_at_end}
+use Rattle.record_replay_spec.specs.Insertions.{Site, imports_at, value_local, widened, reports_local, reports_number, reports_params, before_load, before_store, after_call, inserted_before, inserted_after, inserted_at_enter, inserted_at_end}
 use Rattle.record_replay_spec.specs.Instrumented.{renumbered, before_nest, instrumented_nest, instrumented_body, weightless, weights_of_nest, weights_of_body, locals_of, added_after, with_added_locals}
 use Rattle.record_replay_spec.specs.HookLaws.{BodiesAreInstrumented}
 
@@ -48,17 +48,17 @@ widened_plain FuncRef = refl
 with_widened : (ty : ValType) (is : List Instr) → ArePlain is → ArePlain (widened ty ++ is)
 with_widened ty is h = plain_both (widened ty) is (widened_plain ty) h
 
-params_plain : (s : Site) (local : ℕ) (types : List ValType) → ArePlain (tells_params s local types)
+params_plain : (s : Site) (local : ℕ) (types : List ValType) → ArePlain (reports_params s local types)
 params_plain s local [] = refl
 params_plain s local (ty ∷ types) =
-    plain_both (tells_local s ty local) (tells_params s (local + 1) types) (with_widened ty _ refl)
+    plain_both (reports_local s ty local) (reports_params s (local + 1) types) (with_widened ty _ refl)
     (params_plain s (local + 1) types)
 
 after_call_plain : (s : Site) (over : List Instr) (results : List ValType) → ArePlain over
     → ArePlain (after_call s over results)
 after_call_plain s over [] h = h
 after_call_plain s over (ty ∷ types) h =
-    plain_both (tells_local s ty (value_local s ty)) (over ++ LocalGet (value_local s ty) ∷ []) (with_widened ty _ refl)
+    plain_both (reports_local s ty (value_local s ty)) (over ++ LocalGet (value_local s ty) ∷ []) (with_widened ty _ refl)
     (plain_both over (LocalGet (value_local s ty) ∷ []) h refl)
 
 before_plain : (s : Site) (i : Instr) → ArePlain (inserted_before s i)
@@ -108,7 +108,7 @@ nest_instrumented s (InIfElse ty body other rest) stands =
 body_nested : (s : Site) (ty : FuncType) (nest : Nest) → IsNest nest → IsNest (instrumented_body s ty nest)
 body_nested s ty nest stands =
     nest_before (inserted_at_enter s ty.params) _
-    (plain_both (tells_params s 0 ty.params) (tells_number s Enter s.func) (params_plain s 0 ty.params) refl)
+    (plain_both (reports_params s 0 ty.params) (reports_number s Enter s.func) (params_plain s 0 ty.params) refl)
     (nest_instrumented s nest stands, nest_before (inserted_at_end s) Empty refl tt)
 
 -- ---- weights
@@ -117,7 +117,7 @@ size_before : (is : List Instr) (nest : Nest) → size (before_nest is nest) ≡
 size_before [] nest = omega arith
 size_before (i ∷ is) nest = let e = size_before is nest in omega (arith, e)
 
-length_weightless : (is : List Instr) → length (weightless is) ≡ length is
+pub length_weightless : (is : List Instr) → length (weightless is) ≡ length is
 length_weightless [] = refl
 length_weightless (i ∷ is) = ap suc (length_weightless is)
 

@@ -15,7 +15,7 @@ use Rattle.record_replay_spec.specs.Known.{entries_after, entry_of, pages_of}
 use Rattle.record_replay_spec.specs.declared.hooks.Hook.{Hook}
 use Rattle.record_replay_spec.specs.declared.hooks.Hook.TheVariants.{Arg, Enter, Leave, Pre, Post, Ipre, Ipost, Load, Store as ToStore, Size, Grow, Gget, Gset, Copy, Fill}
 use Rattle.record_replay_spec.specs.Hooks.{HookCall, hook_params, original, on}
-use Rattle.record_replay_spec.specs.Order.{HookedShape, OrderState, OrderFrame, InFunction, InCall, when, with_frames, with_pending, value_told, may_tell, leaves, begins_call, begins_original, begins_entry, with_size_seen, begins_indirect, ends_call, ends_direct, ends_indirect, ordered_kind}
+use Rattle.record_replay_spec.specs.Order.{HookedShape, OrderState, OrderFrame, InFunction, InCall, when, with_frames, with_pending, value_reported, may_report, leaves, begins_call, begins_original, begins_entry, with_size_seen, begins_indirect, ends_call, ends_direct, ends_indirect, ordered_kind}
 use Rattle.record_replay_spec.specs.Logs.{LogState, observed_by, call_observations, log_after, log_after_all, notices_size, log_noticing}
 use Rattle.record_replay_spec.specs.HookLaws.{OrderKnowsTable}
 
@@ -31,7 +31,7 @@ MayFind kind known view = Unit {0}
 
 -- ---- the size that the order knows
 
-when_passes : (b : Bool) (state next : OrderState) → when b state ≡ Some next → (b ≡ true) × (state ≡ next)
+pub when_passes : (b : Bool) (state next : OrderState) → when b state ≡ Some next → (b ≡ true) × (state ≡ next)
 when_passes true state next h = (refl, cc)
 when_passes false state next h = cc
 
@@ -79,12 +79,12 @@ begins_entries : (shape : HookedShape) (state next : OrderState) (args : List Va
     → MayFind Ipre state.entries view × (next.entries ≡ entries_by Ipre state.entries args view)
 begins_entries shape state next args view h =
     let found =
-    and_then_some (when (may_tell state && nat_le state.entries (table_length view.table)) state)
+    and_then_some (when (may_report state && nat_le state.entries (table_length view.table)) state)
     (λ ready. begins_entry shape (with_size_seen ready view (bits_at args 0)) (entry_of view.table (bits_at args 0)))
     next h
     in
     let passed = when_passes _ state found.0 found.1 in (
-      and_right (may_tell state) (nat_le state.entries (table_length view.table)) passed.0,
+      and_right (may_report state) (nat_le state.entries (table_length view.table)) passed.0,
       entry_entries shape (with_size_seen found.0 view (bits_at args 0)) next (entry_of view.table (bits_at args 0))
           found.2
           ∙ ap (λ s. entries_by Ipre s.entries args view) (sym passed.1),
@@ -94,7 +94,7 @@ ordered_entries : (shape : HookedShape) (state next : OrderState) (kind : Hook) 
     → ordered_kind shape state kind args view ≡ Some next
     → MayFind kind state.entries view × (next.entries ≡ entries_by kind state.entries args view)
 ordered_entries shape state next Arg args view h =
-    let found = map_some (with_pending state) (value_told (bits_at args 0) (bits_at args 1)) next h in
+    let found = map_some (with_pending state) (value_reported (bits_at args 0) (bits_at args 1)) next h in
     (tt, ap (λ s. s.entries) (sym found.2))
 ordered_entries shape state next Enter args view h = (tt, when_entries _ _ next h)
 ordered_entries shape state next Leave args view h = (tt, leaves_entries state next _ state.frames h)

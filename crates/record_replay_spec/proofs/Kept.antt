@@ -1,8 +1,8 @@
 -- What is known by a search of all observations is what is known one observation at a time, and so are the needed
 -- segments.
-use Rattle.std.proofs.Common.{◌≡◌, List, [], ◌∷◌, ◌++◌, Option, Some, None, refl, sym, ap, ◌∙◌, subst}
+use Rattle.std.proofs.Common.{◌≡◌, List, [], ◌∷◌, ◌++◌, Option, refl, sym, ap, ◌∙◌, subst}
 use Rattle.std.specs.Prelude.{unwrap_or}
-use Rattle.std.specs.Option.{option_or}
+use Rattle.base.proofs.Options.{first_else}
 use Rattle.trace_model.specs.declared.tapes.Segment.{Segment}
 use Rattle.record_replay_spec.specs.Observations.{Observation, Begins, Ends}
 use Rattle.record_replay_spec.specs.Known.{Known, last_some, carried_byte, carried_entry, carried_global, known_pages, known_entries, known_from, known_after, known_after_all}
@@ -10,10 +10,6 @@ use Rattle.record_replay_spec.specs.Windows.{window}
 use Rattle.record_replay_spec.specs.Needed.{IsNeededSegment, AreNeededSegments}
 use Rattle.record_replay_spec.specs.Kept.{AreKeptSegments}
 use Rattle.record_replay_spec.specs.Laws.{KnownIsKept, NeededSegmentsAreKept}
-
-first_else : {X : Type 0} (a b : Option X) (c : X) → unwrap_or (option_or a b) c ≡ unwrap_or a (unwrap_or b c)
-first_else (Some x) b c = refl
-first_else None b c = refl
 
 -- a part of what is known that each observation changes by what it carries
 kept : {X : Type 0} (carried : Observation → Option X) (part : Known → X)

@@ -14,14 +14,14 @@ pub mod Steps
 pub mod KindsOfStores
 pub mod OwnAnswers
 pub mod Numbers
-pub mod Shown
+pub mod SameExecutions
 pub mod ShownMemorySteps
 pub mod ShownTableSteps
 pub mod ShownSteps
 mod Indices
-mod Bodies
+pub mod Bodies
 mod Modules
-mod LongestRuns
+pub mod LongestRuns
 mod LogTapes
-mod HookTables
+pub mod HookTables
 mod TestedTapes

@@ -3,7 +3,8 @@ use Rattle.std.proofs.Common.{◌≡◌, ℕ, suc, ◌+◌, ◌-◌, ◌≤◌, 
 use Rattle.std.specs.List.{list_all}
 use Rattle.std.specs.Option.{option_or}
 use Rattle.std.proofs.lemmas.Bool.Decides.{nat_tests}
-use Rattle.base.proofs.Booleans.{and_parts, and_true}
+use Rattle.base.proofs.Booleans.{and_parts, and_true, same_either}
+use Rattle.base.proofs.Options.{or_none}
 use Rattle.trace_model.specs.declared.events.Event.{Event}
 use Rattle.trace_model.specs.declared.events.Event.TheVariants as events
 use Rattle.trace_model.specs.declared.tapes.Effect.{Effect}
@@ -13,7 +14,7 @@ use Rattle.record_replay_spec.specs.Known.{byte_among, last_some}
 use Rattle.record_replay_spec.specs.Needed.{needed, effect_byte, has_bytes}
 use Rattle.record_replay_spec.proofs.Tested.{byte_later}
 use Rattle.record_replay_spec.specs.Logs.{with_first_byte, differing_runs}
-use Rattle.record_replay_spec.specs.HookLaws.{effects_of_runs, AreDifferingRuns, DifferingBytesAreTold}
+use Rattle.record_replay_spec.specs.HookLaws.{effects_of_runs, AreDifferingRuns, DifferingBytesAreReported}
 
 -- ---- runs as effects
 
@@ -89,17 +90,17 @@ AreFrom address (Bytes at bytes ∷ runs) = address ≤ at
 AreFrom address (effect ∷ runs) = ⊥
 
 record Stands (known : ℕ → ℕ) (address : ℕ) (bytes : List ℕ) (runs : List Effect) : Type 0 where
-  tell : AreDifferingRuns known address bytes runs
+  report : AreDifferingRuns known address bytes runs
   from : AreFrom address runs
 
 -- the byte at the first address
-byte_first : (address byte : ℕ) (bytes : List ℕ) → byte_among address (byte ∷ bytes) address ≡ Some byte
+pub byte_first : (address byte : ℕ) (bytes : List ℕ) → byte_among address (byte ∷ bytes) address ≡ Some byte
 byte_first address byte bytes =
     let p : nat_le address address ≡ true = grind (arith, nat_tests) in
     let e : address - address ≡ 0 = omega arith in
     ap (λ b. cond b (slice_get (byte ∷ bytes) (address - address)) None) p ∙ ap (slice_get (byte ∷ bytes)) e
 
-byte_before : (address : ℕ) (bytes : List ℕ) → byte_among (suc address) bytes address ≡ None
+pub byte_before : (address : ℕ) (bytes : List ℕ) → byte_among (suc address) bytes address ≡ None
 byte_before address bytes =
     let p : nat_le (suc address) address ≡ false = grind (arith, nat_tests) in
     ap (λ b. cond b (slice_get bytes (address - suc address)) None) p
@@ -107,14 +108,6 @@ byte_before address bytes =
 none_of_or : {X : Type 0} (a b : Option X) → option_or a b ≡ None → a ≡ None
 none_of_or None b h = refl
 none_of_or (Some x) b h = cc
-
-or_none : {X : Type 0} (a : Option X) → option_or a None ≡ a
-or_none None = refl
-or_none (Some x) = refl
-
-one_of_one : {X : Type 0} (b : Bool) (x : X) → cond b x x ≡ x
-one_of_one true x = refl
-one_of_one false x = refl
 
 module _ (known : ℕ → ℕ) (address byte : ℕ) (bytes : List ℕ) where
   -- what is reported at an address, by whether that is the first
@@ -124,28 +117,28 @@ module _ (known : ℕ → ℕ) (address byte : ℕ) (bytes : List ℕ) where
       → part address ≡ needed nat_eq (known address) (byte_among address (byte ∷ bytes) address))
       → ((at : ℕ) → nat_eq address at ≡ false → part at ≡ last_some (effect_byte at) runs)
       → (at : ℕ) → part at ≡ needed nat_eq (known at) (byte_among address (byte ∷ bytes) at)
-  everywhere runs part tell first later at = go (nat_eq address at) refl
+  everywhere runs part report first later at = go (nat_eq address at) refl
     where
       go : (b : Bool) → nat_eq address at ≡ b
           → part at ≡ needed nat_eq (known at) (byte_among address (byte ∷ bytes) at)
       go true same =
           let e : address ≡ at = grind (arith, nat_tests, same) in
-          let none = tell address ∙ ap (needed nat_eq (known address)) (byte_before address bytes) in
+          let none = report address ∙ ap (needed nat_eq (known address)) (byte_before address bytes) in
           subst (λ place. part place ≡ needed nat_eq (known place) (byte_among address (byte ∷ bytes) place)) e
           (first none)
       go false other =
-          later at other ∙ tell at ∙ ap (needed nat_eq (known at)) (sym (byte_later address byte bytes at other))
+          later at other ∙ report at ∙ ap (needed nat_eq (known at)) (sym (byte_later address byte bytes at other))
 
   -- the byte is known, and is not reported
   known_stands : (runs : List Effect) → nat_eq byte (known address) ≡ true → Stands known (suc address) bytes runs
       → Stands known address (byte ∷ bytes) runs
   known_stands runs same stands =
       record {
-        tell = record {
-          ordered = stands.tell.ordered;
-          nonempty = stands.tell.nonempty;
+        report = record {
+          ordered = stands.report.ordered;
+          nonempty = stands.report.nonempty;
           byte =
-              everywhere runs (λ at. last_some (effect_byte at) runs) stands.tell.byte
+              everywhere runs (λ at. last_some (effect_byte at) runs) stands.report.byte
               (λ none. none ∙ sym (ap (needed nat_eq (known address)) (byte_first address byte bytes) ∙ not_needed))
               (λ at other. refl);
         };
@@ -182,14 +175,14 @@ module _ (known : ℕ → ℕ) (address byte : ℕ) (bytes : List ℕ) where
         → last_some (effect_byte at) (Bytes address (byte ∷ []) ∷ runs) ≡ last_some (effect_byte at) runs
     alone_later runs at other =
         ap (option_or (last_some (effect_byte at) runs))
-        (byte_later address byte [] at other ∙ one_of_one (nat_le (suc address) at) None)
+        (byte_later address byte [] at other ∙ same_either (nat_le (suc address) at) None)
         ∙ or_none (last_some (effect_byte at) runs)
 
-    alone_tells : (runs : List Effect) → Stands known (suc address) bytes runs → (at : ℕ)
+    alone_reports : (runs : List Effect) → Stands known (suc address) bytes runs → (at : ℕ)
         → last_some (effect_byte at) (Bytes address (byte ∷ []) ∷ runs)
         ≡ needed nat_eq (known at) (byte_among address (byte ∷ bytes) at)
-    alone_tells runs stands =
-        everywhere runs (λ at. last_some (effect_byte at) (Bytes address (byte ∷ []) ∷ runs)) stands.tell.byte
+    alone_reports runs stands =
+        everywhere runs (λ at. last_some (effect_byte at) (Bytes address (byte ∷ []) ∷ runs)) stands.report.byte
         (first_needed [] runs) (alone_later runs)
 
     -- the byte is apart from the first run
@@ -200,11 +193,11 @@ module _ (known : ℕ → ℕ) (address byte : ℕ) (bytes : List ℕ) where
         let from : suc address ≤ at = stands.from in
         let past : nat_lt (address + 1) at ≡ true = grind (arith, nat_tests, apart, from) in
         record {
-          tell = record {
+          report = record {
             ordered =
-                and_true (nat_lt (address + 1) at) (are_ordered_after (Bytes at more) rest) past stands.tell.ordered;
-            nonempty = stands.tell.nonempty;
-            byte = alone_tells (Bytes at more ∷ rest) stands;
+                and_true (nat_lt (address + 1) at) (are_ordered_after (Bytes at more) rest) past stands.report.ordered;
+            nonempty = stands.report.nonempty;
+            byte = alone_reports (Bytes at more ∷ rest) stands;
           };
           from = omega arith;
         }
@@ -215,13 +208,13 @@ module _ (known : ℕ → ℕ) (address byte : ℕ) (bytes : List ℕ) where
         → Stands known address (byte ∷ bytes) (Bytes address (byte ∷ more) ∷ rest)
     joined_stands at more rest next stands =
         record {
-          tell = record {
-            ordered = ordered rest stands.tell.ordered;
-            nonempty = (and_parts (has_bytes (Bytes at more)) (list_all has_bytes rest) stands.tell.nonempty).1;
+          report = record {
+            ordered = ordered rest stands.report.ordered;
+            nonempty = (and_parts (has_bytes (Bytes at more)) (list_all has_bytes rest) stands.report.nonempty).1;
             byte =
                 everywhere (Bytes at more ∷ rest)
                 (λ place. last_some (effect_byte place) (Bytes address (byte ∷ more) ∷ rest))
-                stands.tell.byte
+                stands.report.byte
                 (λ none. first_needed more rest (none_of_or _ (byte_among at more address) none)) later;
           };
           from = omega arith;
@@ -253,7 +246,7 @@ module _ (known : ℕ → ℕ) (address byte : ℕ) (bytes : List ℕ) where
         → Stands known address (byte ∷ bytes) (joined address byte runs)
     differing_stands [] stands =
         record {
-          tell = record { ordered = refl; nonempty = refl; byte = alone_tells [] stands };
+          report = record { ordered = refl; nonempty = refl; byte = alone_reports [] stands };
           from = omega arith;
         }
     differing_stands (Bytes at more ∷ rest) stands = go (nat_eq at (address + 1)) refl
@@ -271,7 +264,7 @@ all_stand : (known : ℕ → ℕ) (address : ℕ) (bytes : List ℕ)
     → Stands known address bytes (runs_from known address bytes)
 all_stand known address [] =
     record {
-      tell = record { ordered = refl; nonempty = refl; byte = λ at. nothing at (nat_le address at) };
+      report = record { ordered = refl; nonempty = refl; byte = λ at. nothing at (nat_le address at) };
       from = tt;
     }
   where
@@ -294,7 +287,7 @@ all_stand known address (byte ∷ bytes) =
     go false differs rest =
         differing_stands known address byte bytes differs (runs_from known (address + 1) bytes) rest
 
-pub differing_bytes_are_told : DifferingBytesAreTold
-differing_bytes_are_told known address bytes =
+pub differing_bytes_are_reported : DifferingBytesAreReported
+differing_bytes_are_reported known address bytes =
     subst (AreDifferingRuns known address bytes) (sym (runs_same known address bytes).0)
-    (all_stand known address bytes).tell
+    (all_stand known address bytes).report

@@ -1,5 +1,5 @@
 -- The memories of two stores: what is read of them, what is written, and how they grow.
-use Rattle.std.proofs.Common.{◌≡◌, ℕ, zero, suc, ◌+◌, ◌-◌, ◌*◌, ◌/◌, ◌<◌, ◌≤◌, List, [], ◌∷◌, ◌++◌, length, take, drop, Option, Some, None, true, cond, nat_le, slice_get, slice_index, refl, sym, ap, ◌∙◌, subst, arith, append-nil, length-append, length-take-le, leb-true}
+use Rattle.std.proofs.Common.{◌≡◌, ℕ, ◌+◌, ◌-◌, ◌*◌, ◌/◌, ◌<◌, ◌≤◌, List, [], ◌∷◌, ◌++◌, length, take, drop, Option, Some, None, true, cond, nat_le, slice_get, slice_index, refl, sym, ap, ◌∙◌, subst, arith, append-nil, length-append, length-take-le, leb-true}
 use Rattle.std.specs.Prelude.{IfSome, option_map}
 use Rattle.std.proofs.Math.Nat.{add-mul-div_right, sub_self}
 use Rattle.std.proofs.lemmas.List.{length-replicate, length-drop, length-take, get_or-take, get_or-drop}
@@ -8,7 +8,7 @@ use Rattle.std.proofs.lemmas.Bool.Decides.{nat_tests}
 use Rattle.std.proofs.lemmas.Option.{slice_get-get_or, slice_get_within, get_or_from_slice_get}
 use Rattle.base.proofs.Options.{cond_some}
 use Rattle.wasm_syntax.specs.declared.limits.TheConstants.{PAGE_SIZE}
-use Rattle.history_spec.specs.Store.{Store, Memory, pages, bytes_of, with_memory, zeros}
+use Rattle.history_spec.specs.Store.{Store, Memory, pages, with_memory, zeros}
 use Rattle.record_replay_spec.specs.Observations.{Writes, Resizes}
 use Rattle.record_replay_spec.specs.Known.{byte_among, byte_of}
 use Rattle.record_replay_spec.specs.StoreAnswers.{HoldsBytes}
@@ -26,10 +26,6 @@ range_length bytes address count within =
     let fits : address + count ≤ length bytes = leb-true (address + count) (length bytes) within in
     let left = length-drop address bytes in
     length-take-le count (drop address bytes) (omega (arith, fits, left))
-
-pub bytes_of_length : (count number : ℕ) → length (bytes_of count number) ≡ count
-bytes_of_length zero number = refl
-bytes_of_length (suc count) number = ap suc (bytes_of_length count (number / 256))
 
 -- a byte of a run, by its place
 among : (address : ℕ) (bytes : List ℕ) (place : ℕ) → place < length bytes
@@ -110,7 +106,7 @@ same_size n store = record { possible = (omega arith, tt); changed = go store.me
     go None = refl
     go (Some memory) = ap (λ m. record store { memory = Some m }) (sym (none_more n memory))
 
-larger_size : (memory : Memory) (by : ℕ) → pages (with_pages by memory) ≡ pages memory + by
+pub larger_size : (memory : Memory) (by : ℕ) → pages (with_pages by memory) ≡ pages memory + by
 larger_size memory by =
     let long : length (memory.bytes ++ zeros (by * PAGE_SIZE)) ≡ length memory.bytes + by * PAGE_SIZE =
     length-append memory.bytes (zeros (by * PAGE_SIZE))

@@ -14,12 +14,13 @@ use Rattle.history_spec.specs.Store.{Store, Memory, pages, grown_memory_if, grow
 use Rattle.history_spec.specs.Code.{Code}
 use Rattle.history_spec.specs.Configuration.{Place, Frame}
 use Rattle.history_spec.specs.Instruction.{Execution, Traps, memory_trap, load_result, store_result, grow_result, execute_plain}
+use Rattle.history_spec.proofs.ByteNumbers.{length-bytes_of}
 use Rattle.record_replay_spec.specs.Observations.{Observation, Reads, Copies, Writes, Reaches, Resizes, on as observed_on, bits_from_top, plain_observations, load_observations, store_observations, copy_observations, grow_observations}
 use Rattle.record_replay_spec.specs.StoreAnswers.{BothOrNeither, AllowSamePages, allows_pages, HasWholePages, IsReachedAlike, Answers, AnswersAll}
 use Rattle.record_replay_spec.specs.Changes.{IsChangedAs}
 use Rattle.record_replay_spec.proofs.Operands.{bits_same}
 use Rattle.record_replay_spec.proofs.AlikeStores.{Alike, observed_alike, parts_alike, takes_alike, goes_alike, same_activation}
-use Rattle.record_replay_spec.proofs.Memories.{range, range_length, bytes_of_length, same_range, written_memory, same_size, grown_size}
+use Rattle.record_replay_spec.proofs.Memories.{range, range_length, same_range, written_memory, same_size, grown_size}
 
 module _ (code : Code) (store other : Store) (frame : Frame) (next : Place) where
   abbrev Same : List Observation → Execution → Execution → Type 0
@@ -251,7 +252,7 @@ module _ (code : Code) (store other : Store) (frame : Frame) (next : Place) wher
         let value = bits_from_top frame.values 0 in
         rw (bits_same are 0 1 refl, bits_same are 1 0 refl)
         (store_at memory memory' whole is is' operands rest (bits_from_top frame.values 1 + at.offset) access.width
-        (bytes_of access.width value) (bytes_of_length access.width value) answers))))
+        (bytes_of access.width value) (length-bytes_of access.width value) answers))))
 
     pub fill_alike : IsAlike MemoryFill
     fill_alike =

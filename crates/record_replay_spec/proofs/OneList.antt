@@ -5,7 +5,7 @@ use Rattle.std.specs.Option.{option_or}
 use Rattle.std.proofs.lemmas.Bool.Decides.{nat_tests}
 use Rattle.std.proofs.lemmas.Option.{slice_get_within}
 use Rattle.base.proofs.Booleans.{and_parts}
-use Rattle.base.proofs.Options.{cond_some}
+use Rattle.base.proofs.Options.{cond_some, or_none}
 use Rattle.wasm_syntax.specs.declared.values.Val.{Val}
 use Rattle.trace_model.specs.declared.tapes.Effect.{Effect}
 use Rattle.trace_model.specs.declared.tapes.Effect.TheVariants.{Grow, Table, Bytes, Entry, Global}
@@ -14,10 +14,6 @@ use Rattle.record_replay_spec.specs.Known.{byte_among, last_some}
 use Rattle.record_replay_spec.specs.Needed.{effect_byte, effect_entry, effect_global, effect_pages, effect_entries, has_bytes, Given, SameGiven, GiveJust, given_by}
 
 -- ---- options
-
-pub or_none : {X : Type 0} (a : Option X) → option_or a None ≡ a
-or_none None = refl
-or_none (Some x) = refl
 
 or_some : {X : Type 0} (a : Option X) (x : X) → option_or a (Some x) ≡ None → ⊥
 or_some None x h = cc
@@ -443,7 +439,7 @@ firsts_same (Global i x) (Global j y) es fs p q h k same =
 
 -- ---- the whole lists
 
-ordered_rest : (e : Effect) (es : List Effect) → are_ordered_after e es ≡ true → are_ordered es ≡ true
+pub ordered_rest : (e : Effect) (es : List Effect) → are_ordered_after e es ≡ true → are_ordered es ≡ true
 ordered_rest e [] h = refl
 ordered_rest e (f ∷ fs) h = (and_parts (is_before e f) (are_ordered_after f fs) h).1
 

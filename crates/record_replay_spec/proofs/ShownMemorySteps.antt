@@ -1,9 +1,10 @@
 -- What instructions on the memory show of it.
 use Rattle.std.proofs.Common.{◌≡◌, ℕ, ◌+◌, ◌*◌, ◌%◌, List, [], ◌∷◌, length, drop, ◌<◌, Option, Some, None, Bool, true, false, cond, nat_le, All, refl, sym, ap, ◌∙◌, subst}
 use Rattle.std.specs.Prelude.{IfSome, option_and_then, replicate, unwrap_or}
-use Rattle.std.specs.Option.{option_or}
 use Rattle.std.proofs.lemmas.List.{length-replicate}
 use Rattle.std.proofs.lemmas.List.Elements.{All-take, All-drop}
+use Rattle.std.proofs.lemmas.Bool.{both_ways}
+use Rattle.base.proofs.Options.{or_first}
 use Rattle.wasm_syntax.specs.declared.limits.TheConstants.{PAGE_SIZE}
 use Rattle.wasm_syntax.specs.declared.values.Val.{Val}
 use Rattle.wasm_syntax.specs.declared.values.ValType.{ValType}
@@ -18,19 +19,16 @@ use Rattle.history_spec.specs.Store.{Store, Memory, pages, grown_memory, number_
 use Rattle.history_spec.specs.Code.{Code}
 use Rattle.history_spec.specs.Configuration.{Place, Frame}
 use Rattle.history_spec.specs.Instruction.{load_result, store_result, grow_result, execute_plain}
+use Rattle.history_spec.proofs.ByteNumbers.{length-bytes_of}
 use Rattle.record_replay_spec.specs.Known.{byte_among}
 use Rattle.record_replay_spec.specs.Observations.{Observation, Reads, Copies, Writes, Reaches, Resizes, on as observed_on, bits_from_top, plain_observations, load_observations, store_observations, copy_observations, grow_observations}
 use Rattle.record_replay_spec.specs.StoreAnswers.{BothOrNeither, AllowSamePages, IsReachedAlike, Answers, AnswersAll, HoldsBytes}
 use Rattle.record_replay_spec.proofs.Operands.{bits_same}
-use Rattle.record_replay_spec.proofs.Memories.{range, range_length, bytes_of_length, own_range}
+use Rattle.record_replay_spec.proofs.Memories.{range, range_length, own_range}
 use Rattle.record_replay_spec.specs.Unshown.{AnswersUnshown}
 use Rattle.record_replay_spec.specs.ShownStepLaws.{shown, HasBytes}
 use Rattle.record_replay_spec.proofs.Numbers.{same_loaded}
-use Rattle.record_replay_spec.proofs.Shown.{IsShown, observed_shown, parts_shown, takes_shown}
-
-or_first : {X : Type 0} (a b : Option X) (x : X) → a ≡ Some x → option_or a b ≡ Some x
-or_first (Some y) b x h = h
-or_first None b x h = cc
+use Rattle.record_replay_spec.proofs.SameExecutions.{IsShown, observed_shown, parts_shown, takes_shown}
 
 -- the only results of two steps that show the same are equal
 same_result : (func number : ℕ) (operands : List Val) (found : Option ℕ) (ty : ValType) (a b : ℕ)
@@ -88,10 +86,7 @@ module _ (code : Code) (store other : Store) (frame : Frame) (next : Place) wher
         → Answers other (Reaches end (pages memory))
     within_both end e e' =
         let e = ap (nat_le end) (sym whole) ∙ e in
-        answered end (record { alike = e' ∙ sym e; same = λ f. absurd (apart f e) })
-      where
-        apart : {b : Bool} → b ≡ false → b ≡ true → ⊥
-        apart f t = cc
+        answered end (record { alike = e' ∙ sym e; same = λ f. absurd (both_ways _ f e) })
 
     -- ---- loads
 
@@ -309,7 +304,7 @@ module _ (code : Code) (store other : Store) (frame : Frame) (next : Place) wher
         let value = bits_from_top frame.values 0 in
         rw (bits_same are 0 1 refl, bits_same are 1 0 refl)
         (store_at memory memory' of of' is is' operands rest (bits_from_top frame.values 1 + at.offset) access.width
-        (bytes_of access.width value) (bytes_of_length access.width value)))))
+        (bytes_of access.width value) (length-bytes_of access.width value)))))
 
     pub fill_shown : Shows MemoryFill
     fill_shown =

@@ -14,7 +14,7 @@ use Rattle.record_replay_spec.specs.Observations.{WritesGlobal, ResizesTable, on
 use Rattle.record_replay_spec.specs.StoreAnswers.{SameKind, AnswersAll}
 use Rattle.record_replay_spec.specs.Unshown.{AnswersUnshown}
 use Rattle.record_replay_spec.specs.ShownStepLaws.{HasBytes, ShownStepsAreAnswered}
-use Rattle.record_replay_spec.proofs.Shown.{IsShown}
+use Rattle.record_replay_spec.proofs.SameExecutions.{IsShown}
 use Rattle.record_replay_spec.proofs.ShownMemorySteps.{load_shown, store_shown, size_shown, grow_shown, copy_shown, fill_shown}
 use Rattle.record_replay_spec.proofs.ShownTableSteps.{call_indirect_shown, set_shown, get_shown}
 

@@ -4,6 +4,7 @@ use Rattle.std.specs.Prelude.{◌≢◌, IfSome}
 use Rattle.std.specs.Option.{option_flatten}
 use Rattle.std.proofs.lemmas.Option.{slice_get_within}
 use Rattle.std.proofs.lemmas.Bool.Decides.{nat_tests}
+use Rattle.std.proofs.lemmas.Bool.{both_ways}
 use Rattle.wasm_syntax.specs.declared.values.Val.{Val}
 use Rattle.wasm_syntax.specs.declared.values.ValType.TheVariants.{I32, FuncRef}
 use Rattle.wasm_syntax.specs.declared.signatures.FuncType.{FuncType}
@@ -19,7 +20,7 @@ use Rattle.record_replay_spec.specs.Known.{entry_of}
 use Rattle.record_replay_spec.specs.StoreAnswers.{BothOrNeither, AllowSameEntries, IsReachedAlike, Answers, AnswersAll}
 use Rattle.record_replay_spec.proofs.Operands.{bits_same}
 use Rattle.record_replay_spec.specs.ShownStepLaws.{shown}
-use Rattle.record_replay_spec.proofs.Shown.{IsShown, both_shown, parts_shown, takes_shown}
+use Rattle.record_replay_spec.proofs.SameExecutions.{IsShown, both_shown, parts_shown, takes_shown}
 
 module _ (code : Code) (store other : Store) (frame : Frame) (next : Place) where
   abbrev Shows : Instr → Type 0
@@ -46,10 +47,7 @@ module _ (code : Code) (store other : Store) (frame : Frame) (next : Place) wher
     within_both : (index : ℕ) → nat_lt index (length table.entries) ≡ true → nat_lt index (length table'.entries) ≡ true
         → Answers other (ReachesEntry index (length table.entries))
     within_both index e e' =
-        answered index (record { alike = e' ∙ sym e; same = λ f. absurd (apart f e) })
-      where
-        apart : {b : Bool} → b ≡ false → b ≡ true → ⊥
-        apart f t = cc
+        answered index (record { alike = e' ∙ sym e; same = λ f. absurd (both_ways _ f e) })
 
     -- ---- changes
 

@@ -4,7 +4,7 @@ use Rattle.std.specs.List.{list_all}
 use Rattle.std.specs.Option.{option_or}
 use Rattle.std.proofs.lemmas.Bool.{eqb-true}
 use Rattle.std.proofs.lemmas.Bool.Decides.{nat_tests}
-use Rattle.base.proofs.Booleans.{and_parts, or_cases}
+use Rattle.base.proofs.Booleans.{and_parts, or_cases, same_either}
 use Rattle.trace_model.specs.declared.tapes.Effect.{Effect}
 use Rattle.trace_model.specs.declared.tapes.Effect.TheVariants.{Bytes, Entry, Global}
 use Rattle.trace_model.specs.declared.tapes.Next.{Next}
@@ -92,13 +92,9 @@ byte_later address byte bytes at h = go (nat_le address at) refl
         ap (λ b. cond b (slice_get (byte ∷ bytes) (at - address)) None) p
         ∙ sym (ap (λ b. cond b (slice_get bytes (at - suc address)) None) q)
 
-one_of_one : {X : Type 0} (b : Bool) (x : X) → cond b x x ≡ x
-one_of_one true x = refl
-one_of_one false x = refl
-
 byte_none : (at address : ℕ) (bytes : List ℕ) → is_among at (addresses_from address bytes) ≡ false
     → byte_among address bytes at ≡ None
-byte_none at address [] h = one_of_one (nat_le address at) None
+byte_none at address [] h = same_either (nat_le address at) None
 byte_none at address (byte ∷ bytes) h =
     let p = neither (nat_eq address at) (is_among at (addresses_from (suc address) bytes)) h in
     byte_later address byte bytes at p.0 ∙ byte_none at (suc address) bytes p.1

@@ -111,8 +111,8 @@ pub record AreDifferingRuns (known : ℕ → ℕ) (address : ℕ) (bytes : List 
   pub byte : (at : ℕ) → last_some (effect_byte at) runs ≡ needed nat_eq (known at) (byte_among address bytes at)
 
 -- the bytes that are read and are not the known ones are reported in longest runs, and no others
-abbrev pub DifferingBytesAreTold : Type 0
-DifferingBytesAreTold =
+abbrev pub DifferingBytesAreReported : Type 0
+DifferingBytesAreReported =
     (known : ℕ → ℕ) (address : ℕ) (bytes : List ℕ)
     → AreDifferingRuns known address bytes (effects_of_runs (differing_runs known address bytes))
 

@@ -9,7 +9,7 @@ use Rattle.host_script.specs.declared.scripts.Response.{Response}
 use Rattle.host_script.specs.declared.scripts.Script.{Script}
 use Rattle.host_script.specs.declared.scripts.ResponseEnd.TheVariants.{Return}
 use Rattle.history_spec.specs.declared.entries.Entry.{Entry}
-use Rattle.history_spec.specs.declared.entries.Entry.TheVariants.{ImportCall, ImportReturn}
+use Rattle.history_spec.specs.declared.entries.Entry.TheVariants.{ImportCall}
 use Rattle.history_spec.specs.Store.{Store}
 use Rattle.history_spec.specs.Step.{Program, Progress, Running, step}
 use Rattle.record_replay_spec.specs.Hooks.{HookCall, hooks, hook_count, renumber, on}
@@ -80,14 +80,3 @@ abbrev pub hook_calls : (n : ℕ) → Program → ℕ → Progress → List Hook
 hook_calls n program (suc k) (Running config) =
     calls_among n config.store (step program config).entries ++ hook_calls n program k (step program config).next
 hook_calls n program k at = []
-
--- ---- the history that a run shows
-
--- the entries without those of hook calls
-abbrev pub without_hooks : (n : ℕ) → List Entry → List Entry
-without_hooks n [] = []
-without_hooks n (ImportCall import args ∷ rest) =
-    cond (nat_lt import n) (ImportCall import args ∷ []) [] ++ without_hooks n rest
-without_hooks n (ImportReturn import results ∷ rest) =
-    cond (nat_lt import n) (ImportReturn import results ∷ []) [] ++ without_hooks n rest
-without_hooks n (entry ∷ rest) = entry ∷ without_hooks n rest

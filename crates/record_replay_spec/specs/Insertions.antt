@@ -61,17 +61,17 @@ abbrev pub bits_of_local : ValType → (local : ℕ) → List Instr
 bits_of_local ty local = LocalGet local ∷ widened ty
 
 -- the instructions that pass a local's value to the hook `arg`
-abbrev pub tells_local : Site → ValType → (local : ℕ) → List Instr
-tells_local s ty local = number (type_byte ty) ∷ (bits_of_local ty local ++ calls s Arg ∷ [])
+abbrev pub reports_local : Site → ValType → (local : ℕ) → List Instr
+reports_local s ty local = number (type_byte ty) ∷ (bits_of_local ty local ++ calls s Arg ∷ [])
 
 -- the instructions that pass one number to a hook
-abbrev pub tells_number : Site → Hook → ℕ → List Instr
-tells_number s kind bits = number bits ∷ calls s kind ∷ []
+abbrev pub reports_number : Site → Hook → ℕ → List Instr
+reports_number s kind bits = number bits ∷ calls s kind ∷ []
 
 -- the instructions that pass parameters to the hook `arg`, from a local on
-abbrev pub tells_params : Site → (local : ℕ) → List ValType → List Instr
-tells_params s local [] = []
-tells_params s local (ty ∷ types) = tells_local s ty local ++ tells_params s (local + 1) types
+abbrev pub reports_params : Site → (local : ℕ) → List ValType → List Instr
+reports_params s local [] = []
+reports_params s local (ty ∷ types) = reports_local s ty local ++ reports_params s (local + 1) types
 
 -- ---- before and after an instruction
 
@@ -88,8 +88,8 @@ before_store s at access =
     ++ calls s Store ∷ LocalGet (address_local s) ∷ LocalGet (value_local s access.ty) ∷ [])
 
 -- the code around an access of a global, whose value is on the stack
-abbrev pub tells_global : Site → Hook → (global : ℕ) → ValType → List Instr
-tells_global s kind global ty =
+abbrev pub reports_global : Site → Hook → (global : ℕ) → ValType → List Instr
+reports_global s kind global ty =
     LocalSet (value_local s ty) ∷ number global
     ∷ (bits_of_local ty (value_local s ty) ++ calls s kind ∷ LocalGet (value_local s ty) ∷ [])
 
@@ -100,14 +100,14 @@ range_operands s =
     LocalGet (value_local s I64) ∷ Numeric I32_WRAP_I64 ∷ LocalGet (address_local s) ∷ LocalGet (value_local s I32) ∷ []
 
 -- the code around the operands of a copy or a fill
-abbrev pub tells_range : Site → Hook → List Instr
-tells_range s kind =
+abbrev pub reports_range : Site → Hook → List Instr
+reports_range s kind =
     LocalSet (value_local s I32) ∷ LocalSet (address_local s) ∷ Numeric I64_EXTEND_I32_U ∷ LocalSet (value_local s I64)
     ∷ (range_operands s ++ calls s kind ∷ range_operands s)
 
 -- the code that passes an index, or the result of a growth, on the stack to a hook
-abbrev pub tells_index : Site → Hook → List Instr
-tells_index s kind = LocalTee (address_local s) ∷ calls s kind ∷ LocalGet (address_local s) ∷ []
+abbrev pub reports_index : Site → Hook → List Instr
+reports_index s kind = LocalTee (address_local s) ∷ calls s kind ∷ LocalGet (address_local s) ∷ []
 
 -- the code after a call with at most one result: it passes the result to a hook, reports the end of the call, and
 -- leaves the result on the stack
@@ -115,37 +115,37 @@ abbrev pub after_call : Site → (over : List Instr) → (results : List ValType
 after_call s over [] = over
 after_call s over (ty ∷ types) =
     LocalSet (value_local s ty)
-    ∷ (tells_local s ty (value_local s ty) ++ (over ++ LocalGet (value_local s ty) ∷ []))
+    ∷ (reports_local s ty (value_local s ty) ++ (over ++ LocalGet (value_local s ty) ∷ []))
 
 -- the code inserted before an instruction
 abbrev pub inserted_before : Site → Instr → List Instr
-inserted_before s instrs.Return = tells_number s Leave s.func
-inserted_before s (Call func) = tells_number s Pre func
-inserted_before s (instrs.CallIndirect ty) = tells_index s Ipre
+inserted_before s instrs.Return = reports_number s Leave s.func
+inserted_before s (Call func) = reports_number s Pre func
+inserted_before s (instrs.CallIndirect ty) = reports_index s Ipre
 inserted_before s (instrs.Load at) = on (load_of at.op) (before_load s at)
 inserted_before s (instrs.Store at) = on (store_of at.op) (before_store s at)
 inserted_before s instrs.MemorySize = calls s Size ∷ []
 inserted_before s (instrs.GlobalSet global) =
-    on (slice_get (all_globals s.m) global) (λ ty. tells_global s Gset global ty.ty)
-inserted_before s instrs.MemoryCopy = tells_range s Copy
-inserted_before s instrs.MemoryFill = tells_range s Fill
+    on (slice_get (all_globals s.m) global) (λ ty. reports_global s Gset global ty.ty)
+inserted_before s instrs.MemoryCopy = reports_range s Copy
+inserted_before s instrs.MemoryFill = reports_range s Fill
 inserted_before s i = []
 
 -- the code inserted after an instruction; hooks report mutable globals alone
 abbrev pub inserted_after : Site → Instr → List Instr
 inserted_after s (Call func) =
-    on (func_type s.m func) (λ ty. after_call s (tells_number s Post func) ty.results)
+    on (func_type s.m func) (λ ty. after_call s (reports_number s Post func) ty.results)
 inserted_after s (instrs.CallIndirect ty) =
     on (type_at s.m ty) (λ found. after_call s (calls s Ipost ∷ []) found.results)
-inserted_after s instrs.MemoryGrow = tells_index s Grow
+inserted_after s instrs.MemoryGrow = reports_index s Grow
 inserted_after s (instrs.GlobalGet global) =
-    on (slice_get (all_globals s.m) global) (λ ty. cond ty.mutable (tells_global s Gget global ty.ty) [])
+    on (slice_get (all_globals s.m) global) (λ ty. cond ty.mutable (reports_global s Gget global ty.ty) [])
 inserted_after s i = []
 
 -- the code before a body: it passes the parameters to hooks, and reports the entry of the function
 abbrev pub inserted_at_enter : Site → (params : List ValType) → List Instr
-inserted_at_enter s params = tells_params s 0 params ++ tells_number s Enter s.func
+inserted_at_enter s params = reports_params s 0 params ++ reports_number s Enter s.func
 
 -- the code at the end of a body: it reports the end of the function
 abbrev pub inserted_at_end : Site → List Instr
-inserted_at_end s = tells_number s Leave s.func
+inserted_at_end s = reports_number s Leave s.func

@@ -15,7 +15,7 @@ pub mod Unshown
 pub mod ShownStepLaws
 pub mod Hooks
 pub mod HookedRuns
-pub mod ToldCalls
+pub mod ReportedCalls
 pub mod Order
 pub mod Logs
 pub mod LogTapes

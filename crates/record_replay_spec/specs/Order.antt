@@ -93,8 +93,8 @@ abbrev pub none_pending : OrderState → Bool
 none_pending state = not (is_some_there state.pending)
 
 -- the innermost frame is a function, and no value is pending
-abbrev pub may_tell : OrderState → Bool
-may_tell state = in_function state.frames && none_pending state
+abbrev pub may_report : OrderState → Bool
+may_report state = in_function state.frames && none_pending state
 
 -- ---- reported values
 
@@ -115,8 +115,8 @@ abbrev pub value_if_fits : ℕ → ValType → Option Val
 value_if_fits bits ty = cond (bits_fit ty bits) (Some (record { ty = ty; bits = bits })) None
 
 -- the value of a type's byte and bits
-abbrev pub value_told : (byte bits : ℕ) → Option Val
-value_told byte bits = option_and_then (value_if_fits bits) (type_of_byte byte)
+abbrev pub value_reported : (byte bits : ℕ) → Option Val
+value_reported byte bits = option_and_then (value_if_fits bits) (type_of_byte byte)
 
 -- one more value is pending
 abbrev pub with_pending : OrderState → Val → OrderState
@@ -187,7 +187,7 @@ abbrev pub begins_indirect : HookedShape → OrderState → Store → (index : �
 begins_indirect shape state view index =
     option_and_then
     (λ ready. begins_entry shape (with_size_seen ready view index) (entry_of view.table index))
-    (when (may_tell state && nat_le state.entries (table_length view.table)) state)
+    (when (may_report state && nat_le state.entries (table_length view.table)) state)
 
 -- a callee may end: it is an import, or a function that was entered
 abbrev pub may_be_over : HookedShape → (callee : ℕ) → (entered : Bool) → Bool
@@ -223,7 +223,7 @@ fits_global (Some ty) bits = ty.mutable && bits_fit ty.ty bits
 
 -- the state after a hook that changes no frames, if a test passes
 abbrev pub stays : OrderState → Bool → Option OrderState
-stays state test = when (may_tell state && test) state
+stays state test = when (may_report state && test) state
 
 -- the state after an access, by its width
 abbrev pub stays_by_access : HookedShape → OrderState → List Val → Option OrderState
@@ -239,11 +239,11 @@ stays_by_global shape state args =
 -- the state after one call, whose arguments have the types of its hook's parameters
 abbrev pub ordered_kind : HookedShape → OrderState → Hook → List Val → Store → Option OrderState
 ordered_kind shape state Arg args view =
-    option_map (with_pending state) (value_told (bits_at args 0) (bits_at args 1))
+    option_map (with_pending state) (value_reported (bits_at args 0) (bits_at args 1))
 ordered_kind shape state Enter args view = enters shape state (bits_at args 0)
 ordered_kind shape state Leave args view = leaves state (bits_at args 0) state.frames
 ordered_kind shape state Pre args view =
-    when (may_tell state && is_function shape (bits_at args 0)) (begins_call state true (Some (bits_at args 0)))
+    when (may_report state && is_function shape (bits_at args 0)) (begins_call state true (Some (bits_at args 0)))
 ordered_kind shape state Post args view = ends_direct shape state (bits_at args 0) state.frames
 ordered_kind shape state Ipre args view = begins_indirect shape state view (bits_at args 0)
 ordered_kind shape state Ipost args view = ends_indirect shape state state.frames

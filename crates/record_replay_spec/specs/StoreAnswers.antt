@@ -1,7 +1,7 @@
 -- Stores that answer alike what is observed: what never differs between them, and that one holds what was observed of
 -- the other.
 use Rattle.std.specs.Prelude.{◌≡◌, ℕ, ◌*◌, List, [], ◌∷◌, length, Option, Some, None, Bool, false, ◌&&◌, nat_le, nat_lt, slice_get, IfSome}
-use Rattle.wasm_syntax.specs.declared.limits.TheConstants.{MOST_ENTRIES, MOST_PAGES, PAGE_SIZE}
+use Rattle.wasm_syntax.specs.declared.limits.TheConstants.{MAX_ENTRIES, MAX_PAGES, PAGE_SIZE}
 use Rattle.wasm_syntax.specs.declared.values.ValType.{ValType}
 use Rattle.host_script.specs.Supply.{is_within}
 use Rattle.history_spec.specs.Store.{Store, Memory, Table, pages}
@@ -20,11 +20,11 @@ BothOrNeither R (Some a) (Some b) = R a b
 
 -- a memory may have this number of pages (Core 1.0, 4.2.8), within the limit of this project
 abbrev pub allows_pages : Memory → ℕ → Bool
-allows_pages memory size = is_within size memory.max && nat_le size MOST_PAGES
+allows_pages memory size = is_within size memory.max && nat_le size MAX_PAGES
 
 -- a table may have this number of entries (Core 1.0, 4.2.7), within the limit of this project
 abbrev pub allows_entries : Table → ℕ → Bool
-allows_entries table size = is_within size table.max && nat_le size MOST_ENTRIES
+allows_entries table size = is_within size table.max && nat_le size MAX_ENTRIES
 
 -- two memories allow the same numbers of pages
 abbrev pub AllowSamePages : Memory → Memory → Type 0

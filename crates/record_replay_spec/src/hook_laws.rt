@@ -1,7 +1,7 @@
 // Laws of hooks, instrumented modules and logs, each the contract of a function; the statements are in
 // `specs/HookLaws.antt`.
 
-ghost use Rattle.record_replay_spec.specs.HookLaws.{BodiesAreInstrumented, DifferingBytesAreTold, HooksAreAnswered, IndicesAreRenumbered, InstrumentedAreHooked, InstrumentedKeepIndices, LogTapeIsOne, OrderKnowsTable, TestedTapesAreOfLogs};
+ghost use Rattle.record_replay_spec.specs.HookLaws.{BodiesAreInstrumented, DifferingBytesAreReported, HooksAreAnswered, IndicesAreRenumbered, InstrumentedAreHooked, InstrumentedKeepIndices, LogTapeIsOne, OrderKnowsTable, TestedTapesAreOfLogs};
 
 /// A function of the original has one index in the instrumented module, which is no hook's.
 pub fn indices_are_renumbered()
@@ -36,8 +36,8 @@ pub fn order_knows_table()
 {}
 
 /// The bytes that a load or a copy reads and that are not the known ones are reported in longest runs.
-pub fn differing_bytes_are_told()
-    ensures { DifferingBytesAreTold }
+pub fn differing_bytes_are_reported()
+    ensures { DifferingBytesAreReported }
 {}
 
 /// A log has at most one tape.

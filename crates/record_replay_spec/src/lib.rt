@@ -9,9 +9,9 @@ pub mod observed_step_laws;
 pub mod shown_step_laws;
 
 pub use hook_laws::{
-    bodies_are_instrumented, differing_bytes_are_told, hooks_are_answered, indices_are_renumbered,
-    instrumented_are_hooked, instrumented_keep_indices, log_tape_is_one, order_knows_table,
-    tested_tapes_are_of_logs,
+    bodies_are_instrumented, differing_bytes_are_reported, hooks_are_answered,
+    indices_are_renumbered, instrumented_are_hooked, instrumented_keep_indices, log_tape_is_one,
+    order_knows_table, tested_tapes_are_of_logs,
 };
 pub use hooks::Hook;
 pub use laws::{

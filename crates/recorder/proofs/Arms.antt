@@ -17,7 +17,7 @@ use Rattle.hook_order.specs.Orders.{OrderParts, LeadsTo, state_of}
 use Rattle.hook_order.specs.Shapes.{shape_from}
 use Rattle.shadow_memory.specs.Shadow.{Shadow}
 use Rattle.shadow_tables.specs.Tables.{Tables}
-use Rattle.recorder.specs.Known.{Show, Tells, TellsOfMemory, TellsOfTables}
+use Rattle.recorder.specs.Known.{Show, Reports, ReportsMemory, ReportsTables}
 use Rattle.recorder.specs.Recordings.{Recording, Logs, Takes, order_after}
 use Rattle.recorder.proofs.Kit.{resized, took_both, took_same}
 
@@ -77,57 +77,57 @@ module _ {S : Type 0} (has_taken : S → List Event → Type 0) (before : Record
   -- the call is only observed
   logs_observed : (after : Recording S) → own ≡ []
       → notices_size kind ≡ false
-      → Tells has_taken before.order.shape.imports
+      → Reports has_taken before.order.shape.imports
       (record { memory = before.memory; tables = before.tables; sink = before.sink })
       (observed_by (shape_from before.order.shape) kind args view)
       (record { memory = after.memory; tables = after.tables; sink = after.sink })
       → Logs has_taken before call after
-  logs_observed after none quiet tells state shows =
-      let told = tells state shows in (
-        subst (Show after.memory after.tables) (sym (log_by state false quiet)) told.0,
+  logs_observed after none quiet reports state shows =
+      let reported = reports state shows in (
+        subst (Show after.memory after.tables) (sym (log_by state false quiet)) reported.0,
         took_same has_taken before.sink after.sink _ _
             (sym
             (events_by state false quiet
             ∙ ap (λ o. all_observed_events before.order.shape.imports state seen ++ (o ++ []))
             none
-            ∙ append-nil (all_observed_events before.order.shape.imports state seen))) told.1,
+            ∙ append-nil (all_observed_events before.order.shape.imports state seen))) reported.1,
       )
 
   -- observations of only the memory; of only the tables
   pub takes_memory : (memory : Shadow) (sink : S) → LeadsTo before.order kind args (Some before.order)
       → own ≡ [] → notices_size kind ≡ false
-      → TellsOfMemory has_taken before.memory before.sink (observed_by (shape_from before.order.shape) kind args view)
+      → ReportsMemory has_taken before.memory before.sink (observed_by (shape_from before.order.shape) kind args view)
       memory sink
       → Takes has_taken before call
       (record { order = before.order; memory = memory; tables = before.tables; sink = sink })
-  takes_memory memory sink h own quiet tells =
+  takes_memory memory sink h own quiet reports =
       takes_led (record { order = before.order; memory = memory; tables = before.tables; sink = sink }) before.order h
       refl refl refl
       (logs_observed (record { order = before.order; memory = memory; tables = before.tables; sink = sink }) own quiet
-      (tells before.order.shape.imports before.tables))
+      (reports before.order.shape.imports before.tables))
 
   pub takes_tables : (tables : Tables) (sink : S) → LeadsTo before.order kind args (Some before.order)
       → length tables.entries ≡ length before.tables.entries
       → own ≡ [] → notices_size kind ≡ false
-      → TellsOfTables has_taken before.order.shape.imports before.tables before.sink
+      → ReportsTables has_taken before.order.shape.imports before.tables before.sink
       (observed_by (shape_from before.order.shape) kind args view) tables sink
       → Takes has_taken before call
       (record { order = before.order; memory = before.memory; tables = tables; sink = sink })
-  takes_tables tables sink h size own quiet tells =
+  takes_tables tables sink h size own quiet reports =
       takes_led (record { order = before.order; memory = before.memory; tables = tables; sink = sink }) before.order h
       refl refl size
       (logs_observed (record { order = before.order; memory = before.memory; tables = tables; sink = sink }) own quiet
-      (tells before.memory))
+      (reports before.memory))
 
   -- nothing is observed
-  pub takes_told : (order parts : OrderParts) (sink : S) → LeadsTo before.order kind args (Some parts) → order ≡ parts
+  pub takes_reported : (order parts : OrderParts) (sink : S) → LeadsTo before.order kind args (Some parts) → order ≡ parts
       → parts.shape ≡ before.order.shape → observed_by (shape_from before.order.shape) kind args view ≡ []
       → notices_size kind ≡ false
       → TookAlso has_taken before.sink sink
       (own_events before.order.shape.imports before.order.pending kind args view)
       → Takes has_taken before call
       (record { order = order; memory = before.memory; tables = before.tables; sink = sink })
-  takes_told order parts sink h same shape none quiet told =
+  takes_reported order parts sink h same shape none quiet reported =
       takes_led (record { order = order; memory = before.memory; tables = before.tables; sink = sink }) parts h same shape
       refl logged
     where
@@ -140,7 +140,7 @@ module _ {S : Type 0} (has_taken : S → List Event → Type 0) (before : Record
             (sym
             (events_by state false quiet
             ∙ ap (λ seen. all_observed_events before.order.shape.imports state seen ++ (own ++ [])) none
-            ∙ append-nil own)) told,
+            ∙ append-nil own)) reported,
       )
 
   -- and the size is noticed
@@ -153,7 +153,7 @@ module _ {S : Type 0} (has_taken : S → List Event → Type 0) (before : Record
       → TookAlso has_taken middle sink
       (unless (nat_eq (pages_in view) before.memory.noticed) (events.Grow (pages_in view)))
       → Takes has_taken before call (record { order = order; memory = memory; tables = before.tables; sink = sink })
-  takes_noticed order parts memory middle sink h same shape none noticing told noticed grown =
+  takes_noticed order parts memory middle sink h same shape none noticing reported noticed grown =
       subst
       (λ m. Takes has_taken before call (record { order = order; memory = m; tables = before.tables; sink = sink }))
       (sym noticed)
@@ -195,7 +195,7 @@ module _ {S : Type 0} (has_taken : S → List Event → Type 0) (before : Record
             ++ (own ++ grown_events state.noticed view))
             none
             ∙ ap (λ g. own ++ g) (sym (grew state shows))))
-            (took_both has_taken before.sink middle sink own _ told grown),
+            (took_both has_taken before.sink middle sink own _ reported grown),
       )
 
 -- if memory is out, the call was in order

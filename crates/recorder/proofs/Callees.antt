@@ -15,8 +15,8 @@ use Rattle.record_replay_spec.specs.Known.{entry_of, entries_after}
 use Rattle.record_replay_spec.specs.Hooks.{on}
 use Rattle.record_replay_spec.specs.Logs.{unless, all_observed_events}
 use Rattle.shadow_tables.specs.Tables.{Tables}
-use Rattle.recorder.specs.Known.{TellsOfTables}
-use Rattle.recorder.proofs.Kit.{tells_then, took_same}
+use Rattle.recorder.specs.Known.{ReportsTables}
+use Rattle.recorder.proofs.Kit.{reports_then, took_same}
 
 pub size_same : (store : Store) → length (entries_in store) ≡ table_length store.table
 size_same store = go store.table
@@ -34,22 +34,22 @@ below_after known index found below = go (nat_lt index known) refl
 
 module _ {S : Type 0} (has_taken : S → List Event → Type 0) (n : ℕ) (a b : Tables) (s t : S) (index : ℕ) where
   -- nothing is observed of a missing table
-  reaches_none : length a.entries ≡ 0 → TellsOfTables has_taken n a s (ReachesEntry index 0 ∷ []) b t
-      → TellsOfTables has_taken n a s [] b t
-  reaches_none empty tells memory state shows =
-      let told = tells memory state shows in
+  reaches_none : length a.entries ≡ 0 → ReportsTables has_taken n a s (ReachesEntry index 0 ∷ []) b t
+      → ReportsTables has_taken n a s [] b t
+  reaches_none empty reports memory state shows =
+      let reported = reports memory state shows in
       let none : state.known.entries ≡ 0 = shows.entries ∙ empty in (
         record {
-          byte = told.0.byte;
-          entry = told.0.entry;
-          global = told.0.global;
-          pages = told.0.pages;
-          entries = none ∙ sym (by_test (nat_lt index state.known.entries) state.known.entries none) ∙ told.0.entries;
-          noticed = told.0.noticed;
+          byte = reported.0.byte;
+          entry = reported.0.entry;
+          global = reported.0.global;
+          pages = reported.0.pages;
+          entries = none ∙ sym (by_test (nat_lt index state.known.entries) state.known.entries none) ∙ reported.0.entries;
+          noticed = reported.0.noticed;
         },
         took_same has_taken s t (all_observed_events n state (ReachesEntry index 0 ∷ [])) []
             (append-nil (cond (nat_lt index state.known.entries) [] (unless (nat_eq 0 state.known.entries) (TableEvent 0)))
-            ∙ no_events (nat_lt index state.known.entries) state.known.entries none) told.1,
+            ∙ no_events (nat_lt index state.known.entries) state.known.entries none) reported.1,
       )
     where
       by_test : (b : Bool) (known : ℕ) → known ≡ 0 → cond b known 0 ≡ 0
@@ -63,33 +63,33 @@ module _ {S : Type 0} (has_taken : S → List Event → Type 0) (n : ℕ) (a b :
 
   pub callee_past : (table : Option Table) → length a.entries ≤ table_length table
       → length (entries_of_table table) ≤ index
-      → TellsOfTables has_taken n a s (ReachesEntry index (length (entries_of_table table)) ∷ []) b t
-      → TellsOfTables has_taken n a s (on table (entry_observations index)) b t
-  callee_past None few past tells = reaches_none (omega (arith, few)) tells
-  callee_past (Some table) few past tells =
+      → ReportsTables has_taken n a s (ReachesEntry index (length (entries_of_table table)) ∷ []) b t
+      → ReportsTables has_taken n a s (on table (entry_observations index)) b t
+  callee_past None few past reports = reaches_none (omega (arith, few)) reports
+  callee_past (Some table) few past reports =
       subst
-      (λ o. TellsOfTables has_taken n a s
+      (λ o. ReportsTables has_taken n a s
       (ReachesEntry index (length table.entries) ∷ observed.on o (λ func. ReadsEntry index func ∷ []))
       b t)
-      (sym (slice_get_past table.entries index past)) tells
+      (sym (slice_get_past table.entries index past)) reports
 
   pub callee_there : (table : Option Table) (func : Option ℕ) (c : Tables) (u : S)
       → slice_get (entries_of_table table) index ≡ Some func
-      → TellsOfTables has_taken n a s (ReachesEntry index (length (entries_of_table table)) ∷ []) b t
-      → TellsOfTables has_taken n b t (ReadsEntry index func ∷ []) c u
-      → TellsOfTables has_taken n a s (on table (entry_observations index)) c u
+      → ReportsTables has_taken n a s (ReachesEntry index (length (entries_of_table table)) ∷ []) b t
+      → ReportsTables has_taken n b t (ReadsEntry index func ∷ []) c u
+      → ReportsTables has_taken n a s (on table (entry_observations index)) c u
   callee_there None func c u h reach reads = absurd (nothing h)
     where
       nothing : slice_get [] index ≡ Some func → ⊥
       nothing e = cc
   callee_there (Some table) func c u h reach reads =
       subst
-      (λ o. TellsOfTables has_taken n a s
+      (λ o. ReportsTables has_taken n a s
       (ReachesEntry index (length table.entries) ∷ observed.on o (λ func. ReadsEntry index func ∷ []))
       c u)
       (sym h)
       (λ memory.
-      tells_then has_taken n
+      reports_then has_taken n
       (record { memory = memory; tables = a; sink = s })
       (record { memory = memory; tables = b; sink = t })
       (record { memory = memory; tables = c; sink = u })

@@ -5,6 +5,7 @@ use Rattle.std.specs.Option.{option_or}
 use Rattle.std.proofs.lemmas.Bool.Decides.{nat_tests}
 use Rattle.std.proofs.lemmas.List.{append-nil, length-append, length-replicate, length-set, get_or-set_same, get_or-set_other}
 use Rattle.std.proofs.lemmas.Option.{slice_get-get_or, slice_get_within}
+use Rattle.base.proofs.Options.{or_none}
 use Rattle.wasm_syntax.specs.declared.values.Val.{Val}
 use Rattle.trace_model.specs.declared.events.Event.{Event}
 use Rattle.trace_model.specs.declared.events.Event.TheVariants.{Table, Entry, Global}
@@ -13,12 +14,8 @@ use Rattle.record_replay_spec.specs.Observations.{ReachesEntry, ReadsEntry, Read
 use Rattle.record_replay_spec.specs.Hooks.{original}
 use Rattle.record_replay_spec.specs.Logs.{LogState, unless, same_entry, same_bits, all_observed_events}
 use Rattle.shadow_tables.specs.Tables.{Tables}
-use Rattle.recorder.specs.Known.{TellsOfTables}
+use Rattle.recorder.specs.Known.{ReportsTables}
 use Rattle.recorder.proofs.Kit.{took_none, took_same, with_entries, with_globals}
-
-or_none : {X : Type 0} (a : Option X) → option_or a None ≡ a
-or_none None = refl
-or_none (Some x) = refl
 
 -- ---- the table's size
 
@@ -33,7 +30,7 @@ padded (x ∷ xs) count (suc at) = padded xs count at
 
 module _ {S : Type 0} (has_taken : S → List Event → Type 0) (n : ℕ) (tables : Tables) where
   pub reaches_known : (sink : S) (index found : ℕ) → index < length tables.entries
-      → TellsOfTables has_taken n tables sink (ReachesEntry index found ∷ []) tables sink
+      → ReportsTables has_taken n tables sink (ReachesEntry index found ∷ []) tables sink
   reaches_known sink index found below memory state shows =
       let p' : nat_lt index (length tables.entries) ≡ true = grind (arith, nat_tests, below) in
       let p : nat_lt index state.known.entries ≡ true = ap (nat_lt index) shows.entries ∙ p' in (
@@ -45,9 +42,9 @@ module _ {S : Type 0} (has_taken : S → List Event → Type 0) (n : ℕ) (table
 
   pub reaches_past : (sink sink' : S) (index found : ℕ) → length tables.entries ≤ index → length tables.entries ≤ found
       → TookAlso has_taken sink sink' (unless (nat_eq found (length tables.entries)) (Table found))
-      → TellsOfTables has_taken n tables sink (ReachesEntry index found ∷ [])
+      → ReportsTables has_taken n tables sink (ReachesEntry index found ∷ [])
       (record tables { entries = tables.entries ++ replicate (found - length tables.entries) None }) sink'
-  reaches_past sink sink' index found past more told memory state shows =
+  reaches_past sink sink' index found past more reported memory state shows =
       let p' : nat_lt index (length tables.entries) ≡ false = grind (arith, nat_tests, past) in
       let p : nat_lt index state.known.entries ≡ false = ap (nat_lt index) shows.entries ∙ p' in
       let size : found ≡ length (tables.entries ++ replicate (found - length tables.entries) None) =
@@ -64,7 +61,7 @@ module _ {S : Type 0} (has_taken : S → List Event → Type 0) (n : ℕ) (table
             (sym
             (ap (λ b. cond b [] (unless (nat_eq found state.known.entries) (Table found)) ++ []) p
             ∙ append-nil (unless (nat_eq found state.known.entries) (Table found))
-            ∙ ap (λ known. unless (nat_eq found known) (Table found)) shows.entries)) told,
+            ∙ ap (λ known. unless (nat_eq found known) (Table found)) shows.entries)) reported,
       )
 
 -- ---- entries
@@ -119,15 +116,15 @@ module _ {S : Type 0} (has_taken : S → List Event → Type 0) (n : ℕ) (table
 
   pub finds_entry : (sink sink' : S) (callee : Option ℕ) → option_and_then (original n) func ≡ callee
       → slice_get tables.entries index ≢ Some func → TookAlso has_taken sink sink' (Entry index callee ∷ [])
-      → TellsOfTables has_taken n tables sink (ReadsEntry index func ∷ [])
+      → ReportsTables has_taken n tables sink (ReadsEntry index func ∷ [])
       (record tables { entries = slice_set tables.entries index func }) sink'
-  finds_entry sink sink' callee is apart told memory state shows =
+  finds_entry sink sink' callee is apart reported memory state shows =
       let p : same_entry (state.known.entry index) func ≡ false =
       ap (λ known. same_entry known func) (shows.entry index) ∙ differs_test tables.entries index func below apart in (
         with_entries shows _ _ (slice_set tables.entries index func) (λ at. entry at (nat_eq index at) refl)
             (shows.entries ∙ sym (length-set tables.entries index func)),
         took_same has_taken sink sink' _ (all_observed_events n state (ReadsEntry index func ∷ []))
-            (ap (λ c. Entry index c ∷ []) (sym is) ∙ sym (events_by state false p)) told,
+            (ap (λ c. Entry index c ∷ []) (sym is) ∙ sym (events_by state false p)) reported,
       )
     where
       entry : (at : ℕ) (b : Bool) → nat_eq index at ≡ b
@@ -145,7 +142,7 @@ module _ {S : Type 0} (has_taken : S → List Event → Type 0) (n : ℕ) (table
           other at p e = let q : nat_eq index at ≡ true = grind (arith, nat_tests, e) in true_false (sym q ∙ p)
 
   pub knows_entry : (sink : S) → (slice_get tables.entries index ≢ Some func → ⊥)
-      → TellsOfTables has_taken n tables sink (ReadsEntry index func ∷ []) tables sink
+      → ReportsTables has_taken n tables sink (ReadsEntry index func ∷ []) tables sink
   knows_entry sink same memory state shows =
       let q = same_test tables.entries index func below same in
       let p : same_entry (state.known.entry index) func ≡ true =
@@ -266,9 +263,9 @@ module _ {S : Type 0} (has_taken : S → List Event → Type 0) (n : ℕ) (table
 
   pub finds_global : (sink sink' : S) → slice_get tables.globals global ≢ Some value
       → TookAlso has_taken sink sink' (Global global value ∷ [])
-      → TellsOfTables has_taken n tables sink (ReadsGlobal global value ∷ [])
+      → ReportsTables has_taken n tables sink (ReadsGlobal global value ∷ [])
       (record tables { globals = slice_set tables.globals global value }) sink'
-  finds_global sink sink' apart told memory state shows =
+  finds_global sink sink' apart reported memory state shows =
       let p : same_bits (state.known.global global) value ≡ false =
       ap (λ known. same_bits known value) (shows.global global) ∙ bits_differ tables.globals global value typed apart in (
         with_globals shows _ (slice_set tables.globals global value) (λ at.
@@ -276,11 +273,11 @@ module _ {S : Type 0} (has_taken : S → List Event → Type 0) (n : ℕ) (table
             ∙ set_global tables.globals global at value (is_below tables.globals global value typed) (nat_eq global at)
             refl (state.known.global at) (shows.global at)),
         took_same has_taken sink sink' _ (all_observed_events n state (ReadsGlobal global value ∷ []))
-            (sym (global_events state false p)) told,
+            (sym (global_events state false p)) reported,
       )
 
   pub knows_global : (sink : S) → (slice_get tables.globals global ≢ Some value → ⊥)
-      → TellsOfTables has_taken n tables sink (ReadsGlobal global value ∷ []) tables sink
+      → ReportsTables has_taken n tables sink (ReadsGlobal global value ∷ []) tables sink
   knows_global sink same memory state shows =
       let p : same_bits (state.known.global global) value ≡ true =
       ap (λ known. same_bits known value) (shows.global global) ∙ bits_same tables.globals global value typed same in (
@@ -298,7 +295,7 @@ module _ {S : Type 0} (has_taken : S → List Event → Type 0) (n : ℕ) (table
       known is at false p = shows.global at
 
   pub writes_global : (sink : S)
-      → TellsOfTables has_taken n tables sink (WritesGlobal global value ∷ [])
+      → ReportsTables has_taken n tables sink (WritesGlobal global value ∷ [])
       (record tables { globals = slice_set tables.globals global value }) sink
   writes_global sink memory state shows = (
     with_globals shows _ (slice_set tables.globals global value) (λ at.

@@ -8,7 +8,7 @@ use Rattle.record_replay_spec.specs.Observations.{Observation}
 use Rattle.record_replay_spec.specs.Logs.{LogState, observed_events, all_observed_events, log_after}
 use Rattle.shadow_memory.specs.Shadow.{Shadow}
 use Rattle.shadow_tables.specs.Tables.{Tables}
-use Rattle.recorder.specs.Known.{Keeper, Show, Tells}
+use Rattle.recorder.specs.Known.{Keeper, Show, Reports}
 
 module _ {S : Type 0} (has_taken : S → List Event → Type 0) where
   -- nothing was taken
@@ -27,13 +27,13 @@ module _ {S : Type 0} (has_taken : S → List Event → Type 0) where
 
   module _ (n : ℕ) where
     -- nothing is observed
-    pub tells_none : (keeper : Keeper S) → Tells has_taken n keeper [] keeper
-    tells_none keeper state shows = (shows, took_none keeper.sink)
+    pub reports_none : (keeper : Keeper S) → Reports has_taken n keeper [] keeper
+    reports_none keeper state shows = (shows, took_none keeper.sink)
 
     -- one observation, and others then
-    pub tells_then : (a b c : Keeper S) (o : Observation) (later : List Observation)
-        → Tells has_taken n a (o ∷ []) b → Tells has_taken n b later c → Tells has_taken n a (o ∷ later) c
-    tells_then a b c o later f g state shows =
+    pub reports_then : (a b c : Keeper S) (o : Observation) (later : List Observation)
+        → Reports has_taken n a (o ∷ []) b → Reports has_taken n b later c → Reports has_taken n a (o ∷ later) c
+    reports_then a b c o later f g state shows =
         let first = f state shows in
         let rest = g (log_after state o) first.0 in
         let joined =

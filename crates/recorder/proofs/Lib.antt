@@ -1,12 +1,12 @@
 mod Kit
 mod Sizes
 mod Differences
-mod Finds
+mod FoundBytes
 mod Entries
 mod Callees
 mod Within
 mod Arms
-mod Told
+mod AccessArguments
 mod Steps
 mod Openings
 mod Runs

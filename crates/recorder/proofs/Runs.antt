@@ -31,7 +31,7 @@ module _ {S : Type 0} (has_taken : S → List Event → Type 0) (shape : HookedS
     next : OrderState
     ordered : ordered_step shape order call ≡ Some next
     stands : StandsAt after shape next (log_after_call shape log call) (number + 1)
-    told : TookAlso has_taken before.recording.sink after.recording.sink (call_events shape log order.pending call)
+    reported : TookAlso has_taken before.recording.sink after.recording.sink (call_events shape log order.pending call)
 
   is_next : (before : Recorded S) (order : OrderState) (log : LogState) (number : ℕ) (call : HookCall)
       (after : Recorded S) → StandsAt before shape order log number → IsAnswer has_taken before call (Ok tt) after
@@ -53,7 +53,7 @@ module _ {S : Type 0} (has_taken : S → List Event → Type 0) (shape : HookedS
                   (λ s. Show after.recording.memory after.recording.tables (log_after_call s log call))
                   stands.shaped logged.0;
             };
-        told =
+        reported =
             subst
             (λ s. TookAlso has_taken before.recording.sink after.recording.sink
             (call_events s log order.pending call))
@@ -67,13 +67,13 @@ module _ {S : Type 0} (has_taken : S → List Event → Type 0) (shape : HookedS
   accepted : (calls : List HookCall) (before : Recorded S) (order : OrderState) (log : LogState) (number : ℕ)
       (after : Recorded S) → StandsAt before shape order log number
       → IsRun (IsRecorderStep has_taken) before calls (Ok tt) after
-      → (told : List Event) × (events_from shape order log number calls ≡ Ok told)
-      × TookAlso has_taken before.recording.sink after.recording.sink told
+      → (reported : List Event) × (events_from shape order log number calls ≡ Ok reported)
+      × TookAlso has_taken before.recording.sink after.recording.sink reported
       × (after.broken ≡ false) × (shape_from after.recording.order.shape ≡ shape)
   accepted [] before order log number after stands run =
       subst
-      (λ r. (told : List Event) × (events_from shape order log number [] ≡ Ok told)
-      × TookAlso has_taken before.recording.sink r.recording.sink told
+      (λ r. (reported : List Event) × (events_from shape order log number [] ≡ Ok reported)
+      × TookAlso has_taken before.recording.sink r.recording.sink reported
       × (r.broken ≡ false) × (shape_from r.recording.order.shape ≡ shape))
       run.1 ([], refl, took_none has_taken before.recording.sink, stands.whole, stands.shaped)
   accepted (call ∷ calls) before order log number after stands (inl run) =
@@ -89,7 +89,7 @@ module _ {S : Type 0} (has_taken : S → List Event → Type 0) (shape : HookedS
             one.ordered
             ∙ ap (after_events (call_events shape log order.pending call)) rest.1,
         took_both has_taken before.recording.sink between.recording.sink after.recording.sink
-            (call_events shape log order.pending call) rest.0 one.told rest.2,
+            (call_events shape log order.pending call) rest.0 one.reported rest.2,
         rest.3,
         rest.4,
       )

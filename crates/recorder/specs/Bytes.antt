@@ -17,10 +17,10 @@ pub record FindsRun {S : Type 0} (has_taken : S → List Event → Type 0) (befo
     (bytes : List ℕ) (run : Difference) (after : Shadow) (sink' : S) : Type 0 where
   pub first : IsFirstDifference before.bytes address bytes run
   pub taken : HasTaken before address (take run.«end» bytes) after
-  pub told : TookAlso has_taken sink sink' (run_event address bytes run ∷ [])
+  pub reported : TookAlso has_taken sink sink' (run_event address bytes run ∷ [])
 
 pub record FindsNothing {S : Type 0} (has_taken : S → List Event → Type 0) (before : Shadow) (sink : S) (address : ℕ)
     (bytes : List ℕ) (after : Shadow) (sink' : S) : Type 0 where
   pub known : AreKnown before.bytes address bytes
   pub taken : HasTaken before address bytes after
-  pub told : TookAlso has_taken sink sink' []
+  pub reported : TookAlso has_taken sink sink' []

@@ -20,8 +20,8 @@ pub record RunsRecord {S : Type 0} (has_taken : S → List Event → Type 0) (be
     (order : OrderState) (log : LogState) (number : ℕ) : Type 0 where
   pub accepted : (calls : List HookCall) (after : Recorded S)
       → IsRun (IsRecorderStep has_taken) before calls (Ok tt) after
-      → (told : List Event) × (events_from shape order log number calls ≡ Ok told)
-      × TookAlso has_taken before.recording.sink after.recording.sink told
+      → (reported : List Event) × (events_from shape order log number calls ≡ Ok reported)
+      × TookAlso has_taken before.recording.sink after.recording.sink reported
       × (after.broken ≡ false) × (shape_from after.recording.order.shape ≡ shape)
   pub refused : (calls : List HookCall) (at : ℕ) (after : Recorded S)
       → IsRun (IsRecorderStep has_taken) before calls (Err (Order at)) after

@@ -21,7 +21,7 @@ impl<S: EventSink> Recording<S> {
         ensures err { OnErr result (IsSome (order_after (recording_of self.old)
             (record { kind = hooks.Load; args = args.now; view = view.now }))) }
     {
-        let Some(access) = self.order.loaded(args) else {
+        let Some(access) = self.order.load_access(args) else {
             return Ok(false);
         };
         memory::load(self.alloc, &mut self.memory, &mut self.sink, access, view)?;
@@ -36,7 +36,7 @@ impl<S: EventSink> Recording<S> {
         ensures err { OnErr result (IsSome (order_after (recording_of self.old)
             (record { kind = hooks.Store; args = args.now; view = view.now }))) }
     {
-        let Some((access, bits)) = self.order.stored(args) else {
+        let Some((access, bits)) = self.order.store_access(args) else {
             return Ok(false);
         };
         memory::store(&mut self.memory, &mut self.sink, access, bits, view)?;
@@ -81,10 +81,15 @@ impl<S: EventSink> Recording<S> {
         ensures err { OnErr result (IsSome (order_after (recording_of self.old)
             (record { kind = hooks.Gget; args = args.now; view = _view.now }))) }
     {
-        let Some(told) = self.order.read_global(args) else {
+        let Some(reported) = self.order.read_global(args) else {
             return Ok(false);
         };
-        find_global(&mut self.tables, &mut self.sink, told.global, told.value)?;
+        find_global(
+            &mut self.tables,
+            &mut self.sink,
+            reported.global,
+            reported.value,
+        )?;
         Ok(true)
     }
 
@@ -96,10 +101,10 @@ impl<S: EventSink> Recording<S> {
         ensures err { OnErr result (IsSome (order_after (recording_of self.old)
             (record { kind = hooks.Gset; args = args.now; view = _view.now }))) }
     {
-        let Some(told) = self.order.set_global(args) else {
+        let Some(reported) = self.order.set_global(args) else {
             return Ok(false);
         };
-        self.tables.take_global(told.global, told.value);
+        self.tables.take_global(reported.global, reported.value);
         Ok(true)
     }
 
@@ -111,10 +116,10 @@ impl<S: EventSink> Recording<S> {
         ensures err { OnErr result (IsSome (order_after (recording_of self.old)
             (record { kind = hooks.Copy; args = args.now; view = view.now }))) }
     {
-        let Some(told) = self.order.copied(args) else {
+        let Some(reported) = self.order.copy_args(args) else {
             return Ok(false);
         };
-        memory::copy(self.alloc, &mut self.memory, &mut self.sink, told, view)?;
+        memory::copy(self.alloc, &mut self.memory, &mut self.sink, reported, view)?;
         Ok(true)
     }
 
@@ -126,10 +131,10 @@ impl<S: EventSink> Recording<S> {
         ensures err { OnErr result (IsSome (order_after (recording_of self.old)
             (record { kind = hooks.Fill; args = args.now; view = view.now }))) }
     {
-        let Some(told) = self.order.filled(args) else {
+        let Some(reported) = self.order.fill_args(args) else {
             return Ok(false);
         };
-        memory::fill(&mut self.memory, &mut self.sink, told, view)?;
+        memory::fill(&mut self.memory, &mut self.sink, reported, view)?;
         Ok(true)
     }
 }

@@ -8,7 +8,7 @@ ghost use Rattle.shadow_memory.specs.Shadow.{HasTaken};
 ghost use Rattle.trace_model.specs.Sink.{TookAlso};
 ghost use Rattle.trace_model.specs.declared.events.Event.TheVariants.{Bytes as FoundBytes};
 ghost use Rattle.recorder.specs.Bytes.{FindsNothing, FindsRun};
-ghost use Rattle.recorder.specs.Known.{TellsOfMemory};
+ghost use Rattle.recorder.specs.Known.{ReportsMemory};
 
 use base::NoMemory;
 use shadow_memory::{Difference, ShadowMemory};
@@ -18,7 +18,7 @@ use wasm_syntax::Bytes;
 
 /// Passes the event of bytes found from an address on to the sink.
 #[cold]
-fn tell_bytes<S: EventSink>(
+fn report_bytes<S: EventSink>(
     alloc: Global,
     sink: &mut S,
     addr: u32,
@@ -56,7 +56,7 @@ fn find_run<S: EventSink>(
         return Ok(None);
     };
     let at = addr + run.start as u64;
-    tell_bytes(alloc, sink, at as u32, &bytes[run.start..run.end])?;
+    report_bytes(alloc, sink, at as u32, &bytes[run.start..run.end])?;
     Ok(Some(run))
 }
 
@@ -75,7 +75,7 @@ pub(crate) fn find_bytes<S: EventSink>(
 ) -> Result<(), NoMemory>
     requires { addr + length bytes.now ≤ u32.MAX }
     ensures { OnOk result
-        (TellsOfMemory S.has_taken memory.old sink.old (Reads addr bytes.now ∷ []) memory.new sink.new) }
+        (ReportsMemory S.has_taken memory.old sink.old (Reads addr bytes.now ∷ []) memory.new sink.new) }
 {
     let mut done = 0;
     'runs: while done < bytes.len() {
@@ -115,7 +115,7 @@ pub(crate) fn take_number(
 ///
 /// # Errors
 /// `NoMemory` if an allocation failed.
-#[tactic(auto, using(crate::proofs::Finds::taken_none))]
+#[tactic(auto, using(crate::proofs::FoundBytes::taken_none))]
 pub(crate) fn take_same(
     memory: &mut ShadowMemory,
     addr: u64,

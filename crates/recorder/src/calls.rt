@@ -8,7 +8,7 @@ ghost use Rattle.history_spec.specs.Instantiation.{table_length};
 ghost use Rattle.record_replay_spec.specs.Observations.{ReachesEntry, entry_observations};
 ghost use Rattle.record_replay_spec.specs.Known.{entry_of, entries_after};
 ghost use Rattle.record_replay_spec.specs.Hooks.{on, original};
-ghost use Rattle.recorder.specs.Known.{TellsOfTables};
+ghost use Rattle.recorder.specs.Known.{ReportsTables};
 ghost use Rattle.recorder.specs.Recordings.{order_after, recording_of, IsTaken};
 
 use crate::memory::notice;
@@ -23,7 +23,7 @@ use trace_model::{Event, EventSink};
 use wasm_syntax::{Val, Vals};
 
 /// Passes the event of a function that is entered with these values to the sink.
-fn tell_entry<S: EventSink>(
+fn report_entry<S: EventSink>(
     alloc: Global,
     sink: &mut S,
     func: u32,
@@ -36,7 +36,7 @@ fn tell_entry<S: EventSink>(
 }
 
 /// Passes the event of a call that ends with these values, at most one, to the sink.
-fn tell_post<S: EventSink>(sink: &mut S, values: &[Val]) -> Result<(), NoMemory>
+fn report_post<S: EventSink>(sink: &mut S, values: &[Val]) -> Result<(), NoMemory>
     ensures { OnOk result (TookAlso S.has_taken sink.old sink.new (events.Post (slice_get values.now 0) ∷ [])) }
 {
     sink.event(Event::Post {
@@ -56,7 +56,7 @@ impl<S: EventSink> Recording<S> {
         let Some(value) = self.order.value(args) else {
             return Ok(false);
         };
-        self.order.tell(value)?;
+        self.order.report(value)?;
         Ok(true)
     }
 
@@ -68,10 +68,10 @@ impl<S: EventSink> Recording<S> {
         ensures err { OnErr result (IsSome (order_after (recording_of self.old)
             (record { kind = hooks.Enter; args = args.now; view = view.now }))) }
     {
-        let Some(func) = self.order.entered(args) else {
+        let Some(func) = self.order.entered_function(args) else {
             return Ok(false);
         };
-        tell_entry(self.alloc, &mut self.sink, func, self.order.pending())?;
+        report_entry(self.alloc, &mut self.sink, func, self.order.pending())?;
         notice(&mut self.memory, &mut self.sink, view)?;
         self.order.enter(func)?;
         Ok(true)
@@ -85,7 +85,7 @@ impl<S: EventSink> Recording<S> {
         ensures err { OnErr result (IsSome (order_after (recording_of self.old)
             (record { kind = hooks.Leave; args = args.now; view = _view.now }))) }
     {
-        let Some(func) = self.order.left(args) else {
+        let Some(func) = self.order.left_function(args) else {
             return Ok(false);
         };
         self.sink.event(Event::Leave { func })?;
@@ -101,7 +101,7 @@ impl<S: EventSink> Recording<S> {
         ensures err { OnErr result (IsSome (order_after (recording_of self.old)
             (record { kind = hooks.Pre; args = args.now; view = _view.now }))) }
     {
-        let Some(func) = self.order.called(args) else {
+        let Some(func) = self.order.called_function(args) else {
             return Ok(false);
         };
         self.sink.event(Event::Pre { callee: Some(func) })?;
@@ -120,7 +120,7 @@ impl<S: EventSink> Recording<S> {
         if !self.order.ends(args) {
             return Ok(false);
         }
-        tell_post(&mut self.sink, self.order.pending())?;
+        report_post(&mut self.sink, self.order.pending())?;
         notice(&mut self.memory, &mut self.sink, view)?;
         self.order.close();
         Ok(true)
@@ -159,7 +159,7 @@ impl<S: EventSink> Recording<S> {
         if !self.order.ends_by_table(args) {
             return Ok(false);
         }
-        tell_post(&mut self.sink, self.order.pending())?;
+        report_post(&mut self.sink, self.order.pending())?;
         notice(&mut self.memory, &mut self.sink, view)?;
         self.order.close();
         Ok(true)
@@ -178,9 +178,9 @@ fn find_callee<S: EventSink>(
     view: &View,
 ) -> Result<(), NoMemory>
     requires { nat_le (length tables.old.entries) (table_length view.now.table) ≡ true }
-    ensures tells { OnOk result ((n : ℕ)
+    ensures reports { OnOk result ((n : ℕ)
         → option_and_then (original n) (entry_of view.now.table call.index) ≡ call.callee
-        → TellsOfTables S.has_taken n tables.old sink.old
+        → ReportsTables S.has_taken n tables.old sink.old
         (on view.now.table (entry_observations call.index)) tables.new sink.new) }
     ensures entries { OnOk result (length tables.new.entries
         ≡ entries_after (length tables.old.entries) (ReachesEntry call.index (table_length view.now.table))) }

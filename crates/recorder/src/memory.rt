@@ -10,7 +10,7 @@ ghost use Rattle.record_replay_spec.specs.Observations.{Copies, Reaches, Resizes
 ghost use Rattle.record_replay_spec.specs.Hooks.{on};
 ghost use Rattle.record_replay_spec.specs.Logs.{unless};
 ghost use Rattle.record_replay_spec.specs.Order.{is_width};
-ghost use Rattle.recorder.specs.Known.{TellsOfMemory};
+ghost use Rattle.recorder.specs.Known.{ReportsMemory};
 
 use crate::bytes::{find_bytes, take_number, take_same};
 use base::NoMemory;
@@ -27,10 +27,10 @@ use wasm_syntax::limits::PAGE_SIZE;
 /// `NoMemory` if an allocation failed.
 fn see<S: EventSink>(memory: &mut ShadowMemory, sink: &mut S, found: u32) -> Result<(), NoMemory>
     ensures known { OnOk result (memory.new ≡ record memory.old { known = found; noticed = found }) }
-    ensures told { OnOk result (TookAlso S.has_taken sink.old sink.new
+    ensures reported { OnOk result (TookAlso S.has_taken sink.old sink.new
         (unless (nat_eq memory.old.known memory.old.noticed) Seen)) }
 {
-    if memory.known_pages() != memory.noticed() {
+    if memory.known_pages() != memory.noticed_pages() {
         sink.event(Event::Seen)?;
     }
     memory.set_known(found);
@@ -50,7 +50,7 @@ fn reach<S: EventSink>(
     found: u32,
 ) -> Result<(), NoMemory>
     ensures { OnOk result
-        (TellsOfMemory S.has_taken memory.old sink.old (Reaches «end» found ∷ []) memory.new sink.new) }
+        (ReportsMemory S.has_taken memory.old sink.old (Reaches «end» found ∷ []) memory.new sink.new) }
 {
     if end > u128::from(memory.known_pages()) * u128::from(PAGE_SIZE) {
         see(memory, sink, found)?;
@@ -69,11 +69,11 @@ pub(crate) fn notice<S: EventSink>(
     view: &View,
 ) -> Result<(), NoMemory>
     ensures noticed { OnOk result (memory.new ≡ record memory.old { noticed = pages_in view.now }) }
-    ensures told { OnOk result (TookAlso S.has_taken sink.old sink.new
+    ensures reported { OnOk result (TookAlso S.has_taken sink.old sink.new
         (unless (nat_eq (pages_in view.now) memory.old.noticed) (Grew (pages_in view.now)))) }
 {
     let pages = view.pages();
-    if pages != memory.noticed() {
+    if pages != memory.noticed_pages() {
         sink.event(Event::Grow { pages })?;
     }
     memory.set_noticed(pages);
@@ -116,7 +116,7 @@ fn end_of(start: u64, count: u64) -> u128
 ///
 /// # Errors
 /// `NoMemory` if an allocation failed.
-#[tactic(auto, using(crate::proofs::Within::tells_nowhere))]
+#[tactic(auto, using(crate::proofs::Within::reports_nowhere))]
 #[inline]
 pub(crate) fn load<S: EventSink>(
     alloc: Global,
@@ -126,7 +126,7 @@ pub(crate) fn load<S: EventSink>(
     view: &View,
 ) -> Result<(), NoMemory>
     requires { IsTrue (is_width access.width) }
-    ensures { OnOk result (TellsOfMemory S.has_taken memory.old sink.old
+    ensures { OnOk result (ReportsMemory S.has_taken memory.old sink.old
         (on view.now.memory (load_observations (access.base + access.offset) access.width)) memory.new sink.new) }
 {
     if !view.has_memory() {
@@ -145,7 +145,7 @@ pub(crate) fn load<S: EventSink>(
 ///
 /// # Errors
 /// `NoMemory` if an allocation failed.
-#[tactic(auto, using(crate::proofs::Within::tells_nowhere))]
+#[tactic(auto, using(crate::proofs::Within::reports_nowhere))]
 #[inline]
 pub(crate) fn store<S: EventSink>(
     memory: &mut ShadowMemory,
@@ -155,7 +155,7 @@ pub(crate) fn store<S: EventSink>(
     view: &View,
 ) -> Result<(), NoMemory>
     requires { IsTrue (is_width access.width) }
-    ensures { OnOk result (TellsOfMemory S.has_taken memory.old sink.old
+    ensures { OnOk result (ReportsMemory S.has_taken memory.old sink.old
         (on view.now.memory
         (store_observations (access.base + access.offset) access.width (bytes_of access.width bits)))
         memory.new sink.new) }
@@ -180,7 +180,7 @@ pub(crate) fn resize<S: EventSink>(
     sink: &mut S,
     view: &View,
 ) -> Result<(), NoMemory>
-    ensures { OnOk result ((found : Memory → ℕ) → TellsOfMemory S.has_taken memory.old sink.old
+    ensures { OnOk result ((found : Memory → ℕ) → ReportsMemory S.has_taken memory.old sink.old
         (on view.now.memory (λ there. Resizes (found there) (pages there) ∷ [])) memory.new sink.new) }
 {
     if !view.has_memory() {
@@ -193,24 +193,24 @@ pub(crate) fn resize<S: EventSink>(
 ///
 /// # Errors
 /// `NoMemory` if an allocation failed.
-#[tactic(auto, using(crate::proofs::Within::tells_nowhere))]
+#[tactic(auto, using(crate::proofs::Within::reports_nowhere))]
 pub(crate) fn copy<S: EventSink>(
     alloc: Global,
     memory: &mut ShadowMemory,
     sink: &mut S,
-    told: (u64, u64, u64),
+    reported: (u64, u64, u64),
     view: &View,
 ) -> Result<(), NoMemory>
-    ensures { OnOk result (TellsOfMemory S.has_taken memory.old sink.old
-        (on view.now.memory (copy_observations told.0 told.1 told.2)) memory.new sink.new) }
+    ensures { OnOk result (ReportsMemory S.has_taken memory.old sink.old
+        (on view.now.memory (copy_observations reported.0 reported.1 reported.2)) memory.new sink.new) }
 {
     if !view.has_memory() {
         return Ok(());
     }
-    let (to, from, count) = told;
+    let (to, from, count) = reported;
     reach(memory, sink, end_of(from, count), view.pages())?;
     reach(memory, sink, end_of(to, count), view.pages())?;
-    copy_bytes(alloc, memory, sink, told, view.bytes())
+    copy_bytes(alloc, memory, sink, reported, view.bytes())
 }
 
 /// Takes what a copy reads and writes, if both ranges are within these bytes.
@@ -222,16 +222,17 @@ fn copy_bytes<S: EventSink>(
     alloc: Global,
     memory: &mut ShadowMemory,
     sink: &mut S,
-    told: (u64, u64, u64),
+    reported: (u64, u64, u64),
     bytes: &[u8],
 ) -> Result<(), NoMemory>
     requires { length bytes.now ≤ u32.MAX }
-    ensures { OnOk result (TellsOfMemory S.has_taken memory.old sink.old
-        (observed.on (bytes_at bytes.now told.1 told.2) (λ part.
-        observed.on (with_bytes_at bytes.now told.0 part) (λ all. Copies told.1 part ∷ Writes told.0 part ∷ [])))
+    ensures { OnOk result (ReportsMemory S.has_taken memory.old sink.old
+        (observed.on (bytes_at bytes.now reported.1 reported.2) (λ part.
+        observed.on (with_bytes_at bytes.now reported.0 part)
+        (λ all. Copies reported.1 part ∷ Writes reported.0 part ∷ [])))
         memory.new sink.new) }
 {
-    let (to, from, count) = told;
+    let (to, from, count) = reported;
     let Some(part) = range(bytes, u128::from(from), count) else {
         return Ok(());
     };
@@ -246,20 +247,21 @@ fn copy_bytes<S: EventSink>(
 ///
 /// # Errors
 /// `NoMemory` if an allocation failed.
-#[tactic(auto, using(crate::proofs::Within::tells_nowhere))]
+#[tactic(auto, using(crate::proofs::Within::reports_nowhere))]
 pub(crate) fn fill<S: EventSink>(
     memory: &mut ShadowMemory,
     sink: &mut S,
-    told: (u64, u64, u64),
+    reported: (u64, u64, u64),
     view: &View,
 ) -> Result<(), NoMemory>
-    ensures { OnOk result (TellsOfMemory S.has_taken memory.old sink.old
-        (on view.now.memory (store_observations told.0 told.2 (replicate told.2 (told.1 % 256)))) memory.new sink.new) }
+    ensures { OnOk result (ReportsMemory S.has_taken memory.old sink.old
+        (on view.now.memory (store_observations reported.0 reported.2 (replicate reported.2 (reported.1 % 256))))
+        memory.new sink.new) }
 {
     if !view.has_memory() {
         return Ok(());
     }
-    let (to, value, count) = told;
+    let (to, value, count) = reported;
     reach(memory, sink, end_of(to, count), view.pages())?;
     let Some(_there) = range(view.bytes(), u128::from(to), count) else {
         return Ok(());

@@ -7,7 +7,7 @@ ghost use Rattle.record_replay_spec.specs.Known.{entries_after};
 ghost use Rattle.record_replay_spec.specs.Logs.{unless};
 ghost use Rattle.trace_model.specs.Sink.{TookAlso};
 ghost use Rattle.trace_model.specs.declared.events.Event.TheVariants.{Table as FoundTable};
-ghost use Rattle.recorder.specs.Known.{TellsOfTables};
+ghost use Rattle.recorder.specs.Known.{ReportsTables};
 
 use base::NoMemory;
 use shadow_tables::ShadowTables;
@@ -15,7 +15,7 @@ use trace_model::{Event, EventSink};
 use wasm_syntax::Val;
 
 /// Passes the event of the table's size to the sink, if it is not the known size.
-fn tell_size<S: EventSink>(sink: &mut S, known: u32, found: u32) -> Result<(), NoMemory>
+fn report_size<S: EventSink>(sink: &mut S, known: u32, found: u32) -> Result<(), NoMemory>
     ensures { OnOk result (TookAlso S.has_taken sink.old sink.new (unless (nat_eq found known) (FoundTable found))) }
 {
     if found != known {
@@ -37,7 +37,7 @@ pub(crate) fn reach_entry<S: EventSink>(
     found: u32,
 ) -> Result<(), NoMemory>
     requires { length tables.old.entries ≤ found }
-    ensures tells { OnOk result ((n : ℕ) → TellsOfTables S.has_taken n tables.old sink.old
+    ensures reports { OnOk result ((n : ℕ) → ReportsTables S.has_taken n tables.old sink.old
         (ReachesEntry index found ∷ []) tables.new sink.new) }
     ensures entries { OnOk result (length tables.new.entries
         ≡ entries_after (length tables.old.entries) (ReachesEntry index found)) }
@@ -47,7 +47,7 @@ pub(crate) fn reach_entry<S: EventSink>(
     if index < u64::from(known) {
         return Ok(());
     }
-    tell_size(sink, known, found)?;
+    report_size(sink, known, found)?;
     tables.set_known_size(found)
 }
 
@@ -66,8 +66,8 @@ pub(crate) fn find_entry<S: EventSink>(
     callee: Option<u32>,
 ) -> Result<(), NoMemory>
     requires { index < length tables.old.entries }
-    ensures tells { OnOk result ((n : ℕ) → option_and_then (original n) func ≡ callee
-        → TellsOfTables S.has_taken n tables.old sink.old (ReadsEntry index func ∷ []) tables.new sink.new) }
+    ensures reports { OnOk result ((n : ℕ) → option_and_then (original n) func ≡ callee
+        → ReportsTables S.has_taken n tables.old sink.old (ReadsEntry index func ∷ []) tables.new sink.new) }
     ensures entries { OnOk result (length tables.new.entries ≡ length tables.old.entries) }
     ensures globals { tables.new.globals ≡ tables.old.globals }
 {
@@ -94,7 +94,7 @@ pub(crate) fn find_global<S: EventSink>(
     value: Val,
 ) -> Result<(), NoMemory>
     requires { option_map (λ known. known.ty) (slice_get tables.old.globals global) ≡ Some value.ty }
-    ensures tells { OnOk result ((n : ℕ) → TellsOfTables S.has_taken n tables.old sink.old
+    ensures reports { OnOk result ((n : ℕ) → ReportsTables S.has_taken n tables.old sink.old
         (ReadsGlobal global value ∷ []) tables.new sink.new) }
     ensures entries { tables.new.entries ≡ tables.old.entries }
     ensures globals { map (λ known. known.ty) tables.new.globals ≡ map (λ known. known.ty) tables.old.globals }

@@ -184,12 +184,6 @@ module _ (m : Module) (valid : All IsFuncType m.types) where
         calls_arms calls,
       )
 
-  activations_append : (first later : List (List Segment))
-      → activations_cost 9 segment_cost (first ++ later)
-      ≡ activations_cost 9 segment_cost first + activations_cost 9 segment_cost later
-  activations_append [] later = omega arith
-  activations_append (segments ∷ first) later = let e = activations_append first later in omega (arith, e)
-
   part_cost : (count : ℕ) (calls : List (List Segment))
       → activations_cost 9 segment_cost (take count calls) + activations_cost 9 segment_cost (drop count calls)
       ≡ activations_cost 9 segment_cost calls

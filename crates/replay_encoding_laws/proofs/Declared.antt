@@ -4,12 +4,10 @@ use Rattle.std.specs.Prelude.{◌||◌, filter, nat_eq}
 use Rattle.std.specs.List.{AllByRecursion, Contains, list_any, range_with_len, slice_index_or}
 use Rattle.std.proofs.lemmas.Bool.Decides.{nat_tests}
 use Rattle.std.proofs.lemmas.List.Elements.{All-contains, All-from_recursion}
+use Rattle.std.proofs.lemmas.Bool.{eqb-true}
 use Rattle.wasm_syntax.specs.declared.modules.Func.{Func}
 use Rattle.replay_module_spec.specs.Fragments.{referred_funcs, referred_once}
 use Rattle.replay_module_laws.proofs.Declarations.{any_filter, in_range}
-
-equal : (func x : ℕ) → nat_eq func x ≡ true → func ≡ x
-equal func x e = grind (arith, nat_tests, e)
 
 -- ---- membership in a list, and the test of it
 
@@ -19,7 +17,7 @@ any_contains func (x ∷ xs) h = go (nat_eq func x) refl h (any_contains func xs
   where
     go : (b : Bool) → nat_eq func x ≡ b → (b || list_any (nat_eq func) xs) ≡ true
         → (list_any (nat_eq func) xs ≡ true → Contains xs func) → Contains (x ∷ xs) func
-    go true e h' later = (0, omega arith, sym (equal func x e))
+    go true e h' later = (0, omega arith, sym (eqb-true func x e))
     go false e h' later = let there = later h' in (suc there.0, (let low = there.1 in omega (arith, low)), there.2)
 
 contains_any : (func : ℕ) (xs : List ℕ) (place : ℕ) → place < length xs → slice_index_or xs place func ≡ func
@@ -43,7 +41,7 @@ filter_passes func test (x ∷ xs) h = go (test x) refl h (filter_passes func te
     first : (b : Bool) → nat_eq func x ≡ b → test x ≡ true
         → (b || list_any (nat_eq func) (filter test xs)) ≡ true
         → (list_any (nat_eq func) (filter test xs) ≡ true → test func ≡ true) → test func ≡ true
-    first true e passes h' later = subst (λ n. test n ≡ true) (sym (equal func x e)) passes
+    first true e passes h' later = subst (λ n. test n ≡ true) (sym (eqb-true func x e)) passes
     first false e passes h' later = later h'
 
     go : (b : Bool) → test x ≡ b → list_any (nat_eq func) (cond b (x ∷ filter test xs) (filter test xs)) ≡ true

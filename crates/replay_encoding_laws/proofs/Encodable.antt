@@ -11,7 +11,7 @@ use Rattle.base.proofs.Booleans.{and_right}
 use Rattle.base.proofs.Lists.{joined_all}
 use Rattle.base.proofs.Options.{cond_some}
 use Rattle.wasm_syntax.specs.declared.forms.Form.TheVariants.{Replay}
-use Rattle.wasm_syntax.specs.declared.limits.TheConstants.{MOST_ENTRIES}
+use Rattle.wasm_syntax.specs.declared.limits.TheConstants.{MAX_ENTRIES}
 use Rattle.wasm_syntax.specs.declared.values.Val.{Val}
 use Rattle.wasm_syntax.specs.declared.values.ValType.{ValType}
 use Rattle.wasm_syntax.specs.declared.values.ValType.TheVariants.{I32, I64, F32, F64, FuncRef}
@@ -177,12 +177,12 @@ memories_fit : (memories : List Limits) → AllByRecursion IsMemory memories →
 memories_fit [] valid = tt
 memories_fit (limits ∷ memories) valid = (memory_fits limits valid.0, memories_fit memories valid.1)
 
-given_fits : (least : ℕ) (max : Option ℕ) → least ≤ MOST_ENTRIES → IfSome max (λ max. max < 2 ^ 32)
+given_fits : (least : ℕ) (max : Option ℕ) → least ≤ MAX_ENTRIES → IfSome max (λ max. max < 2 ^ 32)
     → FitsBounds least max
 given_fits least None small stated = omega (arith, small)
 given_fits least (Some max) small stated = (omega (arith, small), stated)
 
-tables_fit : (imports defined : List Limits) (supplied : Option Limits) → Match MOST_ENTRIES imports supplied
+tables_fit : (imports defined : List Limits) (supplied : Option Limits) → Match MAX_ENTRIES imports supplied
     → IfSome supplied (λ limits. IfSome limits.max (λ max. max < 2 ^ 32)) → AllByRecursion FitsLimits defined
     → AllByRecursion FitsLimits (option_to_list (limits_of imports supplied defined))
 tables_fit [] [] supplied matches stated fit = tt
@@ -191,8 +191,8 @@ tables_fit (wanted ∷ imports) defined None matches stated fit = absurd matches
 tables_fit (wanted ∷ imports) defined (Some given) matches stated fit =
     let last =
     and_right (nat_le wanted.min given.min && keeps_max given.max wanted.max && is_within given.min given.max)
-    (nat_le given.min MOST_ENTRIES) matches in
-    let small : given.min ≤ MOST_ENTRIES = grind (arith, nat_tests, last) in
+    (nat_le given.min MAX_ENTRIES) matches in
+    let small : given.min ≤ MAX_ENTRIES = grind (arith, nat_tests, last) in
     (given_fits given.min given.max small stated, tt)
 
 -- ---- functions
@@ -271,7 +271,7 @@ replay_funcs m supply plan =
 
 pub replay_encodable : (m : Module) (supply : Supply) (plan : Plan) → IsEncodable Replay m
     → IsValid (replay_module m supply (fragment_of m plan)) → FitsIndices m plan → PlanFits m plan
-    → Match MOST_ENTRIES (of_kind table_import m.imports) supply.table
+    → Match MAX_ENTRIES (of_kind table_import m.imports) supply.table
     → IfSome supply.table (λ limits. IfSome limits.max (λ max. max < 2 ^ 32))
     → IsEncodable Replay (replay_module m supply (fragment_of m plan))
 replay_encodable m supply plan own valid small fits matches stated =

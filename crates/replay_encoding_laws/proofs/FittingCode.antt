@@ -11,7 +11,7 @@ use Rattle.base.proofs.Lists.{joined_all}
 use Rattle.base.proofs.Options.{and_then_some}
 use Rattle.base.specs.declared.opcodes.TheConstants.{I32_STORE, I64_STORE32}
 use Rattle.wasm_syntax.specs.declared.forms.Form.TheVariants.{Replay}
-use Rattle.wasm_syntax.specs.declared.limits.TheConstants.{MOST_ENTRIES, MOST_PAGES, PAGE_SIZE}
+use Rattle.wasm_syntax.specs.declared.limits.TheConstants.{MAX_ENTRIES, MAX_PAGES, PAGE_SIZE}
 use Rattle.wasm_syntax.specs.declared.values.Val.{Val}
 use Rattle.wasm_syntax.specs.declared.values.ValType.{ValType}
 use Rattle.wasm_syntax.specs.declared.values.ValType.TheVariants.{I32, I64, F32, F64, FuncRef}
@@ -115,17 +115,17 @@ module _ (m : Module) (funcs : length (func_indices m) < 2 ^ 32) (globals : leng
   effect_fitting : (effect : Effect) → effect_fits m effect ≡ true → IsConstantEffect effect
       → AreFitting (effect_code effect)
   effect_fitting (Grow pages) fits are =
-      let there = memory_there MOST_PAGES pages (all_memories m) fits in
+      let there = memory_there MAX_PAGES pages (all_memories m) fits in
       let small = there.1 in
       (omega (arith, small), (tt, (refl, (tt, (tt, tt)))))
   effect_fitting (Table size) fits are =
-      let there = memory_there MOST_ENTRIES size (all_tables m) fits in
+      let there = memory_there MAX_ENTRIES size (all_tables m) fits in
       let small = there.1 in
       (tt, (omega (arith, small), ((tt, omega arith), (refl, ((tt, omega arith), (tt, tt))))))
   effect_fitting (Bytes addr bytes) fits are =
       let second =
-      (and_parts (nat_lt 0 (length (all_memories m))) (nat_le (addr + length bytes) (MOST_PAGES * PAGE_SIZE)) fits).1 in
-      let within : addr + length bytes ≤ MOST_PAGES * PAGE_SIZE = grind (arith, nat_tests, second) in
+      (and_parts (nat_lt 0 (length (all_memories m))) (nat_le (addr + length bytes) (MAX_PAGES * PAGE_SIZE)) fits).1 in
+      let within : addr + length bytes ≤ MAX_PAGES * PAGE_SIZE = grind (arith, nat_tests, second) in
       let all = counts_of_all (length bytes) in
       stores_fit (store_widths (length bytes)) addr bytes (omega (arith, within, all)) are
   effect_fitting (Entry index func) fits are =

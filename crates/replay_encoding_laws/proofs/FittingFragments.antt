@@ -6,7 +6,7 @@ use Rattle.std.proofs.lemmas.Bool.Decides.{nat_tests}
 use Rattle.std.proofs.lemmas.List.Elements.{All-from_recursion, recursion_from_All}
 use Rattle.base.proofs.Booleans.{and_true}
 use Rattle.base.proofs.Lists.{get_after_by, get_front, item_there, joined_all}
-use Rattle.wasm_syntax.specs.declared.limits.TheConstants.{MOST_ENTRIES, MOST_LOCALS, MOST_PAGES, MOST_PARAMETERS}
+use Rattle.wasm_syntax.specs.declared.limits.TheConstants.{MAX_ENTRIES, MAX_LOCALS, MAX_PAGES, MAX_PARAMETERS}
 use Rattle.wasm_syntax.specs.declared.signatures.FuncType.{FuncType}
 use Rattle.wasm_syntax.specs.declared.signatures.GlobalType.{GlobalType}
 use Rattle.wasm_syntax.specs.declared.signatures.Limits.{Limits}
@@ -26,6 +26,7 @@ use Rattle.type_safety.specs.Stores.{func_count}
 use Rattle.type_safety.specs.Values.{AreValues}
 use Rattle.type_safety.proofs.Quantities.{small_memories, small_tables}
 use Rattle.type_safety.proofs.Values.{zero_values}
+use Rattle.type_safety.proofs.Supplies.{max_kept}
 use Rattle.replay_module_spec.specs.declared.plans.Plan.{Plan}
 use Rattle.replay_module_spec.specs.Functions.{appended_types, group_count, group_func, group_funcs, groups, import_funcs, start_func}
 use Rattle.replay_module_spec.specs.Fragments.{counter, fragment_of, helper_funcs, import_bodies, import_types, start_index}
@@ -39,10 +40,6 @@ use Rattle.replay_encoding_laws.proofs.Declared.{declared_are}
 use Rattle.replay_encoding_laws.proofs.FragmentReferences.{referred_below, replay_refers}
 
 -- ---- each import as it is declared
-
-max_kept : (max : Option ℕ) → keeps_max max max ≡ true
-max_kept None = refl
-max_kept (Some max) = grind (arith, nat_tests)
 
 max_within : (range least : ℕ) (max : Option ℕ) → IfSome max (λ max. (max ≤ range) × (least ≤ max))
     → is_within least max ≡ true
@@ -116,15 +113,15 @@ pub declared_supplies : (m : Module) → IsValid m → IsSupported m → IsSuppl
 declared_supplies m valid supported =
     let imports = recursion_from_All (λ (i : Import). IsImport m i.kind) m.imports valid.outside.imports in
     record {
-      memory = first_matches MOST_PAGES (2 ^ 16) (of_kind memory_import m.imports)
+      memory = first_matches MAX_PAGES (2 ^ 16) (of_kind memory_import m.imports)
           (imported_memories m m.imports imports)
-          (front_all (λ (limits : Limits). limits.min ≤ MOST_PAGES) (of_kind memory_import m.imports) m.memories
-          (recursion_from_All (λ (limits : Limits). limits.min ≤ MOST_PAGES) (all_memories m)
+          (front_all (λ (limits : Limits). limits.min ≤ MAX_PAGES) (of_kind memory_import m.imports) m.memories
+          (recursion_from_All (λ (limits : Limits). limits.min ≤ MAX_PAGES) (all_memories m)
           (small_memories m supported)));
-      table = first_matches MOST_ENTRIES (2 ^ 32) (of_kind table_import m.imports)
+      table = first_matches MAX_ENTRIES (2 ^ 32) (of_kind table_import m.imports)
           (imported_tables m m.imports imports)
-          (front_all (λ (limits : Limits). limits.min ≤ MOST_ENTRIES) (of_kind table_import m.imports) m.tables
-          (recursion_from_All (λ (limits : Limits). limits.min ≤ MOST_ENTRIES) (all_tables m)
+          (front_all (λ (limits : Limits). limits.min ≤ MAX_ENTRIES) (of_kind table_import m.imports) m.tables
+          (recursion_from_All (λ (limits : Limits). limits.min ≤ MAX_ENTRIES) (all_tables m)
           (small_tables m supported)));
       globals =
           subst (λ l. AreValues (func_count m) (map (λ (g : GlobalType). g.ty) (imported_globals m)) l)
@@ -168,7 +165,7 @@ imports_typed m plan counter first (ty ∷ types) (own ∷ calls) long there =
 -- ---- locals
 
 abbrev HasFewLocals : Func → Type 0
-HasFewLocals func = count_of_locals func ≤ MOST_LOCALS
+HasFewLocals func = count_of_locals func ≤ MAX_LOCALS
 
 imports_few : (m : Module) (counter first : ℕ) (types : List ℕ) (calls : List (List (List Segment)))
     → AllByRecursion HasFewLocals (import_funcs m counter first types calls)
@@ -209,7 +206,7 @@ around_all P xs ys zs all =
     joined_all P xs zs (front_all P xs (ys ++ zs) all) (after_all P ys zs (after_all P xs (ys ++ zs) all))
 
 appended_fit : (m : Module) (types : List FuncType) → AllByRecursion IsFuncType types
-    → AllByRecursion (λ (ty : FuncType). length ty.params ≤ MOST_PARAMETERS) types → AllByRecursion IsAppendedType types
+    → AllByRecursion (λ (ty : FuncType). length ty.params ≤ MAX_PARAMETERS) types → AllByRecursion IsAppendedType types
 appended_fit m [] valid few = tt
 appended_fit m (ty ∷ types) valid few = (record { valid = valid.0; params = few.0 }, appended_fit m types valid.1 few.1)
 

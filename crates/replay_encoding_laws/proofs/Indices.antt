@@ -3,7 +3,7 @@ use Rattle.std.proofs.Common.{◌≡◌, ℕ, ◌+◌, ◌*◌, ◌^◌, ◌<◌
 use Rattle.std.specs.Prelude.{All}
 use Rattle.std.proofs.lemmas.Bool.{cases_lt}
 use Rattle.std.proofs.lemmas.List.{get_or_past, length-append}
-use Rattle.wasm_syntax.specs.declared.limits.TheConstants.{MOST_FILE_BYTES}
+use Rattle.wasm_syntax.specs.declared.limits.TheConstants.{MAX_TAPE_WEIGHT, MAX_FILE_BYTES}
 use Rattle.wasm_syntax.specs.declared.signatures.FuncType.{FuncType}
 use Rattle.wasm_syntax.specs.declared.modules.Import.{Import}
 use Rattle.wasm_syntax.specs.declared.modules.ImportKind.{ImportKind}
@@ -13,8 +13,9 @@ use Rattle.wasm_syntax.specs.Index.{imported_funcs}
 use Rattle.wasm_syntax.specs.Encoding.Shortest.{bounds_bytes, data_bytes, elem_bytes, encoding_of, global_bytes, global_type_bytes, import_bytes, import_kind_bytes, limits_bytes, sized_bytes}
 use Rattle.wasm_syntax.proofs.Encoding.NotEmpty.{data_bytes_some, elem_bytes_some, global_bytes_some}
 use Rattle.wasm_syntax.specs.ListsWithin.{HasListsWithin}
-use Rattle.wasm_syntax.proofs.ItemLists.{items, items_cons, items_nil, items_some, sized_length, u32_some}
+use Rattle.wasm_syntax.proofs.ItemLists.{items, items_cons, items_nil, items_some, sized_length}
 use Rattle.wasm_syntax.proofs.SectionLists.{encoding_least, encoding_parts}
+use Rattle.wasm_syntax.proofs.Encoding.Writing.{u32_some}
 use Rattle.trace_model.specs.declared.tapes.Segment.{Segment}
 use Rattle.trace_model.specs.declared.tapes.Tape.{Tape}
 use Rattle.trace_model.specs.Weight.{tape_weight}
@@ -23,7 +24,7 @@ use Rattle.replay_module_spec.specs.Functions.{original_type, start_type}
 use Rattle.replay_module_spec.specs.Fragments.{import_types}
 use Rattle.replay_gen.specs.Bounds.{FitsIndices}
 use Rattle.replay_gen.specs.Pieces.{group_total}
-use Rattle.replay_module_spec.specs.Size.{most_bytes}
+use Rattle.replay_module_spec.specs.Size.{max_bytes}
 use Rattle.replay_encoding_laws.proofs.Plans.{activations_cost, all_cost, calls_cost, plan_cost}
 use Rattle.replay_encoding_laws.proofs.Modules.{globals_are_all, imported_most, segments_weigh}
 use Rattle.replay_encoding_laws.proofs.Sizes.{no_part}
@@ -109,8 +110,8 @@ parts_few m =
 
 -- ---- the bound
 
-pub bound_small : (m : Module) (tape : Tape) → length (encoding_of m) ≤ MOST_FILE_BYTES → tape_weight tape < 2 ^ 21
-    → most_bytes m (tape_weight tape) < 2 ^ 29
+pub bound_small : (m : Module) (tape : Tape) → length (encoding_of m) ≤ MAX_FILE_BYTES → tape_weight tape ≤ MAX_TAPE_WEIGHT
+    → max_bytes m (tape_weight tape) < 2 ^ 29
 bound_small m tape short weight = omega (
   arith,
   short,
@@ -132,7 +133,7 @@ params_few most m within few ty = elim (cases_lt ty (length m.types)) [
 ]
 
 pub indices_fit : (bytes : List ℕ) (m : Module) (tape : Tape) → HasListsWithin (length bytes) m
-    → length (encoding_of m) ≤ length bytes → length bytes ≤ MOST_FILE_BYTES → tape_weight tape < 2 ^ 21
+    → length (encoding_of m) ≤ length bytes → length bytes ≤ MAX_FILE_BYTES → tape_weight tape ≤ MAX_TAPE_WEIGHT
     → FitsIndices m (plan_of (imported_funcs m) tape)
 indices_fit bytes m tape within least few weight = record {
   types = let parts = within.parts in omega (arith, parts, few);

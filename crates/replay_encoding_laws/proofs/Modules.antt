@@ -28,15 +28,14 @@ use Rattle.wasm_syntax.specs.Encoding.Modules.{code_of}
 use Rattle.wasm_syntax.specs.Encoding.Sections.{CustomSection}
 use Rattle.wasm_syntax.specs.Encoding.Shortest.{body_bytes, bounds_bytes, code_bytes, content_bytes, custom_bytes, data_bytes, elem_bytes, export_bytes, export_kind_bytes, func_type_bytes, global_bytes, global_type_bytes, instr_bytes, limits_bytes, sized_bytes, table_type_bytes, vector_bytes}
 use Rattle.wasm_syntax.proofs.ItemLists.{items, items_as, items_cons, items_nil, sized_length, u32_most, vector_length}
-use Rattle.trace_model.specs.declared.tapes.Next.{Next}
-use Rattle.trace_model.specs.declared.tapes.Next.TheVariants.{Call, Return, End as Ends, Trap}
 use Rattle.trace_model.specs.declared.tapes.Segment.{Segment}
-use Rattle.trace_model.specs.Weight.{next_weight, segment_weight}
+use Rattle.trace_model.specs.Weight.{segment_weight}
 use Rattle.history_spec.specs.Code.{i32_value, zero_of}
 use Rattle.history_spec.specs.Instantiation.{constant, global_value}
 use Rattle.replay_module_spec.specs.Functions.{appended_types}
 use Rattle.replay_module_spec.specs.Fragments.{counter}
 use Rattle.replay_module_spec.specs.Merge.{constant_body, constant_data, constant_elem, constant_global, constant_offset, declaration, layout_section, supplied_global}
+use Rattle.replay_module_laws.proofs.FittingPlans.{next_weighs}
 use Rattle.replay_encoding_laws.proofs.Instructions.{const_cost, cost_is, indices_most, fixed}
 use Rattle.replay_encoding_laws.proofs.Plans.{all_cost}
 use Rattle.replay_encoding_laws.proofs.Segments.{segment_cost}
@@ -259,13 +258,6 @@ layout_most m = omega (
 
 -- ---- weights
 
-next_some : (next : Next) → 1 ≤ next_weight next
-next_some (Call func args) = omega arith
-next_some (Return None) = omega arith
-next_some (Return (Some value)) = omega arith
-next_some Ends = omega arith
-next_some Trap = omega arith
-
 -- the weight of segments: each weighs at least one, and at least what its code costs
 pub record SegmentsWeigh (segments : List Segment) : Type 0 where
   pub count : length segments ≤ sum_by segment_weight segments
@@ -275,7 +267,7 @@ pub segments_weigh : (segments : List Segment) → SegmentsWeigh segments
 segments_weigh [] = record { count = omega arith; cost = omega arith }
 segments_weigh (segment ∷ segments) =
     let sum = sum_by-cons segment_weight segment segments in
-    let one = next_some segment.next in
+    let one = next_weighs segment.next in
     let later = segments_weigh segments in
     record {
       count = (let more = later.count in omega (arith, sum, one, more));

@@ -1,5 +1,5 @@
 -- The number of functions to which bodies refer, each counted once, is at most the number of references.
-use Rattle.std.proofs.Common.{◌≡◌, ℕ, zero, suc, ◌+◌, ◌*◌, ◌<◌, ◌≤◌, ◌⊎◌, inl, inr, List, [], ◌∷◌, ◌++◌, length, Bool, true, false, cond, refl, arith}
+use Rattle.std.proofs.Common.{◌≡◌, ℕ, zero, suc, ◌+◌, ◌*◌, ◌<◌, ◌≤◌, ◌⊎◌, inl, inr, List, [], ◌∷◌, length, Bool, true, false, cond, refl, arith}
 use Rattle.std.specs.Prelude.{filter, filter_map, nat_eq}
 use Rattle.std.specs.List.{AllByRecursion, cons_option, list_any, range_with_len}
 use Rattle.std.proofs.lemmas.Bool.Decides.{nat_tests}
@@ -106,10 +106,6 @@ total_marks_are (func ∷ funcs) =
     let own = marks_are func.body in
     let later = total_marks_are funcs in
     omega (arith, both, own, later)
-
-pub total_append : (first later : List Func) → total_marks (first ++ later) ≡ total_marks first + total_marks later
-total_append [] later = omega arith
-total_append (func ∷ first) later = let e = total_append first later in omega (arith, e)
 
 -- a module of the form Core has no marks
 core_marks : (body : List Instr) → AreCoreInstrs body → all_marks body ≡ 0

@@ -22,7 +22,7 @@ use Rattle.replay_module_spec.specs.Plans.{plan_of}
 use Rattle.replay_module_spec.specs.Functions.{appended_types}
 use Rattle.replay_module_spec.specs.Fragments.{counter, fragment_of, helper_funcs, import_bodies, import_types, referred_funcs, referred_once, start_index}
 use Rattle.replay_module_spec.specs.Merge.{constant_data, constant_elem, constant_global, declaration, layout_section, memory_written, replay_module, supplied_global}
-use Rattle.replay_module_spec.specs.Size.{most_bytes}
+use Rattle.replay_module_spec.specs.Size.{max_bytes}
 use Rattle.replay_encoding_laws.proofs.Plans.{plan_cost}
 use Rattle.replay_encoding_laws.proofs.Segments.{segment_cost}
 use Rattle.replay_encoding_laws.proofs.Bodies.{funcs_append, funcs_cost, funcs_most, start_most}
@@ -125,7 +125,7 @@ globals_whole m supply =
 
 pub replay_most : (m : Module) (supply : Supply) (tape : Tape) → IsValid m → IsCoreModule m
     → length (encoding_of (replay_module m supply (fragment_of m (plan_of (imported_funcs m) tape))))
-    ≤ most_bytes m (tape_weight tape)
+    ≤ max_bytes m (tape_weight tape)
 replay_most m supply tape valid core =
     let plan = plan_of (imported_funcs m) tape in
     let bodies = import_bodies m plan in

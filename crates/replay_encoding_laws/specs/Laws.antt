@@ -1,6 +1,7 @@
 -- The laws of the sizes of replay modules: their indices have 32 bits, and they have short encodings.
 use Rattle.std.specs.Prelude.{ℕ, ◌^◌, ◌<◌, ◌≤◌, List, length}
 use Rattle.wasm_syntax.specs.declared.forms.Form.TheVariants.{Replay}
+use Rattle.wasm_syntax.specs.declared.limits.TheConstants.{MAX_TAPE_WEIGHT}
 use Rattle.wasm_syntax.specs.declared.modules.Module.{Module}
 use Rattle.wasm_syntax.specs.Encoding.Encodable.{IsEncodable}
 use Rattle.wasm_syntax.specs.Encoding.Forms.{IsCoreModule}
@@ -14,7 +15,7 @@ use Rattle.replay_module_spec.specs.Plans.{plan_of}
 use Rattle.replay_module_spec.specs.Fragments.{fragment_of}
 use Rattle.replay_gen.specs.Bounds.{FitsIndices}
 use Rattle.replay_module_spec.specs.Merge.{replay_module}
-use Rattle.replay_module_spec.specs.Size.{most_bytes}
+use Rattle.replay_module_spec.specs.Size.{max_bytes}
 use Rattle.replay_encoding_laws.specs.Premises.{IsFromFile, IsTakenSupply, IsTakenTape}
 
 -- with the generated parts of a tape, all indices have 32 bits
@@ -35,10 +36,10 @@ abbrev pub ReplayModulesAreShort : Type 0
 ReplayModulesAreShort =
     (m : Module) (supply : Supply) (tape : Tape) → IsValid m → IsCoreModule m
     → length (encoding_of (replay_module m supply (fragment_of m (plan_of (imported_funcs m) tape))))
-    ≤ most_bytes m (tape_weight tape)
+    ≤ max_bytes m (tape_weight tape)
 
 -- the bound is within the greatest length of a file of a replay module
 abbrev pub BoundsAreShort : Type 0
 BoundsAreShort =
-    (bytes : List ℕ) (m : Module) (tape : Tape) → IsFromFile bytes m → tape_weight tape < 2 ^ 21
-    → most_bytes m (tape_weight tape) < 2 ^ 29
+    (bytes : List ℕ) (m : Module) (tape : Tape) → IsFromFile bytes m → tape_weight tape ≤ MAX_TAPE_WEIGHT
+    → max_bytes m (tape_weight tape) < 2 ^ 29

@@ -2,7 +2,7 @@
 -- tape.
 use Rattle.std.specs.Prelude.{ℕ, ◌^◌, ◌<◌, ◌≤◌, List, length, IfSome}
 use Rattle.wasm_syntax.specs.declared.forms.Form.TheVariants.{Core}
-use Rattle.wasm_syntax.specs.declared.limits.TheConstants.{MOST_FILE_BYTES}
+use Rattle.wasm_syntax.specs.declared.limits.TheConstants.{MAX_TAPE_WEIGHT, MAX_FILE_BYTES}
 use Rattle.wasm_syntax.specs.declared.modules.Module.{Module}
 use Rattle.wasm_syntax.specs.Encoding.Modules.{Encodes}
 use Rattle.wasm_syntax.specs.Validity.{IsValid}
@@ -17,13 +17,13 @@ use Rattle.replay_module_laws.specs.Written.{IsConstantTape}
 pub record IsFromFile (bytes : List ℕ) (m : Module) : Type 0 where
   pub encoded : Encodes Core bytes m
   pub valid : IsValid m
-  pub few : length bytes ≤ MOST_FILE_BYTES
+  pub few : length bytes ≤ MAX_FILE_BYTES
 
 -- a tape of constants that fits the module, with at most the allowed weight
 pub record IsTakenTape (m : Module) (tape : Tape) : Type 0 where
   pub fits : IsFitting m tape
   pub constants : IsConstantTape tape
-  pub weight : tape_weight tape < 2 ^ 21
+  pub weight : tape_weight tape ≤ MAX_TAPE_WEIGHT
 
 -- a supply that matches the module's imports; a maximum of its table has 32 bits
 pub record IsTakenSupply (m : Module) (supply : Supply) : Type 0 where

@@ -48,9 +48,6 @@ module _ (encoding : IsEncoding EncodesU32 first_u32 (λ n. n < 2 ^ 32) u32_byte
 
   -- ---- bytes that are read
 
-  pub no_first : (bytes : List ℕ) (layout : Layout) → first_u32 bytes ≡ None → AreLayoutBytes bytes layout → ⊥
-  no_first bytes layout none h = none-some (first_u32 bytes) layout.imports (u32_bytes layout.defined) none (first_read bytes layout h)
-
   module _ (bytes : List ℕ) (imports next : ℕ) (read : first_u32 bytes ≡ Some (imports, drop next bytes)) (layout : Layout) (h : AreLayoutBytes bytes layout) where
     rest : drop next bytes ≡ u32_bytes layout.defined
     rest = same-rest (first_u32 bytes) imports layout.imports (drop next bytes) (u32_bytes layout.defined) read (first_read bytes layout h)
@@ -95,5 +92,5 @@ pub too-many : (one : LayoutBytesAreOne) (m : Module) (section : Custom) (own la
     → AreLayoutBytes section.bytes own → length (func_indices m) < own.imports + own.defined → HasLayout m layout → ⊥
 too-many one m section own layout only bytes many h =
     let same : h.section ≡ section = same-section (layout_sections m) h.section section h.only only in
-    let told : layout ≡ own = one section.bytes layout own (subst (λ (section : Custom). AreLayoutBytes section.bytes layout) same h.bytes) bytes in
-    absurd (omega (arith, many, subst (λ (layout : Layout). layout.imports + layout.defined ≤ length (func_indices m)) told h.within))
+    let known : layout ≡ own = one section.bytes layout own (subst (λ (section : Custom). AreLayoutBytes section.bytes layout) same h.bytes) bytes in
+    absurd (omega (arith, many, subst (λ (layout : Layout). layout.imports + layout.defined ≤ length (func_indices m)) known h.within))

@@ -1,12 +1,11 @@
 -- Laws on the functions that bodies refer to.
-use Rattle.std.proofs.Common.{◌≡◌, ◌∙◌, refl, ap, sym, append_assoc, ℕ, suc, zero, ◌+◌, ◌<◌, List, [], ◌∷◌, ◌++◌, length, take, get_or, replicate, Option, Some, None, Bool, false, cond, filter, filter_map, arith}
+use Rattle.std.proofs.Common.{◌≡◌, ◌∙◌, refl, ap, sym, append_assoc, ℕ, suc, zero, ◌+◌, ◌<◌, List, [], ◌∷◌, ◌++◌, length, take, get_or, Option, Some, None, Bool, cond, filter, filter_map, arith}
 use Rattle.std.specs.List.{cons_option, range_with_len}
 use Rattle.std.proofs.lemmas.Grind.{flat_map-append}
-use Rattle.std.proofs.lemmas.List.{take_more, flat_map_more, map-id, length-replicate, get_or-replicate}
+use Rattle.std.proofs.lemmas.List.{take_more, flat_map_more, map-id}
 use Rattle.std.proofs.lemmas.List.FromFn.{filter_of_map_range_with_len_more}
 use Rattle.wasm_syntax.specs.declared.modules.Func.{Func}
 use Rattle.wasm_syntax.specs.declared.instructions.Instr.{Instr}
-use Rattle.module_index.specs.Marks.{AreMarks}
 use Rattle.replay_module_spec.specs.Fragments.{referred_func, referred_funcs}
 
 picked_before : (o : Option ℕ) (xs ys : List ℕ) → cons_option o (xs ++ ys) ≡ cons_option o xs ++ ys
@@ -44,12 +43,6 @@ referred_of_all bodies own helpers =
     append_assoc (referred_funcs bodies) (referred_funcs own) (referred_funcs helpers)
     ∙ (ap (λ l. referred_funcs bodies ++ l) (sym (flat_map-append (λ (f : Func). filter_map referred_func f.body) own helpers))
     ∙ sym (flat_map-append (λ (f : Func). filter_map referred_func f.body) bodies (own ++ helpers)))
-
-pub no_marks : (count : ℕ) (marks : List Bool) → marks ≡ replicate count false → AreMarks marks count []
-no_marks count marks is = record {
-  many = ap length is ∙ length-replicate count false;
-  each = λ f lt. ap (λ l. get_or l f false) is ∙ get_or-replicate count f false false lt;
-}
 
 -- ---- marked numbers
 

@@ -1,11 +1,12 @@
 -- Laws on stores: the widest one comes first.
-use Rattle.std.proofs.Common.{◌≡◌, ◌∙◌, refl, ap, sym, append_assoc, ℕ, zero, suc, ◌+◌, ◌-◌, ◌*◌, ◌/◌, ◌%◌, ◌<◌, ◌≤◌, List, [], ◌∷◌, ◌++◌, replicate, length, drop, take, arith, length-append, length-drop}
+use Rattle.std.proofs.Common.{◌≡◌, ◌∙◌, refl, ap, sym, append_assoc, ℕ, zero, suc, ◌+◌, ◌-◌, ◌/◌, ◌%◌, ◌<◌, ◌≤◌, List, ◌∷◌, ◌++◌, replicate, length, drop, take, arith, length-append, length-drop}
 use Rattle.std.specs.Int.{w64, from_le_bytes}
 use Rattle.std.proofs.lemmas.List.{drop-replicate}
 use Rattle.std.proofs.lemmas.Bool.{cond-true, le-leb}
 use Rattle.wasm_syntax.specs.declared.values.ValType.{ValType}
 use Rattle.wasm_syntax.specs.declared.instructions.Instr.{Instr}
 use Rattle.history_spec.specs.Store.{number_of}
+use Rattle.history_spec.proofs.ByteNumbers.{number_of-zeros, from_le_bytes-number_of}
 use Rattle.replay_module_spec.specs.Effects.{Width, Eight, Four, Two, One, byte_count, store_type, store_opcode, store_code, store_widths, stores_code}
 use Rattle.replay_gen.specs.Pieces.{store_of, widest}
 
@@ -69,20 +70,11 @@ store_more rest part after at width number op ty before now whole some width-is 
 
 -- ---- numbers
 
-zeros_above : (bytes : List ℕ) (k : ℕ) → number_of (bytes ++ replicate k 0) ≡ number_of bytes
-zeros_above [] zero = refl
-zeros_above [] (suc k) = let e : number_of (replicate k 0) ≡ 0 = zeros_above [] k in omega arith
-zeros_above (b ∷ bs) k = ap (λ n. b + 256 * n) (zeros_above bs k)
-
-of_eight : (bytes : List ℕ) → length bytes ≡ 8 → from_le_bytes w64 bytes ≡ number_of bytes
-of_eight (a ∷ b ∷ c ∷ d ∷ e ∷ f ∷ g ∷ h ∷ []) is_8 = omega arith
-of_eight bytes is_8 = absurd (omega arith)
-
 -- the number of a word whose lowest bytes these are, all others being 0
 pub number_of_word : (bytes part : List ℕ) (number : ℕ) → length bytes ≤ 8 → part ≡ bytes
     → number ≡ from_le_bytes w64 (part ++ drop (length bytes) (replicate 8 0)) → number ≡ number_of bytes
 number_of_word bytes part number small same is =
     is ∙ (ap (λ (p : List ℕ). from_le_bytes w64 (p ++ drop (length bytes) (replicate 8 0))) same
-    ∙ (of_eight (bytes ++ drop (length bytes) (replicate 8 0))
+    ∙ (from_le_bytes-number_of (bytes ++ drop (length bytes) (replicate 8 0))
     (omega (arith, length-append {A = ℕ} bytes (drop (length bytes) (replicate 8 0)), length-drop {A = ℕ} (length bytes) (replicate 8 0)))
-    ∙ rw drop-replicate (zeros_above bytes (8 - length bytes))))
+    ∙ rw drop-replicate (number_of-zeros bytes (8 - length bytes))))

@@ -20,7 +20,7 @@ pub(crate) fn referred_once(
     ensures { IfOk result (λ funcs. funcs ≡ referred_once below (bodies.now ++ (own.now ++ helpers.now))) }
 {
     let marks = marks_of(alloc, below, bodies, own, helpers)?;
-    marked(alloc, marks.as_slice())
+    marked_funcs(alloc, marks.as_slice())
 }
 
 /// Marks for the functions below a number, set for those that the bodies refer to.
@@ -79,7 +79,7 @@ fn mark(marks: &mut Vec<bool>, func: u32)
 }
 
 /// The marked functions.
-fn marked(alloc: Global, marks: &[bool]) -> Result<Indices, NoMemory>
+fn marked_funcs(alloc: Global, marks: &[bool]) -> Result<Indices, NoMemory>
     requires { length marks.now < 2 ^ 32 }
     ensures { IfOk result (λ funcs. funcs
         ≡ filter (λ func. get_or marks.now func false) (range_with_len 0 (length marks.now))) }

@@ -1,6 +1,8 @@
 -- The tape of a run's log is the one that the run needs.
-use Rattle.std.proofs.Common.{◌≡◌, ℕ, Option, Some, None, Result, Ok, Err, IfOk, sym, subst}
+use Rattle.std.proofs.Common.{◌≡◌, ℕ, Result, Ok, Err, IfOk, sym, subst}
 use Rattle.base.specs.declared.outcomes.Outcome.{Outcome}
+use Rattle.base.proofs.Options.{none_some}
+use Rattle.base.proofs.Results.{same_ok}
 use Rattle.trace_model.specs.Balance.{first_unbalanced}
 use Rattle.trace_model.specs.declared.events.Log.{Log}
 use Rattle.trace_model.specs.declared.tapes.Tape.{Tape}
@@ -16,19 +18,11 @@ use Rattle.tape_laws.specs.CallLaws.{OriginalRun}
 use Rattle.tape_laws.specs.LogLaws.{LogsAreBalanced, LogsGiveNeededTapes}
 use Rattle.replay_laws.specs.Tapes.{HasLog, IsTapeOfRuns}
 
-same_log : (o : Result Log ℕ) (a b : Log) → o ≡ Ok a → o ≡ Ok b → a ≡ b
-same_log (Ok log) a b h k = cc
-same_log (Err number) a b h k = cc
-
-none_some : {X : Type 0} (o : Option X) (x : X) → o ≡ None → o ≡ Some x → ⊥
-none_some None x h k = cc
-none_some (Some y) x h k = cc
-
 needed_tape : LogsGiveNeededTapes → RunsHaveOneNeededTape → (log : Log) (tape : Tape) → IsLogTape log tape
     → IsTapeOfRuns log tape
 needed_tape needed one log tape is run count outcome h =
     let found = needed run count outcome h.ends in
-    let same : found.log ≡ log = same_log _ found.log log found.logged h.logged in
+    let same : found.log ≡ log = same_ok _ found.log log found.logged h.logged in
     let of_run = found.from_log tape (subst (λ l. IsLogTape l tape) (sym same) is) in
     let lone = one run.m run.script run.supply run.store count outcome run.runnable run.fits run.supplied run.opens h.ends in
     subst

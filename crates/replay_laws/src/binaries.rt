@@ -23,7 +23,7 @@ use wasm_validate::Checked;
 
 /// The replay module of a tape, for a module and a supply for its imports. The tape fits the module, its values
 /// are constants, and all indices of the generated parts have 32 bits. If the module begins with a store, and the tape
-/// weighs at most 2,000,000, the run of the replay module follows that of the tape from this store.
+/// weighs at most `MAX_TAPE_WEIGHT`, the run of the replay module follows that of the tape from this store.
 ///
 /// # Errors
 ///

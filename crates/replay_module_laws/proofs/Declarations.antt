@@ -4,6 +4,7 @@ use Rattle.std.specs.Prelude.{◌||◌, filter, filter_map, flat_map, nat_eq}
 use Rattle.std.specs.List.{AllByRecursion, cons_option, list_any, range_with_len}
 use Rattle.std.proofs.lemmas.Bool.Decides.{nat_tests}
 use Rattle.std.proofs.lemmas.List.{append_assoc}
+use Rattle.base.proofs.Booleans.{own_number}
 use Rattle.wasm_syntax.specs.declared.instructions.Instr.{Instr}
 use Rattle.wasm_syntax.specs.declared.instructions.Instr.TheVariants.{RefFunc}
 use Rattle.wasm_syntax.specs.declared.modules.ElemSeg.{ElemSeg}
@@ -80,14 +81,11 @@ weaker funcs more [] wider h = tt
 weaker funcs more (i ∷ body) wider h =
     ((λ func e. wider func (h.0 func e)), weaker funcs more body wider h.1)
 
-same_is : (func : ℕ) → nat_eq func func ≡ true
-same_is func = grind (arith, nat_tests)
-
 body_refers : (body : List Instr) → AllByRecursion (IsReferred (filter_map referred_func body)) body
 body_refers [] = tt
 body_refers (i ∷ body) = (
   (λ func e. subst (λ j. list_any (nat_eq func) (cons_option (referred_func j) (filter_map referred_func body)) ≡ true)
-      (sym e) (ap (λ b. b || list_any (nat_eq func) (filter_map referred_func body)) (same_is func))),
+      (sym e) (ap (λ b. b || list_any (nat_eq func) (filter_map referred_func body)) (own_number func))),
   weaker (filter_map referred_func body) (filter_map referred_func (i ∷ body)) body
       (λ func h. one func (referred_func i) h) (body_refers body),
 )

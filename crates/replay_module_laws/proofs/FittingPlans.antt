@@ -1,5 +1,5 @@
 -- The plan of a tape that fits a module fits the module.
-use Rattle.std.proofs.Common.{◌≡◌, ℕ, zero, suc, ◌+◌, ◌<◌, List, [], ◌∷◌, length, Option, Some, None, Bool, true, false, cond, refl, sym, ap, ◌∙◌, subst, arith, option_and_then}
+use Rattle.std.proofs.Common.{◌≡◌, ℕ, zero, suc, ◌+◌, ◌<◌, ◌≤◌, List, [], ◌∷◌, length, Option, Some, None, Bool, true, false, cond, refl, sym, ap, ◌∙◌, subst, arith, option_and_then}
 use Rattle.std.specs.Prelude.{◌&&◌, nat_eq, nat_le, nat_lt, not, replicate, slice_get, slice_set}
 use Rattle.std.specs.Option.{option_map_or, option_to_list}
 use Rattle.std.specs.List.{AllByRecursion, list_all, slice_index_or}
@@ -24,6 +24,7 @@ use Rattle.trace_model.specs.declared.tapes.Segment.{Segment}
 use Rattle.trace_model.specs.declared.tapes.Tape.{Tape}
 use Rattle.trace_model.specs.Effects.{are_ordered}
 use Rattle.trace_model.specs.Fitting.{IsFitting, came, effect_fits, effects_fit, fitting_step, gives_values, left, takes_values, types_of, unfit_from}
+use Rattle.trace_model.specs.Weight.{next_weight}
 use Rattle.replay_module_spec.specs.Plans.{around_innermost, innermost, left_of, plan_of, with_origin, with_segment}
 use Rattle.replay_module_spec.specs.Functions.{original_type, start_type}
 use Rattle.replay_module_spec.specs.Fragments.{import_types}
@@ -61,6 +62,15 @@ stepped : {X : Type 0} (f : X → Option ℕ) (o : Option X) (at : ℕ) → opti
     → (x : X) × (o ≡ Some x) × (f x ≡ None)
 stepped f None at h = absurd (cc h)
 stepped f (Some x) at h = (x, refl, h)
+
+-- ---- how control leaves
+
+pub next_weighs : (next : Next) → 1 ≤ next_weight next
+next_weighs (Call func args) = omega arith
+next_weighs (Return None) = omega arith
+next_weighs (Return (Some value)) = omega arith
+next_weighs End = omega arith
+next_weighs Trap = omega arith
 
 -- ---- the remaining tape
 

@@ -2,12 +2,11 @@ mod Standing
 pub mod Outside
 mod ValidOutside
 pub mod Declarations
-mod Wider
 mod Originals
 mod TypedOriginals
 mod Serving
 pub mod TypedEffects
-mod TypedSegments
+pub mod TypedSegments
 mod TypedDispatch
 mod Generated
 mod TypedGenerated

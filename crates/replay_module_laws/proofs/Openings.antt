@@ -28,9 +28,6 @@ use Rattle.replay_module_laws.specs.Stores.{counters, memory_cut, with_own}
 
 -- ---- tests of segments
 
-first_of_true : (at : ℕ) (tests : List Bool) → first_false at (true ∷ tests) ≡ first_false (at + 1) tests
-first_of_true at tests = refl
-
 -- each test of a list passes
 abbrev AllPass : List Bool → Type 0
 AllPass [] = Unit {0}

@@ -1,90 +1,27 @@
 -- The original's functions have the typings in the replay module that they have in the original.
-use Rattle.std.proofs.Common.{◌≡◌, ℕ, List, [], ◌∷◌, ◌++◌, Option, Some, None, Bool, true, false, cond, refl, sym, ap, subst}
-use Rattle.std.specs.Prelude.{IsTrue, option_and_then, option_map, slice_get}
+use Rattle.std.proofs.Common.{List, [], ◌∷◌, ◌++◌, refl, subst}
+use Rattle.std.specs.Prelude.{IsTrue}
 use Rattle.std.specs.List.{AllByRecursion}
 use Rattle.wasm_syntax.specs.declared.values.ValType.{ValType}
-use Rattle.wasm_syntax.specs.declared.values.ValType.TheVariants.{I32, FuncRef}
 use Rattle.wasm_syntax.specs.declared.instructions.Instr.{Instr}
-use Rattle.wasm_syntax.specs.declared.instructions.Instr.TheVariants.{Block, If, Loop, CallIndirect, Else, End, Load, MemoryCopy, MemoryFill, MemoryGrow, MemorySize, RefFunc, Store, TableGrow, TableSet, TableSize}
+use Rattle.wasm_syntax.specs.declared.instructions.Instr.TheVariants.{Block, If, Loop, Else, End}
 use Rattle.wasm_syntax.specs.Nest.{IsNest, is_plain, Nest, Empty, Plain, InBlock, InLoop, InIf, InIfElse, flat}
-use Rattle.wasm_syntax.specs.Opcodes.{load_of, store_of}
-use Rattle.wasm_syntax.specs.Typing.{Context, Drops, InstrType, IsTyped, Leads, Leaves, Moves, Selects, Switches, has_memory, has_table, if_true, indirect_of, inside, instr_type, is_declared, load_type, results_of, store_type}
-use Rattle.replay_module_laws.proofs.Wider.{Widens, both_parts, inside_wider, is_unreferring, leads_wider}
+use Rattle.wasm_syntax.specs.Typing.{Context, IsTyped, Leads, inside, instr_type, results_of}
+use Rattle.type_safety.proofs.Wider.{IsKnown, Widens, both_parts, calling_same, inside_wider, leads_wider}
 
--- the wider context with the tables and memories of the first one
-abbrev narrowed : Context → Context → Context
-narrowed ctx wider = record wider { tables = ctx.tables; memories = ctx.memories }
-
--- the wider context knows what the first one knows, but for the limits of tables and memories, which exist in both or
--- in neither
-pub record Extends (ctx wider : Context) : Type 0 where
-  pub widens : Widens ctx (narrowed ctx wider)
-  pub tables : (x : ℕ) → has_table ctx x ≡ has_table wider x
-  pub memory : has_memory ctx ≡ has_memory wider
-
--- a function to which an instruction refers is declared in the wider context if it is declared in the first
-abbrev pub IsKnown : Context → Context → Instr → Type 0
-IsKnown ctx wider i = (func : ℕ) → i ≡ RefFunc func → is_declared ctx func ≡ true → is_declared wider func ≡ true
-
--- no instruction asks for limits
-instr_same : (ctx wider : Context) → Extends ctx wider → (i : Instr)
-    → instr_type (narrowed ctx wider) i ≡ instr_type wider i
-instr_same ctx wider x (CallIndirect t) =
-    ap (λ b. cond b (option_map indirect_of (slice_get wider.types t)) None) (x.tables 0)
-instr_same ctx wider x (Load arg) = ap (λ b. cond b (option_and_then (load_type arg) (load_of arg.op)) None) x.memory
-instr_same ctx wider x (Store arg) = ap (λ b. cond b (option_and_then (store_type arg) (store_of arg.op)) None) x.memory
-instr_same ctx wider x MemorySize = ap (λ b. if_true b (Moves [] (I32 ∷ []))) x.memory
-instr_same ctx wider x MemoryGrow = ap (λ b. if_true b (Moves (I32 ∷ []) (I32 ∷ []))) x.memory
-instr_same ctx wider x MemoryCopy = ap (λ b. if_true b (Moves (I32 ∷ I32 ∷ I32 ∷ []) [])) x.memory
-instr_same ctx wider x MemoryFill = ap (λ b. if_true b (Moves (I32 ∷ I32 ∷ I32 ∷ []) [])) x.memory
-instr_same ctx wider x (TableSet t) = ap (λ b. if_true b (Moves (FuncRef ∷ I32 ∷ []) [])) (x.tables t)
-instr_same ctx wider x (TableGrow t) = ap (λ b. if_true b (Moves (I32 ∷ FuncRef ∷ []) (I32 ∷ []))) (x.tables t)
-instr_same ctx wider x (TableSize t) = ap (λ b. if_true b (Moves [] (I32 ∷ []))) (x.tables t)
-instr_same ctx wider x i = refl
-
-referring : (i : Instr) → is_unreferring i ≡ false → (func : ℕ) × (i ≡ RefFunc func)
-referring (RefFunc func) h = (func, refl)
-referring i h = cc
-
-leads_same : (ctx wider : Context) (o : Option InstrType) (before after : List ValType)
-    → Leads (narrowed ctx wider) o before after → Leads wider o before after
-leads_same ctx wider None before after leads = leads
-leads_same ctx wider (Some (Moves operands results)) before after leads = leads
-leads_same ctx wider (Some Drops) before after leads = leads
-leads_same ctx wider (Some Selects) before after leads = leads
-leads_same ctx wider (Some (Leaves operands)) before after leads = leads
-leads_same ctx wider (Some (Switches targets)) before after leads = leads
+-- the wider context knows what the first one knows
+abbrev pub Extends : Context → Context → Type 0
+Extends = Widens (λ f. f)
 
 leads_known : (ctx wider : Context) (w : Extends ctx wider) (i : Instr) (before after : List ValType)
     → IsKnown ctx wider i → Leads ctx (instr_type ctx i) before after → Leads wider (instr_type wider i) before after
-leads_known ctx wider w i before after known leads = go (is_unreferring i) refl
-  where
-    declared : (b c : Bool) → (b ≡ true → c ≡ true)
-        → Leads ctx (if_true b (Moves [] (FuncRef ∷ []))) before after
-        → Leads wider (if_true c (Moves [] (FuncRef ∷ []))) before after
-    declared true true more l = l
-    declared true false more l = let c = more refl in absurd (cc c)
-    declared false c more l = absurd l
-
-    go : (b : Bool) → is_unreferring i ≡ b → Leads wider (instr_type wider i) before after
-    go true e =
-        subst (λ o. Leads wider o before after) (instr_same ctx wider w i)
-        (leads_same ctx wider (instr_type (narrowed ctx wider) i) before after
-        (leads_wider ctx (narrowed ctx wider) w.widens i before after e leads))
-    go false e =
-        let is = referring i e in
-        subst (λ j. Leads wider (instr_type wider j) before after) (sym is.1)
-        (declared (is_declared ctx is.0) (is_declared wider is.0) (known is.0 is.1)
-        (subst (λ j. Leads ctx (instr_type ctx j) before after) is.1 leads))
+leads_known ctx wider w i before after known leads =
+    subst (λ j. Leads wider (instr_type wider j) before after) (calling_same i)
+    (leads_wider (λ f. f) ctx wider w i before after known leads)
 
 inside_known : (label : List ValType) (ctx wider : Context) → Extends ctx wider
     → Extends (inside label ctx) (inside label wider)
-inside_known label ctx wider w =
-    record {
-      widens = inside_wider label ctx (narrowed ctx wider) w.widens;
-      tables = w.tables;
-      memory = w.memory;
-    }
+inside_known = inside_wider (λ f. f)
 
 -- a nest keeps its types if the wider context knows everything to which the nest refers
 abbrev pub KeepsTypes : Nest → Type 0

@@ -8,7 +8,7 @@ use Rattle.std.proofs.lemmas.Option.{slice_get-map}
 use Rattle.base.proofs.Booleans.{and_parts}
 use Rattle.base.proofs.Lists.{all_at}
 use Rattle.base.proofs.Options.{and_then_some}
-use Rattle.wasm_syntax.specs.declared.limits.TheConstants.{MOST_ENTRIES, MOST_PAGES}
+use Rattle.wasm_syntax.specs.declared.limits.TheConstants.{MAX_DECLARED_PAGES, MAX_ENTRIES, MAX_PAGES}
 use Rattle.wasm_syntax.specs.declared.values.Val.{Val}
 use Rattle.wasm_syntax.specs.declared.values.ValType.{ValType}
 use Rattle.wasm_syntax.specs.declared.values.ValType.TheVariants.{I32, I64, F32, F64, FuncRef}
@@ -31,7 +31,7 @@ use Rattle.type_safety.specs.Supplies.{Match}
 use Rattle.type_safety.specs.Values.{AreValues, IsValue, count_of}
 use Rattle.type_safety.proofs.Values.{value_at}
 use Rattle.type_safety.proofs.NewStores.{immutable, single_is}
-use Rattle.replay_module_spec.specs.Merge.{constant_body, constant_global, memory_written, most_written, supplied_global}
+use Rattle.replay_module_spec.specs.Merge.{constant_body, constant_global, memory_written, supplied_global}
 use Rattle.replay_module_laws.specs.Laws.{StatesMaximum}
 
 -- ---- limits
@@ -54,30 +54,30 @@ table_max : (least : ℕ) (max : Option ℕ) → is_within least max ≡ true �
 table_max least None within stated = tt
 table_max least (Some max) within stated = (stated, grind (arith, nat_tests, within))
 
-memory_max : (least : ℕ) (max : Option ℕ) → is_within least max ≡ true → least ≤ most_written
-    → IfSome (option_map (λ max. min max most_written) max) (λ max. (max ≤ 2 ^ 16) × (least ≤ max))
+memory_max : (least : ℕ) (max : Option ℕ) → is_within least max ≡ true → least ≤ MAX_DECLARED_PAGES
+    → IfSome (option_map (λ max. min max MAX_DECLARED_PAGES) max) (λ max. (max ≤ 2 ^ 16) × (least ≤ max))
 memory_max least None within small = tt
 memory_max least (Some max) within small =
     let below : least ≤ max = grind (arith, nat_tests, within) in (omega arith, omega (arith, below, small))
 
-pub tables_valid : (imports defined : List Limits) (supplied : Option Limits) → Match MOST_ENTRIES imports supplied
+pub tables_valid : (imports defined : List Limits) (supplied : Option Limits) → Match MAX_ENTRIES imports supplied
     → StatesMaximum supplied → All IsTable defined → All IsTable (option_to_list (limits_of imports supplied defined))
 tables_valid [] [] supplied match' stated valid = All-nil IsTable
 tables_valid [] (own ∷ more) supplied match' stated valid =
     All-cons IsTable own [] (All-head IsTable own more valid) (All-nil IsTable)
 tables_valid (wanted ∷ imports) defined None match' stated valid = absurd match'
 tables_valid (wanted ∷ imports) defined (Some given) match' stated valid =
-    let g = given_limits MOST_ENTRIES given wanted match' in
+    let g = given_limits MAX_ENTRIES given wanted match' in
     let small = g.small in
     All-cons IsTable given []
     (record { min = omega (arith, small); max = table_max given.min given.max g.within stated }) (All-nil IsTable)
 
 own_memory : (least : ℕ) (max : Option ℕ) → least ≤ 2 ^ 16 → IfSome max (λ max. (max ≤ 2 ^ 16) × (least ≤ max))
-    → IfSome (option_map (λ max. min max most_written) max) (λ max. (max ≤ 2 ^ 16) × (least ≤ max))
+    → IfSome (option_map (λ max. min max MAX_DECLARED_PAGES) max) (λ max. (max ≤ 2 ^ 16) × (least ≤ max))
 own_memory least None small valid = tt
 own_memory least (Some max) small valid = let below = valid.1 in (omega arith, omega (arith, below, small))
 
-pub memories_valid : (imports defined : List Limits) (supplied : Option Limits) → Match MOST_PAGES imports supplied
+pub memories_valid : (imports defined : List Limits) (supplied : Option Limits) → Match MAX_PAGES imports supplied
     → All IsMemory defined
     → All IsMemory (option_to_list (option_map memory_written (limits_of imports supplied defined)))
 memories_valid [] [] supplied match' valid = All-nil IsMemory
@@ -87,7 +87,7 @@ memories_valid [] (own ∷ more) supplied match' valid =
     (All-nil IsMemory)
 memories_valid (wanted ∷ imports) defined None match' valid = absurd match'
 memories_valid (wanted ∷ imports) defined (Some given) match' valid =
-    let g = given_limits MOST_PAGES given wanted match' in
+    let g = given_limits MAX_PAGES given wanted match' in
     let small = g.small in
     All-cons IsMemory (memory_written given) []
     (record { min = omega (arith, small); max = memory_max given.min given.max g.within (omega (arith, small)) })

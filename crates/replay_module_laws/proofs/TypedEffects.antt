@@ -7,7 +7,7 @@ use Rattle.std.proofs.lemmas.Bool.Decides.{nat_tests}
 use Rattle.std.proofs.lemmas.List.{append_assoc}
 use Rattle.base.proofs.Booleans.{and_parts}
 use Rattle.base.specs.declared.opcodes.TheConstants.{I32_SUB}
-use Rattle.wasm_syntax.specs.declared.limits.TheConstants.{MOST_ENTRIES, MOST_PAGES, PAGE_SIZE}
+use Rattle.wasm_syntax.specs.declared.limits.TheConstants.{MAX_ENTRIES, MAX_PAGES, PAGE_SIZE}
 use Rattle.wasm_syntax.specs.declared.values.Val.{Val}
 use Rattle.wasm_syntax.specs.declared.values.ValType.{ValType}
 use Rattle.wasm_syntax.specs.declared.values.ValType.TheVariants.{I32, I64, FuncRef}
@@ -129,7 +129,7 @@ module _ (m : Module) (ctx : Context) (serves : Serves m ctx) where
       → effect_fits m effect ≡ true → IsConstantEffect effect → IsTyped ctx (sequence code rest) before after
       → IsTyped ctx (sequence (effect_code effect ++ code) rest) before after
   effect_typed (Grow pages) code rest before after fits are later =
-      let there = memory_there MOST_PAGES pages (all_memories m) fits in
+      let there = memory_there MAX_PAGES pages (all_memories m) fits in
       let small = there.1 in
       let has = serves.memory there.0 in
       constant_typed ctx (i32_value pages) before (sequence (MemorySize ∷ Numeric I32_SUB ∷ MemoryGrow ∷ Drop ∷ code) rest) after
@@ -141,7 +141,7 @@ module _ (m : Module) (ctx : Context) (serves : Serves m ctx) where
       (ap (λ b. if_true b (Moves (I32 ∷ []) (I32 ∷ []))) has)
       (dropped ctx I32 before (sequence code rest) after later))))
   effect_typed (Table size) code rest before after fits are later =
-      let there = memory_there MOST_ENTRIES size (all_tables m) fits in
+      let there = memory_there MAX_ENTRIES size (all_tables m) fits in
       let small = there.1 in
       let has = serves.table there.0 in
       moved ctx RefNull [] (FuncRef ∷ []) before (sequence (i32_const size ∷ TableSize 0 ∷ Numeric I32_SUB ∷ TableGrow 0 ∷ Drop ∷ code) rest)
@@ -157,11 +157,11 @@ module _ (m : Module) (ctx : Context) (serves : Serves m ctx) where
       (dropped ctx I32 before (sequence code rest) after later)))))
   effect_typed (Bytes addr bytes) code rest before after fits are later =
       let p =
-      and_parts (nat_lt 0 (length (all_memories m))) (nat_le (addr + length bytes) (MOST_PAGES * PAGE_SIZE)) fits in
+      and_parts (nat_lt 0 (length (all_memories m))) (nat_le (addr + length bytes) (MAX_PAGES * PAGE_SIZE)) fits in
       let first = p.0 in
       let second = p.1 in
       let there : 0 < length (all_memories m) = grind (arith, nat_tests, first) in
-      let within : addr + length bytes ≤ MOST_PAGES * PAGE_SIZE = grind (arith, nat_tests, second) in
+      let within : addr + length bytes ≤ MAX_PAGES * PAGE_SIZE = grind (arith, nat_tests, second) in
       let all = counts_of_all (length bytes) in
       stores_typed (store_widths (length bytes)) addr bytes code rest before after (serves.memory there)
       (omega (arith, within, all)) are later

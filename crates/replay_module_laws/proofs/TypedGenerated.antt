@@ -1,6 +1,6 @@
 -- The generated functions have typings in the replay module of a plan that fits.
-use Rattle.std.proofs.Common.{◌≡◌, ℕ, zero, suc, ◌+◌, ◌-◌, ◌<◌, ◌≤◌, List, [], ◌∷◌, ◌++◌, length, Some, true, refl, sym, ap, ◌∙◌, subst, arith, option_and_then}
-use Rattle.std.specs.Prelude.{◌*◌, is_some, map, nat_lt, replicate, reverse, slice_get, All, take, drop}
+use Rattle.std.proofs.Common.{◌≡◌, ℕ, zero, suc, ◌+◌, ◌-◌, ◌<◌, ◌≤◌, List, [], ◌∷◌, ◌++◌, length, Some, refl, sym, ap, ◌∙◌, subst, arith, option_and_then}
+use Rattle.std.specs.Prelude.{◌*◌, map, nat_lt, replicate, reverse, slice_get, All, take, drop}
 use Rattle.std.specs.List.{AllByRecursion, range_with_len, slice_index_or}
 use Rattle.std.proofs.lemmas.Bool.Decides.{nat_tests}
 use Rattle.std.proofs.lemmas.List.{append-nil, append_assoc}
@@ -8,7 +8,7 @@ use Rattle.std.proofs.lemmas.List.Elements.{All-append, All-drop, All-from_recur
 use Rattle.std.proofs.lemmas.List.FromFn.{length-map-range_with_len}
 use Rattle.std.proofs.lemmas.Option.{get_or_from_slice_get, slice_get_within}
 use Rattle.base.proofs.Booleans.{and_parts, and_true}
-use Rattle.base.proofs.Lists.{all_at, get_after_by, get_front, item_there, joined_all}
+use Rattle.base.proofs.Lists.{all_at, get_after_by, get_front, item_there, joined_all, first_there}
 use Rattle.wasm_syntax.specs.declared.values.ValType.{ValType}
 use Rattle.wasm_syntax.specs.declared.values.ValType.TheVariants.{I32}
 use Rattle.wasm_syntax.specs.declared.signatures.FuncType.{FuncType}
@@ -26,6 +26,7 @@ use Rattle.host_script.specs.declared.scripts.Supply.{Supply}
 use Rattle.trace_model.specs.declared.tapes.Segment.{Segment}
 use Rattle.history_spec.specs.Code.{code_of}
 use Rattle.type_safety.specs.Supplies.{IsSupply}
+use Rattle.type_safety.proofs.Wider.{IsKnown, both_parts}
 use Rattle.replay_module_spec.specs.declared.plans.Plan.{Plan}
 use Rattle.replay_module_spec.specs.declared.groups.TheConstants.{GROUP_CALLS}
 use Rattle.replay_module_spec.specs.Dispatch.{body_of, sequence}
@@ -36,11 +37,10 @@ use Rattle.replay_module_spec.specs.Merge.{replay_module}
 use Rattle.replay_module_laws.specs.Codes.{IsReplayCode, first_group}
 use Rattle.replay_module_laws.specs.CodeLaws.{ReplayModulesHaveCode}
 use Rattle.replay_module_laws.proofs.Functions.{group_type_there}
-use Rattle.replay_module_laws.proofs.Wider.{both_parts}
 use Rattle.replay_module_laws.specs.Plans.{AreFit, CallsFit, PlanFits}
 use Rattle.replay_module_laws.proofs.Declarations.{IsReferred, in_range, range_end, refers_among}
 use Rattle.replay_module_laws.proofs.Generated.{counter_type, group_typed, import_typed}
-use Rattle.replay_module_laws.proofs.Originals.{IsKnown, typed_known, typed_nest}
+use Rattle.replay_module_laws.proofs.Originals.{typed_known, typed_nest}
 use Rattle.replay_module_laws.proofs.Outside.{types_imported}
 use Rattle.replay_module_laws.proofs.Serving.{Serves}
 use Rattle.replay_module_laws.proofs.Standing.{functions_more, originals_kept}
@@ -48,15 +48,6 @@ use Rattle.replay_module_laws.proofs.TypedOriginals.{declared_there, globals_are
 use Rattle.replay_module_laws.proofs.TypedSegments.{segments_typed}
 
 -- ---- lists
-
-first_there : {X : Type 0} (xs : List X) → 0 < length xs → is_some (slice_get xs 0) ≡ true
-first_there [] there = absurd (omega (arith, there))
-first_there (x ∷ xs) there = refl
-
-same_there : {X : Type 0} (count place : ℕ) (x : X) → place < count → slice_get (replicate count x) place ≡ Some x
-same_there zero place x below = absurd (omega (arith, below))
-same_there (suc count) zero x below = refl
-same_there (suc count) (suc place) x below = same_there count place x (omega (arith, below))
 
 last_there : (types : List ValType) → slice_get (types ++ I32 ∷ []) (length types) ≡ Some I32
 last_there types = get_after_by types (I32 ∷ []) (length types) 0 (omega arith)
@@ -140,19 +131,14 @@ module _ (law : ReplayModulesHaveCode) (m : Module) (supply : Supply) (plan : Pl
         typed =
             typed_known nest (generous ty f) (body_context replay ty f) [] (reverse ty.results)
             (record {
-              widens =
-                  record {
-                    types = λ t ty h. h;
-                    funcs = λ f ty h. h;
-                    tables = λ x l h. h;
-                    memories = λ x l h. h;
-                    globals = λ x g h. h;
-                    locals = refl;
-                    labels = refl;
-                    results = refl;
-                  };
+              types = λ t ty h. h;
+              funcs = λ f ty h. h;
               tables = λ x. refl;
               memory = refl;
+              globals = λ x g h. h;
+              locals = λ x t h. h;
+              labels = λ l x h. h;
+              results = refl;
             }) (known ty f (flat nest) parts.0) typed;
       }
 

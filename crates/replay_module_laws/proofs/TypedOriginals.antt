@@ -8,7 +8,7 @@ use Rattle.std.proofs.lemmas.List.{append_assoc, map-append}
 use Rattle.std.proofs.lemmas.Option.{slice_get_within}
 use Rattle.base.proofs.Booleans.{and_parts, and_true}
 use Rattle.base.proofs.Lists.{get_front}
-use Rattle.wasm_syntax.specs.declared.limits.TheConstants.{MOST_ENTRIES, MOST_PAGES}
+use Rattle.wasm_syntax.specs.declared.limits.TheConstants.{MAX_ENTRIES, MAX_PAGES}
 use Rattle.wasm_syntax.specs.declared.values.Val.{Val}
 use Rattle.wasm_syntax.specs.declared.signatures.FuncType.{FuncType}
 use Rattle.wasm_syntax.specs.declared.signatures.GlobalType.{GlobalType}
@@ -27,13 +27,13 @@ use Rattle.history_spec.specs.Instantiation.{limits_of}
 use Rattle.type_safety.specs.Supplies.{IsSupply, Match}
 use Rattle.type_safety.specs.Values.{AreValues}
 use Rattle.type_safety.specs.Stores.{func_count}
+use Rattle.type_safety.proofs.Wider.{IsKnown, both_parts}
 use Rattle.replay_module_spec.specs.declared.plans.Plan.{Plan}
 use Rattle.replay_module_spec.specs.Fragments.{counter, fragment_of, helper_funcs, import_bodies, referred_funcs, start_index}
 use Rattle.replay_module_spec.specs.Merge.{constant_elem, constant_global, memory_written, replay_module, supplied_global}
 use Rattle.replay_module_laws.specs.CodeLaws.{ReplayModulesHaveCode}
-use Rattle.replay_module_laws.proofs.Wider.{both_parts}
 use Rattle.replay_module_laws.proofs.Declarations.{IsReferred, declared_among, refers_among}
-use Rattle.replay_module_laws.proofs.Originals.{Extends, IsKnown, typed_known}
+use Rattle.replay_module_laws.proofs.Originals.{Extends, typed_known}
 use Rattle.replay_module_laws.proofs.Standing.{functions_more, originals_kept}
 use Rattle.replay_module_laws.proofs.Outside.{mapped_length}
 
@@ -96,11 +96,11 @@ module _ (law : ReplayModulesHaveCode) (m : Module) (supply : Supply) (plan : Pl
 
   pub tables_many : length (all_tables m) ≡ length (all_tables replay)
   tables_many =
-      as_many MOST_ENTRIES (of_kind table_import m.imports) m.tables supply.table supplied.table valid.outside.one_table
+      as_many MAX_ENTRIES (of_kind table_import m.imports) m.tables supply.table supplied.table valid.outside.one_table
 
   pub memories_many : length (all_memories m) ≡ length (all_memories replay)
   memories_many =
-      as_many MOST_PAGES (of_kind memory_import m.imports) m.memories supply.memory supplied.memory
+      as_many MAX_PAGES (of_kind memory_import m.imports) m.memories supply.memory supplied.memory
       valid.outside.one_memory
       ∙ sym (mapped_length memory_written (limits_of (of_kind memory_import m.imports) supply.memory m.memories))
 
@@ -108,22 +108,17 @@ module _ (law : ReplayModulesHaveCode) (m : Module) (supply : Supply) (plan : Pl
   extends ty f =
       let kept = originals_kept law m supply plan valid many in
       record {
-        widens =
-            record {
-              types = kept.types;
-              funcs = kept.signatures;
-              tables = λ x l h. h;
-              memories = λ x l h. h;
-              globals = λ x g h.
-                  ap (λ l. slice_get l x) globals_are
-                  ∙ get_front (all_globals m) (map global_type own_globals) x (slice_get_within (all_globals m) x g h)
-                  ∙ h;
-              locals = refl;
-              labels = refl;
-              results = refl;
-            };
+        types = kept.types;
+        funcs = kept.signatures;
         tables = λ x. there_alike (all_tables m) (all_tables replay) x tables_many;
         memory = there_alike (all_memories m) (all_memories replay) 0 memories_many;
+        globals = λ x g h.
+            ap (λ l. slice_get l x) globals_are
+            ∙ get_front (all_globals m) (map global_type own_globals) x (slice_get_within (all_globals m) x g h)
+            ∙ h;
+        locals = λ x t h. h;
+        labels = λ l x h. h;
+        results = refl;
       }
 
   -- a function of the original to which bodies refer is declared

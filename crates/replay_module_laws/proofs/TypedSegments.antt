@@ -24,10 +24,10 @@ use Rattle.replay_module_laws.specs.Written.{IsConstantNext}
 use Rattle.replay_module_laws.proofs.Serving.{Serves, constants_typed, drops_typed, led, moved, stacked, stacked_is}
 use Rattle.replay_module_laws.proofs.TypedEffects.{effects_typed}
 
-taken : (types : List ValType) (o : Option FuncType) → takes_values types o ≡ true
+pub typed_values : (types : List ValType) (o : Option FuncType) → takes_values types o ≡ true
     → (ty : FuncType) × (o ≡ Some ty) × (types ≡ ty.params)
-taken types None h = absurd (cc h)
-taken types (Some ty) h = (ty, refl, types_same types ty.params h)
+typed_values types None h = absurd (cc h)
+typed_values types (Some ty) h = (ty, refl, types_same types ty.params h)
 
 module _ (m : Module) (ctx : Context) (serves : Serves m ctx) (results : List ValType)
     (given : ctx.results ≡ reverse results) where
@@ -38,7 +38,7 @@ module _ (m : Module) (ctx : Context) (serves : Serves m ctx) (results : List Va
       → IsConstantNext next → IsTyped ctx (sequence later Empty) [] after
       → IsTyped ctx (sequence (next_code m next later) Empty) [] after
   next_typed (Call func args) later after fits are typed =
-      let t = taken (types_of args) (func_type m func) fits in
+      let t = typed_values (types_of args) (func_type m func) fits in
       let stack : stacked args [] ≡ reverse t.0.params ++ [] =
       stacked_is args [] ∙ ap (λ l. reverse l ++ []) t.2 in
       let dropped =

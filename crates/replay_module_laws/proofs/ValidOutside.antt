@@ -4,7 +4,7 @@ use Rattle.std.specs.Prelude.{get_or, map, nat_eq, IsTrue, All, replicate}
 use Rattle.std.specs.List.{AllByRecursion, list_any, range_with_len, zip}
 use Rattle.std.proofs.lemmas.List.Elements.{All-append, All-cons, All-filter, All-from_recursion, All-map, All-nil, All-replicate, All-weaker, recursion_from_All}
 use Rattle.std.proofs.lemmas.List.FromFn.{get_or-range_with_len, length-range_with_len}
-use Rattle.wasm_syntax.specs.declared.limits.TheConstants.{MOST_ENTRIES, MOST_PAGES}
+use Rattle.wasm_syntax.specs.declared.limits.TheConstants.{MAX_ENTRIES, MAX_PAGES}
 use Rattle.wasm_syntax.specs.declared.values.ValType.{ValType}
 use Rattle.wasm_syntax.specs.declared.values.ValType.TheVariants.{I32, I64, F32, F64, FuncRef}
 use Rattle.wasm_syntax.specs.declared.signatures.GlobalType.{GlobalType}
@@ -194,7 +194,7 @@ module _ (law : ReplayModulesHaveCode) (m : Module) (supply : Supply) (plan : Pl
 
   elem_kept : (segment : ElemSeg) → IsElem m segment → IsElem replay (constant_elem supply.globals segment)
   elem_kept (Active table offset funcs) is = (
-    limits_there MOST_ENTRIES (of_kind table_import m.imports) m.tables supply.table table supplied.table
+    limits_there MAX_ENTRIES (of_kind table_import m.imports) m.tables supply.table table supplied.table
         valid.outside.one_table is.0,
     constant_kept m replay (func_count m) supply.globals supplied.globals numbers_all I32 offset (zero_of I32) is.1,
     funcs_there funcs is.2,
@@ -208,7 +208,7 @@ module _ (law : ReplayModulesHaveCode) (m : Module) (supply : Supply) (plan : Pl
             subst (λ count. segment.memory < count)
             (sym (mapped_length memory_written
             (limits_of (of_kind memory_import m.imports) supply.memory m.memories)))
-            (limits_there MOST_PAGES (of_kind memory_import m.imports) m.memories supply.memory segment.memory
+            (limits_there MAX_PAGES (of_kind memory_import m.imports) m.memories supply.memory segment.memory
             supplied.memory valid.outside.one_memory is.memory);
         offset =
             constant_kept m replay (func_count m) supply.globals supplied.globals numbers_all I32 segment.offset

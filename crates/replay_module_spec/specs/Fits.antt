@@ -2,7 +2,7 @@
 -- here is that of a supply which gives each import as it is declared.
 use Rattle.std.specs.Prelude.{◌≡◌, ◌↔◌, ℕ, ◌+◌, ◌≤◌, [], ◌++◌, length, map, Some, slice_get, All, Contains}
 use Rattle.std.specs.List.{AllZip}
-use Rattle.wasm_syntax.specs.declared.limits.TheConstants.{MOST_LOCALS, MOST_PARAMETERS}
+use Rattle.wasm_syntax.specs.declared.limits.TheConstants.{MAX_LOCALS, MAX_PARAMETERS}
 use Rattle.wasm_syntax.specs.declared.signatures.FuncType.{FuncType}
 use Rattle.wasm_syntax.specs.declared.modules.Module.{Module}
 use Rattle.wasm_syntax.specs.declared.modules.Func.{Func}
@@ -31,7 +31,7 @@ unsupplied_module m fragment = replay_module m (declared_supply m) fragment
 -- an appended type is valid, and has no more parameters than a module may have
 pub record IsAppendedType (ty : FuncType) : Type 0 where
   pub valid : IsFuncType ty
-  pub params : length ty.params ≤ MOST_PARAMETERS
+  pub params : length ty.params ≤ MAX_PARAMETERS
 
 -- a body has the type of the import that it replaces
 pub record HasImportType (m : Module) (fragment : Fragment) (import : ℕ) (body : Func) : Type 0 where
@@ -51,7 +51,7 @@ pub record HasStart (m : Module) (fragment : Fragment) : Type 0 where
 pub record IsGeneratedFunc (m : Module) (fragment : Fragment) (func : Func) : Type 0 where
   pub declared : IsDeclaredFunc (unsupplied_module m fragment) func
   pub typed : IsTypedFunc (unsupplied_module m fragment) func
-  pub locals : count_of_locals func ≤ MOST_LOCALS
+  pub locals : count_of_locals func ≤ MAX_LOCALS
 
 -- a generated part fits a module: its types and globals are valid (a global's initial value is one constant,
 -- since there are no imports); there is a body for each imported function; the exported function is a helper;

@@ -1,8 +1,9 @@
 -- The replay module of any module, from a supply and a generated part: it has no imports, and keeps the index of
 -- every function, type, table, memory and global of the original.
-use Rattle.std.specs.Prelude.{ℕ, ◌^◌, List, [], ◌∷◌, ◌++◌, length, map, min, None, option_map, option_to_list, codes}
+use Rattle.std.specs.Prelude.{ℕ, List, [], ◌∷◌, ◌++◌, length, map, min, None, option_map, option_to_list, codes}
 use Rattle.std.specs.List.{zip}
 use Rattle.leb_bytes.specs.Unsigned.{u32_bytes}
+use Rattle.wasm_syntax.specs.declared.limits.TheConstants.{MAX_DECLARED_PAGES}
 use Rattle.wasm_syntax.specs.declared.values.Val.{Val}
 use Rattle.wasm_syntax.specs.declared.values.ValType.TheVariants.{I32}
 use Rattle.wasm_syntax.specs.declared.signatures.Limits.{Limits}
@@ -27,13 +28,10 @@ use Rattle.replay_module_spec.specs.declared.fragments.Fragment.{Fragment}
 abbrev pub constant_body : Val → List Instr
 constant_body value = Const value ∷ End ∷ []
 
--- the most pages that a memory's limits may declare, as in `IsMemory` (Core 1.0, 3.2.4)
-abbrev pub most_written : ℕ
-most_written = 2 ^ 16
-
--- limits with a maximum of at most `most_written` pages; lowering a greater maximum to it changes no growth
+-- limits with a maximum that a valid memory may declare, as in `IsMemory`; lowering a greater one to it changes no
+-- growth
 abbrev pub memory_written : Limits → Limits
-memory_written limits = record limits { max = option_map (λ max. min max most_written) limits.max }
+memory_written limits = record limits { max = option_map (λ max. min max MAX_DECLARED_PAGES) limits.max }
 
 -- an imported global, defined with the value that the supply gives
 abbrev pub supplied_global : GlobalType × Val → Global

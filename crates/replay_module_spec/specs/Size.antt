@@ -6,8 +6,8 @@ use Rattle.wasm_syntax.specs.Index.{all_globals}
 
 -- a bound in bytes: it depends on the original without its custom sections, on its numbers of globals, segments
 -- and imports, and on the weight of the tape
-abbrev pub most_bytes : Module → (weight : ℕ) → ℕ
-most_bytes m weight =
+abbrev pub max_bytes : Module → (weight : ℕ) → ℕ
+max_bytes m weight =
     length (encoding_of (record m { customs = [] }))
     + 16 * (length (all_globals m) + (length m.elems + length m.datas))
     + 96 * length m.imports

@@ -1,8 +1,8 @@
 //! The plan of a replay, made from a tape, whose segments are moved into it.
 #![tactic(auto)]
 
+mod front_list;
 mod plans;
-mod prepended;
 
 pub use base::NoMemory;
 pub use plans::plan;

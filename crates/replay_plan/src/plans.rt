@@ -6,7 +6,7 @@ ghost use Rattle.trace_model.specs.declared.tapes.Origin.TheVariants.{Import};
 ghost use Rattle.replay_module_spec.specs.Plans.{around_innermost, innermost, left_of, plan_of, with_origin, with_segment};
 ghost use Rattle.replay_plan.specs.Reading.{left_before, left_from, nothing_left};
 
-use crate::prepended::Prepended;
+use crate::front_list::FrontList;
 use base::NoMemory;
 use module_index::scope::Scope;
 use replay_module_spec::{Calls, Plan};
@@ -19,9 +19,9 @@ use wasm_syntax::{List, Module};
 #[derive(Drop)]
 pub(crate) struct Remainder {
     /// The segments of each activation of the host that goes on, the innermost first.
-    begun: Prepended<Prepended<Segment>>,
+    begun: FrontList<FrontList<Segment>>,
     /// The calls of each imported function that are still to begin.
-    calls: Vec<Prepended<Segments>>,
+    calls: Vec<FrontList<Segments>>,
 }
 
 impl Model for Remainder {
@@ -62,10 +62,10 @@ impl Remainder {
     {
         let mut calls = Vec::with_capacity(alloc, imports)?;
         'imports: for _ in 0..imports {
-            calls.push(Prepended::new(alloc))?;
+            calls.push(FrontList::new(alloc))?;
         }
         Ok(Remainder {
-            begun: Prepended::new(alloc),
+            begun: FrontList::new(alloc),
             calls,
         })
     }
@@ -76,13 +76,13 @@ impl Remainder {
     {
         let mut segments = segments;
         'segments: while let Some(segment) = segments.pop() {
-            self.read(alloc, segment)?;
+            self.take_segment(alloc, segment)?;
         }
         Ok(())
     }
 
     /// Reads the segment in front of the rest.
-    fn read(&mut self, alloc: Global, segment: Segment) -> Result<(), NoMemory>
+    fn take_segment(&mut self, alloc: Global, segment: Segment) -> Result<(), NoMemory>
         ensures { OnOk result (self.new ≡ left_before segment self.old) }
     {
         let origin = segment.origin;
@@ -100,7 +100,7 @@ impl Remainder {
     {
         let mut segments = match segment.next {
             Next::Call { .. } => self.take_innermost(alloc),
-            _ => Prepended::new(alloc),
+            _ => FrontList::new(alloc),
         };
         segments.push(segment)?;
         self.begun.push(segments)
@@ -118,14 +118,14 @@ impl Remainder {
     }
 
     /// Removes the innermost activation and returns its segments, or no segments if there is none.
-    fn take_innermost(&mut self, alloc: Global) -> Prepended<Segment>
+    fn take_innermost(&mut self, alloc: Global) -> FrontList<Segment>
         ensures result { result ≡ innermost self.old.begun }
         ensures begun { self.new.begun ≡ around_innermost self.old.begun }
         ensures calls { self.new.calls ≡ self.old.calls }
     {
         match self.begun.pop() {
             Some(segments) => segments,
-            None => Prepended::new(alloc),
+            None => FrontList::new(alloc),
         }
     }
 
@@ -142,7 +142,7 @@ impl Remainder {
 }
 
 /// The lists of calls, in the type that a plan has.
-fn lists_of_calls(alloc: Global, calls: Vec<Prepended<Segments>>) -> Result<Calls, NoMemory>
+fn lists_of_calls(alloc: Global, calls: Vec<FrontList<Segments>>) -> Result<Calls, NoMemory>
     ensures { IfOk result (λ lists. lists ≡ calls.items) }
 {
     let mut lists = Vec::with_capacity(alloc, calls.len())?;

@@ -1,24 +1,22 @@
 -- Where the machine arrives, and where a call by the host is then.
-use Rattle.std.proofs.Common.{◌≡◌, ◌≢◌, ℕ, ◌<◌, List, [], ◌∷◌, ◌++◌, refl, sym, ap, ◌∙◌, subst, arith, ◌⊎◌, inl, inr}
+use Rattle.std.proofs.Common.{◌≡◌, ◌≢◌, ◌<◌, List, [], ◌∷◌, ◌++◌, refl, sym, ap, ◌∙◌, subst, arith, ◌⊎◌, inl, inr}
 use Rattle.std.specs.Prelude.{Option, Some, None}
 use Rattle.std.proofs.lemmas.List.{append-nil}
 use Rattle.wasm_syntax.specs.declared.modules.Module.{Module}
 use Rattle.wasm_syntax.specs.Index.{imported_funcs}
-use Rattle.wasm_syntax.specs.Nest.{Empty, InBlock, InIf, InIfElse, InLoop, Nest, Plain}
-use Rattle.wasm_syntax.specs.declared.values.Val.{Val}
 use Rattle.host_script.specs.declared.scripts.Action.{Action}
 use Rattle.host_script.specs.declared.scripts.ResponseEnd.TheVariants.{Trap}
 use Rattle.base.specs.declared.outcomes.Outcome.TheVariants.{Trapped as ByTrap}
 use Rattle.history_spec.specs.declared.entries.Entry.{Entry}
 use Rattle.history_spec.specs.Store.{Store}
-use Rattle.history_spec.specs.Configuration.{Activation, Frame, InModule, Label, leave, point, with_results}
+use Rattle.history_spec.specs.Configuration.{Activation, Frame, InModule, with_results}
 use Rattle.history_spec.specs.Projection.{trap_outcome}
 use Rattle.history_spec.specs.Replay.{program_alone}
 use Rattle.history_spec.specs.Settle.{Continues, at_end, deliver, return_from, settle, settle_result}
 use Rattle.history_spec.specs.Step.{Finished, Running, StepResult, after_entries, after_settling, progress_of}
 use Rattle.type_safety.specs.Configurations.{IsGoing}
 use Rattle.type_safety.specs.Heights.{Heights}
-use Rattle.type_safety.proofs.SettleEnds.{going_within}
+use Rattle.type_safety.proofs.SettleEnds.{going_within, leaves_none}
 use Rattle.wasm_interp.specs.Calls.{Comes, IsRun, config_of}
 use Rattle.wasm_interp.specs.OwnSteps.{IsReturnPause}
 use Rattle.wasm_interp.specs.State.{StandsFor, State}
@@ -29,9 +27,9 @@ use Rattle.shown_lines.specs.ShownLines.{AreNoTraps, ShownLines}
 
 -- ---- the host's own part
 
-host_tells_none : (actions : List Action) → (settle (host actions)).entries ≡ []
-host_tells_none [] = refl
-host_tells_none (action ∷ actions) = refl
+host_prints_none : (actions : List Action) → (settle (host actions)).entries ≡ []
+host_prints_none [] = refl
+host_prints_none (action ∷ actions) = refl
 
 host_ends : (store : Store) (actions : List Action) → progress_of store [] (settle (host actions)).next ≢ Finished ByTrap
 host_ends store [] is = cc
@@ -39,18 +37,9 @@ host_ends store (action ∷ actions) is = cc
 
 -- ---- an activation that is not at the end of its body goes on as it is
 
-nothing_left : (labels : List Label) (values : List Val) (rest : Nest) (number : ℕ) → IsGoing rest → leave labels values rest number ≡ point values labels rest number
-nothing_left [] values rest number going = refl
-nothing_left (label ∷ labels) values Empty number going = absurd going
-nothing_left (label ∷ labels) values (Plain i rest) number going = refl
-nothing_left (label ∷ labels) values (InBlock ty body rest) number going = refl
-nothing_left (label ∷ labels) values (InLoop ty body rest) number going = refl
-nothing_left (label ∷ labels) values (InIf ty body rest) number going = refl
-nothing_left (label ∷ labels) values (InIfElse ty body other rest) number going = refl
-
 unchanged : (frame : Frame) → IsGoing frame.at.rest → with_results frame [] ≡ frame
 unchanged frame going =
-    let left = nothing_left frame.labels frame.values frame.at.rest frame.at.number going in
+    let left = leaves_none frame.labels frame.values frame.at.rest frame.at.number going in
     ap (λ p. record frame { values = p.values; labels = p.labels; at = p.at }) left
 
 pub going_settles : (frame : Frame) (below : List Activation) → IsGoing frame.at.rest → settle (InModule frame ∷ below) ≡ settle_result [] (Continues (InModule frame ∷ below))
@@ -74,18 +63,18 @@ module _ (m : Module) (heights : Heights) (actions : List Action) (outside : Lis
 
   -- without a trap: the entries are the step's, and the call is at its place after every history without a trap
   pub arrives_on : (shown : ShownLines) (where_to : Option Pause) → IsReturnPause where_to → Comes m heights (program_alone m) outside [] where_to entries machine s
-      → (s.entries ≡ entries) × ((history told : List Entry) → AreNoTraps history → GoesOn m heights actions (stand_of shown.layout where_to told) shown history machine s.next)
+      → (s.entries ≡ entries) × ((history printed : List Entry) → AreNoTraps history → GoesOn m heights actions (stand_of shown.layout where_to printed) shown history machine s.next)
   arrives_on shown None own comes = (
     ap (λ (r : StepResult). r.entries) comes.same,
-    λ history told none. (
+    λ history printed none. (
       record { frame = comes.frame; below = comes.below; stands = comes.stands; going = comes.going; called = comes.same_outside ∙ called; same = ap (λ (r : StepResult). r.next) comes.same },
       none,
     ),
   )
   arrives_on shown (Some pause.Returned) own comes =
       let same : s ≡ after_entries entries (after_settling machine.store [] (settle (host actions))) = subst (λ o. s ≡ after_entries entries (after_settling machine.store [] (settle o))) called comes.same in (
-        ap (λ (r : StepResult). r.entries) same ∙ ap (λ es. entries ++ es) (host_tells_none actions) ∙ append-nil entries,
-        λ history told none. (record { stands = subst (λ o. StandsFor m heights o machine) called comes.stands; same = ap (λ (r : StepResult). r.next) same }, none),
+        ap (λ (r : StepResult). r.entries) same ∙ ap (λ es. entries ++ es) (host_prints_none actions) ∙ append-nil entries,
+        λ history printed none. (record { stands = subst (λ o. StandsFor m heights o machine) called comes.stands; same = ap (λ (r : StepResult). r.next) same }, none),
       )
   arrives_on shown (Some pause.Trapped) own comes = absurd own
   arrives_on shown (Some (pause.Import index)) own comes = absurd own
@@ -113,8 +102,8 @@ module _ (m : Module) (heights : Heights) (actions : List Action) (outside : Lis
   arrives shown (Some pause.Returned) comes traps =
       let a = arrives_on shown (Some pause.Returned) tt comes in (a.0, a.1 s.entries entries (no_traps (Some pause.Returned) tt comes traps))
   arrives shown (Some pause.Trapped) comes traps =
-      let told : s.entries ≡ entries = ap (λ (r : StepResult). r.entries) comes in (
-        told,
-        (ap (λ (r : StepResult). r.next) comes, ap (trap_outcome shown.layout) (sym told)),
+      let printed : s.entries ≡ entries = ap (λ (r : StepResult). r.entries) comes in (
+        printed,
+        (ap (λ (r : StepResult). r.next) comes, ap (trap_outcome shown.layout) (sym printed)),
       )
   arrives shown (Some pause.Spent) comes traps = absurd comes

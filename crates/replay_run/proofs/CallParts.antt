@@ -33,7 +33,7 @@ use Rattle.replay_run.specs.RunsSoFar.{CanCall, GoesOn, IsOutside, IsOwnPause, I
 use Rattle.replay_run.proofs.Arrivals.{arrives, arrives_on, going_settles, own_pause}
 use Rattle.replay_run.proofs.Extends.{after_history}
 use Rattle.replay_run.proofs.NoTraps.{enter_none, step_none, step_sets}
-use Rattle.replay_run.proofs.Shown.{returns_show, shows_joined, shows_nothing}
+use Rattle.replay_run.proofs.ShownParts.{returns_show, shows_joined, shows_nothing}
 
 module _ (turn : Turn) (before after : State) (is : TurnIsStep before turn after) where
   -- ---- an instruction
@@ -73,9 +73,6 @@ module _ (func : ℕ) (turn : Turn) (before called after : State) (invokes : Inv
       subst (Comes m heights (program_alone m) (host actions) [] turn.pause turn.entries after)
       (ap (λ store. after_settling store [] (settle (InModule enters.frame ∷ host actions))) enters.store ∙ sym enters.same)
       (settles m heights (program_alone m) [] enters.frame (host actions) can.is_run enters.stands)
-
-  pub call_pause : IsOwnPause turn.pause
-  call_pause = own_pause m heights actions (host actions) can.is_run refl turn.entries after entered turn.pause call_comes
 
   pub call_made : ProjectionsRunAlong → (old mid new : ShownLines) (stand : CallStand) → Shows old mid [] (HostCall func [] ∷ []) → Shows mid new [] turn.entries → stand ≡ stand_of mid.layout turn.pause turn.entries
       → Leads m heights actions stand old new after (call_by_host m before.store func actions).entries (call_by_host m before.store func actions).next
@@ -128,7 +125,7 @@ walk_made law turn before after given left walks old new stand is_outside shows 
     let part = walks m heights (program_alone m) instructions [] frame below here.is_run (λ f n. refl) here.stands in
     let returns : All IsReturn turn.entries = returns_as turn.entries part.returns.each in
     let a = arrives_on m heights actions (outside_of below) here.is_run here.called part.entries after part.last new turn.pause part.returns.pause part.comes in
-    let told : part.before ++ part.last.entries ≡ part.own ++ turn.entries = ap (λ es. part.before ++ es) a.0 ∙ part.told in
+    let printed : part.before ++ part.last.entries ≡ part.own ++ turn.entries = ap (λ es. part.before ++ es) a.0 ∙ part.recorded in
     let none : AreNoTraps (part.own ++ turn.entries) = All-append IsNoTrap part.own turn.entries (steps_none frame.func part.own part.steps) (returns_none turn.entries returns) in
     let outside : side old.layout frame.func ≢ Original = is_outside frame.func (ap func_of here.stands.holds.image.same_frames) in
     let both : Shows old new [] (part.own ++ turn.entries) =
@@ -147,10 +144,10 @@ walk_made law turn before after given left walks old new stand is_outside shows 
       run = λ i. record { history = (run i).history; turns = turns i; at = (run i).at };
       all = part.all;
       leads = record {
-        shows = subst (Shows old new []) (sym told) both;
-        sets = subst SetArguments (sym told) (steps_set frame.func part.own turn.entries part.steps returns);
+        shows = subst (Shows old new []) (sym printed) both;
+        sets = subst SetArguments (sym printed) (steps_set frame.func part.own turn.entries part.steps returns);
         goes_on =
             subst (λ st. GoesOn m heights actions st new (part.before ++ part.last.entries) after part.last.next) (sym same)
-            (a.1 (part.before ++ part.last.entries) turn.entries (subst AreNoTraps (sym told) none));
+            (a.1 (part.before ++ part.last.entries) turn.entries (subst AreNoTraps (sym printed) none));
       };
     }

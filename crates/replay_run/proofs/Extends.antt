@@ -19,7 +19,7 @@ use Rattle.replay_run.specs.declared.calls.CallStand.{CallStand}
 use Rattle.replay_run.specs.declared.calls.CallStand.TheVariants as at
 use Rattle.replay_run.specs.RunsSoFar.{GoesOn, Leads, LeadsOn, MakesStep, ShowsSoFar, StandsAt, WalksOutside}
 use Rattle.host_play.proofs.Joins.{run_continued, run_of}
-use Rattle.replay_run.proofs.Shown.{has_shown, trap_after}
+use Rattle.replay_run.proofs.ShownParts.{has_shown, trap_after}
 
 -- where a call is, after a history without a trap
 pub after_history : (m : Module) (heights : Heights) (actions : List Action) (stand : CallStand) (shown : ShownLines) (history entries : List Entry) (machine : State) (next : Progress)
@@ -43,7 +43,7 @@ module _ (law : ProjectionsRunAlong) (m : Module) (before actions : List Action)
         next = next;
         run = run_continued (program_alone m) instructions initial so.steps count so.history entries so.used used so.next next so.run run;
         all = omega (arith, spent, all);
-        tells = has_shown law shown after_shown so.history entries so.tells leads.shows leads.sets;
+        prints = has_shown law shown after_shown so.history entries so.prints leads.shows leads.sets;
         goes_on = after_history m so.heights actions after after_shown so.history entries after_machine next none leads.goes_on;
       }
 
@@ -51,7 +51,7 @@ module _ (law : ProjectionsRunAlong) (m : Module) (before actions : List Action)
 pub rebudgeted : (m : Module) (actions : List Action) (initial : StepResult) (turns : ℕ) (stand : CallStand) (shown : ShownLines) (machine : State) (left other : ℕ) → (so : ShowsSoFar m actions initial turns stand shown machine left)
     → ShowsSoFar m actions initial (so.used + other) stand shown machine other
 rebudgeted m actions initial turns stand shown machine left other so =
-    record { heights = so.heights; is_run = so.is_run; steps = so.steps; history = so.history; used = so.used; next = so.next; run = so.run; all = refl; tells = so.tells; goes_on = so.goes_on }
+    record { heights = so.heights; is_run = so.is_run; steps = so.steps; history = so.history; used = so.used; next = so.next; run = so.run; all = refl; prints = so.prints; goes_on = so.goes_on }
 
 -- ---- control is at an instruction
 

@@ -1,4 +1,4 @@
-mod Shown
+mod ShownParts
 mod NoTraps
 mod Arrivals
 mod Extends

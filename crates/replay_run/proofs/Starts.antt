@@ -28,9 +28,9 @@ use Rattle.wasm_interp.specs.State.{State, state}
 use Rattle.replay_form.specs.Forms.{IsReplayable}
 use Rattle.replay_run.specs.declared.results.ReplayFault.{ReplayFault}
 use Rattle.replay_run.specs.declared.results.ReplayFault.TheVariants as fault
-use Rattle.host_play.specs.declared.results.Told.{Told}
+use Rattle.host_play.specs.declared.results.PrintedRun.{PrintedRun}
 use Rattle.shown_lines.specs.ShownLines.{ShownLines, lines}
-use Rattle.replay_run.specs.Results.{RefusesForm, RefusesReplay, TellsReplay}
+use Rattle.replay_run.specs.Results.{RefusesForm, RefusesReplay, PrintsReplay}
 use Rattle.replay_run.specs.RunsSoFar.{EndsBy, IsReady, StopsBy, main_of}
 
 none_imported : (m : Module) → m.imports ≡ [] → imported_funcs m ≡ 0
@@ -91,11 +91,11 @@ run_stopped m turns layout entry initial fault.Spent form starts stops = record 
 run_stopped m turns layout entry initial fault.Memory form starts stops = tt
 
 -- `replay` reports a run that is over
-pub run_told : (m : Module) (turns left : ℕ) (layout : Layout) (entry : ℕ) (initial : StepResult) (outcome : Outcome) (shown : ShownLines) (told : Told) → IsReplayable m layout entry → run_start_alone m entry ≡ Ok initial → EndsBy m initial turns outcome shown left → shown.layout ≡ layout
-    → told.text ≡ shown.text ++ line (outcome_text outcome) → (told.entries ≡ shown.entries) × (told.turns ≡ turns - left) × (told.outcome ≡ outcome) → TellsReplay m turns told
-run_told m turns left layout entry initial outcome shown told form starts ends same text rest =
+pub run_printed : (m : Module) (turns left : ℕ) (layout : Layout) (entry : ℕ) (initial : StepResult) (outcome : Outcome) (shown : ShownLines) (printed : PrintedRun) → IsReplayable m layout entry → run_start_alone m entry ≡ Ok initial → EndsBy m initial turns outcome shown left → shown.layout ≡ layout
+    → printed.text ≡ shown.text ++ line (outcome_text outcome) → (printed.entries ≡ shown.entries) × (printed.turns ≡ turns - left) × (printed.outcome ≡ outcome) → PrintsReplay m turns printed
+run_printed m turns left layout entry initial outcome shown printed form starts ends same text rest =
     let all : ends.run.turns + left ≡ turns = ends.all in
-    let spent : told.turns ≡ turns - left = rest.1 in
+    let spent : printed.turns ≡ turns - left = rest.1 in
     let shows : List Entry → Layout → List Entry = λ history l. shown_entries l [] [] history in
     let outcome_is : outcome ≡ shown_outcome layout ends.run.history ends.own = ends.outcome_is ∙ ap (λ l. shown_outcome l ends.run.history ends.own) same in
     record {
@@ -111,9 +111,9 @@ run_told m turns left layout entry initial outcome shown told form starts ends s
       shown = projection layout ends.run.history ends.own;
       projected = refl;
       text =
-          text ∙ ap (λ t. t ++ line (outcome_text outcome)) (ends.tells.text_is ∙ ap (λ l. lines (shows ends.run.history l)) same)
+          text ∙ ap (λ t. t ++ line (outcome_text outcome)) (ends.prints.text_is ∙ ap (λ l. lines (shows ends.run.history l)) same)
           ∙ ap (λ o. lines (shows ends.run.history layout) ++ line (outcome_text o)) outcome_is;
       outcome = rest.2 ∙ outcome_is;
-      entries = rest.0 ∙ ends.tells.entries_are ∙ ap (λ l. length (shows ends.run.history l)) same;
+      entries = rest.0 ∙ ends.prints.entries_are ∙ ap (λ l. length (shows ends.run.history l)) same;
       turns_are = omega (arith, all, spent);
     }

@@ -23,7 +23,7 @@ use Rattle.replay_run.specs.declared.calls.CallStand.{CallStand}
 use Rattle.replay_run.specs.declared.calls.CallStand.TheVariants as at
 use Rattle.replay_run.specs.RunsSoFar.{BeginsCall, BeginsRun, EndsBy, EntersEntry, GoesFrom, IsOver, IsReady, Leads, ShowsSoFar, call_by_host, main_of}
 use Rattle.replay_run.proofs.Extends.{extended}
-use Rattle.replay_run.proofs.Shown.{has_shown}
+use Rattle.replay_run.proofs.ShownParts.{has_shown}
 
 -- the start function is called
 pub run_begun : ProjectionsRunAlong → (entry func : ℕ) (old new : ShownLines) (machine after : State) (stand : CallStand) → BeginsCall old machine func stand new after
@@ -44,7 +44,7 @@ run_begun law entry func old new machine after stand begins m heights turns read
       next = s.next;
       run = ap (λ es. run_of es 0 s.next) (append-nil s.entries);
       all = omega arith;
-      tells = has_shown law old new [] s.entries has leads.shows leads.sets;
+      prints = has_shown law old new [] s.entries has leads.shows leads.sets;
       goes_on = leads.goes_on;
     })
 
@@ -87,7 +87,7 @@ ended_trapped m actions initial turns outcome shown machine left so =
       own = ByTrap;
       ended = refl;
       outcome_is = so.goes_on.1;
-      tells = so.tells;
+      prints = so.prints;
       all = all;
     }
 
@@ -100,6 +100,6 @@ ended_returned m initial turns shown machine left so =
       own = Ended;
       ended = refl;
       outcome_is = refl;
-      tells = so.tells;
+      prints = so.prints;
       all = all;
     }

@@ -10,14 +10,14 @@ use Rattle.history_spec.specs.Projection.{Layout, Projection, projection}
 use Rattle.history_spec.specs.Replay.{alone, instructions, program_alone, run_start_alone}
 use Rattle.history_spec.specs.Run.{Run, run_from}
 use Rattle.history_spec.specs.Step.{Finished, StepResult}
-use Rattle.host_play.specs.declared.results.Told.{Told}
+use Rattle.host_play.specs.declared.results.PrintedRun.{PrintedRun}
 use Rattle.replay_run.specs.declared.results.ReplayFault.{ReplayFault}
 use Rattle.replay_run.specs.declared.results.ReplayFault.TheVariants as fault
 use Rattle.replay_form.specs.Forms.{HasEntry, HasLayout, IsReplayable}
 
 -- the run of the module ends with an outcome within the turns, and the result reports it: the projection as
 -- lines, the number of its entries, and the turns that the run took
-pub record TellsReplay (m : Module) (turns : ℕ) (told : Told) : Type 0 where
+pub record PrintsReplay (m : Module) (turns : ℕ) (printed : PrintedRun) : Type 0 where
   pub layout : Layout
   pub entry : ℕ
   pub form : IsReplayable m layout entry
@@ -29,10 +29,10 @@ pub record TellsReplay (m : Module) (turns : ℕ) (told : Told) : Type 0 where
   pub ended : run.at ≡ Finished own
   pub shown : Projection
   pub projected : projection layout run.history own ≡ shown
-  pub text : told.text ≡ history_text shown.history shown.outcome
-  pub outcome : told.outcome ≡ shown.outcome
-  pub entries : told.entries ≡ length shown.history
-  pub turns_are : told.turns ≡ run.turns
+  pub text : printed.text ≡ history_text shown.history shown.outcome
+  pub outcome : printed.outcome ≡ shown.outcome
+  pub entries : printed.entries ≡ length shown.history
+  pub turns_are : printed.turns ≡ run.turns
 
 -- the run has no outcome within the turns: all are used, and the next instruction takes one
 pub record IsSpentReplay (m : Module) (turns : ℕ) : Type 0 where
@@ -74,6 +74,6 @@ RefusesForm m found = RefusesReplay m 0 found
 
 -- the result of running a replay module within a number of turns: the projection of the run as lines, or a fault with
 -- its cause
-abbrev pub IsReplay : Module → (turns : ℕ) → Result Told ReplayFault → Type 0
-IsReplay m turns (Ok told) = TellsReplay m turns told
+abbrev pub IsReplay : Module → (turns : ℕ) → Result PrintedRun ReplayFault → Type 0
+IsReplay m turns (Ok printed) = PrintsReplay m turns printed
 IsReplay m turns (Err found) = RefusesReplay m turns found

@@ -74,7 +74,7 @@ pub record ShowsSoFar (m : Module) (actions : List Action) (initial : StepResult
   pub run : run_from (program_alone m) instructions initial steps
       ≡ record { history = history; turns = used; at = next }
   pub all : used + left ≡ turns
-  pub tells : HasShown shown history
+  pub prints : HasShown shown history
   pub goes_on : GoesOn m heights actions stand shown history machine next
 
 -- some run has come to this state of its call
@@ -244,7 +244,7 @@ pub record EndsBy (m : Module) (initial : StepResult) (turns : ℕ) (outcome : O
   pub own : Outcome
   pub ended : run.at ≡ Finished own
   pub outcome_is : outcome ≡ shown_outcome shown.layout run.history own
-  pub tells : HasShown shown run.history
+  pub prints : HasShown shown run.history
   pub all : run.turns + left ≡ turns
 
 abbrev pub EndsOrStops : Module → (initial : StepResult) → (turns : ℕ) → Result Outcome ReplayFault → ShownLines

@@ -3,10 +3,10 @@
 #![tactic(auto)]
 
 mod calls;
-mod replays;
+mod replay_runs;
 mod results;
 
 pub use base::NoMemory;
-pub use host_play::Told;
-pub use replays::replay;
+pub use host_play::PrintedRun;
+pub use replay_runs::replay;
 pub use results::ReplayFault;

@@ -10,27 +10,33 @@ use Rattle.history_spec.specs.Instruction.{execute}
 use Rattle.history_spec.specs.Step.{Program, Progress, Running, Finished, Faulted, Stuck, step}
 use Rattle.history_spec.specs.Run.{Meter, steps}
 use Rattle.history_spec.specs.Projection.{Layout, Side, Import, Original, Appended, side, shown_entries}
-use Rattle.replay_run_spec.specs.Inside.{inside_after, args_after}
+use Rattle.replay_run_spec.specs.Inside.{inside_after, inside_after_all, args_after}
 use Rattle.replay_run_spec.specs.Items.{Item, Makes, Changes, Steps, entries_in, changes_of, outside_items, activation_items, steps_items, shown_items}
 use Rattle.replay_run_spec.specs.Laws.{ItemsHoldHistories, ItemsShowProjections}
 use Rattle.replay_run_spec.proofs.Projections.{shown_along}
+
+pub inside_over : (inside : List ℕ) (first second : List Entry)
+    → inside_after_all inside (first ++ second) ≡ inside_after_all (inside_after_all inside first) second
+inside_over inside [] second = refl
+inside_over inside (entry ∷ first) second = inside_over (inside_after inside entry) first second
 
 made : (entries : List Entry) (later : List Item)
     → entries_in (map Makes entries ++ later) ≡ entries ++ entries_in later
 made [] later = refl
 made (entry ∷ entries) later = ap (λ more. entry ∷ more) (made entries later)
 
-changed : (changes : List Effect) (later : List Item) → entries_in (map Changes changes ++ later) ≡ entries_in later
-changed [] later = refl
-changed (change ∷ changes) later = changed changes later
+pub changes_silent : (changes : List Effect) (later : List Item)
+    → entries_in (map Changes changes ++ later) ≡ entries_in later
+changes_silent [] later = refl
+changes_silent (change ∷ changes) later = changes_silent changes later
 
 outside : (s : Side) (globals : ℕ) (program : Program) (store : Store) (frame : Frame) (later : List Item)
     → entries_in (outside_items s globals program store frame ++ later) ≡ entries_in later
 outside Original globals program store frame later = refl
 outside Import globals program store frame later =
-    changed (changes_of globals store frame.at.rest (execute program.code store frame)) later
+    changes_silent (changes_of globals store frame.at.rest (execute program.code store frame)) later
 outside Appended globals program store frame later =
-    changed (changes_of globals store frame.at.rest (execute program.code store frame)) later
+    changes_silent (changes_of globals store frame.at.rest (execute program.code store frame)) later
 
 activation : (layout : Layout) (globals : ℕ) (program : Program) (store : Store) (stack : List Activation)
     (later : List Item)

@@ -1,21 +1,17 @@
 -- Bytes that are joined make the same changes as before.
-use Rattle.std.proofs.Common.{◌≡◌, ℕ, ◌+◌, ◌-◌, ◌≤◌, List, [], ◌∷◌, ◌++◌, length, Option, Some, None, Bool, true, false, nat_eq, nat_le, slice_get, refl, sym, ap, ◌∙◌, arith}
+use Rattle.std.proofs.Common.{◌≡◌, ℕ, ◌+◌, ◌-◌, ◌≤◌, List, [], ◌∷◌, ◌++◌, length, Option, None, Bool, true, false, nat_eq, nat_le, slice_get, refl, sym, ap, ◌∙◌, arith}
 use Rattle.std.specs.Prelude.{cond}
 use Rattle.std.specs.Option.{option_or}
 use Rattle.std.proofs.lemmas.Bool.Decides.{nat_tests}
 use Rattle.std.proofs.lemmas.Option.{slice_get_past}
 use Rattle.base.proofs.Lists.{get_front, get_after}
+use Rattle.base.proofs.Options.{or_none, or_assoc}
 use Rattle.trace_model.specs.declared.tapes.Effect.{Effect}
 use Rattle.trace_model.specs.declared.tapes.Effect.TheVariants.{Grow, Table, Bytes, Entry, Global}
 use Rattle.record_replay_spec.specs.Known.{last_some}
 use Rattle.record_replay_spec.specs.Needed.{effect_byte, effect_entry, effect_global, effect_pages, effect_entries}
-use Rattle.record_replay_spec.proofs.OneList.{or_none}
 use Rattle.replay_run_spec.specs.Stretches.{joined, all_joined}
 use Rattle.replay_run_spec.specs.Laws.{JoinedChangesAreSame}
-
-pub or_assoc : {X : Type 0} (a b c : Option X) → option_or (option_or a b) c ≡ option_or a (option_or b c)
-or_assoc None b c = refl
-or_assoc (Some x) b c = refl
 
 -- joined bytes give what their second part gives, or what their first part gives
 abbrev Splits : {X : Type 0} → (Effect → Option X) → Type 0

@@ -1,4 +1,4 @@
 mod Projections
-mod Histories
+pub mod Histories
 pub mod Joined
 mod Tested

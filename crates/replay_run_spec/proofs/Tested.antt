@@ -1,9 +1,9 @@
 -- What the plain tests decide.
-use Rattle.std.proofs.Common.{◌≡◌, ℕ, zero, suc, ◌+◌, ◌*◌, ◌/◌, List, [], ◌∷◌, length, Some, Bool, true, false, ◌&&◌, nat_le, slice_get, refl, ap, ◌∙◌, subst, arith}
+use Rattle.std.proofs.Common.{◌≡◌, ℕ, zero, suc, ◌+◌, ◌*◌, ◌/◌, List, [], ◌∷◌, length, Some, Bool, true, nat_le, slice_get, refl, ap, ◌∙◌, subst, arith}
 use Rattle.std.specs.Prelude.{drop, sum_by}
 use Rattle.std.specs.List.{slice_index_or}
 use Rattle.std.proofs.lemmas.Bool.Decides.{nat_tests}
-use Rattle.base.proofs.Booleans.{and_parts}
+use Rattle.base.proofs.Booleans.{and_parts, and_true}
 use Rattle.trace_model.specs.declared.tapes.Segment.{Segment}
 use Rattle.trace_model.specs.Weight.{segment_weight}
 use Rattle.replay_run_spec.specs.Stretches.{AreSameChanges}
@@ -34,19 +34,15 @@ each_found test none (x ∷ xs) (first ∷ ys) e zero y h =
 each_found test none (x ∷ xs) (first ∷ ys) e (suc i) y h =
     each_found test none xs ys (and_parts (test x first) (each_passes test none xs ys) e).1 i y h
 
-both_true : (a b : Bool) → a ≡ true → b ≡ true → (a && b) ≡ true
-both_true true b p q = q
-both_true false b p q = cc
-
 each_of_found : {A B : Type 0} (test : A → B → Bool) (none : A) (xs : List A) (ys : List B)
     → ((i : ℕ) (y : B) → slice_get ys i ≡ Some y → test (slice_index_or xs i none) y ≡ true)
     → each_passes test none xs ys ≡ true
 each_of_found test none xs [] found = refl
 each_of_found test none [] (y ∷ ys) found =
-    both_true (test none y) (each_passes test none [] ys) (found 0 y refl)
+    and_true (test none y) (each_passes test none [] ys) (found 0 y refl)
     (each_of_found test none [] ys (λ i. found (suc i)))
 each_of_found test none (x ∷ xs) (y ∷ ys) found =
-    both_true (test x y) (each_passes test none xs ys) (found 0 y refl)
+    and_true (test x y) (each_passes test none xs ys) (found 0 y refl)
     (each_of_found test none xs ys (λ i. found (suc i)))
 
 within : (calls : ℕ) (segments : List Segment) (count : StepCount) → is_within_bound calls segments count ≡ true
@@ -59,7 +55,7 @@ within calls segments count e =
 tested_within : (calls : ℕ) (segments : List Segment) (count : StepCount) → IsWithinBound calls segments count
     → is_within_bound calls segments count ≡ true
 tested_within calls segments count within =
-    both_true (nat_le count.steps (32 + 8 * sum_by segment_weight segments)) (nat_le count.blocks (259 + calls / 256))
+    and_true (nat_le count.steps (32 + 8 * sum_by segment_weight segments)) (nat_le count.blocks (259 + calls / 256))
     (let h = within.steps in grind (arith, nat_tests, h)) (let h = within.blocks in grind (arith, nat_tests, h))
 
 index_of_get : {B : Type 0} (xs : List B) (none : B) (i : ℕ) (x : B) → slice_get xs i ≡ Some x

@@ -6,6 +6,7 @@ use Rattle.std.specs.Option.{option_or}
 use Rattle.std.proofs.lemmas.Bool.Decides.{nat_tests}
 use Rattle.std.proofs.lemmas.List.Elements.{recursion_from_All}
 use Rattle.base.proofs.Options.{cond_some}
+use Rattle.base.proofs.Booleans.{own_number}
 use Rattle.wasm_syntax.specs.declared.values.Val.{Val}
 use Rattle.wasm_syntax.specs.Typing.{is_constant}
 use Rattle.trace_model.specs.declared.tapes.Effect.{Effect}
@@ -17,9 +18,8 @@ use Rattle.record_replay_spec.specs.Observations.{Observation, Begins, Ends, Rea
 use Rattle.record_replay_spec.specs.Known.{Known, read_entry, read_global, written_entry, written_global, last_some}
 use Rattle.record_replay_spec.specs.Windows.{window, unless_some, first_entry, first_global}
 use Rattle.record_replay_spec.specs.Needed.{effect_entry, effect_global, AreNeeded, AreNeededSegments}
-use Rattle.record_replay_spec.proofs.OneList.{entries_after, globals_after}
-use Rattle.tape_laws.proofs.Activities.{needed_is, ordered_rest}
-use Rattle.tape_laws.proofs.Same.{own_number}
+use Rattle.record_replay_spec.proofs.OneList.{entries_after, globals_after, ordered_rest}
+use Rattle.tape_laws.proofs.Activities.{needed_is}
 use Rattle.generated_code_laws.specs.Playable.{WritesBytes, AllWriteBytes}
 use Rattle.replay_module_laws.specs.Written.{IsConstantEffect, IsConstantNext, IsConstantSegment}
 use Rattle.replay_theorem.proofs.ConstantRuns.{AreConstantSeen, IsConstantSeen}

@@ -31,22 +31,19 @@ use Rattle.tape_laws.proofs.TrailRuns.{globals_are_numbers}
 use Rattle.record_replay_spec.specs.declared.hooks.Hook.{Hook}
 use Rattle.record_replay_spec.specs.declared.hooks.Hook.TheVariants.{Arg, Enter, Leave, Pre, Post, Ipre, Ipost, Load, Store as ToStore, Size, Grow, Gget, Gset, Copy, Fill}
 use Rattle.record_replay_spec.specs.Hooks.{HookCall, hook_params, original, renumber}
-use Rattle.record_replay_spec.specs.Order.{HookedShape, OrderState, OrderFrame, InFunction, InCall, shape_of, bits_fit, begins_call, begins_entry, begins_original, ends_call, ends_direct, ends_indirect, enters, fits_global, is_defined, leaves, may_enter, may_tell, ordered_kind, ordered_step, pending_are, stays, value_told, when, with_frames, with_pending, with_size_seen}
+use Rattle.record_replay_spec.specs.Order.{HookedShape, OrderState, OrderFrame, InFunction, InCall, shape_of, bits_fit, begins_call, begins_entry, begins_original, ends_call, ends_direct, ends_indirect, enters, fits_global, is_defined, leaves, may_enter, may_report, ordered_kind, ordered_step, pending_are, stays, value_reported, when, with_frames, with_pending, with_size_seen}
 use Rattle.record_replay_spec.specs.Logs.{LogState, after_events, all_observed_events, call_events, call_observations, events_from, events_or, grown_events, log_after_call, notices_size, observed_by, own_events, value_of_global}
+use Rattle.record_replay_spec.proofs.HookTables.{when_passes}
 use Rattle.replay_theorem.proofs.TypedCalls.{AreTypedCalls, IsTypedCall}
-use Rattle.replay_theorem.proofs.FittingObservations.{AreSmall, number_fits, told_fits, first_arg, original_fits, unless_fits, observed_fit, shown_small, memory_small, memory_reads, memory_writes, memory_copies, table_reads, table_entry}
+use Rattle.replay_theorem.proofs.FittingObservations.{AreSmall, number_fits, reported_fits, first_arg, original_fits, unless_fits, observed_fit, shown_small, memory_small, memory_reads, memory_writes, memory_copies, table_reads, table_entry}
 
 -- ---- the order
-
-when_is : (b : Bool) (state next : OrderState) → when b state ≡ Some next → (b ≡ true) × (state ≡ next)
-when_is true state next is = (refl, cc is)
-when_is false state next is = absurd (cc is)
 
 abbrev PendingFit : OrderState → Type 0
 PendingFit state = AllByRecursion FitsVal state.pending
 
 kept : (b : Bool) (state next : OrderState) → PendingFit state → when b state ≡ Some next → PendingFit next
-kept b state next fit is = subst PendingFit (when_is b state next is).1 fit
+kept b state next fit is = subst PendingFit (when_passes b state next is).1 fit
 
 module _ (shape : HookedShape) where
   left_fit : (state next : OrderState) (func : ℕ) (frames : List OrderFrame) → leaves state func frames ≡ Some next
@@ -91,15 +88,15 @@ module _ (shape : HookedShape) where
   next_fit : (state next : OrderState) (kind : Hook) (args : List Val) (view : Store) → PendingFit state
       → ordered_kind shape state kind args view ≡ Some next → PendingFit next
   next_fit state next Arg args view fit is =
-      let told = map_some (with_pending state) (value_told (bits_at args 0) (bits_at args 1)) next is in
-      subst PendingFit told.2
-      (joined_all FitsVal state.pending (told.0 ∷ []) fit (told_fits (bits_at args 0) (bits_at args 1) told.0 told.1, tt))
+      let reported = map_some (with_pending state) (value_reported (bits_at args 0) (bits_at args 1)) next is in
+      subst PendingFit reported.2
+      (joined_all FitsVal state.pending (reported.0 ∷ []) fit (reported_fits (bits_at args 0) (bits_at args 1) reported.0 reported.1, tt))
   next_fit state next Enter args view fit is = kept _ (with_frames state _) next tt is
   next_fit state next Leave args view fit is = left_fit state next (bits_at args 0) state.frames is
   next_fit state next Pre args view fit is = kept _ (begins_call state true (Some (bits_at args 0))) next tt is
   next_fit state next Post args view fit is = direct_fit state next (bits_at args 0) state.frames is
   next_fit state next Ipre args view fit is =
-      let ready = and_then_some (when (may_tell state && nat_le state.entries (table_length view.table)) state)
+      let ready = and_then_some (when (may_report state && nat_le state.entries (table_length view.table)) state)
       (λ ready. begins_entry shape (with_size_seen ready view (bits_at args 0)) (entry_of view.table (bits_at args 0)))
       next is in
       entry_fit (with_size_seen ready.0 view (bits_at args 0)) next (entry_of view.table (bits_at args 0)) ready.2
@@ -114,11 +111,11 @@ module _ (shape : HookedShape) where
   next_fit state next Fill args view fit is = kept _ state next fit is
 
   -- the number of values for a function that is entered is the number of its parameters
-  told_typed : (state next : OrderState) (func : ℕ) → enters shape state func ≡ Some next
+  reported_typed : (state next : OrderState) (func : ℕ) → enters shape state func ≡ Some next
       → pending_are state (λ ty. ty.params) (shape.type_of func) ≡ true
-  told_typed state next func is =
+  reported_typed state next func is =
       by (is_defined shape func) (pending_are state (λ ty. ty.params) (shape.type_of func))
-      (may_enter shape func state.frames) (when_is _ (with_frames state _) next is).0
+      (may_enter shape func state.frames) (when_passes _ (with_frames state _) next is).0
     where
       by : (a b c : Bool) → (a && b && c) ≡ true → b ≡ true
       by true true c e = refl
@@ -152,8 +149,8 @@ module _ (m : Module) (valid : IsValid m) (short : IsShort m) (n : ℕ) where
       → stays state (fits_global (slice_get shape.globals (bits_at args 0)) (bits_at args 1)) ≡ Some next
       → slice_get shape.globals (bits_at args 0) ≡ Some ty → FitsVal (value_of_global ty (bits_at args 1))
   global_fits state next args ty is there =
-      let test = and_right (may_tell state) (fits_global (slice_get shape.globals (bits_at args 0)) (bits_at args 1))
-      (when_is _ state next is).0 in
+      let test = and_right (may_report state) (fits_global (slice_get shape.globals (bits_at args 0)) (bits_at args 1))
+      (when_passes _ state next is).0 in
       let found : fits_global (Some ty) (bits_at args 1) ≡ true =
       sym (ap (λ o. fits_global o (bits_at args 1)) there) ∙ test in
       number_fits ty.ty (bits_at args 1) (globals_are_numbers m valid.outside (bits_at args 0) ty there)
@@ -212,7 +209,7 @@ module _ (m : Module) (valid : IsValid m) (short : IsShort m) (n : ℕ) where
   own_fit state next Arg args view fit typed same is = tt
   own_fit state next Enter args view fit typed same is =
       let found = as_many shape state (shape.type_of (bits_at args 0))
-      (told_typed shape state next (bits_at args 0) is) in
+      (reported_typed shape state next (bits_at args 0) is) in
       let few = few_params (renumber n (bits_at args 0)) found.0 found.1 in
       let many = found.2 in
       ((first_arg (func_count m) typed.types [] args typed.values same, (omega (arith, few, many), fit)), tt)
@@ -259,36 +256,36 @@ module _ (m : Module) (valid : IsValid m) (short : IsShort m) (n : ℕ) where
       (grown_fit (notices_size call.kind) log.noticed call.view typed.view))
 
   -- the events of hook calls in order have a spelling
-  pub events_fit : (state : OrderState) (log : LogState) (at : ℕ) (calls : List HookCall) (told : List Event)
-      → PendingFit state → AreTypedCalls m calls → events_from shape state log at calls ≡ Ok told
-      → FitEvents VERSION_2 told
-  events_fit state log at [] told fit typed is =
-      let same : [] ≡ told = cc is in subst (FitEvents VERSION_2) same tt
-  events_fit state log at (call ∷ calls) told fit typed is =
+  pub events_fit : (state : OrderState) (log : LogState) (at : ℕ) (calls : List HookCall) (reported : List Event)
+      → PendingFit state → AreTypedCalls m calls → events_from shape state log at calls ≡ Ok reported
+      → FitEvents VERSION_2 reported
+  events_fit state log at [] reported fit typed is =
+      let same : [] ≡ reported = cc is in subst (FitEvents VERSION_2) same tt
+  events_fit state log at (call ∷ calls) reported fit typed is =
       by (ordered_step shape state call) refl
-      (λ next told fit. events_fit next (log_after_call shape log call) (at + 1) calls told fit typed.1) is
+      (λ next reported fit. events_fit next (log_after_call shape log call) (at + 1) calls reported fit typed.1) is
     where
       joined : (next : OrderState) (later : Result (List Event) ℕ) → ordered_step shape state call ≡ Some next
-          → ((told : List Event) → later ≡ Ok told → FitEvents VERSION_2 told)
-          → after_events (call_events shape log state.pending call) later ≡ Ok told → FitEvents VERSION_2 told
+          → ((reported : List Event) → later ≡ Ok reported → FitEvents VERSION_2 reported)
+          → after_events (call_events shape log state.pending call) later ≡ Ok reported → FitEvents VERSION_2 reported
       joined next (Err number) step rest e = absurd (cc e)
       joined next (Ok later) step rest e =
           let parts = cond_some (same_types (hook_params call.kind) (types_of call.args))
           (ordered_kind shape state call.kind call.args call.view) next step in
-          let same : call_events shape log state.pending call ++ later ≡ told = cc e in
+          let same : call_events shape log state.pending call ++ later ≡ reported = cc e in
           subst (FitEvents VERSION_2) same
           (joined_all (FitsEvent VERSION_2) (call_events shape log state.pending call) later
           (call_fit state next log call fit typed.0 parts.0 parts.1) (rest later refl))
 
       by : (o : Option OrderState) → ordered_step shape state call ≡ o
-          → ((next : OrderState) (told : List Event) → PendingFit next
-          → events_from shape next (log_after_call shape log call) (at + 1) calls ≡ Ok told → FitEvents VERSION_2 told)
+          → ((next : OrderState) (reported : List Event) → PendingFit next
+          → events_from shape next (log_after_call shape log call) (at + 1) calls ≡ Ok reported → FitEvents VERSION_2 reported)
           → events_or at o (λ next. after_events (call_events shape log state.pending call)
-          (events_from shape next (log_after_call shape log call) (at + 1) calls)) ≡ Ok told → FitEvents VERSION_2 told
+          (events_from shape next (log_after_call shape log call) (at + 1) calls)) ≡ Ok reported → FitEvents VERSION_2 reported
       by None step rest e = absurd (cc e)
       by (Some next) step rest e =
           let parts = cond_some (same_types (hook_params call.kind) (types_of call.args))
           (ordered_kind shape state call.kind call.args call.view) next step in
           joined next (events_from shape next (log_after_call shape log call) (at + 1) calls) step
-          (λ told f. rest next told
+          (λ reported f. rest next reported
           (next_fit shape state next call.kind call.args call.view fit parts.1) f) e

@@ -1,5 +1,6 @@
 -- The log of a recorded run has a spelling.
-use Rattle.std.proofs.Common.{◌≡◌, ℕ, List, Result, Ok, Err, refl, sym, ◌∙◌, subst}
+use Rattle.std.proofs.Common.{◌≡◌, ℕ, List, Result, Ok, Err, refl, subst}
+use Rattle.base.proofs.Results.{same_ok}
 use Rattle.host_script.specs.declared.scripts.Script.{Script}
 use Rattle.trace_model.specs.declared.events.Event.{Event}
 use Rattle.trace_model.specs.declared.events.Log.{Log}
@@ -18,9 +19,6 @@ use Rattle.run_recorder.specs.Records.{calls_in}
 use Rattle.replay_theorem.specs.RecordLaws.{LogsHaveSpellings, recorded_run}
 use Rattle.replay_theorem.proofs.TypedCalls.{AreTypedCalls, calls_typed}
 use Rattle.replay_theorem.proofs.FittingEvents.{events_fit}
-
-log_same : (found : Result Log ℕ) (a b : Log) → found ≡ Ok a → found ≡ Ok b → a ≡ b
-log_same found a b e f = cc (sym e ∙ f)
 
 pub fitting_logs : ValidCodeHasHeights → ValidCodeIsTyped → InstructionsHaveRules → StartsAreSafe → StepsAreSafe
     → LogsHaveSpellings
@@ -54,10 +52,10 @@ fitting_logs has_heights is_typed rules starts steps m script store weighing imp
         → events_from (shape_of imports m) (order_start (table_length store.table)) (log_start store) 0
         (calls_in (recorded_run m script store weighing imports budget) is.within.count) ≡ found
         → log_with imports outcome found ≡ Ok log → FitEvents VERSION_2 log.events
-    by (Ok told) e f =
+    by (Ok reported) e f =
         subst (λ (log : Log). FitEvents VERSION_2 log.events)
-        (log_same (log_with imports outcome (Ok told)) (record { imports = imports; events = told; outcome = outcome })
+        (same_ok (log_with imports outcome (Ok reported)) (record { imports = imports; events = reported; outcome = outcome })
         log refl f)
         (events_fit m can.runnable.valid can.short imports (order_start (table_length store.table)) (log_start store) 0
-        (calls_in (recorded_run m script store weighing imports budget) is.within.count) told tt calls e)
+        (calls_in (recorded_run m script store weighing imports budget) is.within.count) reported tt calls e)
     by (Err number) e f = absurd (cc f)

@@ -28,7 +28,7 @@ use Rattle.record_replay_spec.specs.Known.{entry_of}
 use Rattle.type_safety.specs.Values.{AreValues, count_of}
 use Rattle.type_safety.specs.Stores.{MayBeMemory, MayBeTable}
 use Rattle.record_replay_spec.specs.Hooks.{hook_count, on, original}
-use Rattle.record_replay_spec.specs.Order.{bits_fit, value_if_fits, value_told}
+use Rattle.record_replay_spec.specs.Order.{bits_fit, value_if_fits, value_reported}
 use Rattle.record_replay_spec.specs.Logs.{LogState, all_observed_events, differing_runs, found_events, log_after, observed_events, same_bits, same_entry, seen_events, sees_size, unless, with_first_byte}
 
 -- ---- values
@@ -46,8 +46,8 @@ fitted ty bits v number is =
     let same : record { ty = ty; bits = bits } ≡ v = cc fit.1 in
     subst FitsVal same (number_fits ty bits number fit.0)
 
-pub told_fits : (byte bits : ℕ) (v : Val) → value_told byte bits ≡ Some v → FitsVal v
-told_fits byte bits v =
+pub reported_fits : (byte bits : ℕ) (v : Val) → value_reported byte bits ≡ Some v → FitsVal v
+reported_fits byte bits v =
     by (nat_eq byte TYPE_I32) (nat_eq byte TYPE_I64) (nat_eq byte TYPE_F32) (nat_eq byte TYPE_F64)
   where
     by : (a b c d : Bool)

@@ -3,7 +3,7 @@ use Rattle.std.proofs.Common.{◌≡◌, ℕ, ◌*◌, ◌<◌, ◌≤◌, List,
 use Rattle.std.specs.Prelude.{IfSome, option_and_then}
 use Rattle.std.specs.Option.{option_or}
 use Rattle.std.proofs.lemmas.Bool.Decides.{nat_tests}
-use Rattle.base.proofs.Options.{map_some}
+use Rattle.base.proofs.Options.{map_some, or_none}
 use Rattle.wasm_syntax.specs.declared.limits.TheConstants.{PAGE_SIZE}
 use Rattle.trace_model.specs.declared.tapes.Effect.{Effect}
 use Rattle.trace_model.specs.declared.tapes.Effect.TheVariants.{Grow, Table as GrowTable, Bytes, Entry, Global}
@@ -22,7 +22,7 @@ use Rattle.tape_laws.proofs.Held.{whole_pages}
 use Rattle.tape_laws.proofs.Effects.{AreChanges}
 use Rattle.record_replay_spec.proofs.OneList.{pages_after}
 use Rattle.tape_laws.proofs.Activities.{HasSizes, changes_after, no_table_growth, size_between}
-use Rattle.tape_laws.proofs.Activity.{size_needed, or_nothing}
+use Rattle.tape_laws.proofs.Activity.{size_needed}
 
 -- changes of bytes, entries and globals give no size
 changes_grow : (effects : List Effect) (store : Store) → AreChanges effects → AllGrowSizes store effects
@@ -119,7 +119,7 @@ module _ (known : Known) (window : List Observation) (store : Store) (sizes : Ha
                 let same = same_table other next size is in
                 let less = few in
                 rest_grows next size effects (omega (arith, same, less)) order
-                (sym (or_nothing (last_some effect_entries effects)) ∙ count),
+                (sym (or_none (last_some effect_entries effects)) ∙ count),
           )
       go (GrowTable size ∷ effects) order grown count = table_grows other size effects few order count
       go (Bytes address bytes ∷ effects) order grown count =

@@ -4,7 +4,7 @@ mod Growths
 mod GrowingRuns
 mod Counts
 mod Whole
-mod Recorded
+pub mod Recorded
 mod Originals
 mod OneRecord
 mod TypedCalls

@@ -2,6 +2,8 @@
 use Rattle.std.proofs.Common.{◌≡◌, ℕ, zero, suc, ◌+◌, ◌<◌, ◌≤◌, List, [], ◌∷◌, ◌++◌, Option, Some, None, Bool, true, false, nat_lt, Result, Ok, Err, refl, sym, ap, ◌∙◌, subst, arith}
 use Rattle.std.proofs.lemmas.Bool.{ltb-true, ltb-false}
 use Rattle.base.specs.declared.outcomes.Outcome.{Outcome}
+use Rattle.base.proofs.Options.{none_some, same_some}
+use Rattle.base.proofs.Results.{same_ok, ok_err}
 use Rattle.trace_model.specs.declared.events.Log.{Log}
 use Rattle.history_spec.specs.declared.entries.FaultKind.{FaultKind}
 use Rattle.history_spec.specs.Configuration.{Config}
@@ -18,6 +20,7 @@ use Rattle.host_play.specs.declared.results.PlayFault.TheVariants as refusal
 use Rattle.host_play.specs.HookedResults.{steps_of}
 use Rattle.instrumented_run_laws.proofs.RunTurns.{first_in_order, fewer_first, over_last, over_same}
 use Rattle.run_recorder.specs.Records.{RecordedRun, calls_in, disorder_in, IsLog, IsFaulty, IsSpentInOrder, IsOutOfOrder, IsRecord}
+use Rattle.type_safety.proofs.OneResult.{same_run, over_spent, same_outcome, same_kind, ended_faulted}
 
 -- the first call out of order remains the first if more calls follow
 later_disorder : (shape : HookedShape) (state : OrderState) (at : ℕ) (first later : List HookCall) (number : ℕ)
@@ -70,33 +73,6 @@ more_turns program meter (suc k) (suc l) (Faulted kind) config e less = absurd (
 more_turns program meter (suc k) (suc l) Stuck config e less = absurd (cc e)
 
 -- ---- differences, and equal results
-
-none_some : {X : Type 0} (o : Option X) (x : X) → o ≡ None → o ≡ Some x → ⊥
-none_some o x e f = absurd (cc (sym e ∙ f))
-
-same_some : {X : Type 0} (o : Option X) (x y : X) → o ≡ Some x → o ≡ Some y → x ≡ y
-same_some o x y e f = cc (sym e ∙ f)
-
-same_ok : {X Y : Type 0} (r : Result X Y) (x y : X) → r ≡ Ok x → r ≡ Ok y → x ≡ y
-same_ok r x y e f = cc (sym e ∙ f)
-
-ok_err : {X Y : Type 0} (r : Result X Y) (x : X) (y : Y) → r ≡ Ok x → r ≡ Err y → ⊥
-ok_err r x y e f = absurd (cc (sym e ∙ f))
-
-same_run : (a b : Run) → budget.Over a ≡ budget.Over b → a ≡ b
-same_run a b e = cc e
-
-over_spent : (a : Run) → budget.Over a ≡ budget.Spent → ⊥
-over_spent a e = absurd (cc e)
-
-same_outcome : (at : Progress) (a b : Outcome) → at ≡ Finished a → at ≡ Finished b → a ≡ b
-same_outcome at a b e f = cc (sym e ∙ f)
-
-same_kind : (at : Progress) (a b : FaultKind) → at ≡ Faulted a → at ≡ Faulted b → a ≡ b
-same_kind at a b e f = cc (sym e ∙ f)
-
-ended_faulted : (at : Progress) (a : Outcome) (b : FaultKind) → at ≡ Finished a → at ≡ Faulted b → ⊥
-ended_faulted at a b e f = absurd (cc (sym e ∙ f))
 
 -- ---- one answer
 

@@ -1,29 +1,27 @@
 -- The record of an instrumented module's run, as a statement on the original's run.
-use Rattle.std.proofs.Common.{◌≡◌, ℕ, zero, suc, List, [], ◌∷◌, ◌++◌, ◌≤◌, Option, Some, None, refl, sym, ap, ◌∙◌, subst, replicate, option_map}
-use Rattle.std.proofs.lemmas.List.{length-map}
+use Rattle.std.proofs.Common.{◌≡◌, ℕ, zero, suc, List, [], ◌∷◌, ◌++◌, ◌≤◌, Option, Some, None, refl, sym, ap, ◌∙◌, subst, replicate}
 use Rattle.host_script.specs.declared.scripts.Answer.{Answer}
 use Rattle.host_script.specs.declared.scripts.Script.{Script}
 use Rattle.base.specs.declared.outcomes.Outcome.{Outcome}
 use Rattle.trace_model.specs.declared.events.Log.{Log}
 use Rattle.history_spec.specs.declared.entries.FaultKind.{FaultKind}
 use Rattle.history_spec.specs.Budget.{RunResult, Over, Spent, IsResult, IsSpent}
-use Rattle.history_spec.specs.Store.{Table}
-use Rattle.history_spec.specs.Instantiation.{table_length}
 use Rattle.history_spec.specs.Run.{Meter, Run, all_one, program_of, start_in_store}
 use Rattle.wasm_syntax.specs.Index.{imported_funcs}
 use Rattle.wasm_flat.specs.Meters.{meter_of}
-use Rattle.record_replay_spec.specs.Hooks.{hook_count, renumber, renumbered_table, renumbered_view}
+use Rattle.record_replay_spec.specs.Hooks.{hook_count, renumbered_view}
 use Rattle.record_replay_spec.specs.Order.{order_start, first_disorder}
 use Rattle.record_replay_spec.specs.HookedRuns.{first_answers, hook_answer, hooked_script, renumbered_script}
 use Rattle.record_replay_spec.specs.Instrumented.{instrumented_weights, instrumented_meter}
 use Rattle.tape_laws.specs.CallLaws.{OriginalRun, hooked_shape}
+use Rattle.tape_laws.proofs.CallOrder.{same_length}
 use Rattle.instrumented_module_laws.specs.Links.{script_with_hooks}
 use Rattle.instrumented_run_laws.specs.Laws.{AreAlike, InstrumentedRunsFollow, instrumented_calls, instrumented_of, instrumented_program, instrumented_start, original_program, original_run, original_start}
 use Rattle.replay_theorem.specs.RecordedRunLaws.{RecordedRunsAreReplayed, WeightsMeanMeters}
 use Rattle.host_play.specs.HookedResults.{HookedRun}
 use Rattle.host_play.specs.Results.{IsFault}
 use Rattle.run_recorder.specs.Records.{RecordedRun, IsFaulty, IsLog, IsOutOfOrder, IsSpentInOrder}
-use Rattle.replay_theorem.specs.RecordedOriginalLaws.{IsLogOfRun, RecordsTellOriginals, record_of}
+use Rattle.replay_theorem.specs.RecordedOriginalLaws.{IsLogOfRun, RecordsReportOriginals, record_of}
 
 -- ---- hooks are answered once
 
@@ -77,10 +75,10 @@ same_record meters run turns =
 
 -- ---- logs
 
-log_told : RecordedRunsAreReplayed → (run : OriginalRun) (turns : ℕ) (outcome : Outcome) (log : Log)
+log_reported : RecordedRunsAreReplayed → (run : OriginalRun) (turns : ℕ) (outcome : Outcome) (log : Log)
     → IsLog (plain_record run turns) outcome log → IsLogOfRun run turns outcome log
 unfolding plain_record plain_of
-log_told replayed run turns outcome log is =
+log_reported replayed run turns outcome log is =
     let found = replayed run is.within.count outcome (ap (λ (r : Run). r.at) is.within.is_run ∙ is.ends) in
     record {
       count = found.0;
@@ -92,10 +90,10 @@ log_told replayed run turns outcome log is =
 
 -- ---- faults and spent turns
 
-fault_told : InstrumentedRunsFollow → (run : OriginalRun) (turns turn : ℕ) (kind : FaultKind) → IsFaulty (plain_record run turns) turn kind
+fault_reported : InstrumentedRunsFollow → (run : OriginalRun) (turns turn : ℕ) (kind : FaultKind) → IsFaulty (plain_record run turns) turn kind
     → IsFault (original_program run) (original_start run) turns turn kind
 unfolding plain_record plain_of
-fault_told follow run turns turn kind is =
+fault_reported follow run turns turn kind is =
     let found = (follow run).instrumented_results turns (Over is.after) is.within in
     go found.0 found.1 found.2
   where
@@ -105,10 +103,10 @@ fault_told follow run turns turn kind is =
         record { run = other; within = within; kind_is = sym alike.0 ∙ is.kind_is; turn_is = sym alike.1 ∙ is.turn_is }
     go Spent within alike = absurd alike
 
-spent_told : InstrumentedRunsFollow → (run : OriginalRun) (turns : ℕ) → IsSpentInOrder (plain_record run turns)
+spent_reported : InstrumentedRunsFollow → (run : OriginalRun) (turns : ℕ) → IsSpentInOrder (plain_record run turns)
     → IsSpent (original_run run) all_one turns
 unfolding plain_record plain_of
-spent_told follow run turns is =
+spent_reported follow run turns is =
     let found = (follow run).instrumented_results turns Spent is.spent in
     go found.0 found.1 found.2
   where
@@ -118,10 +116,6 @@ spent_told follow run turns is =
     go Spent spent alike = spent
 
 -- ---- order
-
-same_length : (n : ℕ) (table : Option Table) → table_length (option_map (renumbered_table n) table) ≡ table_length table
-same_length n None = refl
-same_length n (Some table) = length-map table.entries (option_map (renumber n))
 
 abbrev IsNone : Option ℕ → Type 0
 IsNone None = Unit {0}
@@ -135,12 +129,12 @@ in_order follow run turns number is =
     ((follow run).ordered is.count) in
     subst IsNone (sym none ∙ is.first) tt
 
-pub tells : WeightsMeanMeters → InstrumentedRunsFollow → RecordedRunsAreReplayed → RecordsTellOriginals
-tells meters follow replayed = λ run turns.
+pub reports : WeightsMeanMeters → InstrumentedRunsFollow → RecordedRunsAreReplayed → RecordsReportOriginals
+reports meters follow replayed = λ run turns.
     let same = same_record meters run turns in
     record {
-      logs = λ outcome log is. log_told replayed run turns outcome log (subst (λ r. IsLog r outcome log) same is);
-      faults = λ turn kind is. fault_told follow run turns turn kind (subst (λ r. IsFaulty r turn kind) same is);
-      spends = λ is. spent_told follow run turns (subst IsSpentInOrder same is);
+      logs = λ outcome log is. log_reported replayed run turns outcome log (subst (λ r. IsLog r outcome log) same is);
+      faults = λ turn kind is. fault_reported follow run turns turn kind (subst (λ r. IsFaulty r turn kind) same is);
+      spends = λ is. spent_reported follow run turns (subst IsSpentInOrder same is);
       ordered = λ number is. in_order follow run turns number (subst (λ r. IsOutOfOrder r number) same is);
     }

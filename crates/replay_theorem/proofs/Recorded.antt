@@ -22,7 +22,7 @@ weights_mean_meters keep m digest = λ i. record {
   action = 1;
 }
 
-over_at : (at : Progress) (outcome : Outcome) → at ≡ Finished outcome → IsOver at
+pub over_at : (at : Progress) (outcome : Outcome) → at ≡ Finished outcome → IsOver at
 over_at at outcome same = subst IsOver (sym same) tt
 
 module _ (follows : InstrumentedRunsFollow) (replays : RunsAreReplayedFromLogs) (run : OriginalRun)
@@ -38,7 +38,7 @@ module _ (follows : InstrumentedRunsFollow) (replays : RunsAreReplayedFromLogs) 
         turns = turns;
         log = ap
             (λ calls. log_of (hooked_shape run) (renumbered_view (imported_funcs run.m) run.store) calls outcome)
-            ((follows run).told_all count steps outcome outcome original instrumented);
+            ((follows run).reported_all count steps outcome outcome original instrumented);
         shown = replays run count outcome original;
       }
 

@@ -24,8 +24,8 @@ use Rattle.type_safety.specs.Results.{HasRule}
 use Rattle.record_replay_spec.specs.declared.hooks.Hook.{Hook}
 use Rattle.record_replay_spec.specs.Hooks.{HookCall, hooks, on}
 use Rattle.record_replay_spec.specs.HookedRuns.{call_of_hook, calls_among, hook_calls}
-use Rattle.instrumented_run_laws.proofs.Leads.{returns_tell_none, settles_untold}
-use Rattle.instrumented_run_laws.proofs.Untold.{acted_untold}
+use Rattle.instrumented_run_laws.proofs.Leads.{returns_report_none, settles_unreported}
+use Rattle.instrumented_run_laws.proofs.QuietSteps.{acted_unreported}
 
 -- a hook call has values of some types, and its view is a store of the module
 pub record IsTypedCall (m : Module) (call : HookCall) : Type 0 where
@@ -57,7 +57,7 @@ module _ (rules : InstructionsHaveRules) (m : Module) (heights : Heights) (valid
   answer_typed None store counts func types args stack values is_store = tt
   answer_typed (Some response) store counts func types args stack values is_store =
       joined_all (IsTypedCall m) (call_of_hook n func args store) _ (hook_typed func types args store values is_store)
-      (none_typed m _ (settles_untold n store (InImport func args response.actions response.«end» ∷ stack) []))
+      (none_typed m _ (settles_unreported n store (InImport func args response.actions response.«end» ∷ stack) []))
 
   call_typed : (b : Bool) (store : Store) (counts : List ℕ) (func : ℕ) (types : List ValType) (args : List Val)
       (stack : List Activation) → AreValues (func_count m) types args → IsStore m store
@@ -67,20 +67,20 @@ module _ (rules : InstructionsHaveRules) (m : Module) (heights : Heights) (valid
       values is_store
   call_typed false store counts func types args stack values is_store =
       none_typed m _
-      (acted_untold n store program (record { store = store; stack = stack; counts = counts }) stack (Enters func args))
+      (acted_unreported n store program (record { store = store; stack = stack; counts = counts }) stack (Enters func args))
 
   control_typed : (config : Config) (frame : Frame) (ty : FuncType) (body : Definition) (below : List Activation)
       (executed : Execution) → IsStore m config.store → HasRule (scope m heights frame.func ty body) executed
       → AreTypedCalls m (calls_among n config.store (after_instruction program config frame below executed).entries)
   control_typed config frame ty body below (Did operands results found (Goes store next)) is_store rule =
-      none_typed m _ (settles_untold n config.store (InModule next ∷ below) [])
+      none_typed m _ (settles_unreported n config.store (InModule next ∷ below) [])
   control_typed config frame ty body below (Did operands results found (Calls waiting func args)) is_store rule =
       call_typed (nat_lt func program.code.imported) config.store config.counts func rule.0.params args
       (InModule waiting ∷ below) rule.3 is_store
   control_typed config frame ty body below (Did operands results found (Returns values)) is_store rule =
       none_typed m _
-      (returns_tell_none n frame.func config.store values below (deliver below values).entries
-      ∙ settles_untold n config.store below values)
+      (returns_report_none n frame.func config.store values below (deliver below values).entries
+      ∙ settles_unreported n config.store below values)
   control_typed config frame ty body below (Traps kind operands found) is_store rule = tt
   control_typed config frame ty body below NoRule is_store rule = tt
 
@@ -100,12 +100,12 @@ module _ (rules : InstructionsHaveRules) (m : Module) (heights : Heights) (valid
   stack_typed config (InMain [] ∷ below) is_store a going = tt
   stack_typed config (InMain (action ∷ actions) ∷ below) is_store a going =
       none_typed m _
-      (acted_untold n config.store program config (InMain actions ∷ below)
+      (acted_unreported n config.store program config (InMain actions ∷ below)
       (perform program.code config.store [] action))
   stack_typed config (InImport import args [] «end» ∷ below) is_store a going = tt
   stack_typed config (InImport import args (action ∷ actions) «end» ∷ below) is_store a going =
       none_typed m _
-      (acted_untold n config.store program config (InImport import args actions «end» ∷ below)
+      (acted_unreported n config.store program config (InImport import args actions «end» ∷ below)
       (perform program.code config.store args action))
 
   -- the hook calls of a number of steps

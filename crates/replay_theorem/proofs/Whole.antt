@@ -2,6 +2,7 @@
 use Rattle.std.proofs.Common.{◌≡◌, ℕ, suc, ◌≤◌, List, [], ◌∷◌, ◌++◌, Ok, length, refl, sym, ap, ◌∙◌, subst, arith}
 use Rattle.std.proofs.lemmas.Slice.Zip.{AllZip-long}
 use Rattle.std.proofs.lemmas.List.{append-nil, length-append}
+use Rattle.wasm_syntax.specs.declared.limits.TheConstants.{MAX_TAPE_WEIGHT}
 use Rattle.wasm_syntax.specs.declared.modules.Module.{Module}
 use Rattle.wasm_syntax.specs.Index.{all_globals}
 use Rattle.base.specs.declared.outcomes.Outcome.{Outcome}
@@ -29,7 +30,7 @@ use Rattle.tape_laws.proofs.SafeRuns.{safe_run}
 use Rattle.tape_laws.specs.LogLaws.{LogsGiveNeededTapes}
 use Rattle.generated_code_laws.specs.Laws.{AreEffectsOfFirst, ReplaysShowOutcomes, ReplaysMakeEffects}
 use Rattle.replay_module_spec.specs.Merge.{layout_of}
-use Rattle.generated_code_laws.specs.Playable.{most_weight, replay_of, replay_run, shown_run}
+use Rattle.generated_code_laws.specs.Playable.{replay_of, replay_run, shown_run}
 use Rattle.tape_laws.proofs.HostStores.{sizes_of}
 use Rattle.tape_laws.proofs.AllSteps.{opening_holds, started}
 use Rattle.replay_theorem.specs.Laws.{NeededTapesWriteBytes, NeededTapesArePlayable, NeededTapesGrowSizes, RunsAreReplayed, RunsAreReplayedFromLogs}
@@ -115,7 +116,7 @@ runs_are_replayed one playable grow show make held project m script supply store
     let replays = found.1.replays in
     let history = (run_from program all_one initial count).history in
     let needed = found.1.is_needed in
-    let shows : tape_weight tape ≤ most_weight
+    let shows : tape_weight tape ≤ MAX_TAPE_WEIGHT
     → Replays (replay_of m supply tape) (layout_of m) (start_index m) history outcome = λ light.
     subst (λ entries. Replays (replay_of m supply tape) (layout_of m) (start_index m) entries outcome)
     (ap (λ (t : TapeResult). t.entries) replays.shows)

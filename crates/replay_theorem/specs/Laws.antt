@@ -1,5 +1,6 @@
 -- The laws of runs and replay modules: the tape that a run needs has a replay module, which shows the run.
 use Rattle.std.specs.Prelude.{◌≡◌, ℕ, ◌≤◌, List, Ok, All}
+use Rattle.wasm_syntax.specs.declared.limits.TheConstants.{MAX_TAPE_WEIGHT}
 use Rattle.wasm_syntax.specs.declared.modules.Module.{Module}
 use Rattle.host_script.specs.declared.scripts.Script.{Script}
 use Rattle.host_script.specs.declared.scripts.Supply.{Supply}
@@ -25,7 +26,7 @@ use Rattle.tape_laws.specs.NeededTape.{IsOneNeededTape}
 use Rattle.tape_laws.specs.CallLaws.{OriginalRun}
 use Rattle.tape_laws.specs.LogLaws.{log_of_run}
 use Rattle.replay_module_spec.specs.Merge.{layout_of}
-use Rattle.generated_code_laws.specs.Playable.{AllWriteBytes, IsPlayable, GrowsAlways, most_weight, replay_of, replay_run, shown_run}
+use Rattle.generated_code_laws.specs.Playable.{AllWriteBytes, IsPlayable, GrowsAlways, replay_of, replay_run, shown_run}
 
 -- ---- needed tapes
 
@@ -44,7 +45,7 @@ NeededTapesArePlayable =
     (m : Module) (script : Script) (supply : Supply) (store : Store) (tape : Tape)
     → IsRunnable m → Fits m script → supply_of m script ≡ Ok supply → instantiate m supply ≡ Ok store
     → IsNeededTape (program_of m script) (start_in_store m script store) store tape.segments
-    → tape_weight tape ≤ most_weight → IsPlayable m supply store tape
+    → tape_weight tape ≤ MAX_TAPE_WEIGHT → IsPlayable m supply store tape
 
 -- each effect of a needed tape that gives a size, in the tape's own run, gives a greater one
 abbrev pub NeededTapesGrowSizes : Type 0
@@ -71,9 +72,9 @@ MakesEffectsOf m supply tape =
 pub record IsShownByReplay (m : Module) (script : Script) (supply : Supply) (store : Store) (history : List Entry)
     (outcome : Outcome) (tape : Tape) : Type 0 where
   pub is_one : IsOneNeededTape m script store history outcome tape.segments
-  pub shows : tape_weight tape ≤ most_weight
+  pub shows : tape_weight tape ≤ MAX_TAPE_WEIGHT
       → Replays (replay_of m supply tape) (layout_of m) (start_index m) history outcome
-  pub makes : tape_weight tape ≤ most_weight → MakesEffectsOf m supply tape
+  pub makes : tape_weight tape ≤ MAX_TAPE_WEIGHT → MakesEffectsOf m supply tape
 
 -- for each module that can be run, and each script that fits it and links with it, nested to any depth: if the run has
 -- an outcome, the replay module of its one needed tape shows the run

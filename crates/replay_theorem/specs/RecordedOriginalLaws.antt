@@ -40,7 +40,7 @@ pub record IsLogOfRun (run : OriginalRun) (turns : ℕ) (outcome : Outcome) (log
 
 -- a recorded log is that of the original's run; if the record ends by a fault of the script, or by spent turns, so
 -- does the original's run; and no hook call is out of order
-pub record TellsOriginal (run : OriginalRun) (turns : ℕ) : Type 0 where
+pub record ReportsOriginal (run : OriginalRun) (turns : ℕ) : Type 0 where
   pub logs : (outcome : Outcome) (log : Log) → IsLog (record_of run turns) outcome log
       → IsLogOfRun run turns outcome log
   pub faults : (turn : ℕ) (kind : FaultKind) → IsFaulty (record_of run turns) turn kind
@@ -49,5 +49,5 @@ pub record TellsOriginal (run : OriginalRun) (turns : ℕ) : Type 0 where
   pub ordered : (number : ℕ) → IsOutOfOrder (record_of run turns) number → ⊥
 
 -- the record of every instrumented run determines how the original's run ends
-abbrev pub RecordsTellOriginals : Type 0
-RecordsTellOriginals = (run : OriginalRun) (turns : ℕ) → TellsOriginal run turns
+abbrev pub RecordsReportOriginals : Type 0
+RecordsReportOriginals = (run : OriginalRun) (turns : ℕ) → ReportsOriginal run turns

@@ -15,5 +15,5 @@ pub use laws::{
     runs_are_replayed, runs_are_replayed_from_logs,
 };
 pub use record_laws::{logs_have_spellings, records_are_one};
-pub use recorded_original_laws::records_tell_originals;
+pub use recorded_original_laws::records_report_originals;
 pub use recorded_run_laws::{recorded_runs_are_replayed, runs_are_recorded, weights_mean_meters};

@@ -20,28 +20,28 @@ IsNumber (Ok events) = ⊥
 IsNumber (Err number) = Unit {0}
 
 -- if there are events of two parts, there are events of the second part
-later_events : (first : List Event) (later : Result (List Event) ℕ) (told : List Event) → after_events first later ≡ Ok told
+later_events : (first : List Event) (later : Result (List Event) ℕ) (reported : List Event) → after_events first later ≡ Ok reported
     → (rest : List Event) × (later ≡ Ok rest)
-later_events first (Ok rest) told is = (rest, refl)
-later_events first (Err number) told is = absurd (subst IsNumber is tt)
+later_events first (Ok rest) reported is = (rest, refl)
+later_events first (Err number) reported is = absurd (subst IsNumber is tt)
 
 -- if calls have events, each of the calls is in order
-in_order : (shape : HookedShape) (order : OrderState) (log : LogState) (at : ℕ) (calls : List HookCall) (told : List Event)
-    → events_from shape order log at calls ≡ Ok told → first_disorder shape order at calls ≡ None
-in_order shape order log at [] told is = refl
-in_order shape order log at (call ∷ calls) told is =
-    go (ordered_step shape order call) (λ next told. in_order shape next (log_after_call shape log call) (at + 1) calls told) is
+in_order : (shape : HookedShape) (order : OrderState) (log : LogState) (at : ℕ) (calls : List HookCall) (reported : List Event)
+    → events_from shape order log at calls ≡ Ok reported → first_disorder shape order at calls ≡ None
+in_order shape order log at [] reported is = refl
+in_order shape order log at (call ∷ calls) reported is =
+    go (ordered_step shape order call) (λ next reported. in_order shape next (log_after_call shape log call) (at + 1) calls reported) is
   where
     go : (next : Option OrderState)
-        → ((next : OrderState) (told : List Event) → events_from shape next (log_after_call shape log call) (at + 1) calls ≡ Ok told
+        → ((next : OrderState) (reported : List Event) → events_from shape next (log_after_call shape log call) (at + 1) calls ≡ Ok reported
         → first_disorder shape next (at + 1) calls ≡ None)
         → events_or at next (λ next. after_events (call_events shape log order.pending call)
-        (events_from shape next (log_after_call shape log call) (at + 1) calls)) ≡ Ok told
+        (events_from shape next (log_after_call shape log call) (at + 1) calls)) ≡ Ok reported
         → number_or at next (λ next. first_disorder shape next (at + 1) calls) ≡ None
     go None rest is = absurd (subst IsNumber is tt)
     go (Some next) rest is =
         let later = later_events (call_events shape log order.pending call)
-        (events_from shape next (log_after_call shape log call) (at + 1) calls) told is in
+        (events_from shape next (log_after_call shape log call) (at + 1) calls) reported is in
         rest next later.0 later.1
 
 pub led : {S : Type 0} (has_taken : S → List Event → Type 0) → RunsAreRecorded has_taken → (r : RecordedRun) (before after : Recorded S)
@@ -49,29 +49,29 @@ pub led : {S : Type 0} (has_taken : S → List Event → Type 0) → RunsAreReco
     → has_taken before.recording.sink [] → (answer : Result Outcome PlayFault)
     → IsPlayedWithHooks (IsRecorderStep has_taken) r.run answer before after → IsLed has_taken r answer after
 led has_taken law r before after stands fresh (Ok outcome) played =
-    let told = (law before r.shape _ _ 0 stands).accepted (calls_in r played.within.count) after played.hooks in
+    let reported = (law before r.shape _ _ 0 stands).accepted (calls_in r played.within.count) after played.hooks in
     record {
-      log = record { imports = r.shape.imports; events = told.0; outcome = outcome };
+      log = record { imports = r.shape.imports; events = reported.0; outcome = outcome };
       is_log = record {
         after = played.run;
         within = played.within;
         ends = played.ends;
-        logged = ap (log_with r.shape.imports outcome) told.1;
+        logged = ap (log_with r.shape.imports outcome) reported.1;
       };
-      taken = told.2 [] fresh;
+      taken = reported.2 [] fresh;
     }
 led has_taken law r before after stands fresh (Err (refusal.Fault turn kind)) played =
-    let told = (law before r.shape _ _ 0 stands).accepted (calls_in r played.within.count) after played.hooks in
+    let reported = (law before r.shape _ _ 0 stands).accepted (calls_in r played.within.count) after played.hooks in
     record {
       after = played.run;
       within = played.within;
       kind_is = played.kind_is;
       turn_is = played.turn_is;
-      ordered = in_order r.shape _ _ 0 (calls_in r played.within.count) told.0 told.1;
+      ordered = in_order r.shape _ _ 0 (calls_in r played.within.count) reported.0 reported.1;
     }
 led has_taken law r before after stands fresh (Err refusal.Spent) played =
-    let told = (law before r.shape _ _ 0 stands).accepted (calls_in r played.spent.count) after played.hooks in
-    record { spent = played.spent; ordered = in_order r.shape _ _ 0 (calls_in r played.spent.count) told.0 told.1 }
+    let reported = (law before r.shape _ _ 0 stands).accepted (calls_in r played.spent.count) after played.hooks in
+    record { spent = played.spent; ordered = in_order r.shape _ _ 0 (calls_in r played.spent.count) reported.0 reported.1 }
 led has_taken law r before after stands fresh (Err (refusal.Hook number)) played =
     record {
       count = played.count;

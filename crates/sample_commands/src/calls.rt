@@ -98,12 +98,23 @@ pub fn outcome_into(
 ) -> Result<Outcome, Fail> {
     let mut out = out;
     let texts = texts_of(alloc, words)?;
+    outcome_of_texts(alloc, texts.as_slice(), files, &mut out)
+}
+
+fn outcome_of_texts(
+    alloc: Global,
+    texts: &[String],
+    files: &mut MemFiles,
+    out: &mut MemSink,
+) -> Result<Outcome, Fail> {
     let mut err = MemSink::new(alloc, 1_000_000, Vec::new(alloc));
-    let status = r3(alloc, texts.as_slice(), files, &mut out, &mut err);
+    let status = r3(alloc, texts, files, out, &mut err);
+    let printed = Vec::from_slice(alloc, out.bytes())?;
+    let line = Vec::from_slice(alloc, err.bytes())?;
     Ok(Outcome {
         status,
-        printed: Vec::from_slice(alloc, out.bytes())?,
-        line: Vec::from_slice(alloc, err.bytes())?,
+        printed,
+        line,
     })
 }
 

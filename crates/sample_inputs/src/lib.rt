@@ -6,7 +6,7 @@ ghost use Rattle.std.specs.Prelude.{◌≡◌};
 ghost use Rattle.wasm_syntax.specs.EmptyModule.{empty_module};
 
 pub mod examples;
-pub mod hooked;
+pub mod hooked_modules;
 pub mod importers;
 pub mod scripts;
 pub mod traces;

@@ -1,7 +1,8 @@
 -- Tests of lists, item by item, as loops do.
-use Rattle.std.proofs.Common.{◌≡◌, ℕ, suc, ◌+◌, ◌<◌, ◌≤◌, List, [], ◌∷◌, map, length, drop, get_or, Bor, Bool, true, false, ◌&&◌, refl, ap}
+use Rattle.std.proofs.Common.{◌≡◌, ℕ, suc, ◌+◌, ◌<◌, ◌≤◌, List, [], ◌∷◌, map, length, drop, get_or, Bor, Bool, true, false, refl, ap}
 use Rattle.std.specs.List.{list_all}
 use Rattle.std.proofs.lemmas.List.{drop_all}
+use Rattle.base.proofs.Booleans.{and_false}
 use Rattle.wasm_syntax.specs.declared.values.ValType.{ValType}
 use Rattle.wasm_syntax.specs.declared.values.Val.{Val}
 use Rattle.wasm_syntax.specs.Alike.{same_type, same_types}
@@ -23,11 +24,7 @@ pub other_length : (xs ys : List ValType) → (length xs ≡ length ys → ⊥) 
 other_length [] [] h = absurd (h refl)
 other_length [] (b ∷ bs) h = refl
 other_length (a ∷ rest) [] h = refl
-other_length (a ∷ rest) (b ∷ bs) h = rw (other_length rest bs (λ e. h (ap suc e))) (by (same_type a b))
-  where
-    by : (t : Bool) → (t && false) ≡ false
-    by true = refl
-    by false = refl
+other_length (a ∷ rest) (b ∷ bs) h = rw (other_length rest bs (λ e. h (ap suc e))) (and_false (same_type a b))
 
 module _ (vs : List Val) (ts : List ValType) (i : ℕ) (v : Val) (t : ValType) (lt : i < length vs)
     (lt' : i < length ts) where

@@ -20,8 +20,8 @@ use Rattle.host_script.specs.declared.scripts.Action.TheVariants as actions
 use Rattle.host_script.specs.Fits.{AreConstants, FitsAddress, IsCallable, FitsAction, FitActions}
 use Rattle.serde_json.specs.Data.{Data}
 use Rattle.script_text.specs.declared.faults.ScriptFault.TheVariants.{WrongType, CallsOwn}
-use Rattle.script_text.specs.declared.leads.Lead.{Lead}
-use Rattle.script_text.specs.declared.leads.Lead.TheVariants.{Write, Copy, SetTable, SetGlobal, Grow, GrowTable, Call, CallTable}
+use Rattle.script_text.specs.declared.action_keys.Lead.{Lead}
+use Rattle.script_text.specs.declared.action_keys.Lead.TheVariants.{Write, Copy, SetTable, SetGlobal, Grow, GrowTable, Call, CallTable}
 use Rattle.script_text.specs.Walk.{only, under}
 use Rattle.script_text.specs.Values.{u32_of, value_of, values_under, text_of, text_or_null, bytes_of}
 use Rattle.script_text.specs.Actions.{Place, InMain, InResponse, is_i32, takes_i32, address_of, fits_address, memory_access, table_access, write_of, copy_of, func_named, entry_named, set_table_of, target_of, global_at, name_of, fits_global, set_global_of, grow_of, grow_table_of, is_defined, are_arguments, fits_params, call_of, call_table_of, leads_in, action_with, action_by, action_of, actions_under}

@@ -1,8 +1,9 @@
 -- Values and bytes that were read are within their ranges.
-use Rattle.std.proofs.Common.{◌≡◌, ℕ, ◌-◌, ◌^◌, ◌<◌, ◌%◌, ◌==◌, ℤ, pos, negsuc, int_le, suc, List, [], length, codes, nat_lt, Option, Some, None, option_and_then, Result, Ok, Err, IsTrue, All, Bool, true, false, cond, refl, ap, subst, arith}
+use Rattle.std.proofs.Common.{◌≡◌, ℕ, ◌-◌, ◌^◌, ◌<◌, ◌%◌, ◌==◌, ℤ, pos, negsuc, int_le, suc, List, [], length, codes, nat_lt, Option, Some, None, option_and_then, Result, Ok, Err, IsTrue, All, Bool, true, false, cond, ap, subst, arith}
 use Rattle.std.specs.Result.{result_ok}
 use Rattle.std.proofs.lemmas.Bool.{ltb-true, lt-ltb}
 use Rattle.std.proofs.lemmas.List.Elements.{All-from_get_or}
+use Rattle.std.proofs.lemmas.Option.{cond_some}
 use Rattle.wasm_syntax.specs.declared.values.ValType.{ValType}
 use Rattle.wasm_syntax.specs.declared.values.ValType.TheVariants.{I32, I64, F32, F64}
 use Rattle.wasm_syntax.specs.declared.values.Val.{Val}
@@ -19,17 +20,13 @@ use Rattle.script_text.specs.Values.{integer_of, bits_from, bits_of, val_of_type
 use Rattle.script_text.proofs.Steps.{ok_one, some_one, both_ok, passed, below_ok, or_shape_ok}
 
 -- the bits of an integer are below the power of its width
-some_if : {A : Type 0} (test : Bool) (a b : A) → cond test (Some a) None ≡ Some b → (test ≡ true) × (a ≡ b)
-some_if true a b h = (refl, some_one a b h)
-some_if false a b h = cc h
-
 bits_below : (least : ℤ) (width : ℕ) (z : ℤ) (bits : ℕ) → 0 < 2 ^ width → bits_from least width z ≡ Some bits
     → bits < 2 ^ width
 bits_below least width (pos n) bits room h =
-    let p = some_if (nat_lt n (2 ^ width)) n bits h in
+    let p = cond_some (nat_lt n (2 ^ width)) n bits h in
     subst (λ n. n < 2 ^ width) p.1 (ltb-true n (2 ^ width) p.0)
 bits_below least width (negsuc n) bits room h =
-    let p = some_if (int_le least (negsuc n)) (2 ^ width - suc n) bits h in
+    let p = cond_some (int_le least (negsuc n)) (2 ^ width - suc n) bits h in
     subst (λ n. n < 2 ^ width) p.1 (omega (arith, room))
 
 integer_below : (least : ℤ) (width : ℕ) (z : Option ℤ) (bits : ℕ) → 0 < 2 ^ width

@@ -2,9 +2,9 @@
 use Rattle.std.proofs.Common.{◌≡◌, ℕ, suc, ◌+◌, ◌-◌, ◌≤◌, List, [], ◌∷◌, map, take, drop, Option, Some, None, option_map, option_and_then, option_copied, IfSome, slice_get, Bor, Bool, true, false, cond, sym, ap, ap₂, refl, subst, ◌∙◌, arith}
 use Rattle.std.proofs.lemmas.List.{map-append, take-append-drop}
 use Rattle.std.proofs.lemmas.Option.{slice_get-map, slice_get_within}
+use Rattle.base.proofs.Lists.{get_front}
 use Rattle.wasm_syntax.specs.declared.modules.Import.{Import}
 use Rattle.module_names.specs.Names.{is_named, first_named}
-use Rattle.module_names.proofs.Spaces.{get-first}
 use Rattle.module_names.proofs.ImportLoops.{seen, same_names}
 
 -- the first import of two names has them
@@ -38,7 +38,7 @@ seen_among : (imports : List (Bor Import)) (i p : ℕ) (x : Import) → slice_ge
 seen_among imports i p x there =
     ap (λ l. slice_get (map (λ (import : Bor Import). import.now) l) p) (sym (take-append-drop i imports))
     ∙ ap (λ l. slice_get l p) (map-append (λ (import : Bor Import). import.now) (take i imports) (drop i imports))
-    ∙ get-first (seen imports i) (map (λ import. import.now) (drop i imports)) p (slice_get_within (seen imports i) p x there) ∙ there
+    ∙ get_front (seen imports i) (map (λ import. import.now) (drop i imports)) p (slice_get_within (seen imports i) p x there) ∙ there
 
 module _ {V : Type 0} (value : (from name : List ℕ) → V) where
   abbrev pub value_of_import : Import → V

@@ -11,10 +11,6 @@ Among {A} a xs = (test : A → Bool) → list_all test xs ≡ true → test a �
 pub contained : {A : Type 0} (a : A) (xs : List A) → Contains xs a → Among a xs
 contained a xs there test all = All-contains (λ x. test x ≡ true) xs a (AllPass-from_list_all test xs all) there
 
--- a test of the kept items
-kept : {A : Type 0} (keep test : A → Bool) → A → Bool
-kept keep test a = cond (keep a) (test a) true
-
 abbrev all_kept : {A : Type 0} (keep test : A → Bool) (xs : List A)
     → list_all (λ x. cond (keep x) (test x) true) xs ≡ list_all test (filter keep xs)
 all_kept keep test [] = refl

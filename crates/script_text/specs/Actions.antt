@@ -19,8 +19,8 @@ use Rattle.serde_json.specs.Data.{Data, Items, no_items, item}
 use Rattle.serde_json.specs.Find.{get, as_array, as_object}
 use Rattle.script_text.specs.declared.faults.ScriptFault.{ScriptFault}
 use Rattle.script_text.specs.declared.faults.ScriptFault.TheVariants.{Shape, UnknownName, WrongType, NoAccess, CallsOwn}
-use Rattle.script_text.specs.declared.leads.Lead.{Lead}
-use Rattle.script_text.specs.declared.leads.Lead.TheVariants.{Write, Copy, SetTable, SetGlobal, Grow, GrowTable, Call, CallTable}
+use Rattle.script_text.specs.declared.action_keys.Lead.{Lead}
+use Rattle.script_text.specs.declared.action_keys.Lead.TheVariants.{Write, Copy, SetTable, SetGlobal, Grow, GrowTable, Call, CallTable}
 use Rattle.script_text.specs.Walk.{◌>>=◌, below, only, under, under_or, list_of}
 use Rattle.script_text.specs.Values.{u32_of, value_of, values_under, text_of, text_or_null, bytes_of}
 use Rattle.module_names.specs.Names.{imports_from, imported_global, exported_func, exported_global, reaches_memory, reaches_table}

@@ -28,4 +28,4 @@ all_return_value alike [] value = true
 all_return_value alike (first ∷ types) value = alike && returns value first
 
 pub record HoldsReturns (alike : Bool) (types : List FuncType) : Type 0 where
-  pub tells : (value : Option Val) → all_return_value alike types value ≡ list_all (returns value) types
+  pub decides : (value : Option Val) → all_return_value alike types value ≡ list_all (returns value) types

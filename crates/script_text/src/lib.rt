@@ -2,12 +2,12 @@
 //! its types.
 #![tactic(auto)]
 
+pub mod action_keys;
 mod actions;
 mod common_types;
 pub mod faults;
 mod fitting_scripts;
 mod import_texts;
-pub mod leads;
 mod objects;
 mod paths;
 mod places;
@@ -17,8 +17,8 @@ mod targets;
 mod types;
 mod values;
 
+pub use action_keys::Lead;
 pub use base::NoMemory;
 pub use faults::ScriptFault;
 pub use fitting_scripts::scripts_that_are_read_fit;
-pub use leads::Lead;
 pub use scripts::read_script;

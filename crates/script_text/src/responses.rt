@@ -9,12 +9,12 @@ ghost use Rattle.script_text.specs.Places.{place_of};
 ghost use Rattle.module_names.specs.Names.{func_types_named};
 ghost use Rattle.script_text.specs.Texts.{fits_results as fitting_results, trap_of, return_of, end_of, response_of, answer_of};
 
+use crate::action_keys::Lead;
 use crate::actions::{
     read_call, read_call_table, read_copy, read_grow, read_grow_table, read_set_table, read_write,
 };
 use crate::common_types::CommonTypes;
 use crate::faults::{NameFault, ScriptFault, fault_of_name, push_item};
-use crate::leads::Lead;
 use crate::objects::only;
 use crate::paths::{below, below_index, shape};
 use crate::places::Place;

@@ -15,7 +15,7 @@ use crate::paths::below;
 use crate::places::Place;
 use crate::responses::{actions_under, answer_under};
 use crate::values::read_value;
-use host_script::{Actions, Answer, Answers, Given, Script};
+use host_script::{Actions, Answer, Answers, GivenGlobals, Script};
 use module_names::{FirstsByNames, ModuleNames, firsts_by_names};
 use serde_json::Value;
 use std::alloc::Global;
@@ -76,7 +76,7 @@ fn values_for(
     alloc: Global,
     texts: Option<&Value>,
     imports: &[&Import],
-) -> Result<Given, ScriptFault>
+) -> Result<GivenGlobals, ScriptFault>
     ensures { Gives (λ given. given) result (Ok (map
         (import_value (option_map (λ v. view v.now) texts.entry))
         (map (λ import. import.now) imports.now))) }

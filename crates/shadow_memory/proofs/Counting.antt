@@ -3,7 +3,7 @@ use Rattle.std.proofs.Common.{◌≡◌, ℕ, ◌+◌, ◌-◌, ◌*◌, ◌/◌
 use Rattle.std.proofs.lemmas.Bool.{cases_lt}
 use Rattle.std.proofs.lemmas.List.{get_or-drop, get_or-take, length-drop, length-take}
 use Rattle.page_arena.specs.declared.TheConstants.{PAGE_LENGTH}
-use Rattle.shadow_memory.specs.Kept.{Kept, AreBytesOf}
+use Rattle.shadow_memory.specs.KnownBytes.{Kept, AreBytesOf}
 use Rattle.shadow_memory.specs.Runs.{is_alike, is_known, IsLeadingCount}
 
 part_item : (items : List ℕ) (from part k : ℕ) → k < part

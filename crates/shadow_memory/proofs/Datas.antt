@@ -19,7 +19,7 @@ use Rattle.wasm_store.specs.Calls.{bytes_in, bytes_of_memory, pages_in, pages_of
 use Rattle.wasm_store.specs.Parts.{minimum_of}
 use Rattle.shadow_memory.specs.Shadow.{byte_among, AreSame, AreWritten}
 use Rattle.shadow_memory.specs.Opening.{with_all, EndWithin}
-use Rattle.shadow_memory.proofs.Written.{replaced_length, replaced_part}
+use Rattle.shadow_memory.proofs.WrittenBytes.{replaced_length, replaced_part}
 
 module _ (imported : List Val) where
   abbrev ends_by : ℕ → DataSeg → Type 0

@@ -8,14 +8,11 @@ use Rattle.page_arena.specs.declared.TheConstants.{PAGE_LENGTH}
 use Rattle.page_arena.specs.declared.PageId.{PageId}
 use Rattle.page_arena.specs.Pages.{page_at}
 use Rattle.shadow_memory.specs.Shadow.{byte_among, AreSame, AreWritten}
-use Rattle.shadow_memory.specs.Kept.{AreExtended, AreKept, AreBytesOf, bytes_of_place, is_touched, kept_of, page_of}
+use Rattle.shadow_memory.specs.KnownBytes.{AreExtended, AreKept, AreBytesOf, bytes_of_place, is_touched, kept_of, page_of}
 use Rattle.shadow_memory.proofs.Flat.{flat_item}
-use Rattle.shadow_memory.proofs.Written.{among_below, among_past, among_moved, replaced_part}
+use Rattle.shadow_memory.proofs.WrittenBytes.{among_below, among_past, among_moved, replaced_part}
 
 module _ (places : List (Option PageId)) (pages : List (List ℕ)) (kept : AreKept places pages) where
-  bytes_of : ℕ → List ℕ
-  bytes_of place = bytes_of_place pages (page_of places place)
-
   whole_place : (place : ℕ) → length (bytes_of_place pages (page_of places place)) ≡ PAGE_LENGTH
   whole_place place = go (page_of places place) refl
     where

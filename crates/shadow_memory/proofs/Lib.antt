@@ -1,4 +1,4 @@
-pub mod Written
+pub mod WrittenBytes
 pub mod Flat
 pub mod Keeping
 pub mod Counting

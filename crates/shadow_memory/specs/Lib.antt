@@ -1,5 +1,5 @@
 pub mod Shadow
-pub mod Kept
+pub mod KnownBytes
 pub mod Runs
 pub mod Opening
 pub mod Takings

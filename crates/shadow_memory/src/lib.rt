@@ -1,7 +1,7 @@
 //! What is known of a memory: its bytes and its size.
 #![tactic(auto)]
 
-mod kept;
+mod known_bytes;
 mod laws;
 mod opening;
 mod runs;

@@ -8,7 +8,7 @@ ghost use Rattle.wasm_store.specs.Parts.{minimum_of};
 ghost use Rattle.shadow_memory.specs.Opening.{EndWithin, HoldDatas};
 ghost use Rattle.shadow_memory.specs.Shadow.{AreSame};
 
-use crate::kept::KeptBytes;
+use crate::known_bytes::KeptBytes;
 use crate::runs::take_run;
 use base::NoMemory;
 use host_script::Supply;

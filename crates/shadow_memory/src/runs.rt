@@ -2,11 +2,11 @@
 
 ghost use Rattle.std.specs.Prelude.{◌≡◌, ℕ, ◌+◌, ◌*◌, ◌/◌, ◌%◌, ◌<◌, ◌≤◌, [], ◌∷◌, length, take, true, IfOk, OnOk, OnErr, slice_index};
 ghost use Rattle.page_arena.specs.declared.TheConstants.{PAGE_LENGTH};
-ghost use Rattle.shadow_memory.specs.Kept.{is_touched};
+ghost use Rattle.shadow_memory.specs.KnownBytes.{is_touched};
 ghost use Rattle.shadow_memory.specs.Runs.{compared, is_alike, is_known, IsComparison, IsLeadingCount};
 ghost use Rattle.shadow_memory.specs.Shadow.{AreSame, AreWritten};
 
-use crate::kept::KeptBytes;
+use crate::known_bytes::KeptBytes;
 use base::NoMemory;
 use page_arena::PAGE_LENGTH;
 

@@ -7,7 +7,7 @@ ghost use Rattle.shadow_memory.specs.Opening.{IsOpening};
 ghost use Rattle.shadow_memory.specs.Shadow.{known_byte, HasTaken, IsUnchanged};
 ghost use Rattle.shadow_memory.specs.Runs.{compared, IsComparison};
 
-use crate::kept::KeptBytes;
+use crate::known_bytes::KeptBytes;
 use crate::opening::opening;
 use crate::runs::{Difference, byte_at, take_byte, take_difference, take_run};
 use base::NoMemory;
@@ -121,7 +121,7 @@ impl ShadowMemory {
     }
 
     /// The number of noticed pages.
-    pub fn noticed(&self) -> u32
+    pub fn noticed_pages(&self) -> u32
         ensures { result ≡ self.now.noticed }
     {
         self.noticed

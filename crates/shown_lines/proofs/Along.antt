@@ -1,36 +1,22 @@
 -- The lines of entries, and then of others after them.
-use Rattle.std.proofs.Common.{◌≡◌, ℕ, List, [], ◌∷◌, ◌++◌, length, refl, sym, ◌∙◌, ap, append_assoc, length-append, arith}
-use Rattle.std.proofs.lemmas.List.{append-nil}
+use Rattle.std.proofs.Common.{◌≡◌, List, [], ◌∷◌, ◌++◌, length, refl, sym, ◌∙◌, ap, append_assoc, length-append, arith}
 use Rattle.std.proofs.lemmas.Grind.{flat_map-append}
 use Rattle.wasm_syntax.specs.declared.values.Val.{Val}
 use Rattle.history_spec.specs.declared.entries.Entry.{Entry}
 use Rattle.history_spec.specs.Line.{line, entry_text}
 use Rattle.history_spec.specs.Projection.{Layout, shown_entries}
-use Rattle.replay_run_spec.specs.Inside.{args_after, args_after_all, inside_after, inside_after_all}
+use Rattle.replay_run_spec.specs.Inside.{args_after, args_after_all, inside_after_all}
 use Rattle.replay_run_spec.specs.Laws.{ProjectionsRunAlong}
+use Rattle.replay_run_spec.proofs.Histories.{inside_over}
 use Rattle.shown_lines.specs.ShownLines.{ShownLines, Shows, lines}
-
-inside_over : (inside : List ℕ) (first second : List Entry)
-    → inside_after_all inside (first ++ second) ≡ inside_after_all (inside_after_all inside first) second
-inside_over inside [] second = refl
-inside_over inside (entry ∷ first) second = inside_over (inside_after inside entry) first second
 
 pub args_over : (args : List Val) (first second : List Entry)
     → args_after_all args (first ++ second) ≡ args_after_all (args_after_all args first) second
 args_over args [] second = refl
 args_over args (entry ∷ first) second = args_over (args_after args entry) first second
 
-lines_over : (first second : List Entry) → lines (first ++ second) ≡ lines first ++ lines second
+pub lines_over : (first second : List Entry) → lines (first ++ second) ≡ lines first ++ lines second
 lines_over first second = flat_map-append (λ entry. line (entry_text entry)) first second
-
--- no entries have no lines
-pub shows_none : (shown : ShownLines) (args : List Val) → Shows shown shown args []
-shows_none shown args = record {
-  same_layout = refl;
-  lines_are = sym (append-nil shown.text);
-  count_is = omega arith;
-  inside_is = refl;
-}
 
 module _ (along : ProjectionsRunAlong) (old mid new : ShownLines) (args : List Val) (first second : List Entry) (before : Shows old mid args first)
     (after : Shows mid new (args_after_all args first) second) where

@@ -44,7 +44,7 @@ impl Model for ShownText {
 }
 
 /// Copies of values.
-fn copied(alloc: Global, values: &[Val]) -> Result<Vals, NoMemory>
+fn copy_of(alloc: Global, values: &[Val]) -> Result<Vals, NoMemory>
     ensures { IfOk result (λ copy. copy ≡ values.now) }
 {
     let items = Vec::from_slice(alloc, values)?;
@@ -66,11 +66,11 @@ fn shown_call(
         (Side::Original, Side::Original) => Ok(Some(Entry::Enter { func })),
         (Side::Original, Side::Import) => Ok(Some(Entry::ImportCall {
             import: func,
-            args: copied(alloc, args)?,
+            args: copy_of(alloc, args)?,
         })),
         (_, Side::Original) => Ok(Some(Entry::HostCall {
             func,
-            args: copied(alloc, args)?,
+            args: copy_of(alloc, args)?,
         })),
         _ => Ok(None),
     }
@@ -90,15 +90,15 @@ fn shown_return(
     match (caller, callee) {
         (Side::Original, Side::Original) => Ok(Some(Entry::Exit {
             func,
-            results: copied(alloc, results)?,
+            results: copy_of(alloc, results)?,
         })),
         (Side::Original, Side::Import) => Ok(Some(Entry::ImportReturn {
             import: func,
-            results: copied(alloc, results)?,
+            results: copy_of(alloc, results)?,
         })),
         (_, Side::Original) => Ok(Some(Entry::HostReturn {
             func,
-            results: copied(alloc, results)?,
+            results: copy_of(alloc, results)?,
         })),
         _ => Ok(None),
     }
@@ -177,7 +177,7 @@ impl ShownText {
     }
 
     /// Appends the line of an entry.
-    fn tell(&mut self, entry: &Entry) -> Result<(), NoMemory>
+    fn print(&mut self, entry: &Entry) -> Result<(), NoMemory>
         ensures text { OnOk result (self.new.text ≡ self.old.text ++ lines (entry.now ∷ [])) }
         ensures count { OnOk result (self.new.entries ≡ self.old.entries + 1) }
         ensures layout { self.new.layout ≡ self.old.layout }
@@ -190,14 +190,14 @@ impl ShownText {
     }
 
     /// Appends the line of an entry, if there is one.
-    fn tell_some(&mut self, entry: Option<Entry>) -> Result<(), NoMemory>
+    fn print_some(&mut self, entry: Option<Entry>) -> Result<(), NoMemory>
         ensures text { OnOk result (self.new.text ≡ self.old.text ++ lines (option_to_list entry)) }
         ensures count { OnOk result (self.new.entries ≡ self.old.entries + length (option_to_list entry)) }
         ensures layout { self.new.layout ≡ self.old.layout }
         ensures inside { self.new.inside ≡ self.old.inside }
     {
         match entry {
-            Some(entry) => self.tell(&entry),
+            Some(entry) => self.print(&entry),
             None => Ok(()),
         }
     }
@@ -216,7 +216,7 @@ impl ShownText {
         let alloc = *self.inside.allocator();
         let callee = self.layout.side(func);
         let shown = shown_call(alloc, self.innermost(), callee, func, args)?;
-        self.tell_some(shown)?;
+        self.print_some(shown)?;
         self.inside.push(func)?;
         Ok(())
     }
@@ -238,7 +238,7 @@ impl ShownText {
         let _left = self.inside.pop();
         let callee = self.layout.side(func);
         let shown = shown_return(alloc, self.innermost(), callee, func, results)?;
-        self.tell_some(shown)
+        self.print_some(shown)
     }
 
     /// Shows a step of an original.
@@ -251,7 +251,7 @@ impl ShownText {
             + length (projection.shown_step (projection.side self.old.layout func) entry.now)) }
     {
         match self.layout.side(func) {
-            Side::Original => self.tell(entry),
+            Side::Original => self.print(entry),
             _ => Ok(()),
         }
     }
@@ -265,8 +265,8 @@ impl ShownText {
         ensures count { OnOk result (self.new.entries ≡ self.old.entries + 1) }
     {
         match self.layout.side(func) {
-            Side::Original => self.tell(entry),
-            _ => self.tell(&Entry::HostTrap),
+            Side::Original => self.print(entry),
+            _ => self.print(&Entry::HostTrap),
         }
     }
 

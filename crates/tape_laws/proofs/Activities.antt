@@ -6,13 +6,14 @@ use Rattle.std.specs.Option.{option_or, option_flatten}
 use Rattle.std.proofs.lemmas.Bool.Decides.{nat_tests}
 use Rattle.std.proofs.lemmas.List.{get_or_past}
 use Rattle.std.proofs.lemmas.Option.{none-some, same_Some, slice_get_past, slice_get_within}
+use Rattle.std.proofs.lemmas.Bool.{eqb-true}
 use Rattle.base.proofs.Booleans.{and_left, and_right}
 use Rattle.base.proofs.Options.{cond_none_some}
 use Rattle.wasm_syntax.specs.declared.limits.TheConstants.{PAGE_SIZE}
 use Rattle.wasm_syntax.specs.declared.values.Val.{Val}
 use Rattle.trace_model.specs.declared.tapes.Effect.{Effect}
 use Rattle.trace_model.specs.declared.tapes.Effect.TheVariants.{Grow, Table as GrowTable, Bytes, Entry, Global}
-use Rattle.trace_model.specs.Effects.{is_before, are_ordered_after, are_ordered}
+use Rattle.trace_model.specs.Effects.{is_before, are_ordered_after}
 use Rattle.history_spec.specs.Store.{Store, Memory, Table, pages}
 use Rattle.history_spec.specs.Instantiation.{memory_length, table_length}
 use Rattle.record_replay_spec.specs.Observations.{Observation}
@@ -24,7 +25,6 @@ use Rattle.record_replay_spec.proofs.Alike.{option_same, value_same}
 use Rattle.record_replay_spec.specs.StoreAnswers.{allows_pages, allows_entries}
 use Rattle.tape_laws.proofs.Stores.{Maxima, maxima}
 use Rattle.tape_laws.proofs.Relation.{IsKnownOf, IsSize, Seen, Unseen, IsReadOf, Holds}
-use Rattle.tape_laws.proofs.Same.{same_number}
 use Rattle.tape_laws.proofs.Effects.{bytes_left, AreDone, AreChanges, IsChange}
 
 -- a store's sizes are whole pages and allowed sizes
@@ -73,11 +73,6 @@ changes_after effect (next ∷ effects) small h =
     )
 
 -- ---- the order of effects in a list
-
-pub ordered_rest : (effect : Effect) (effects : List Effect) → are_ordered_after effect effects ≡ true
-    → are_ordered effects ≡ true
-ordered_rest effect [] h = refl
-ordered_rest effect (next ∷ effects) h = and_right (is_before effect next) (are_ordered_after next effects) h
 
 -- a list of changes does not give what no change gives
 none_given : {X : Type 0} (part : Effect → Option X) → ((effect : Effect) → IsChange effect → part effect ≡ None)
@@ -137,7 +132,7 @@ found_bytes known found = go (nat_eq known found) refl
         → bytes_left (cond (nat_eq known found) None (Some found)) (known * PAGE_SIZE) ≡ found * PAGE_SIZE
     go true p =
         ap (λ b. bytes_left (cond b None (Some found)) (known * PAGE_SIZE)) p
-        ∙ ap (λ n. n * PAGE_SIZE) (same_number known found p)
+        ∙ ap (λ n. n * PAGE_SIZE) (eqb-true known found p)
     go false p = ap (λ b. bytes_left (cond b None (Some found)) (known * PAGE_SIZE)) p
 
 module _ (known : Known) (window : List Observation) (store : Store) (sizes : HasSizes store)
@@ -256,10 +251,10 @@ module _ (known : Known) (window : List Observation) (store : Store) (sizes : Ha
             entries =
                 if_count after.table other.table (ap (λ (m : Maxima). m.entries) are.same) holds.entries are.entries;
             byte = λ at.
-                needed_after nat_eq same_number (known.byte at) (first_byte window at) _ _ _ (are.byte at) (holds.byte at)
+                needed_after nat_eq eqb-true (known.byte at) (first_byte window at) _ _ _ (are.byte at) (holds.byte at)
                 (need.byte at);
             entry = λ at.
-                needed_after (same_option nat_eq) (option_same nat_eq same_number) (known.entry at)
+                needed_after (same_option nat_eq) (option_same nat_eq eqb-true) (known.entry at)
                 (first_entry window at) _ _ _ (are.entry at) (holds.entry at) (need.entry at);
             global = λ at.
                 needed_after (same_option same_value) (option_same same_value value_same) (known.global at)
@@ -273,7 +268,7 @@ module _ (known : Known) (window : List Observation) (store : Store) (sizes : Ha
           count : unwrap_or (last_some effect_entries effects) known.entries ≡ entries_held
           count =
               ap (λ o. unwrap_or o known.entries) need.entries
-              ∙ needed_else nat_eq same_number known.entries (Some entries_held)
+              ∙ needed_else nat_eq eqb-true known.entries (Some entries_held)
 
           if_pages : (o p : Option Memory) → option_map (λ m. m.max) o ≡ option_map (λ m. m.max) p
               → IfSome p (λ m. length m.bytes ≡ known.pages * PAGE_SIZE)

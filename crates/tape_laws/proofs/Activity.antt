@@ -5,9 +5,10 @@ use Rattle.std.specs.Option.{option_or}
 use Rattle.std.specs.List.{list_all}
 use Rattle.std.proofs.lemmas.Bool.Decides.{nat_tests}
 use Rattle.std.proofs.lemmas.Option.{none-some, same_Some}
+use Rattle.std.proofs.lemmas.Bool.{eqb-true}
 use Rattle.base.proofs.Booleans.{and_left, and_right, and_true}
-use Rattle.base.proofs.Options.{cond_none_some}
-use Rattle.wasm_syntax.specs.declared.limits.TheConstants.{MOST_ENTRIES, MOST_PAGES, PAGE_SIZE}
+use Rattle.base.proofs.Options.{cond_none_some, or_none}
+use Rattle.wasm_syntax.specs.declared.limits.TheConstants.{MAX_ENTRIES, MAX_PAGES, PAGE_SIZE}
 use Rattle.host_script.specs.Supply.{is_within}
 use Rattle.trace_model.specs.declared.tapes.Effect.{Effect}
 use Rattle.trace_model.specs.declared.tapes.Effect.TheVariants.{Grow, Table as GrowTable}
@@ -25,11 +26,10 @@ use Rattle.tape_laws.proofs.Stores.{IsThere, Maxima, maxima}
 use Rattle.tape_laws.proofs.Relation.{IsKnownOf, IsReadOf, Holds}
 use Rattle.tape_laws.proofs.Items.{if_bytes, if_entries, bytes_there, entries_there}
 use Rattle.tape_laws.proofs.Held.{whole_pages}
-use Rattle.tape_laws.proofs.Same.{same_number}
 use Rattle.tape_laws.proofs.StepItems.{there_too}
 use Rattle.tape_laws.proofs.Effects.{AreDone, more_done, grow_done, grow_table_done, AreChanges, changes_done}
-use Rattle.record_replay_spec.proofs.OneList.{pages_after}
-use Rattle.tape_laws.proofs.Activities.{HasSizes, changes_after, no_growth, no_table_growth, size_between, byte_there, entry_there, global_there, holds_needed, ordered_rest}
+use Rattle.record_replay_spec.proofs.OneList.{pages_after, ordered_rest}
+use Rattle.tape_laws.proofs.Activities.{HasSizes, changes_after, no_growth, no_table_growth, size_between, byte_there, entry_there, global_there, holds_needed}
 
 -- ---- sizes that are allowed
 
@@ -47,15 +47,15 @@ pages_allowed : (o : Option Memory) → IfSome o (λ m. allows_pages m (pages m)
     → Some memory.max ≡ option_map (λ m. m.max) o → (size : ℕ) → size ≤ pages_of o → allows_pages memory size ≡ true
 pages_allowed None h memory e size low = cc
 pages_allowed (Some m) h memory e size low =
-    ap (λ max. is_within size max && nat_le size MOST_PAGES) (same_Some memory.max m.max e)
-    ∙ less_allowed m.max MOST_PAGES (pages m) size h low
+    ap (λ max. is_within size max && nat_le size MAX_PAGES) (same_Some memory.max m.max e)
+    ∙ less_allowed m.max MAX_PAGES (pages m) size h low
 
 entries_allowed : (o : Option Table) → IfSome o (λ t. allows_entries t (length t.entries) ≡ true) → (table : Table)
     → Some table.max ≡ option_map (λ t. t.max) o → (size : ℕ) → size ≤ table_length o → allows_entries table size ≡ true
 entries_allowed None h table e size low = cc
 entries_allowed (Some t) h table e size low =
-    ap (λ max. is_within size max && nat_le size MOST_ENTRIES) (same_Some table.max t.max e)
-    ∙ less_allowed t.max MOST_ENTRIES (length t.entries) size h low
+    ap (λ max. is_within size max && nat_le size MAX_ENTRIES) (same_Some table.max t.max e)
+    ∙ less_allowed t.max MAX_ENTRIES (length t.entries) size h low
 
 -- ---- sizes that are needed
 
@@ -68,7 +68,7 @@ size_unneeded : (known found : ℕ) → None ≡ needed nat_eq known (Some found
 size_unneeded known found h = go (nat_eq known found) refl h
   where
     go : (b : Bool) → nat_eq known found ≡ b → None ≡ cond b None (Some found) → known ≡ found
-    go true p q = same_number known found p
+    go true p q = eqb-true known found p
     go false p q = absurd (none-some found q)
 
 memory_has : (o : Option Memory) (at : ℕ) → at < memory_length o → IsThere o
@@ -95,10 +95,6 @@ memory_seen = size_seen pages_of refl
 pub table_seen : (o : Option Table) (known found : ℕ) → known ≤ found → found ≤ table_length o
     → nat_eq known found ≡ false → IsThere o
 table_seen = size_seen table_length refl
-
-pub or_nothing : {X : Type 0} (o : Option X) → option_or o None ≡ o
-or_nothing None = refl
-or_nothing (Some x) = refl
 
 module _ (known : Known) (window : List Observation) (store : Store) (sizes : HasSizes store)
     (k : IsKnownOf known store) (real : IsReadOf known window store) (other : Store) (holds : Holds known [] other)
@@ -140,7 +136,7 @@ module _ (known : Known) (window : List Observation) (store : Store) (sizes : Ha
       after : {X : Type 0} (part : Effect → Option X) → part effect ≡ None
           → last_some part effects ≡ last_some part (effect ∷ effects)
       after part none =
-          sym (ap (option_or (last_some part effects)) none ∙ or_nothing (last_some part effects))
+          sym (ap (option_or (last_some part effects)) none ∙ or_none (last_some part effects))
 
   -- the store after the growths, before the changes
   record IsOnWay (mid : Store) : Type 0 where
@@ -261,7 +257,7 @@ module _ (known : Known) (window : List Observation) (store : Store) (sizes : Ha
         count = one.count;
       })
       holds.entries effects none (ordered_rest (Grow size) effects order)
-      (sym (or_nothing (last_some effect_entries effects)) ∙ count)
+      (sym (or_none (last_some effect_entries effects)) ∙ count)
       (those_after (Grow size) effects (λ at. refl) (λ at. refl) (λ at. refl) those) in
       (rest.0, more_done other next rest.0 (Grow size) effects one rest.1)
   with_pages [] order grown count those = no_pages [] refl order grown count those

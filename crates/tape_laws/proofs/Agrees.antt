@@ -3,6 +3,7 @@ use Rattle.std.proofs.Common.{◌≡◌, ℕ, ◌*◌, List, [], ◌∷◌, ◌+
 use Rattle.std.specs.Prelude.{unwrap_or}
 use Rattle.std.specs.Option.{option_or}
 use Rattle.std.proofs.lemmas.Bool.Decides.{nat_tests}
+use Rattle.base.proofs.Options.{or_none}
 use Rattle.wasm_syntax.specs.declared.limits.TheConstants.{PAGE_SIZE}
 use Rattle.wasm_syntax.specs.declared.values.Val.{Val}
 use Rattle.trace_model.specs.declared.tapes.Origin.{Origin}
@@ -16,7 +17,6 @@ use Rattle.record_replay_spec.specs.Windows.{window, unless_some, first_byte, fi
 use Rattle.record_replay_spec.specs.Needed.{needed, effect_byte, effect_entry, effect_global, effect_pages, effect_entries, Given, SameGiven, needed_by}
 use Rattle.record_replay_spec.specs.Kept.{AreKeptSegments}
 use Rattle.record_replay_spec.proofs.OneList.{just_of_same, same_reversed}
-use Rattle.tape_laws.proofs.Activity.{or_nothing}
 use Rattle.record_replay_spec.specs.LogTapes.{Mark, Finds, Begins as BeginsMark, Ends as EndsMark, window_finds, first_some, first_given, AreLogSegments}
 
 -- ---- the relation
@@ -90,7 +90,7 @@ in_front : {X : Type 0} (same : X → X → Bool) (known : X) (read written late
     → option_or (needed same known read) (needed same (unwrap_or (option_or read written) known) later)
     ≡ needed same known (option_or read (unless_some written later))
 in_front same known (Some x) written later settled =
-    ap (option_or (needed same known (Some x))) (settled x refl) ∙ or_nothing (needed same known (Some x))
+    ap (option_or (needed same known (Some x))) (settled x refl) ∙ or_none (needed same known (Some x))
 in_front same known None (Some z) later settled = settled z refl
 in_front same known None None later settled = refl
 
@@ -102,12 +102,12 @@ size_in_front : (b : Bool) (known found : ℕ) (size : ℕ → ℕ)
     ≡ needed nat_eq known (Some (cond b (size known) found))
 size_in_front true known found size settled = refl
 size_in_front false known found size settled =
-    ap (option_or (needed nat_eq known (Some found))) (settled refl) ∙ or_nothing (needed nat_eq known (Some found))
+    ap (option_or (needed nat_eq known (Some found))) (settled refl) ∙ or_none (needed nat_eq known (Some found))
 
 resized_in_front : (known found left size : ℕ) → needed nat_eq left (Some size) ≡ None
     → option_or (needed nat_eq known (Some found)) (needed nat_eq left (Some size)) ≡ needed nat_eq known (Some found)
 resized_in_front known found left size settled =
-    ap (option_or (needed nat_eq known (Some found))) settled ∙ or_nothing (needed nat_eq known (Some found))
+    ap (option_or (needed nat_eq known (Some found))) settled ∙ or_none (needed nat_eq known (Some found))
 
 -- what an observation and the window after it need of a size, if the window needs nothing once the observation sees it
 abbrev InFront : (sees : Type 0) → (known after : ℕ) → (own : Option ℕ) → (later all : ℕ) → Type 0

@@ -2,6 +2,7 @@
 use Rattle.std.proofs.Common.{◌≡◌, ℕ, ◌*◌, List, [], ◌∷◌, ◌++◌, Option, Some, None, Bool, true, false, cond, nat_eq, nat_le, nat_lt, refl, sym, ap, ◌∙◌, subst}
 use Rattle.std.specs.Prelude.{option_map}
 use Rattle.std.proofs.lemmas.List.{append-nil}
+use Rattle.base.proofs.Options.{or_none}
 use Rattle.wasm_syntax.specs.declared.limits.TheConstants.{PAGE_SIZE}
 use Rattle.wasm_syntax.specs.declared.values.Val.{Val}
 use Rattle.trace_model.specs.declared.events.Event.TheVariants.{Seen, Table, Entry}
@@ -9,14 +10,13 @@ use Rattle.record_replay_spec.specs.Observations.{Reads, Copies, Writes, Reaches
 use Rattle.record_replay_spec.specs.Known.{Known, byte_among}
 use Rattle.record_replay_spec.specs.Alike.{same_option}
 use Rattle.record_replay_spec.specs.Needed.{needed, effect_entry, effect_global, effect_pages, effect_entries, effect_byte}
-use Rattle.tape_laws.proofs.Activity.{or_nothing}
 use Rattle.record_replay_spec.specs.Hooks.{renumber, original}
 use Rattle.record_replay_spec.specs.Logs.{LogState, differing_runs, unless, same_entry, all_observed_events}
 use Rattle.tape_laws.proofs.Agrees.{AreFindsOf}
 use Rattle.tape_laws.proofs.FirstBytes.{finds_of, first_differing}
-use Rattle.tape_laws.proofs.ObservedFinds.{IsToldKnown, IsNoticed, none_differing, found_size, found_entries_number, same_told_entry, original_entry, none_told, told_place}
+use Rattle.tape_laws.proofs.ObservedFinds.{IsReportedKnown, IsNoticed, none_differing, found_size, found_entries_number, same_reported_entry, original_entry, none_reported, reported_place}
 
-module _ (n size : ℕ) (known : Known) (state : LogState) (told : IsToldKnown n known state.known) where
+module _ (n size : ℕ) (known : Known) (state : LogState) (reported : IsReportedKnown n known state.known) where
   -- bytes that are read, by a load or as the source of a copy
   bytes_found : (address : ℕ) (bytes : List ℕ)
       → AreFindsOf known (Reads address bytes) (finds_of size (differing_runs state.known.byte address bytes))
@@ -25,7 +25,7 @@ module _ (n size : ℕ) (known : Known) (state : LogState) (told : IsToldKnown n
         pages = none_differing size effect_pages (λ a bs. refl) state.known.byte address bytes;
         entries = none_differing size effect_entries (λ a bs. refl) state.known.byte address bytes;
         byte = λ at. first_differing size state.known.byte address bytes at
-            ∙ ap (λ k. needed nat_eq k (byte_among address bytes at)) (told.byte at);
+            ∙ ap (λ k. needed nat_eq k (byte_among address bytes at)) (reported.byte at);
         entry = λ at. none_differing size (effect_entry at) (λ a bs. refl) state.known.byte address bytes;
         global = λ at. none_differing size (effect_global at) (λ a bs. refl) state.known.byte address bytes;
       }
@@ -55,7 +55,7 @@ module _ (n size : ℕ) (known : Known) (state : LogState) (told : IsToldKnown n
       (finds_of size
       ((cond (cond (nat_le «end» (pages * PAGE_SIZE)) false true) (unless (nat_eq pages state.noticed) Seen) [] ++ [])
       ++ [])))
-      (sym told.pages)
+      (sym reported.pages)
       (go (nat_le «end» (known.pages * PAGE_SIZE)) refl)
     where
       seen : Bool
@@ -78,10 +78,10 @@ module _ (n size : ℕ) (known : Known) (state : LogState) (told : IsToldKnown n
           (record {
             pages = found_size known.pages found state.noticed size noticed
                 ∙ sym (ap (λ b. cond b None (needed nat_eq known.pages (Some found))) p);
-            entries = none_told size effect_entries Seen refl seen;
-            byte = λ at. none_told size (effect_byte at) Seen refl seen;
-            entry = λ at. none_told size (effect_entry at) Seen refl seen;
-            global = λ at. none_told size (effect_global at) Seen refl seen;
+            entries = none_reported size effect_entries Seen refl seen;
+            byte = λ at. none_reported size (effect_byte at) Seen refl seen;
+            entry = λ at. none_reported size (effect_entry at) Seen refl seen;
+            global = λ at. none_reported size (effect_global at) Seen refl seen;
           })
 
   pub resizes_found : (found left : ℕ) → IsNoticed state.noticed size known.pages found
@@ -91,15 +91,15 @@ module _ (n size : ℕ) (known : Known) (state : LogState) (told : IsToldKnown n
       subst
       (λ pages. AreFindsOf known (Resizes found left)
       (finds_of size ((unless (nat_eq pages state.noticed) Seen ++ []) ++ [])))
-      (sym told.pages)
+      (sym reported.pages)
       (subst (λ events. AreFindsOf known (Resizes found left) (finds_of size events))
       (sym (append-nil (unless seen Seen ++ []) ∙ append-nil (unless seen Seen)))
       (record {
         pages = found_size known.pages found state.noticed size noticed;
-        entries = none_told size effect_entries Seen refl seen;
-        byte = λ at. none_told size (effect_byte at) Seen refl seen;
-        entry = λ at. none_told size (effect_entry at) Seen refl seen;
-        global = λ at. none_told size (effect_global at) Seen refl seen;
+        entries = none_reported size effect_entries Seen refl seen;
+        byte = λ at. none_reported size (effect_byte at) Seen refl seen;
+        entry = λ at. none_reported size (effect_entry at) Seen refl seen;
+        global = λ at. none_reported size (effect_global at) Seen refl seen;
       }))
     where
       seen : Bool
@@ -113,7 +113,7 @@ module _ (n size : ℕ) (known : Known) (state : LogState) (told : IsToldKnown n
       subst
       (λ entries. AreFindsOf known (ReachesEntry index found)
       (finds_of size (cond (nat_lt index entries) [] (unless (nat_eq found entries) (Table found)) ++ [])))
-      (sym told.entries)
+      (sym reported.entries)
       (go (nat_lt index known.entries) refl)
     where
       same : Bool
@@ -134,12 +134,12 @@ module _ (n size : ℕ) (known : Known) (state : LogState) (told : IsToldKnown n
           subst (λ events. AreFindsOf known (ReachesEntry index found) (finds_of size events))
           (sym (append-nil (unless same (Table found))))
           (record {
-            pages = none_told size effect_pages (Table found) refl same;
+            pages = none_reported size effect_pages (Table found) refl same;
             entries = found_entries_number known.entries found size
                 ∙ sym (ap (λ b. cond b None (needed nat_eq known.entries (Some found))) p);
-            byte = λ at. none_told size (effect_byte at) (Table found) refl same;
-            entry = λ at. none_told size (effect_entry at) (Table found) refl same;
-            global = λ at. none_told size (effect_global at) (Table found) refl same;
+            byte = λ at. none_reported size (effect_byte at) (Table found) refl same;
+            entry = λ at. none_reported size (effect_entry at) (Table found) refl same;
+            global = λ at. none_reported size (effect_global at) (Table found) refl same;
           })
 
   -- a write
@@ -168,18 +168,18 @@ module _ (n size : ℕ) (known : Known) (state : LogState) (told : IsToldKnown n
       (subst
       (λ b. AreFindsOf known (ReadsEntry index func) (finds_of size (unless b (Entry index func) ++ [])))
       (sym
-      (ap (λ e. same_entry e (option_map (renumber n) func)) (told.entry index)
-      ∙ same_told_entry n (known.entry index) func))
+      (ap (λ e. same_entry e (option_map (renumber n) func)) (reported.entry index)
+      ∙ same_reported_entry n (known.entry index) func))
       (subst (λ events. AreFindsOf known (ReadsEntry index func) (finds_of size events))
-      (sym (append-nil (unless untold (Entry index func))))
+      (sym (append-nil (unless unreported (Entry index func))))
       (record {
-        pages = none_told size effect_pages (Entry index func) refl untold;
-        entries = none_told size effect_entries (Entry index func) refl untold;
-        byte = λ at. none_told size (effect_byte at) (Entry index func) refl untold;
-        entry = told_place size (same_option nat_eq) known.entry index func effect_entry (Entry index func)
-            (λ at. or_nothing (cond (nat_eq index at) (Some func) None)) untold refl;
-        global = λ at. none_told size (effect_global at) (Entry index func) refl untold;
+        pages = none_reported size effect_pages (Entry index func) refl unreported;
+        entries = none_reported size effect_entries (Entry index func) refl unreported;
+        byte = λ at. none_reported size (effect_byte at) (Entry index func) refl unreported;
+        entry = reported_place size (same_option nat_eq) known.entry index func effect_entry (Entry index func)
+            (λ at. or_none (cond (nat_eq index at) (Some func) None)) unreported refl;
+        global = λ at. none_reported size (effect_global at) (Entry index func) refl unreported;
       })))
     where
-      untold : Bool
-      untold = same_option nat_eq (known.entry index) func
+      unreported : Bool
+      unreported = same_option nat_eq (known.entry index) func

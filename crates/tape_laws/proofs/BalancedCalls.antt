@@ -19,12 +19,12 @@ use Rattle.record_replay_spec.specs.declared.hooks.Hook.TheVariants.{Leave}
 use Rattle.record_replay_spec.specs.Hooks.{HookCall}
 use Rattle.record_replay_spec.specs.Logs.{LogState, grown_events, events_from}
 use Rattle.record_replay_spec.specs.Order.{HookedShape}
-use Rattle.record_replay_spec.specs.ToldCalls.{Moment, told_calls, told_enter, told_values, told_over, told_number}
+use Rattle.record_replay_spec.specs.ReportedCalls.{Moment, reported_calls, reported_enter, reported_values, reported_over, reported_number}
 use Rattle.tape_laws.proofs.CallObservations.{seen_by}
 use Rattle.tape_laws.proofs.CallOrder as orders
 use Rattle.tape_laws.proofs.ModuleFacts.{func_there}
 use Rattle.tape_laws.proofs.TrailOrder.{same_waiting, calls_at}
-use Rattle.tape_laws.proofs.Trails.{Level, AtFunction, AtImport, AtCall, call_level, at_host, with_top_entered, IsWithin, IsAtEntry, IsTrail}
+use Rattle.tape_laws.proofs.Trails.{Level, AtFunction, AtImport, AtCall, call_level, at_host, with_top_entered, IsWithin}
 use Rattle.tape_laws.proofs.CallOrder.{IsHooked, renumbered, state, callee_may, never_imported}
 use Rattle.tape_laws.proofs.AllowedEvents.{CanSee}
 use Rattle.tape_laws.proofs.BalancedEvents.{Frames, AreLevels, host_enters, module_enters, AreBalanced, LeadsTo, both_lead, enter_leads, leave_leads, post_leads, grown_leads}
@@ -32,6 +32,7 @@ use Rattle.tape_laws.proofs.CallLogs as logs
 use Rattle.tape_laws.proofs.CallLogs.{noticing, Logged}
 use Rattle.tape_laws.proofs.HostTraps.{TrapsInside}
 use Rattle.tape_laws.proofs.TrailLogs as trail_logs
+use Rattle.tape_laws.proofs.EachMoment.{HoldsFirst}
 
 -- ---- open functions and calls
 
@@ -87,28 +88,24 @@ module _ (m : Module) (shape : HookedShape) (outcome : Outcome) where
     pub balanced : (grew : Bool) → CanSee grew st → AreBalanced (imported_funcs m) outcome levels grew found
 
   -- the hook calls of moments are balanced
-  abbrev pub Tells : List Level → ℕ → LogState → List Moment → Type 0
-  Tells levels entries st moments = Balances levels entries st (renumbered m (calls_at m levels moments))
+  abbrev pub Reports : List Level → ℕ → LogState → List Moment → Type 0
+  Reports levels entries st moments = Balances levels entries st (renumbered m (calls_at m levels moments))
 
-  abbrev pub Rest : List Moment → Type 0
-  Rest later =
-      (levels : List Level) (known : Known) (store : Store) (left : List Observation) (st : LogState)
-      → IsTrail m shape (Some outcome) later levels known store left → IsInside (imported_funcs m) levels left
-      → Tells levels known.entries st later
+  -- what is given at a point of a trail, and what then holds of the remaining moments
+  abbrev pub IsInsideAt : List Level → Known → Store → List Observation → LogState → Type 0
+  IsInsideAt levels known store left st = IsInside (imported_funcs m) levels left
+
+  abbrev pub ReportsAt : List Level → Known → Store → List Observation → LogState → List Moment → Type 0
+  ReportsAt levels known store left st moments = Reports levels known.entries st moments
 
   -- the hook calls of a trail's first moment, by its entry, and those after it are balanced, if those after it are
-  abbrev pub FirstTells : Entry → Type 0
-  FirstTells entry =
-      (later : List Moment) (moment : Moment) (levels : List Level) (known : Known) (store : Store)
-      (left : List Observation) (st : LogState)
-      → IsAtEntry m shape levels known store left (Some outcome) later moment entry (IsTrail m shape (Some outcome) later)
-      → IsInside (imported_funcs m) levels left → Rest later
-      → Tells levels known.entries st (record moment { entry = entry } ∷ later)
+  abbrev pub FirstBalances : Entry → Type 0
+  FirstBalances entry = HoldsFirst m shape (Some outcome) IsInsideAt ReportsAt entry
 
   -- a call that begins is balanced if it is balanced as a call of any function
   pub as_call : (imported direct : Bool) (callee : ℕ) (args : List Val) (levels : List Level) (entries : ℕ) (st : LogState)
-      (later : List Moment) → Tells (call_level imported direct callee args ∷ levels) entries st later
-      → Tells (AtCall direct callee false args ∷ levels) entries st later
+      (later : List Moment) → Reports (call_level imported direct callee args ∷ levels) entries st later
+      → Reports (AtCall direct callee false args ∷ levels) entries st later
   as_call true direct callee args levels entries st later h =
       record { found = h.found; are = h.are; balanced = h.balanced }
   as_call false direct callee args levels entries st later h = h
@@ -158,10 +155,10 @@ module _ (m : Module) (shape : HookedShape) (hooked : IsHooked m shape) (outcome
       (events.Post result ∷ []) (grown_events st.noticed view)
       (post_leads n outcome result direct callee entered args levels st e) (grown_leads n outcome levels st view w)
 
-  pub host_call : (func : ℕ) (args : List Val) → FirstTells m shape outcome (HostCall func args)
+  pub host_call : (func : ℕ) (args : List Val) → FirstBalances m shape outcome (HostCall func args)
   host_call func args later moment levels known store left st h inside rest =
       then_balances levels next known.entries known.entries st (noticing moment.after st)
-      (told_enter func args moment.after) (calls_at m levels later)
+      (reported_enter func args moment.after) (calls_at m levels later)
       (events.Enter func args ∷ grown_events st.noticed moment.after)
       (logs.enter_logged m shape hooked func args levels known.entries moment.after st h.defined
       (func_there m func h.typed.ty h.typed.has_type) h.typed
@@ -169,7 +166,7 @@ module _ (m : Module) (shape : HookedShape) (hooked : IsHooked m shape) (outcome
       (enter_grown func args levels (with_top_entered levels) st moment.after h.defined
       (λ frames are. host_enters n func levels frames h.host are))
       (subst
-      (λ w. Balances m shape outcome next known.entries (noticing moment.after st) (renumbered m (told_calls (all_globals m) w later)))
+      (λ w. Balances m shape outcome next known.entries (noticing moment.after st) (renumbered m (reported_calls (all_globals m) w later)))
       (same_waiting levels)
       (rest next known moment.after h.later (noticing moment.after st) h.follows
       (subst (λ d. TrapsInside false d h.later) (sym (same_imports n levels h.host)) left_inside)))
@@ -182,11 +179,11 @@ module _ (m : Module) (shape : HookedShape) (hooked : IsHooked m shape) (outcome
           subst (λ l. TrapsInside true (open_imports n levels) l) h.observed
           (subst (λ b. TrapsInside b (open_imports n levels) left) h.host inside)
 
-  pub entered : (func : ℕ) → FirstTells m shape outcome (Enter func)
+  pub entered : (func : ℕ) → FirstBalances m shape outcome (Enter func)
   entered func later moment levels known store left st h inside rest =
-      subst (λ l. Tells m shape outcome l known.entries st (record moment { entry = Enter func } ∷ later)) (sym h.stands)
+      subst (λ l. Reports m shape outcome l known.entries st (record moment { entry = Enter func } ∷ later)) (sym h.stands)
       (then_balances top inner known.entries known.entries st (noticing moment.after st)
-      (told_enter func h.args moment.after) (calls_at m top later)
+      (reported_enter func h.args moment.after) (calls_at m top later)
       (events.Enter func h.args ∷ grown_events st.noticed moment.after)
       (logs.enter_logged m shape hooked func h.args top known.entries moment.after st h.defined
       (func_there m func h.typed.ty h.typed.has_type) h.typed (callee_may shape.imports func))
@@ -202,11 +199,11 @@ module _ (m : Module) (shape : HookedShape) (hooked : IsHooked m shape) (outcome
       inner : List Level
       inner = AtFunction func ∷ AtCall h.direct func true h.args ∷ h.below
 
-  pub host_return : (func : ℕ) (results : List Val) → FirstTells m shape outcome (HostReturn func results)
+  pub host_return : (func : ℕ) (results : List Val) → FirstBalances m shape outcome (HostReturn func results)
   host_return func results later moment levels known store left st h inside rest =
-      subst (λ l. Tells m shape outcome l known.entries st (record moment { entry = HostReturn func results } ∷ later)) (sym h.stands)
+      subst (λ l. Reports m shape outcome l known.entries st (record moment { entry = HostReturn func results } ∷ later)) (sym h.stands)
       (then_balances (AtFunction func ∷ h.below) h.below known.entries known.entries st st
-      (told_number Leave func moment.after) (calls_at m h.below later) (events.Leave func ∷ [])
+      (reported_number Leave func moment.after) (calls_at m h.below later) (events.Leave func ∷ [])
       (logs.leave_logged m shape hooked func h.below known.entries moment.after st)
       (leave_leads n outcome func h.below st)
       (rest h.below known moment.after h.later st h.follows
@@ -214,13 +211,13 @@ module _ (m : Module) (shape : HookedShape) (hooked : IsHooked m shape) (outcome
       (subst (λ l. IsInside n (AtFunction func ∷ h.below) l) h.observed
       (subst (λ l. IsInside n l left) h.stands inside)))))
 
-  pub exited : (func : ℕ) (results : List Val) → FirstTells m shape outcome (Exit func results)
+  pub exited : (func : ℕ) (results : List Val) → FirstBalances m shape outcome (Exit func results)
   exited func results later moment levels known store left st h inside rest =
-      subst (λ l. Tells m shape outcome l known.entries st (record moment { entry = Exit func results } ∷ later)) (sym h.stands)
+      subst (λ l. Reports m shape outcome l known.entries st (record moment { entry = Exit func results } ∷ later)) (sym h.stands)
       (then_balances (AtFunction func ∷ called) h.below known.entries known.entries st (noticing moment.after st)
-      (told_number Leave func moment.after ++ over) (calls_at m h.below later)
+      (reported_number Leave func moment.after ++ over) (calls_at m h.below later)
       (events.Leave func ∷ (events.Post (slice_get results 0) ∷ grown_events st.noticed moment.after))
-      (logs.both_logged m shape hooked (told_number Leave func moment.after) over
+      (logs.both_logged m shape hooked (reported_number Leave func moment.after) over
       (events.Leave func ∷ []) (events.Post (slice_get results 0) ∷ grown_events st.noticed moment.after)
       (state (AtFunction func ∷ called) [] known.entries) (state called [] known.entries)
       (state h.below [] known.entries) st st (noticing moment.after st)
@@ -239,7 +236,7 @@ module _ (m : Module) (shape : HookedShape) (hooked : IsHooked m shape) (outcome
       called = AtCall h.direct func true h.args ∷ h.below
 
       over : List HookCall
-      over = told_values moment.after results ++ told_over (cond h.direct (Some func) None) moment.after
+      over = reported_values moment.after results ++ reported_over (cond h.direct (Some func) None) moment.after
 
       left_inside : TrapsInside false (open_imports n h.below) left
       left_inside =
@@ -248,9 +245,9 @@ module _ (m : Module) (shape : HookedShape) (hooked : IsHooked m shape) (outcome
 
   -- ---- imports
 
-  pub import_called : (import : ℕ) (args : List Val) → FirstTells m shape outcome (ImportCall import args)
+  pub import_called : (import : ℕ) (args : List Val) → FirstBalances m shape outcome (ImportCall import args)
   import_called import args later moment levels known store left st h inside rest =
-      subst (λ l. Tells m shape outcome l known.entries st (record moment { entry = ImportCall import args } ∷ later)) (sym h.stands)
+      subst (λ l. Reports m shape outcome l known.entries st (record moment { entry = ImportCall import args } ∷ later)) (sym h.stands)
       (record { found = r.found; are = r.are; balanced = r.balanced })
     where
       left_inside : TrapsInside true (suc (open_imports n h.below)) h.later
@@ -258,17 +255,17 @@ module _ (m : Module) (shape : HookedShape) (hooked : IsHooked m shape) (outcome
           subst (λ l. IsInside n (AtImport h.direct import h.args ∷ h.below) l) h.observed
           (subst (λ l. IsInside n l left) h.stands inside)
 
-      r : Tells m shape outcome (AtCall h.direct import false h.args ∷ h.below) known.entries st later
+      r : Reports m shape outcome (AtCall h.direct import false h.args ∷ h.below) known.entries st later
       r = rest (AtCall h.direct import false h.args ∷ h.below) known moment.after h.later st h.follows
           (subst (λ b. TrapsInside b (cond b (suc (open_imports n h.below)) (open_imports n h.below)) h.later)
           (sym h.imported) left_inside)
 
-  pub import_return : (import : ℕ) (results : List Val) → FirstTells m shape outcome (ImportReturn import results)
+  pub import_return : (import : ℕ) (results : List Val) → FirstBalances m shape outcome (ImportReturn import results)
   import_return import results later moment levels known store left st h inside rest =
-      subst (λ l. Tells m shape outcome l known.entries st (record moment { entry = ImportReturn import results } ∷ later))
+      subst (λ l. Reports m shape outcome l known.entries st (record moment { entry = ImportReturn import results } ∷ later))
       (sym h.stands)
       (then_balances top h.below known.entries known.entries st (noticing moment.after st)
-      (told_values moment.after results ++ told_over (cond h.direct (Some import) None) moment.after)
+      (reported_values moment.after results ++ reported_over (cond h.direct (Some import) None) moment.after)
       (calls_at m h.below later) (events.Post (slice_get results 0) ∷ grown_events st.noticed moment.after)
       (logs.over_logged m shape hooked h.direct import h.entered h.args results h.below known.entries
       moment.after st (ap (λ b. b || h.entered) h.imported) h.typed)

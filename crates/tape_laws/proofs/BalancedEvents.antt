@@ -7,13 +7,13 @@ use Rattle.std.proofs.lemmas.List.{append_assoc}
 use Rattle.wasm_syntax.specs.declared.values.Val.{Val}
 use Rattle.base.specs.declared.outcomes.Outcome.{Outcome}
 use Rattle.base.specs.declared.outcomes.Outcome.TheVariants.{Ended, Trapped}
+use Rattle.base.proofs.Booleans.{own_number}
 use Rattle.trace_model.specs.declared.events.Event.{Event}
 use Rattle.trace_model.specs.declared.events.Event.TheVariants.{Enter, Leave, Pre, Post, Grow, Seen, Table, Bytes, Entry, Global}
 use Rattle.trace_model.specs.Balance.{balance_start, is_function, enter_call, enter_frames, leave_frames, post_call, post_frames, with_frames, calls_import, balanced_step, ends_so, unbalanced_from}
 use Rattle.history_spec.specs.Store.{Store}
 use Rattle.record_replay_spec.specs.Known.{pages_of}
 use Rattle.record_replay_spec.specs.Observations.{Observation}
-use Rattle.tape_laws.proofs.Same.{own_number}
 use Rattle.record_replay_spec.specs.Logs.{LogState, unless, log_after_all, all_observed_events, grown_events}
 use Rattle.tape_laws.proofs.Trails.{Level, AtFunction, AtImport, AtCall, at_host, with_top_entered, IsWithin}
 use Rattle.tape_laws.proofs.CallOrder.{callee_may}

@@ -1,7 +1,8 @@
 -- The log of the hook calls of a run is balanced.
-use Rattle.std.proofs.Common.{◌≡◌, ℕ, [], ◌∷◌, ◌++◌, Result, Ok, Err, true, false, refl, ap, subst, inr}
+use Rattle.std.proofs.Common.{◌≡◌, ℕ, [], ◌∷◌, ◌++◌, true, false, refl, ap, subst, inr}
 use Rattle.wasm_syntax.specs.Index.{imported_funcs}
 use Rattle.base.specs.declared.outcomes.Outcome.{Outcome}
+use Rattle.base.proofs.Results.{same_ok}
 use Rattle.trace_model.specs.declared.events.Log.{Log}
 use Rattle.trace_model.specs.declared.tapes.Origin.TheVariants.{Begin}
 use Rattle.trace_model.specs.Balance.{IsBalanced}
@@ -18,15 +19,11 @@ use Rattle.tape_laws.specs.CallLaws.{OriginalRun, hooked_shape}
 use Rattle.tape_laws.proofs.Ordered.{hooked_run, observed, moments_of, IsRunTrail, run_trail}
 use Rattle.tape_laws.proofs.TrailsOfRuns.{outcome_of}
 use Rattle.tape_laws.specs.LogLaws.{log_of_run, LogsAreBalanced}
-use Rattle.tape_laws.proofs.BalancedTrails.{tells}
+use Rattle.tape_laws.proofs.BalancedTrails.{reports}
 use Rattle.tape_laws.proofs.HostTraps.{TrapsInside, first_inside}
 use Rattle.record_replay_spec.proofs.OneTape.{observations_same}
 use Rattle.tape_laws.proofs.WholeLogs.{log_is, first_log}
-use Rattle.tape_laws.proofs.BalancedCalls.{Tells}
-
-same_log : (result : Result Log ℕ) (log other : Log) → result ≡ Ok log → result ≡ Ok other → log ≡ other
-same_log (Ok given) log other a b = cc
-same_log (Err number) log other a b = cc
+use Rattle.tape_laws.proofs.BalancedCalls.{Reports}
 
 -- the host traps only in a call of an import, since the needed tape fits
 inside : NeededSegmentsAreKept → RunsHaveOneNeededTape → (run : OriginalRun) (count : ℕ) (outcome : Outcome)
@@ -51,13 +48,13 @@ pub logs_balance : LawsOfSteps → LawsOfRuns → InstrumentedKeepIndices → In
     → LogsAreBalanced
 logs_balance laws runs indices renumbered one run count outcome ends log logged =
     subst IsBalanced
-    (same_log (log_of_run run count outcome) found log (log_is run count outcome t.found (t.are 0)) logged)
+    (same_ok (log_of_run run count outcome) found log (log_is run count outcome t.found (t.are 0)) logged)
     (t.balanced false (inr refl) [] tt 0 false)
   where
-    t : Tells run.m (hooked_shape run) outcome [] (opening_known run.store).entries (first_log run)
+    t : Reports run.m (hooked_shape run) outcome [] (opening_known run.store).entries (first_log run)
         (moments_of run count)
     t =
-        tells run.m (hooked_shape run) (hooked_run indices renumbered run) outcome (moments_of run count) []
+        reports run.m (hooked_shape run) (hooked_run indices renumbered run) outcome (moments_of run count) []
         (opening_known run.store) run.store (observed run count) (first_log run)
         (subst (IsRunTrail run count) (ap outcome_of ends) (run_trail laws runs indices run count))
         (inside runs.kept one run count outcome ends)

@@ -22,10 +22,10 @@ use Rattle.record_replay_spec.specs.declared.hooks.Hook.TheVariants.{Pre, Ipre}
 use Rattle.record_replay_spec.specs.Hooks.{HookCall}
 use Rattle.record_replay_spec.specs.Logs.{LogState, log_after_all, all_observed_events}
 use Rattle.record_replay_spec.specs.Order.{HookedShape}
-use Rattle.record_replay_spec.specs.ToldCalls.{Moment, told_calls, told_number, told_by_step, told_by_trap, waiting_after_step}
+use Rattle.record_replay_spec.specs.ReportedCalls.{Moment, reported_calls, reported_number, reported_by_step, reported_by_trap, waiting_after_step}
 use Rattle.tape_laws.proofs.CallObservations.{seen_by}
 use Rattle.tape_laws.proofs.CallOrder as orders
-use Rattle.tape_laws.proofs.Trails.{Level, AtFunction, AtCall, call_level, waiting_calls, Leads, Stays, Direct, Indirect, TellsTrap, Quiet, AtEntry, IsTrailEnd}
+use Rattle.tape_laws.proofs.Trails.{Level, AtFunction, AtCall, call_level, waiting_calls, Leads, Stays, Direct, Indirect, ReportsTrap, Quiet, AtEntry, IsTrailEnd}
 use Rattle.tape_laws.proofs.CallOrder.{IsHooked, renumbered, state}
 use Rattle.tape_laws.proofs.TrailOrder.{calls_at}
 use Rattle.tape_laws.proofs.BalancedEvents.{on_function, AreBalanced, nothing_open, just_called, both_lead, pre_leads, observed_lead}
@@ -33,7 +33,8 @@ use Rattle.tape_laws.proofs.CallLogs as logs
 use Rattle.tape_laws.proofs.HostTraps.{TrapsInside, inside_after}
 use Rattle.tape_laws.proofs.TrailLogs as trail_logs
 use Rattle.tape_laws.proofs.BalancedCalls as balanced_calls
-use Rattle.tape_laws.proofs.BalancedCalls.{open_imports, IsInside, in_import, call_inside, Balances, Tells, Rest, FirstTells}
+use Rattle.tape_laws.proofs.BalancedCalls.{open_imports, IsInside, in_import, call_inside, IsInsideAt, Balances, Reports, ReportsAt, FirstBalances}
+use Rattle.tape_laws.proofs.EachMoment.{HoldsFor, holds_for}
 
 module _ (m : Module) (shape : HookedShape) (hooked : IsHooked m shape) (outcome : Outcome) where
   abbrev n : ℕ
@@ -45,9 +46,9 @@ module _ (m : Module) (shape : HookedShape) (hooked : IsHooked m shape) (outcome
   -- ---- instructions
 
   stepped : (func number : ℕ) (operands results : List Val) (found : Option ℕ)
-      → FirstTells m shape outcome (Step func number operands results found)
+      → FirstBalances m shape outcome (Step func number operands results found)
   stepped func number operands results found later moment levels known store left st h inside rest =
-      subst (λ l. Tells m shape outcome l known.entries st now) (sym h.stands)
+      subst (λ l. Reports m shape outcome l known.entries st now) (sym h.stands)
       (go (subst (λ l. Leads m shape l h.after known h.items moment operands results) h.stands h.leads))
     where
       now : List Moment
@@ -71,17 +72,17 @@ module _ (m : Module) (shape : HookedShape) (hooked : IsHooked m shape) (outcome
       -- what follows is balanced at the levels and with the entries after the step
       follows_at : (st : LogState) (levels : List Level) (entries : ℕ) → h.after ≡ levels
           → (known_after_all known h.items).entries ≡ entries → IsInside n levels h.later
-          → Tells m shape outcome levels entries st later
+          → Reports m shape outcome levels entries st later
       follows_at st levels entries same e inside =
-          subst (λ e. Tells m shape outcome levels e st later) e
-          (subst (λ l. Tells m shape outcome l (known_after_all known h.items).entries st later) same
+          subst (λ e. Reports m shape outcome levels e st later) e
+          (subst (λ l. Reports m shape outcome l (known_after_all known h.items).entries st later) same
           (rest h.after (known_after_all known h.items) moment.after h.later st h.follows
           (subst (λ l. IsInside n l h.later) (sym same) inside)))
 
       called : (direct : Bool) (callee : ℕ) (args : List Val) (entries : ℕ) (st : LogState)
           → h.after ≡ call_level (nat_lt callee n) direct callee args ∷ AtFunction func ∷ h.below
           → (known_after_all known h.items).entries ≡ entries
-          → Tells m shape outcome (AtCall direct callee false args ∷ AtFunction func ∷ h.below) entries st later
+          → Reports m shape outcome (AtCall direct callee false args ∷ AtFunction func ∷ h.below) entries st later
       called direct callee args entries st same e =
           balanced_calls.as_call m shape outcome (nat_lt callee n) direct callee args (AtFunction func ∷ h.below) entries st later
           (follows_at st (call_level (nat_lt callee n) direct callee args ∷ AtFunction func ∷ h.below) entries same e
@@ -92,57 +93,57 @@ module _ (m : Module) (shape : HookedShape) (hooked : IsHooked m shape) (outcome
       StepBalances instr =
           Balances m shape outcome top known.entries st
           (renumbered m
-          (told_by_step (all_globals m) instr operands results moment
-          ++ told_calls (all_globals m) (waiting_after_step instr operands (waiting_calls top)) later))
+          (reported_by_step (all_globals m) instr operands results moment
+          ++ reported_calls (all_globals m) (waiting_after_step instr operands (waiting_calls top)) later))
 
       go : Leads m shape (AtFunction func ∷ h.below) h.after known h.items moment operands results
-          → Tells m shape outcome (AtFunction func ∷ h.below) known.entries st
+          → Reports m shape outcome (AtFunction func ∷ h.below) known.entries st
           (record moment { entry = Step func number operands results found } ∷ later)
-      go (Stays same waits tellable entries) =
-          let calls = told_by_step (all_globals m) moment.instr operands results moment in
+      go (Stays same waits reportable entries) =
+          let calls = reported_by_step (all_globals m) moment.instr operands results moment in
           balanced_calls.then_balances m shape hooked outcome top top known.entries known.entries st
           (log_after_all st (seen calls)) calls
-          (told_calls (all_globals m) (waiting_after_step moment.instr operands (waiting_calls top)) later)
+          (reported_calls (all_globals m) (waiting_after_step moment.instr operands (waiting_calls top)) later)
           (all_observed_events n st (seen calls))
-          (logs.tellable_logged m shape hooked calls (state top [] known.entries) st refl tellable)
+          (logs.reportable_logged m shape hooked calls (state top [] known.entries) st refl reportable)
           (observed_lead n outcome top st (seen calls) tt)
           (subst
-          (λ w. Balances m shape outcome top known.entries (log_after_all st (seen calls)) (renumbered m (told_calls (all_globals m) w later)))
+          (λ w. Balances m shape outcome top known.entries (log_after_all st (seen calls)) (renumbered m (reported_calls (all_globals m) w later)))
           (sym (waits (waiting_calls top)))
           (follows_at (log_after_all st (seen calls)) top known.entries same entries left_inside))
       go (Direct callee calls same there none) =
           subst StepBalances (sym calls)
           (balanced_calls.then_balances m shape hooked outcome top
           (AtCall true callee false operands ∷ top) known.entries known.entries st st
-          (told_number Pre callee moment.before ++ []) (calls_at m (AtCall true callee false operands ∷ top) later)
+          (reported_number Pre callee moment.before ++ []) (calls_at m (AtCall true callee false operands ∷ top) later)
           (events.Pre (Some callee) ∷ [])
           (logs.pre_logged m shape hooked callee func operands h.below known.entries moment.before st
           there)
           (pre_leads n outcome true callee operands top st tt)
           (called true callee operands known.entries st same (ap (λ l. (known_after_all known l).entries) none)))
       go (Indirect t callee calls same there entry entries) =
-          let told = told_number Ipre index moment.before in
-          let after = log_after_all st (seen told) in
+          let reported = reported_number Ipre index moment.before in
+          let after = log_after_all st (seen reported) in
           let seen_entries = entries_after known.entries (ReachesEntry index (table_length moment.before.table)) in
           subst StepBalances (sym calls)
           (balanced_calls.then_balances m shape hooked outcome top
-          (AtCall false callee false args ∷ top) known.entries seen_entries st after told
+          (AtCall false callee false args ∷ top) known.entries seen_entries st after reported
           (calls_at m (AtCall false callee false args ∷ top) later)
-          (all_observed_events n st (seen told) ++ events.Pre (Some callee) ∷ [])
+          (all_observed_events n st (seen reported) ++ events.Pre (Some callee) ∷ [])
           (logs.ipre_logged m shape hooked func index h.below known.entries moment.before (Some callee)
           st h.of.entries entry there)
           (both_lead n outcome top top (AtCall false callee false args ∷ top) st after after
-          (all_observed_events n st (seen told)) (events.Pre (Some callee) ∷ [])
-          (observed_lead n outcome top st (seen told) tt) (pre_leads n outcome false callee args top after tt))
+          (all_observed_events n st (seen reported)) (events.Pre (Some callee) ∷ [])
+          (observed_lead n outcome top st (seen reported) tt) (pre_leads n outcome false callee args top after tt))
           (called false callee args seen_entries after same entries))
 
   -- ---- the run is over
 
   trapped : (func number : ℕ) (kind : TrapKind) (operands : List Val) (found : Option ℕ)
-      → FirstTells m shape outcome (Trap func number kind operands found)
+      → FirstBalances m shape outcome (Trap func number kind operands found)
   trapped func number kind operands found later moment levels known store left st h inside rest =
-      subst (λ l. Tells m shape outcome l known.entries st (now later)) (sym h.stands)
-      (subst (λ l. Tells m shape outcome top known.entries st (now l)) (sym h.last) (go h.tells))
+      subst (λ l. Reports m shape outcome l known.entries st (now later)) (sym h.stands)
+      (subst (λ l. Reports m shape outcome top known.entries st (now l)) (sym h.last) (go h.reports))
     where
       top : List Level
       top = AtFunction func ∷ h.below
@@ -166,41 +167,41 @@ module _ (m : Module) (shape : HookedShape) (hooked : IsHooked m shape) (outcome
           (λ o. cond (ends_so n (record { frames = frames; grew = grew; called = called }) o) None (Some at)) over
           ∙ ap (λ b. cond (b || called) None (Some at)) (on_function n top frames tt are)
 
-      go : TellsTrap m shape moment operands
-          → Tells m shape outcome (AtFunction func ∷ h.below) known.entries st
+      go : ReportsTrap m shape moment operands
+          → Reports m shape outcome (AtFunction func ∷ h.below) known.entries st
           (record moment { entry = Trap func number kind operands found } ∷ [])
-      go (Quiet tellable) =
-          let calls = told_by_trap moment.instr operands moment in
+      go (Quiet reportable) =
+          let calls = reported_by_trap moment.instr operands moment in
           balanced_calls.then_balances m shape hooked outcome top top known.entries known.entries st
           (log_after_all st (seen calls)) calls []
           (all_observed_events n st (seen calls))
-          (logs.tellable_logged m shape hooked calls (state top [] known.entries) st refl tellable)
+          (logs.reportable_logged m shape hooked calls (state top [] known.entries) st refl reportable)
           (observed_lead n outcome top st (seen calls) tt)
           (record { found = []; are = λ at. refl; balanced = λ grew sees. in_function grew })
       go (AtEntry t calls entry) =
-          let told = told_number Ipre index moment.before in
+          let reported = reported_number Ipre index moment.before in
           subst
-          (λ i. Balances m shape outcome (AtFunction func ∷ h.below) known.entries st (renumbered m (told_by_trap i operands moment ++ [])))
+          (λ i. Balances m shape outcome (AtFunction func ∷ h.below) known.entries st (renumbered m (reported_by_trap i operands moment ++ [])))
           (sym calls)
           (record {
-            found = (all_observed_events n st (seen told) ++ events.Pre callee ∷ []) ++ [];
+            found = (all_observed_events n st (seen reported) ++ events.Pre callee ∷ []) ++ [];
             are =
-                trail_logs.logged_then m shape hooked outcome (state top [] known.entries) st told
-                (all_observed_events n st (seen told) ++ events.Pre callee ∷ [])
+                trail_logs.logged_then m shape hooked outcome (state top [] known.entries) st reported
+                (all_observed_events n st (seen reported) ++ events.Pre callee ∷ [])
                 (orders.after_index m shape hooked func index h.below known.entries moment.before
                 callee)
-                (log_after_all st (seen told)) [] []
+                (log_after_all st (seen reported)) [] []
                 (logs.ipre_logged m shape hooked func index h.below known.entries moment.before callee
                 st h.of.entries refl entry)
                 (λ at. refl);
             balanced = λ grew sees.
                 subst (AreBalanced n outcome top grew)
-                (sym (append-nil (all_observed_events n st (seen told) ++ events.Pre callee ∷ [])))
-                (observed_lead n outcome top st (seen told) tt grew sees (events.Pre callee ∷ [])
+                (sym (append-nil (all_observed_events n st (seen reported) ++ events.Pre callee ∷ [])))
+                (observed_lead n outcome top st (seen reported) tt grew sees (events.Pre callee ∷ [])
                 (λ g s. just_called n outcome callee top g over tt));
           })
 
-  host_trapped : FirstTells m shape outcome HostTrap
+  host_trapped : FirstBalances m shape outcome HostTrap
   host_trapped later moment levels known store left st h inside rest =
       record {
         found = [];
@@ -218,7 +219,7 @@ module _ (m : Module) (shape : HookedShape) (hooked : IsHooked m shape) (outcome
 
   -- ---- a whole trail
 
-  at_entry : (entry : Entry) → FirstTells m shape outcome entry
+  at_entry : (entry : Entry) → FirstBalances m shape outcome entry
   at_entry (HostCall func args) = balanced_calls.host_call m shape hooked outcome func args
   at_entry (Enter func) = balanced_calls.entered m shape hooked outcome func
   at_entry (HostReturn func results) = balanced_calls.host_return m shape hooked outcome func results
@@ -231,14 +232,15 @@ module _ (m : Module) (shape : HookedShape) (hooked : IsHooked m shape) (outcome
   at_entry HostTrap = host_trapped
 
   at_end : (o : Outcome) → outcome ≡ o → (levels : List Level) (known : Known) (left : List Observation)
-      (st : LogState) → IsTrailEnd m shape levels left (Some o) → Tells m shape outcome levels known.entries st []
+      (st : LogState) → IsTrailEnd m shape levels left (Some o) → Reports m shape outcome levels known.entries st []
   at_end Trapped over levels known left st h = absurd h
   at_end HostTrapped over levels known left st h = absurd h
   at_end Ended over levels known left st h =
-      subst (λ l. Tells m shape outcome l known.entries st []) (sym h.0)
+      subst (λ l. Reports m shape outcome l known.entries st []) (sym h.0)
       (record { found = []; are = λ at. refl; balanced = λ grew sees. nothing_open n outcome grew over })
 
-  pub tells : (moments : List Moment) → Rest m shape outcome moments
-  tells [] levels known store left st h inside = at_end outcome refl levels known left st h
-  tells (moment ∷ later) levels known store left st h inside =
-      at_entry moment.entry later moment levels known store left st h inside (tells later)
+  pub reports : (moments : List Moment)
+      → HoldsFor m shape (Some outcome) (IsInsideAt m shape outcome) (ReportsAt m shape outcome) moments
+  reports =
+      holds_for m shape (Some outcome) (IsInsideAt m shape outcome) (ReportsAt m shape outcome) at_entry
+      (λ levels known store left st h inside. at_end outcome refl levels known left st h)

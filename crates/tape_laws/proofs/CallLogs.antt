@@ -17,12 +17,12 @@ use Rattle.type_safety.specs.Stores.{func_count}
 use Rattle.record_replay_spec.specs.declared.hooks.Hook.TheVariants.{Enter as ToEnter, Leave, Pre, Ipre}
 use Rattle.record_replay_spec.specs.Hooks.{HookCall, renumbered_call, renumbered_view, original}
 use Rattle.record_replay_spec.specs.Logs.{LogState, call_observations, grown_events, notices_size, call_events, log_after_call, log_after_all, all_observed_events, after_events, events_or, events_from}
-use Rattle.record_replay_spec.specs.Order.{HookedShape, OrderState, may_tell, may_enter, ordered_step}
-use Rattle.record_replay_spec.specs.ToldCalls.{told_values, told_number, told_enter, told_over}
+use Rattle.record_replay_spec.specs.Order.{HookedShape, OrderState, may_report, may_enter, ordered_step}
+use Rattle.record_replay_spec.specs.ReportedCalls.{reported_values, reported_number, reported_enter, reported_over}
 use Rattle.tape_laws.proofs.CallObservations.{seen_by}
 use Rattle.tape_laws.proofs.CallOrder as orders
 use Rattle.tape_laws.proofs.CallOrder.{same_entry, IsHooked, renumbered, state, AreOrdered}
-use Rattle.tape_laws.proofs.Trails.{Level, AtFunction, AtCall, order_frames, with_top_entered, IsTypedFor, AreTellable}
+use Rattle.tape_laws.proofs.Trails.{Level, AtFunction, AtCall, order_frames, with_top_entered, IsTypedFor, AreReportable}
 use Rattle.tape_laws.proofs.ItemSteps.{after_both, events_both}
 use Rattle.tape_laws.proofs.ObservedFinds.{original_entry}
 
@@ -108,7 +108,7 @@ module _ (m : Module) (shape : HookedShape) (hooked : IsHooked m shape) where
       (q.0.events st order.pending) (one_logged call order h.0 h.0 st h.1 refl)))
       (silent_logged calls h.0 after st h.2 q.1)
 
-  values_silent : (view : Store) (values : List Val) → AllByRecursion IsSilent (told_values view values)
+  values_silent : (view : Store) (values : List Val) → AllByRecursion IsSilent (reported_values view values)
   values_silent view [] = tt
   values_silent view (value ∷ values) =
       (record { events = λ st pending. refl; same = λ st. refl }, values_silent view values)
@@ -118,22 +118,22 @@ module _ (m : Module) (shape : HookedShape) (hooked : IsHooked m shape) where
   pub enter_logged : (func : ℕ) (args : List Val) (levels : List Level) (entries : ℕ) (view : Store) (st : LogState)
       → n ≤ func → func < func_count m → IsTypedFor m shape func (λ ty. ty.params) args
       → may_enter shape func (order_frames levels) ≡ true
-      → Logged m shape (state levels [] entries) st (told_enter func args view)
+      → Logged m shape (state levels [] entries) st (reported_enter func args view)
       (events.Enter func args ∷ grown_events st.noticed view)
       (state (AtFunction func ∷ with_top_entered levels) [] entries) (noticing view st)
   enter_logged func args levels entries view st own below typed may =
       let step = orders.enter_step m shape hooked func args levels entries view own below typed may in
-      both_logged (told_values view args) (told_number ToEnter func view) []
+      both_logged (reported_values view args) (reported_number ToEnter func view) []
       (events.Enter func args ∷ grown_events st.noticed view) (state levels [] entries) (state levels args entries)
       (state (AtFunction func ∷ with_top_entered levels) [] entries) st st (noticing view st)
-      (silent_logged (told_values view args) (state levels [] entries) (state levels args entries) st
+      (silent_logged (reported_values view args) (state levels [] entries) (state levels args entries) st
       (orders.params_ordered m shape hooked func args levels entries view typed)
       (values_silent view args))
       (one_logged _ (state levels args entries) step.0 (state (AtFunction func ∷ with_top_entered levels) [] entries) st
       step.1 step.2)
 
   pub leave_logged : (func : ℕ) (levels : List Level) (entries : ℕ) (view : Store) (st : LogState)
-      → Logged m shape (state (AtFunction func ∷ levels) [] entries) st (told_number Leave func view)
+      → Logged m shape (state (AtFunction func ∷ levels) [] entries) st (reported_number Leave func view)
       (events.Leave func ∷ []) (state levels [] entries) st
   leave_logged func levels entries view st =
       let step = orders.leave_ordered m shape hooked func levels entries view in
@@ -143,15 +143,15 @@ module _ (m : Module) (shape : HookedShape) (hooked : IsHooked m shape) where
       (entries : ℕ) (view : Store) (st : LogState) → (nat_lt callee n || entered) ≡ true
       → IsTypedFor m shape callee (λ ty. ty.results) results
       → Logged m shape (state (AtCall direct callee entered args ∷ levels) [] entries) st
-      (told_values view results ++ told_over (cond direct (Some callee) None) view)
+      (reported_values view results ++ reported_over (cond direct (Some callee) None) view)
       (events.Post (slice_get results 0) ∷ grown_events st.noticed view) (state levels [] entries) (noticing view st)
   over_logged direct callee entered args results levels entries view st may typed =
-      both_logged (told_values view results) (told_over (cond direct (Some callee) None) view) []
+      both_logged (reported_values view results) (reported_over (cond direct (Some callee) None) view) []
       (events.Post (slice_get results 0) ∷ grown_events st.noticed view)
       (state (AtCall direct callee entered args ∷ levels) [] entries)
       (state (AtCall direct callee entered args ∷ levels) results entries) (state levels [] entries) st st
       (noticing view st)
-      (silent_logged (told_values view results) (state (AtCall direct callee entered args ∷ levels) [] entries)
+      (silent_logged (reported_values view results) (state (AtCall direct callee entered args ∷ levels) [] entries)
       (state (AtCall direct callee entered args ∷ levels) results entries) st
       (orders.results_ordered m shape hooked callee results
       (AtCall direct callee entered args ∷ levels) entries view typed)
@@ -161,9 +161,9 @@ module _ (m : Module) (shape : HookedShape) (hooked : IsHooked m shape) where
     where
       go : (direct : Bool)
           → AreOrdered shape (state (AtCall direct callee entered args ∷ levels) results entries)
-          (renumbered m (told_over (cond direct (Some callee) None) view)) (state levels [] entries)
+          (renumbered m (reported_over (cond direct (Some callee) None) view)) (state levels [] entries)
           → Logged m shape (state (AtCall direct callee entered args ∷ levels) results entries) st
-          (told_over (cond direct (Some callee) None) view)
+          (reported_over (cond direct (Some callee) None) view)
           (events.Post (slice_get results 0) ∷ grown_events st.noticed view) (state levels [] entries)
           (noticing view st)
       go true step =
@@ -175,7 +175,7 @@ module _ (m : Module) (shape : HookedShape) (hooked : IsHooked m shape) where
 
   pub pre_logged : (callee func : ℕ) (operands : List Val) (levels : List Level) (entries : ℕ) (view : Store)
       (st : LogState) → callee < func_count m
-      → Logged m shape (state (AtFunction func ∷ levels) [] entries) st (told_number Pre callee view ++ [])
+      → Logged m shape (state (AtFunction func ∷ levels) [] entries) st (reported_number Pre callee view ++ [])
       (events.Pre (Some callee) ∷ []) (state (AtCall true callee false operands ∷ AtFunction func ∷ levels) [] entries) st
   pre_logged callee func operands levels entries view st below =
       let step = orders.pre_ordered m shape hooked callee func operands levels entries view below in
@@ -185,10 +185,10 @@ module _ (m : Module) (shape : HookedShape) (hooked : IsHooked m shape) where
   pub ipre_logged : (func index : ℕ) (levels : List Level) (entries : ℕ) (view : Store) (callee : Option ℕ)
       (st : LogState) → entries ≤ table_length view.table → entry_of view.table index ≡ callee
       → IfSome callee (λ callee. callee < func_count m)
-      → Logged m shape (state (AtFunction func ∷ levels) [] entries) st (told_number Ipre index view)
-      (all_observed_events n st (seen (told_number Ipre index view)) ++ events.Pre callee ∷ [])
+      → Logged m shape (state (AtFunction func ∷ levels) [] entries) st (reported_number Ipre index view)
+      (all_observed_events n st (seen (reported_number Ipre index view)) ++ events.Pre callee ∷ [])
       (orders.after_index m shape hooked func index levels entries view callee)
-      (log_after_all st (seen (told_number Ipre index view)))
+      (log_after_all st (seen (reported_number Ipre index view)))
   ipre_logged func index levels entries view callee st fits entry there =
       let step = orders.ipre_ordered m shape hooked func index levels entries view callee fits entry
       there in
@@ -214,11 +214,11 @@ module _ (m : Module) (shape : HookedShape) (hooked : IsHooked m shape) where
 
   -- ---- hooks that change no frames
 
-  pub tellable_logged : (calls : List HookCall) (order : OrderState) (st : LogState) → may_tell order ≡ true
-      → AreTellable m shape calls
+  pub reportable_logged : (calls : List HookCall) (order : OrderState) (st : LogState) → may_report order ≡ true
+      → AreReportable m shape calls
       → Logged m shape order st calls (all_observed_events n st (seen calls)) order (log_after_all st (seen calls))
-  tellable_logged [] order st may h = none_logged order st
-  tellable_logged (call ∷ calls) order st may h =
+  reportable_logged [] order st may h = none_logged order st
+  reportable_logged (call ∷ calls) order st may h =
       subst (λ e. Logged m shape order st (call ∷ calls) e order (log_after_all st (seen (call ∷ calls))))
       (sym (events_both n st obs (seen calls)))
       (subst
@@ -232,7 +232,7 @@ module _ (m : Module) (shape : HookedShape) (hooked : IsHooked m shape) where
       (subst
       (λ e. Logged m shape order st (call ∷ []) e order (log_after_call shape st (renumbered_call n call))) events_are
       (one_logged call order order order st (h.0.ordered order may) refl)))
-      (tellable_logged calls order (log_after_all st obs) may h.1)))
+      (reportable_logged calls order (log_after_all st obs) may h.1)))
     where
       obs : List Observation
       obs = call_observations shape (renumbered_call n call)

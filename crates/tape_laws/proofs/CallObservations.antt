@@ -15,144 +15,144 @@ use Rattle.record_replay_spec.specs.Observations.{Observation, Reads, Copies, Wr
 use Rattle.record_replay_spec.proofs.Operands.{AreOperands, bits_same}
 use Rattle.record_replay_spec.specs.declared.hooks.Hook.TheVariants.{Load, Store as ToStore}
 use Rattle.record_replay_spec.specs.Hooks.{HookCall, renumbered_call, on}
-use Rattle.record_replay_spec.specs.ToldCalls.{i64_value, told, told_before}
+use Rattle.record_replay_spec.specs.ReportedCalls.{i64_value, reported, reported_before}
 use Rattle.record_replay_spec.specs.Order.{HookedShape}
-use Rattle.tape_laws.specs.ToldObservations.{told_observations, observations_of_calls}
+use Rattle.tape_laws.specs.ReportedObservations.{reported_observations, observations_of_calls}
 
 module _ (shape : HookedShape) (n : ℕ) (globals : List GlobalType) where
   -- what calls observe, with the views of the instrumented module
   abbrev pub seen_by : List HookCall → List Observation
   seen_by calls = observations_of_calls shape (map (renumbered_call n) calls)
 
-  abbrev pub as_told : List Observation → List Observation
-  as_told seen = told_observations n globals seen
+  abbrev pub as_reported : List Observation → List Observation
+  as_reported seen = reported_observations n globals seen
 
   -- ---- hooks report the observations of the memory unchanged
 
-  reads_as_told : (address : ℕ) (o : Option (List ℕ))
+  reads_as_reported : (address : ℕ) (o : Option (List ℕ))
       → replay.on o (λ bytes. Reads address bytes ∷ []) ++ []
-      ≡ as_told (replay.on o (λ bytes. Reads address bytes ∷ []))
-  reads_as_told address None = refl
-  reads_as_told address (Some bytes) = refl
+      ≡ as_reported (replay.on o (λ bytes. Reads address bytes ∷ []))
+  reads_as_reported address None = refl
+  reads_as_reported address (Some bytes) = refl
 
-  writes_as_told : (address : ℕ) (bytes : List ℕ) (o : Option (List ℕ))
+  writes_as_reported : (address : ℕ) (bytes : List ℕ) (o : Option (List ℕ))
       → replay.on o (λ all. Writes address bytes ∷ []) ++ []
-      ≡ as_told (replay.on o (λ all. Writes address bytes ∷ []))
-  writes_as_told address bytes None = refl
-  writes_as_told address bytes (Some all) = refl
+      ≡ as_reported (replay.on o (λ all. Writes address bytes ∷ []))
+  writes_as_reported address bytes None = refl
+  writes_as_reported address bytes (Some all) = refl
 
-  copied_as_told : (to source : ℕ) (bytes : List ℕ) (o : Option (List ℕ))
+  copied_as_reported : (to source : ℕ) (bytes : List ℕ) (o : Option (List ℕ))
       → replay.on o (λ all. Copies source bytes ∷ Writes to bytes ∷ []) ++ []
-      ≡ as_told (replay.on o (λ all. Copies source bytes ∷ Writes to bytes ∷ []))
-  copied_as_told to source bytes None = refl
-  copied_as_told to source bytes (Some all) = refl
+      ≡ as_reported (replay.on o (λ all. Copies source bytes ∷ Writes to bytes ∷ []))
+  copied_as_reported to source bytes None = refl
+  copied_as_reported to source bytes (Some all) = refl
 
-  copies_as_told : (to source : ℕ) (memory : Memory) (o : Option (List ℕ))
+  copies_as_reported : (to source : ℕ) (memory : Memory) (o : Option (List ℕ))
       → replay.on o (λ bytes. replay.on (with_bytes_at memory.bytes to bytes) (λ all.
       Copies source bytes ∷ Writes to bytes ∷ [])) ++ []
-      ≡ as_told
+      ≡ as_reported
       (replay.on o (λ bytes. replay.on (with_bytes_at memory.bytes to bytes) (λ all.
       Copies source bytes ∷ Writes to bytes ∷ [])))
-  copies_as_told to source memory None = refl
-  copies_as_told to source memory (Some bytes) =
-      copied_as_told to source bytes (with_bytes_at memory.bytes to bytes)
+  copies_as_reported to source memory None = refl
+  copies_as_reported to source memory (Some bytes) =
+      copied_as_reported to source bytes (with_bytes_at memory.bytes to bytes)
 
-  load_as_told : (address width : ℕ) (o : Option Memory)
+  load_as_reported : (address width : ℕ) (o : Option Memory)
       → replay.on o (load_observations address width) ++ []
-      ≡ as_told (replay.on o (load_observations address width))
-  load_as_told address width None = refl
-  load_as_told address width (Some memory) =
+      ≡ as_reported (replay.on o (load_observations address width))
+  load_as_reported address width None = refl
+  load_as_reported address width (Some memory) =
       ap (λ l. replay.Reaches (address + width) (pages memory) ∷ l)
-      (reads_as_told address (bytes_at memory.bytes address width))
+      (reads_as_reported address (bytes_at memory.bytes address width))
 
-  store_as_told : (address count : ℕ) (bytes : List ℕ) (o : Option Memory)
+  store_as_reported : (address count : ℕ) (bytes : List ℕ) (o : Option Memory)
       → replay.on o (store_observations address count bytes) ++ []
-      ≡ as_told (replay.on o (store_observations address count bytes))
-  store_as_told address count bytes None = refl
-  store_as_told address count bytes (Some memory) =
+      ≡ as_reported (replay.on o (store_observations address count bytes))
+  store_as_reported address count bytes None = refl
+  store_as_reported address count bytes (Some memory) =
       ap (λ l. replay.Reaches (address + count) (pages memory) ∷ l)
-      (writes_as_told address bytes (with_bytes_at memory.bytes address bytes))
+      (writes_as_reported address bytes (with_bytes_at memory.bytes address bytes))
 
-  copy_as_told : (to source count : ℕ) (o : Option Memory)
+  copy_as_reported : (to source count : ℕ) (o : Option Memory)
       → replay.on o (copy_observations to source count) ++ []
-      ≡ as_told (replay.on o (copy_observations to source count))
-  copy_as_told to source count None = refl
-  copy_as_told to source count (Some memory) =
+      ≡ as_reported (replay.on o (copy_observations to source count))
+  copy_as_reported to source count None = refl
+  copy_as_reported to source count (Some memory) =
       ap (λ l. replay.Reaches (source + count) (pages memory) ∷ replay.Reaches (to + count) (pages memory) ∷ l)
-      (copies_as_told to source memory (bytes_at memory.bytes source count))
+      (copies_as_reported to source memory (bytes_at memory.bytes source count))
 
   -- ---- instructions, with the operands that they take
 
   pub load_calls : (store : Store) (values operands : List Val) (at : MemArg) → AreOperands (I32 ∷ []) values operands
-      → seen_by (told_before (instrs.Load at) operands store)
-      ≡ as_told (plain_observations store values (instrs.Load at))
+      → seen_by (reported_before (instrs.Load at) operands store)
+      ≡ as_reported (plain_observations store values (instrs.Load at))
   load_calls store values operands at are = go (load_of at.op)
     where
       go : (o : Option Access)
           → seen_by
           (on o (λ access.
-          told Load (i32_value (bits_at operands 0) ∷ i32_value at.offset ∷ i32_value access.width ∷ []) store))
-          ≡ as_told
+          reported Load (i32_value (bits_at operands 0) ∷ i32_value at.offset ∷ i32_value access.width ∷ []) store))
+          ≡ as_reported
           (replay.on o (λ access.
           replay.on store.memory (load_observations (bits_from_top values 0 + at.offset) access.width)))
       go None = refl
       go (Some access) =
-          load_as_told (bits_at operands 0 + at.offset) access.width store.memory
-          ∙ ap (λ base. as_told (replay.on store.memory (load_observations (base + at.offset) access.width)))
+          load_as_reported (bits_at operands 0 + at.offset) access.width store.memory
+          ∙ ap (λ base. as_reported (replay.on store.memory (load_observations (base + at.offset) access.width)))
           (bits_same are 0 0 refl)
 
   pub store_calls : (store : Store) (values operands : List Val) (ty : ValType) (at : MemArg)
       → AreOperands (I32 ∷ ty ∷ []) values operands
-      → seen_by (told_before (instrs.Store at) operands store)
-      ≡ as_told (plain_observations store values (instrs.Store at))
+      → seen_by (reported_before (instrs.Store at) operands store)
+      ≡ as_reported (plain_observations store values (instrs.Store at))
   store_calls store values operands ty at are = go (store_of at.op)
     where
       go : (o : Option Access)
           → seen_by
           (on o (λ access.
-          told ToStore
+          reported ToStore
           (i32_value (bits_at operands 0) ∷ i32_value at.offset ∷ i32_value access.width
           ∷ i64_value (bits_at operands 1) ∷ [])
           store))
-          ≡ as_told
+          ≡ as_reported
           (replay.on o (λ access.
           replay.on store.memory
           (store_observations (bits_from_top values 1 + at.offset) access.width
           (bytes_of access.width (bits_from_top values 0)))))
       go None = refl
       go (Some access) =
-          store_as_told (bits_at operands 0 + at.offset) access.width (bytes_of access.width (bits_at operands 1))
+          store_as_reported (bits_at operands 0 + at.offset) access.width (bytes_of access.width (bits_at operands 1))
           store.memory
-          ∙ (λ i. as_told
+          ∙ (λ i. as_reported
           (replay.on store.memory
           (store_observations (bits_same are 0 1 refl i + at.offset) access.width
           (bytes_of access.width (bits_same are 1 0 refl i)))))
 
   pub copy_calls : (store : Store) (values operands : List Val) → AreOperands (I32 ∷ I32 ∷ I32 ∷ []) values operands
-      → seen_by (told_before instrs.MemoryCopy operands store)
-      ≡ as_told (plain_observations store values instrs.MemoryCopy)
+      → seen_by (reported_before instrs.MemoryCopy operands store)
+      ≡ as_reported (plain_observations store values instrs.MemoryCopy)
   copy_calls store values operands are =
-      copy_as_told (bits_at operands 0) (bits_at operands 1) (bits_at operands 2) store.memory
-      ∙ (λ i. as_told
+      copy_as_reported (bits_at operands 0) (bits_at operands 1) (bits_at operands 2) store.memory
+      ∙ (λ i. as_reported
       (replay.on store.memory
       (copy_observations (bits_same are 0 2 refl i) (bits_same are 1 1 refl i) (bits_same are 2 0 refl i))))
 
   pub fill_calls : (store : Store) (values operands : List Val) → AreOperands (I32 ∷ I32 ∷ I32 ∷ []) values operands
-      → seen_by (told_before instrs.MemoryFill operands store)
-      ≡ as_told (plain_observations store values instrs.MemoryFill)
+      → seen_by (reported_before instrs.MemoryFill operands store)
+      ≡ as_reported (plain_observations store values instrs.MemoryFill)
   fill_calls store values operands are =
-      store_as_told (bits_at operands 0) (bits_at operands 2)
+      store_as_reported (bits_at operands 0) (bits_at operands 2)
       (replicate (bits_at operands 2) (bits_at operands 1 % 256)) store.memory
-      ∙ (λ i. as_told
+      ∙ (λ i. as_reported
       (replay.on store.memory
       (store_observations (bits_same are 0 2 refl i) (bits_same are 2 0 refl i)
       (replicate (bits_same are 2 0 refl i) (bits_same are 1 1 refl i % 256)))))
 
   pub size_calls : (store : Store) (values : List Val)
-      → seen_by (told_before instrs.MemorySize [] store)
-      ≡ as_told (plain_observations store values instrs.MemorySize)
+      → seen_by (reported_before instrs.MemorySize [] store)
+      ≡ as_reported (plain_observations store values instrs.MemorySize)
   size_calls store values = go store.memory
     where
-      go : (o : Option Memory) → replay.on o size_observations ++ [] ≡ as_told (replay.on o size_observations)
+      go : (o : Option Memory) → replay.on o size_observations ++ [] ≡ as_reported (replay.on o size_observations)
       go None = refl
       go (Some memory) = refl

@@ -7,7 +7,7 @@ use Rattle.std.proofs.lemmas.List.Elements.{All-head, All-tail}
 use Rattle.std.proofs.lemmas.List.{append_assoc, append-nil, length-map}
 use Rattle.std.proofs.lemmas.Option.{slice_get-map}
 use Rattle.std.proofs.Math.Bool.{or-true}
-use Rattle.base.proofs.Booleans.{and_true}
+use Rattle.base.proofs.Booleans.{and_true, own_number}
 use Rattle.wasm_syntax.specs.declared.values.ValType.{ValType}
 use Rattle.wasm_syntax.specs.declared.values.ValType.TheVariants.{I32, I64, F32, F64, FuncRef}
 use Rattle.wasm_syntax.specs.declared.values.Val.{Val}
@@ -22,17 +22,16 @@ use Rattle.history_spec.specs.Code.{code_of, signature}
 use Rattle.history_spec.specs.Instantiation.{table_length}
 use Rattle.history_spec.specs.Store.{Store, Table}
 use Rattle.record_replay_spec.specs.Known.{entry_of, entries_after}
-use Rattle.tape_laws.proofs.Same.{own_number}
 use Rattle.record_replay_spec.specs.declared.hooks.Hook.TheVariants.{Enter as ToEnter, Leave, Pre, Ipre}
 use Rattle.record_replay_spec.specs.Observations.{ReachesEntry}
 use Rattle.type_safety.specs.Stores.{func_count}
 use Rattle.type_safety.specs.Values.{count_of, AreValues}
 use Rattle.type_safety.proofs.Values.{types_values}
 use Rattle.record_replay_spec.specs.Hooks.{HookCall, renumber, renumbered_call, renumbered_table, original}
-use Rattle.record_replay_spec.specs.ToldCalls.{told_values, told_number, told_over, told_enter}
-use Rattle.record_replay_spec.specs.Order.{HookedShape, InFunction, InCall, OrderState, when, may_tell, is_function, is_defined, with_entered, bits_fit, value_told, with_pending, pending_are, may_enter, begins_entry, begins_original, ends_call, ordered_step}
-use Rattle.tape_laws.proofs.Tellable.{IsShapeOf, fits_number}
-use Rattle.tape_laws.proofs.Trails.{Level, AtFunction, AtImport, AtCall, order_frames, at_host, with_top_entered, IsTypedFor, AreTellable}
+use Rattle.record_replay_spec.specs.ReportedCalls.{reported_values, reported_number, reported_over, reported_enter}
+use Rattle.record_replay_spec.specs.Order.{HookedShape, InFunction, InCall, OrderState, when, may_report, is_function, is_defined, with_entered, bits_fit, value_reported, with_pending, pending_are, may_enter, begins_entry, begins_original, ends_call, ordered_step}
+use Rattle.tape_laws.proofs.Reportable.{IsShapeOf, fits_number}
+use Rattle.tape_laws.proofs.Trails.{Level, AtFunction, AtImport, AtCall, order_frames, at_host, with_top_entered, IsTypedFor, AreReportable}
 
 -- ---- the table of a view
 
@@ -95,10 +94,10 @@ module _ (m : Module) where
   renumbered_both [] b = refl
   renumbered_both (call ∷ a) b = ap (λ l. renumbered_call (imported_funcs m) call ∷ l) (renumbered_both a b)
 
-  pub told_both : (shape : HookedShape) (a b : List HookCall) (order middle after : OrderState)
+  pub reported_both : (shape : HookedShape) (a b : List HookCall) (order middle after : OrderState)
       → AreOrdered shape order (renumbered m a) middle → AreOrdered shape middle (renumbered m b) after
       → AreOrdered shape order (renumbered m (a ++ b)) after
-  told_both shape a b order middle after h q =
+  reported_both shape a b order middle after h q =
       subst (λ l. AreOrdered shape order l after) (sym (renumbered_both a b))
       (both_ordered shape (renumbered m a) (renumbered m b) order middle after h q)
 
@@ -108,20 +107,20 @@ module _ (m : Module) (shape : HookedShape) (hooked : IsHooked m shape) where
 
   -- ---- hooks that change no frames
 
-  pub tellable_ordered : (calls : List HookCall) (order : OrderState) → may_tell order ≡ true
-      → AreTellable m shape calls → AreOrdered shape order (renumbered m calls) order
-  tellable_ordered [] order may h = refl
-  tellable_ordered (call ∷ calls) order may h =
-      (order, h.0.ordered order may, tellable_ordered calls order may h.1)
+  pub reportable_ordered : (calls : List HookCall) (order : OrderState) → may_report order ≡ true
+      → AreReportable m shape calls → AreOrdered shape order (renumbered m calls) order
+  reportable_ordered [] order may h = refl
+  reportable_ordered (call ∷ calls) order may h =
+      (order, h.0.ordered order may, reportable_ordered calls order may h.1)
 
   -- ---- values
 
-  value_is_told : (value : Val) → is_number value.ty ≡ true → bits_fit value.ty value.bits ≡ true
-      → value_told (type_byte value.ty) value.bits ≡ Some value
-  value_is_told value number fits = go value.ty number fits
+  value_is_reported : (value : Val) → is_number value.ty ≡ true → bits_fit value.ty value.bits ≡ true
+      → value_reported (type_byte value.ty) value.bits ≡ Some value
+  value_is_reported value number fits = go value.ty number fits
     where
       go : (ty : ValType) → is_number ty ≡ true → bits_fit ty value.bits ≡ true
-          → value_told (type_byte ty) value.bits ≡ Some (record { ty = ty; bits = value.bits })
+          → value_reported (type_byte ty) value.bits ≡ Some (record { ty = ty; bits = value.bits })
       go I32 number fits = ap (λ b. cond b (Some (record { ty = I32; bits = value.bits })) None) fits
       go I64 number fits = ap (λ b. cond b (Some (record { ty = I64; bits = value.bits })) None) fits
       go F32 number fits = ap (λ b. cond b (Some (record { ty = F32; bits = value.bits })) None) fits
@@ -130,7 +129,7 @@ module _ (m : Module) (shape : HookedShape) (hooked : IsHooked m shape) where
 
   pub values_ordered : (levels : List Level) (entries : ℕ) (view : Store) (types : List ValType) (values : List Val)
       (pending : List Val) → AreNumbers types → AreValues (func_count m) types values
-      → AreOrdered shape (state levels pending entries) (renumbered m (told_values view values))
+      → AreOrdered shape (state levels pending entries) (renumbered m (reported_values view values))
       (state levels (pending ++ values) entries)
   values_ordered levels entries view [] [] pending numbers are =
       ap (λ p. state levels p entries) (sym (append-nil pending))
@@ -143,8 +142,8 @@ module _ (m : Module) (shape : HookedShape) (hooked : IsHooked m shape) where
       fits_number (func_count m) v.ty v.bits number
       (subst (λ ty. v.bits < count_of (func_count m) ty) (sym are.0.typed) are.0.in_range) in (
         state levels (pending ++ v ∷ []) entries,
-        ap (option_map (with_pending (state levels pending entries))) (value_is_told v number fits),
-        subst (λ p. AreOrdered shape (state levels (pending ++ v ∷ []) entries) (renumbered m (told_values view values)) (state levels p entries))
+        ap (option_map (with_pending (state levels pending entries))) (value_is_reported v number fits),
+        subst (λ p. AreOrdered shape (state levels (pending ++ v ∷ []) entries) (renumbered m (reported_values view values)) (state levels p entries))
             (append_assoc pending (v ∷ []) values)
             (values_ordered levels entries view types values (pending ++ v ∷ [])
             (All-tail (λ t. IsTrue (is_number t)) t types numbers) are.1),
@@ -180,7 +179,7 @@ module _ (m : Module) (shape : HookedShape) (hooked : IsHooked m shape) where
   pub enter_step : (func : ℕ) (args : List Val) (levels : List Level) (entries : ℕ) (view : Store) → n ≤ func
       → func < func_count m → IsTypedFor m shape func (λ ty. ty.params) args
       → may_enter shape func (order_frames levels) ≡ true
-      → AreOrdered shape (state levels args entries) (renumbered m (told_number ToEnter func view))
+      → AreOrdered shape (state levels args entries) (renumbered m (reported_number ToEnter func view))
       (state (AtFunction func ∷ with_top_entered levels) [] entries)
   enter_step func args levels entries view own below typed may = (
     state (AtFunction func ∷ with_top_entered levels) [] entries,
@@ -213,7 +212,7 @@ module _ (m : Module) (shape : HookedShape) (hooked : IsHooked m shape) where
   TypedOrdered part =
       (func : ℕ) (values : List Val) (levels : List Level) (entries : ℕ) (view : Store)
       → IsTypedFor m shape func part values
-      → AreOrdered shape (state levels [] entries) (renumbered m (told_values view values)) (state levels values entries)
+      → AreOrdered shape (state levels [] entries) (renumbered m (reported_values view values)) (state levels values entries)
 
   -- the arguments of a function are in order
   pub params_ordered : TypedOrdered (λ ty. ty.params)
@@ -224,10 +223,10 @@ module _ (m : Module) (shape : HookedShape) (hooked : IsHooked m shape) where
   pub enter_ordered : (func : ℕ) (args : List Val) (levels : List Level) (entries : ℕ) (view : Store) → n ≤ func
       → func < func_count m → IsTypedFor m shape func (λ ty. ty.params) args
       → may_enter shape func (order_frames levels) ≡ true
-      → AreOrdered shape (state levels [] entries) (renumbered m (told_enter func args view))
+      → AreOrdered shape (state levels [] entries) (renumbered m (reported_enter func args view))
       (state (AtFunction func ∷ with_top_entered levels) [] entries)
   enter_ordered func args levels entries view own below typed may =
-      told_both m shape (told_values view args) (told_number ToEnter func view) (state levels [] entries)
+      reported_both m shape (reported_values view args) (reported_number ToEnter func view) (state levels [] entries)
       (state levels args entries) (state (AtFunction func ∷ with_top_entered levels) [] entries)
       (params_ordered func args levels entries view typed) (enter_step func args levels entries view own below typed may)
 
@@ -241,7 +240,7 @@ module _ (m : Module) (shape : HookedShape) (hooked : IsHooked m shape) where
       ap (λ b. b || (nat_eq callee func && not entered)) (ap (nat_lt callee) hooked.is.imports ∙ host)
 
   pub leave_ordered : (func : ℕ) (levels : List Level) (entries : ℕ) (view : Store)
-      → AreOrdered shape (state (AtFunction func ∷ levels) [] entries) (renumbered m (told_number Leave func view))
+      → AreOrdered shape (state (AtFunction func ∷ levels) [] entries) (renumbered m (reported_number Leave func view))
       (state levels [] entries)
   leave_ordered func levels entries view =
       let same : nat_eq func func ≡ true = grind (arith, nat_tests) in
@@ -252,7 +251,7 @@ module _ (m : Module) (shape : HookedShape) (hooked : IsHooked m shape) where
       (entries : ℕ) (view : Store) → (nat_lt callee n || entered) ≡ true
       → IsTypedFor m shape callee (λ ty. ty.results) results
       → AreOrdered shape (state (AtCall direct callee entered args ∷ levels) results entries)
-      (renumbered m (told_over (cond direct (Some callee) None) view)) (state levels [] entries)
+      (renumbered m (reported_over (cond direct (Some callee) None) view)) (state levels [] entries)
   over_step direct callee entered args results levels entries view may typed = go direct
     where
       ends : (direct : Bool)
@@ -269,7 +268,7 @@ module _ (m : Module) (shape : HookedShape) (hooked : IsHooked m shape) where
 
       go : (direct : Bool)
           → AreOrdered shape (state (AtCall direct callee entered args ∷ levels) results entries)
-          (renumbered m (told_over (cond direct (Some callee) None) view)) (state levels [] entries)
+          (renumbered m (reported_over (cond direct (Some callee) None) view)) (state levels [] entries)
       go true =
           let same : nat_eq callee callee ≡ true = grind (arith, nat_tests) in (
             state levels [] entries,
@@ -292,9 +291,9 @@ module _ (m : Module) (shape : HookedShape) (hooked : IsHooked m shape) where
       (entries : ℕ) (view : Store) → (nat_lt callee n || entered) ≡ true
       → IsTypedFor m shape callee (λ ty. ty.results) results
       → AreOrdered shape (state (AtCall direct callee entered args ∷ levels) [] entries)
-      (renumbered m (told_values view results ++ told_over (cond direct (Some callee) None) view)) (state levels [] entries)
+      (renumbered m (reported_values view results ++ reported_over (cond direct (Some callee) None) view)) (state levels [] entries)
   over_ordered direct callee entered args results levels entries view may typed =
-      told_both m shape (told_values view results) (told_over (cond direct (Some callee) None) view)
+      reported_both m shape (reported_values view results) (reported_over (cond direct (Some callee) None) view)
       (state (AtCall direct callee entered args ∷ levels) [] entries)
       (state (AtCall direct callee entered args ∷ levels) results entries) (state levels [] entries)
       (results_ordered callee results (AtCall direct callee entered args ∷ levels) entries view typed)
@@ -304,7 +303,7 @@ module _ (m : Module) (shape : HookedShape) (hooked : IsHooked m shape) where
 
   pub pre_ordered : (callee func : ℕ) (operands : List Val) (levels : List Level) (entries : ℕ) (view : Store)
       → callee < func_count m
-      → AreOrdered shape (state (AtFunction func ∷ levels) [] entries) (renumbered m (told_number Pre callee view ++ []))
+      → AreOrdered shape (state (AtFunction func ∷ levels) [] entries) (renumbered m (reported_number Pre callee view ++ []))
       (state (AtCall true callee false operands ∷ AtFunction func ∷ levels) [] entries)
   pre_ordered callee func operands levels entries view below = (
     state (AtCall true callee false operands ∷ AtFunction func ∷ levels) [] entries,
@@ -325,7 +324,7 @@ module _ (m : Module) (shape : HookedShape) (hooked : IsHooked m shape) where
   pub ipre_ordered : (func index : ℕ) (levels : List Level) (entries : ℕ) (view : Store) (callee : Option ℕ)
       → entries ≤ table_length view.table → entry_of view.table index ≡ callee
       → IfSome callee (λ callee. callee < func_count m)
-      → AreOrdered shape (state (AtFunction func ∷ levels) [] entries) (renumbered m (told_number Ipre index view))
+      → AreOrdered shape (state (AtFunction func ∷ levels) [] entries) (renumbered m (reported_number Ipre index view))
       (after_index func index levels entries view callee)
   ipre_ordered func index levels entries view callee fits entry there = (
     after_index func index levels entries view callee,

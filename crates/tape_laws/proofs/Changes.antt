@@ -2,11 +2,10 @@
 use Rattle.std.proofs.Common.{◌≡◌, ℕ, zero, suc, ◌+◌, ◌-◌, ◌*◌, ◌/◌, ◌<◌, ◌≤◌, List, [], ◌∷◌, ◌++◌, length, take, drop, Option, Some, None, Bool, true, false, cond, ◌&&◌, nat_le, nat_lt, nat_eq, slice_get, slice_set, slice_index, refl, sym, ap, ◌∙◌, subst, arith, length-take-le, length-append, length-set}
 use Rattle.std.specs.Prelude.{◌≢◌, IfSome, option_map, unwrap_or, replicate}
 use Rattle.std.specs.Option.{option_flatten}
-use Rattle.std.proofs.Math.Nat.{add-mul-div_right}
 use Rattle.std.proofs.lemmas.Bool.Decides.{nat_tests}
 use Rattle.std.proofs.lemmas.List.{get_or-drop, get_or-take, length-drop, get_or_append_left, get_or-append_right, get_or_past, get_or-replicate, length-replicate}
 use Rattle.std.proofs.lemmas.Option.{slice_get-get_or, slice_get_past, none-some}
-use Rattle.base.proofs.Lists.{get_front, get_after}
+use Rattle.base.proofs.Lists.{get_front, get_after, set_there}
 use Rattle.wasm_syntax.specs.declared.limits.TheConstants.{PAGE_SIZE}
 use Rattle.wasm_syntax.specs.declared.values.Val.{Val}
 use Rattle.history_spec.specs.Store.{Store, Memory, Table, pages, zeros, with_items_at}
@@ -15,6 +14,7 @@ use Rattle.record_replay_spec.specs.Observations.{Observation, Writes, Resizes, 
 use Rattle.record_replay_spec.specs.Known.{byte_among, byte_of, entry_of, pages_of, written_byte, written_entry, written_global}
 use Rattle.record_replay_spec.specs.StoreAnswers.{Answers}
 use Rattle.record_replay_spec.specs.Changes.{CanChange, with_change, with_pages}
+use Rattle.record_replay_spec.proofs.Memories.{larger_size}
 use Rattle.tape_laws.proofs.Stores.{IsThere, IsHere, maxima}
 
 -- ---- lists
@@ -81,11 +81,6 @@ zeros_after bytes n at = go (nat_lt at (length bytes)) refl (nat_lt (at - length
         ∙ get_or_past (zeros n) (at - length bytes) 0 (omega (arith, long, more))
         ∙ sym (get_or_past bytes at 0 past)
 
-set_same : {X : Type 0} (items : List X) (i : ℕ) (x : X) → i < length items → slice_get (slice_set items i x) i ≡ Some x
-set_same [] i x below = absurd (omega (arith, below))
-set_same (y ∷ items) zero x below = refl
-set_same (y ∷ items) (suc i) x below = set_same items i x (omega (arith, below))
-
 set_other : {X : Type 0} (items : List X) (i : ℕ) (x : X) (at : ℕ) → i ≢ at
     → slice_get (slice_set items i x) at ≡ slice_get items at
 set_other [] i x at h = refl
@@ -102,7 +97,7 @@ set_item items i x at below = go (nat_eq i at) refl
         → slice_get (slice_set items i x) at ≡ unwrap_or (cond (nat_eq i at) (Some (Some x)) None) (slice_get items at)
     go true p =
         let same : i ≡ at = grind (arith, nat_tests, p) in
-        subst (λ n. slice_get (slice_set items i x) n ≡ Some x) same (set_same items i x below)
+        subst (λ n. slice_get (slice_set items i x) n ≡ Some x) same (set_there items i x below)
         ∙ sym (ap (λ b. unwrap_or (cond b (Some (Some x)) None) (slice_get items at)) p)
     go false p =
         let differ : i ≢ at = λ e. grind (arith, nat_tests, p, e) in
@@ -115,10 +110,6 @@ size_more : (memory : Memory) (by : ℕ) → length (with_pages by memory).bytes
 size_more memory by =
     length-append memory.bytes (zeros (by * PAGE_SIZE))
     ∙ ap (λ n. length memory.bytes + n) (length-replicate (by * PAGE_SIZE) 0)
-
-pub pages_more : (memory : Memory) (by : ℕ) → pages (with_pages by memory) ≡ pages memory + by
-pages_more memory by =
-    ap (λ n. n / PAGE_SIZE) (size_more memory by) ∙ add-mul-div_right (length memory.bytes) by (omega arith)
 
 set_entry : (entries : List (Option ℕ)) (index : ℕ) (func : Option ℕ) (at : ℕ) → index < length entries
     → option_flatten (slice_get (slice_set entries index func) at)
@@ -240,7 +231,7 @@ resizes (Some m) table globals found left here =
       byte = zeros_after m.bytes ((left - found) * PAGE_SIZE);
       entry = λ at. refl;
       global = λ at. refl;
-      pages = pages_more m (left - found);
+      pages = larger_size m (left - found);
       entries = refl;
       long = size_more m (left - found);
       same = refl;

@@ -22,7 +22,7 @@ use Rattle.wasm_syntax.proofs.Nests.{body_of_nest}
 use Rattle.record_replay_spec.specs.Known.{entry_of}
 use Rattle.record_replay_spec.specs.Observations.{bits_from_top}
 use Rattle.record_replay_spec.proofs.Operands.{AreOperands, popped, bits_same}
-use Rattle.record_replay_spec.specs.ToldCalls.{next_of_nest}
+use Rattle.record_replay_spec.specs.ReportedCalls.{next_of_nest}
 use Rattle.host_script.specs.declared.scripts.Action.{Action}
 use Rattle.host_script.specs.declared.scripts.Response.{Response}
 use Rattle.host_script.specs.declared.scripts.ResponseEnd.TheVariants.{Return, Trap as EndsInTrap}

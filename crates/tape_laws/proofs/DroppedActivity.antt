@@ -2,6 +2,8 @@
 use Rattle.std.proofs.Common.{◌≡◌, ℕ, ◌*◌, ◌≤◌, List, [], length, Option, Some, None, Bool, true, false, cond, nat_eq, slice_get, refl, sym, ap, ◌∙◌, subst, arith, inl, inr}
 use Rattle.std.specs.Prelude.{◌⊎◌, IfSome, option_map, unwrap_or}
 use Rattle.std.specs.List.{list_any}
+use Rattle.std.proofs.lemmas.Bool.{eqb-true}
+use Rattle.base.proofs.Booleans.{own_number}
 use Rattle.wasm_syntax.specs.declared.limits.TheConstants.{PAGE_SIZE}
 use Rattle.trace_model.specs.declared.tapes.Effect.{Effect}
 use Rattle.history_spec.specs.Store.{Store, Memory, Table}
@@ -17,7 +19,7 @@ use Rattle.record_replay_spec.specs.Unshown.{first_copied}
 use Rattle.tape_laws.specs.Dropped.{resizes_table, IsLeft, AreLeft}
 use Rattle.tape_laws.proofs.Stores.{Maxima, maxima}
 use Rattle.tape_laws.proofs.Relation.{IsKnownOf, IsReadOf, Holds}
-use Rattle.tape_laws.proofs.Same.{same_number, own_number, own_option, own_value}
+use Rattle.tape_laws.proofs.Same.{own_option, own_value}
 use Rattle.tape_laws.proofs.Effects.{bytes_left, AreDone}
 use Rattle.tape_laws.proofs.Activities.{HasSizes, found_bytes, needed_else, size_between}
 use Rattle.tape_laws.proofs.DroppedPlaces.{MayLack}
@@ -172,7 +174,7 @@ module _ (known : Known) (window : List Observation) (store : Store) (sizes : Ha
   counts_after : MayLack (Some entries_found) known.entries (table_length after.table)
       (list_any resizes_table window ≡ false)
   counts_after =
-      left_place nat_eq same_number own_number known.entries (Some entries_found) (last_some effect_entries effects)
+      left_place nat_eq eqb-true own_number known.entries (Some entries_found) (last_some effect_entries effects)
       (last_some effect_entries left) (table_length after.table) need.entries
       (done.entries ∙ ap (unwrap_or (last_some effect_entries left)) known_count)
       (list_any resizes_table window ≡ false) are.entries (go (list_any resizes_table window) refl)
@@ -189,11 +191,11 @@ module _ (known : Known) (window : List Observation) (store : Store) (sizes : Ha
         pages = sizes_after;
         entries = counts_after;
         byte = λ at.
-            left_place nat_eq same_number own_number (known.byte at) (first_byte window at)
+            left_place nat_eq eqb-true own_number (known.byte at) (first_byte window at)
             (last_some (effect_byte at) effects) (last_some (effect_byte at) left) (byte_of after.memory at)
             (need.byte at) (byte_done at) (first_copied window at ≡ None) (are.byte at) (may_byte at);
         entry = λ at.
-            left_place (same_option nat_eq) (option_same nat_eq same_number) (own_option nat_eq own_number)
+            left_place (same_option nat_eq) (option_same nat_eq eqb-true) (own_option nat_eq own_number)
             (known.entry at) (first_entry window at) (last_some (effect_entry at) effects)
             (last_some (effect_entry at) left) (entry_of after.table at) (need.entry at) (entry_is_done at) (Unit {0})
             (are.entry at) (inl tt);
@@ -212,11 +214,11 @@ module _ (known : Known) (window : List Observation) (store : Store) (sizes : Ha
         pages = size_left _ _ known.pages pages_found are.pages need.pages pages_known;
         entries = size_left _ _ known.entries entries_found are.entries need.entries entries_known;
         byte = λ at.
-            left_all nat_eq same_number own_number (known.byte at) (first_byte window at)
+            left_all nat_eq eqb-true own_number (known.byte at) (first_byte window at)
             (last_some (effect_byte at) effects) (last_some (effect_byte at) left) (byte_of after.memory at)
             (need.byte at) (byte_done at) (are.byte at) (held.byte at);
         entry = λ at.
-            left_all (same_option nat_eq) (option_same nat_eq same_number) (own_option nat_eq own_number)
+            left_all (same_option nat_eq) (option_same nat_eq eqb-true) (own_option nat_eq own_number)
             (known.entry at) (first_entry window at) (last_some (effect_entry at) effects)
             (last_some (effect_entry at) left) (entry_of after.table at) (need.entry at) (entry_is_done at)
             (are.entry at) (held.entry at);

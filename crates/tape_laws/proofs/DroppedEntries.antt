@@ -2,7 +2,8 @@
 use Rattle.std.proofs.Common.{◌≡◌, ℕ, List, [], ◌∷◌, ◌++◌, Option, Bool, true, false, nat_eq, refl, sym, ap, ◌∙◌, subst, inl, inr}
 use Rattle.std.specs.Prelude.{◌⊎◌, ◌≢◌}
 use Rattle.std.specs.List.{slice_index_or}
-use Rattle.base.proofs.Booleans.{and_true}
+use Rattle.std.proofs.lemmas.Bool.{eqb-true}
+use Rattle.base.proofs.Booleans.{and_true, own_number}
 use Rattle.wasm_syntax.specs.declared.values.Val.{Val}
 use Rattle.history_spec.specs.declared.entries.Entry.{Entry}
 use Rattle.history_spec.specs.declared.entries.Entry.TheVariants.{Step, Trap}
@@ -17,7 +18,7 @@ use Rattle.record_replay_spec.specs.ShownStepLaws.{shown}
 use Rattle.record_replay_spec.proofs.Alike.{option_same}
 use Rattle.type_safety.specs.Frames.{Scope}
 use Rattle.type_safety.specs.Results.{HasRule}
-use Rattle.tape_laws.proofs.Same.{same_number, own_number, own_option, own_value}
+use Rattle.tape_laws.proofs.Same.{own_option, own_value}
 
 -- two values are equal or differ
 abbrev IsDecided : {X : Type 0} → X → X → Type 0
@@ -43,7 +44,7 @@ values_decided = decided same_values values_same own_values
 
 found_decided : (a b : Option ℕ) → IsDecided a b
 found_decided =
-    decided (same_option nat_eq) (option_same nat_eq same_number) (own_option nat_eq own_number)
+    decided (same_option nat_eq) (option_same nat_eq eqb-true) (own_option nat_eq own_number)
 
 -- ---- kinds of traps, by number
 
@@ -75,7 +76,7 @@ kind_again Signature = refl
 kind_decided : (a b : TrapKind) → IsDecided a b
 kind_decided =
     decided (λ a b. nat_eq (kind_number a) (kind_number b))
-    (λ a b h. sym (kind_again a) ∙ ap kind_of (same_number (kind_number a) (kind_number b) h) ∙ kind_again b)
+    (λ a b h. sym (kind_again a) ∙ ap kind_of (eqb-true (kind_number a) (kind_number b) h) ∙ kind_again b)
     (λ a. own_number (kind_number a))
 
 -- ---- entries

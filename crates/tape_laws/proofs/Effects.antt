@@ -4,9 +4,10 @@ use Rattle.std.specs.Prelude.{IfSome, option_map, option_and_then, unwrap_or}
 use Rattle.std.specs.Option.{option_or, option_flatten}
 use Rattle.std.specs.List.{list_all}
 use Rattle.std.proofs.lemmas.Bool.Decides.{nat_tests}
-use Rattle.std.proofs.lemmas.Option.{none-some, slice_get-get_or, slice_get_past}
+use Rattle.std.proofs.lemmas.Option.{slice_get-get_or, slice_get_past}
 use Rattle.base.proofs.Booleans.{and_left, and_right}
 use Rattle.base.proofs.Lists.{item_there}
+use Rattle.base.proofs.Options.{first_else, or_first}
 use Rattle.wasm_syntax.specs.declared.limits.TheConstants.{PAGE_SIZE}
 use Rattle.wasm_syntax.specs.declared.values.Val.{Val}
 use Rattle.trace_model.specs.declared.tapes.Effect.{Effect}
@@ -21,10 +22,6 @@ use Rattle.record_replay_spec.specs.Changes.{with_change, with_bytes, with_pages
 use Rattle.record_replay_spec.specs.StoreAnswers.{allows_pages, allows_entries}
 use Rattle.tape_laws.proofs.Stores.{maxima}
 use Rattle.tape_laws.proofs.Changes.{IsChangedBy, left_bytes, left_entries, changed_by, gives_global}
-
-first_else : {X : Type 0} (a b : Option X) (c : X) → unwrap_or (option_or a b) c ≡ unwrap_or a (unwrap_or b c)
-first_else (Some x) b c = refl
-first_else None b c = refl
 
 -- the number of bytes after a growth to a number of pages, if any
 abbrev pub bytes_left : Option ℕ → ℕ → ℕ
@@ -292,10 +289,6 @@ pub record AreWithin (store : Store) (effects : List Effect) : Type 0 where
   pub bytes : (at x : ℕ) → last_some (effect_byte at) effects ≡ Some x → at < memory_length store.memory
   pub entries : (at : ℕ) (x : Option ℕ) → last_some (effect_entry at) effects ≡ Some x → at < table_length store.table
   pub globals : (at : ℕ) (x : Option Val) → last_some (effect_global at) effects ≡ Some x → at < length store.globals
-
-pub or_first : {X : Type 0} (a b : Option X) (x : X) → a ≡ Some x → option_or a b ≡ Some x
-or_first (Some y) b x h = h
-or_first None b x h = absurd (none-some x h)
 
 pub or_second : {X : Type 0} (a b : Option X) (x : X) → b ≡ Some x → (y : X) × (option_or a b ≡ Some y)
 or_second (Some y) b x h = (y, refl)

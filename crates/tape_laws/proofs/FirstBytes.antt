@@ -1,5 +1,5 @@
 -- The first byte that longest runs of bytes contain at an address is the needed one.
-use Rattle.std.proofs.Common.{◌≡◌, ℕ, suc, ◌+◌, ◌-◌, List, [], ◌∷◌, ◌++◌, Option, Some, None, Bool, true, false, cond, nat_eq, nat_le, slice_get, refl, sym, ap, ◌∙◌, subst, arith}
+use Rattle.std.proofs.Common.{◌≡◌, ℕ, suc, ◌+◌, List, [], ◌∷◌, ◌++◌, Option, Some, None, Bool, true, false, cond, nat_eq, nat_le, refl, sym, ap, ◌∙◌, subst, arith}
 use Rattle.std.specs.Option.{option_or}
 use Rattle.std.proofs.lemmas.Bool.Decides.{nat_tests}
 use Rattle.trace_model.specs.declared.events.Event.{Event}
@@ -11,6 +11,7 @@ use Rattle.record_replay_spec.specs.Needed.{needed, effect_byte}
 use Rattle.record_replay_spec.proofs.Tested.{byte_later}
 use Rattle.record_replay_spec.specs.Logs.{with_first_byte, differing_runs}
 use Rattle.record_replay_spec.specs.LogTapes.{first_some}
+use Rattle.record_replay_spec.proofs.LongestRuns.{byte_first, byte_before}
 
 -- what an event finds, if the last growth reported this size
 abbrev pub found_by : (size : ℕ) → Event → List Effect
@@ -28,21 +29,6 @@ finds_of size (event ∷ events) = found_by size event ++ finds_of size events
 -- the first byte at an address that events find
 abbrev first_found : (size at : ℕ) → List Event → Option ℕ
 first_found size at events = first_some (effect_byte at) (finds_of size events)
-
-pub byte_in : (address k : ℕ) (bytes : List ℕ) → byte_among address bytes (address + k) ≡ slice_get bytes k
-byte_in address k bytes =
-    let within : nat_le address (address + k) ≡ true = grind (arith, nat_tests) in
-    let place : address + k - address ≡ k = omega arith in
-    ap (λ b. cond b (slice_get bytes (address + k - address)) None) within ∙ ap (slice_get bytes) place
-
-byte_first : (address byte : ℕ) (bytes : List ℕ) → byte_among address (byte ∷ bytes) address ≡ Some byte
-byte_first address byte bytes =
-    subst (λ at. byte_among address (byte ∷ bytes) at ≡ Some byte) (omega arith) (byte_in address 0 (byte ∷ bytes))
-
-byte_before : (address : ℕ) (bytes : List ℕ) → byte_among (suc address) bytes address ≡ None
-byte_before address bytes =
-    let p : nat_le (suc address) address ≡ false = grind (arith, nat_tests) in
-    ap (λ b. cond b (slice_get bytes (address - suc address)) None) p
 
 no_byte : (b : Bool) → cond {A = Option ℕ} b None None ≡ None
 no_byte true = refl

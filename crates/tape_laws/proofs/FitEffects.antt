@@ -7,7 +7,8 @@ use Rattle.std.proofs.lemmas.Bool.Decides.{nat_tests}
 use Rattle.std.proofs.lemmas.Option.{none-some, same_Some, slice_get-map}
 use Rattle.base.proofs.Booleans.{and_left, and_right, and_true}
 use Rattle.base.proofs.Lists.{item_there, all_at}
-use Rattle.wasm_syntax.specs.declared.limits.TheConstants.{MOST_ENTRIES, MOST_PAGES, PAGE_SIZE}
+use Rattle.base.proofs.Options.{or_first}
+use Rattle.wasm_syntax.specs.declared.limits.TheConstants.{MAX_ENTRIES, MAX_PAGES, PAGE_SIZE}
 use Rattle.wasm_syntax.specs.declared.values.Val.{Val}
 use Rattle.wasm_syntax.specs.declared.signatures.Limits.{Limits}
 use Rattle.wasm_syntax.specs.declared.signatures.GlobalType.{GlobalType}
@@ -29,11 +30,11 @@ use Rattle.record_replay_spec.specs.Windows.{first_entry, first_global, found_pa
 use Rattle.record_replay_spec.specs.Needed.{needed_byte, needed_entry, needed_global, needed_pages, needed_entries, effect_byte, effect_entry, effect_global, effect_pages, effect_entries, has_bytes, AreNeeded}
 use Rattle.type_safety.specs.Stores.{func_count, global_types, MayBeMemory, MayBeTable}
 use Rattle.tape_laws.specs.RealReads.{IsReadOf}
-use Rattle.record_replay_spec.proofs.OneList.{globals_after, entries_after}
+use Rattle.record_replay_spec.proofs.OneList.{globals_after, entries_after, ordered_rest}
 use Rattle.tape_laws.proofs.Stores.{IsThere}
-use Rattle.tape_laws.proofs.Effects.{or_first, or_second, last_among, some_bytes}
+use Rattle.tape_laws.proofs.Effects.{or_second, last_among, some_bytes}
 use Rattle.record_replay_spec.proofs.OneList.{pages_after}
-use Rattle.tape_laws.proofs.Activities.{HasSizes, changes_after, no_table_growth, needed_is, size_between, byte_there, entry_there, ordered_rest}
+use Rattle.tape_laws.proofs.Activities.{HasSizes, changes_after, no_table_growth, needed_is, size_between, byte_there, entry_there}
 use Rattle.tape_laws.proofs.Activity.{size_needed, memory_seen, table_seen}
 use Rattle.tape_laws.proofs.HostStores.{sizes_of, type_at}
 use Rattle.tape_laws.proofs.KeptStores.{IsDeclared, IsKept}
@@ -52,28 +53,28 @@ within_declared limit size now (Some g) (Some w) low most within declared =
 
 memory_grows : (limits : List Limits) (o : Option Memory) (size : ℕ) → MayBeMemory limits o
     → IsDeclared limits (option_map (λ m. m.max) o) → IsThere o → size ≤ pages_of o
-    → grows_within MOST_PAGES size (slice_get limits 0) ≡ true
+    → grows_within MAX_PAGES size (slice_get limits 0) ≡ true
 memory_grows [] None size maybe declared there low = absurd (none-some there.0 there.1)
 memory_grows [] (Some m) size maybe declared there low = absurd maybe
 memory_grows (l ∷ more) None size maybe declared there low = absurd maybe
 memory_grows (l ∷ more) (Some m) size maybe declared there low =
-    within_declared MOST_PAGES size (pages m) m.max l.max low maybe.most maybe.within (declared m.max l refl refl)
+    within_declared MAX_PAGES size (pages m) m.max l.max low maybe.most maybe.within (declared m.max l refl refl)
 
 table_grows : (funcs : ℕ) (limits : List Limits) (o : Option Table) (size : ℕ) → MayBeTable funcs limits o
     → IsDeclared limits (option_map (λ t. t.max) o) → IsThere o → size ≤ table_length o
-    → grows_within MOST_ENTRIES size (slice_get limits 0) ≡ true
+    → grows_within MAX_ENTRIES size (slice_get limits 0) ≡ true
 table_grows funcs [] None size maybe declared there low = absurd (none-some there.0 there.1)
 table_grows funcs [] (Some t) size maybe declared there low = absurd maybe
 table_grows funcs (l ∷ more) None size maybe declared there low = absurd maybe
 table_grows funcs (l ∷ more) (Some t) size maybe declared there low =
-    within_declared MOST_ENTRIES size (length t.entries) t.max l.max low maybe.most maybe.within
+    within_declared MAX_ENTRIES size (length t.entries) t.max l.max low maybe.most maybe.within
     (declared t.max l refl refl)
 
 -- ---- places
 
 -- bytes that end within the memory end within the largest memory
 bytes_fit : (limits : List Limits) (o : Option Memory) (end : ℕ) → MayBeMemory limits o → 0 < end
-    → end ≤ memory_length o → (nat_lt 0 (length limits) && nat_le end (MOST_PAGES * PAGE_SIZE)) ≡ true
+    → end ≤ memory_length o → (nat_lt 0 (length limits) && nat_le end (MAX_PAGES * PAGE_SIZE)) ≡ true
 bytes_fit limits None end maybe some low = absurd (omega (arith, some, low))
 bytes_fit [] (Some m) end maybe some low = absurd maybe
 bytes_fit (l ∷ more) (Some m) end maybe some low =

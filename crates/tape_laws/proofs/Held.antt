@@ -1,9 +1,10 @@
 -- The store of the tape's run answers what the run's store shows, and holds what is needed afterwards.
-use Rattle.std.proofs.Common.{◌≡◌, ℕ, ◌+◌, ◌-◌, ◌*◌, ◌/◌, ◌<◌, ◌≤◌, List, ◌∷◌, length, Option, Some, None, Bool, true, false, cond, nat_le, nat_lt, nat_eq, slice_get, refl, sym, ap, ◌∙◌, subst, arith}
+use Rattle.std.proofs.Common.{◌≡◌, ℕ, ◌+◌, ◌-◌, ◌*◌, ◌/◌, ◌<◌, ◌≤◌, List, ◌∷◌, length, Option, Some, None, Bool, true, false, cond, nat_le, nat_lt, slice_get, refl, sym, ap, ◌∙◌, subst, arith}
 use Rattle.std.specs.Prelude.{IfSome, unwrap_or}
 use Rattle.std.specs.Option.{option_or}
 use Rattle.std.proofs.lemmas.Nat.{div-mul-add}
 use Rattle.std.proofs.lemmas.Bool.Decides.{nat_tests}
+use Rattle.base.proofs.Booleans.{own_number}
 use Rattle.wasm_syntax.specs.declared.limits.TheConstants.{PAGE_SIZE}
 use Rattle.history_spec.specs.Store.{Store, Memory, Table, pages}
 use Rattle.history_spec.specs.Instantiation.{memory_length, table_length}
@@ -80,9 +81,6 @@ no_less false known real found finds Within more real_is s e = cc
 no_less true known real found finds Within more real_is (Seen is) e = omega (arith, is, more, real_is)
 no_less true known real found finds Within more real_is (Unseen is fits) e = omega (arith, is)
 
-same_index : (at : ℕ) → nat_eq at at ≡ true
-same_index at = grind (arith, nat_tests)
-
 module _ (known : Known) (store : Store) (k : IsKnownOf known store) where
   module _ (o : Observation) (seen : IsSeen known store o) (later : List Observation)
       (real : IsReadOf (known_after known o) later (with_change store o)) (other : Store)
@@ -110,13 +108,13 @@ module _ (known : Known) (store : Store) (k : IsKnownOf known store) where
             ∙ ap
             (λ b. unwrap_or (option_or (cond b (Some func) None) (unless_some None (first_entry later index)))
             (known.entry index))
-            (same_index index)
+            (own_number index)
         go (ReadsGlobal x value) is s t h =
             h.global x
             ∙ ap
             (λ b. unwrap_or (option_or (cond b (Some (Some value)) None) (unless_some None (first_global later x)))
             (known.global x))
-            (same_index x)
+            (own_number x)
         go (Resizes found left) is s t h = there other.memory h.pages
           where
             there : (o : Option Memory) → IfSome o (λ m. length m.bytes ≡ found * PAGE_SIZE)

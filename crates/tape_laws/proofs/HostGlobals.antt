@@ -13,8 +13,8 @@ use Rattle.history_spec.specs.declared.entries.FaultKind.{FaultKind}
 use Rattle.history_spec.specs.Store.{Store, bytes_at, with_bytes_at, with_entry, with_global, grown_memory, grown_table}
 use Rattle.history_spec.specs.Code.{Code, signature, types_of}
 use Rattle.history_spec.specs.Action.{ActionResult, Changes, Enters, on, or_fault, if_fits, address_of, calls_defined, calls_entry, perform}
-use Rattle.record_replay_spec.specs.ToldCalls.{store_performed}
-use Rattle.tape_laws.specs.ToldObservations.{is_mutable}
+use Rattle.record_replay_spec.specs.ReportedCalls.{store_performed}
+use Rattle.tape_laws.specs.ReportedObservations.{is_mutable}
 use Rattle.tape_laws.proofs.Trails.{KeepsImmutables}
 
 -- an action leaves a store with the same globals

@@ -5,7 +5,7 @@ use Rattle.std.proofs.lemmas.Bool.Decides.{nat_tests}
 use Rattle.std.proofs.lemmas.Option.{none-some, same_Some}
 use Rattle.base.proofs.Booleans.{and_true}
 use Rattle.base.proofs.Options.{cond_some}
-use Rattle.wasm_syntax.specs.declared.limits.TheConstants.{MOST_ENTRIES, MOST_PAGES, PAGE_SIZE}
+use Rattle.wasm_syntax.specs.declared.limits.TheConstants.{MAX_ENTRIES, MAX_PAGES, PAGE_SIZE}
 use Rattle.wasm_syntax.specs.declared.values.Val.{Val}
 use Rattle.wasm_syntax.specs.declared.values.ValType.{ValType}
 use Rattle.wasm_syntax.specs.declared.signatures.Limits.{Limits}
@@ -23,11 +23,12 @@ use Rattle.history_spec.specs.Instantiation.{memory_length, table_length}
 use Rattle.record_replay_spec.specs.Known.{Known, pages_of}
 use Rattle.record_replay_spec.specs.Changes.{global_type}
 use Rattle.record_replay_spec.specs.StoreAnswers.{HasWholePages, allows_pages, allows_entries}
+use Rattle.record_replay_spec.proofs.Memories.{larger_size}
 use Rattle.type_safety.specs.Values.{AreValues}
 use Rattle.type_safety.specs.Stores.{func_count, global_types, MayBeMemory, MayBeTable, IsStore}
 use Rattle.tape_laws.proofs.Stores.{maxima}
 use Rattle.tape_laws.proofs.Relation.{IsKnownOf}
-use Rattle.tape_laws.proofs.Changes.{with_items_length, pages_more}
+use Rattle.tape_laws.proofs.Changes.{with_items_length}
 use Rattle.tape_laws.proofs.Activities.{HasSizes}
 
 -- ---- a well-typed store
@@ -41,7 +42,7 @@ module _ (m : Module) where
   memory_sizes (limits ∷ more) (Some memory) h =
       let most = h.most in (
         h.whole,
-        and_true (is_within (pages memory) memory.max) (nat_le (pages memory) MOST_PAGES) h.within
+        and_true (is_within (pages memory) memory.max) (nat_le (pages memory) MAX_PAGES) h.within
             (grind (arith, nat_tests, most)),
       )
 
@@ -52,7 +53,7 @@ module _ (m : Module) where
   table_sizes (limits ∷ more) None h = tt
   table_sizes (limits ∷ more) (Some table) h =
       let most = h.most in
-      and_true (is_within (length table.entries) table.max) (nat_le (length table.entries) MOST_ENTRIES) h.within
+      and_true (is_within (length table.entries) table.max) (nat_le (length table.entries) MAX_ENTRIES) h.within
       (grind (arith, nat_tests, most))
 
   pub sizes_of : (store : Store) → IsStore m store → HasSizes store
@@ -142,7 +143,7 @@ grown_is : (b : Bool) (memory : Memory) (by : ℕ) (larger : Memory) → grown_m
 grown_is false memory by larger h = absurd (none-some larger h)
 grown_is true memory by larger h =
     let is = same_Some (record memory { bytes = memory.bytes ++ zeros (by * PAGE_SIZE) }) larger h in
-    let more = sym (ap pages is) ∙ pages_more memory by in (
+    let more = sym (ap pages is) ∙ larger_size memory by in (
       omega (arith, more),
       sym (ap (λ (m : Memory). m.max) is),
     )

@@ -9,6 +9,8 @@ use Rattle.wasm_syntax.specs.Alike.{same_type}
 use Rattle.wasm_syntax.proofs.ValTypes.{type_own}
 use Rattle.base.specs.declared.outcomes.Outcome.{Outcome}
 use Rattle.base.specs.declared.outcomes.Outcome.TheVariants.{Ended, Trapped, HostTrapped}
+use Rattle.base.proofs.Options.{or_none}
+use Rattle.base.proofs.Booleans.{own_number}
 use Rattle.trace_model.specs.declared.events.Event.{Event}
 use Rattle.trace_model.specs.declared.events.Event.TheVariants.{Enter, Leave, Pre, Post, Grow, Seen, Table, Bytes, Entry, Global}
 use Rattle.trace_model.specs.declared.tapes.Effect.TheVariants as effects
@@ -18,19 +20,17 @@ use Rattle.record_replay_spec.specs.Known.{Known, pages_of}
 use Rattle.record_replay_spec.specs.Alike.{same_option, same_value}
 use Rattle.tape_laws.proofs.Items.{pages_there}
 use Rattle.tape_laws.proofs.Relation.{IsKnownOf, IsSeen}
-use Rattle.tape_laws.proofs.Same.{own_number}
-use Rattle.tape_laws.proofs.Activity.{or_nothing}
 use Rattle.record_replay_spec.specs.Needed.{effect_pages, effect_entries, effect_byte, effect_entry, effect_global}
 use Rattle.record_replay_spec.specs.Hooks.{renumber, original}
 use Rattle.record_replay_spec.specs.Logs.{LogState, unless, same_bits, all_observed_events}
 use Rattle.record_replay_spec.specs.LogTapes.{Finds, LogFrame, is_trapped_call, event_marks, marks_from}
-use Rattle.tape_laws.specs.ToldObservations.{is_mutable, told_observation}
+use Rattle.tape_laws.specs.ReportedObservations.{is_mutable, reported_observation}
 use Rattle.tape_laws.proofs.Trails.{IsOfCore}
 use Rattle.tape_laws.proofs.Agrees.{AreFindsOf, marks_of}
 use Rattle.tape_laws.proofs.AllowedEvents.{IsAllowed, AreAllowed, all_allowed}
 use Rattle.tape_laws.proofs.AllFinds.{reads_found, copies_found, reaches_found, resizes_found, reaches_entry_found, writes_found, writes_global_found, entry_found}
 use Rattle.tape_laws.proofs.FirstBytes.{finds_of}
-use Rattle.tape_laws.proofs.ObservedFinds.{IsToldKnown, IsNoticed, none_told, told_place}
+use Rattle.tape_laws.proofs.ObservedFinds.{IsReportedKnown, IsNoticed, none_reported, reported_place}
 
 -- ---- events that find something
 
@@ -101,10 +101,10 @@ marks_of_finds n outcome frames size (Grow pages ∷ events) later h = absurd h.
 -- which the last growth reported, or which is known
 pub record Keeps (n : ℕ) (globals : List GlobalType) (known : Known) (store : Store) (state : LogState)
     (size : ℕ) : Type 0 where
-  pub told : IsToldKnown n known state.known
+  pub reported : IsReportedKnown n known state.known
   pub immutable : (at : ℕ) → is_mutable (slice_get globals at) ≡ false → known.global at ≡ slice_get store.globals at
   pub real : state.noticed ≡ pages_of store.memory
-  pub size_told : (size ≡ state.noticed) ⊎ (known.pages ≡ state.noticed)
+  pub size_reported : (size ≡ state.noticed) ⊎ (known.pages ≡ state.noticed)
 
 -- a value that is read of a global is the known one if and only if its bits are the known ones
 same_by_bits : (known : Option Val) (value : Val) → option_map (λ v. v.ty) known ≡ Some value.ty
@@ -123,24 +123,24 @@ module _ (n : ℕ) (globals : List GlobalType) (back : (func : ℕ) → original
       → AreFindsOf known (ReadsGlobal x value) (finds_of size (unless b (Global x value)))
   global_place known x value b same =
       record {
-        pages = none_told size effect_pages (Global x value) refl b;
-        entries = none_told size effect_entries (Global x value) refl b;
-        byte = λ at. none_told size (effect_byte at) (Global x value) refl b;
-        entry = λ at. none_told size (effect_entry at) (Global x value) refl b;
-        global = told_place size (same_option same_value) known.global x (Some value) effect_global (Global x value)
-            (λ at. or_nothing (cond (nat_eq x at) (Some (Some value)) None)) b same;
+        pages = none_reported size effect_pages (Global x value) refl b;
+        entries = none_reported size effect_entries (Global x value) refl b;
+        byte = λ at. none_reported size (effect_byte at) (Global x value) refl b;
+        entry = λ at. none_reported size (effect_entry at) (Global x value) refl b;
+        global = reported_place size (same_option same_value) known.global x (Some value) effect_global (Global x value)
+            (λ at. or_none (cond (nat_eq x at) (Some (Some value)) None)) b same;
       }
 
   -- a read of a mutable global finds what the read needs
-  global_found : (known : Known) (state : LogState) (x : ℕ) (value : Val) → IsToldKnown n known state.known
+  global_found : (known : Known) (state : LogState) (x : ℕ) (value : Val) → IsReportedKnown n known state.known
       → option_map (λ v. v.ty) (known.global x) ≡ Some value.ty
       → AreFindsOf known (ReadsGlobal x value)
       (finds_of size (all_observed_events n state (ReadsGlobal x value ∷ [])))
-  global_found known state x value told typed =
+  global_found known state x value reported typed =
       subst
       (λ b. AreFindsOf known (ReadsGlobal x value) (finds_of size (unless b (Global x value) ++ [])))
       (sym
-      (ap (λ k. same_bits k value) (told.global x) ∙ same_by_bits (known.global x) value typed))
+      (ap (λ k. same_bits k value) (reported.global x) ∙ same_by_bits (known.global x) value typed))
       (subst (λ events. AreFindsOf known (ReadsGlobal x value) (finds_of size events))
       (sym (append-nil (unless (same_option same_value (known.global x) (Some value)) (Global x value))))
       (global_place known x value (same_option same_value (known.global x) (Some value)) refl))
@@ -156,35 +156,35 @@ module _ (n : ℕ) (globals : List GlobalType) (back : (func : ℕ) → original
   module _ (known : Known) (store : Store) (state : LogState) (kept : Keeps n globals known store state size)
       (of : IsKnownOf known store) where
     noticed_at : (found : ℕ) → pages_of store.memory ≡ found → IsNoticed state.noticed size known.pages found
-    noticed_at found is = record { is_real = kept.real ∙ is; is_told = kept.size_told }
+    noticed_at found is = record { is_real = kept.real ∙ is; is_reported = kept.size_reported }
 
     typed_at : (x : ℕ) (value : Val) → slice_get store.globals x ≡ Some value
         → option_map (λ v. v.ty) (known.global x) ≡ Some value.ty
     typed_at x value is = of.types x ∙ ap (option_map (λ v. v.ty)) is
 
     -- what hooks report of an observation finds what the observation needs
-    pub told_finds : (o : Observation) → IsSeen known store o → IsOfCore o
-        → AreFindsOf known o (finds_of size (all_observed_events n state (told_observation n globals o)))
-    told_finds (Begins origin) seen core = absurd seen.here
-    told_finds (Ends next) seen core = absurd seen.here
-    told_finds (Reads address bytes) seen core = reads_found n size known state kept.told address bytes
-    told_finds (Copies address bytes) seen core = copies_found n size known state kept.told address bytes
-    told_finds (Writes address bytes) seen core = writes_found n size known state kept.told address bytes
-    told_finds (Reaches «end» found) seen core =
-        reaches_found n size known state kept.told «end» found (noticed_at found seen.found)
-    told_finds (Resizes found left) seen core =
-        resizes_found n size known state kept.told found left
+    pub reported_finds : (o : Observation) → IsSeen known store o → IsOfCore o
+        → AreFindsOf known o (finds_of size (all_observed_events n state (reported_observation n globals o)))
+    reported_finds (Begins origin) seen core = absurd seen.here
+    reported_finds (Ends next) seen core = absurd seen.here
+    reported_finds (Reads address bytes) seen core = reads_found n size known state kept.reported address bytes
+    reported_finds (Copies address bytes) seen core = copies_found n size known state kept.reported address bytes
+    reported_finds (Writes address bytes) seen core = writes_found n size known state kept.reported address bytes
+    reported_finds (Reaches «end» found) seen core =
+        reaches_found n size known state kept.reported «end» found (noticed_at found seen.found)
+    reported_finds (Resizes found left) seen core =
+        resizes_found n size known state kept.reported found left
         (noticed_at found (pages_there store.memory found seen.here seen.answers))
-    told_finds (ReadsEntry index func) seen core = entry_found n size known state kept.told index func back
-    told_finds (WritesEntry index func) seen core = absurd core
-    told_finds (ReachesEntry index found) seen core =
-        reaches_entry_found n size known state kept.told index found
-    told_finds (ResizesTable found left func) seen core = absurd core
-    told_finds (ReadsGlobal x value) seen core = by (is_mutable (slice_get globals x)) refl
+    reported_finds (ReadsEntry index func) seen core = entry_found n size known state kept.reported index func back
+    reported_finds (WritesEntry index func) seen core = absurd core
+    reported_finds (ReachesEntry index found) seen core =
+        reaches_entry_found n size known state kept.reported index found
+    reported_finds (ResizesTable found left func) seen core = absurd core
+    reported_finds (ReadsGlobal x value) seen core = by (is_mutable (slice_get globals x)) refl
       where
         by : (b : Bool) → is_mutable (slice_get globals x) ≡ b
             → AreFindsOf known (ReadsGlobal x value)
             (finds_of size (all_observed_events n state (cond b (ReadsGlobal x value ∷ []) [])))
-        by true e = global_found known state x value kept.told (typed_at x value seen.answers)
+        by true e = global_found known state x value kept.reported (typed_at x value seen.answers)
         by false e = immutable_found known x value (kept.immutable x e ∙ seen.answers)
-    told_finds (WritesGlobal x value) seen core = writes_global_found n size known state kept.told x value
+    reported_finds (WritesGlobal x value) seen core = writes_global_found n size known state kept.reported x value

@@ -23,58 +23,58 @@ use Rattle.tape_laws.specs.RealReads.{IsKnownOf, IsReadOf}
 use Rattle.record_replay_spec.specs.Hooks.{renumber, original}
 use Rattle.record_replay_spec.specs.Logs.{LogState, observed_events, log_after, log_after_all, all_observed_events}
 use Rattle.record_replay_spec.specs.LogTapes.{LogFrame, marks_from}
-use Rattle.tape_laws.specs.ToldObservations.{is_mutable, told_observation, told_observations}
+use Rattle.tape_laws.specs.ReportedObservations.{is_mutable, reported_observation, reported_observations}
 use Rattle.tape_laws.proofs.Trails.{IsOfCore}
 use Rattle.tape_laws.proofs.Agrees.{IsOfStore, Agrees, agrees_observation}
 use Rattle.tape_laws.proofs.FirstBytes.{finds_of}
-use Rattle.tape_laws.proofs.ItemEvents.{Keeps, events_find, marks_of_finds, told_finds}
-use Rattle.tape_laws.proofs.ObservedFinds.{IsToldKnown}
+use Rattle.tape_laws.proofs.ItemEvents.{Keeps, events_find, marks_of_finds, reported_finds}
+use Rattle.tape_laws.proofs.ObservedFinds.{IsReportedKnown}
 use Rattle.tape_laws.proofs.Settled.{settled, seen_pages}
 
 -- ---- what is known
 
 module _ (n : ℕ) where
   -- the log knows what the run knows after an observation that hooks report unchanged
-  told_alike : (known : Known) (state : Known) (o : Observation) → ((at : ℕ) → carried_entry at o ≡ None)
-      → IsToldKnown n known state → IsToldKnown n (known_after known o) (known_after state o)
-  told_alike known state o none told =
+  reported_alike : (known : Known) (state : Known) (o : Observation) → ((at : ℕ) → carried_entry at o ≡ None)
+      → IsReportedKnown n known state → IsReportedKnown n (known_after known o) (known_after state o)
+  reported_alike known state o none reported =
       record {
-        byte = λ at. ap (unwrap_or (carried_byte at o)) (told.byte at);
+        byte = λ at. ap (unwrap_or (carried_byte at o)) (reported.byte at);
         entry = λ at.
-            ap (λ c. unwrap_or c (state.entry at)) (none at) ∙ told.entry at
+            ap (λ c. unwrap_or c (state.entry at)) (none at) ∙ reported.entry at
             ∙ sym (ap (λ c. option_map (renumber n) (unwrap_or c (known.entry at))) (none at));
-        global = λ at. ap (unwrap_or (carried_global at o)) (told.global at);
-        pages = ap (λ p. pages_after p o) told.pages;
-        entries = ap (λ e. entries_after e o) told.entries;
+        global = λ at. ap (unwrap_or (carried_global at o)) (reported.global at);
+        pages = ap (λ p. pages_after p o) reported.pages;
+        entries = ap (λ e. entries_after e o) reported.entries;
       }
 
-  told_entry : (known : Known) (state : Known) (index : ℕ) (func : Option ℕ) → IsToldKnown n known state
-      → IsToldKnown n (known_after known (ReadsEntry index func))
+  reported_entry : (known : Known) (state : Known) (index : ℕ) (func : Option ℕ) → IsReportedKnown n known state
+      → IsReportedKnown n (known_after known (ReadsEntry index func))
       (known_after state (ReadsEntry index (option_map (renumber n) func)))
-  told_entry known state index func told =
+  reported_entry known state index func reported =
       record {
-        byte = told.byte;
+        byte = reported.byte;
         entry = λ at. go at (nat_eq index at);
-        global = told.global;
-        pages = told.pages;
-        entries = told.entries;
+        global = reported.global;
+        pages = reported.pages;
+        entries = reported.entries;
       }
     where
       go : (at : ℕ) (b : Bool)
           → unwrap_or (option_or (cond b (Some (option_map (renumber n) func)) None) None) (state.entry at)
           ≡ option_map (renumber n) (unwrap_or (option_or (cond b (Some func) None) None) (known.entry at))
       go at true = refl
-      go at false = told.entry at
+      go at false = reported.entry at
 
-  told_immutable : (known : Known) (state : Known) (x : ℕ) (value : Val) → known.global x ≡ Some value
-      → IsToldKnown n known state → IsToldKnown n (known_after known (ReadsGlobal x value)) state
-  told_immutable known state x value same told =
+  reported_immutable : (known : Known) (state : Known) (x : ℕ) (value : Val) → known.global x ≡ Some value
+      → IsReportedKnown n known state → IsReportedKnown n (known_after known (ReadsGlobal x value)) state
+  reported_immutable known state x value same reported =
       record {
-        byte = told.byte;
-        entry = told.entry;
-        global = λ at. told.global at ∙ go at (nat_eq x at) refl;
-        pages = told.pages;
-        entries = told.entries;
+        byte = reported.byte;
+        entry = reported.entry;
+        global = λ at. reported.global at ∙ go at (nat_eq x at) refl;
+        pages = reported.pages;
+        entries = reported.entries;
       }
     where
       go : (at : ℕ) (b : Bool) → nat_eq x at ≡ b
@@ -88,28 +88,28 @@ module _ (n : ℕ) where
 module _ (n : ℕ) (globals : List GlobalType) (size : ℕ) (known : Known) (store : Store) (state : LogState)
     (kept : Keeps n globals known store state size) where
   abbrev after : Observation → LogState
-  after o = log_after_all state (told_observation n globals o)
+  after o = log_after_all state (reported_observation n globals o)
 
-  told_after : (o : Observation) → IsSeen known store o → IsOfCore o
-      → IsToldKnown n (known_after known o) (after o).known
-  told_after (Begins origin) seen core = absurd seen.here
-  told_after (Ends next) seen core = absurd seen.here
-  told_after (ReadsEntry index func) seen core = told_entry n known state.known index func kept.told
-  told_after (WritesEntry index func) seen core = absurd core
-  told_after (ResizesTable found left func) seen core = absurd core
-  told_after (ReadsGlobal x value) seen core = by (is_mutable (slice_get globals x)) refl
+  reported_after : (o : Observation) → IsSeen known store o → IsOfCore o
+      → IsReportedKnown n (known_after known o) (after o).known
+  reported_after (Begins origin) seen core = absurd seen.here
+  reported_after (Ends next) seen core = absurd seen.here
+  reported_after (ReadsEntry index func) seen core = reported_entry n known state.known index func kept.reported
+  reported_after (WritesEntry index func) seen core = absurd core
+  reported_after (ResizesTable found left func) seen core = absurd core
+  reported_after (ReadsGlobal x value) seen core = by (is_mutable (slice_get globals x)) refl
     where
       by : (b : Bool) → is_mutable (slice_get globals x) ≡ b
-          → IsToldKnown n (known_after known (ReadsGlobal x value))
+          → IsReportedKnown n (known_after known (ReadsGlobal x value))
           (log_after_all state (cond b (ReadsGlobal x value ∷ []) [])).known
-      by true e = told_alike n known state.known (ReadsGlobal x value) (λ at. refl) kept.told
-      by false e = told_immutable n known state.known x value (kept.immutable x e ∙ seen.answers) kept.told
-  told_after o seen core = told_alike n known state.known o (λ at. refl) kept.told
+      by true e = reported_alike n known state.known (ReadsGlobal x value) (λ at. refl) kept.reported
+      by false e = reported_immutable n known state.known x value (kept.immutable x e ∙ seen.answers) kept.reported
+  reported_after o seen core = reported_alike n known state.known o (λ at. refl) kept.reported
 
   -- the noticed size is the real one, which was reported or is known
   pub record IsSized (o : Observation) : Type 0 where
     pub real : (after o).noticed ≡ pages_of (with_change store o).memory
-    pub size_told : (size ≡ (after o).noticed) ⊎ ((known_after known o).pages ≡ (after o).noticed)
+    pub size_reported : (size ≡ (after o).noticed) ⊎ ((known_after known o).pages ≡ (after o).noticed)
 
   sized : (o : Observation) → IsSeen known store o → IsOfCore o → IsSized o
   sized (Begins origin) seen core = absurd seen.here
@@ -124,7 +124,7 @@ module _ (n : ℕ) (globals : List GlobalType) (size : ℕ) (known : Known) (sto
       noticed_is b e =
           ap
           (λ p. cond (cond (nat_le «end» (p * PAGE_SIZE)) false true)
-          (cond (nat_le «end» (p * PAGE_SIZE)) p found) state.noticed) kept.told.pages
+          (cond (nat_le «end» (p * PAGE_SIZE)) p found) state.noticed) kept.reported.pages
           ∙ ap (λ t. cond (cond t false true) (cond t known.pages found) state.noticed) e ∙ same b
         where
           same : (b : Bool) → cond (cond b false true) (cond b known.pages found) state.noticed ≡ cond b state.noticed found
@@ -135,17 +135,17 @@ module _ (n : ℕ) (globals : List GlobalType) (size : ℕ) (known : Known) (sto
       by true e =
           record {
             real = noticed_is true e ∙ kept.real;
-            size_told =
+            size_reported =
                 subst
                 (λ noticed. (size ≡ noticed) ⊎ (cond (nat_le «end» (known.pages * PAGE_SIZE)) known.pages found ≡ noticed))
                 (sym (noticed_is true e))
                 (subst (λ t. (size ≡ state.noticed) ⊎ (cond t known.pages found ≡ state.noticed)) (sym e)
-                kept.size_told);
+                kept.size_reported);
           }
       by false e =
           record {
             real = noticed_is false e ∙ sym seen.found;
-            size_told =
+            size_reported =
                 inr
                 (ap (λ t. cond t known.pages found) e ∙ sym (noticed_is false e));
           }
@@ -154,34 +154,34 @@ module _ (n : ℕ) (globals : List GlobalType) (size : ℕ) (known : Known) (sto
         real = sym
             ((change known store (Resizes found left) seen).pages
             ∙ seen_pages known store (Resizes found left) seen tt);
-        size_told = inr refl;
+        size_reported = inr refl;
       }
   sized (ReadsGlobal x value) seen core =
       record {
         real = noticed_is (is_mutable (slice_get globals x)) ∙ kept.real;
-        size_told =
+        size_reported =
             subst (λ noticed. (size ≡ noticed) ⊎ (known.pages ≡ noticed))
-            (sym (noticed_is (is_mutable (slice_get globals x)))) kept.size_told;
+            (sym (noticed_is (is_mutable (slice_get globals x)))) kept.size_reported;
       }
     where
       noticed_is : (b : Bool) → (log_after_all state (cond b (ReadsGlobal x value ∷ []) [])).noticed ≡ state.noticed
       noticed_is true = refl
       noticed_is false = refl
   sized o seen core =
-      record { real = kept.real ∙ sym (change known store o seen).pages; size_told = kept.size_told }
+      record { real = kept.real ∙ sym (change known store o seen).pages; size_reported = kept.size_reported }
 
   pub keeps_after : (o : Observation) → IsSeen known store o → IsOfCore o
       → Keeps n globals (known_after known o) (with_change store o) (after o) size
   keeps_after o seen core =
       let s = sized o seen core in
       record {
-        told = told_after o seen core;
+        reported = reported_after o seen core;
         immutable = λ at i.
             part_after (λ x. x) (read_global at o) (written_global at o) (slice_get store.globals at)
             (slice_get (with_change store o).globals at) (known.global at) (touched_global known store o seen at)
             (kept.immutable at i);
         real = s.real;
-        size_told = s.size_told;
+        size_reported = s.size_reported;
       }
 
 -- ---- several observations
@@ -212,12 +212,12 @@ module _ (n : ℕ) (globals : List GlobalType) (back : (func : ℕ) → original
   pub keeps_after_all : (known : Known) (store : Store) (state : LogState) (items : List Observation)
       → Keeps n globals known store state size → AreSeen known store items → AllByRecursion IsOfCore items
       → Keeps n globals (known_after_all known items) (with_changes store items)
-      (log_after_all state (told_observations n globals items)) size
+      (log_after_all state (reported_observations n globals items)) size
   keeps_after_all known store state [] kept are core = kept
   keeps_after_all known store state (o ∷ items) kept are core =
       subst (λ s. Keeps n globals (known_after_all known (o ∷ items)) (with_changes store (o ∷ items)) s size)
-      (sym (after_both state (told_observation n globals o) (told_observations n globals items)))
-      (keeps_after_all (known_after known o) (with_change store o) (log_after_all state (told_observation n globals o))
+      (sym (after_both state (reported_observation n globals o) (reported_observations n globals items)))
+      (keeps_after_all (known_after known o) (with_change store o) (log_after_all state (reported_observation n globals o))
       items (keeps_after n globals size known store state kept o are.0 core.0) are.1 core.1)
 
   -- the reported events of observations agree with what the observations need
@@ -228,27 +228,27 @@ module _ (n : ℕ) (globals : List GlobalType) (back : (func : ℕ) → original
       → IsReadOf (known_after_all known items) (window left) (with_changes store items)
       → Agrees (known_after_all known items) left (marks_from n outcome frames size later)
       → Agrees known (items ++ left)
-      (marks_from n outcome frames size (all_observed_events n state (told_observations n globals items) ++ later))
+      (marks_from n outcome frames size (all_observed_events n state (reported_observations n globals items) ++ later))
       × IsReadOf known (window (items ++ left)) store
   agrees_all outcome frames known store state [] left later kept of are core real agrees = (agrees, real)
   agrees_all outcome frames known store state (o ∷ items) left later kept of are core real agrees =
-      let now = log_after_all state (told_observation n globals o) in
+      let now = log_after_all state (reported_observation n globals o) in
       let rest = agrees_all outcome frames (known_after known o) (with_change store o) now items left later
       (keeps_after n globals size known store state kept o are.0 core.0) (known_of_after known store o are.0 of) are.1
       core.1 real agrees in
-      let events = all_observed_events n state (told_observation n globals o) in
-      let more = all_observed_events n now (told_observations n globals items) ++ later in (
+      let events = all_observed_events n state (reported_observation n globals o) in
+      let more = all_observed_events n now (reported_observations n globals items) ++ later in (
         subst (λ marks. Agrees known (o ∷ items ++ left) marks)
             (sym
             (ap (λ l. marks_from n outcome frames size (l ++ later))
-            (events_both n state (told_observation n globals o) (told_observations n globals items))
+            (events_both n state (reported_observation n globals o) (reported_observations n globals items))
             ∙ ap (marks_from n outcome frames size)
-            (append_assoc events (all_observed_events n now (told_observations n globals items)) later)
+            (append_assoc events (all_observed_events n now (reported_observations n globals items)) later)
             ∙ marks_of_finds n outcome frames size events more
-            (events_find n state (told_observation n globals o))))
+            (events_find n state (reported_observation n globals o))))
             (agrees_observation known o (items ++ left) (finds_of size events)
             (marks_from n outcome frames size more) (of_store store o are.0.here)
-            (told_finds n globals back size known store state kept of o are.0 core.0)
+            (reported_finds n globals back size known store state kept of o are.0 core.0)
             (settled known store o (window (items ++ left)) are.0 rest.1) rest.0),
         subst (λ w. IsReadOf known w store) (sym (windowed o are.0.here))
             (read_of_before known store o are.0 (window (items ++ left)) rest.1),

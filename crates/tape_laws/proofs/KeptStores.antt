@@ -2,10 +2,9 @@
 -- globals are known.
 use Rattle.std.proofs.Common.{◌≡◌, ℕ, ◌++◌, List, [], ◌∷◌, Option, Some, None, Bool, true, false, ◌&&◌, nat_le, slice_get, refl, sym, subst, arith}
 use Rattle.std.specs.Prelude.{option_map, Ok}
-use Rattle.std.proofs.lemmas.Bool.Decides.{nat_tests}
 use Rattle.std.proofs.lemmas.Option.{same_Some}
 use Rattle.base.proofs.Booleans.{and_left, and_right}
-use Rattle.wasm_syntax.specs.declared.limits.TheConstants.{MOST_ENTRIES, MOST_PAGES}
+use Rattle.wasm_syntax.specs.declared.limits.TheConstants.{MAX_ENTRIES, MAX_PAGES}
 use Rattle.wasm_syntax.specs.declared.values.Val.{Val}
 use Rattle.wasm_syntax.specs.declared.signatures.Limits.{Limits}
 use Rattle.wasm_syntax.specs.declared.signatures.GlobalType.{GlobalType}
@@ -20,6 +19,7 @@ use Rattle.record_replay_spec.specs.Known.{Known, known_after, known_after_all, 
 use Rattle.record_replay_spec.specs.Changes.{with_change, with_changes}
 use Rattle.type_safety.specs.Stores.{IsStore}
 use Rattle.type_safety.specs.Supplies.{Match, IsSupply}
+use Rattle.type_safety.proofs.Supplies.{max_kept}
 use Rattle.tape_laws.specs.RealReads.{IsKnownOf}
 use Rattle.tape_laws.proofs.Stores.{Maxima, maxima}
 use Rattle.tape_laws.proofs.Relation.{AreSeen}
@@ -39,10 +39,6 @@ pub record AreDeclared (m : Module) (most : Maxima) : Type 0 where
   pub pages : IsDeclared (all_memories m) most.pages
   pub entries : IsDeclared (all_tables m) most.entries
 
-own_max : (max : Option ℕ) → keeps_max max max ≡ true
-own_max None = refl
-own_max (Some n) = grind (arith, nat_tests)
-
 matched_max : (most : ℕ) (given wanted : Limits) → limits_match most given wanted ≡ true
     → keeps_max given.max wanted.max ≡ true
 matched_max most given wanted h =
@@ -59,7 +55,7 @@ limits_declared most [] (limits ∷ more) supplied matches given wanted e h =
     let same = same_Some limits wanted h in
     let max = same_Some limits.max given e in
     subst (λ (w : Limits). keeps_max given w.max ≡ true) same
-    (subst (λ g. keeps_max g limits.max ≡ true) max (own_max limits.max))
+    (subst (λ g. keeps_max g limits.max ≡ true) max (max_kept limits.max))
 limits_declared most (import ∷ imports) defined None matches given wanted e h = absurd matches
 limits_declared most (import ∷ imports) defined (Some limits) matches given wanted e h =
     let same = same_Some import wanted h in
@@ -88,11 +84,11 @@ new_declared m supply store matches opens =
       pages =
           subst (IsDeclared (all_memories m))
           (sym (written_memory m supply.globals (limits_of (of_kind memory_import m.imports) supply.memory m.memories)))
-          (limits_declared MOST_PAGES (of_kind memory_import m.imports) m.memories supply.memory matches.memory);
+          (limits_declared MAX_PAGES (of_kind memory_import m.imports) m.memories supply.memory matches.memory);
       entries =
           subst (IsDeclared (all_tables m))
           (sym (written_table m supply.globals (limits_of (of_kind table_import m.imports) supply.table m.tables)))
-          (limits_declared MOST_ENTRIES (of_kind table_import m.imports) m.tables supply.table matches.table);
+          (limits_declared MAX_ENTRIES (of_kind table_import m.imports) m.tables supply.table matches.table);
     })
   where
     is : (o : Option ℕ) → store_unless o (with_segments m supply.globals (new_store m supply)) ≡ Ok store

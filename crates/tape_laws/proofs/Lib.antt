@@ -49,7 +49,8 @@ pub mod CoreFrames
 pub mod StepCalls
 pub mod RunCalls
 pub mod Trails
-pub mod Tellable
+pub mod EachMoment
+pub mod Reportable
 pub mod ModuleFacts
 pub mod NextInstructions
 pub mod Mirrors

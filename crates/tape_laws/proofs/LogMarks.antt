@@ -81,8 +81,8 @@ not_trapped_grow Trapped pages later = refl
 not_trapped_grow HostTrapped pages later = refl
 
 -- the size is reported or known
-abbrev pub IsSizeTold : ℕ → Known → LogState → Type 0
-IsSizeTold size known st = (size ≡ st.noticed) ⊎ (known.pages ≡ st.noticed)
+abbrev pub IsSizeReported : ℕ → Known → LogState → Type 0
+IsSizeReported size known st = (size ≡ st.noticed) ⊎ (known.pages ≡ st.noticed)
 
 -- after a growth that is noticed, the size is reported or known
 pub record IsNoticedAfter (n : ℕ) (outcome : Outcome) (frames : List LogFrame) (size : ℕ) (known : Known) (st : LogState)
@@ -90,12 +90,12 @@ pub record IsNoticedAfter (n : ℕ) (outcome : Outcome) (frames : List LogFrame)
   pub now : ℕ
   pub marks : marks_from n outcome frames size (grown_events st.noticed view ++ later)
       ≡ marks_from n outcome frames now later
-  pub size_told : IsSizeTold now known (noticing view st)
+  pub size_reported : IsSizeReported now known (noticing view st)
 
 pub noticed_after : (n : ℕ) (outcome : Outcome) (frames : List LogFrame) (size : ℕ) (known : Known) (st : LogState)
-    (view : Store) (later : List Event) → IsSizeTold size known st
+    (view : Store) (later : List Event) → IsSizeReported size known st
     → IsNoticedAfter n outcome frames size known st view later
-noticed_after n outcome frames size known st view later told = go (nat_eq (pages_of view.memory) st.noticed) refl
+noticed_after n outcome frames size known st view later reported = go (nat_eq (pages_of view.memory) st.noticed) refl
   where
     go : (b : Bool) → nat_eq (pages_of view.memory) st.noticed ≡ b
         → IsNoticedAfter n outcome frames size known st view later
@@ -104,7 +104,7 @@ noticed_after n outcome frames size known st view later told = go (nat_eq (pages
         record {
           now = size;
           marks = ap (λ b. marks_from n outcome frames size (unless b (events.Grow (pages_of view.memory)) ++ later)) e;
-          size_told = subst (λ p. (size ≡ p) ⊎ (known.pages ≡ p)) (sym same) told;
+          size_reported = subst (λ p. (size ≡ p) ⊎ (known.pages ≡ p)) (sym same) reported;
         }
     go false e =
         record {
@@ -113,7 +113,7 @@ noticed_after n outcome frames size known st view later told = go (nat_eq (pages
               ap (λ b. marks_from n outcome frames size (unless b (events.Grow (pages_of view.memory)) ++ later)) e
               ∙ ap (λ b. cond b [] [] ++ marks_from n outcome frames (pages_of view.memory) later)
               (not_trapped_grow outcome (pages_of view.memory) later);
-          size_told = inl refl;
+          size_reported = inl refl;
         }
 
 -- ---- what marks agree with

@@ -26,35 +26,36 @@ use Rattle.record_replay_spec.specs.declared.hooks.Hook.TheVariants.{Ipre}
 use Rattle.record_replay_spec.specs.Logs.{LogState, log_after_all, all_observed_events}
 use Rattle.record_replay_spec.specs.LogTapes.{Begins as BeginsMark, InCall, is_trapped_call, outcome_marks, marks_from}
 use Rattle.record_replay_spec.specs.Order.{HookedShape}
-use Rattle.record_replay_spec.specs.ToldCalls.{Moment, told_number, told_by_trap}
-use Rattle.tape_laws.proofs.CallObservations.{seen_by, as_told}
+use Rattle.record_replay_spec.specs.ReportedCalls.{Moment, reported_number, reported_by_trap}
+use Rattle.tape_laws.proofs.CallObservations.{seen_by, as_reported}
 use Rattle.tape_laws.proofs.CallOrder as orders
-use Rattle.tape_laws.proofs.Trails.{Level, AtFunction, AtCall, TellsTrap, Quiet, AtEntry, IsTrailEnd}
+use Rattle.tape_laws.proofs.Trails.{Level, AtFunction, AtCall, ReportsTrap, Quiet, AtEntry, IsTrailEnd}
 use Rattle.tape_laws.proofs.CallOrder.{IsHooked, renumbered, state}
 use Rattle.tape_laws.proofs.Agrees.{Agrees, agrees_activity, agrees_over}
 use Rattle.tape_laws.proofs.CallLogs as logs
 use Rattle.tape_laws.proofs.ItemSteps.{agrees_all}
 use Rattle.tape_laws.proofs.TrailLogs as trail_logs
-use Rattle.tape_laws.proofs.LogMarks.{log_frames, IsSizeTold, ModuleAgrees, AgreesBy, agrees_host}
+use Rattle.tape_laws.proofs.LogMarks.{log_frames, IsSizeReported, ModuleAgrees, AgreesBy, agrees_host}
 use Rattle.tape_laws.proofs.TrailLogSteps as trail_steps
 use Rattle.tape_laws.proofs.CallLogs.{Logged}
-use Rattle.tape_laws.proofs.TrailLogs.{Stands, Tells_by, Tells, Rest, FirstTells}
+use Rattle.tape_laws.proofs.TrailLogs.{Stands, StandsAt, Reports_by, Reports, Rest, FirstReports}
+use Rattle.tape_laws.proofs.EachMoment.{holds_for}
 
 module _ (m : Module) (shape : HookedShape) (hooked : IsHooked m shape) (outcome : Outcome) where
   abbrev n : ℕ
   n = imported_funcs m
 
-  abbrev told : List Observation → List Observation
-  told items = as_told shape n (all_globals m) items
+  abbrev reported : List Observation → List Observation
+  reported items = as_reported shape n (all_globals m) items
 
   -- ---- an instruction traps
 
   trapped : (func number : ℕ) (kind : TrapKind) (operands : List Val) (found : Option ℕ)
-      → FirstTells m shape outcome (Trap func number kind operands found)
+      → FirstReports m shape outcome (Trap func number kind operands found)
   trapped func number kind operands found later moment levels known store left st h stands rest =
-      subst (λ s. Tells m shape outcome levels known s left st (now later)) h.begins
-      (subst (λ l. Tells m shape outcome l known moment.before left st (now later)) (sym h.stands)
-      (subst (λ l. Tells m shape outcome top known moment.before left st (now l)) (sym h.last) (go h.tells)))
+      subst (λ s. Reports m shape outcome levels known s left st (now later)) h.begins
+      (subst (λ l. Reports m shape outcome l known moment.before left st (now later)) (sym h.stands)
+      (subst (λ l. Reports m shape outcome top known moment.before left st (now l)) (sym h.last) (go h.reports)))
     where
       top : List Level
       top = AtFunction func ∷ h.below
@@ -71,19 +72,19 @@ module _ (m : Module) (shape : HookedShape) (hooked : IsHooked m shape) (outcome
       over = same_Some outcome Trapped h.over
 
       -- all remaining observations were made before the trap
-      agree : (size : ℕ) (more : List Event) → IsSizeTold size known st
+      agree : (size : ℕ) (more : List Event) → IsSizeReported size known st
           → marks_from n outcome (log_frames (AtFunction func ∷ h.below)) size more ≡ []
           → ModuleAgrees known moment.before left
           (marks_from n outcome (log_frames (AtFunction func ∷ h.below)) size
-          (all_observed_events n st (told left) ++ more))
-      agree size more size_told none =
+          (all_observed_events n st (reported left) ++ more))
+      agree size more size_reported none =
           let a = agrees_all n (all_globals m) (hooked.back n) size outcome (log_frames (AtFunction func ∷ h.below)) known
           moment.before st left [] more
           (record {
-            told = here.told;
+            reported = here.reported;
             immutable = here.immutable;
             real = here.real tt;
-            size_told = size_told;
+            size_reported = size_reported;
           })
           h.of h.are h.core (nothing_read (known_after_all known left) (with_changes moment.before left))
           (subst (Agrees (known_after_all known left) []) (sym none) (agrees_over (known_after_all known left))) in
@@ -91,62 +92,62 @@ module _ (m : Module) (shape : HookedShape) (hooked : IsHooked m shape) (outcome
             agrees = subst
                 (λ l. Agrees known l
                 (marks_from n outcome (log_frames (AtFunction func ∷ h.below)) size
-                (all_observed_events n st (told left) ++ more)))
+                (all_observed_events n st (reported left) ++ more)))
                 (append-nil left) a.0;
             reads = subst (λ l. IsReadOf known (window l) moment.before) (append-nil left) a.1;
           }
 
-      go : TellsTrap m shape moment operands
-          → Tells m shape outcome (AtFunction func ∷ h.below) known moment.before left st
+      go : ReportsTrap m shape moment operands
+          → Reports m shape outcome (AtFunction func ∷ h.below) known moment.before left st
           (record moment { entry = Trap func number kind operands found } ∷ [])
-      go (Quiet tellable) =
+      go (Quiet reportable) =
           record {
-            found = all_observed_events n st (told left) ++ [];
+            found = all_observed_events n st (reported left) ++ [];
             are =
                 trail_logs.logged_then m shape hooked outcome
-                (state (AtFunction func ∷ h.below) [] known.entries) st (told_by_trap moment.instr operands moment)
-                (all_observed_events n st (told left)) (state (AtFunction func ∷ h.below) [] known.entries)
-                (log_after_all st (told left)) [] []
+                (state (AtFunction func ∷ h.below) [] known.entries) st (reported_by_trap moment.instr operands moment)
+                (all_observed_events n st (reported left)) (state (AtFunction func ∷ h.below) [] known.entries)
+                (log_after_all st (reported left)) [] []
                 (subst
                 (λ l. Logged m shape (state (AtFunction func ∷ h.below) [] known.entries) st
-                (told_by_trap moment.instr operands moment) (all_observed_events n st l)
+                (reported_by_trap moment.instr operands moment) (all_observed_events n st l)
                 (state (AtFunction func ∷ h.below) [] known.entries) (log_after_all st l))
                 h.observes
-                (logs.tellable_logged m shape hooked (told_by_trap moment.instr operands moment)
-                (state (AtFunction func ∷ h.below) [] known.entries) st refl tellable))
+                (logs.reportable_logged m shape hooked (reported_by_trap moment.instr operands moment)
+                (state (AtFunction func ∷ h.below) [] known.entries) st refl reportable))
                 (λ at. refl);
-            agrees = λ size size_told. agree size [] size_told (ap outcome_marks over);
+            agrees = λ size size_reported. agree size [] size_reported (ap outcome_marks over);
             not_last = λ c callee. absurd c;
           }
       go (AtEntry t calls entry) =
           subst
-          (λ i. Tells_by m shape outcome (AtFunction func ∷ h.below) known moment.before
-          left st (renumbered m (told_by_trap i operands moment ++ [])))
+          (λ i. Reports_by m shape outcome (AtFunction func ∷ h.below) known moment.before
+          left st (renumbered m (reported_by_trap i operands moment ++ [])))
           (sym calls)
           (record {
-            found = (all_observed_events n st (told left) ++ events.Pre callee ∷ []) ++ [];
+            found = (all_observed_events n st (reported left) ++ events.Pre callee ∷ []) ++ [];
             are =
                 trail_logs.logged_then m shape hooked outcome
-                (state (AtFunction func ∷ h.below) [] known.entries) st (told_number Ipre index moment.before)
-                (all_observed_events n st (told left) ++ events.Pre callee ∷ [])
+                (state (AtFunction func ∷ h.below) [] known.entries) st (reported_number Ipre index moment.before)
+                (all_observed_events n st (reported left) ++ events.Pre callee ∷ [])
                 (orders.after_index m shape hooked func index h.below known.entries moment.before callee)
-                (log_after_all st (told left)) [] []
+                (log_after_all st (reported left)) [] []
                 (subst
                 (λ l. Logged m shape (state (AtFunction func ∷ h.below) [] known.entries) st
-                (told_number Ipre index moment.before) (all_observed_events n st l ++ events.Pre callee ∷ [])
+                (reported_number Ipre index moment.before) (all_observed_events n st l ++ events.Pre callee ∷ [])
                 (orders.after_index m shape hooked func index h.below known.entries moment.before callee)
                 (log_after_all st l))
                 (subst
-                (λ i. seen_by shape n (all_globals m) (told_by_trap i operands moment) ≡ told left) calls h.observes)
+                (λ i. seen_by shape n (all_globals m) (reported_by_trap i operands moment) ≡ reported left) calls h.observes)
                 (logs.ipre_logged m shape hooked func index h.below known.entries moment.before callee st
                 h.of.entries refl entry))
                 (λ at. refl);
-            agrees = λ size size_told.
+            agrees = λ size size_reported.
                 subst
                 (λ l. ModuleAgrees known moment.before left
                 (marks_from n outcome (log_frames (AtFunction func ∷ h.below)) size l))
-                (sym (append-nil (all_observed_events n st (told left) ++ events.Pre callee ∷ [])))
-                (agree size (events.Pre callee ∷ []) size_told
+                (sym (append-nil (all_observed_events n st (reported left) ++ events.Pre callee ∷ [])))
+                (agree size (events.Pre callee ∷ []) size_reported
                 (ap
                 (λ o. marks_from n o (log_frames (AtFunction func ∷ h.below)) size (events.Pre callee ∷ [])) over));
             not_last = λ c callee. absurd c;
@@ -160,13 +161,13 @@ module _ (m : Module) (shape : HookedShape) (hooked : IsHooked m shape) (outcome
 
   -- ---- the host
 
-  import_called : (import : ℕ) (args : List Val) → FirstTells m shape outcome (ImportCall import args)
+  import_called : (import : ℕ) (args : List Val) → FirstReports m shape outcome (ImportCall import args)
   import_called import args later moment levels known store left st h stands rest =
-      subst (λ l. Tells m shape outcome l known store left st (record moment { entry = ImportCall import args } ∷ later)) (sym h.stands)
+      subst (λ l. Reports m shape outcome l known store left st (record moment { entry = ImportCall import args } ∷ later)) (sym h.stands)
       (record {
         found = r.found;
         are = r.are;
-        agrees = λ size size_told.
+        agrees = λ size size_reported.
             subst
             (λ l. ModuleAgrees known store l
             (BeginsMark (Import import)
@@ -177,26 +178,26 @@ module _ (m : Module) (shape : HookedShape) (hooked : IsHooked m shape) (outcome
                   subst
                   (λ b. AgreesBy b known moment.after h.later
                   (marks_from n outcome (InCall (Some import) ∷ log_frames h.below) size r.found))
-                  h.imported (r.agrees size size_told) (Import import);
+                  h.imported (r.agrees size size_reported) (Import import);
               reads = nothing_read known store;
             });
         not_last = λ c callee. r.not_last tt callee;
       })
     where
-      r : Tells m shape outcome (AtCall h.direct import false h.args ∷ h.below) known moment.after h.later st later
+      r : Reports m shape outcome (AtCall h.direct import false h.args ∷ h.below) known moment.after h.later st later
       r = rest (AtCall h.direct import false h.args ∷ h.below) known moment.after h.later st h.follows
           (record {
-            told = stands.told;
+            reported = stands.reported;
             immutable = λ at i. stands.immutable at i ∙ sym (h.keeps at i);
             real = λ w. absurd w;
           })
 
-  host_trapped : FirstTells m shape outcome HostTrap
+  host_trapped : FirstReports m shape outcome HostTrap
   host_trapped later moment levels known store left st h stands rest =
       record {
         found = [];
         are = trail_logs.nothing_left m shape hooked outcome levels known.entries st later h.last;
-        agrees = λ size size_told.
+        agrees = λ size size_reported.
             agrees_host n levels known store left (marks_from n outcome (log_frames levels) size []) h.host
             (λ origin.
             subst
@@ -212,7 +213,7 @@ module _ (m : Module) (shape : HookedShape) (hooked : IsHooked m shape) (outcome
 
   -- ---- a whole trail
 
-  at_entry : (entry : Entry) → FirstTells m shape outcome entry
+  at_entry : (entry : Entry) → FirstReports m shape outcome entry
   at_entry (HostCall func args) = trail_logs.host_call m shape hooked outcome func args
   at_entry (Enter func) = trail_logs.entered m shape hooked outcome func
   at_entry (HostReturn func results) = trail_logs.host_return m shape hooked outcome func results
@@ -226,22 +227,22 @@ module _ (m : Module) (shape : HookedShape) (hooked : IsHooked m shape) (outcome
 
   at_end : (o : Outcome) → outcome ≡ o → (levels : List Level) (known : Known) (store : Store)
       (left : List Observation) (st : LogState) → IsTrailEnd m shape levels left (Some o)
-      → Tells m shape outcome levels known store left st []
+      → Reports m shape outcome levels known store left st []
   at_end Trapped over levels known store left st h = absurd h
   at_end HostTrapped over levels known store left st h = absurd h
   at_end Ended over levels known store left st h =
-      subst (λ l. Tells m shape outcome l known store left st []) (sym h.0)
+      subst (λ l. Reports m shape outcome l known store left st []) (sym h.0)
       (record {
         found = [];
         are = λ at. refl;
-        agrees = λ size size_told origin.
+        agrees = λ size size_reported origin.
             subst (λ l. Agrees known (Begins origin ∷ l) (BeginsMark origin ∷ outcome_marks outcome)) (sym h.1)
             (subst (λ o. Agrees known (Begins origin ∷ Ends End ∷ []) (BeginsMark origin ∷ outcome_marks o)) (sym over)
             (agrees_activity known origin End [] [] (agrees_over known)));
         not_last = λ c callee. absurd c;
       })
 
-  pub tells : (moments : List Moment) → Rest m shape outcome moments
-  tells [] levels known store left st h stands = at_end outcome refl levels known store left st h
-  tells (moment ∷ later) levels known store left st h stands =
-      at_entry moment.entry later moment levels known store left st h stands (tells later)
+  pub reports : (moments : List Moment) → Rest m shape outcome moments
+  reports =
+      holds_for m shape (Some outcome) (StandsAt m shape outcome) (Reports m shape outcome) at_entry
+      (λ levels known store left st h stands. at_end outcome refl levels known store left st h)

@@ -37,10 +37,10 @@ use Rattle.type_safety.specs.Heights.{Heights}
 use Rattle.type_safety.proofs.Values.{append_values, zero_values}
 use Rattle.record_replay_spec.specs.Hooks.{on}
 use Rattle.record_replay_spec.specs.Order.{HookedShape, bits_fit}
-use Rattle.record_replay_spec.specs.ToldCalls.{told_before, told_after, store_executed, next_of_nest, WaitingCall, waiting_after_step}
+use Rattle.record_replay_spec.specs.ReportedCalls.{reported_before, reported_after, store_executed, next_of_nest, WaitingCall, waiting_after_step}
 use Rattle.tape_laws.proofs.CoreFrames.{CoreNest, IsNoCall}
-use Rattle.tape_laws.proofs.Trails.{IsOfCore, AreTellable}
-use Rattle.tape_laws.proofs.Tellable.{IsShapeOf, AreToldWell, IsFine, SetsMutable, plain_well, fits_number, in_range, memory_there}
+use Rattle.tape_laws.proofs.Trails.{IsOfCore, AreReportable}
+use Rattle.tape_laws.proofs.Reportable.{IsShapeOf, AreReportedWell, IsFine, SetsMutable, plain_well, fits_number, in_range, memory_there}
 use Rattle.tape_laws.proofs.RunCalls.{global_at}
 
 -- ---- the known number of entries
@@ -239,38 +239,38 @@ module _ (m : Module) (shape : HookedShape) (is : IsShapeOf m shape)
   sets_mutable store values s same labels i before middle leads = tt
 
   -- the hook calls of the next instruction of a body can be made in order
-  abbrev pub AreNestToldWell : Store → Nest → Execution → Type 0
-  AreNestToldWell store nest (Did operands results found control) =
-      AreTellable m shape
+  abbrev pub AreNestReportedWell : Store → Nest → Execution → Type 0
+  AreNestReportedWell store nest (Did operands results found control) =
+      AreReportable m shape
       (on (next_of_nest nest) (λ i.
-      told_before i operands store
-      ++ told_after (all_globals m) i results (store_executed store (Did operands results found control))))
-  AreNestToldWell store nest (Traps kind operands found) =
-      AreTellable m shape (on (next_of_nest nest) (λ i. told_before i operands store))
-  AreNestToldWell store nest NoRule = Unit {0}
+      reported_before i operands store
+      ++ reported_after (all_globals m) i results (store_executed store (Did operands results found control))))
+  AreNestReportedWell store nest (Traps kind operands found) =
+      AreReportable m shape (on (next_of_nest nest) (λ i. reported_before i operands store))
+  AreNestReportedWell store nest NoRule = Unit {0}
 
   silent_nest : (store : Store) (nest : Nest) → next_of_nest nest ≡ None → (e : Execution)
-      → AreNestToldWell store nest e
+      → AreNestReportedWell store nest e
   silent_nest store nest none (Did operands results found control) =
       subst
-      (λ (o : Option Instr). AreTellable m shape
+      (λ (o : Option Instr). AreReportable m shape
       (on o (λ i.
-      told_before i operands store
-      ++ told_after (all_globals m) i results (store_executed store (Did operands results found control)))))
+      reported_before i operands store
+      ++ reported_after (all_globals m) i results (store_executed store (Did operands results found control)))))
       (sym none) tt
   silent_nest store nest none (Traps kind operands found) =
-      subst (λ (o : Option Instr). AreTellable m shape (on o (λ i. told_before i operands store))) (sym none) tt
+      subst (λ (o : Option Instr). AreReportable m shape (on o (λ i. reported_before i operands store))) (sym none) tt
   silent_nest store nest none NoRule = tt
 
   plain_nest : (store : Store) (values : List Val) (i : Instr) (rest : Nest) (e : Execution)
-      → AreToldWell m shape is store values i e → AreNestToldWell store (Plain i rest) e
+      → AreReportedWell m shape is store values i e → AreNestReportedWell store (Plain i rest) e
   plain_nest store values i rest (Did operands results found control) h = h
   plain_nest store values i rest (Traps kind operands found) h = h
   plain_nest store values i rest NoRule h = tt
 
   pub nest_well : (s : Scope) → s.m ≡ m → (code : Code) (store : Store) (frame : Frame) → IsStore m store
       → IsFrame s [] frame → CoreNest frame.at.rest → IsNoCall (next_of_nest frame.at.rest)
-      → AreNestToldWell store frame.at.rest (execute code store frame)
+      → AreNestReportedWell store frame.at.rest (execute code store frame)
   nest_well s same code store frame fine f core none =
       go frame.at.rest frame.at.number core none f.types f.given f.code.typed
     where
@@ -301,11 +301,11 @@ module _ (m : Module) (shape : HookedShape) (is : IsShapeOf m shape)
 
       go : (nest : Nest) (n : ℕ) → CoreNest nest → IsNoCall (next_of_nest nest) → (before after : List ValType)
           → IsTyped (context s f.labels) nest before after
-          → AreNestToldWell store nest (execute_at code store frame nest n)
+          → AreNestReportedWell store nest (execute_at code store frame nest n)
       go (Plain i rest) n c none before after typed =
           plain_nest store frame.values i rest (execute_at code store frame (Plain i rest) n)
           (plain_well m shape is store frame.values code frame (place rest (n + 1)) memory_here global_fine top number
-          i c.0 none (sets_mutable store frame.values s same f.labels i before typed.0 typed.1)).tells
+          i c.0 none (sets_mutable store frame.values s same f.labels i before typed.0 typed.1)).reports
       go nest n c none before after typed =
           silent_nest store nest refl (execute_at code store frame nest n)
 

@@ -5,6 +5,7 @@ use Rattle.std.specs.Option.{option_or, option_flatten}
 use Rattle.std.specs.List.{list_all}
 use Rattle.std.proofs.lemmas.Option.{none-some, slice_get_within}
 use Rattle.base.proofs.Booleans.{and_true}
+use Rattle.base.proofs.Options.{or_none}
 use Rattle.wasm_syntax.specs.declared.values.Val.{Val}
 use Rattle.wasm_syntax.specs.declared.modules.Module.{Module}
 use Rattle.trace_model.specs.declared.tapes.Effect.{Effect}
@@ -20,7 +21,6 @@ use Rattle.record_replay_spec.specs.Needed.{needed_byte, needed_entry, needed_gl
 use Rattle.tape_laws.specs.RealReads.{IsReadOf}
 use Rattle.tape_laws.proofs.Effects.{IsChange, AreChanges}
 use Rattle.tape_laws.proofs.Activities.{HasSizes, no_growth, no_table_growth, needed_is, byte_there, entry_there}
-use Rattle.tape_laws.proofs.Activity.{or_nothing}
 use Rattle.tape_laws.proofs.HostStores.{sizes_of}
 use Rattle.tape_laws.proofs.KeptStores.{IsKept}
 use Rattle.tape_laws.proofs.Placed.{from_first_place, effects_from, ArePlaced, effects_give, effects_keep, effects_are, GlobalFrom, EntryFrom, BytesFrom, global_placing, entry_placing, globals_then_entries, entries_then_bytes, runs, runs_give, runs_keep, runs_are}
@@ -103,12 +103,12 @@ growths_keep : {X : Type 0} (part : Effect → Option X) → ((n : ℕ) → part
     → last_some part (with_growth pages (with_table_growth size changes)) ≡ last_some part changes
 growths_keep part none none_table None None changes = refl
 growths_keep part none none_table None (Some size) changes =
-    ap (option_or (last_some part changes)) (none_table size) ∙ or_nothing (last_some part changes)
+    ap (option_or (last_some part changes)) (none_table size) ∙ or_none (last_some part changes)
 growths_keep part none none_table (Some pages) None changes =
-    ap (option_or (last_some part changes)) (none pages) ∙ or_nothing (last_some part changes)
+    ap (option_or (last_some part changes)) (none pages) ∙ or_none (last_some part changes)
 growths_keep part none none_table (Some pages) (Some size) changes =
     (λ i. option_or (option_or (last_some part changes) (none_table size i)) (none pages i))
-    ∙ or_nothing (option_or (last_some part changes) None) ∙ or_nothing (last_some part changes)
+    ∙ or_none (option_or (last_some part changes) None) ∙ or_none (last_some part changes)
 
 -- ---- all effects
 

@@ -9,7 +9,7 @@ use Rattle.wasm_syntax.specs.Nest.{Nest, Plain}
 use Rattle.history_spec.specs.Store.{Store, Table}
 use Rattle.record_replay_spec.specs.Observations.{nest_observations, plain_observations}
 use Rattle.record_replay_spec.specs.Known.{entry_of}
-use Rattle.record_replay_spec.specs.ToldCalls.{next_of_nest}
+use Rattle.record_replay_spec.specs.ReportedCalls.{next_of_nest}
 use Rattle.tape_laws.proofs.CoreFrames.{IsNoCall, IsNotDirect}
 
 -- an instruction that traps is a call by the table or calls nothing

@@ -18,12 +18,12 @@ use Rattle.tape_laws.proofs.FirstBytes.{finds_of}
 -- ---- the known values of a log
 
 -- what a log knows is what the run knows, with the table's functions in the instrumented module
-pub record IsToldKnown (n : ℕ) (known told : Known) : Type 0 where
-  pub byte : (at : ℕ) → told.byte at ≡ known.byte at
-  pub entry : (at : ℕ) → told.entry at ≡ option_map (renumber n) (known.entry at)
-  pub global : (at : ℕ) → told.global at ≡ known.global at
-  pub pages : told.pages ≡ known.pages
-  pub entries : told.entries ≡ known.entries
+pub record IsReportedKnown (n : ℕ) (known reported : Known) : Type 0 where
+  pub byte : (at : ℕ) → reported.byte at ≡ known.byte at
+  pub entry : (at : ℕ) → reported.entry at ≡ option_map (renumber n) (known.entry at)
+  pub global : (at : ℕ) → reported.global at ≡ known.global at
+  pub pages : reported.pages ≡ known.pages
+  pub entries : reported.entries ≡ known.entries
 
 -- ---- bytes alone are found by a read of bytes
 
@@ -67,7 +67,7 @@ module _ {X : Type 0} (size : ℕ) (part : Effect → Option X)
 -- the last noticed size of the memory is the real one, which the last growth reported, or which is known
 pub record IsNoticed (noticed size known real : ℕ) : Type 0 where
   pub is_real : noticed ≡ real
-  pub is_told : (size ≡ noticed) ⊎ (known ≡ noticed)
+  pub is_reported : (size ≡ noticed) ⊎ (known ≡ noticed)
 
 needed_size : (b : Bool) (known found : ℕ) → nat_eq known found ≡ b
     → needed nat_eq known (Some found) ≡ cond b None (Some found)
@@ -80,11 +80,11 @@ found_size known found noticed size is =
     subst
     (λ real. first_some effect_pages (finds_of size (unless (nat_eq known noticed) Seen))
     ≡ needed nat_eq known (Some real)) is.is_real
-    (go (nat_eq known noticed) refl is.is_told)
+    (go (nat_eq known noticed) refl is.is_reported)
   where
     go : (b : Bool) → nat_eq known noticed ≡ b → (size ≡ noticed) ⊎ (known ≡ noticed)
         → first_some effect_pages (finds_of size (unless b Seen)) ≡ needed nat_eq known (Some noticed)
-    go true h told = sym (needed_size true known noticed h)
+    go true h reported = sym (needed_size true known noticed h)
     go false h (inl same) = ap Some same ∙ sym (needed_size false known noticed h)
     go false h (inr same) =
         let p : nat_eq known noticed ≡ true = grind (arith, nat_tests, same) in
@@ -116,12 +116,12 @@ same_renumbered n a b = go (nat_lt a n) (nat_lt b n) refl refl
     go false true p q = grind (arith, nat_tests, p, q)
     go false false p q = grind (arith, nat_tests, p, q)
 
-pub same_told_entry : (n : ℕ) (known func : Option ℕ)
+pub same_reported_entry : (n : ℕ) (known func : Option ℕ)
     → same_entry (option_map (renumber n) known) (option_map (renumber n) func) ≡ same_option nat_eq known func
-same_told_entry n None None = refl
-same_told_entry n None (Some b) = refl
-same_told_entry n (Some a) None = refl
-same_told_entry n (Some a) (Some b) = same_renumbered n a b
+same_reported_entry n None None = refl
+same_reported_entry n None (Some b) = refl
+same_reported_entry n (Some a) None = refl
+same_reported_entry n (Some a) (Some b) = same_renumbered n a b
 
 pub original_entry : (n : ℕ) → ((func : ℕ) → original n (renumber n func) ≡ Some func) → (func : Option ℕ)
     → option_and_then (original n) (option_map (renumber n) func) ≡ func
@@ -146,20 +146,20 @@ found_place same known index at x = go (nat_eq index at) refl
     go false h = no_place (same (known index) x)
 
 -- an event finds nothing of a part that it does not give, whether it is reported or not
-pub none_told : {X : Type 0} (size : ℕ) (part : Effect → Option X) (event : Event)
-    → first_some part (finds_of size (event ∷ [])) ≡ None → (untold : Bool)
-    → first_some part (finds_of size (unless untold event)) ≡ None
-none_told size part event none true = refl
-none_told size part event none false = none
+pub none_reported : {X : Type 0} (size : ℕ) (part : Effect → Option X) (event : Event)
+    → first_some part (finds_of size (event ∷ [])) ≡ None → (unreported : Bool)
+    → first_some part (finds_of size (unless unreported event)) ≡ None
+none_reported size part event none true = refl
+none_reported size part event none false = none
 
 -- what is found of a place by its event, which is reported unless the place is known
-pub told_place : {X : Type 0} (size : ℕ) (same : X → X → Bool) (known : ℕ → X) (index : ℕ) (x : X)
+pub reported_place : {X : Type 0} (size : ℕ) (same : X → X → Bool) (known : ℕ → X) (index : ℕ) (x : X)
     (part : ℕ → Effect → Option X) (event : Event)
     → ((at : ℕ) → first_some (part at) (finds_of size (event ∷ [])) ≡ cond (nat_eq index at) (Some x) None)
-    → (untold : Bool) → same (known index) x ≡ untold → (at : ℕ)
-    → first_some (part at) (finds_of size (unless untold event))
+    → (unreported : Bool) → same (known index) x ≡ unreported → (at : ℕ)
+    → first_some (part at) (finds_of size (unless unreported event))
     ≡ needed same (known at) (cond (nat_eq index at) (Some x) None)
-told_place size same known index x part event one true p at =
+reported_place size same known index x part event one true p at =
     sym (ap (λ b. cond b None (cond (nat_eq index at) (Some x) None)) p) ∙ found_place same known index at x
-told_place size same known index x part event one false p at =
+reported_place size same known index x part event one false p at =
     one at ∙ sym (ap (λ b. cond b None (cond (nat_eq index at) (Some x) None)) p) ∙ found_place same known index at x

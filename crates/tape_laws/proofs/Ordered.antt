@@ -19,9 +19,9 @@ use Rattle.tape_laws.specs.RealReads.{observed_from}
 use Rattle.tape_laws.proofs.SafeRuns.{safe_run}
 use Rattle.record_replay_spec.specs.HookLaws.{IndicesAreRenumbered, InstrumentedKeepsIndices, InstrumentedKeepIndices}
 use Rattle.record_replay_spec.specs.Order.{is_some_there}
-use Rattle.record_replay_spec.specs.ToldCalls.{Moment, run_moments}
+use Rattle.record_replay_spec.specs.ReportedCalls.{Moment, run_moments}
 use Rattle.tape_laws.specs.CallLaws.{OriginalRun, hooked_shape, HookCallsAreInOrder}
-use Rattle.tape_laws.proofs.Tellable.{IsShapeOf}
+use Rattle.tape_laws.proofs.Reportable.{IsShapeOf}
 use Rattle.tape_laws.proofs.TrailOrder.{in_order}
 use Rattle.tape_laws.proofs.TrailRuns.{started}
 use Rattle.tape_laws.proofs.TrailsOfRuns.{outcome_of}

@@ -5,6 +5,7 @@ use Rattle.std.specs.Option.{option_or}
 use Rattle.std.specs.List.{list_all}
 use Rattle.std.proofs.lemmas.Bool.Decides.{nat_tests}
 use Rattle.base.proofs.Booleans.{and_left, and_right, and_true}
+use Rattle.base.proofs.Options.{or_none}
 use Rattle.wasm_syntax.specs.declared.values.Val.{Val}
 use Rattle.trace_model.specs.declared.tapes.Effect.{Effect}
 use Rattle.trace_model.specs.declared.tapes.Effect.TheVariants.{Bytes, Entry, Global}
@@ -12,7 +13,6 @@ use Rattle.trace_model.specs.Effects.{are_ordered_after, are_ordered}
 use Rattle.record_replay_spec.specs.Known.{byte_among, last_some}
 use Rattle.record_replay_spec.specs.Needed.{effect_byte, has_bytes}
 use Rattle.tape_laws.proofs.Effects.{IsChange, AreChanges}
-use Rattle.tape_laws.proofs.Activity.{or_nothing}
 
 no_choice : {X : Type 0} (b : Bool) (o : Option X) → o ≡ cond b o o
 no_choice true o = refl
@@ -47,11 +47,11 @@ from_next_place f at x o is = go (nat_eq at x) refl
         let past : nat_le (suc at) x ≡ false = grind (arith, nat_tests, same) in
         let here : nat_le at x ≡ true = grind (arith, nat_tests, same) in
         (λ i. option_or (cond (past i) (f x) None) (option_or (cond (p i) o None) None))
-        ∙ or_nothing o ∙ sym is ∙ ap f same ∙ sym (ap (λ b. cond b (f x) None) here)
+        ∙ or_none o ∙ sym is ∙ ap f same ∙ sym (ap (λ b. cond b (f x) None) here)
     go false p =
         let both : nat_le (suc at) x ≡ nat_le at x = grind (arith, nat_tests, p) in
         (λ i. option_or (cond (both i) (f x) None) (option_or (cond (p i) o None) None))
-        ∙ or_nothing (cond (nat_le at x) (f x) None)
+        ∙ or_none (cond (nat_le at x) (f x) None)
 
 -- no value is at or after the end
 from_end_place : {X : Type 0} (f : ℕ → Option X) (at x : ℕ) → ((x : ℕ) → at ≤ x → f x ≡ None) → None ≡ from_place at f x
@@ -85,7 +85,7 @@ module _ {A X : Type 0} (make : ℕ → A → Effect) (wrap : A → X) (part : �
           → last_some (part x) (with_effect make at (f at) rest) ≡ from_place at (λ y. option_map wrap (f y)) x
       go None is rest later =
           ap (λ o. last_some (part x) (with_effect make at o rest)) is
-          ∙ later ∙ sym (or_nothing (from_place (suc at) (λ y. option_map wrap (f y)) x))
+          ∙ later ∙ sym (or_none (from_place (suc at) (λ y. option_map wrap (f y)) x))
           ∙ ap (λ o. option_or (from_place (suc at) (λ y. option_map wrap (f y)) x) (option_or o None))
           (no_choice (nat_eq at x) None)
           ∙ from_next_place (λ y. option_map wrap (f y)) at x None (ap (option_map wrap) is)
@@ -93,7 +93,7 @@ module _ {A X : Type 0} (make : ℕ → A → Effect) (wrap : A → X) (part : �
           ap (λ o. last_some (part x) (with_effect make at o rest)) is
           ∙ (λ i. option_or (later i) (own at a x i))
           ∙ ap (option_or (from_place (suc at) (λ y. option_map wrap (f y)) x))
-          (sym (or_nothing (cond (nat_eq at x) (Some (wrap a)) None)))
+          (sym (or_none (cond (nat_eq at x) (Some (wrap a)) None)))
           ∙ from_next_place (λ y. option_map wrap (f y)) at x (Some (wrap a)) (ap (option_map wrap) is)
 
 module _ {A : Type 0} (make : ℕ → A → Effect) where
@@ -109,7 +109,7 @@ module _ {A : Type 0} (make : ℕ → A → Effect) where
           → last_some part (with_effect make at o rest) ≡ last_some part tail
       go None rest same = same
       go (Some a) rest same =
-          (λ i. option_or (same i) (other at a i)) ∙ or_nothing (last_some part tail)
+          (λ i. option_or (same i) (other at a i)) ∙ or_none (last_some part tail)
 
 -- ordered changes, which may follow an effect at a place below `at`
 pub record ArePlaced (From : ℕ → List Effect → Type 0) (at : ℕ) (effects : List Effect) : Type 0 where
@@ -243,7 +243,7 @@ cons_among at b x bytes = go (nat_eq at x) refl
         let less : at < x = grind (arith, nat_tests, q) in
         let far : x - at ≡ suc (x - suc at) = omega (arith, less) in
         (λ i. cond (low i) (slice_get (b ∷ bytes) (far i)) None)
-        ∙ sym (or_nothing (slice_get bytes (x - suc at)))
+        ∙ sym (or_none (slice_get bytes (x - suc at)))
         ∙ sym (λ i. option_or (cond (q i) (slice_get bytes (x - suc at)) None) (cond (p i) (Some b) None))
     after false p q =
         let low : nat_le at x ≡ false = grind (arith, nat_tests, p, q) in
@@ -304,14 +304,14 @@ runs_give f at (suc n) tail x ends none =
         → last_some (effect_byte x) (with_byte at (f at) rest) ≡ from_place at f x
     go None is rest later =
         ap (λ o. last_some (effect_byte x) (with_byte at o rest)) is
-        ∙ later ∙ sym (or_nothing (from_place (suc at) f x))
+        ∙ later ∙ sym (or_none (from_place (suc at) f x))
         ∙ ap (λ o. option_or (from_place (suc at) f x) (option_or o None)) (no_choice (nat_eq at x) None)
         ∙ from_next_place f at x None is
     go (Some b) is rest later =
         ap (λ o. last_some (effect_byte x) (with_byte at o rest)) is
         ∙ byte_given at b x rest
         ∙ (λ i. option_or (later i) (cond (nat_eq at x) (Some b) None))
-        ∙ ap (option_or (from_place (suc at) f x)) (sym (or_nothing (cond (nat_eq at x) (Some b) None)))
+        ∙ ap (option_or (from_place (suc at) f x)) (sym (or_none (cond (nat_eq at x) (Some b) None)))
         ∙ from_next_place f at x (Some b) is
 
 -- runs of bytes give no other part
@@ -325,7 +325,7 @@ runs_keep part other f at (suc n) tail = go (f at) (runs f (suc at) n tail) (run
     more : (address : ℕ) (bytes : List ℕ) (rest : List Effect)
         → last_some part (Bytes address bytes ∷ rest) ≡ last_some part rest
     more address bytes rest =
-        ap (option_or (last_some part rest)) (other address bytes) ∙ or_nothing (last_some part rest)
+        ap (option_or (last_some part rest)) (other address bytes) ∙ or_none (last_some part rest)
 
     by : (c : Bool) (b address : ℕ) (bytes : List ℕ) (rest : List Effect)
         → last_some part (with_run c at b address bytes rest) ≡ last_some part (Bytes address bytes ∷ rest)

@@ -1,18 +1,11 @@
 -- Numbers that a test for equality accepts are equal, and equal numbers pass it.
-use Rattle.std.proofs.Common.{◌≡◌, ℕ, Option, Some, None, Bool, true, nat_eq, slice_get, option_to_list, refl, arith}
-use Rattle.std.proofs.lemmas.Bool.Decides.{nat_tests}
-use Rattle.base.proofs.Booleans.{and_true}
+use Rattle.std.proofs.Common.{◌≡◌, Option, Some, None, Bool, true, nat_eq, slice_get, option_to_list, refl}
+use Rattle.base.proofs.Booleans.{and_true, own_number}
 use Rattle.wasm_syntax.specs.declared.values.Val.{Val}
 use Rattle.wasm_syntax.specs.Alike.{type_byte, same_type}
 use Rattle.record_replay_spec.specs.Alike.{same_option, same_value}
 
-pub same_number : (a b : ℕ) → nat_eq a b ≡ true → a ≡ b
-same_number a b h = grind (arith, nat_tests, h)
-
 -- ---- equal values pass
-
-pub own_number : (a : ℕ) → nat_eq a a ≡ true
-own_number a = grind (arith, nat_tests)
 
 pub own_option : {X : Type 0} (same : X → X → Bool) → ((a : X) → same a a ≡ true) → (o : Option X)
     → same_option same o o ≡ true

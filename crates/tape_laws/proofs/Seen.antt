@@ -17,11 +17,11 @@ use Rattle.wasm_syntax.specs.Opcodes.{load_of, store_of}
 use Rattle.history_spec.specs.Store.{Store, Memory, Table, pages, zeros, bytes_at, with_items_at, with_bytes_at, with_entry, grown_memory_if, grown_table_if}
 use Rattle.history_spec.specs.Instantiation.{table_length}
 use Rattle.history_spec.specs.Instruction.{referent}
+use Rattle.history_spec.proofs.ByteNumbers.{length-bytes_of}
 use Rattle.record_replay_spec.specs.Known.{Known, byte_among, pages_of, carried_byte, carried_entry, known_after}
 use Rattle.record_replay_spec.specs.Observations.{Observation, Reads, Copies, Writes, Reaches, Resizes, ReadsEntry, WritesEntry, ReachesEntry, ResizesTable, ReadsGlobal, WritesGlobal, on, bits_from_top, size_observations, grow_observations, table_size_observations, table_grow_observations, load_observations, store_observations, copy_observations, entry_observations, set_observations, plain_observations, nest_observations}
 use Rattle.record_replay_spec.specs.StoreAnswers.{HasWholePages, Answers, AnswersAll}
 use Rattle.record_replay_spec.specs.Changes.{CanChange, CanChangeAll, with_pages}
-use Rattle.record_replay_spec.proofs.Memories.{bytes_of_length}
 use Rattle.tape_laws.proofs.Stores.{IsHere}
 use Rattle.tape_laws.proofs.Relation.{IsFound, IsSeen, AreSeen}
 
@@ -342,7 +342,7 @@ module _ (store : Store) where
         on_seen known (store_of at.op) _ (λ access has.
         on_seen known store.memory _ (λ memory is.
         seen_store memory is (whole_of memory is) known _ access.width _
-        (bytes_of_length access.width (bits_from_top values 0))))
+        (length-bytes_of access.width (bits_from_top values 0))))
     seen_plain values MemorySize sets =
         on_seen known store.memory size_observations (λ memory is a.
         (seen_resize memory is known (pages memory) (pages memory) a.0 (omega arith), tt))

@@ -3,6 +3,7 @@ use Rattle.std.proofs.Common.{◌≡◌, ℕ, ◌+◌, ◌-◌, ◌≤◌, List,
 use Rattle.std.specs.Prelude.{◌⊎◌, unwrap_or}
 use Rattle.std.specs.Option.{option_or}
 use Rattle.std.proofs.lemmas.Option.{none-some, same_Some}
+use Rattle.base.proofs.Booleans.{own_number}
 use Rattle.history_spec.specs.Store.{Store}
 use Rattle.history_spec.specs.Instantiation.{table_length}
 use Rattle.record_replay_spec.specs.Observations.{Observation, Reaches, Resizes, ReachesEntry, ResizesTable}
@@ -15,7 +16,7 @@ use Rattle.tape_laws.proofs.Relation.{IsSize, IsReadOf, IsSeen}
 use Rattle.tape_laws.proofs.Changes.{IsChangedBy, left_pages, left_entries, changed_by}
 use Rattle.tape_laws.proofs.Items.{one_byte, one_entry, one_global, size_found, pages_there, entries_there}
 use Rattle.tape_laws.proofs.StepItems.{read_of_all}
-use Rattle.tape_laws.proofs.Same.{own_number, own_option, own_value}
+use Rattle.tape_laws.proofs.Same.{own_option, own_value}
 use Rattle.tape_laws.proofs.Agrees.{SeesPages, SeesEntries, IsSettled}
 
 -- ---- one place

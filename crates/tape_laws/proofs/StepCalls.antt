@@ -5,7 +5,7 @@ use Rattle.std.specs.List.{slice_index_or}
 use Rattle.std.proofs.lemmas.Bool.Decides.{nat_tests}
 use Rattle.std.proofs.lemmas.List.{length-map, append-nil}
 use Rattle.std.proofs.lemmas.Option.{slice_get-map}
-use Rattle.wasm_syntax.specs.declared.limits.TheConstants.{MOST_PAGES}
+use Rattle.wasm_syntax.specs.declared.limits.TheConstants.{MAX_PAGES}
 use Rattle.wasm_syntax.specs.declared.values.ValType.{ValType}
 use Rattle.wasm_syntax.specs.declared.values.ValType.TheVariants.{I32}
 use Rattle.wasm_syntax.specs.declared.values.Val.{Val}
@@ -25,13 +25,13 @@ use Rattle.record_replay_spec.specs.Observations as replay
 use Rattle.record_replay_spec.specs.Observations.{Observation, ReadsEntry, ReachesEntry, ReadsGlobal, WritesGlobal, Resizes, bits_from_top, entry_observations, grow_observations, plain_observations}
 use Rattle.record_replay_spec.proofs.Operands.{AreOperands, popped, bits_same, one_typed}
 use Rattle.record_replay_spec.specs.Hooks.{HookCall, renumber, renumbered_table}
-use Rattle.record_replay_spec.specs.ToldCalls.{told_global, told_before, told_after, store_executed}
+use Rattle.record_replay_spec.specs.ReportedCalls.{reported_global, reported_before, reported_after, store_executed}
 use Rattle.record_replay_spec.specs.Hooks as hooks
 use Rattle.record_replay_spec.specs.Order.{HookedShape}
 use Rattle.record_replay_spec.specs.Logs.{value_of_global}
 use Rattle.record_replay_spec.specs.declared.hooks.Hook.TheVariants.{Gget, Gset}
-use Rattle.tape_laws.specs.ToldObservations.{is_mutable}
-use Rattle.tape_laws.proofs.CallObservations.{seen_by, as_told, load_calls, store_calls, copy_calls, fill_calls, size_calls}
+use Rattle.tape_laws.specs.ReportedObservations.{is_mutable}
+use Rattle.tape_laws.proofs.CallObservations.{seen_by, as_reported, load_calls, store_calls, copy_calls, fill_calls, size_calls}
 
 -- a global's value, with the type that the global is declared with
 pub record IsTypedGlobal (globals : List GlobalType) (x : ℕ) (value : Val) : Type 0 where
@@ -43,16 +43,16 @@ module _ (shape : HookedShape) (n : ℕ) (globals : List GlobalType) (same_globa
   abbrev seen : List HookCall → List Observation
   seen calls = seen_by shape n globals calls
 
-  abbrev told : List Observation → List Observation
-  told items = as_told shape n globals items
+  abbrev reported : List Observation → List Observation
+  reported items = as_reported shape n globals items
 
   -- ---- the table
 
-  table_as_told : (index : ℕ) (o : Option Table)
+  table_as_reported : (index : ℕ) (o : Option Table)
       → replay.on (option_map (renumbered_table n) o) (entry_observations index) ++ []
-      ≡ told (replay.on o (entry_observations index))
-  table_as_told index None = refl
-  table_as_told index (Some table) =
+      ≡ reported (replay.on o (entry_observations index))
+  table_as_reported index None = refl
+  table_as_reported index (Some table) =
       (λ i. ReachesEntry index (length-map table.entries (option_map (renumber n)) i)
       ∷ (replay.on (slice_get-map (option_map (renumber n)) table.entries index i) (λ func. ReadsEntry index func ∷ [])
       ++ []))
@@ -60,17 +60,17 @@ module _ (shape : HookedShape) (n : ℕ) (globals : List GlobalType) (same_globa
     where
       one : (o : Option (Option ℕ))
           → replay.on (option_map (option_map (renumber n)) o) (λ func. ReadsEntry index func ∷ []) ++ []
-          ≡ told (replay.on o (λ func. ReadsEntry index func ∷ []))
+          ≡ reported (replay.on o (λ func. ReadsEntry index func ∷ []))
       one None = refl
       one (Some func) = refl
 
   table_calls : (store : Store) (values operands : List Val) (params : List ValType) (t : ℕ)
       → AreOperands (params ++ I32 ∷ []) values operands
-      → seen (told_before (instrs.CallIndirect t) operands store)
-      ≡ told (plain_observations store values (instrs.CallIndirect t))
+      → seen (reported_before (instrs.CallIndirect t) operands store)
+      ≡ reported (plain_observations store values (instrs.CallIndirect t))
   table_calls store values operands params t are =
-      table_as_told (bits_at operands (length operands - 1)) store.table
-      ∙ ap (λ index. told (replay.on store.table (entry_observations index)))
+      table_as_reported (bits_at operands (length operands - 1)) store.table
+      ∙ ap (λ index. reported (replay.on store.table (entry_observations index)))
       (bits_same are (length operands - 1) 0
       (let number = are.number in
       let long = length-append params (I32 ∷ []) in
@@ -80,107 +80,107 @@ module _ (shape : HookedShape) (n : ℕ) (globals : List GlobalType) (same_globa
 
   module _ (store : Store) (values : List Val) where
     -- the hook calls of an execution observe what its instruction observes
-    abbrev pub IsToldBy : Instr → Execution → Type 0
-    IsToldBy i (Did operands results found control) =
+    abbrev pub IsReportedBy : Instr → Execution → Type 0
+    IsReportedBy i (Did operands results found control) =
         seen
-        (told_before i operands store
-        ++ told_after globals i results (store_executed store (Did operands results found control)))
-        ≡ told (plain_observations store values i)
-    IsToldBy i (Traps kind operands found) =
-        seen (told_before i operands store) ≡ told (plain_observations store values i)
-    IsToldBy i NoRule = Unit {0}
+        (reported_before i operands store
+        ++ reported_after globals i results (store_executed store (Did operands results found control)))
+        ≡ reported (plain_observations store values i)
+    IsReportedBy i (Traps kind operands found) =
+        seen (reported_before i operands store) ≡ reported (plain_observations store values i)
+    IsReportedBy i NoRule = Unit {0}
 
-    pub record IsTold (i : Instr) (e : Execution) : Type 0 where
-      pub told : IsToldBy i e
+    pub record IsReported (i : Instr) (e : Execution) : Type 0 where
+      pub reported : IsReportedBy i e
 
-    on_told : {X : Type 0} (i : Instr) (o : Option X) (go : X → Execution)
-        → ((x : X) → o ≡ Some x → IsTold i (go x)) → IsTold i (on o go)
-    on_told i None go each = record { told = tt }
-    on_told i (Some x) go each = each x refl
+    on_reported : {X : Type 0} (i : Instr) (o : Option X) (go : X → Execution)
+        → ((x : X) → o ≡ Some x → IsReported i (go x)) → IsReported i (on o go)
+    on_reported i None go each = record { reported = tt }
+    on_reported i (Some x) go each = each x refl
 
     -- an instruction without hook calls that observes nothing
-    silent : (i : Instr) → ((operands : List Val) → told_before i operands store ≡ [])
-        → ((results : List Val) (view : Store) → told_after globals i results view ≡ [])
-        → plain_observations store values i ≡ [] → (e : Execution) → IsTold i e
+    silent : (i : Instr) → ((operands : List Val) → reported_before i operands store ≡ [])
+        → ((results : List Val) (view : Store) → reported_after globals i results view ≡ [])
+        → plain_observations store values i ≡ [] → (e : Execution) → IsReported i e
     silent i before after none (Did operands results found control) = record {
-      told =
+      reported =
           (λ j. seen (before operands j ++ after results (store_executed store (Did operands results found control)) j))
-          ∙ sym (ap told none);
+          ∙ sym (ap reported none);
     }
     silent i before after none (Traps kind operands found) =
-        record { told = ap seen (before operands) ∙ sym (ap told none) }
-    silent i before after none NoRule = record { told = tt }
+        record { reported = ap seen (before operands) ∙ sym (ap reported none) }
+    silent i before after none NoRule = record { reported = tt }
 
     -- an instruction whose hook calls all come before it
-    all_before : (calls : List HookCall) (items : List Observation) → seen calls ≡ told items
-        → seen (calls ++ []) ≡ told items
+    all_before : (calls : List HookCall) (items : List Observation) → seen calls ≡ reported items
+        → seen (calls ++ []) ≡ reported items
     all_before calls items h = ap seen (append-nil calls) ∙ h
 
     module _ (code : Code) (frame : Frame) (next : Place) where
-      load_told : (at : MemArg) (memory : Memory) (access : Access) (p : Operands) → pop (I32 ∷ []) values ≡ Some p
+      load_reported : (at : MemArg) (memory : Memory) (access : Access) (p : Operands) → pop (I32 ∷ []) values ≡ Some p
           → (o : Option (List ℕ))
-          → IsTold (instrs.Load at) (load_result store frame next memory access p.operands p.rest o)
-      load_told at memory access p e None =
-          record { told = load_calls shape n globals store values p.operands at (popped (I32 ∷ []) values p e) }
-      load_told at memory access p e (Some bytes) =
+          → IsReported (instrs.Load at) (load_result store frame next memory access p.operands p.rest o)
+      load_reported at memory access p e None =
+          record { reported = load_calls shape n globals store values p.operands at (popped (I32 ∷ []) values p e) }
+      load_reported at memory access p e (Some bytes) =
           record {
-            told =
-                all_before (told_before (instrs.Load at) p.operands store)
+            reported =
+                all_before (reported_before (instrs.Load at) p.operands store)
                 (plain_observations store values (instrs.Load at))
                 (load_calls shape n globals store values p.operands at (popped (I32 ∷ []) values p e));
           }
 
-      store_told : (i : Instr) (memory : Memory) (operands rest : List Val)
-          → seen (told_before i operands store) ≡ told (plain_observations store values i)
-          → ((view : Store) → told_after globals i [] view ≡ []) → (o : Option (List ℕ))
-          → IsTold i (store_result store frame next memory operands rest o)
-      store_told i memory operands rest h after None = record { told = h }
-      store_told i memory operands rest h after (Some bytes) =
+      store_reported : (i : Instr) (memory : Memory) (operands rest : List Val)
+          → seen (reported_before i operands store) ≡ reported (plain_observations store values i)
+          → ((view : Store) → reported_after globals i [] view ≡ []) → (o : Option (List ℕ))
+          → IsReported i (store_result store frame next memory operands rest o)
+      store_reported i memory operands rest h after None = record { reported = h }
+      store_reported i memory operands rest h after (Some bytes) =
           record {
-            told =
-                ap (λ l. seen (told_before i operands store ++ l)) (after _)
-                ∙ all_before (told_before i operands store) (plain_observations store values i) h;
+            reported =
+                ap (λ l. seen (reported_before i operands store ++ l)) (after _)
+                ∙ all_before (reported_before i operands store) (plain_observations store values i) h;
           }
 
-      call_if_told : (t : ℕ) (operands rest : List Val) (func : ℕ) (args : List Val)
-          → seen (told_before (instrs.CallIndirect t) operands store)
-          ≡ told (plain_observations store values (instrs.CallIndirect t)) → (b : Bool)
-          → IsTold (instrs.CallIndirect t) (calls_if b frame next operands rest func args)
-      call_if_told t operands rest func args h true =
+      call_if_reported : (t : ℕ) (operands rest : List Val) (func : ℕ) (args : List Val)
+          → seen (reported_before (instrs.CallIndirect t) operands store)
+          ≡ reported (plain_observations store values (instrs.CallIndirect t)) → (b : Bool)
+          → IsReported (instrs.CallIndirect t) (calls_if b frame next operands rest func args)
+      call_if_reported t operands rest func args h true =
           record {
-            told =
-                all_before (told_before (instrs.CallIndirect t) operands store)
+            reported =
+                all_before (reported_before (instrs.CallIndirect t) operands store)
                 (plain_observations store values (instrs.CallIndirect t)) h;
           }
-      call_if_told t operands rest func args h false = record { told = h }
+      call_if_reported t operands rest func args h false = record { reported = h }
 
-      entry_told : (t : ℕ) (ty : FuncType) (table : Table) (operands rest : List Val)
-          → seen (told_before (instrs.CallIndirect t) operands store)
-          ≡ told (plain_observations store values (instrs.CallIndirect t)) → (o : Option (Option ℕ))
-          → IsTold (instrs.CallIndirect t) (calls_entry code ty frame next table operands rest o)
-      entry_told t ty table operands rest h None = record { told = h }
-      entry_told t ty table operands rest h (Some None) = record { told = h }
-      entry_told t ty table operands rest h (Some (Some func)) =
-          on_told (instrs.CallIndirect t) (signature code func) _ (λ found e.
-          call_if_told t operands rest func (take (length ty.params) operands) h (same_signature ty found))
+      entry_reported : (t : ℕ) (ty : FuncType) (table : Table) (operands rest : List Val)
+          → seen (reported_before (instrs.CallIndirect t) operands store)
+          ≡ reported (plain_observations store values (instrs.CallIndirect t)) → (o : Option (Option ℕ))
+          → IsReported (instrs.CallIndirect t) (calls_entry code ty frame next table operands rest o)
+      entry_reported t ty table operands rest h None = record { reported = h }
+      entry_reported t ty table operands rest h (Some None) = record { reported = h }
+      entry_reported t ty table operands rest h (Some (Some func)) =
+          on_reported (instrs.CallIndirect t) (signature code func) _ (λ found e.
+          call_if_reported t operands rest func (take (length ty.params) operands) h (same_signature ty found))
 
       -- the hook call after a growth reports the size that the growth finds
-      grow_told : (memory : Memory) → store.memory ≡ Some memory → pages memory ≤ MOST_PAGES → (p : Operands)
+      grow_reported : (memory : Memory) → store.memory ≡ Some memory → pages memory ≤ MAX_PAGES → (p : Operands)
           → pop (I32 ∷ []) values ≡ Some p → (o : Option Memory) → grown_memory memory (bits_at p.operands 0) ≡ o
-          → IsTold instrs.MemoryGrow (grow_result store frame next memory p.operands p.rest o)
-      grow_told memory is small p e o g = record { told = go o g }
+          → IsReported instrs.MemoryGrow (grow_result store frame next memory p.operands p.rest o)
+      grow_reported memory is small p e o g = record { reported = go o g }
         where
           found : (o : Option Memory) → grown_memory memory (bits_at p.operands 0) ≡ o
               → Resizes (pages memory) (pages (unwrap_or o memory)) ∷ []
-              ≡ told (plain_observations store values instrs.MemoryGrow)
+              ≡ reported (plain_observations store values instrs.MemoryGrow)
           found o g =
               ap (λ (o : Option Memory). Resizes (pages memory) (pages (unwrap_or o memory)) ∷ [])
               (sym g ∙ ap (grown_memory memory)
               (bits_same {types = I32 ∷ []} (popped (I32 ∷ []) values p e) 0 0 refl))
-              ∙ sym (ap (λ (m : Option Memory). told (replay.on m (grow_observations (bits_from_top values 0)))) is)
+              ∙ sym (ap (λ (m : Option Memory). reported (replay.on m (grow_observations (bits_from_top values 0)))) is)
 
           go : (o : Option Memory) → grown_memory memory (bits_at p.operands 0) ≡ o
-              → IsToldBy instrs.MemoryGrow (grow_result store frame next memory p.operands p.rest o)
+              → IsReportedBy instrs.MemoryGrow (grow_result store frame next memory p.operands p.rest o)
           go None g =
               ap (λ (m : Option Memory). replay.on m (λ memory. Resizes (pages memory) (pages memory) ∷ []) ++ []) is
               ∙ found None g
@@ -190,23 +190,23 @@ module _ (shape : HookedShape) (n : ℕ) (globals : List GlobalType) (same_globa
               ∙ found (Some larger) g
 
       -- a global is read
-      get_told : (x : ℕ) (value : Val) (after : Frame) → slice_get store.globals x ≡ Some value
+      get_reported : (x : ℕ) (value : Val) (after : Frame) → slice_get store.globals x ≡ Some value
           → IsTypedGlobal globals x value
-          → IsTold (instrs.GlobalGet x)
+          → IsReported (instrs.GlobalGet x)
           (Did [] (value ∷ []) None (Goes store after))
-      get_told x value after is typed = record {
-        told =
+      get_reported x value after is typed = record {
+        reported =
             ap
             (λ (o : Option GlobalType). seen
-            (hooks.on o (λ ty. cond ty.mutable (told_global Gget x value.bits store) [])))
+            (hooks.on o (λ ty. cond ty.mutable (reported_global Gget x value.bits store) [])))
             typed.declared
             ∙ by typed.ty.mutable
             ∙ sym
-            (ap (λ (o : Option Val). told (replay.on o (λ value. ReadsGlobal x value ∷ []))) is
+            (ap (λ (o : Option Val). reported (replay.on o (λ value. ReadsGlobal x value ∷ []))) is
             ∙ ap (λ (o : Option GlobalType). cond (is_mutable o) (ReadsGlobal x value ∷ []) [] ++ []) typed.declared);
       }
         where
-          by : (b : Bool) → seen (cond b (told_global Gget x value.bits store) [])
+          by : (b : Bool) → seen (cond b (reported_global Gget x value.bits store) [])
               ≡ cond b (ReadsGlobal x value ∷ []) [] ++ []
           by true =
               ap
@@ -217,10 +217,10 @@ module _ (shape : HookedShape) (n : ℕ) (globals : List GlobalType) (same_globa
           by false = refl
 
       -- a global is set
-      set_told : (x : ℕ) (old : Val) → IsTypedGlobal globals x old → (p : Operands) → pop (old.ty ∷ []) values ≡ Some p
-          → seen (told_global Gset x (bits_at p.operands 0) store ++ [])
-          ≡ told (replay.on (slice_get values 0) (λ value. WritesGlobal x value ∷ []))
-      set_told x old typed p e =
+      set_reported : (x : ℕ) (old : Val) → IsTypedGlobal globals x old → (p : Operands) → pop (old.ty ∷ []) values ≡ Some p
+          → seen (reported_global Gset x (bits_at p.operands 0) store ++ [])
+          ≡ reported (replay.on (slice_get values 0) (λ value. WritesGlobal x value ∷ []))
+      set_reported x old typed p e =
           let are = popped (old.ty ∷ []) values p e in
           let value = slice_index_or p.operands 0 (i32_value 0) in
           ap
@@ -230,78 +230,78 @@ module _ (shape : HookedShape) (n : ℕ) (globals : List GlobalType) (same_globa
           ∙ ap (λ t. WritesGlobal x (record { ty = t; bits = value.bits }) ∷ [])
           (typed.typed ∙ sym (one_typed p.operands old.ty (i32_value 0) are.typed))
           ∙ sym
-          (ap (λ (o : Option Val). told (replay.on o (λ value. WritesGlobal x value ∷ [])))
+          (ap (λ (o : Option Val). reported (replay.on o (λ value. WritesGlobal x value ∷ [])))
           (are.at 0 0 (i32_value 0) refl))
 
     -- ---- any instruction
 
     module _ (code : Code) (frame : Frame) (next : Place) (same_values : frame.values ≡ values)
         (typed : (x : ℕ) (value : Val) → slice_get store.globals x ≡ Some value → IsTypedGlobal globals x value)
-        (small : (memory : Memory) → store.memory ≡ Some memory → pages memory ≤ MOST_PAGES) where
+        (small : (memory : Memory) → store.memory ≡ Some memory → pages memory ≤ MAX_PAGES) where
       popped_is : (types : List ValType) (p : Operands) → pop types frame.values ≡ Some p → pop types values ≡ Some p
       popped_is types p h = ap (pop types) (sym same_values) ∙ h
 
       -- a range of bytes is written, by three operands
-      range_told : (i : Instr) (written : Memory → Operands → Option (List ℕ))
+      range_reported : (i : Instr) (written : Memory → Operands → Option (List ℕ))
           → ((p : Operands) → pop (I32 ∷ I32 ∷ I32 ∷ []) values ≡ Some p
-          → seen (told_before i p.operands store) ≡ told (plain_observations store values i))
-          → ((view : Store) → told_after globals i [] view ≡ [])
-          → IsTold i
+          → seen (reported_before i p.operands store) ≡ reported (plain_observations store values i))
+          → ((view : Store) → reported_after globals i [] view ≡ [])
+          → IsReported i
           (on store.memory (λ memory. on (pop (I32 ∷ I32 ∷ I32 ∷ []) frame.values)
           (λ p. store_result store frame next memory p.operands p.rest (written memory p))))
-      range_told i written before after =
-          on_told i store.memory _ (λ memory is.
-          on_told i (pop (I32 ∷ I32 ∷ I32 ∷ []) frame.values) _ (λ p e.
-          store_told code frame next i memory p.operands p.rest (before p (popped_is (I32 ∷ I32 ∷ I32 ∷ []) p e)) after
+      range_reported i written before after =
+          on_reported i store.memory _ (λ memory is.
+          on_reported i (pop (I32 ∷ I32 ∷ I32 ∷ []) frame.values) _ (λ p e.
+          store_reported code frame next i memory p.operands p.rest (before p (popped_is (I32 ∷ I32 ∷ I32 ∷ []) p e)) after
           (written memory p)))
 
-      pub plain_told : (i : Instr) → IsCoreInstr i → IsTold i (execute_plain code store frame next i)
-      plain_told (instrs.Call func) h = called (execute_plain code store frame next (instrs.Call func))
+      pub plain_reported : (i : Instr) → IsCoreInstr i → IsReported i (execute_plain code store frame next i)
+      plain_reported (instrs.Call func) h = called (execute_plain code store frame next (instrs.Call func))
         where
-          called : (e : Execution) → IsTold (instrs.Call func) e
-          called (Did operands results found control) = record { told = refl }
-          called (Traps kind operands found) = record { told = refl }
-          called NoRule = record { told = tt }
-      plain_told (instrs.CallIndirect t) h =
-          on_told (instrs.CallIndirect t) (slice_get code.types t) _ (λ ty y.
-          on_told (instrs.CallIndirect t) store.table _ (λ table is.
-          on_told (instrs.CallIndirect t) (pop (ty.params ++ I32 ∷ []) frame.values) _ (λ p e.
-          entry_told code frame next t ty table p.operands p.rest
+          called : (e : Execution) → IsReported (instrs.Call func) e
+          called (Did operands results found control) = record { reported = refl }
+          called (Traps kind operands found) = record { reported = refl }
+          called NoRule = record { reported = tt }
+      plain_reported (instrs.CallIndirect t) h =
+          on_reported (instrs.CallIndirect t) (slice_get code.types t) _ (λ ty y.
+          on_reported (instrs.CallIndirect t) store.table _ (λ table is.
+          on_reported (instrs.CallIndirect t) (pop (ty.params ++ I32 ∷ []) frame.values) _ (λ p e.
+          entry_reported code frame next t ty table p.operands p.rest
           (table_calls store values p.operands ty.params t (popped (ty.params ++ I32 ∷ []) values p (popped_is (ty.params ++ I32 ∷ []) p e))) _)))
-      plain_told (instrs.Load at) h =
-          on_told (instrs.Load at) (load_of at.op) _ (λ access a.
-          on_told (instrs.Load at) store.memory _ (λ memory is.
-          on_told (instrs.Load at) (pop (I32 ∷ []) frame.values) _ (λ p e.
-          load_told code frame next at memory access p (popped_is (I32 ∷ []) p e) _)))
-      plain_told (instrs.Store at) h =
-          on_told (instrs.Store at) (store_of at.op) _ (λ access a.
-          on_told (instrs.Store at) store.memory _ (λ memory is.
-          on_told (instrs.Store at) (pop (I32 ∷ access.ty ∷ []) frame.values) _ (λ p e.
-          store_told code frame next (instrs.Store at) memory p.operands p.rest
+      plain_reported (instrs.Load at) h =
+          on_reported (instrs.Load at) (load_of at.op) _ (λ access a.
+          on_reported (instrs.Load at) store.memory _ (λ memory is.
+          on_reported (instrs.Load at) (pop (I32 ∷ []) frame.values) _ (λ p e.
+          load_reported code frame next at memory access p (popped_is (I32 ∷ []) p e) _)))
+      plain_reported (instrs.Store at) h =
+          on_reported (instrs.Store at) (store_of at.op) _ (λ access a.
+          on_reported (instrs.Store at) store.memory _ (λ memory is.
+          on_reported (instrs.Store at) (pop (I32 ∷ access.ty ∷ []) frame.values) _ (λ p e.
+          store_reported code frame next (instrs.Store at) memory p.operands p.rest
           (store_calls shape n globals store values p.operands access.ty at (popped (I32 ∷ access.ty ∷ []) values p (popped_is (I32 ∷ access.ty ∷ []) p e)))
           (λ view. refl) _)))
-      plain_told instrs.MemoryCopy h =
-          range_told instrs.MemoryCopy _ (λ p e. copy_calls shape n globals store values p.operands
+      plain_reported instrs.MemoryCopy h =
+          range_reported instrs.MemoryCopy _ (λ p e. copy_calls shape n globals store values p.operands
           (popped (I32 ∷ I32 ∷ I32 ∷ []) values p e)) (λ view. refl)
-      plain_told instrs.MemoryFill h =
-          range_told instrs.MemoryFill _ (λ p e. fill_calls shape n globals store values p.operands
+      plain_reported instrs.MemoryFill h =
+          range_reported instrs.MemoryFill _ (λ p e. fill_calls shape n globals store values p.operands
           (popped (I32 ∷ I32 ∷ I32 ∷ []) values p e)) (λ view. refl)
-      plain_told instrs.MemorySize h =
-          on_told instrs.MemorySize store.memory _ (λ memory is. record { told = size_calls shape n globals store values })
-      plain_told instrs.MemoryGrow h =
-          on_told instrs.MemoryGrow store.memory _ (λ memory is.
-          on_told instrs.MemoryGrow (pop (I32 ∷ []) frame.values) _ (λ p e.
-          grow_told code frame next memory is (small memory is) p (popped_is (I32 ∷ []) p e) _ refl))
-      plain_told (instrs.GlobalGet x) h =
-          on_told (instrs.GlobalGet x) (slice_get store.globals x) _ (λ value is.
-          get_told code frame next x value _ is (typed x value is))
-      plain_told (instrs.GlobalSet x) h =
-          on_told (instrs.GlobalSet x) (slice_get store.globals x) _ (λ old is.
-          on_told (instrs.GlobalSet x) (pop (old.ty ∷ []) frame.values) _ (λ p e.
-          record { told = set_told code frame next x old (typed x old is) p (popped_is (old.ty ∷ []) p e) }))
-      plain_told instrs.RefNull h = absurd h
-      plain_told (instrs.RefFunc func) h = absurd h
-      plain_told (instrs.TableSet t) h = absurd h
-      plain_told (instrs.TableGrow t) h = absurd h
-      plain_told (instrs.TableSize t) h = absurd h
-      plain_told i h = silent i (λ operands. refl) (λ results view. refl) refl (execute_plain code store frame next i)
+      plain_reported instrs.MemorySize h =
+          on_reported instrs.MemorySize store.memory _ (λ memory is. record { reported = size_calls shape n globals store values })
+      plain_reported instrs.MemoryGrow h =
+          on_reported instrs.MemoryGrow store.memory _ (λ memory is.
+          on_reported instrs.MemoryGrow (pop (I32 ∷ []) frame.values) _ (λ p e.
+          grow_reported code frame next memory is (small memory is) p (popped_is (I32 ∷ []) p e) _ refl))
+      plain_reported (instrs.GlobalGet x) h =
+          on_reported (instrs.GlobalGet x) (slice_get store.globals x) _ (λ value is.
+          get_reported code frame next x value _ is (typed x value is))
+      plain_reported (instrs.GlobalSet x) h =
+          on_reported (instrs.GlobalSet x) (slice_get store.globals x) _ (λ old is.
+          on_reported (instrs.GlobalSet x) (pop (old.ty ∷ []) frame.values) _ (λ p e.
+          record { reported = set_reported code frame next x old (typed x old is) p (popped_is (old.ty ∷ []) p e) }))
+      plain_reported instrs.RefNull h = absurd h
+      plain_reported (instrs.RefFunc func) h = absurd h
+      plain_reported (instrs.TableSet t) h = absurd h
+      plain_reported (instrs.TableGrow t) h = absurd h
+      plain_reported (instrs.TableSize t) h = absurd h
+      plain_reported i h = silent i (λ operands. refl) (λ results view. refl) refl (execute_plain code store frame next i)

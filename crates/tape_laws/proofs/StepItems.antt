@@ -2,7 +2,7 @@
 use Rattle.std.proofs.Common.{◌≡◌, ℕ, List, [], ◌∷◌, ◌++◌, Option, Some, None, ◌&&◌, nat_le, slice_get, refl, sym, ap, ◌∙◌, subst}
 use Rattle.std.specs.Prelude.{option_map, unwrap_or}
 use Rattle.std.proofs.lemmas.Option.{none-some, same_Some}
-use Rattle.wasm_syntax.specs.declared.limits.TheConstants.{MOST_ENTRIES, MOST_PAGES}
+use Rattle.wasm_syntax.specs.declared.limits.TheConstants.{MAX_ENTRIES, MAX_PAGES}
 use Rattle.wasm_syntax.specs.declared.values.Val.{Val}
 use Rattle.host_script.specs.Supply.{is_within}
 use Rattle.history_spec.specs.Store.{Store, Memory, Table}
@@ -81,13 +81,13 @@ module _ (store other : Store) (same : maxima other ≡ maxima store) where
       → BothOrNeither AllowSamePages o p
   same_pages =
       both_alike (λ m. m.max) AllowSamePages
-      (λ m n e size. ap (λ max. is_within size max && nat_le size MOST_PAGES) e)
+      (λ m n e size. ap (λ max. is_within size max && nat_le size MAX_PAGES) e)
 
   pub same_entries : (o p : Option Table) → option_map (λ t. t.max) p ≡ option_map (λ t. t.max) o
       → BothOrNeither AllowSameEntries o p
   same_entries =
       both_alike (λ t. t.max) AllowSameEntries
-      (λ t u e size. ap (λ max. is_within size max && nat_le size MOST_ENTRIES) e)
+      (λ t u e size. ap (λ max. is_within size max && nat_le size MAX_ENTRIES) e)
 
   -- the stores are of one kind
   pub of_same_kind : (known : Known) (later : List Observation) → IsKnownOf known store → IsReadOf known later store

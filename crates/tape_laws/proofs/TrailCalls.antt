@@ -28,12 +28,12 @@ use Rattle.tape_laws.proofs.Relation.{IsKnownOf}
 use Rattle.tape_laws.proofs.HostStores.{host_change, known_of_change}
 use Rattle.tape_laws.specs.RealReads.{observed_from}
 use Rattle.record_replay_spec.specs.Order.{HookedShape}
-use Rattle.record_replay_spec.specs.ToldCalls.{store_performed}
+use Rattle.record_replay_spec.specs.ReportedCalls.{store_performed}
 use Rattle.tape_laws.proofs.CoreFrames.{CoreStack, core_definition}
 use Rattle.tape_laws.proofs.Mirrors.{Mirrors, IsHost, host_on_top, any_callee, host_enters}
 use Rattle.tape_laws.proofs.Trails.{Level, AtFunction, AtImport, AtCall, call_level, with_top_entered}
 use Rattle.tape_laws.proofs.TrailsOfRuns as trails
-use Rattle.tape_laws.proofs.TrailsOfRuns.{Told, Delivers}
+use Rattle.tape_laws.proofs.TrailsOfRuns.{Reported, Delivers}
 use Rattle.tape_laws.proofs.ModuleFacts.{entered_frame}
 
 module _ (m : Module) (heights : Heights) (typed : IsTypedCode m heights) (core : IsCoreModule m)
@@ -51,16 +51,16 @@ module _ (m : Module) (heights : Heights) (typed : IsTypedCode m heights) (core 
         → signature (code_of m) func ≡ Some ty → n ≤ func → AreValues (func_count m) ty.params args → IsStore m store
         → IsKnownOf known store → length counts ≡ n → Accept m heights stack ty.results → CoreStack stack
         → Mirrors n (Some func) stack levels
-        → Told m heights answers shape k instr before store (enter_function (code_of m) store counts func args stack)
+        → Reported m heights answers shape k instr before store (enter_function (code_of m) store counts func args stack)
         (AtFunction func ∷ levels) known
     entered func ty args stack store counts levels known instr before has_type own p is of count a c mirrors =
         let b = typed.bodies func ty own has_type in
         subst
-        (λ o. Told m heights answers shape k instr before store (enter_defined o (definition (code_of m) func) store counts func args stack)
+        (λ o. Reported m heights answers shape k instr before store (enter_defined o (definition (code_of m) func) store counts func args stack)
         (AtFunction func ∷ levels) known)
         (sym has_type)
         (subst
-        (λ o. Told m heights answers shape k instr before store (enter_defined (Some ty) o store counts func args stack)
+        (λ o. Reported m heights answers shape k instr before store (enter_defined (Some ty) o store counts func args stack)
         (AtFunction func ∷ levels) known)
         (sym b.1)
         (delivers (InModule (frame_of func ty b.0 args) ∷ stack) [] [] store counts (AtFunction func ∷ levels) known instr
@@ -74,7 +74,7 @@ module _ (m : Module) (heights : Heights) (typed : IsTypedCode m heights) (core 
         → IsKnownOf known store → length counts ≡ n → Accept m heights (InModule waiting ∷ below) ty.results
         → CoreStack (InModule waiting ∷ below) → Mirrors n (Some waiting.func) below lower
         → (b : Bool) → nat_lt func n ≡ b
-        → Told m heights answers shape k instr before store (call_function program b store counts func args (InModule waiting ∷ below))
+        → Reported m heights answers shape k instr before store (call_function program b store counts func args (InModule waiting ∷ below))
         (call_level b direct func args ∷ AtFunction waiting.func ∷ lower) known
     called func ty args direct waiting below store counts lower known instr before has_type p is of count a c mirrors
         false e =
@@ -111,7 +111,7 @@ module _ (m : Module) (heights : Heights) (typed : IsTypedCode m heights) (core 
         stack = InModule waiting ∷ below
 
         go : (o : Option Response) → response_to answers func (slice_index counts func) ≡ o
-            → Told m heights answers shape k instr before store (answer_call o store counts func args stack) levels known
+            → Reported m heights answers shape k instr before store (answer_call o store counts func args stack) levels known
         go None r = trails.fault_trail m heights answers shape k levels known store _
         go (Some response) r =
             let fit = response_fits m answers func (slice_index counts func) ty response fits has_type r in
@@ -151,7 +151,7 @@ module _ (m : Module) (heights : Heights) (typed : IsTypedCode m heights) (core 
         → IsHost stack → ((types : List ValType) → Accept m heights stack types) → IsStore m store
         → IsKnownOf known store → length counts ≡ n → CoreStack stack → Mirrors n None stack levels
         → (r : ActionResult) → perform (code_of m) store args action ≡ r → IsActionResult m r
-        → Told m heights answers shape k instr before (store_performed store r)
+        → Reported m heights answers shape k instr before (store_performed store r)
         (after_action program (record { store = store; stack = config.stack; counts = counts }) stack r) levels known
     acted stack store counts levels known instr before args action config s t host a is of count c mirrors
         (Changes after) e fine =

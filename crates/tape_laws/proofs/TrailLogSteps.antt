@@ -27,8 +27,8 @@ use Rattle.record_replay_spec.specs.Hooks.{HookCall}
 use Rattle.record_replay_spec.specs.Logs.{LogState, log_after_all, all_observed_events, events_from}
 use Rattle.record_replay_spec.specs.LogTapes.{Begins as BeginsMark, InCall, mark_if, is_trapped_call, marks_from}
 use Rattle.record_replay_spec.specs.Order.{HookedShape}
-use Rattle.record_replay_spec.specs.ToldCalls.{Moment, WaitingCall, told_calls, told_number, told_by_step, waiting_after_step}
-use Rattle.tape_laws.proofs.CallObservations.{seen_by, as_told}
+use Rattle.record_replay_spec.specs.ReportedCalls.{Moment, WaitingCall, reported_calls, reported_number, reported_by_step, waiting_after_step}
+use Rattle.tape_laws.proofs.CallObservations.{seen_by, as_reported}
 use Rattle.tape_laws.proofs.CallOrder as orders
 use Rattle.tape_laws.proofs.Trails.{Level, AtFunction, AtCall, call_level, waiting_calls, IsOfCore, Leads, Stays, Direct, Indirect, IsTrail}
 use Rattle.tape_laws.proofs.CallOrder.{IsHooked, renumbered, state}
@@ -36,27 +36,27 @@ use Rattle.tape_laws.proofs.CallLogs as logs
 use Rattle.tape_laws.proofs.ItemEvents.{Keeps}
 use Rattle.tape_laws.proofs.ItemSteps.{keeps_after_all, agrees_all}
 use Rattle.tape_laws.proofs.TrailLogs as trail_logs
-use Rattle.tape_laws.proofs.LogMarks.{log_frames, CallOnTop, IsSizeTold, ModuleAgrees, AgreesBy, AgreesAt}
+use Rattle.tape_laws.proofs.LogMarks.{log_frames, CallOnTop, IsSizeReported, ModuleAgrees, AgreesBy, AgreesAt}
 use Rattle.tape_laws.proofs.CallLogs.{Logged}
-use Rattle.tape_laws.proofs.TrailLogs.{Stands, Tells_by, Tells, Rest, FirstTells}
+use Rattle.tape_laws.proofs.TrailLogs.{Stands, Reports_by, Reports, Rest, FirstReports}
 
 module _ (m : Module) (shape : HookedShape) (hooked : IsHooked m shape) (outcome : Outcome) where
   abbrev n : ℕ
   n = imported_funcs m
 
-  abbrev told : List Observation → List Observation
-  told items = as_told shape n (all_globals m) items
+  abbrev reported : List Observation → List Observation
+  reported items = as_reported shape n (all_globals m) items
 
   -- a call that begins has the events of a call of any function
   as_call : (imported direct : Bool) (callee : ℕ) (args : List Val) (levels : List Level) (entries : ℕ) (st : LogState)
       (later : List Moment) (found : List Event)
       → ((at : ℕ)
       → events_from shape (state (call_level imported direct callee args ∷ levels) [] entries) st at
-      (renumbered m (told_calls (all_globals m) (waiting_calls (call_level imported direct callee args ∷ levels)) later))
+      (renumbered m (reported_calls (all_globals m) (waiting_calls (call_level imported direct callee args ∷ levels)) later))
       ≡ Ok found)
       → (at : ℕ)
       → events_from shape (state (AtCall direct callee false args ∷ levels) [] entries) st at
-      (renumbered m (told_calls (all_globals m) (waiting_calls (AtCall direct callee false args ∷ levels)) later))
+      (renumbered m (reported_calls (all_globals m) (waiting_calls (AtCall direct callee false args ∷ levels)) later))
       ≡ Ok found
   as_call true direct callee args levels entries st later found h = h
   as_call false direct callee args levels entries st later found h = h
@@ -111,77 +111,77 @@ module _ (m : Module) (shape : HookedShape) (hooked : IsHooked m shape) (outcome
     known_next = known_after_all known items
 
     abbrev st_next : LogState
-    st_next = log_after_all st (told items)
+    st_next = log_after_all st (reported items)
 
-    kept_at : (size : ℕ) → IsSizeTold size known st → Keeps n (all_globals m) known moment.before st size
-    kept_at size size_told =
+    kept_at : (size : ℕ) → IsSizeReported size known st → Keeps n (all_globals m) known moment.before st size
+    kept_at size size_reported =
         record {
-          told = stands.told;
+          reported = stands.reported;
           immutable = stands.immutable;
           real = stands.real tt;
-          size_told = size_told;
+          size_reported = size_reported;
         }
 
-    kept_next : (size : ℕ) → IsSizeTold size known st
+    kept_next : (size : ℕ) → IsSizeReported size known st
         → Keeps n (all_globals m) known_next (with_changes moment.before items) st_next size
-    kept_next size size_told =
-        keeps_after_all n (all_globals m) (hooked.back n) size known moment.before st items (kept_at size size_told) are core
+    kept_next size size_reported =
+        keeps_after_all n (all_globals m) (hooked.back n) size known moment.before st items (kept_at size size_reported) are core
 
     stands_next : Stands m shape outcome after known_next moment.after st_next
     stands_next =
         let k = kept_next st.noticed (inl refl) in
         record {
-          told = k.told;
+          reported = k.reported;
           immutable = λ at i. k.immutable at i ∙ sym (ap (λ (s : Store). slice_get s.globals at) changed);
           real = λ w. k.real ∙ sym (ap (λ (s : Store). pages_of s.memory) changed);
         }
 
-    r : Tells m shape outcome after known_next moment.after obs st_next later
+    r : Reports m shape outcome after known_next moment.after obs st_next later
     r = rest after known_next moment.after obs st_next follows stands_next
 
     -- if the marks of what follows agree with its observations, so do all marks
-    all_agree : (size : ℕ) (more : List Event) → IsSizeTold size known st
+    all_agree : (size : ℕ) (more : List Event) → IsSizeReported size known st
         → ModuleAgrees known_next moment.after obs (marks_from n outcome (log_frames top) size more)
         → ModuleAgrees known moment.before (items ++ obs)
-        (marks_from n outcome (log_frames top) size (all_observed_events n st (told items) ++ more))
-    all_agree size more size_told h =
+        (marks_from n outcome (log_frames top) size (all_observed_events n st (reported items) ++ more))
+    all_agree size more size_reported h =
         let a = agrees_all n (all_globals m) (hooked.back n) size outcome (log_frames top) known moment.before st items obs more
-        (kept_at size size_told) of are core (subst (λ s. IsReadOf known_next (window obs) s) changed h.reads) h.agrees
+        (kept_at size size_reported) of are core (subst (λ s. IsReadOf known_next (window obs) s) changed h.reads) h.agrees
         in
         record { agrees = a.0; reads = a.1 }
 
     -- an instruction stays in its function
     stayed : (operands results : List Val) (entry : Entry) → after ≡ top
         → ((waiting : List WaitingCall) → waiting_after_step moment.instr operands waiting ≡ waiting)
-        → Logged m shape (state top [] known.entries) st (told_by_step (all_globals m) moment.instr operands results moment)
-        (all_observed_events n st (told items)) (state top [] known.entries) st_next
+        → Logged m shape (state top [] known.entries) st (reported_by_step (all_globals m) moment.instr operands results moment)
+        (all_observed_events n st (reported items)) (state top [] known.entries) st_next
         → known_next.entries ≡ known.entries
         → (number : ℕ) (found : Option ℕ)
-        → Tells m shape outcome top known moment.before (items ++ obs) st
+        → Reports m shape outcome top known moment.before (items ++ obs) st
         (record moment { entry = Step func number operands results found } ∷ later)
     stayed operands results entry same waits logged entries number found =
-        let t : Tells m shape outcome top known_next moment.after obs st_next later =
-        subst (λ l. Tells m shape outcome l known_next moment.after obs st_next later) same r in
+        let t : Reports m shape outcome top known_next moment.after obs st_next later =
+        subst (λ l. Reports m shape outcome l known_next moment.after obs st_next later) same r in
         record {
-          found = all_observed_events n st (told items) ++ t.found;
+          found = all_observed_events n st (reported items) ++ t.found;
           are =
               trail_logs.logged_then m shape hooked outcome (state top [] known.entries) st
-              (told_by_step (all_globals m) moment.instr operands results moment)
-              (all_observed_events n st (told items)) (state top [] known.entries) st_next
-              (told_calls (all_globals m) (waiting_after_step moment.instr operands (waiting_calls top)) later) t.found
+              (reported_by_step (all_globals m) moment.instr operands results moment)
+              (all_observed_events n st (reported items)) (state top [] known.entries) st_next
+              (reported_calls (all_globals m) (waiting_after_step moment.instr operands (waiting_calls top)) later) t.found
               logged
               (subst
               (λ w. (at : ℕ)
-              → events_from shape (state top [] known.entries) st_next at (renumbered m (told_calls (all_globals m) w later))
+              → events_from shape (state top [] known.entries) st_next at (renumbered m (reported_calls (all_globals m) w later))
               ≡ Ok t.found)
               (sym (waits (waiting_calls top)))
               (subst
               (λ e. (at : ℕ)
               → events_from shape (state top [] e) st_next at
-              (renumbered m (told_calls (all_globals m) (waiting_calls top) later))
+              (renumbered m (reported_calls (all_globals m) (waiting_calls top) later))
               ≡ Ok t.found) entries t.are));
-          agrees = λ size size_told.
-              all_agree size t.found size_told (t.agrees size (kept_next size size_told).size_told);
+          agrees = λ size size_reported.
+              all_agree size t.found size_reported (t.agrees size (kept_next size size_reported).size_reported);
           not_last = λ c callee. absurd c;
         }
 
@@ -189,45 +189,45 @@ module _ (m : Module) (shape : HookedShape) (hooked : IsHooked m shape) (outcome
     called : (direct : Bool) (callee : ℕ) (args : List Val) (calls : List HookCall) (seen_entries : ℕ)
         → after ≡ call_level (nat_lt callee n) direct callee args ∷ top
         → Logged m shape (state top [] known.entries) st calls
-        (all_observed_events n st (told items) ++ events.Pre (Some callee) ∷ [])
+        (all_observed_events n st (reported items) ++ events.Pre (Some callee) ∷ [])
         (state (AtCall direct callee false args ∷ top) [] seen_entries) st_next
         → known_next.entries ≡ seen_entries
-        → Tells_by m shape outcome top known moment.before (items ++ obs) st
-        (renumbered m (calls ++ told_calls (all_globals m) (waiting_calls (AtCall direct callee false args ∷ top)) later))
+        → Reports_by m shape outcome top known moment.before (items ++ obs) st
+        (renumbered m (calls ++ reported_calls (all_globals m) (waiting_calls (AtCall direct callee false args ∷ top)) later))
     called direct callee args calls seen_entries same logged entries =
-        let t : Tells m shape outcome (call_level (nat_lt callee n) direct callee args ∷ top) known_next moment.after obs st_next later =
-        subst (λ l. Tells m shape outcome l known_next moment.after obs st_next later) same r in
+        let t : Reports m shape outcome (call_level (nat_lt callee n) direct callee args ∷ top) known_next moment.after obs st_next later =
+        subst (λ l. Reports m shape outcome l known_next moment.after obs st_next later) same r in
         record {
-          found = all_observed_events n st (told items) ++ (events.Pre (Some callee) ∷ t.found);
+          found = all_observed_events n st (reported items) ++ (events.Pre (Some callee) ∷ t.found);
           are = λ at.
               trail_logs.logged_then m shape hooked outcome (state top [] known.entries) st calls
-              (all_observed_events n st (told items) ++ events.Pre (Some callee) ∷ [])
+              (all_observed_events n st (reported items) ++ events.Pre (Some callee) ∷ [])
               (state (AtCall direct callee false args ∷ top) [] seen_entries) st_next
-              (told_calls (all_globals m) (waiting_calls (AtCall direct callee false args ∷ top)) later) t.found logged
+              (reported_calls (all_globals m) (waiting_calls (AtCall direct callee false args ∷ top)) later) t.found logged
               (as_call (nat_lt callee n) direct callee args top seen_entries st_next later t.found
               (subst
               (λ e. (at : ℕ)
               → events_from shape (state (call_level (nat_lt callee n) direct callee args ∷ top) [] e) st_next at
               (renumbered m
-              (told_calls (all_globals m) (waiting_calls (call_level (nat_lt callee n) direct callee args ∷ top)) later))
+              (reported_calls (all_globals m) (waiting_calls (call_level (nat_lt callee n) direct callee args ∷ top)) later))
               ≡ Ok t.found) entries t.are))
               at
               ∙ ap Ok
-              (append_assoc (all_observed_events n st (told items)) (events.Pre (Some callee) ∷ []) t.found);
-          agrees = λ size size_told.
-              all_agree size (events.Pre (Some callee) ∷ t.found) size_told
+              (append_assoc (all_observed_events n st (reported items)) (events.Pre (Some callee) ∷ []) t.found);
+          agrees = λ size size_reported.
+              all_agree size (events.Pre (Some callee) ∷ t.found) size_reported
               (pre_agrees (nat_lt callee n) direct callee args top known_next moment.after obs size t.found refl
               (t.not_last (call_on_top (nat_lt callee n) direct callee args top) (Some callee))
-              (t.agrees size (kept_next size size_told).size_told));
+              (t.agrees size (kept_next size size_reported).size_reported));
           not_last = λ c callee. absurd c;
         }
 
   pub stepped : (func number : ℕ) (operands results : List Val) (found : Option ℕ)
-      → FirstTells m shape outcome (Step func number operands results found)
+      → FirstReports m shape outcome (Step func number operands results found)
   stepped func number operands results found later moment levels known store left st h stands rest =
-      subst (λ s. Tells m shape outcome levels known s left st now) h.begins
-      (subst (λ l. Tells m shape outcome levels known moment.before l st now) (sym h.observed)
-      (subst (λ l. Tells m shape outcome l known moment.before (h.items ++ h.later) st now) (sym h.stands)
+      subst (λ s. Reports m shape outcome levels known s left st now) h.begins
+      (subst (λ l. Reports m shape outcome levels known moment.before l st now) (sym h.observed)
+      (subst (λ l. Reports m shape outcome l known moment.before (h.items ++ h.later) st now) (sym h.stands)
       (go (subst (λ l. Leads m shape l h.after known h.items moment operands results) h.stands h.leads))))
     where
       now : List Moment
@@ -239,60 +239,60 @@ module _ (m : Module) (shape : HookedShape) (hooked : IsHooked m shape) (outcome
           (subst (λ s. Stands m shape outcome levels known s st) (sym h.begins) stands)
 
       -- the hook calls of a step with this instruction, and those after it, have events
-      StepTells : Option Instr → Type 0
-      StepTells instr =
-          Tells_by m shape outcome (AtFunction func ∷ h.below) known moment.before (h.items ++ h.later) st
+      StepReports : Option Instr → Type 0
+      StepReports instr =
+          Reports_by m shape outcome (AtFunction func ∷ h.below) known moment.before (h.items ++ h.later) st
           (renumbered m
-          (told_by_step (all_globals m) instr operands results moment
-          ++ told_calls (all_globals m) (waiting_after_step instr operands (waiting_calls (AtFunction func ∷ h.below)))
+          (reported_by_step (all_globals m) instr operands results moment
+          ++ reported_calls (all_globals m) (waiting_after_step instr operands (waiting_calls (AtFunction func ∷ h.below)))
           later))
 
       go : Leads m shape (AtFunction func ∷ h.below) h.after known h.items moment operands results
-          → Tells m shape outcome (AtFunction func ∷ h.below) known moment.before (h.items ++ h.later) st
+          → Reports m shape outcome (AtFunction func ∷ h.below) known moment.before (h.items ++ h.later) st
           (record moment { entry = Step func number operands results found } ∷ later)
-      go (Stays same waits tellable entries) =
+      go (Stays same waits reportable entries) =
           stayed later moment func h.below h.after known st h.items h.later h.of h.are h.core h.changed here rest h.follows
           operands results (Step func number operands results found) same waits
           (subst
           (λ l. Logged m shape (state (AtFunction func ∷ h.below) [] known.entries) st
-          (told_by_step (all_globals m) moment.instr operands results moment) (all_observed_events n st l)
+          (reported_by_step (all_globals m) moment.instr operands results moment) (all_observed_events n st l)
           (state (AtFunction func ∷ h.below) [] known.entries) (log_after_all st l))
           h.observes
-          (logs.tellable_logged m shape hooked
-          (told_by_step (all_globals m) moment.instr operands results moment)
-          (state (AtFunction func ∷ h.below) [] known.entries) st refl tellable))
+          (logs.reportable_logged m shape hooked
+          (reported_by_step (all_globals m) moment.instr operands results moment)
+          (state (AtFunction func ∷ h.below) [] known.entries) st refl reportable))
           entries number found
       go (Direct callee calls same there none) =
-          subst StepTells (sym calls)
+          subst StepReports (sym calls)
           (called later moment func h.below h.after known st h.items h.later h.of h.are h.core h.changed here rest
-          h.follows true callee operands (told_number Pre callee moment.before ++ []) known.entries same
+          h.follows true callee operands (reported_number Pre callee moment.before ++ []) known.entries same
           (subst
           (λ l. Logged m shape (state (AtFunction func ∷ h.below) [] known.entries) st
-          (told_number Pre callee moment.before ++ [])
-          (all_observed_events n st (told l) ++ events.Pre (Some callee) ∷ [])
+          (reported_number Pre callee moment.before ++ [])
+          (all_observed_events n st (reported l) ++ events.Pre (Some callee) ∷ [])
           (state (AtCall true callee false operands ∷ AtFunction func ∷ h.below) [] known.entries)
-          (log_after_all st (told l)))
+          (log_after_all st (reported l)))
           (sym none)
           (logs.pre_logged m shape hooked callee func operands h.below known.entries moment.before st
           there))
           (ap (λ l. (known_after_all known l).entries) none))
       go (Indirect t callee calls same there entry entries) =
-          subst StepTells (sym calls)
+          subst StepReports (sym calls)
           (called later moment func h.below h.after known st h.items h.later h.of h.are h.core h.changed here rest
           h.follows false callee (take (length operands - 1) operands)
-          (told_number Ipre (bits_at operands (length operands - 1)) moment.before)
+          (reported_number Ipre (bits_at operands (length operands - 1)) moment.before)
           (entries_after known.entries
           (ReachesEntry (bits_at operands (length operands - 1)) (table_length moment.before.table)))
           same
           (subst
           (λ l. Logged m shape (state (AtFunction func ∷ h.below) [] known.entries) st
-          (told_number Ipre (bits_at operands (length operands - 1)) moment.before)
+          (reported_number Ipre (bits_at operands (length operands - 1)) moment.before)
           (all_observed_events n st l ++ events.Pre (Some callee) ∷ [])
           (orders.after_index m shape hooked func (bits_at operands (length operands - 1)) h.below
           known.entries moment.before (Some callee))
           (log_after_all st l))
           (subst
-          (λ i. seen_by shape n (all_globals m) (told_by_step (all_globals m) i operands results moment) ≡ told h.items)
+          (λ i. seen_by shape n (all_globals m) (reported_by_step (all_globals m) i operands results moment) ≡ reported h.items)
           calls h.observes)
           (logs.ipre_logged m shape hooked func (bits_at operands (length operands - 1)) h.below
           known.entries moment.before (Some callee) st h.of.entries entry there))

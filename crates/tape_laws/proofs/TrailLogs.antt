@@ -22,62 +22,59 @@ use Rattle.record_replay_spec.specs.Hooks.{HookCall}
 use Rattle.record_replay_spec.specs.Logs.{LogState, grown_events, after_events, events_from}
 use Rattle.record_replay_spec.specs.LogTapes.{Mark, Begins as BeginsMark, Ends as EndsMark, InFunction, InCall, is_at_host, mark_if, is_trapped_call, marks_from}
 use Rattle.record_replay_spec.specs.Order.{HookedShape, OrderState}
-use Rattle.record_replay_spec.specs.ToldCalls.{Moment, told_calls, told_enter, told_values, told_over, told_number}
+use Rattle.record_replay_spec.specs.ReportedCalls.{Moment, reported_calls, reported_enter, reported_values, reported_over, reported_number}
 use Rattle.record_replay_spec.specs.declared.hooks.Hook.TheVariants.{Leave}
-use Rattle.tape_laws.specs.ToldObservations.{is_mutable}
+use Rattle.tape_laws.specs.ReportedObservations.{is_mutable}
 use Rattle.tape_laws.proofs.CallOrder as orders
 use Rattle.tape_laws.proofs.ModuleFacts.{func_there}
 use Rattle.tape_laws.proofs.TrailOrder.{same_waiting, calls_at}
-use Rattle.tape_laws.proofs.Trails.{IsAtEntry, Level, AtFunction, AtImport, AtCall, at_host, with_top_entered, IsWithin, KeepsImmutables, waiting_calls, IsTrail}
+use Rattle.tape_laws.proofs.Trails.{Level, AtFunction, AtImport, AtCall, at_host, with_top_entered, IsWithin, KeepsImmutables, waiting_calls}
 use Rattle.tape_laws.proofs.CallOrder.{IsHooked, renumbered, state, callee_may, never_imported}
 use Rattle.tape_laws.proofs.Agrees.{Agrees, agrees_activity}
 use Rattle.tape_laws.proofs.CallLogs as logs
 use Rattle.tape_laws.proofs.CallLogs.{noticing, Logged}
-use Rattle.tape_laws.proofs.ObservedFinds.{IsToldKnown}
-use Rattle.tape_laws.proofs.LogMarks.{log_frames, same_frames, frames_at_host, CallOnTop, not_pre, not_trapped_enter, not_trapped_leave, not_trapped_post, IsSizeTold, noticed_after, ModuleAgrees, AgreesBy, AgreesAt, host_agrees, agrees_host, within_agrees}
+use Rattle.tape_laws.proofs.ObservedFinds.{IsReportedKnown}
+use Rattle.tape_laws.proofs.LogMarks.{log_frames, same_frames, frames_at_host, CallOnTop, not_pre, not_trapped_enter, not_trapped_leave, not_trapped_post, IsSizeReported, noticed_after, ModuleAgrees, AgreesBy, AgreesAt, host_agrees, agrees_host, within_agrees}
+use Rattle.tape_laws.proofs.EachMoment.{HoldsFirst, HoldsFor}
 
 -- ---- a trail
 
 module _ (m : Module) (shape : HookedShape) (outcome : Outcome) where
   -- what the log knows at a point
   pub record Stands (levels : List Level) (known : Known) (store : Store) (st : LogState) : Type 0 where
-    pub told : IsToldKnown (imported_funcs m) known st.known
+    pub reported : IsReportedKnown (imported_funcs m) known st.known
     pub immutable : (at : ℕ) → is_mutable (slice_get (all_globals m) at) ≡ false
         → known.global at ≡ slice_get store.globals at
     pub real : IsWithin levels → st.noticed ≡ pages_of store.memory
 
   -- hook calls have events, and the marks of these events agree with the remaining observations
-  pub record Tells_by (levels : List Level) (known : Known) (store : Store) (left : List Observation) (st : LogState)
+  pub record Reports_by (levels : List Level) (known : Known) (store : Store) (left : List Observation) (st : LogState)
       (calls : List HookCall) : Type 0 where
     pub found : List Event
     pub are : (at : ℕ) → events_from shape (state levels [] known.entries) st at calls ≡ Ok found
-    pub agrees : (size : ℕ) → IsSizeTold size known st
+    pub agrees : (size : ℕ) → IsSizeReported size known st
         → AgreesAt (imported_funcs m) levels known store left
         (marks_from (imported_funcs m) outcome (log_frames levels) size found)
     pub not_last : CallOnTop levels → (callee : Option ℕ)
         → is_trapped_call outcome (events.Pre callee) found ≡ false
 
   -- the hook calls of moments have events that agree
-  abbrev pub Tells : List Level → Known → Store → List Observation → LogState → List Moment → Type 0
-  Tells levels known store left st moments =
-      Tells_by levels known store left st (renumbered m (calls_at m levels moments))
+  abbrev pub Reports : List Level → Known → Store → List Observation → LogState → List Moment → Type 0
+  Reports levels known store left st moments =
+      Reports_by levels known store left st (renumbered m (calls_at m levels moments))
+
+  -- what the log knows at a point of a trail
+  abbrev pub StandsAt : List Level → Known → Store → List Observation → LogState → Type 0
+  StandsAt levels known store left st = Stands levels known store st
 
   -- the hook calls of the moments after a moment have events that agree
   abbrev pub Rest : List Moment → Type 0
-  Rest later =
-      (levels : List Level) (known : Known) (store : Store) (left : List Observation) (st : LogState)
-      → IsTrail m shape (Some outcome) later levels known store left → Stands levels known store st
-      → Tells levels known store left st later
+  Rest later = HoldsFor m shape (Some outcome) StandsAt Reports later
 
   -- the hook calls of a trail's first moment, by its entry, and those after it have events that agree, if those after
   -- it do
-  abbrev pub FirstTells : Entry → Type 0
-  FirstTells entry =
-      (later : List Moment) (moment : Moment) (levels : List Level) (known : Known) (store : Store)
-      (left : List Observation) (st : LogState)
-      → IsAtEntry m shape levels known store left (Some outcome) later moment entry (IsTrail m shape (Some outcome) later)
-      → Stands levels known store st → Rest later
-      → Tells levels known store left st (record moment { entry = entry } ∷ later)
+  abbrev pub FirstReports : Entry → Type 0
+  FirstReports entry = HoldsFirst m shape (Some outcome) StandsAt Reports entry
 
 module _ (m : Module) (shape : HookedShape) (hooked : IsHooked m shape) (outcome : Outcome) where
   abbrev n : ℕ
@@ -98,11 +95,11 @@ module _ (m : Module) (shape : HookedShape) (hooked : IsHooked m shape) (outcome
   pub nothing_left : (levels : List Level) (entries : ℕ) (st : LogState) (later : List Moment) → later ≡ []
       → (at : ℕ)
       → events_from shape (state levels [] entries) st at
-      (renumbered m (told_calls (all_globals m) (waiting_calls levels) later)) ≡ Ok []
+      (renumbered m (reported_calls (all_globals m) (waiting_calls levels) later)) ≡ Ok []
   nothing_left levels entries st later last at =
       ap
       (λ l. events_from shape (state levels [] entries) st at
-      (renumbered m (told_calls (all_globals m) (waiting_calls levels) l))) last
+      (renumbered m (reported_calls (all_globals m) (waiting_calls levels) l))) last
 
   abbrev marks_at : List Level → ℕ → List Event → List Mark
   marks_at levels size events = marks_from n outcome (log_frames levels) size events
@@ -111,16 +108,16 @@ module _ (m : Module) (shape : HookedShape) (hooked : IsHooked m shape) (outcome
       → KeepsImmutables (all_globals m) store view → Stands m shape outcome levels known store st
       → Stands m shape outcome next known view (noticing view st)
   noticed_stands levels next known store view st keeps h =
-      record { told = h.told; immutable = λ at i. h.immutable at i ∙ sym (keeps at i); real = λ w. refl }
+      record { reported = h.reported; immutable = λ at i. h.immutable at i ∙ sym (keeps at i); real = λ w. refl }
 
   -- ---- the host calls a function
 
-  pub host_call : (func : ℕ) (args : List Val) → FirstTells m shape outcome (HostCall func args)
+  pub host_call : (func : ℕ) (args : List Val) → FirstReports m shape outcome (HostCall func args)
   host_call func args later moment levels known store left st h stands rest =
       record {
         found = own;
         are =
-            logged_then (state levels [] known.entries) st (told_enter func args moment.after)
+            logged_then (state levels [] known.entries) st (reported_enter func args moment.after)
             (events.Enter func args ∷ grown_events st.noticed moment.after)
             (state (AtFunction func ∷ with_top_entered levels) [] known.entries) (noticing moment.after st)
             (calls_at m levels later) r.found
@@ -130,12 +127,12 @@ module _ (m : Module) (shape : HookedShape) (hooked : IsHooked m shape) (outcome
             (subst
             (λ w. (at : ℕ)
             → events_from shape (state (AtFunction func ∷ with_top_entered levels) [] known.entries)
-            (noticing moment.after st) at (renumbered m (told_calls (all_globals m) w later)) ≡ Ok r.found)
+            (noticing moment.after st) at (renumbered m (reported_calls (all_globals m) w later)) ≡ Ok r.found)
             (same_waiting levels) r.are);
-        agrees = λ size told.
+        agrees = λ size reported.
             let p = noticed_after n outcome (log_frames (AtFunction func ∷ with_top_entered levels)) size known st
-            moment.after r.found told in
-            let q = r.agrees p.now p.size_told in
+            moment.after r.found reported in
+            let q = r.agrees p.now p.size_reported in
             agrees_host n levels known store left (marks_at levels size own) h.host (λ origin.
             subst (λ l. Agrees known (Begins origin ∷ l) (BeginsMark origin ∷ marks_at levels size own))
             (sym h.observed)
@@ -147,7 +144,7 @@ module _ (m : Module) (shape : HookedShape) (hooked : IsHooked m shape) (outcome
         not_last = λ top callee. not_pre outcome callee (events.Enter func args) (grown_events st.noticed moment.after ++ r.found);
       }
     where
-      r : Tells m shape outcome (AtFunction func ∷ with_top_entered levels) known moment.after h.later (noticing moment.after st) later
+      r : Reports m shape outcome (AtFunction func ∷ with_top_entered levels) known moment.after h.later (noticing moment.after st) later
       r = rest (AtFunction func ∷ with_top_entered levels) known moment.after h.later (noticing moment.after st) h.follows
           (noticed_stands levels (AtFunction func ∷ with_top_entered levels) known store moment.after st h.keeps stands)
 
@@ -179,23 +176,23 @@ module _ (m : Module) (shape : HookedShape) (hooked : IsHooked m shape) (outcome
 
   -- ---- an import returns
 
-  pub import_return : (import : ℕ) (results : List Val) → FirstTells m shape outcome (ImportReturn import results)
+  pub import_return : (import : ℕ) (results : List Val) → FirstReports m shape outcome (ImportReturn import results)
   import_return import results later moment levels known store left st h stands rest =
-      subst (λ l. Tells m shape outcome l known store left st (record moment { entry = ImportReturn import results } ∷ later))
+      subst (λ l. Reports m shape outcome l known store left st (record moment { entry = ImportReturn import results } ∷ later))
       (sym h.stands)
       (record {
         found = own;
         are =
             logged_then (state top [] known.entries) st
-            (told_values moment.after results ++ told_over (cond h.direct (Some import) None) moment.after)
+            (reported_values moment.after results ++ reported_over (cond h.direct (Some import) None) moment.after)
             (events.Post (slice_get results 0) ∷ grown_events st.noticed moment.after) (state h.below [] known.entries)
             (noticing moment.after st) (calls_at m h.below later) r.found
             (logs.over_logged m shape hooked h.direct import h.entered h.args results h.below
             known.entries moment.after st (ap (λ b. b || h.entered) h.imported) h.typed) r.are;
-        agrees = λ size told.
-            let p = noticed_after n outcome (log_frames h.below) size known st moment.after r.found told in
+        agrees = λ size reported.
+            let p = noticed_after n outcome (log_frames h.below) size known st moment.after r.found reported in
             let q = within_agrees n h.below known moment.after h.later (marks_at h.below p.now r.found) h.within
-            (r.agrees p.now p.size_told) in
+            (r.agrees p.now p.size_reported) in
             agrees_host n top known store left (marks_at top size own) h.imported (λ origin.
             subst (λ l. Agrees known (Begins origin ∷ l) (BeginsMark origin ∷ marks_at top size own)) (sym h.observed)
             (subst
@@ -210,7 +207,7 @@ module _ (m : Module) (shape : HookedShape) (hooked : IsHooked m shape) (outcome
       top : List Level
       top = AtCall h.direct import h.entered h.args ∷ h.below
 
-      r : Tells m shape outcome h.below known moment.after h.later (noticing moment.after st) later
+      r : Reports m shape outcome h.below known moment.after h.later (noticing moment.after st) later
       r = rest h.below known moment.after h.later (noticing moment.after st) h.follows
           (noticed_stands levels h.below known store moment.after st h.keeps stands)
 
@@ -235,20 +232,20 @@ module _ (m : Module) (shape : HookedShape) (hooked : IsHooked m shape) (outcome
 
   -- ---- the module enters a function that it called
 
-  pub entered : (func : ℕ) → FirstTells m shape outcome (Enter func)
+  pub entered : (func : ℕ) → FirstReports m shape outcome (Enter func)
   entered func later moment levels known store left st h stands rest =
-      subst (λ l. Tells m shape outcome l known store left st (record moment { entry = Enter func } ∷ later)) (sym h.stands)
+      subst (λ l. Reports m shape outcome l known store left st (record moment { entry = Enter func } ∷ later)) (sym h.stands)
       (record {
         found = own;
         are =
-            logged_then (state top [] known.entries) st (told_enter func h.args moment.after)
+            logged_then (state top [] known.entries) st (reported_enter func h.args moment.after)
             (events.Enter func h.args ∷ grown_events st.noticed moment.after) (state inner [] known.entries)
             (noticing moment.after st) (calls_at m top later) r.found
             (logs.enter_logged m shape hooked func h.args top known.entries moment.after st h.defined
             (func_there m func h.typed.ty h.typed.has_type) h.typed (callee_may shape.imports func)) r.are;
-        agrees = λ size told.
-            let p = noticed_after n outcome (log_frames inner) size known st moment.after r.found told in
-            let q = r.agrees p.now p.size_told in
+        agrees = λ size reported.
+            let p = noticed_after n outcome (log_frames inner) size known st moment.after r.found reported in
+            let q = r.agrees p.now p.size_reported in
             subst (λ b. AgreesBy b known store left (marks_at top size own)) (sym (never_imported n func h.defined))
             (record {
               agrees = subst (Agrees known left) (sym (marks_are size p.now p.marks)) q.agrees;
@@ -263,7 +260,7 @@ module _ (m : Module) (shape : HookedShape) (hooked : IsHooked m shape) (outcome
       inner : List Level
       inner = AtFunction func ∷ AtCall h.direct func true h.args ∷ h.below
 
-      r : Tells m shape outcome (AtFunction func ∷ AtCall h.direct func true h.args ∷ h.below) known moment.after left
+      r : Reports m shape outcome (AtFunction func ∷ AtCall h.direct func true h.args ∷ h.below) known moment.after left
           (noticing moment.after st) later
       r = rest (AtFunction func ∷ AtCall h.direct func true h.args ∷ h.below) known moment.after left
           (noticing moment.after st) h.follows
@@ -294,16 +291,16 @@ module _ (m : Module) (shape : HookedShape) (hooked : IsHooked m shape) (outcome
 
   -- ---- returns
 
-  pub host_return : (func : ℕ) (results : List Val) → FirstTells m shape outcome (HostReturn func results)
+  pub host_return : (func : ℕ) (results : List Val) → FirstReports m shape outcome (HostReturn func results)
   host_return func results later moment levels known store left st h stands rest =
-      subst (λ l. Tells m shape outcome l known store left st (record moment { entry = HostReturn func results } ∷ later)) (sym h.stands)
+      subst (λ l. Reports m shape outcome l known store left st (record moment { entry = HostReturn func results } ∷ later)) (sym h.stands)
       (record {
         found = events.Leave func ∷ r.found;
         are =
-            logged_then (state (AtFunction func ∷ h.below) [] known.entries) st (told_number Leave func moment.after)
+            logged_then (state (AtFunction func ∷ h.below) [] known.entries) st (reported_number Leave func moment.after)
             (events.Leave func ∷ []) (state h.below [] known.entries) st (calls_at m h.below later) r.found
             (logs.leave_logged m shape hooked func h.below known.entries moment.after st) r.are;
-        agrees = λ size told.
+        agrees = λ size reported.
             subst
             (λ l. ModuleAgrees known store l (marks_at (AtFunction func ∷ h.below) size (events.Leave func ∷ r.found)))
             (sym h.observed)
@@ -311,7 +308,7 @@ module _ (m : Module) (shape : HookedShape) (hooked : IsHooked m shape) (outcome
               agrees =
                   subst (Agrees known (Begins Back ∷ h.later)) (sym (marks_are size))
                   (host_agrees n h.below known moment.after h.later (marks_at h.below size r.found) h.host
-                  (r.agrees size told) Back);
+                  (r.agrees size reported) Back);
               reads = nothing_read known store;
             });
         not_last = λ t callee. absurd t;
@@ -323,10 +320,10 @@ module _ (m : Module) (shape : HookedShape) (hooked : IsHooked m shape) (outcome
       outside (AtImport direct callee args ∷ l) host w = w
       outside (AtCall direct callee e args ∷ l) host w = w
 
-      r : Tells m shape outcome h.below known moment.after h.later st later
+      r : Reports m shape outcome h.below known moment.after h.later st later
       r = rest h.below known moment.after h.later st h.follows
           (record {
-            told = stands.told;
+            reported = stands.reported;
             immutable = λ at i. stands.immutable at i ∙ sym (h.keeps at i);
             real = λ w. absurd (outside h.below h.host w);
           })
@@ -342,19 +339,19 @@ module _ (m : Module) (shape : HookedShape) (hooked : IsHooked m shape) (outcome
           ∙ ap (λ b. mark_if b (BeginsMark Back) ++ marks_from n outcome (log_frames h.below) size r.found)
           (frames_at_host n h.below h.host)
 
-  pub exited : (func : ℕ) (results : List Val) → FirstTells m shape outcome (Exit func results)
+  pub exited : (func : ℕ) (results : List Val) → FirstReports m shape outcome (Exit func results)
   exited func results later moment levels known store left st h stands rest =
-      subst (λ l. Tells m shape outcome l known store left st (record moment { entry = Exit func results } ∷ later)) (sym h.stands)
+      subst (λ l. Reports m shape outcome l known store left st (record moment { entry = Exit func results } ∷ later)) (sym h.stands)
       (record {
         found = own;
         are =
             logged_then (state top [] known.entries) st
-            (told_number Leave func moment.after
-            ++ (told_values moment.after results ++ told_over (cond h.direct (Some func) None) moment.after))
+            (reported_number Leave func moment.after
+            ++ (reported_values moment.after results ++ reported_over (cond h.direct (Some func) None) moment.after))
             (events.Leave func ∷ (events.Post (slice_get results 0) ∷ grown_events st.noticed moment.after))
             (state h.below [] known.entries) (noticing moment.after st) (calls_at m h.below later) r.found
-            (logs.both_logged m shape hooked (told_number Leave func moment.after)
-            (told_values moment.after results ++ told_over (cond h.direct (Some func) None) moment.after)
+            (logs.both_logged m shape hooked (reported_number Leave func moment.after)
+            (reported_values moment.after results ++ reported_over (cond h.direct (Some func) None) moment.after)
             (events.Leave func ∷ []) (events.Post (slice_get results 0) ∷ grown_events st.noticed moment.after)
             (state top [] known.entries)
             (state (AtCall h.direct func true h.args ∷ h.below) [] known.entries) (state h.below [] known.entries) st st
@@ -364,10 +361,10 @@ module _ (m : Module) (shape : HookedShape) (hooked : IsHooked m shape) (outcome
             (logs.over_logged m shape hooked h.direct func true h.args results h.below known.entries
             moment.after st (or-true (nat_lt func n)) h.typed))
             r.are;
-        agrees = λ size told.
-            let p = noticed_after n outcome (log_frames h.below) size known st moment.after r.found told in
+        agrees = λ size reported.
+            let p = noticed_after n outcome (log_frames h.below) size known st moment.after r.found reported in
             let q = within_agrees n h.below known moment.after left (marks_at h.below p.now r.found) h.within
-            (r.agrees p.now p.size_told) in
+            (r.agrees p.now p.size_reported) in
             record {
               agrees = subst (Agrees known left) (sym (marks_are size p.now p.marks)) q.agrees;
               reads = subst (λ s. IsReadOf known (window left) s) h.same q.reads;
@@ -378,7 +375,7 @@ module _ (m : Module) (shape : HookedShape) (hooked : IsHooked m shape) (outcome
       top : List Level
       top = AtFunction func ∷ AtCall h.direct func true h.args ∷ h.below
 
-      r : Tells m shape outcome h.below known moment.after left (noticing moment.after st) later
+      r : Reports m shape outcome h.below known moment.after left (noticing moment.after st) later
       r = rest h.below known moment.after left (noticing moment.after st) h.follows
           (noticed_stands levels h.below known store moment.after st
           (λ at i. ap (λ (s : Store). slice_get s.globals at) h.same) stands)

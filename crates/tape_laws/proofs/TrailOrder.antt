@@ -17,10 +17,10 @@ use Rattle.record_replay_spec.specs.declared.hooks.Hook.TheVariants.{Leave, Pre,
 use Rattle.wasm_syntax.specs.declared.instructions.Instr.TheVariants as instrs
 use Rattle.record_replay_spec.specs.Observations.{Observation, ReachesEntry}
 use Rattle.record_replay_spec.specs.Hooks.{HookCall}
-use Rattle.record_replay_spec.specs.ToldCalls.{Moment, told_values, told_number, told_over, told_enter, told_by_step, told_by_trap, told_at, told_calls, waiting_at, waiting_after_step}
-use Rattle.record_replay_spec.specs.Order.{HookedShape, OrderState, may_tell, number_or, first_disorder}
+use Rattle.record_replay_spec.specs.ReportedCalls.{Moment, reported_values, reported_number, reported_over, reported_enter, reported_by_step, reported_by_trap, reported_at, reported_calls, waiting_at, waiting_after_step}
+use Rattle.record_replay_spec.specs.Order.{HookedShape, OrderState, may_report, number_or, first_disorder}
 use Rattle.tape_laws.proofs.ModuleFacts.{func_there}
-use Rattle.tape_laws.proofs.Trails.{Level, AtFunction, AtImport, AtCall, call_level, waiting_calls, with_top_entered, Leads, Stays, Direct, Indirect, TellsTrap, Quiet, AtEntry, IsAtEntry, IsTrail}
+use Rattle.tape_laws.proofs.Trails.{Level, AtFunction, AtImport, AtCall, call_level, waiting_calls, with_top_entered, Leads, Stays, Direct, Indirect, ReportsTrap, Quiet, AtEntry, IsAtEntry, IsTrail}
 use Rattle.tape_laws.proofs.CallOrder as orders
 use Rattle.tape_laws.proofs.CallOrder.{IsHooked, renumbered, state, AreOrdered, callee_may}
 
@@ -32,7 +32,7 @@ same_waiting (AtCall direct callee entered args ∷ levels) = refl
 
 -- the hook calls of moments, from these levels on
 abbrev pub calls_at : Module → List Level → List Moment → List HookCall
-calls_at m levels moments = told_calls (all_globals m) (waiting_calls levels) moments
+calls_at m levels moments = reported_calls (all_globals m) (waiting_calls levels) moments
 
 module _ (m : Module) (shape : HookedShape) (hooked : IsHooked m shape) where
   abbrev n : ℕ
@@ -78,8 +78,8 @@ module _ (m : Module) (shape : HookedShape) (hooked : IsHooked m shape) where
       (at : ℕ)
       → first_disorder shape (state levels [] entries) at
       (renumbered m
-      (told_at (all_globals m) (waiting_calls levels) moment entry
-      ++ told_calls (all_globals m) (waiting_at (waiting_calls levels) moment entry) later))
+      (reported_at (all_globals m) (waiting_calls levels) moment entry
+      ++ reported_calls (all_globals m) (waiting_at (waiting_calls levels) moment entry) later))
       ≡ None
 
   -- the hook calls of a step with this instruction, and those that follow, are in order
@@ -88,8 +88,8 @@ module _ (m : Module) (shape : HookedShape) (hooked : IsHooked m shape) where
       (at : ℕ)
       → first_disorder shape (state levels [] entries) at
       (renumbered m
-      (told_by_step (all_globals m) instr operands results moment
-      ++ told_calls (all_globals m) (waiting_after_step instr operands (waiting_calls levels)) later))
+      (reported_by_step (all_globals m) instr operands results moment
+      ++ reported_calls (all_globals m) (waiting_after_step instr operands (waiting_calls levels)) later))
       ≡ None
 
   -- an instruction is executed
@@ -99,27 +99,27 @@ module _ (m : Module) (shape : HookedShape) (hooked : IsHooked m shape) where
       → InOrder after (known_after_all known items).entries later
       → StepInOrder later moment levels known.entries operands results moment.instr
   step_entry later moment func below after levels known items operands results of stands
-      (Stays same waits tellable entries) rest =
-      then (told_by_step (all_globals m) moment.instr operands results moment)
-      (told_calls (all_globals m) (waiting_after_step moment.instr operands (waiting_calls levels)) later)
+      (Stays same waits reportable entries) rest =
+      then (reported_by_step (all_globals m) moment.instr operands results moment)
+      (reported_calls (all_globals m) (waiting_after_step moment.instr operands (waiting_calls levels)) later)
       (state levels [] known.entries) (state levels [] known.entries)
-      (orders.tellable_ordered m shape hooked (told_by_step (all_globals m) moment.instr operands results moment)
-      (state levels [] known.entries) (ap (λ l. may_tell (state l [] known.entries)) stands) tellable)
+      (orders.reportable_ordered m shape hooked (reported_by_step (all_globals m) moment.instr operands results moment)
+      (state levels [] known.entries) (ap (λ l. may_report (state l [] known.entries)) stands) reportable)
       (λ at. subst
       (λ w. first_disorder shape (state levels [] known.entries) at
-      (renumbered m (told_calls (all_globals m) w later)) ≡ None)
+      (renumbered m (reported_calls (all_globals m) w later)) ≡ None)
       (sym (waits (waiting_calls levels)))
       (subst (λ e. InOrder levels e later) entries
       (subst (λ l. InOrder l (known_after_all known items).entries later) same rest) at))
   step_entry later moment func below after levels known items operands results of stands
       (Direct callee calls same there none) rest =
       subst (StepInOrder later moment levels known.entries operands results) (sym calls)
-      (then (told_number Pre callee moment.before ++ [])
-      (told_calls (all_globals m)
+      (then (reported_number Pre callee moment.before ++ [])
+      (reported_calls (all_globals m)
       (waiting_after_step (Some (instrs.Call callee)) operands (waiting_calls levels)) later)
       (state levels [] known.entries) (state (AtCall true callee false operands ∷ levels) [] known.entries)
       (subst
-      (λ l. AreOrdered shape (state l [] known.entries) (renumbered m (told_number Pre callee moment.before ++ []))
+      (λ l. AreOrdered shape (state l [] known.entries) (renumbered m (reported_number Pre callee moment.before ++ []))
       (state (AtCall true callee false operands ∷ l) [] known.entries))
       (sym stands)
       (orders.pre_ordered m shape hooked callee func operands below known.entries moment.before there))
@@ -128,12 +128,12 @@ module _ (m : Module) (shape : HookedShape) (hooked : IsHooked m shape) where
   step_entry later moment func below after levels known items operands results of stands
       (Indirect t callee calls same there entry entries) rest =
       subst (StepInOrder later moment levels known.entries operands results) (sym calls)
-      (then (told_number Ipre index moment.before)
-      (told_calls (all_globals m)
+      (then (reported_number Ipre index moment.before)
+      (reported_calls (all_globals m)
       (waiting_after_step (Some (instrs.CallIndirect t)) operands (waiting_calls levels)) later)
       (state levels [] known.entries) (state (AtCall false callee false args ∷ levels) [] seen)
       (subst
-      (λ l. AreOrdered shape (state l [] known.entries) (renumbered m (told_number Ipre index moment.before))
+      (λ l. AreOrdered shape (state l [] known.entries) (renumbered m (reported_number Ipre index moment.before))
       (state (AtCall false callee false args ∷ l) [] seen))
       (sym stands)
       (orders.ipre_ordered m shape hooked func index below known.entries moment.before (Some callee) of.entries entry
@@ -152,40 +152,40 @@ module _ (m : Module) (shape : HookedShape) (hooked : IsHooked m shape) where
   -- an instruction traps
   trap_entry : (later : List Moment) (moment : Moment) (func : ℕ) (below levels : List Level) (known : Known)
       (operands : List Val) → IsKnownOf known moment.before → levels ≡ AtFunction func ∷ below
-      → TellsTrap m shape moment operands → later ≡ [] → (at : ℕ)
+      → ReportsTrap m shape moment operands → later ≡ [] → (at : ℕ)
       → first_disorder shape (state levels [] known.entries) at
       (renumbered m
-      (told_by_trap moment.instr operands moment ++ told_calls (all_globals m) (waiting_calls levels) later))
+      (reported_by_trap moment.instr operands moment ++ reported_calls (all_globals m) (waiting_calls levels) later))
       ≡ None
-  trap_entry later moment func below levels known operands of stands tells last at =
+  trap_entry later moment func below levels known operands of stands reports last at =
       ap
       (λ l. first_disorder shape (state levels [] known.entries) at
-      (renumbered m (told_by_trap moment.instr operands moment ++ told_calls (all_globals m) (waiting_calls levels) l)))
+      (renumbered m (reported_by_trap moment.instr operands moment ++ reported_calls (all_globals m) (waiting_calls levels) l)))
       last
-      ∙ go tells
+      ∙ go reports
     where
       index : ℕ
       index = bits_at operands (length operands - 1)
 
-      go : TellsTrap m shape moment operands
+      go : ReportsTrap m shape moment operands
           → first_disorder shape (state levels [] known.entries) at
-          (renumbered m (told_by_trap moment.instr operands moment ++ []))
+          (renumbered m (reported_by_trap moment.instr operands moment ++ []))
           ≡ None
-      go (Quiet tellable) =
-          then (told_by_trap moment.instr operands moment) [] (state levels [] known.entries)
+      go (Quiet reportable) =
+          then (reported_by_trap moment.instr operands moment) [] (state levels [] known.entries)
           (state levels [] known.entries)
-          (orders.tellable_ordered m shape hooked (told_by_trap moment.instr operands moment) (state levels [] known.entries)
-          (ap (λ l. may_tell (state l [] known.entries)) stands) tellable) (λ at. refl) at
+          (orders.reportable_ordered m shape hooked (reported_by_trap moment.instr operands moment) (state levels [] known.entries)
+          (ap (λ l. may_report (state l [] known.entries)) stands) reportable) (λ at. refl) at
       go (AtEntry t calls entry) =
           subst
-          (λ i. first_disorder shape (state levels [] known.entries) at (renumbered m (told_by_trap i operands moment ++ []))
+          (λ i. first_disorder shape (state levels [] known.entries) at (renumbered m (reported_by_trap i operands moment ++ []))
           ≡ None)
           (sym calls)
           (subst
-          (λ l. first_disorder shape (state l [] known.entries) at (renumbered m (told_number Ipre index moment.before ++ []))
+          (λ l. first_disorder shape (state l [] known.entries) at (renumbered m (reported_number Ipre index moment.before ++ []))
           ≡ None)
           (sym stands)
-          (then (told_number Ipre index moment.before) [] (state (AtFunction func ∷ below) [] known.entries)
+          (then (reported_number Ipre index moment.before) [] (state (AtFunction func ∷ below) [] known.entries)
           (after_index func index below known.entries moment.before (entry_of moment.before.table index))
           (orders.ipre_ordered m shape hooked func index below known.entries moment.before (entry_of moment.before.table index) of.entries
           refl entry) (λ at. refl) at))
@@ -199,19 +199,19 @@ module _ (m : Module) (shape : HookedShape) (hooked : IsHooked m shape) where
       → IsAtEntry m shape levels known store left outcome later moment entry (IsTrail m shape outcome later)
       → EntryInOrder later moment known.entries entry levels
   at_entry outcome later moment levels known store left rest (HostCall func args) h =
-      then (told_enter func args moment.after) (told_calls (all_globals m) (waiting_calls levels) later)
+      then (reported_enter func args moment.after) (reported_calls (all_globals m) (waiting_calls levels) later)
       (state levels [] known.entries) (state (AtFunction func ∷ with_top_entered levels) [] known.entries)
       (orders.enter_ordered m shape hooked func args levels known.entries moment.after h.defined
       (func_there m func h.typed.ty h.typed.has_type) h.typed (orders.host_may m shape hooked func levels h.host))
       (λ at. subst
       (λ w. first_disorder shape (state (AtFunction func ∷ with_top_entered levels) [] known.entries) at
-      (renumbered m (told_calls (all_globals m) w later)) ≡ None)
+      (renumbered m (reported_calls (all_globals m) w later)) ≡ None)
       (same_waiting levels)
       (rest (AtFunction func ∷ with_top_entered levels) known moment.after h.later h.follows at))
   at_entry outcome later moment levels known store left rest (Enter func) h =
       subst (EntryInOrder later moment known.entries (Enter func)) (sym h.stands)
-      (then (told_enter func h.args moment.after)
-      (told_calls (all_globals m) (waiting_calls (AtCall h.direct func false h.args ∷ h.below)) later)
+      (then (reported_enter func h.args moment.after)
+      (reported_calls (all_globals m) (waiting_calls (AtCall h.direct func false h.args ∷ h.below)) later)
       (state (AtCall h.direct func false h.args ∷ h.below) [] known.entries)
       (state (AtFunction func ∷ AtCall h.direct func true h.args ∷ h.below) [] known.entries)
       (orders.enter_ordered m shape hooked func h.args (AtCall h.direct func false h.args ∷ h.below) known.entries moment.after h.defined
@@ -219,19 +219,19 @@ module _ (m : Module) (shape : HookedShape) (hooked : IsHooked m shape) where
       (rest (AtFunction func ∷ AtCall h.direct func true h.args ∷ h.below) known moment.after left h.follows))
   at_entry outcome later moment levels known store left rest (HostReturn func results) h =
       subst (EntryInOrder later moment known.entries (HostReturn func results)) (sym h.stands)
-      (then (told_number Leave func moment.after) (told_calls (all_globals m) (waiting_calls h.below) later)
+      (then (reported_number Leave func moment.after) (reported_calls (all_globals m) (waiting_calls h.below) later)
       (state (AtFunction func ∷ h.below) [] known.entries) (state h.below [] known.entries)
       (orders.leave_ordered m shape hooked func h.below known.entries moment.after) (rest h.below known moment.after h.later h.follows))
   at_entry outcome later moment levels known store left rest (Exit func results) h =
       subst (EntryInOrder later moment known.entries (Exit func results)) (sym h.stands)
       (then
-      (told_number Leave func moment.after
-      ++ (told_values moment.after results ++ told_over (cond h.direct (Some func) None) moment.after))
-      (told_calls (all_globals m) (waiting_calls h.below) later)
+      (reported_number Leave func moment.after
+      ++ (reported_values moment.after results ++ reported_over (cond h.direct (Some func) None) moment.after))
+      (reported_calls (all_globals m) (waiting_calls h.below) later)
       (state (AtFunction func ∷ AtCall h.direct func true h.args ∷ h.below) [] known.entries)
       (state h.below [] known.entries)
-      (orders.told_both m shape (told_number Leave func moment.after)
-      (told_values moment.after results ++ told_over (cond h.direct (Some func) None) moment.after)
+      (orders.reported_both m shape (reported_number Leave func moment.after)
+      (reported_values moment.after results ++ reported_over (cond h.direct (Some func) None) moment.after)
       (state (AtFunction func ∷ AtCall h.direct func true h.args ∷ h.below) [] known.entries)
       (state (AtCall h.direct func true h.args ∷ h.below) [] known.entries) (state h.below [] known.entries)
       (orders.leave_ordered m shape hooked func (AtCall h.direct func true h.args ∷ h.below) known.entries moment.after)
@@ -240,8 +240,8 @@ module _ (m : Module) (shape : HookedShape) (hooked : IsHooked m shape) where
       (rest h.below known moment.after left h.follows))
   at_entry outcome later moment levels known store left rest (ImportReturn import results) h =
       subst (EntryInOrder later moment known.entries (ImportReturn import results)) (sym h.stands)
-      (then (told_values moment.after results ++ told_over (cond h.direct (Some import) None) moment.after)
-      (told_calls (all_globals m) (waiting_calls h.below) later)
+      (then (reported_values moment.after results ++ reported_over (cond h.direct (Some import) None) moment.after)
+      (reported_calls (all_globals m) (waiting_calls h.below) later)
       (state (AtCall h.direct import h.entered h.args ∷ h.below) [] known.entries) (state h.below [] known.entries)
       (orders.over_ordered m shape hooked h.direct import h.entered h.args results h.below known.entries moment.after
       (ap (λ b. b || h.entered) h.imported) h.typed)
@@ -253,10 +253,10 @@ module _ (m : Module) (shape : HookedShape) (hooked : IsHooked m shape) where
       step_entry later moment func h.below h.after levels known h.items operands results h.of h.stands h.leads
       (rest h.after (known_after_all known h.items) moment.after h.later h.follows)
   at_entry outcome later moment levels known store left rest (Trap func number kind operands found) h =
-      trap_entry later moment func h.below levels known operands h.of h.stands h.tells h.last
+      trap_entry later moment func h.below levels known operands h.of h.stands h.reports h.last
   at_entry outcome later moment levels known store left rest HostTrap h =
       λ at. ap
-      (λ l. first_disorder shape (state levels [] known.entries) at (renumbered m (told_calls (all_globals m) (waiting_calls levels) l)))
+      (λ l. first_disorder shape (state levels [] known.entries) at (renumbered m (reported_calls (all_globals m) (waiting_calls levels) l)))
       h.last
 
   pub in_order : (outcome : Option Outcome) (later : List Moment) (levels : List Level) (known : Known) (store : Store)

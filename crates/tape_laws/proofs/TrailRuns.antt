@@ -45,15 +45,15 @@ use Rattle.tape_laws.proofs.Relation.{IsKnownOf}
 use Rattle.tape_laws.specs.Below.{LawsOfSteps}
 use Rattle.tape_laws.specs.RealReads.{observed_from}
 use Rattle.record_replay_spec.specs.Order.{HookedShape}
-use Rattle.record_replay_spec.specs.ToldCalls.{Moment, store_performed}
+use Rattle.record_replay_spec.specs.ReportedCalls.{Moment, store_performed}
 use Rattle.tape_laws.proofs.Mirrors.{Mirrors, host_on_top}
-use Rattle.tape_laws.proofs.Tellable.{IsShapeOf}
+use Rattle.tape_laws.proofs.Reportable.{IsShapeOf}
 use Rattle.tape_laws.proofs.Trails.{Level, AtFunction, AtCall, at_host, KeepsImmutables, IsAtEntry, IsTrail}
 use Rattle.tape_laws.proofs.HostGlobals.{action_keeps}
 use Rattle.tape_laws.proofs.TrailsOfRuns as trails
 use Rattle.tape_laws.proofs.TrailCalls as trail_calls
 use Rattle.tape_laws.proofs.TrailSteps as trail_steps
-use Rattle.tape_laws.proofs.TrailsOfRuns.{Told, Delivers, Makes}
+use Rattle.tape_laws.proofs.TrailsOfRuns.{Reported, Delivers, Makes}
 
 -- ---- globals are numbers
 
@@ -164,15 +164,13 @@ module _ (laws : LawsOfSteps) (m : Module) (heights : Heights) (valid : IsValid 
   abbrev n : ℕ
   n = imported_funcs m
 
-  number : (x : ℕ) (g : GlobalType) → slice_get (all_globals m) x ≡ Some g → is_number g.ty ≡ true
-  number = globals_are_numbers m valid.outside
-
   made_next : (k : ℕ) → Delivers m heights answers shape k → Makes m heights answers shape (suc k)
   made_next k delivers =
       record {
         runs = λ frame below store counts levels known fine of c mirrors.
-            trail_steps.executed laws m heights valid typed core answers fits shape is_shape number k delivers frame
-            below store counts levels known fine of c mirrors (execute (code_of m) store frame) refl
+            trail_steps.executed laws m heights valid typed core answers fits shape is_shape
+            (globals_are_numbers m valid.outside) k delivers frame below store counts levels known
+            fine of c mirrors (execute (code_of m) store frame) refl
             (laws.rules m heights store frame fine.stack.0 fine.stack.1 valid typed fine.store fine.stack.2
             fine.at_step);
         main = λ action actions below store counts levels known fine of c mirrors.
@@ -233,7 +231,7 @@ module _ (laws : LawsOfSteps) (m : Module) (heights : Heights) (valid : IsValid 
     counts = replicate n 0
 
     abbrev Started : StepResult → Type 0
-    Started s = Told m heights answers shape k None store store s [] (opening_known store)
+    Started s = Reported m heights answers shape k None store store s [] (opening_known store)
 
     of : IsKnownOf (opening_known store) store
     of = opening_is_known store (sizes_of m store is)

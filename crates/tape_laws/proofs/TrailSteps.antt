@@ -19,7 +19,7 @@ use Rattle.base.specs.declared.outcomes.Outcome.TheVariants.{Trapped}
 use Rattle.history_spec.specs.declared.entries.TrapKind.{TrapKind}
 use Rattle.history_spec.specs.declared.entries.Entry.TheVariants.{Step, Trap}
 use Rattle.history_spec.specs.Store.{Store}
-use Rattle.history_spec.specs.Code.{Definition, code_of}
+use Rattle.history_spec.specs.Code.{code_of}
 use Rattle.history_spec.specs.Configuration.{Frame, Activation, InModule, Config}
 use Rattle.history_spec.specs.Instruction.{Control, Goes, Calls, Returns, Execution, Did, Traps, NoRule, bits_at, execute}
 use Rattle.history_spec.specs.Instantiation.{table_length}
@@ -39,18 +39,18 @@ use Rattle.tape_laws.specs.Below.{LawsOfSteps}
 use Rattle.tape_laws.proofs.KeptSteps.{trap_seen, done_seen, done_known, left_is}
 use Rattle.tape_laws.specs.RealReads.{observed_from}
 use Rattle.record_replay_spec.specs.Order.{HookedShape}
-use Rattle.record_replay_spec.specs.ToldCalls.{told_by_step, told_by_trap, Moment, moments, next_of_nest, store_executed}
+use Rattle.record_replay_spec.specs.ReportedCalls.{reported_by_step, reported_by_trap, Moment, moments, next_of_nest, store_executed}
 use Rattle.tape_laws.proofs.CoreFrames.{CoreFrame, CoreStack, IsNoCall, CallsAs, KeepsCore, Keeps, execute_keeps}
 use Rattle.tape_laws.proofs.Mirrors.{OpenFunction, Mirrors}
-use Rattle.tape_laws.proofs.ModuleFacts.{AreNestToldWell, nest_of_core, func_there, nest_stays, call_sees, entry_there, no_call_waits, nest_well}
-use Rattle.tape_laws.proofs.RunCalls.{moments_at, RuleHolds, IsToldOfNest, nest_told, global_at, few_pages}
-use Rattle.tape_laws.proofs.CallObservations.{seen_by, as_told}
-use Rattle.tape_laws.proofs.Tellable.{IsShapeOf}
-use Rattle.tape_laws.proofs.Trails.{call_level, Level, AtFunction, IsOfCore, Leads, Stays, Direct, Indirect, TellsTrap, Quiet, AtEntry, IsTrail}
+use Rattle.tape_laws.proofs.ModuleFacts.{AreNestReportedWell, nest_of_core, func_there, nest_stays, call_sees, entry_there, no_call_waits, nest_well}
+use Rattle.tape_laws.proofs.RunCalls.{moments_at, RuleHolds, IsReportedOfNest, nest_reported, global_at, few_pages}
+use Rattle.tape_laws.proofs.CallObservations.{seen_by, as_reported}
+use Rattle.tape_laws.proofs.Reportable.{IsShapeOf}
+use Rattle.tape_laws.proofs.Trails.{call_level, Level, AtFunction, IsOfCore, Leads, Stays, Direct, Indirect, ReportsTrap, Quiet, AtEntry, IsTrail}
 use Rattle.tape_laws.proofs.NextInstructions.{trap_kind, call_silent, indirect_nest, table_there}
 use Rattle.tape_laws.proofs.TrailCalls as trail_calls
 use Rattle.tape_laws.proofs.TrailsOfRuns as trails
-use Rattle.tape_laws.proofs.TrailsOfRuns.{Told, Delivers}
+use Rattle.tape_laws.proofs.TrailsOfRuns.{Reported, Delivers}
 
 module _ (laws : LawsOfSteps) (m : Module) (heights : Heights) (valid : IsValid m) (typed : IsTypedCode m heights)
     (core : IsCoreModule m) (answers : List (Option Answer)) (fits : FitAnswers m answers) (shape : HookedShape)
@@ -82,24 +82,21 @@ module _ (laws : LawsOfSteps) (m : Module) (heights : Heights) (valid : IsValid 
       abbrev ty : FuncType
       ty = fine.stack.0
 
-      abbrev body : Definition
-      body = fine.stack.1
-
       kept : Keeps store frame.values instr (execute (code_of m) store frame)
       kept = execute_keeps (code_of m) store frame c.0
 
       well : IsNoCall instr
-          → AreNestToldWell m shape is_shape number store frame.at.rest (execute (code_of m) store frame)
+          → AreNestReportedWell m shape is_shape number store frame.at.rest (execute (code_of m) store frame)
       well none =
           nest_well m shape is_shape number (scope m heights frame.func fine.stack.0 fine.stack.1) refl (code_of m) store
           frame fine.store fine.stack.2 c.0.rest none
 
       -- the hook calls of a step observe what the step observes
       observes : RuleHolds shape n (all_globals m) is_shape.globals (execute (code_of m) store frame)
-          → IsToldOfNest shape n (all_globals m) is_shape.globals store frame.values frame.at.rest
+          → IsReportedOfNest shape n (all_globals m) is_shape.globals store frame.values frame.at.rest
           (execute (code_of m) store frame)
       observes rule =
-          nest_told shape n (all_globals m) is_shape.globals (code_of m) store frame c.0.rest
+          nest_reported shape n (all_globals m) is_shape.globals (code_of m) store frame c.0.rest
           (λ x value is. global_at (func_count m) (all_globals m) store.globals x value fine.store.globals is)
           (λ memory is. few_pages (all_memories m) store.memory memory fine.store.memory is) rule
 
@@ -134,25 +131,25 @@ module _ (laws : LawsOfSteps) (m : Module) (heights : Heights) (valid : IsValid 
               subst (AllByRecursion IsOfCore) (sym (append-nil items))
               (nest_of_core store frame.values frame.at.rest c.0.rest)
 
-          told_as : seen_by shape n (all_globals m) (told_by_trap instr operands moment)
-              ≡ as_told shape n (all_globals m) (items ++ [])
-          told_as =
+          reported_as : seen_by shape n (all_globals m) (reported_by_trap instr operands moment)
+              ≡ as_reported shape n (all_globals m) (items ++ [])
+          reported_as =
               subst
-              (IsToldOfNest shape n (all_globals m) is_shape.globals store frame.values frame.at.rest) e
+              (IsReportedOfNest shape n (all_globals m) is_shape.globals store frame.values frame.at.rest) e
               (observes (subst (RuleHolds shape n (all_globals m) is_shape.globals) (sym e) tt))
-              ∙ ap (as_told shape n (all_globals m)) (sym (append-nil items))
+              ∙ ap (as_reported shape n (all_globals m)) (sym (append-nil items))
 
-          tells : TellsTrap m shape moment operands
-          tells =
+          reports : ReportsTrap m shape moment operands
+          reports =
               go
               (trap_kind instr
               (subst (KeepsCore store frame.values instr) e kept.kept))
             where
               go : ((t : ℕ) × (instr ≡ Some (instrs.CallIndirect t))) ⊎ IsNoCall instr
-                  → TellsTrap m shape moment operands
+                  → ReportsTrap m shape moment operands
               go (inl p) = AtEntry p.0 p.1 (entry_there (func_count m) (all_tables m) store.table _ fine.store.table)
               go (inr none) =
-                  Quiet (subst (AreNestToldWell m shape is_shape number store frame.at.rest) e (well none))
+                  Quiet (subst (AreNestReportedWell m shape is_shape number store frame.at.rest) e (well none))
 
           last : IsTrail m shape (Some Trapped) (moment ∷ []) levels known store (items ++ [])
           last =
@@ -163,8 +160,8 @@ module _ (laws : LawsOfSteps) (m : Module) (heights : Heights) (valid : IsValid 
                 of = of;
                 are = are;
                 core = of_core;
-                observes = told_as;
-                tells = tells;
+                observes = reported_as;
+                reports = reports;
                 last = refl;
                 over = refl;
               }
@@ -205,16 +202,16 @@ module _ (laws : LawsOfSteps) (m : Module) (heights : Heights) (valid : IsValid 
           after = store_executed store did;
         }
 
-        told_did : seen_by shape n (all_globals m) (told_by_step (all_globals m) instr operands results moment)
-            ≡ as_told shape n (all_globals m) items
-        told_did =
-            subst (IsToldOfNest shape n (all_globals m) is_shape.globals store frame.values frame.at.rest) e
+        reported_did : seen_by shape n (all_globals m) (reported_by_step (all_globals m) instr operands results moment)
+            ≡ as_reported shape n (all_globals m) items
+        reported_did =
+            subst (IsReportedOfNest shape n (all_globals m) is_shape.globals store frame.values frame.at.rest) e
             (observes (subst (RuleHolds shape n (all_globals m) is_shape.globals) (sym e) tt))
 
         stays : IsNoCall instr → Leads m shape levels levels known items moment operands results
         stays none =
             Stays refl (no_call_waits instr operands none)
-            (subst (AreNestToldWell m shape is_shape number store frame.at.rest) e (well none))
+            (subst (AreNestReportedWell m shape is_shape number store frame.at.rest) e (well none))
             (nest_stays known store frame.values frame.at.rest c.0.rest none)
 
         kept_did : KeepsCore store frame.values instr did
@@ -222,7 +219,7 @@ module _ (laws : LawsOfSteps) (m : Module) (heights : Heights) (valid : IsValid 
 
         -- a step and the trail after it are a trail
         stepped : (after : List Level) → Leads m shape levels after known items moment operands results
-            → Told m heights answers shape k instr store (store_executed store did) (after_control program config frame below control) after
+            → Reported m heights answers shape k instr store (store_executed store did) (after_control program config frame below control) after
             known_next
             → Follows did
         stepped after leads follows =
@@ -236,7 +233,7 @@ module _ (laws : LawsOfSteps) (m : Module) (heights : Heights) (valid : IsValid 
               of = of;
               are = are;
               core = nest_of_core store frame.values frame.at.rest c.0.rest;
-              observes = told_did;
+              observes = reported_did;
               changed = after_is control ∙ left;
               after = after;
               leads = leads;
@@ -300,7 +297,7 @@ module _ (laws : LawsOfSteps) (m : Module) (heights : Heights) (valid : IsValid 
           made direct leads =
               stepped operands results found control e (call_level (nat_lt func n) direct func args ∷ levels) leads
               (subst
-              (λ l. Told m heights answers shape k instr store store
+              (λ l. Reported m heights answers shape k instr store store
               (call_function program (nat_lt func n) store counts func args (InModule waiting ∷ below))
               (call_level (nat_lt func n) direct func args ∷ l) (known_next operands results found control e))
               (ap (λ g. AtFunction g ∷ mirrors.below) rule.2.around.func ∙ sym mirrors.stands)

@@ -25,11 +25,11 @@ use Rattle.type_safety.specs.Stores.{func_count}
 use Rattle.type_safety.specs.Values.{AreValues}
 use Rattle.tape_laws.proofs.Relation.{IsKnownOf, AreSeen}
 use Rattle.record_replay_spec.specs.Hooks.{HookCall, renumbered_call}
-use Rattle.record_replay_spec.specs.ToldCalls.{WaitingCall, Moment, told_by_step, told_by_trap, waiting_after_step}
-use Rattle.record_replay_spec.specs.Order.{HookedShape, OrderState, OrderFrame, InFunction, InCall, may_tell, ordered_step}
+use Rattle.record_replay_spec.specs.ReportedCalls.{WaitingCall, Moment, reported_by_step, reported_by_trap, waiting_after_step}
+use Rattle.record_replay_spec.specs.Order.{HookedShape, OrderState, OrderFrame, InFunction, InCall, may_report, ordered_step}
 use Rattle.record_replay_spec.specs.Logs.{notices_size, own_events}
-use Rattle.tape_laws.specs.ToldObservations.{is_mutable}
-use Rattle.tape_laws.proofs.CallObservations.{seen_by, as_told}
+use Rattle.tape_laws.specs.ReportedObservations.{is_mutable}
+use Rattle.tape_laws.proofs.CallObservations.{seen_by, as_reported}
 
 -- ---- open functions and calls
 
@@ -187,21 +187,21 @@ module _ (m : Module) (shape : HookedShape) where
     pub follows : following below known moment.after later
 
   -- a hook call that changes no frames, and that is in order if control is in a function and no value is pending
-  pub record IsTellable (call : HookCall) : Type 0 where
-    pub ordered : (order : OrderState) → may_tell order ≡ true
+  pub record IsReportable (call : HookCall) : Type 0 where
+    pub ordered : (order : OrderState) → may_report order ≡ true
         → ordered_step shape order (renumbered_call (imported_funcs m) call) ≡ Some order
     pub own : (n : ℕ) (pending : List Val) (view : Store) → own_events n pending call.kind call.args view ≡ []
     pub quiet : notices_size call.kind ≡ false
 
-  abbrev pub AreTellable : List HookCall → Type 0
-  AreTellable = AllByRecursion IsTellable
+  abbrev pub AreReportable : List HookCall → Type 0
+  AreReportable = AllByRecursion IsReportable
 
   -- how an instruction goes on: it stays in its function, or it calls a function by its index or by the table
   pub data Leads (levels after : List Level) (known : Known) (items : List Observation) (moment : Moment)
       (operands results : List Val) : Type 0 where
     Stays : (stands : after ≡ levels)
         (waits : (waiting : List WaitingCall) → waiting_after_step moment.instr operands waiting ≡ waiting)
-        (tellable : AreTellable (told_by_step (all_globals m) moment.instr operands results moment))
+        (reportable : AreReportable (reported_by_step (all_globals m) moment.instr operands results moment))
         (entries : (known_after_all known items).entries ≡ known.entries)
         → Leads levels after known items moment operands results
     Direct : (callee : ℕ) (calls : moment.instr ≡ Some (instrs.Call callee))
@@ -231,20 +231,20 @@ module _ (m : Module) (shape : HookedShape) where
     pub are : AreSeen known moment.before items
     pub core : AllByRecursion IsOfCore items
     pub observes : seen_by shape (imported_funcs m) (all_globals m)
-        (told_by_step (all_globals m) moment.instr operands results moment)
-        ≡ as_told shape (imported_funcs m) (all_globals m) items
+        (reported_by_step (all_globals m) moment.instr operands results moment)
+        ≡ as_reported shape (imported_funcs m) (all_globals m) items
     pub changed : moment.after ≡ with_changes moment.before items
     pub after : List Level
     pub leads : Leads levels after known items moment operands results
     pub follows : following after (known_after_all known items) moment.after later
 
   -- the hook calls of a trap: calls that change no frames, or a call by the table whose entry, if any, is a function
-  pub data TellsTrap (moment : Moment) (operands : List Val) : Type 0 where
-    Quiet : (tellable : AreTellable (told_by_trap moment.instr operands moment)) → TellsTrap moment operands
+  pub data ReportsTrap (moment : Moment) (operands : List Val) : Type 0 where
+    Quiet : (reportable : AreReportable (reported_by_trap moment.instr operands moment)) → ReportsTrap moment operands
     AtEntry : (t : ℕ) (calls : moment.instr ≡ Some (instrs.CallIndirect t))
         (entry : IfSome (entry_of moment.before.table (bits_at operands (length operands - 1)))
         (λ callee. callee < func_count m))
-        → TellsTrap moment operands
+        → ReportsTrap moment operands
 
   -- an instruction traps, and nothing follows
   pub record IsTrap (levels : List Level) (known : Known) (store : Store) (left : List Observation)
@@ -255,9 +255,9 @@ module _ (m : Module) (shape : HookedShape) where
     pub of : IsKnownOf known moment.before
     pub are : AreSeen known moment.before left
     pub core : AllByRecursion IsOfCore left
-    pub observes : seen_by shape (imported_funcs m) (all_globals m) (told_by_trap moment.instr operands moment)
-        ≡ as_told shape (imported_funcs m) (all_globals m) left
-    pub tells : TellsTrap moment operands
+    pub observes : seen_by shape (imported_funcs m) (all_globals m) (reported_by_trap moment.instr operands moment)
+        ≡ as_reported shape (imported_funcs m) (all_globals m) left
+    pub reports : ReportsTrap moment operands
     pub last : later ≡ []
     pub over : outcome ≡ Some Trapped
 

@@ -32,7 +32,7 @@ use Rattle.tape_laws.proofs.Relation.{IsKnownOf}
 use Rattle.tape_laws.proofs.Follows.{AtEachStep}
 use Rattle.tape_laws.specs.RealReads.{observed_from}
 use Rattle.record_replay_spec.specs.Order.{HookedShape}
-use Rattle.record_replay_spec.specs.ToldCalls.{moments}
+use Rattle.record_replay_spec.specs.ReportedCalls.{moments}
 use Rattle.tape_laws.proofs.CoreFrames.{CoreStack, core_results}
 use Rattle.tape_laws.proofs.Mirrors.{Mirrors, host_on_top, any_callee}
 use Rattle.tape_laws.proofs.RunCalls.{moments_at}
@@ -64,8 +64,8 @@ module _ (m : Module) (heights : Heights) (answers : List (Option Answer)) (shap
       IsTrail m shape (ending k s.next) (moments_at instr before after s.entries ++ moments program k s.next) levels
       known after left
 
-  abbrev pub Told : ℕ → Option Instr → (before after : Store) → StepResult → List Level → Known → Type 0
-  Told k instr before after s levels known = IsTrailFrom k instr before after s levels known (observed_from program k s)
+  abbrev pub Reported : ℕ → Option Instr → (before after : Store) → StepResult → List Level → Known → Type 0
+  Reported k instr before after s levels known = IsTrailFrom k instr before after s levels known (observed_from program k s)
 
   -- ---- the statements, by the number of steps that are left
 
@@ -76,7 +76,7 @@ module _ (m : Module) (heights : Heights) (answers : List (Option Answer)) (shap
       (levels : List Level) (known : Known) (instr : Option Instr) (before : Store)
       → Accept m heights stack types → AreValues (func_count m) types results → IsStore m store
       → IsKnownOf known store → length counts ≡ n → CoreStack stack → Reflects None stack levels
-      → Told k instr before store (after_settling store counts (deliver stack results)) levels known
+      → Reported k instr before store (after_settling store counts (deliver stack results)) levels known
 
   -- what holds if a step is made from a configuration
   abbrev GoesOn : ℕ → List Activation → Type 0
@@ -119,8 +119,8 @@ module _ (m : Module) (heights : Heights) (answers : List (Option Answer)) (shap
       → IsTypedFor m shape func (λ ty. ty.results) given → levels ≡ AtFunction func ∷ lower
       → Reflects (Some func) below lower
       → ((levels : List Level) → Reflects None below levels
-      → Told k instr before store (after_settling store counts (deliver below given)) levels known)
-      → Told k instr before store
+      → Reported k instr before store (after_settling store counts (deliver below given)) levels known)
+      → Reported k instr before store
       (step_result (return_entry func given below ∷ (deliver below given).entries)
       (after_settling store counts (deliver below given)).next)
       levels known
@@ -202,9 +202,9 @@ module _ (m : Module) (heights : Heights) (answers : List (Option Answer)) (shap
 
         go : ((given : List Val) → AreValues (func_count m) a.0.results given → (levels : List Level)
             → Reflects None below levels
-            → Told k instr before store (after_settling store counts (deliver below given)) levels known)
+            → Reported k instr before store (after_settling store counts (deliver below given)) levels known)
             → (e : AtEnd) → IsEnd s next.at.rest e
-            → Told k instr before store
+            → Reported k instr before store
             (after_settling store counts (return_from e next below (deliver below))) levels known
         go rest Within going =
             makes.runs next below store counts levels known

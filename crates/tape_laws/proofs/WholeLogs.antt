@@ -22,8 +22,8 @@ use Rattle.tape_laws.proofs.TrailsOfRuns.{outcome_of}
 use Rattle.record_replay_spec.proofs.OneTape.{observations_same}
 use Rattle.tape_laws.specs.LogLaws.{LogsGiveNeededTapes, log_of_run}
 use Rattle.tape_laws.proofs.Agrees.{Agrees}
-use Rattle.tape_laws.proofs.TrailLogs.{Tells}
-use Rattle.tape_laws.proofs.LoggedTrails.{tells}
+use Rattle.tape_laws.proofs.TrailLogs.{Reports}
+use Rattle.tape_laws.proofs.LoggedTrails.{reports}
 
 -- the log before its first event
 abbrev pub first_log : OriginalRun → LogState
@@ -75,14 +75,14 @@ logs_give laws runs indices renumbered run count outcome ends =
     initial : StepResult
     initial = start_in_store run.m run.script run.store
 
-    t : Tells run.m (hooked_shape run) outcome [] (opening_known run.store) run.store (observed run count)
+    t : Reports run.m (hooked_shape run) outcome [] (opening_known run.store) run.store (observed run count)
         (first_log run) (moments_of run count)
     t =
-        tells run.m (hooked_shape run) (hooked_run indices renumbered run) outcome (moments_of run count) []
+        reports run.m (hooked_shape run) (hooked_run indices renumbered run) outcome (moments_of run count) []
         (opening_known run.store) run.store (observed run count) (first_log run)
         (subst (IsRunTrail run count) (ap outcome_of ends) (run_trail laws runs indices run count))
         (record {
-          told = record {
+          reported = record {
             byte = λ at. refl;
             entry = λ at. same_entry (imported_funcs run.m) run.store.table at;
             global = λ at. refl;

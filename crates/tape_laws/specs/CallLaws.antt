@@ -13,10 +13,10 @@ use Rattle.history_spec.specs.Run.{program_of, start_in_store}
 use Rattle.record_replay_spec.specs.Observations.{run_observations}
 use Rattle.type_safety.specs.Supplies.{IsRunnable}
 use Rattle.record_replay_spec.specs.Hooks.{HookCall, renumbered_call}
-use Rattle.record_replay_spec.specs.ToldCalls.{told_by_run}
+use Rattle.record_replay_spec.specs.ReportedCalls.{reported_by_run}
 use Rattle.record_replay_spec.specs.Order.{HookedShape, shape_of, order_start, first_disorder}
 use Rattle.record_replay_spec.specs.Instrumented.{instrumented_module}
-use Rattle.tape_laws.specs.ToldObservations.{told_observations, observations_of_calls}
+use Rattle.tape_laws.specs.ReportedObservations.{reported_observations, observations_of_calls}
 
 -- ---- runs that hooks observe
 
@@ -42,7 +42,7 @@ hooked_shape run = shape_of (imported_funcs run.m) (instrumented_module run.m ru
 abbrev pub calls_of_run : OriginalRun → (count : ℕ) → List HookCall
 calls_of_run run count =
     map (renumbered_call (imported_funcs run.m))
-    (told_by_run run.m (program_of run.m run.script) run.store (start_in_store run.m run.script run.store) count)
+    (reported_by_run run.m (program_of run.m run.script) run.store (start_in_store run.m run.script run.store) count)
 
 -- ---- the laws
 
@@ -57,5 +57,5 @@ abbrev pub HookCallsObserveRuns : Type 0
 HookCallsObserveRuns =
     (run : OriginalRun) (count : ℕ)
     → observations_of_calls (hooked_shape run) (calls_of_run run count)
-    ≡ told_observations (imported_funcs run.m) (all_globals run.m)
+    ≡ reported_observations (imported_funcs run.m) (all_globals run.m)
     (run_observations (program_of run.m run.script) (start_in_store run.m run.script run.store) count)

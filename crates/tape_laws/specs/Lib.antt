@@ -3,6 +3,6 @@ pub mod RealReads
 pub mod Laws
 pub mod Dropped
 pub mod NeededTape
-pub mod ToldObservations
+pub mod ReportedObservations
 pub mod CallLaws
 pub mod LogLaws

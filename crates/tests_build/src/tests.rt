@@ -1,6 +1,6 @@
 //! Tapes, their replay modules, and the code that makes them.
 
-mod builds;
+mod build_calls;
 mod limits;
 mod refusals;
 mod rows;

@@ -1,10 +1,10 @@
 // Files that are instrumented, or refused. The bytes of the first were worked out by hand.
 
-use r3_instrument::{Fault, hooked};
+use r3_instrument::{Fault, instrument_bytes};
 use sample_inputs::examples::TWO_ANSWERS;
 use std::alloc::Global;
 use std::test::Fail;
-use wasm_syntax::limits::MOST_FILE_BYTES;
+use wasm_syntax::limits::MAX_FILE_BYTES;
 
 /// The instrumented module of `TWO_ANSWERS`, with the SHA-256 digest of its bytes.
 const INSTRUMENTED: &str =
@@ -52,10 +52,10 @@ const ROWS: &[Row] = &[
 /// The instrumented file of bytes in hexadecimal.
 fn hooked_file(alloc: Global, text: &str) -> Result<Result<Vec<u8>, Fault>, Fail> {
     let bytes = hex::decode(alloc, text)?;
-    if bytes.len() > MOST_FILE_BYTES as usize {
+    if bytes.len() > MAX_FILE_BYTES as usize {
         return Err(Fail::from("a long text"));
     }
-    Ok(hooked(alloc, bytes.as_slice()))
+    Ok(instrument_bytes(alloc, bytes.as_slice()))
 }
 
 /// Whether a file is instrumented to another.

@@ -1,12 +1,13 @@
 // Which modules have the hooked form. The modules were encoded by hand.
 
 use hook_insert::hooked_form;
-use r3_inputs::{MOST_INSTRUMENTED_BYTES, ModuleFile, module_in};
-use sample_inputs::{examples, hooked};
+use r3_inputs::{ModuleFile, module_in};
+use sample_inputs::{examples, hooked_modules};
 use std::alloc::Global;
 use std::test::Fail;
+use wasm_syntax::limits::MAX_INSTRUMENTED_BYTES;
 
-/// The custom section at the end of `hooked::TWO_ANSWERS`: the digest, and the numbers of functions that the
+/// The custom section at the end of `hooked_modules::TWO_ANSWERS`: the digest, and the numbers of functions that the
 /// original imports and defines.
 const SECTION: &str =
     "002c0972332e686f6f6b656407070707070707070707070707070707070707070707070707070707070707070101";
@@ -24,19 +25,19 @@ const ROWS: &[Row] = &[
     ),
     (
         "two answers, instrumented",
-        hooked::TWO_ANSWERS,
+        hooked_modules::TWO_ANSWERS,
         &[SECTION],
         true,
     ),
     (
         "two sections of the name",
-        hooked::TWO_ANSWERS,
+        hooked_modules::TWO_ANSWERS,
         &[SECTION, SECTION],
         false,
     ),
     (
         "a digest of 31 bytes",
-        hooked::TWO_ANSWERS,
+        hooked_modules::TWO_ANSWERS,
         &[
             "002b0972332e686f6f6b6564070707070707070707070707070707070707070707070707070707070707070101",
         ],
@@ -44,7 +45,7 @@ const ROWS: &[Row] = &[
     ),
     (
         "other numbers in the section",
-        hooked::TWO_ANSWERS,
+        hooked_modules::TWO_ANSWERS,
         &[
             "002c0972332e686f6f6b656407070707070707070707070707070707070707070707070707070707070707070102",
         ],
@@ -74,7 +75,12 @@ const ROWS: &[Row] = &[
         ],
         false,
     ),
-    ("no section of the name", hooked::TWO_ANSWERS, &[], false),
+    (
+        "no section of the name",
+        hooked_modules::TWO_ANSWERS,
+        &[],
+        false,
+    ),
 ];
 
 /// The bytes of a row's module.
@@ -88,7 +94,7 @@ fn bytes_of(alloc: Global, module: &str, sections: &[&str]) -> Result<Vec<u8>, F
 
 /// Whether a module has the form, of one function and one import, with a digest of bytes 7.
 fn has_form(alloc: Global, bytes: &[u8]) -> Result<bool, Fail> {
-    if bytes.len() > MOST_INSTRUMENTED_BYTES as usize {
+    if bytes.len() > MAX_INSTRUMENTED_BYTES as usize {
         return Err(Fail::from("a long text"));
     }
     match module_in(alloc, ModuleFile::Instrumented, bytes) {

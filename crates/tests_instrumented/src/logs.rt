@@ -1,13 +1,13 @@
 // Logs of runs of instrumented modules, worked out by hand, and the lines of error of runs that have none.
 
-use r3_inputs::MOST_INSTRUMENTED_BYTES;
 use r3_make::log_run;
 use r3_outside::SureSink;
 use sample_inputs::examples;
-use sample_inputs::hooked::TWO_ANSWERS;
+use sample_inputs::hooked_modules::TWO_ANSWERS;
 use sample_inputs::scripts::ANSWERS;
 use std::alloc::Global;
 use std::test::Fail;
+use wasm_syntax::limits::MAX_INSTRUMENTED_BYTES;
 
 /// What a row tests; the bytes of a module in hexadecimal, a script for it, a number of turns; and the bytes of
 /// the log file in hexadecimal, or the line of error.
@@ -19,7 +19,7 @@ type Row = (
     Result<&'static str, &'static str>,
 );
 
-/// `hooked::TWO_ANSWERS`, except that the exit of the function is reported as an entry.
+/// `hooked_modules::TWO_ANSWERS`, except that the exit of the function is reported as an entry.
 const ENTERED_AGAIN: &str =
     "0061736d01000000011e066000017f60027f7e0060017f0060000060037f7f7f0060047f7f7f7e00029f011001680166\
      000002723303617267000102723305656e7465720002027233056c65617665000202723303707265000202723304706f\
@@ -29,7 +29,7 @@ const ENTERED_AGAIN: &str =
      41ff002001ad1001410010052001410010041000210141ff002001ad10014100100520016a0b410110020b002c097233\
      2e686f6f6b656407070707070707070707070707070707070707070707070707070707070707070101";
 
-/// `hooked::TWO_ANSWERS`, except that the first answer is passed with a byte that encodes no type.
+/// `hooked_modules::TWO_ANSWERS`, except that the first answer is passed with a byte that encodes no type.
 const NO_TYPE: &str =
     "0061736d01000000011e066000017f60027f7e0060017f0060000060037f7f7f0060047f7f7f7e00029f011001680166\
      000002723303617267000102723305656e7465720002027233056c65617665000202723303707265000202723304706f\
@@ -51,7 +51,7 @@ const OVERWRITE: &str =
      070707070101";
 
 /// `OVERWRITE`, except that the hook call reports a load of two bytes.
-const TWO_BYTES_TOLD: &str =
+const TWO_BYTES_REPORTED: &str =
     "0061736d01000000011e066000006000017f60027f7e0060017f0060037f7f7f0060047f7f7f7e00029f011001680166\
      000002723303617267000202723305656e7465720003027233056c65617665000302723303707265000302723304706f\
      73740003027233046970726500030272330569706f73740000027233046c6f616400040272330573746f726500050272\
@@ -95,7 +95,7 @@ const ROWS: &[Row] = &[
     ),
     (
         "bytes that are not told",
-        TWO_BYTES_TOLD,
+        TWO_BYTES_REPORTED,
         WRITES,
         1000,
         Ok(
@@ -162,7 +162,7 @@ fn answer_to(
     turns: u64,
 ) -> Result<Result<String, Vec<u8>>, Fail> {
     let bytes = hex::decode(alloc, module)?;
-    if bytes.len() as u64 > MOST_INSTRUMENTED_BYTES {
+    if bytes.len() as u64 > MAX_INSTRUMENTED_BYTES {
         return Err(Fail::from("too many bytes"));
     }
     let fault = match log_run(alloc, bytes.as_slice(), script.as_bytes(), turns) {

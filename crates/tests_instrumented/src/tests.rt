@@ -1,11 +1,11 @@
-use hook_insert::{Hooked, files_are_of_words, instrument};
+use hook_insert::{InstrumentedModule, files_are_of_words, instrument};
 use r3_inputs::module_of;
 use sample_inputs::examples::{
     C_BUFFERS, COLLATZ, COPY_LOAD, FILL_PAST, FLOAT_GLOBAL, NESTED_CALL, TABLE_ENTRY, TWO_ANSWERS,
 };
 use std::alloc::Global;
 use std::test::Fail;
-use wasm_syntax::limits::MOST_FILE_BYTES;
+use wasm_syntax::limits::MAX_FILE_BYTES;
 
 /// A module: its name, its bytes in hexadecimal; and for its instrumented module the number of instructions in
 /// its bodies, ends of blocks among them, of those that take a turn, of types, and of imports.
@@ -35,9 +35,9 @@ const BODY: &str = "[Const(Val { ty: I32, bits: 1 }), Call(2), Block(Some(I32)),
     Numeric(106), End, Const(Val { ty: I32, bits: 1 }), Call(3), End]";
 
 /// The instrumented module of bytes in hexadecimal.
-fn hooked(alloc: Global, text: &str) -> Result<Hooked, Fail> {
+fn with_hooks(alloc: Global, text: &str) -> Result<InstrumentedModule, Fail> {
     let bytes = hex::decode(alloc, text)?;
-    if bytes.len() > MOST_FILE_BYTES as usize {
+    if bytes.len() > MAX_FILE_BYTES as usize {
         return Err(Fail::from("a long text"));
     }
     files_are_of_words();
@@ -48,7 +48,7 @@ fn hooked(alloc: Global, text: &str) -> Result<Hooked, Fail> {
 }
 
 /// The figures of an instrumented module, as a row has them.
-fn figures(hooked: &Hooked) -> [usize; 4] {
+fn figures(hooked: &InstrumentedModule) -> [usize; 4] {
     let mut instructions = 0;
     let mut turns = 0;
     let mut place: u32 = 0;
@@ -68,7 +68,7 @@ fn figures(hooked: &Hooked) -> [usize; 4] {
 #[test]
 fn instrumented_modules_have_these_figures(rt: HostRuntime) -> Result<(), Fail> {
     for &(name, text, want) in ROWS {
-        let hooked = hooked(rt.alloc(), text)?;
+        let hooked = with_hooks(rt.alloc(), text)?;
         if figures(&hooked) != want {
             return Err(Fail::new(format_args!("{name}")));
         }
@@ -78,7 +78,7 @@ fn instrumented_modules_have_these_figures(rt: HostRuntime) -> Result<(), Fail> 
 
 #[test]
 fn the_instrumented_body_of_two_answers(rt: HostRuntime) -> Result<(), Fail> {
-    let hooked = hooked(rt.alloc(), TWO_ANSWERS)?;
+    let hooked = with_hooks(rt.alloc(), TWO_ANSWERS)?;
     let mut text = String::new(rt.alloc());
     for func in hooked.module.module().funcs.as_slice() {
         write!(text, "{:?}", func.body.as_slice())?;

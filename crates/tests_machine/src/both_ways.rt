@@ -10,7 +10,7 @@ use std::alloc::Global;
 use std::test::Fail;
 use wasm_flat::Meter;
 use wasm_interp::{Pause, Turn};
-use wasm_syntax::limits::MOST_FILE_BYTES;
+use wasm_syntax::limits::MAX_FILE_BYTES;
 use wasm_syntax::{Val, ValType};
 
 /// A call of a function of a module, in hexadecimal, with values of one type, under a script.
@@ -49,17 +49,25 @@ fn values_of(alloc: Global, ty: ValType, numbers: &[u64]) -> Result<Vec<Val>, No
     Ok(values)
 }
 
+/// The instance of a case before the call.
+fn idle_instance(alloc: Global, case: Case) -> Result<Instance, Fail>
+    ensures { IfOk result (λ instance. IsIdle instance.«module» instance.machine) }
+{
+    let bytes = hex::decode(alloc, case.module)?;
+    if bytes.len() as u64 > MAX_FILE_BYTES {
+        return Err(Fail::from("a module that is too long"));
+    }
+    match instance_of(alloc, &bytes, case.script.as_bytes()) {
+        Ok(instance) => Ok(instance),
+        Err(_fault) => Err(Fail::from("a module without an instance")),
+    }
+}
+
 /// An instance in which a function is called.
 pub(crate) fn running_instance(alloc: Global, case: Case) -> Result<Instance, Fail>
     ensures { IfOk result (λ instance. IsRunning instance.«module» instance.machine) }
 {
-    let bytes = hex::decode(alloc, case.module)?;
-    if bytes.len() as u64 > MOST_FILE_BYTES {
-        return Err(Fail::from("a module that is too long"));
-    }
-    let Ok(mut instance) = instance_of(alloc, &bytes, case.script.as_bytes()) else {
-        return Err(Fail::from("a module without an instance"));
-    };
+    let mut instance = idle_instance(alloc, case)?;
     if call_function(alloc, &mut instance, case)? {
         Ok(instance)
     } else {

@@ -1,6 +1,9 @@
 //! Calls with their results, worked out by hand from the standard, in both ways.
 
+ghost use Rattle.bench_machine.specs.Positions.{IsRunning};
+
 use crate::both_ways::{Case, outcome_by_advance, outcome_by_turns, running_instance};
+use bench_machine::Instance;
 use sample_inputs::examples::C_BUFFERS;
 use std::alloc::Global;
 use std::test::Fail;
@@ -317,24 +320,39 @@ const TABLES: &[(Case, &[Row])] = &[
     (CONTROL, CONTROL_ROWS),
 ];
 
+/// Whether a call comes to the end of a row turn by turn, with these bytes in the memory.
+fn comes_by_turns(
+    alloc: Global,
+    case: Case,
+    row: Row,
+    given: u64,
+    bytes: &[u8],
+) -> Result<bool, Fail> {
+    let (_, _, pause, turns, line) = row;
+    let end = outcome_by_turns(alloc, case, given)?;
+    let is_there = end.pause == pause && end.turns == turns;
+    Ok(is_there && end.bytes.as_slice() == bytes && end.line.as_slice() == line.as_bytes())
+}
+
 /// Whether a row holds in both ways within a given number of turns.
 fn holds(alloc: Global, case: Case, row: Row, given: u64) -> Result<bool, Fail> {
-    let (_, _, pause, turns, line) = row;
-    let at_once = outcome_by_advance(alloc, case, given)?;
-    let step_by_step = outcome_by_turns(alloc, case, given)?;
-    let same = at_once.bytes.as_slice() == step_by_step.bytes.as_slice();
-    let by_advance = at_once.pause == pause && at_once.turns == turns;
-    let by_turns = step_by_step.pause == pause && step_by_step.turns == turns;
-    Ok(same && by_advance && by_turns && step_by_step.line.as_slice() == line.as_bytes())
+    let (_, _, pause, turns, _) = row;
+    let end = outcome_by_advance(alloc, case, given)?;
+    let is_there = end.pause == pause && end.turns == turns;
+    Ok(is_there && comes_by_turns(alloc, case, row, given, end.bytes.as_slice())?)
+}
+
+/// Whether a given number of turns is spent turn by turn, with these bytes in the memory.
+fn are_spent_by_turns(alloc: Global, case: Case, given: u64, bytes: &[u8]) -> Result<bool, Fail> {
+    let end = outcome_by_turns(alloc, case, given)?;
+    Ok(end.pause == Pause::Spent && end.turns == given && end.bytes.as_slice() == bytes)
 }
 
 /// Whether a given number of turns is spent in both ways.
 fn are_spent(alloc: Global, case: Case, given: u64) -> Result<bool, Fail> {
-    let at_once = outcome_by_advance(alloc, case, given)?;
-    let step_by_step = outcome_by_turns(alloc, case, given)?;
-    let same = at_once.bytes.as_slice() == step_by_step.bytes.as_slice();
-    let by_advance = at_once.pause == Pause::Spent && at_once.turns == given;
-    Ok(same && by_advance && step_by_step.pause == Pause::Spent && step_by_step.turns == given)
+    let end = outcome_by_advance(alloc, case, given)?;
+    let is_spent = end.pause == Pause::Spent && end.turns == given;
+    Ok(is_spent && are_spent_by_turns(alloc, case, given, end.bytes.as_slice())?)
 }
 
 /// Whether a row holds within just the turns that it takes and within one more, and all turns are
@@ -401,23 +419,26 @@ fn a_store_leaves_its_bytes(rt: HostRuntime) -> Result<(), Fail> {
     Ok(())
 }
 
+/// Whether the turns of a call are spent after a first few, and it returns after more of ten.
+fn goes_on(instance: &mut Instance, first: u64) -> Result<bool, Fail>
+    requires { IsRunning instance.old.«module» instance.old.machine }
+{
+    let meter = Meter::all_one();
+    match instance.advance(&meter, first)? {
+        (Pause::Spent, left) => {
+            let (pause, rest) = instance.advance(&meter, 10)?;
+            Ok(left == 0 && pause == Pause::Returned && rest == first.saturating_add(3))
+        }
+        _ => Ok(false),
+    }
+}
+
 /// Seven turns are spent after any fewer, and going on makes the rest.
 #[test]
 fn a_spent_budget_can_be_added_to(rt: HostRuntime) -> Result<(), Fail> {
-    let alloc = rt.alloc();
-    let case = CONTROL.call(1, &[1]);
-    let meter = Meter::all_one();
     for first in 0..7u64 {
-        let mut instance = running_instance(alloc, case)?;
-        match instance.advance(&meter, first)? {
-            (Pause::Spent, left) => {
-                assert_eq!(rt; left, 0);
-                let (pause, left) = instance.advance(&meter, 10)?;
-                assert_eq!(rt; pause, Pause::Returned);
-                assert_eq!(rt; left, 3 + first);
-            }
-            (pause, _) => assert_eq!(rt; pause, Pause::Spent),
-        }
+        let mut instance = running_instance(rt.alloc(), CONTROL.call(1, &[1]))?;
+        assert!(rt; goes_on(&mut instance, first)?);
     }
     Ok(())
 }

@@ -1,4 +1,4 @@
 //! What `make` prints.
 
-mod makes;
-mod replays;
+mod make_rows;
+mod replay_files;

@@ -1,14 +1,14 @@
 // A module that is instrumented, and played under its meter.
 
 ghost use Rattle.std.specs.Prelude.{◌≤◌, IfOk, length};
-ghost use Rattle.wasm_syntax.specs.declared.limits.TheConstants.{MOST_FILE_BYTES};
+ghost use Rattle.wasm_syntax.specs.declared.limits.TheConstants.{MAX_FILE_BYTES};
 ghost use Rattle.wasm_flat.specs.Meters.{FitsMeter};
 ghost use Rattle.wasm_flat.specs.Sizes.{IsShort};
 ghost use Rattle.type_safety.specs.Supplies.{IsRunnable};
 
-use crate::plays::played;
+use crate::hooked_runs::played;
 use history_spec::Outcome;
-use hook_insert::{Hooked, instrument, instrumented_meters_fit};
+use hook_insert::{InstrumentedModule, instrument, instrumented_meters_fit};
 use hook_names::NoHooks;
 use host_play::PlayFault;
 use instrumented_module_laws::{
@@ -18,7 +18,7 @@ use r3_inputs::module_of;
 use sample_inputs::examples::C_BUFFERS;
 use std::alloc::Global;
 use std::test::Fail;
-use wasm_syntax::limits::MOST_FILE_BYTES;
+use wasm_syntax::limits::MAX_FILE_BYTES;
 
 // examples/c_buffers.json
 const SCRIPT: &str = "{\"imports\":{\"env\":{\"read\":{\"calls\":[{\"do\":[\
@@ -26,8 +26,8 @@ const SCRIPT: &str = "{\"imports\":{\"env\":{\"read\":{\"calls\":[{\"do\":[\
     \"return\":{\"i32\":0}}]}}},\"main\":[{\"call\":\"run\"}]}";
 
 /// The instrumented module of the module that bytes encode, with this digest.
-fn hooked_of(alloc: Global, bytes: &[u8], digest: &[u8; 32]) -> Result<Hooked, Fail>
-    requires { length bytes.now ≤ MOST_FILE_BYTES }
+fn hooked_of(alloc: Global, bytes: &[u8], digest: &[u8; 32]) -> Result<InstrumentedModule, Fail>
+    requires { length bytes.now ≤ MAX_FILE_BYTES }
     ensures short { IfOk result (λ hooked. IsShort hooked.«module») }
     ensures runnable { IfOk result (λ hooked. IsRunnable hooked.«module») }
     ensures meter { IfOk result (λ hooked. FitsMeter hooked.«module» hooked.meter) }
@@ -43,13 +43,13 @@ fn hooked_of(alloc: Global, bytes: &[u8], digest: &[u8; 32]) -> Result<Hooked, F
 }
 
 /// The instrumented module of `C_BUFFERS`.
-fn hooked_buffers(alloc: Global) -> Result<Hooked, Fail>
+fn hooked_buffers(alloc: Global) -> Result<InstrumentedModule, Fail>
     ensures short { IfOk result (λ hooked. IsShort hooked.«module») }
     ensures runnable { IfOk result (λ hooked. IsRunnable hooked.«module») }
     ensures meter { IfOk result (λ hooked. FitsMeter hooked.«module» hooked.meter) }
 {
     let bytes = hex::decode(alloc, C_BUFFERS)?;
-    if bytes.len() > MOST_FILE_BYTES as usize {
+    if bytes.len() > MAX_FILE_BYTES as usize {
         return Err(Fail::from("a long text"));
     }
     hooked_of(alloc, bytes.as_slice(), &[7; 32])

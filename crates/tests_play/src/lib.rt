@@ -5,8 +5,8 @@
 #[cfg(test)]
 mod buffers;
 #[cfg(test)]
-mod plays;
+mod hooked_runs;
 #[cfg(test)]
-mod refusing;
+mod refusing_hooks;
 #[cfg(test)]
 mod tests;

@@ -1,14 +1,15 @@
-use crate::plays::played;
-use crate::refusing::Refusing;
+use crate::hooked_runs::played;
+use crate::refusing_hooks::RefusingHooks;
 use history_spec::Outcome;
 use hook_names::{Hooks, NoHooks};
 use host_play::PlayFault;
-use r3_inputs::{MOST_INSTRUMENTED_BYTES, ModuleFile, module_in};
-use sample_inputs::hooked::TWO_ANSWERS;
+use r3_inputs::{ModuleFile, module_in};
+use sample_inputs::hooked_modules::TWO_ANSWERS;
 use sample_inputs::scripts::ANSWERS;
 use std::alloc::Global;
 use std::test::Fail;
 use wasm_flat::Meter;
+use wasm_syntax::limits::MAX_INSTRUMENTED_BYTES;
 
 // a script with the answers of `ANSWERS`, and with answers for the hooks, which are never used
 const HOOKS_ANSWERED: &str = "{\"imports\":{\"h\":{\"f\":{\"calls\":[{\"return\":{\"i32\":5}},\
@@ -23,7 +24,7 @@ fn run_of<H: Hooks>(
     hooks: &mut H,
 ) -> Result<Result<Outcome, PlayFault>, Fail> {
     let bytes = hex::decode(alloc, TWO_ANSWERS)?;
-    if bytes.len() > MOST_INSTRUMENTED_BYTES as usize {
+    if bytes.len() > MAX_INSTRUMENTED_BYTES as usize {
         return Err(Fail::from("a long module"));
     }
     let Ok(checked) = module_in(alloc, ModuleFile::Instrumented, bytes.as_slice()) else {
@@ -47,7 +48,7 @@ fn runs_take_their_turns(rt: HostRuntime) -> Result<(), Fail> {
 
 #[test]
 fn hooks_take_all_calls(rt: HostRuntime) -> Result<(), Fail> {
-    let mut hooks = Refusing {
+    let mut hooks = RefusingHooks {
         at: 1_000,
         taken: 0,
         arguments: 0,
@@ -66,7 +67,7 @@ fn hooks_take_all_calls(rt: HostRuntime) -> Result<(), Fail> {
 #[test]
 fn a_refused_call_ends_the_run(rt: HostRuntime) -> Result<(), Fail> {
     for number in 0..8 {
-        let mut hooks = Refusing {
+        let mut hooks = RefusingHooks {
             at: number,
             taken: 0,
             arguments: 0,

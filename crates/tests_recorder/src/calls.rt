@@ -52,7 +52,7 @@ fn is_disorder(alloc: Global, before: &[Step], kind: Hook, bits: &[u64]) -> Resu
 }
 
 #[test]
-fn calls_out_of_order_are_told_by_their_numbers(rt: HostRuntime) -> Result<(), Fail> {
+fn calls_out_of_order_are_reported_by_their_numbers(rt: HostRuntime) -> Result<(), Fail> {
     for &(name, kind, bits) in OUT_OF_ORDER {
         let after_one = is_disorder(rt.alloc(), &BEFORE[..1], kind, bits)?;
         if !after_one || !is_disorder(rt.alloc(), BEFORE, kind, bits)? {

@@ -15,7 +15,7 @@ use wasm_syntax::{Limits, List, Val, ValType};
 use wasm_validate::validate;
 
 /// More functions than the module has.
-const MOST_FUNCS: usize = 1_000;
+const MAX_FUNCS: usize = 1_000;
 
 /// A hook call with the bits of its arguments; or the host writes bytes from an address on, grows the memory by
 /// a page, or sets the first entry of the table to the last function.
@@ -42,7 +42,7 @@ fn no_supply(alloc: Global) -> Supply
 #[tactic(auto, using(crate::proofs::Linking::few, crate::proofs::Linking::links, crate::proofs::Linking::typed))]
 pub(crate) fn new_recorder(alloc: Global) -> Result<Recorder<Events>, Fail> {
     let module = module_of(alloc)?;
-    if module.funcs.as_slice().len() > MOST_FUNCS {
+    if module.funcs.as_slice().len() > MAX_FUNCS {
         return Err(Fail::from("another module"));
     }
     let Ok(checked) = validate(alloc, module) else {

@@ -4,7 +4,7 @@ mod by_hand;
 mod handmade;
 mod long_runs;
 mod projections;
+mod replay_modules;
 mod replay_texts;
-mod replays;
 mod rows;
 mod runs;

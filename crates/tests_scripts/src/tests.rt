@@ -3,7 +3,7 @@
 mod actions;
 mod answers;
 mod hooked_script;
-mod loads;
+mod load_files;
 mod numbers;
 mod responses;
 mod supplies;

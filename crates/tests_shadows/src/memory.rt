@@ -38,7 +38,7 @@ fn neighbours_of_taken_bytes_are_those_of_the_opening(rt: HostRuntime) -> Result
     assert!(rt; !shadow.differs(4_100, 0));
     assert!(rt; !shadow.differs(65_536, 0));
     assert!(rt; shadow.known_pages() == 1);
-    assert!(rt; shadow.noticed() == 1);
+    assert!(rt; shadow.noticed_pages() == 1);
     Ok(())
 }
 

@@ -2,4 +2,4 @@
 
 mod load_calls;
 mod replay_calls;
-mod shows;
+mod show_calls;

@@ -7,4 +7,4 @@ mod fits;
 mod lines;
 mod plans;
 mod prefixes;
-mod written;
+mod rewritten_files;

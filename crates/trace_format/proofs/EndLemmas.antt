@@ -1,10 +1,9 @@
 -- The bytes after numbers and ends.
-use Rattle.std.proofs.Common.{◌≡◌, ℕ, ◌-◌, ◌<◌, ◌≤◌, true, List, [], ◌∷◌, length, take, drop, Some, ap, sym, ◌∙◌, arith}
+use Rattle.std.proofs.Common.{◌≡◌, ℕ, ◌-◌, ◌<◌, ◌≤◌, true, List, [], ◌∷◌, length, take, drop, Some, ap, sym, arith}
 use Rattle.std.specs.Prelude.{nat_eq}
 use lib.Pointwise.{pointwise}
 use Rattle.std.proofs.lemmas.Bool.{eqb-true}
 use Rattle.std.proofs.lemmas.List.{length-append, length-drop}
-use Rattle.std.proofs.Math.Seq.{take-length}
 use Rattle.base.proofs.Booleans.{and_left}
 use Rattle.wasm_syntax.specs.Encoding.Combinators.{Reader}
 use Rattle.base.specs.declared.outcomes.Outcome.{Outcome}
@@ -41,7 +40,3 @@ pub number_shorter : NumberLaws → (input rest : List ℕ) (n : ℕ) → first_
     → length rest ≤ length input
 number_shorter laws input rest n e =
     let f = (number_reads laws).found input rest n e in omega (arith, ap length f.2, length-append f.0 rest)
-
--- the bytes from a place on
-pub whole_rest : (bytes : List ℕ) (at : ℕ) → take (length bytes - at) (drop at bytes) ≡ drop at bytes
-whole_rest bytes at = ap (λ n. take n (drop at bytes)) (sym (length-drop at bytes)) ∙ take-length (drop at bytes)

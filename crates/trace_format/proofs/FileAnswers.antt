@@ -5,7 +5,7 @@ use Rattle.std.proofs.lemmas.Option.{none-some}
 use Rattle.trace_format.specs.Answers.{IsFileAnswer}
 use Rattle.trace_format.specs.Faults.{IsFaultOf, IsFaultPlace, IsOtherVersion}
 use Rattle.trace_format.specs.Reading.{other_version}
-use Rattle.trace_format.specs.Results.{IsContent, IsTold}
+use Rattle.trace_format.specs.Results.{IsContent, IsReported}
 use Rattle.trace_format.specs.declared.files.FormatFault.{FormatFault}
 use Rattle.trace_format.specs.declared.files.FormatFault.TheVariants.{Version, Bad, Memory}
 use Rattle.trace_format.proofs.Versions.{is_other, other_is}
@@ -64,40 +64,40 @@ module _ {C : Type 0} (magic bytes : List ℕ) (IsOf IsRead : C → Type 0) (IsF
 
 -- results made from the content of a file
 module _ {C T : Type 0} (magic bytes : List ℕ) (IsOf IsRead : C → Type 0) (IsFront IsBad : ℕ → Type 0)
-    (facts : FileFacts magic bytes IsOf IsRead IsFront IsBad) (Tells : C → T → Type 0) where
+    (facts : FileFacts magic bytes IsOf IsRead IsFront IsBad) (Reports : C → T → Type 0) where
   abbrev IsFault : FormatFault → Type 0
   IsFault fault = IsFileAnswer IsRead IsBad (other_version magic bytes) (Err fault)
 
-  abbrev IsTelling : Result T FormatFault → Type 0
-  IsTelling answer = MatchResult answer (λ told. (content : C) × IsRead content × Tells content told) IsFault
+  abbrev IsReporting : Result T FormatFault → Type 0
+  IsReporting answer = MatchResult answer (λ reported. (content : C) × IsRead content × Reports content reported) IsFault
 
-  telling_found : (IsRight : T → Type 0)
-      → ((content : C) (told : T) → IsOf content → Tells content told → IsRight told)
-      → (answer : Result T FormatFault) → IsTelling answer → IfOk answer IsRight
-  telling_found IsRight all (Ok told) is = all is.0 told (facts.read_is is.0 is.1) is.2
-  telling_found IsRight all (Err fault) is = tt
+  reporting_found : (IsRight : T → Type 0)
+      → ((content : C) (reported : T) → IsOf content → Reports content reported → IsRight reported)
+      → (answer : Result T FormatFault) → IsReporting answer → IfOk answer IsRight
+  reporting_found IsRight all (Ok reported) is = all is.0 reported (facts.read_is is.0 is.1) is.2
+  reporting_found IsRight all (Err fault) is = tt
 
-  telling_only : (answer : Result T FormatFault) → IsTelling answer → (content : C) → IsOf content
-      → IfOk answer (λ told. Tells content told) × IfErr answer (λ fault. fault ≡ Memory)
-  telling_only (Ok told) is content spelled = (
-    subst (λ c. Tells c told) (facts.one is.0 content is.1 (facts.is_read content spelled)) is.2,
+  reporting_only : (answer : Result T FormatFault) → IsReporting answer → (content : C) → IsOf content
+      → IfOk answer (λ reported. Reports content reported) × IfErr answer (λ fault. fault ≡ Memory)
+  reporting_only (Ok reported) is content spelled = (
+    subst (λ c. Reports c reported) (facts.one is.0 content is.1 (facts.is_read content spelled)) is.2,
     tt,
   )
-  telling_only (Err fault) is content spelled =
+  reporting_only (Err fault) is content spelled =
       (tt, fault_only magic bytes IsOf IsRead IsFront IsBad facts fault is content spelled)
 
-  telling_fault : (answer : Result T FormatFault) → IsTelling answer
+  reporting_fault : (answer : Result T FormatFault) → IsReporting answer
       → IfErr answer (λ fault. IsFaultOf magic IsOf IsFront bytes fault)
-  telling_fault (Ok told) is = tt
-  telling_fault (Err fault) is = fault_is magic bytes IsOf IsRead IsFront IsBad facts fault is
+  reporting_fault (Ok reported) is = tt
+  reporting_fault (Err fault) is = fault_is magic bytes IsOf IsRead IsFront IsBad facts fault is
 
   -- the whole contract of a result made from the content
-  pub telling : (IsRight : T → Type 0)
-      → ((content : C) (told : T) → IsOf content → Tells content told → IsRight told)
-      → (answer : Result T FormatFault) → IsTelling answer
-      → IsTold IsOf (λ fault. IsFaultOf magic IsOf IsFront bytes fault) IsRight Tells answer
-  telling IsRight all answer is = record {
-    found = telling_found IsRight all answer is;
-    only = telling_only answer is;
-    fault = telling_fault answer is;
+  pub reporting : (IsRight : T → Type 0)
+      → ((content : C) (reported : T) → IsOf content → Reports content reported → IsRight reported)
+      → (answer : Result T FormatFault) → IsReporting answer
+      → IsReported IsOf (λ fault. IsFaultOf magic IsOf IsFront bytes fault) IsRight Reports answer
+  reporting IsRight all answer is = record {
+    found = reporting_found IsRight all answer is;
+    only = reporting_only answer is;
+    fault = reporting_fault answer is;
   }

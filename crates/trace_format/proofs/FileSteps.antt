@@ -3,12 +3,13 @@ use Rattle.std.proofs.Common.{◌≡◌, ℕ, ◌-◌, ◌≤◌, List, length, 
 use Rattle.trace_model.specs.declared.events.Log.{Log}
 use Rattle.trace_model.specs.declared.tapes.Tape.{Tape}
 use Rattle.trace_bytes.specs.declared.tags.TheConstants.{LOG_MAGIC, TAPE_MAGIC}
+use Rattle.leb_bytes.proofs.Placed.{behind}
 use Rattle.trace_format.specs.Answers.{AreEnded, IsHeaderFault, IsHeaderThere, IsItemsFault, IsLogAnswer, IsLogRead, IsLogStart, IsLogStartFault, IsTapeAnswer, IsTapeRead, header_length}
 use Rattle.trace_format.specs.Laws.{NumberLaws}
 use Rattle.trace_format.specs.Reading.{first_close, first_event, first_header, first_log_header, first_number, first_outcome, first_segment}
 use Rattle.trace_format.specs.declared.files.FormatFault.{FormatFault}
 use Rattle.trace_format.specs.declared.files.FormatFault.TheVariants.{Version, Bad, Memory}
-use Rattle.trace_format.proofs.EndLemmas.{number_shorter, whole_rest}
+use Rattle.trace_format.proofs.EndLemmas.{number_shorter}
 
 -- ---- logs
 
@@ -35,7 +36,7 @@ pub number_left : NumberLaws → (bytes : List ℕ) (imports : ℕ) (start : Lis
 number_left laws bytes imports start is =
     omega (
       arith,
-      number_shorter laws _ start imports (ap first_number (sym (whole_rest bytes header_length)) ∙ is),
+      number_shorter laws _ start imports (ap first_number (sym (behind bytes header_length)) ∙ is),
       length-drop header_length bytes,
     )
 
@@ -47,7 +48,7 @@ pub log_begun : NumberLaws → (bytes digest : List ℕ) (version imports : ℕ)
 log_begun laws bytes digest version imports start there is =
     record {
       header = there;
-      number = ap first_number (sym (whole_rest bytes header_length)) ∙ is;
+      number = ap first_number (sym (behind bytes header_length)) ∙ is;
       shorter = number_left laws bytes imports start is;
     }
 
@@ -56,7 +57,7 @@ pub log_not_begun : (bytes digest : List ℕ) (version : ℕ) → IsHeaderThere 
     → IsLogStartFault bytes (Bad 0)
 log_not_begun bytes digest version there none = (
   there.of_version,
-  no_number bytes (version, digest) there (ap first_number (sym (whole_rest bytes header_length)) ∙ none),
+  no_number bytes (version, digest) there (ap first_number (sym (behind bytes header_length)) ∙ none),
   refl,
 )
 
@@ -103,12 +104,6 @@ module _ (bytes digest : List ℕ) (version imports : ℕ) (start : List ℕ)
 
 -- ---- tapes
 
-pub header_fault_of_tape : (bytes : List ℕ) (fault : FormatFault) → IsHeaderFault TAPE_MAGIC bytes fault
-    → IsTapeAnswer bytes (Err fault)
-header_fault_of_tape bytes (Version found) is = is
-header_fault_of_tape bytes (Bad at) is = (is.of_version, inl (is.none, is.place))
-header_fault_of_tape bytes Memory is = absurd is
-
 module _ (bytes digest : List ℕ) (version : ℕ) (there : IsHeaderThere TAPE_MAGIC bytes (version, digest)) where
   pub tape_is_read : (tape : Tape) → AreEnded (first_segment version) first_close (drop header_length bytes) tape.segments tt
       → IsTapeRead bytes (digest, tape)
@@ -141,4 +136,4 @@ module _ (bytes digest : List ℕ) (version : ℕ) (there : IsHeaderThere TAPE_M
       (take (length bytes - header_length) (drop header_length bytes)) fault → IsTapeAnswer bytes (Err fault)
   items_fault_of_tape fault is =
       fault_of_tape fault
-      (subst (λ r. IsItemsFault (first_segment version) first_close bytes r fault) (whole_rest bytes header_length) is)
+      (subst (λ r. IsItemsFault (first_segment version) first_close bytes r fault) (behind bytes header_length) is)

@@ -21,10 +21,6 @@ flat_last lines [] x = append-nil (lines x)
 flat_last lines (y ∷ ys) x = ap (λ t. lines y ++ t) (flat_last lines ys x) ∙ sym (append_assoc (lines y) (flat_map lines ys) (lines x))
 
 module _ {A : Type 0} (read : Reader A) (lines : A → List ℕ) where
-  -- no item yet
-  pub shown_first : (bytes before : List ℕ) → AreShown read lines bytes bytes before before
-  shown_first bytes before = record { items = []; items_read = refl; grown = sym (append-nil before) }
-
   -- one more, after the others
   pub shown_more : (bytes mid left before now more : List ℕ) (x : A) → AreShown read lines bytes mid before now
       → read mid ≡ Some (x, left) → more ≡ now ++ lines x → AreShown read lines bytes left before more

@@ -18,10 +18,6 @@ module _ {S : Type 0} (read : Reader Event) (takes : S → Event → S → Type 
   takes_last before now next [] x so_far also = (next, subst (λ s. takes s x next) (sym so_far) also, refl)
   takes_last before now next (y ∷ ys) x so_far also = (so_far.0, so_far.1, takes_last so_far.0 now next ys x so_far.2 also)
 
-  -- no event yet
-  pub none_taken : (bytes : List ℕ) (sink : S) → AreTaken read takes bytes bytes sink sink
-  none_taken bytes sink = record { items = []; items_read = refl; all = refl }
-
   -- one more, after the others
   pub one_more_taken : (bytes mid left : List ℕ) (before now next : S) (x : Event)
       → AreTaken read takes bytes mid before now → read mid ≡ Some (x, left) → takes now x next

@@ -29,13 +29,13 @@ abbrev pub SegmentsAreRead : Type 0
 SegmentsAreRead = (version : ℕ) → IsReadBy (Spells (FitsSegment version) segment_bytes) (first_segment version)
 
 -- no bytes encode two logs; no bytes encode two tapes
-abbrev pub LogsAreToldApart : Type 0
-LogsAreToldApart = (bytes digest other : List ℕ) (log second : Log)
+abbrev pub LogsAreDistinguished : Type 0
+LogsAreDistinguished = (bytes digest other : List ℕ) (log second : Log)
     → IsLogOf bytes digest log → IsLogOf bytes other second → (digest ≡ other) × (log ≡ second)
 
 -- no bytes encode two tapes, or one tape with two digests
-abbrev pub TapesAreToldApart : Type 0
-TapesAreToldApart = (bytes digest other : List ℕ) (tape second : Tape)
+abbrev pub TapesAreDistinguished : Type 0
+TapesAreDistinguished = (bytes digest other : List ℕ) (tape second : Tape)
     → IsTapeOf bytes digest tape → IsTapeOf bytes other second → (digest ≡ other) × (tape ≡ second)
 
 -- a log, or a tape, that bytes encode in either version can be written

@@ -27,22 +27,23 @@ IsTapeContent bytes = IsContent (λ content. IsTapeOf bytes content.0 content.1)
 
 -- a result is right for the content of the file; if there is content, only running out of memory keeps the
 -- result from being returned; every error has a cause
-pub record IsTold {C T : Type 0} (IsOf : C → Type 0) (IsFault : FormatFault → Type 0) (IsRight : T → Type 0)
-    (Tells : C → T → Type 0) (result : Result T FormatFault) : Type 0 where
+pub record IsReported {C T : Type 0} (IsOf : C → Type 0) (IsFault : FormatFault → Type 0) (IsRight : T → Type 0)
+    (Reports : C → T → Type 0) (result : Result T FormatFault) : Type 0 where
   pub found : IfOk result IsRight
   pub only : (content : C) → IsOf content
-      → IfOk result (λ told. Tells content told) × IfErr result (λ fault. fault ≡ Memory)
+      → IfOk result (λ reported. Reports content reported) × IfErr result (λ fault. fault ≡ Memory)
   pub fault : IfErr result IsFault
 
 -- the lines of the log that bytes encode; the lines of the tape
 abbrev pub IsLogText : {Z : Type 0} → (bytes : List ℕ) → Result (Vec ℕ Z) FormatFault → Type 0
 IsLogText bytes =
-    IsTold (λ content. IsLogOf bytes content.0 content.1) (IsLogFault bytes) (λ text. IsLogShown bytes text.items)
+    IsReported (λ content. IsLogOf bytes content.0 content.1) (IsLogFault bytes) (λ text. IsLogShown bytes text.items)
     (λ content text. text.items ≡ log_content_text content)
 
 -- what printing a tape file returns: the lines of the tape that the bytes encode, unless memory runs out; or a fault
 -- with its cause
 abbrev pub IsTapeText : {Z : Type 0} → (bytes : List ℕ) → Result (Vec ℕ Z) FormatFault → Type 0
 IsTapeText bytes =
-    IsTold (λ content. IsTapeOf bytes content.0 content.1) (IsTapeFault bytes) (λ text. IsTapeShown bytes text.items)
+    IsReported (λ content. IsTapeOf bytes content.0 content.1) (IsTapeFault bytes)
+    (λ text. IsTapeShown bytes text.items)
     (λ content text. text.items ≡ tape_content_text content)

@@ -32,7 +32,7 @@ pub(crate) trait Kind {
 }
 
 /// A kind of items that have lines.
-pub(crate) trait Shown: Kind {
+pub(crate) trait HasLines: Kind {
     ghost use Rattle.std.specs.Prelude.{◌≡◌, ◌++◌, ℕ, List, OnOk};
 
     // the lines of an item
@@ -44,7 +44,7 @@ pub(crate) trait Shown: Kind {
 }
 
 /// A kind of items that a file has, with the end after them.
-pub(crate) trait FileItem: Shown {
+pub(crate) trait FileItem: HasLines {
     ghost use Rattle.std.specs.Prelude.{◌≡◌, ◌≤◌, ◌++◌, ℕ, List, Option, length, OnOk};
     ghost use Rattle.trace_format.specs.Answers.{IsEndAnswer};
 
@@ -145,7 +145,7 @@ pub(crate) fn whole_items<K: Kind>(
 ///
 /// # Errors
 /// `NoMemory` if an allocation failed.
-pub(crate) fn put_whole_items<'a, K: Shown>(
+pub(crate) fn put_whole_items<'a, K: HasLines>(
     alloc: Global,
     out: &mut Vec<u8>,
     version: u8,

@@ -1,13 +1,13 @@
 // Laws of the files, for the crates above.
 
-ghost use Rattle.trace_format.specs.Laws.{EventsAreRead, LogsAreToldApart, LogsAreWritable, NumberLaws, SegmentsAreRead, TapesAreToldApart, TapesAreWritable};
+ghost use Rattle.trace_format.specs.Laws.{EventsAreRead, LogsAreDistinguished, LogsAreWritable, NumberLaws, SegmentsAreRead, TapesAreDistinguished, TapesAreWritable};
 
 use leb_bytes::u32_encoding;
 
 /// The files of logs: bytes encode at most one log, and a log that they encode, in either version, can be
 /// written.
 pub fn log_files()
-    ensures apart { LogsAreToldApart }
+    ensures apart { LogsAreDistinguished }
     ensures writable { LogsAreWritable }
 {
     event_readers();
@@ -16,7 +16,7 @@ pub fn log_files()
 /// The files of tapes: bytes encode at most one tape, and a tape that they encode, in either version, can be
 /// written.
 pub fn tape_files()
-    ensures apart { TapesAreToldApart }
+    ensures apart { TapesAreDistinguished }
     ensures writable { TapesAreWritable }
 {
     segment_readers();

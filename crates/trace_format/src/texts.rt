@@ -5,7 +5,7 @@ ghost use Rattle.history_spec.specs.Line.{hex_digits, line, number_text, values_
 ghost use Rattle.trace_format.specs.Text.{bytes_text, effect_text, entry_text, event_text, func_text, global_text, hex_text, log_text, next_text, origin_text, result_text, segment_text, tape_text};
 
 use crate::headers::Digest;
-use crate::items::Shown;
+use crate::items::HasLines;
 use base::NoMemory;
 use history_lines::{print_outcome, put, put_number, put_value, put_values};
 use std::alloc::Global;
@@ -43,7 +43,7 @@ pub fn show_tape(alloc: Global, digest: &Digest, tape: &Tape) -> Result<Vec<u8>,
     Ok(out)
 }
 
-impl Shown for Event {
+impl HasLines for Event {
     ghost lines = { λ event. line (event_text event) };
 
     fn put_lines(out: &mut Vec<u8>, item: &Event) -> Result<(), NoMemory> {
@@ -51,7 +51,7 @@ impl Shown for Event {
     }
 }
 
-impl Shown for Segment {
+impl HasLines for Segment {
     ghost lines = { segment_text };
 
     fn put_lines(out: &mut Vec<u8>, item: &Segment) -> Result<(), NoMemory> {

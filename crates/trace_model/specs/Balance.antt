@@ -106,7 +106,7 @@ first_unbalanced log = unbalanced_from log.imports 0 balance_start log.outcome l
 abbrev pub IsBalanced : Log → Type 0
 IsBalanced log = first_unbalanced log ≡ None
 
--- what `balanced` returns; out of memory has no cause in the log
+-- what `check_balance` returns; out of memory has no cause in the log
 abbrev pub IsBalance : Option ℕ → Result (Unit {0}) BalanceFault → Type 0
 IsBalance first (Ok it) = first ≡ None
 IsBalance first (Err (faults.Event number)) = first ≡ Some number

@@ -2,7 +2,7 @@
 use Rattle.std.specs.Prelude.{◌≡◌, ℕ, suc, ◌+◌, ◌*◌, List, [], ◌∷◌, length, map, Option, Some, None, Bool, true, false, cond, not, ◌&&◌, nat_eq, nat_lt, nat_le, slice_get, option_and_then, Result, Ok, Err}
 use Rattle.std.specs.Option.{option_map_or, option_to_list}
 use Rattle.std.specs.List.{list_all}
-use Rattle.wasm_syntax.specs.declared.limits.TheConstants.{MOST_PAGES, MOST_ENTRIES, PAGE_SIZE}
+use Rattle.wasm_syntax.specs.declared.limits.TheConstants.{MAX_PAGES, MAX_ENTRIES, PAGE_SIZE}
 use Rattle.wasm_syntax.specs.declared.values.ValType.{ValType}
 use Rattle.wasm_syntax.specs.declared.values.Val.{Val}
 use Rattle.wasm_syntax.specs.declared.signatures.FuncType.{FuncType}
@@ -54,10 +54,10 @@ limits_import false = memory_import
 -- what an effect changes exists and can take the change: a size within the limits, bytes within the address
 -- space, a function that exists, a value of the global's type
 abbrev pub effect_fits : Module → Effect → Bool
-effect_fits m (Grow pages) = grows_within MOST_PAGES pages (slice_get (all_memories m) 0)
-effect_fits m (Table size) = grows_within MOST_ENTRIES size (slice_get (all_tables m) 0)
+effect_fits m (Grow pages) = grows_within MAX_PAGES pages (slice_get (all_memories m) 0)
+effect_fits m (Table size) = grows_within MAX_ENTRIES size (slice_get (all_tables m) 0)
 effect_fits m (Bytes addr bytes) =
-    nat_lt 0 (length (all_memories m)) && nat_le (addr + length bytes) (MOST_PAGES * PAGE_SIZE)
+    nat_lt 0 (length (all_memories m)) && nat_le (addr + length bytes) (MAX_PAGES * PAGE_SIZE)
 effect_fits m (Entry index func) = nat_lt 0 (length (all_tables m)) && names_function m func
 effect_fits m (Global global value) = takes_value value.ty (slice_get (all_globals m) global)
 

@@ -223,7 +223,7 @@ impl Balance {
 ///
 /// # Errors
 /// The first event that is not allowed; `Memory` if an allocation failed.
-pub fn balanced(alloc: Global, log: &Log) -> Result<(), BalanceFault>
+pub fn check_balance(alloc: Global, log: &Log) -> Result<(), BalanceFault>
     ensures { IsBalance (first_unbalanced log.now) result }
 {
     let events = log.events.as_slice();

@@ -16,7 +16,7 @@ use module_index::scope::Scope;
 use std::alloc::Global;
 use std::marker::Model;
 use thiserror::Error;
-use wasm_syntax::limits::{MOST_ENTRIES, MOST_PAGES, PAGE_SIZE};
+use wasm_syntax::limits::{MAX_ENTRIES, MAX_PAGES, PAGE_SIZE};
 use wasm_syntax::{Import, ImportKind, Limits, Module, Val, ValType};
 
 /// Why a tape does not fit a module, or why it is not known.
@@ -32,11 +32,11 @@ pub enum TapeFault {
 
 /// The imports whose calls are open. Contracts see the innermost first.
 #[derive(Drop)]
-pub(crate) struct Opened {
+pub(crate) struct OpenCalls {
     imports: Vec<u32>,
 }
 
-impl Model for Opened {
+impl Model for OpenCalls {
     ghost use Rattle.std.specs.Prelude.{ℕ, List, reverse};
 
     ghost Value = { List ℕ };
@@ -44,12 +44,12 @@ impl Model for Opened {
     ghost view = { λ opened. reverse opened.imports.items };
 }
 
-impl Opened {
+impl OpenCalls {
     /// No imports. Takes no memory.
-    fn new(alloc: Global) -> Opened
+    fn new(alloc: Global) -> OpenCalls
         ensures { result ≡ [] }
     {
-        Opened {
+        OpenCalls {
             imports: Vec::new(alloc),
         }
     }
@@ -72,7 +72,7 @@ impl Opened {
     }
 
     /// Takes how control leaves the host. Returns whether that is allowed.
-    fn left(&mut self, scope: &Scope<'_>, is_last: bool, next: &Next) -> bool
+    fn leave(&mut self, scope: &Scope<'_>, is_last: bool, next: &Next) -> bool
         ensures { Takes result self.new (left scope.now is_last self.old next.now) }
     {
         match next {
@@ -179,11 +179,11 @@ fn effect_fits(scope: &Scope<'_>, effect: &Effect) -> bool
     ensures { result ≡ effect_fits scope.now effect.now }
 {
     match effect {
-        Effect::Grow { pages } => grows_within(MOST_PAGES, *pages, memory_limits(scope.module())),
-        Effect::Table { size } => grows_within(MOST_ENTRIES, *size, table_limits(scope.module())),
+        Effect::Grow { pages } => grows_within(MAX_PAGES, *pages, memory_limits(scope.module())),
+        Effect::Table { size } => grows_within(MAX_ENTRIES, *size, table_limits(scope.module())),
         Effect::Bytes { addr, bytes } => {
             let end = u64::from(*addr).saturating_add(bytes.as_slice().len() as u64);
-            scope.has_memory(0) && end <= u64::from(MOST_PAGES) * u64::from(PAGE_SIZE)
+            scope.has_memory(0) && end <= u64::from(MAX_PAGES) * u64::from(PAGE_SIZE)
         }
         Effect::Entry { index: _, func } => scope.has_table(0) && names_function(scope, *func),
         Effect::Global { global, value } => match scope.global(*global) {
@@ -217,7 +217,7 @@ fn all_fit(scope: &Scope<'_>, effects: &[Effect]) -> bool
 
 /// Takes a segment. Returns whether it fits.
 fn step(
-    opened: &mut Opened,
+    opened: &mut OpenCalls,
     scope: &Scope<'_>,
     at: u64,
     is_last: bool,
@@ -230,7 +230,7 @@ fn step(
     Ok(
         came && are_ordered(effects)
             && all_fit(scope, effects)
-            && opened.left(scope, is_last, &segment.next),
+            && opened.leave(scope, is_last, &segment.next),
     )
 }
 
@@ -241,7 +241,7 @@ fn step(
 fn segments_fit(alloc: Global, scope: &Scope<'_>, segments: &[Segment]) -> Result<(), TapeFault>
     ensures { IsFit (unfit_from scope.now (length segments.now) 0 [] segments.now) result }
 {
-    let mut opened = Opened::new(alloc);
+    let mut opened = OpenCalls::new(alloc);
     'segments: for (number, segment) in segments.iter().enumerate() {
         let is_last = number + 1 == segments.len();
         let fits = step(&mut opened, scope, number as u64, is_last, segment);

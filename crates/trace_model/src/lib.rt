@@ -9,7 +9,7 @@ mod ordering;
 pub mod sinks;
 pub mod tapes;
 
-pub use balance::{Balance, BalanceFault, balanced};
+pub use balance::{Balance, BalanceFault, check_balance};
 pub use base::{NoMemory, Outcome};
 pub use events::{Event, Events, Log};
 pub use fitting::{TapeFault, fits};

@@ -13,7 +13,7 @@ use Rattle.trace_reduce.specs.declared.faults.ReducerFault.{ReducerFault}
 use Rattle.trace_reduce.specs.declared.faults.ReducerFault.TheVariants.{Unbalanced, TooHeavy, Memory}
 use Rattle.trace_reduce.specs.declared.limited_tape.LimitedTape.{LimitedTape}
 use Rattle.trace_reduce.specs.LimitedTape.{IsSoFar}
-use Rattle.trace_reduce.specs.Answers.{IsTooHeavy, IsWeighed, IsAnswer, AnswersAreExact, ReductionsAreExact, told_weight}
+use Rattle.trace_reduce.specs.Answers.{IsTooHeavy, IsWeighed, IsAnswer, AnswersAreExact, ReductionsAreExact, reported_weight}
 
 -- a result for tapes of one kind is a result for tapes of another
 pub weighed_as : (P Q : Tape → Type 0) (most : ℕ) → ((tape : Tape) → P tape → Q tape) → (answer : Result Tape ReducerFault)
@@ -21,7 +21,7 @@ pub weighed_as : (P Q : Tape → Type 0) (most : ℕ) → ((tape : Tape) → P t
 weighed_as P Q most f (Ok tape) h = (f tape h.0, h.1)
 weighed_as P Q most f (Err (Unbalanced event)) h = h
 weighed_as P Q most f (Err (TooHeavy weight)) h =
-    record { tape = h.tape; is = f h.tape h.is; passes = h.passes; told = h.told }
+    record { tape = h.tape; is = f h.tape h.is; passes = h.passes; reported = h.reported }
 weighed_as P Q most f (Err Memory) h = h
 
 -- the result if all events are balanced
@@ -64,7 +64,7 @@ module _ (one : LogTapeIsOne) where
       record {
         unbalanced = λ event is. absurd (none_some (first_unbalanced log) event h.0 is);
         heavy = λ tape balanced is passes.
-            inl (ap (λ w. Err (TooHeavy w)) (h.1.told ∙ ap told_weight (one log h.1.tape tape h.1.is is)));
+            inl (ap (λ w. Err (TooHeavy w)) (h.1.reported ∙ ap reported_weight (one log h.1.tape tape h.1.is is)));
         light = λ tape balanced is light.
             absurd (too_much (tape_weight tape) most light (subst (λ t. most < tape_weight t) (one log h.1.tape tape h.1.is is) h.1.passes));
       }
@@ -99,7 +99,7 @@ heavy_answer tape segments h over =
       tape = record { segments = segments };
       is = refl;
       passes = passing (sum_by segment_weight segments) h.weighed over;
-      told = h.weighed;
+      reported = h.weighed;
     }
   where
     passing : (whole : ℕ) → tape.weight ≡ min whole (2 ^ 64 - 1) → tape.most < tape.weight → tape.most < whole

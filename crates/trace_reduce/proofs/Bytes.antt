@@ -11,8 +11,8 @@ use Rattle.std.proofs.lemmas.Option.{slice_get_past}
 use Rattle.std.proofs.lemmas.List.{length-append, length-take-le}
 use Rattle.std.proofs.Math.Seq.{take-suc}
 use Rattle.base.proofs.Lists.{get_front, get_after_by}
+use Rattle.base.proofs.Options.{or_none, or_assoc}
 use Rattle.record_replay_spec.specs.Known.{byte_among}
-use Rattle.trace_reduce.proofs.Firsts.{or_assoc, or_none}
 
 -- ---- lists by keys
 
@@ -64,11 +64,11 @@ none_below low (entry ∷ entries) at h less =
 abbrev pub lone : (place byte at : ℕ) → Option ℕ
 lone place byte at = cond (nat_eq place at) (Some byte) None
 
-among_within : (start : ℕ) (run : List ℕ) (at : ℕ) → nat_le start at ≡ true
+pub among_within : (start : ℕ) (run : List ℕ) (at : ℕ) → nat_le start at ≡ true
     → byte_among start run at ≡ slice_get run (at - start)
 among_within start run at h = ap (λ b. cond b (slice_get run (at - start)) None) h
 
-among_before : (start : ℕ) (run : List ℕ) (at : ℕ) → nat_le start at ≡ false → byte_among start run at ≡ None
+pub among_before : (start : ℕ) (run : List ℕ) (at : ℕ) → nat_le start at ≡ false → byte_among start run at ≡ None
 among_before start run at h = ap (λ b. cond b (slice_get run (at - start)) None) h
 
 pub byte_snoc : (start : ℕ) (run : List ℕ) (byte at : ℕ)

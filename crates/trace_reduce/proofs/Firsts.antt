@@ -1,22 +1,15 @@
 -- What is found first, find by find.
-use Rattle.std.proofs.Common.{◌≡◌, List, [], ◌∷◌, ◌++◌, Option, Some, None, refl, sym, ap, ◌∙◌}
+use Rattle.std.proofs.Common.{◌≡◌, List, [], ◌∷◌, ◌++◌, Option, sym, ap, ◌∙◌}
 use Rattle.std.specs.Option.{option_or}
 use Rattle.std.specs.Ordering.{nat_cmp}
 use Rattle.std.specs.BTreeMap.{get}
+use Rattle.base.proofs.Options.{or_none, or_assoc}
 use Rattle.trace_model.specs.declared.tapes.Effect.{Effect}
 use Rattle.record_replay_spec.specs.Needed.{effect_byte, effect_entry, effect_global, effect_pages, effect_entries}
 use Rattle.record_replay_spec.specs.LogTapes.{first_some}
-use Rattle.trace_reduce.specs.declared.finds.Firsts.{Firsts}
+use Rattle.trace_reduce.specs.declared.first_values.Firsts.{Firsts}
 use Rattle.trace_reduce.specs.ByteGroups.{byte_at}
 use Rattle.trace_reduce.specs.Firsts.{global_of, AreFirsts, IsNextFind}
-
-pub or_assoc : {X : Type 0} (a b c : Option X) → option_or (option_or a b) c ≡ option_or a (option_or b c)
-or_assoc None b c = refl
-or_assoc (Some x) b c = refl
-
-pub or_none : {X : Type 0} (a : Option X) → option_or a None ≡ a
-or_none None = refl
-or_none (Some x) = refl
 
 first_snoc : {X : Type 0} (part : Effect → Option X) (finds : List Effect) (find : Effect)
     → first_some part (finds ++ find ∷ []) ≡ option_or (first_some part finds) (part find)

@@ -6,16 +6,16 @@ use Rattle.std.specs.Ordering.{nat_cmp}
 use Rattle.std.specs.BTreeMap.{get}
 use Rattle.std.proofs.lemmas.List.{append_assoc}
 use Rattle.base.specs.declared.no_memory.NoMemory.{NoMemory}
+use Rattle.base.proofs.Options.{or_none}
 use Rattle.trace_model.specs.declared.tapes.Effect.{Effect}
 use Rattle.trace_model.specs.declared.tapes.Effect.TheVariants.{Grow, Table}
 use Rattle.trace_model.specs.Effects.{AreOrdered}
 use Rattle.record_replay_spec.specs.Known.{last_some}
 use Rattle.record_replay_spec.specs.Needed.{effect_byte, effect_entry, effect_global, effect_pages, effect_entries, has_bytes}
 use Rattle.record_replay_spec.specs.LogTapes.{AreFirstFinds}
-use Rattle.trace_reduce.specs.declared.finds.Firsts.{Firsts}
+use Rattle.trace_reduce.specs.declared.first_values.Firsts.{Firsts}
 use Rattle.trace_reduce.specs.Firsts.{AreFirsts, global_of}
 use Rattle.trace_reduce.specs.Runs.{runs_from, entry_effect, global_effect, size_effects, firsts_effects, AreSorted}
-use Rattle.trace_reduce.proofs.Firsts.{or_none}
 use Rattle.trace_reduce.specs.ByteGroups.{byte_at, bytes_of, merged_groups}
 use Rattle.trace_reduce.proofs.Bytes.{Ascend, at_key, ascends, looked_up}
 use Rattle.trace_reduce.proofs.Groups.{bytes_ascend, byte_looked_up, merged_groups_ascend}

@@ -8,20 +8,13 @@ use Rattle.std.proofs.lemmas.Bool.Decides.{nat_tests}
 use Rattle.std.proofs.lemmas.Option.{slice_get_past}
 use Rattle.std.proofs.lemmas.List.{length-append, length-take, take-append-drop}
 use Rattle.base.proofs.Lists.{get_front, get_after_by}
+use Rattle.base.proofs.Options.{or_none, or_assoc}
 use Rattle.record_replay_spec.specs.Known.{byte_among}
 use Rattle.trace_reduce.specs.declared.byte_groups.TheConstants.{GROUP}
 use Rattle.trace_reduce.specs.ByteGroups.{AreInOrder, TakesFront, both_slots, bytes_of, byte_at, group_byte, merged_from, merged_groups, slot_at, slot_bytes}
-use Rattle.trace_reduce.proofs.Firsts.{or_assoc, or_none}
-use Rattle.trace_reduce.proofs.Bytes.{at_key, Ascend, none_below}
+use Rattle.trace_reduce.proofs.Bytes.{at_key, Ascend, none_below, among_within, among_before}
 
 -- ---- bytes among others
-
-among_within : (start : ℕ) (run : List ℕ) (at : ℕ) → nat_le start at ≡ true
-    → byte_among start run at ≡ slice_get run (at - start)
-among_within start run at h = ap (λ b. cond b (slice_get run (at - start)) None) h
-
-among_before : (start : ℕ) (run : List ℕ) (at : ℕ) → nat_le start at ≡ false → byte_among start run at ≡ None
-among_before start run at h = ap (λ b. cond b (slice_get run (at - start)) None) h
 
 pub among_append : (start : ℕ) (front later : List ℕ) (at : ℕ)
     → byte_among start (front ++ later) at
@@ -51,7 +44,7 @@ among_append start front later at = go (nat_le start at) refl (nat_le (start + l
         ∙ sym (ap (λ o. option_or o (byte_among (start + length front) later at)) (among_before start front at before)
         ∙ among_before (start + length front) later at past)
 
-among_past : (start : ℕ) (run : List ℕ) (at : ℕ) → start + length run ≤ at → byte_among start run at ≡ None
+pub among_past : (start : ℕ) (run : List ℕ) (at : ℕ) → start + length run ≤ at → byte_among start run at ≡ None
 among_past start run at past =
     let from : nat_le start at ≡ true = grind (arith, nat_tests, past) in
     among_within start run at from ∙ slice_get_past run (at - start) (omega (arith, past))
@@ -403,29 +396,6 @@ same_bytes old new stable at =
     sym (of_number new at) ∙ ap (λ groups. byte_at groups at) (stable (at / GROUP, [])) ∙ of_number old at
 
 -- ---- all of some bytes
-
--- the first of the bytes still to come are taken
-pub front_taken : (old new : List (ℕ × List (Option ℕ))) (at on : ℕ) (left later : List ℕ) → TakesFront old at left new later
-    → on ≡ at + (length left - length later)
-    → (q : ℕ) → option_or (byte_at new q) (byte_among on later q) ≡ option_or (byte_at old q) (byte_among at left q)
-front_taken old new at on left later t moved q =
-    let many : length left ≡ length t.front + length later = ap length t.parts ∙ length-append t.front later in
-    let place : on ≡ at + length t.front = moved ∙ omega (arith, many) in
-    (λ i. option_or (t.byte q i) (byte_among (place i) later q))
-    ∙ or_assoc (byte_at old q) (byte_among at t.front q) (byte_among (at + length t.front) later q)
-    ∙ ap (option_or (byte_at old q)) (sym (among_append at t.front later q))
-    ∙ ap (λ bytes. option_or (byte_at old q) (byte_among at bytes q)) (sym t.parts)
-
--- nothing is still to come
-pub none_left : (o : Option ℕ) (at q : ℕ) (left : List ℕ) → left ≡ [] → option_or o (byte_among at left q) ≡ o
-none_left o at q left is =
-    ap (λ bytes. option_or o (byte_among at bytes q)) is
-    ∙ ap (option_or o) (same_either (nat_le at q) None)
-    ∙ or_none o
-  where
-    same_either : {X : Type 0} (b : Bool) (x : X) → cond b x x ≡ x
-    same_either true x = refl
-    same_either false x = refl
 
 pub front_is : (old new : List (ℕ × List (Option ℕ))) (slots : List (Option ℕ)) (at number from count : ℕ)
     (bytes front later : List ℕ)

@@ -66,8 +66,8 @@ next_built was at_host (mark ∷ other ∷ more) old new before marks m h t = ab
 
 module _ (n size : ℕ) (frames : List LogFrame) (before marks : List Mark) where
   -- the marks that an event reports
-  abbrev told : Event → List Mark
-  told event = event_marks n frames (frames_after frames event) size event
+  abbrev reported : Event → List Mark
+  reported event = event_marks n frames (frames_after frames event) size event
 
   call_last : (callee : Option ℕ)
       → marks ++ []
@@ -86,23 +86,23 @@ module _ (n size : ℕ) (frames : List LogFrame) (before marks : List Mark) wher
       go false = sym (append-nil (marks ++ []))
 
   -- the marks if the run ends after the event
-  last_told : (outcome : Outcome) (event : Event)
-      → marks ++ (cond (is_trapped_call outcome event []) [] (told event) ++ outcome_marks outcome)
+  last_reported : (outcome : Outcome) (event : Event)
+      → marks ++ (cond (is_trapped_call outcome event []) [] (reported event) ++ outcome_marks outcome)
       ≡ last_marks outcome (is_pre event) (is_at_host n (frames_after frames event))
-      (next_before (told event) before marks) (marks ++ told event)
+      (next_before (reported event) before marks) (marks ++ reported event)
       ++ outcome_marks outcome
-  last_told Ended event = sym (append_assoc marks (told event) (outcome_marks Ended))
-  last_told HostTrapped event = sym (append_assoc marks (told event) (outcome_marks HostTrapped))
-  last_told Trapped (Pre callee) = call_last callee
-  last_told Trapped (Enter func args) = sym (append_assoc marks (told (Enter func args)) [])
-  last_told Trapped (Leave func) = sym (append_assoc marks (told (Leave func)) [])
-  last_told Trapped (Post result) = sym (append_assoc marks (told (Post result)) [])
-  last_told Trapped (Grow pages) = sym (append_assoc marks [] [])
-  last_told Trapped Seen = sym (append_assoc marks (told Seen) [])
-  last_told Trapped (Table entries) = sym (append_assoc marks (told (Table entries)) [])
-  last_told Trapped (Bytes addr bytes) = sym (append_assoc marks (told (Bytes addr bytes)) [])
-  last_told Trapped (Entry index func) = sym (append_assoc marks (told (Entry index func)) [])
-  last_told Trapped (Global global value) = sym (append_assoc marks (told (Global global value)) [])
+  last_reported Ended event = sym (append_assoc marks (reported event) (outcome_marks Ended))
+  last_reported HostTrapped event = sym (append_assoc marks (reported event) (outcome_marks HostTrapped))
+  last_reported Trapped (Pre callee) = call_last callee
+  last_reported Trapped (Enter func args) = sym (append_assoc marks (reported (Enter func args)) [])
+  last_reported Trapped (Leave func) = sym (append_assoc marks (reported (Leave func)) [])
+  last_reported Trapped (Post result) = sym (append_assoc marks (reported (Post result)) [])
+  last_reported Trapped (Grow pages) = sym (append_assoc marks [] [])
+  last_reported Trapped Seen = sym (append_assoc marks (reported Seen) [])
+  last_reported Trapped (Table entries) = sym (append_assoc marks (reported (Table entries)) [])
+  last_reported Trapped (Bytes addr bytes) = sym (append_assoc marks (reported (Bytes addr bytes)) [])
+  last_reported Trapped (Entry index func) = sym (append_assoc marks (reported (Entry index func)) [])
+  last_reported Trapped (Global global value) = sym (append_assoc marks (reported (Global global value)) [])
 
 -- ---- one more event
 
@@ -121,15 +121,6 @@ module _ (n size count : ℕ) (balance : Balance) (builder : TapeBuilder) (taken
   balanced_so_far outcome later =
       ap (unbalanced_from n 0 balance_start outcome) (append_assoc taken (event ∷ []) later)
       ∙ h.balanced outcome (event ∷ later)
-
-  pub out_of_order : balanced_step n balance event ≡ None → (outcome : Outcome) (later : List Event)
-      → unbalanced_from n 0 balance_start outcome (all ++ later) ≡ Some count
-  out_of_order none outcome later =
-      balanced_so_far outcome later
-      ∙ ap (λ o. option_map_or (λ next. unbalanced_from n (suc (length taken)) next outcome later) o
-      (Some (length taken)))
-      none
-      ∙ ap Some (sym h.counted)
 
   module _ (next : Balance) (new : TapeBuilder) (step : balanced_step n balance event ≡ Some next) where
     abbrev open_before : List LogFrame
@@ -168,7 +159,7 @@ module _ (n size count : ℕ) (balance : Balance) (builder : TapeBuilder) (taken
         ++ outcome_marks outcome
     ends outcome =
         h.goes_on outcome event []
-        ∙ last_told n size open_before h.before h.marks outcome event
+        ∙ last_reported n size open_before h.before h.marks outcome event
         ∙ ap (λ frames. last_marks outcome (is_pre event) (is_at_host n frames)
         (next_before (event_marks n open_before frames size event) h.before h.marks)
         (h.marks ++ event_marks n open_before frames size event)
@@ -184,7 +175,7 @@ module _ (n size count : ℕ) (balance : Balance) (builder : TapeBuilder) (taken
         ((frames : List LogFrame) → is_at_host n frames ≡ is_none builder.next
         → TakesMarks builder (event_marks n frames (log_frames next.frames) size event) new)
         → IsInOrder n next new (size_after size event) (count + 1) all
-    next_in_order tells =
+    next_in_order reports =
         record {
           counted = omega (arith, h.counted, length-append taken (event ∷ []));
           balanced =
@@ -200,7 +191,7 @@ module _ (n size count : ℕ) (balance : Balance) (builder : TapeBuilder) (taken
               next_built (is_at_host n open_before) (is_at_host n (log_frames next.frames))
               (event_marks n open_before (log_frames next.frames) size event) builder new h.before h.marks
               followed.0.moves h.built
-              (tells open_before (host_known (is_at_host n open_before) builder h.before h.marks h.built));
+              (reports open_before (host_known (is_at_host n open_before) builder h.before h.marks h.built));
           goes_on = goes_on;
           ends = ends;
         }

@@ -3,12 +3,13 @@ use Rattle.std.proofs.Common.{◌≡◌, ℕ, suc, ◌+◌, ◌≤◌, List, [],
 use Rattle.std.specs.List.{list_all}
 use Rattle.std.proofs.lemmas.Bool.Decides.{nat_tests}
 use Rattle.std.proofs.lemmas.List.{length-append}
-use Rattle.base.proofs.Booleans.{and_right, and_true}
+use Rattle.base.proofs.Booleans.{and_true}
 use Rattle.wasm_syntax.specs.declared.values.Val.{Val}
 use Rattle.trace_model.specs.declared.tapes.Effect.{Effect}
 use Rattle.trace_model.specs.declared.tapes.Effect.TheVariants.{Grow, Table, Bytes, Entry, Global}
 use Rattle.trace_model.specs.Effects.{is_before, are_ordered, are_ordered_after}
 use Rattle.record_replay_spec.specs.Needed.{has_bytes}
+use Rattle.record_replay_spec.proofs.OneList.{ordered_rest}
 use Rattle.trace_reduce.specs.Runs.{runs_from, entry_effect, global_effect, size_effects}
 use Rattle.trace_reduce.proofs.Bytes.{Ascend}
 
@@ -112,12 +113,6 @@ module _ (bytes : List (ℕ × ℕ)) (entries : List (ℕ × Option ℕ)) (globa
             ∙ runs_ordered effect byte.0 byte.1 [] bytes behind (before byte.0) any_bytes
             (subst (λ low. Ascend low bytes) e b.1)
 
-    ordered_alone : (effect : Effect) (effects : List Effect) → are_ordered_after effect effects ≡ true
-        → are_ordered effects ≡ true
-    ordered_alone effect [] h = refl
-    ordered_alone effect (next ∷ effects) h =
-        and_right (is_before effect next) (are_ordered_after next effects) h
-
     behind_growth : (pages : ℕ) → are_ordered_after (Grow pages) (runs_from 0 [] bytes ++ behind) ≡ true
     behind_growth pages =
         all_behind (Grow pages) (λ at run. refl)
@@ -131,7 +126,7 @@ module _ (bytes : List (ℕ × ℕ)) (entries : List (ℕ × Option ℕ)) (globa
     pub all_ordered : (pages size : Option ℕ)
         → are_ordered (size_effects Grow pages ++ (size_effects Table size ++ (runs_from 0 [] bytes ++ behind)))
         ≡ true
-    all_ordered None None = ordered_alone (Grow 0) (runs_from 0 [] bytes ++ behind) (behind_growth 0)
+    all_ordered None None = ordered_rest (Grow 0) (runs_from 0 [] bytes ++ behind) (behind_growth 0)
     all_ordered (Some pages) None = behind_growth pages
     all_ordered None (Some size) = behind_table size
     all_ordered (Some pages) (Some size) = behind_table size

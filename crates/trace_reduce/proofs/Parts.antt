@@ -1,18 +1,19 @@
 -- What the effects made of the first finds give, kind by kind.
-use Rattle.std.proofs.Common.{◌≡◌, ℕ, suc, ◌+◌, ◌-◌, ◌≤◌, ◌<◌, List, [], ◌∷◌, ◌++◌, length, map, Option, Some, None, Bool, true, false, cond, nat_eq, nat_le, slice_get, option_map, refl, sym, ap, ◌∙◌, subst, arith}
+use Rattle.std.proofs.Common.{◌≡◌, ℕ, suc, ◌+◌, ◌-◌, ◌≤◌, ◌<◌, List, [], ◌∷◌, ◌++◌, length, map, Option, Some, None, Bool, true, false, cond, nat_eq, nat_le, option_map, refl, sym, ap, ◌∙◌, subst, arith}
 use Rattle.std.specs.Option.{option_or}
 use Rattle.std.proofs.lemmas.Bool.Decides.{nat_tests}
-use Rattle.std.proofs.lemmas.Option.{slice_get_past}
 use Rattle.std.proofs.lemmas.List.{length-append}
+use Rattle.base.proofs.Options.{or_none, or_assoc}
+use Rattle.base.proofs.Booleans.{same_either}
 use Rattle.wasm_syntax.specs.declared.values.Val.{Val}
 use Rattle.trace_model.specs.declared.tapes.Effect.{Effect}
 use Rattle.trace_model.specs.declared.tapes.Effect.TheVariants.{Bytes, Entry, Global}
 use Rattle.record_replay_spec.specs.Known.{byte_among, last_some}
 use Rattle.record_replay_spec.specs.Needed.{effect_byte}
 use Rattle.trace_reduce.specs.Runs.{run_effects, runs_from, entry_effect, global_effect, size_effects}
-use Rattle.trace_reduce.proofs.Firsts.{or_assoc, or_none}
 use Rattle.trace_reduce.proofs.Bytes.{at_key, Ascend, none_below, lone, byte_snoc}
 use Rattle.trace_reduce.proofs.Ordered.{runs_begin}
+use Rattle.trace_reduce.proofs.Groups.{among_past}
 
 pub last_append : {A X : Type 0} (part : A → Option X) (xs ys : List A)
     → last_some part (xs ++ ys) ≡ option_or (last_some part ys) (last_some part xs)
@@ -98,10 +99,6 @@ keyed make part wrap at gives low (entry ∷ entries) h =
 
 -- ---- bytes
 
-same_either : {X : Type 0} (b : Bool) (x : X) → cond b x x ≡ x
-same_either true x = refl
-same_either false x = refl
-
 among_nothing : (place at : ℕ) → byte_among place [] at ≡ None
 among_nothing place at = same_either (nat_le place at) None
 
@@ -111,12 +108,6 @@ among_lone place byte at =
     byte_snoc place [] byte at
     ∙ ap (λ o. option_or o (lone (place + 0) byte at)) (among_nothing place at)
     ∙ ap (λ p. lone p byte at) e
-
-among_past : (start : ℕ) (run : List ℕ) (at : ℕ) → start + length run ≤ at → byte_among start run at ≡ None
-among_past start run at past =
-    let from : nat_le start at ≡ true = grind (arith, nat_tests, past) in
-    ap (λ b. cond b (slice_get run (at - start)) None) from
-    ∙ slice_get_past run (at - start) (omega (arith, past))
 
 runs_bytes : (at start first : ℕ) (more : List ℕ) (bytes : List (ℕ × ℕ)) → Ascend (start + suc (length more)) bytes
     → last_some (effect_byte at) (runs_from start (first ∷ more) bytes)

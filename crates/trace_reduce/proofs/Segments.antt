@@ -1,6 +1,7 @@
 -- Segments of windows, one window after another.
-use Rattle.std.proofs.Common.{◌≡◌, ℕ, Result, List, [], ◌∷◌, ◌++◌, map, Option, Some, None, refl, sym, ap, ◌∙◌, subst}
+use Rattle.std.proofs.Common.{◌≡◌, ℕ, Result, List, [], ◌∷◌, ◌++◌, map, Some, None, refl, sym, ap, ◌∙◌, subst}
 use Rattle.std.proofs.lemmas.List.{append_assoc}
+use Rattle.base.proofs.Options.{same_some}
 use Rattle.trace_model.specs.declared.tapes.Origin.{Origin}
 use Rattle.trace_model.specs.declared.tapes.Next.{Next}
 use Rattle.trace_model.specs.declared.tapes.Effect.{Effect}
@@ -13,7 +14,7 @@ use Rattle.trace_reduce.specs.declared.builder.Turn.TheVariants as turns
 use Rattle.trace_reduce.specs.declared.faults.ReducerFault.{ReducerFault}
 use Rattle.trace_reduce.specs.declared.limited_tape.LimitedTape.{LimitedTape}
 use Rattle.trace_reduce.specs.Answers.{IsWeighed}
-use Rattle.trace_reduce.specs.Builder.{AreBuilt, IsClosed, IsAtHost, IsInWindow, TakesMark, mark_of}
+use Rattle.trace_reduce.specs.Builder.{AreBuilt, IsClosed, IsInWindow, TakesMark, mark_of}
 use Rattle.trace_reduce.specs.Firsts.{AreFirsts, IsNextFind}
 use Rattle.trace_reduce.specs.LimitedTape.{IsSoFar}
 use Rattle.trace_reduce.proofs.Answers.{weighed_as}
@@ -53,10 +54,6 @@ appended (Finds effect ∷ front) segments origin rest more h later = appended f
 
 -- ---- the builder
 
-some_same : {X : Type 0} (o : Option X) (x y : X) → o ≡ Some x → o ≡ Some y → x ≡ y
-some_same None x y h k = cc
-some_same (Some z) x y h k = cc
-
 pub window_closed : (old new : TapeBuilder) (next : Next) (effects : List Effect) → old.next ≡ Some next
     → ((finds : List Effect) → AreFirsts finds old.firsts → AreFirstFinds finds effects)
     → new.next ≡ None → AreFirsts [] new.firsts
@@ -84,29 +81,11 @@ window_closed old new next effects left firsts waits none more marks h =
     one = (
       record {
         begins = refl;
-        leaves = some_same old.next next h.next left h.left;
+        leaves = same_some old.next next h.next left h.left;
         changes = subst (λ fs. AreFirstFinds fs effects) (sym (finds_alone h.finds)) (firsts h.finds h.firsts);
       },
       no_segments h.finds,
     )
-
--- control leaves the host
-pub host_left : (old new : TapeBuilder) (next : Next) → new.next ≡ Some next → new.origin ≡ old.origin
-    → new.firsts ≡ old.firsts → new.tape ≡ old.tape
-    → (before marks : List Mark) → IsAtHost old before marks → IsInWindow new (marks ++ Ends next ∷ [])
-host_left old new next left origin firsts tape before marks h =
-    record {
-      before = before;
-      next = next;
-      left = left;
-      finds = [];
-      found =
-          ap (λ ms. ms ++ Ends next ∷ []) h.began
-          ∙ append_assoc before (Begins old.origin ∷ []) (Ends next ∷ [])
-          ∙ (λ i. before ++ Begins (sym origin i) ∷ Ends next ∷ []);
-      firsts = subst (AreFirsts []) (sym firsts) h.over.none;
-      closed = subst (λ t. AreBuilt t before) (sym tape) h.over.closed;
-    }
 
 -- the window finds one more
 pub window_finds_more : (old new : TapeBuilder) (effect : Effect) → new.next ≡ old.next → new.origin ≡ old.origin

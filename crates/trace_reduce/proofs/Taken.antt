@@ -17,7 +17,7 @@ use Rattle.trace_reduce.specs.declared.reducer.Progress.TheVariants.{InOrder, Un
 use Rattle.trace_reduce.specs.declared.faults.ReducerFault.{ReducerFault}
 use Rattle.trace_reduce.specs.declared.reducer.Reducer.{Reducer}
 use Rattle.trace_reduce.specs.Builder.{IsAtHost, IsInWindow, end_marks}
-use Rattle.trace_reduce.specs.Reducer.{HasReached, HasTaken, IsInOrder, IsPart, TakesEvent, Tells, last_marks, most_of}
+use Rattle.trace_reduce.specs.Reducer.{HasReached, HasTaken, IsInOrder, IsPart, TakesEvent, Reports, last_marks, most_of}
 use Rattle.trace_reduce.specs.Answers.{IsAnswer, IsWeighed}
 use Rattle.trace_reduce.proofs.Answers.{answer_in_order}
 use Rattle.trace_reduce.proofs.Marks.{all_marks, ends_right, ends_wrong, next_in_order}
@@ -58,7 +58,7 @@ pub event_taken : (old : Reducer) (balance : Balance) (new : Reducer) (event : E
     → balanced_step old.imports old.balance event ≡ Some balance
     → new.imports ≡ old.imports
     → OnOk answer
-    (Tells
+    (Reports
     (record {
       imports = old.imports;
       balance = balance;

@@ -11,15 +11,15 @@ use Rattle.trace_reduce.specs.declared.faults.ReducerFault.{ReducerFault}
 use Rattle.trace_reduce.specs.declared.faults.ReducerFault.TheVariants.{Unbalanced, TooHeavy, Memory}
 
 -- the weight that is reported: the tape's weight, or the greatest number of 64 bits if it is more
-abbrev pub told_weight : Tape → ℕ
-told_weight tape = min (tape_weight tape) (2 ^ 64 - 1)
+abbrev pub reported_weight : Tape → ℕ
+reported_weight tape = min (tape_weight tape) (2 ^ 64 - 1)
 
 -- one of these tapes weighs more than the limit, and its weight is reported
 pub record IsTooHeavy (IsTape : Tape → Type 0) (most weight : ℕ) : Type 0 where
   pub tape : Tape
   pub is : IsTape tape
   pub passes : most < tape_weight tape
-  pub told : weight ≡ told_weight tape
+  pub reported : weight ≡ reported_weight tape
 
 -- the result is one of these tapes that is light enough, or the weight of one that is too heavy
 abbrev pub IsWeighed : (IsTape : Tape → Type 0) → (most : ℕ) → Result Tape ReducerFault → Type 0
@@ -49,7 +49,7 @@ pub record IsExact (most : ℕ) (log : Log) (answer : Result Tape ReducerFault) 
   pub unbalanced : (event : ℕ) → first_unbalanced log ≡ Some event
       → (answer ≡ Err (Unbalanced event)) ⊎ (answer ≡ Err Memory)
   pub heavy : (tape : Tape) → IsBalanced log → IsLogTape log tape → most < tape_weight tape
-      → (answer ≡ Err (TooHeavy (told_weight tape))) ⊎ (answer ≡ Err Memory)
+      → (answer ≡ Err (TooHeavy (reported_weight tape))) ⊎ (answer ≡ Err Memory)
   pub light : (tape : Tape) → IsBalanced log → IsLogTape log tape → tape_weight tape ≤ most
       → (answer ≡ Ok tape) ⊎ (answer ≡ Err Memory)
 

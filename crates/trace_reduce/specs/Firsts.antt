@@ -8,7 +8,7 @@ use Rattle.trace_model.specs.declared.tapes.Effect.{Effect}
 use Rattle.record_replay_spec.specs.Needed.{effect_byte, effect_entry, effect_global, effect_pages, effect_entries}
 use Rattle.record_replay_spec.specs.LogTapes.{first_some}
 use Rattle.trace_reduce.specs.ByteGroups.{byte_at}
-use Rattle.trace_reduce.specs.declared.finds.Firsts.{Firsts}
+use Rattle.trace_reduce.specs.declared.first_values.Firsts.{Firsts}
 
 -- the first find of a global, by its index
 abbrev pub global_of : Firsts → (at : ℕ) → Option (Option Val)

@@ -84,7 +84,7 @@ TakesEvent old event new =
     → HasTaken new (taken ++ event ∷ [])
 
 -- the builder has taken the marks of an event that the balance has taken already
-pub record Tells (old : Reducer) (event : Event) (new : Reducer) : Type 0 where
+pub record Reports (old : Reducer) (event : Event) (new : Reducer) : Type 0 where
   pub balance : new.balance ≡ old.balance
   pub size : new.size ≡ size_after old.size event
   pub count : new.count ≡ old.count

@@ -6,7 +6,7 @@ use Rattle.wasm_syntax.specs.declared.values.Val.{Val}
 use Rattle.trace_model.specs.declared.tapes.Effect.{Effect}
 use Rattle.trace_model.specs.declared.tapes.Effect.TheVariants.{Grow, Table, Bytes, Entry, Global}
 use Rattle.trace_reduce.specs.ByteGroups.{AreInOrder, bytes_of, merged_groups}
-use Rattle.trace_reduce.specs.declared.finds.Firsts.{Firsts}
+use Rattle.trace_reduce.specs.declared.first_values.Firsts.{Firsts}
 
 -- a run as an effect, if it has bytes
 abbrev pub run_effects : (start : ℕ) → (run : List ℕ) → List Effect

@@ -10,7 +10,7 @@ ghost use Rattle.trace_reduce.specs.Answers.{IsWeighed};
 ghost use Rattle.trace_reduce.specs.Builder.{IsAtHost, IsInWindow, IsClosed, TakesMark, end_marks, mark_of};
 
 use crate::faults::ReducerFault;
-use crate::finds::Firsts;
+use crate::first_values::Firsts;
 use crate::limited_tape::LimitedTape;
 use base::{NoMemory, Outcome};
 use std::alloc::Global;

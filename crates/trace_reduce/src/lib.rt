@@ -4,7 +4,7 @@
 mod builder;
 mod byte_groups;
 pub mod faults;
-mod finds;
+mod first_values;
 pub mod laws;
 mod limited_tape;
 pub mod logs;

@@ -6,7 +6,7 @@ ghost use Rattle.trace_model.specs.Balance.{balanced_step};
 ghost use Rattle.trace_model.specs.Sink.{TookAlso};
 ghost use Rattle.trace_reduce.specs.Answers.{IsAnswer};
 ghost use Rattle.trace_reduce.specs.Builder.{TakesMarks, turn_marks};
-ghost use Rattle.trace_reduce.specs.Reducer.{HasTaken, TakesEvent, Tells, imports_of, log_frames, most_of};
+ghost use Rattle.trace_reduce.specs.Reducer.{HasTaken, TakesEvent, Reports, imports_of, log_frames, most_of};
 ghost use Rattle.trace_reduce.specs.declared.reducer.Progress.TheVariants.{InOrder};
 
 use crate::builder::{TapeBuilder, Turn};
@@ -142,12 +142,12 @@ impl Reducer {
             return Ok(());
         }
         self.count += 1;
-        self.tell(event)
+        self.report(event)
     }
 
     /// Passes an event to the tape, after the balance has taken it.
-    fn tell(&mut self, event: Event) -> Result<(), NoMemory>
-        ensures tells { OnOk result (Tells self.old event self.new) }
+    fn report(&mut self, event: Event) -> Result<(), NoMemory>
+        ensures reports { OnOk result (Reports self.old event self.new) }
         ensures imports { self.new.imports ≡ self.old.imports }
         ensures most { most_of self.new ≡ most_of self.old }
     {

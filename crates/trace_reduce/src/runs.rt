@@ -8,7 +8,7 @@ ghost use Rattle.trace_reduce.specs.declared.byte_groups.TheConstants.{GROUP};
 ghost use Rattle.trace_reduce.specs.Runs.{runs_from, entry_effect, global_effect, firsts_effects, AreSorted};
 
 use crate::byte_groups::{GROUP, Group, Slots, take_others};
-use crate::finds::Firsts;
+use crate::first_values::Firsts;
 use base::NoMemory;
 use std::alloc::Global;
 use std::collections::BTreeMap;

@@ -1,9 +1,9 @@
 -- An action of a script that fits the module succeeds, or fails for a named cause.
-use Rattle.std.proofs.Common.{◌≡◌, ℕ, ◌+◌, ◌<◌, List, [], ◌∷◌, length, Option, Some, None, Bool, true, false, slice_get, option_map, refl, sym, ap, ◌∙◌, subst, arith}
-use Rattle.std.specs.Prelude.{nat_lt, is_some, IfSome}
+use Rattle.std.proofs.Common.{◌≡◌, ℕ, ◌+◌, ◌<◌, List, Option, Some, None, Bool, true, false, slice_get, option_map, refl, sym, ap, ◌∙◌, subst}
+use Rattle.std.specs.Prelude.{nat_lt, IfSome}
 use Rattle.std.proofs.lemmas.Bool.{ltb-false}
 use Rattle.std.proofs.lemmas.Option.{slice_get-map}
-use Rattle.base.proofs.Lists.{all_at}
+use Rattle.base.proofs.Lists.{all_at, first_there}
 use Rattle.wasm_syntax.proofs.ValTypes.{types_same}
 use Rattle.wasm_syntax.specs.declared.values.ValType.{ValType}
 use Rattle.wasm_syntax.specs.declared.values.ValType.TheVariants.{I32}
@@ -38,10 +38,6 @@ or_acted : {X : Type 0} (m : Module) (kind : FaultKind) (o : Option X) (go : X �
     → ((x : X) → o ≡ Some x → IsActionResult m (go x)) → IsActionResult m (or_fault kind o go)
 or_acted m kind None go each = tt
 or_acted m kind (Some x) go each = each x refl
-
-there_first : {X : Type 0} (xs : List X) → 0 < length xs → is_some (slice_get xs 0) ≡ true
-there_first [] there = absurd (omega arith)
-there_first (x ∷ xs) there = refl
 
 address_there : (n : ℕ) (params : List ValType) (args : List Val) (to : Address) → AreValues n params args
     → FitsAddress params to → (address : ℕ) × (address_of args to ≡ Some address)
@@ -82,7 +78,7 @@ module _ (m : Module)
   pub act_fine : (action : Action) → FitsAction m params action
       → IsActionResult m (perform (code_of m) store args action)
   act_fine (Write to bytes) fits =
-      let there = memory_there (all_memories m) store.memory (there_first (all_memories m) fits.0) is_store.memory in
+      let there = memory_there (all_memories m) store.memory (first_there (all_memories m) fits.0) is_store.memory in
       let address = address_there (func_count m) params args to values fits.1 in
       on_acted m store.memory there.memory
       (λ memory. on (address_of args to)
@@ -93,7 +89,7 @@ module _ (m : Module)
       (or_acted m Outside (with_bytes_at there.memory.bytes address.0 bytes) (with_new_bytes store there.memory)
       (λ new is. store_written m store is_store there address.0 bytes new fits.2 is)))
   act_fine (Copy to source count) fits =
-      let there = memory_there (all_memories m) store.memory (there_first (all_memories m) fits.0) is_store.memory in
+      let there = memory_there (all_memories m) store.memory (first_there (all_memories m) fits.0) is_store.memory in
       let address = address_there (func_count m) params args to values fits.1 in
       let from = address_there (func_count m) params args source values fits.2 in
       let last = λ (memory : Memory) (a : ℕ) (bytes : List ℕ).
@@ -108,7 +104,7 @@ module _ (m : Module)
       or_acted m Outside (with_bytes_at there.memory.bytes address.0 bytes) (with_new_bytes store there.memory)
       (λ new is. store_written m store is_store there address.0 bytes new b.0 is)))))
   act_fine (SetTable index func) fits =
-      let there = table_there (func_count m) (all_tables m) store.table (there_first (all_tables m) fits.0)
+      let there = table_there (func_count m) (all_tables m) store.table (first_there (all_tables m) fits.0)
       is_store.table in
       let go = λ (table : Table) (entries : List (Option ℕ)).
       Changes (with_table store (record table { entries = entries })) in
@@ -139,7 +135,7 @@ module _ (m : Module)
             set_value (func_count m) (global_types m) store.globals global fits.ty.ty value is_store.globals is own;
       })
   act_fine (Grow by) fits =
-      let there = memory_there (all_memories m) store.memory (there_first (all_memories m) fits) is_store.memory in
+      let there = memory_there (all_memories m) store.memory (first_there (all_memories m) fits) is_store.memory in
       let go = λ (larger : Memory). Changes (with_memory store larger) in
       on_acted m store.memory there.memory (λ memory. or_fault GrowRefused (grown_memory memory by) go) there.is
       (or_acted m GrowRefused (grown_memory there.memory by) go
@@ -149,7 +145,7 @@ module _ (m : Module)
         globals = is_store.globals;
       }))
   act_fine (GrowTable by) fits =
-      let there = table_there (func_count m) (all_tables m) store.table (there_first (all_tables m) fits)
+      let there = table_there (func_count m) (all_tables m) store.table (first_there (all_tables m) fits)
       is_store.table in
       let go = λ (larger : Table). Changes (with_table store larger) in
       on_acted m store.table there.table (λ table. or_fault GrowRefused (grown_table table by None) go) there.is
@@ -167,7 +163,7 @@ module _ (m : Module)
         (constants_values (func_count m) given fits.fit.in_range),
   )
   act_fine (CallTable index given) fits =
-      let there = table_there (func_count m) (all_tables m) store.table (there_first (all_tables m) fits.0)
+      let there = table_there (func_count m) (all_tables m) store.table (first_there (all_tables m) fits.0)
       is_store.table in
       on_acted m store.table there.table
       (λ table. or_fault TableOutside (slice_get table.entries index) (calls_entry (code_of m) given)) there.is

@@ -20,7 +20,7 @@ use Rattle.type_safety.specs.Results.{HasRule}
 use Rattle.type_safety.proofs.Fine.{takes_fine, enters_fine}
 use Rattle.type_safety.proofs.Instructions.{HaveTypes, plain_fine}
 
-arity_is : (ty : Option ValType) → block_arity ty ≡ length (results_of ty)
+pub arity_is : (ty : Option ValType) → block_arity ty ≡ length (results_of ty)
 arity_is None = refl
 arity_is (Some t) = refl
 

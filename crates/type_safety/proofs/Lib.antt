@@ -21,3 +21,5 @@ pub mod NewStores
 pub mod Supplies
 pub mod Runs
 pub mod StaticHeights
+pub mod Wider
+pub mod OneResult

@@ -1,15 +1,15 @@
 -- Memories under accesses, writes and growth.
-use Rattle.std.proofs.Common.{◌≡◌, ℕ, suc, zero, ◌+◌, ◌-◌, ◌*◌, ◌/◌, ◌%◌, ◌^◌, ◌<◌, ◌≤◌, List, [], ◌∷◌, ◌++◌, length, Option, Some, None, Bool, true, false, ◌&&◌, cond, slice_get, ℤ, pos, negsuc, refl, sym, subst, arith}
+use Rattle.std.proofs.Common.{◌≡◌, ℕ, suc, zero, ◌+◌, ◌-◌, ◌*◌, ◌/◌, ◌%◌, ◌^◌, ◌<◌, ◌≤◌, List, [], ◌∷◌, ◌++◌, length, Option, Some, None, Bool, true, false, ◌&&◌, cond, slice_get, refl, sym, subst, arith}
 use Rattle.std.specs.Prelude.{nat_le, is_some, take, drop, IsTrue, All}
 use Rattle.std.specs.List.{list_all}
 use Rattle.std.proofs.Math.Nat.{mod-lt, pow-suc}
-use Rattle.std.proofs.lemmas.Nat.{pow_pos}
 use Rattle.std.proofs.lemmas.Bool.{leb-true}
 use Rattle.std.proofs.lemmas.List.{length-append, length-take, length-drop, length-replicate}
 use Rattle.std.proofs.lemmas.List.Elements.{All-head, All-tail, All-cons, All-nil, All-append, All-take, All-drop, All-replicate}
+use Rattle.std.proofs.lemmas.Option.{cond_some}
 use Rattle.base.proofs.Lists.{item_passes}
 use Rattle.base.proofs.Booleans.{and_parts}
-use Rattle.wasm_syntax.specs.declared.limits.TheConstants.{MOST_PAGES, PAGE_SIZE}
+use Rattle.wasm_syntax.specs.declared.limits.TheConstants.{MAX_PAGES, PAGE_SIZE}
 use Rattle.host_script.specs.Supply.{is_within}
 use Rattle.wasm_syntax.specs.declared.values.ValType.{ValType}
 use Rattle.wasm_syntax.specs.declared.values.ValType.TheVariants.{I32, I64, F32, F64, FuncRef}
@@ -18,7 +18,8 @@ use Rattle.wasm_syntax.specs.declared.modules.Module.{Module}
 use Rattle.wasm_syntax.specs.Index.{all_memories}
 use Rattle.wasm_syntax.specs.Opcodes.{is_from, Access, load_table, load_of}
 use Rattle.wasm_syntax.specs.Typing.{is_number, bits_of}
-use Rattle.wasm_numeric.specs.Integer.{modulo, signed}
+use Rattle.wasm_numeric.specs.Integer.{signed}
+use Rattle.wasm_numeric.proofs.ValuesFit.{modulo_fits}
 use Rattle.history_spec.specs.Store.{Store, Memory, pages, zeros, grown_memory_if, grown_memory, bytes_at, with_items_at, with_bytes_at, with_memory, number_of, bytes_of}
 use Rattle.history_spec.specs.Numeric.{extend_if, loaded_number}
 use Rattle.type_safety.specs.Values.{count_of}
@@ -46,10 +47,6 @@ memory_there (l ∷ more) (Some memory) there may =
 
 -- ---- what loads read
 
-pub cond_some : {A : Type 0} (b : Bool) (x y : A) → cond b (Some x) None ≡ Some y → (b ≡ true) × (x ≡ y)
-cond_some true x y h = (refl, cc)
-cond_some false x y h = cc
-
 number_of_fits : (bytes : List ℕ) → AreBytes bytes → number_of bytes < 256 ^ length bytes
 number_of_fits [] all = omega arith
 number_of_fits (b ∷ bs) all =
@@ -63,10 +60,6 @@ is_narrow access = is_number access.ty && nat_le (256 ^ access.width) (2 ^ bits_
 
 loads_narrow : list_all is_narrow load_table ≡ true
 loads_narrow = refl
-
-modulo_fits : (w : ℕ) (z : ℤ) → modulo w z < 2 ^ w
-modulo_fits w (pos n) = mod-lt n (pow_pos w)
-modulo_fits w (negsuc n) = omega (arith, pow_pos w)
 
 -- a value of a number type is below the power of two of its bits
 pub number_count : (n : ℕ) (t : ValType) → is_number t ≡ true → count_of n t ≡ 2 ^ bits_of t
@@ -149,7 +142,7 @@ memory_written limits memory new good all size = record {
   whole = subst (λ k. k ≡ k / PAGE_SIZE * PAGE_SIZE) (sym size) good.whole;
   least = subst (λ k. limits.min ≤ k / PAGE_SIZE) (sym size) good.least;
   within = subst (λ k. IsTrue (is_within (k / PAGE_SIZE) memory.max)) (sym size) good.within;
-  most = subst (λ k. k / PAGE_SIZE ≤ MOST_PAGES) (sym size) good.most;
+  most = subst (λ k. k / PAGE_SIZE ≤ MAX_PAGES) (sym size) good.most;
 }
 
 -- a store with bytes written in its memory is well typed
@@ -172,7 +165,7 @@ store_written m store is_store there to news new fit is =
 pub memory_grown : (limits : Limits) (memory : Memory) (by : ℕ) (new : Memory) → IsMemory limits memory
     → grown_memory memory by ≡ Some new → IsMemory limits new
 memory_grown limits memory by new good is =
-    from (is_within (pages memory + by) memory.max && nat_le (pages memory + by) MOST_PAGES) refl is
+    from (is_within (pages memory + by) memory.max && nat_le (pages memory + by) MAX_PAGES) refl is
   where
     larger : Memory
     larger = record memory { bytes = memory.bytes ++ zeros (by * PAGE_SIZE) }
@@ -185,13 +178,13 @@ memory_grown limits memory by new good is =
       good.whole,
     )
 
-    from : (b : Bool) → (is_within (pages memory + by) memory.max && nat_le (pages memory + by) MOST_PAGES) ≡ b
+    from : (b : Bool) → (is_within (pages memory + by) memory.max && nat_le (pages memory + by) MAX_PAGES) ≡ b
         → grown_memory_if b memory by ≡ Some new → IsMemory limits new
     from true e made =
-        let tests = and_parts (is_within (pages memory + by) memory.max) (nat_le (pages memory + by) MOST_PAGES) e in
+        let tests = and_parts (is_within (pages memory + by) memory.max) (nat_le (pages memory + by) MAX_PAGES) e in
         let now : pages memory + by ≡ length (memory.bytes ++ zeros (by * PAGE_SIZE)) / PAGE_SIZE =
         omega (arith, size) in
-        let within : pages memory + by ≤ MOST_PAGES = leb-true (pages memory + by) MOST_PAGES tests.1 in
+        let within : pages memory + by ≤ MAX_PAGES = leb-true (pages memory + by) MAX_PAGES tests.1 in
         let it : larger ≡ new = cc in
         subst (λ new'. IsMemory limits new') it (record {
           bytes = All-append (λ byte. byte < 256) memory.bytes (zeros (by * PAGE_SIZE)) good.bytes
@@ -199,6 +192,6 @@ memory_grown limits memory by new good is =
           whole = subst (λ k. length (memory.bytes ++ zeros (by * PAGE_SIZE)) ≡ k * PAGE_SIZE) now size;
           least = subst (λ k. limits.min ≤ k) now (omega (arith, good.least));
           within = subst (λ k. IsTrue (is_within k memory.max)) now tests.0;
-          most = subst (λ k. k ≤ MOST_PAGES) now within;
+          most = subst (λ k. k ≤ MAX_PAGES) now within;
         })
     from false e made = cc

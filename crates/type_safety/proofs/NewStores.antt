@@ -4,11 +4,11 @@ use Rattle.std.specs.Prelude.{nat_le, fold, replicate, take, drop, unwrap_or, Is
 use Rattle.std.proofs.lemmas.Bool.{leb-true, le-leb}
 use Rattle.std.proofs.lemmas.List.{map-append, length-append, length-take, length-drop, length-replicate, length-map}
 use Rattle.std.proofs.lemmas.List.Elements.{All-head, All-tail, All-append, All-take, All-drop, All-replicate, All-map}
-use Rattle.std.proofs.lemmas.Option.{slice_get-map}
+use Rattle.std.proofs.lemmas.Option.{slice_get-map, cond_some}
 use Rattle.base.proofs.Options.{and_then_some}
 use Rattle.base.proofs.Booleans.{and_parts}
 use Rattle.type_safety.proofs.Quantities.{small_memories, small_tables}
-use Rattle.wasm_syntax.specs.declared.limits.TheConstants.{MOST_ENTRIES, MOST_PAGES, PAGE_SIZE}
+use Rattle.wasm_syntax.specs.declared.limits.TheConstants.{MAX_ENTRIES, MAX_PAGES, PAGE_SIZE}
 use Rattle.wasm_syntax.specs.declared.values.ValType.{ValType}
 use Rattle.wasm_syntax.specs.declared.values.Val.{Val}
 use Rattle.wasm_syntax.specs.declared.signatures.Limits.{Limits}
@@ -34,7 +34,7 @@ use Rattle.type_safety.specs.Stores.{func_count, IsMemory, IsTable, MayBeMemory,
 use Rattle.type_safety.specs.Supplies.{HasBytes, Match, IsSupply}
 use Rattle.type_safety.proofs.Values.{append_values, value_at}
 use Rattle.type_safety.proofs.Constants.{constant_value}
-use Rattle.type_safety.proofs.Memories.{memory_written, cond_some}
+use Rattle.type_safety.proofs.Memories.{memory_written}
 
 -- ---- constants
 
@@ -107,7 +107,7 @@ matched most given wanted h =
     record { least = leb-true wanted.min given.min r.0; within = q.1; most_is = leb-true given.min most p.1 }
 
 new_memory_fits : (wanted given : Limits) → wanted.min ≤ given.min → is_within given.min given.max ≡ true
-    → given.min ≤ MOST_PAGES → IsMemory wanted (new_memory given)
+    → given.min ≤ MAX_PAGES → IsMemory wanted (new_memory given)
 new_memory_fits wanted given least within most =
     let size : length (zeros (given.min * PAGE_SIZE)) ≡ given.min * PAGE_SIZE =
     length-replicate {A = ℕ} (given.min * PAGE_SIZE) 0 in
@@ -117,11 +117,11 @@ new_memory_fits wanted given least within most =
       whole = subst (λ k. length (zeros (given.min * PAGE_SIZE)) ≡ k * PAGE_SIZE) count size;
       least = subst (λ k. wanted.min ≤ k) count least;
       within = subst (λ k. IsTrue (is_within k given.max)) count within;
-      most = subst (λ k. k ≤ MOST_PAGES) count most;
+      most = subst (λ k. k ≤ MAX_PAGES) count most;
     }
 
 new_table_fits : (n : ℕ) (wanted given : Limits) → wanted.min ≤ given.min → is_within given.min given.max ≡ true
-    → given.min ≤ MOST_ENTRIES → IsTable n wanted (new_table given)
+    → given.min ≤ MAX_ENTRIES → IsTable n wanted (new_table given)
 new_table_fits n wanted given least within most =
     let none : Option ℕ = None in
     let size : given.min ≡ length (replicate given.min none) = sym (length-replicate given.min none) in
@@ -129,34 +129,34 @@ new_table_fits n wanted given least within most =
       entries = All-replicate (λ (entry : Option ℕ). IfSome entry (λ func. func < n)) given.min none tt;
       least = subst (λ k. wanted.min ≤ k) size least;
       within = subst (λ k. IsTrue (is_within k given.max)) size within;
-      most = subst (λ k. k ≤ MOST_ENTRIES) size most;
+      most = subst (λ k. k ≤ MAX_ENTRIES) size most;
     }
 
-memory_begins : (imports defined : List Limits) (supplied : Option Limits) → Match MOST_PAGES imports supplied
-    → All (IsLimits (2 ^ 16)) defined → All (λ limits. limits.min ≤ MOST_PAGES) (imports ++ defined)
+memory_begins : (imports defined : List Limits) (supplied : Option Limits) → Match MAX_PAGES imports supplied
+    → All (IsLimits (2 ^ 16)) defined → All (λ limits. limits.min ≤ MAX_PAGES) (imports ++ defined)
     → MayBeMemory (imports ++ defined) (option_map new_memory (limits_of imports supplied defined))
 memory_begins [] [] supplied match' valid small = tt
 memory_begins [] (own ∷ more) supplied match' valid small =
     new_memory_fits own own (omega arith)
     (own_within own.min (2 ^ 16) own.max (All-head (IsLimits (2 ^ 16)) own more valid).max)
-    (All-head (λ limits. limits.min ≤ MOST_PAGES) own more small)
+    (All-head (λ limits. limits.min ≤ MAX_PAGES) own more small)
 memory_begins (wanted ∷ imports) defined None match' valid small = absurd match'
 memory_begins (wanted ∷ imports) defined (Some given) match' valid small =
-    let p = matched MOST_PAGES given wanted match' in
+    let p = matched MAX_PAGES given wanted match' in
     new_memory_fits wanted given p.least p.within p.most_is
 
 table_begins : (n : ℕ) (imports defined : List Limits) (supplied : Option Limits)
-    → Match MOST_ENTRIES imports supplied → All (IsLimits (2 ^ 32)) defined
-    → All (λ limits. limits.min ≤ MOST_ENTRIES) (imports ++ defined)
+    → Match MAX_ENTRIES imports supplied → All (IsLimits (2 ^ 32)) defined
+    → All (λ limits. limits.min ≤ MAX_ENTRIES) (imports ++ defined)
     → MayBeTable n (imports ++ defined) (option_map new_table (limits_of imports supplied defined))
 table_begins n [] [] supplied match' valid small = tt
 table_begins n [] (own ∷ more) supplied match' valid small =
     new_table_fits n own own (omega arith)
     (own_within own.min (2 ^ 32) own.max (All-head (IsLimits (2 ^ 32)) own more valid).max)
-    (All-head (λ limits. limits.min ≤ MOST_ENTRIES) own more small)
+    (All-head (λ limits. limits.min ≤ MAX_ENTRIES) own more small)
 table_begins n (wanted ∷ imports) defined None match' valid small = absurd match'
 table_begins n (wanted ∷ imports) defined (Some given) match' valid small =
-    let p = matched MOST_ENTRIES given wanted match' in
+    let p = matched MAX_ENTRIES given wanted match' in
     new_table_fits n wanted given p.least p.within p.most_is
 
 -- ---- segments
@@ -248,7 +248,7 @@ table_written n limits table new good all size = record {
   entries = all;
   least = subst (λ k. limits.min ≤ k) (sym size) good.least;
   within = subst (λ k. IsTrue (is_within k table.max)) (sym size) good.within;
-  most = subst (λ k. k ≤ MOST_ENTRIES) (sym size) good.most;
+  most = subst (λ k. k ≤ MAX_ENTRIES) (sym size) good.most;
 }
 
 memory_filled : (m : Module) (imported : List Val) (datas : List DataSeg) (store : Store) (limits : List Limits)

@@ -5,7 +5,7 @@ use Rattle.std.specs.List.{cons_option}
 use Rattle.std.proofs.lemmas.Bool.{ltb-false}
 use Rattle.std.proofs.lemmas.List.Elements.{All-nil, All-cons}
 use Rattle.base.proofs.Lists.{nil_parts}
-use Rattle.wasm_syntax.specs.declared.limits.TheConstants.{MOST_ENTRIES, MOST_LOCALS_HOOKED, MOST_PAGES}
+use Rattle.wasm_syntax.specs.declared.limits.TheConstants.{MAX_ENTRIES, MAX_LOCALS_HOOKED, MAX_PAGES}
 use Rattle.wasm_syntax.specs.declared.signatures.Limits.{Limits}
 use Rattle.wasm_syntax.specs.declared.modules.Module.{Module}
 use Rattle.wasm_syntax.specs.declared.profile.Which.{Which}
@@ -36,16 +36,16 @@ none_past most which (l ∷ all) h = by (past most which l.min) refl h (none_pas
 -- the memories and tables of a supported module begin within the limits
 module _ (m : Module) (supported : IsSupported m) where
   abbrev locals : List Refusal
-  locals = filter_map (λ f. past MOST_LOCALS_HOOKED Locals (count_of_locals f)) m.funcs
+  locals = filter_map (λ f. past MAX_LOCALS_HOOKED Locals (count_of_locals f)) m.funcs
 
   no_quantity : (parameters_past m ++ tables_past m ++ memories_past m ≡ []) × (locals ≡ [])
   no_quantity = nil_parts (parameters_past m ++ tables_past m ++ memories_past m) locals supported.quantities
 
-  pub small_memories : All (λ limits. limits.min ≤ MOST_PAGES) (all_memories m)
+  pub small_memories : All (λ limits. limits.min ≤ MAX_PAGES) (all_memories m)
   small_memories =
-      none_past MOST_PAGES Memory (all_memories m) (nil_parts (parameters_past m ++ tables_past m) (memories_past m) no_quantity.0).1
+      none_past MAX_PAGES Memory (all_memories m) (nil_parts (parameters_past m ++ tables_past m) (memories_past m) no_quantity.0).1
 
-  pub small_tables : All (λ limits. limits.min ≤ MOST_ENTRIES) (all_tables m)
+  pub small_tables : All (λ limits. limits.min ≤ MAX_ENTRIES) (all_tables m)
   small_tables =
-      none_past MOST_ENTRIES Table (all_tables m)
+      none_past MAX_ENTRIES Table (all_tables m)
       (nil_parts (parameters_past m) (tables_past m) (nil_parts (parameters_past m ++ tables_past m) (memories_past m) no_quantity.0).0).1

@@ -11,7 +11,7 @@ use Rattle.wasm_syntax.specs.Typing.{IsTyped}
 use Rattle.wasm_syntax.specs.Nest.{Nest, Empty, Plain, InBlock, InLoop, InIf, InIfElse}
 use Rattle.host_script.specs.declared.scripts.ResponseEnd.TheVariants.{Return, Trap}
 use Rattle.history_spec.specs.Code.{Definition}
-use Rattle.history_spec.specs.Configuration.{place, Label, Frame, Activation, InModule, InMain, InImport, topmost, push_all, Point, leave, with_results}
+use Rattle.history_spec.specs.Configuration.{place, Label, Frame, Activation, InModule, InMain, InImport, topmost, push_all, Point, point, leave, with_results}
 use Rattle.history_spec.specs.Settle.{SettleEnd, Continues, Finishes, NoRule, SettleResult, AtEnd, Within, Gives, TooFew, end_results, at_end_of, at_end, return_from, deliver, settle}
 use Rattle.type_safety.specs.Values.{AreValues}
 use Rattle.type_safety.specs.Stores.{func_count}
@@ -32,6 +32,21 @@ going_within (InIf ty body rest) frame going = refl
 going_within (InIfElse ty body other rest) frame going = refl
 
 -- ---- leaving blocks
+
+-- before an instruction no block is left
+pub leaves_none : (labels : List Label) (values : List Val) (rest : Nest) (number : ℕ) → IsGoing rest
+    → leave labels values rest number ≡ point values labels rest number
+leaves_none labels values Empty number h = absurd h
+leaves_none [] values (Plain i rest) number h = refl
+leaves_none (label ∷ labels) values (Plain i rest) number h = refl
+leaves_none [] values (InBlock ty body rest) number h = refl
+leaves_none (label ∷ labels) values (InBlock ty body rest) number h = refl
+leaves_none [] values (InLoop ty body rest) number h = refl
+leaves_none (label ∷ labels) values (InLoop ty body rest) number h = refl
+leaves_none [] values (InIf ty body rest) number h = refl
+leaves_none (label ∷ labels) values (InIf ty body rest) number h = refl
+leaves_none [] values (InIfElse ty body other rest) number h = refl
+leaves_none (label ∷ labels) values (InIfElse ty body other rest) number h = refl
 
 -- values, labels and place of an activation are well typed, and an instruction comes next or no block is open
 pub record IsPoint (s : Scope) (p : Point) : Type 0 where

@@ -2,10 +2,11 @@
 use Rattle.std.proofs.Common.{◌≡◌, ℕ, ◌+◌, List, [], ◌∷◌, ◌++◌, length, Option, Some, None, Ok, Bool, true, false, map, option_and_then, slice_get, refl, sym, ap, ◌∙◌, subst, arith}
 use Rattle.std.specs.Prelude.{IsTrue, IfSome, All}
 use Rattle.std.specs.List.{cons_option}
+use Rattle.std.proofs.lemmas.Bool.Decides.{nat_tests}
 use Rattle.std.proofs.lemmas.List.{append_assoc, length-append}
 use Rattle.std.proofs.lemmas.List.Elements.{All-head, All-tail}
 use Rattle.wasm_syntax.proofs.ValTypes.{type_same}
-use Rattle.wasm_syntax.specs.declared.limits.TheConstants.{MOST_ENTRIES, MOST_PAGES}
+use Rattle.wasm_syntax.specs.declared.limits.TheConstants.{MAX_ENTRIES, MAX_PAGES}
 use Rattle.wasm_syntax.specs.declared.values.Val.{Val}
 use Rattle.wasm_syntax.specs.declared.signatures.Limits.{Limits}
 use Rattle.wasm_syntax.specs.declared.signatures.GlobalType.{GlobalType}
@@ -18,12 +19,16 @@ use Rattle.wasm_syntax.specs.Typing.{is_constant}
 use Rattle.host_script.specs.declared.scripts.Script.{Script}
 use Rattle.host_script.specs.declared.scripts.Supply.{Supply}
 use Rattle.host_script.specs.declared.scripts.LinkFault.{LinkFault}
-use Rattle.host_script.specs.Supply.{limits_match, ImportMatch, Nothing, Unlike, Alike, alike_if, match_of_limits, match_of_value, import_match, globals_in, fault_or, first_fault, given_values, if_imported, supply_for, supply_unless}
+use Rattle.host_script.specs.Supply.{keeps_max, limits_match, ImportMatch, Nothing, Unlike, Alike, alike_if, match_of_limits, match_of_value, import_match, globals_in, fault_or, first_fault, given_values, if_imported, supply_for, supply_unless}
 use Rattle.type_safety.specs.Values.{IsValue, AreValues}
 use Rattle.type_safety.specs.Stores.{func_count}
 use Rattle.type_safety.specs.Supplies.{Match, IsSupply}
 use Rattle.type_safety.specs.Laws.{SuppliesMatch}
 use Rattle.type_safety.proofs.Constants.{constant_value}
+
+pub max_kept : (max : Option ℕ) → keeps_max max max ≡ true
+max_kept None = refl
+max_kept (Some max) = grind (arith, nat_tests)
 
 alike_true : (b : Bool) → alike_if b ≡ Alike → b ≡ true
 alike_true true h = refl
@@ -66,13 +71,13 @@ module _ (script : Script) where
           limits_matched most given wanted (of_kind of imports) (sym (each globals i.kind wanted e) ∙ own)
 
   memory_given : (globals : ℕ) (kind : ImportKind) (wanted : Limits) → memory_import kind ≡ Some wanted
-      → import_match script globals kind ≡ match_of_limits MOST_PAGES script.memory wanted
-  memory_given globals (Memory limits) wanted e = let same : limits ≡ wanted = cc in ap (match_of_limits MOST_PAGES script.memory) same
+      → import_match script globals kind ≡ match_of_limits MAX_PAGES script.memory wanted
+  memory_given globals (Memory limits) wanted e = let same : limits ≡ wanted = cc in ap (match_of_limits MAX_PAGES script.memory) same
   memory_given globals kind wanted e = cc
 
   table_given : (globals : ℕ) (kind : ImportKind) (wanted : Limits) → table_import kind ≡ Some wanted
-      → import_match script globals kind ≡ match_of_limits MOST_ENTRIES script.table wanted
-  table_given globals (Table limits) wanted e = let same : limits ≡ wanted = cc in ap (match_of_limits MOST_ENTRIES script.table) same
+      → import_match script globals kind ≡ match_of_limits MAX_ENTRIES script.table wanted
+  table_given globals (Table limits) wanted e = let same : limits ≡ wanted = cc in ap (match_of_limits MAX_ENTRIES script.table) same
   table_given globals kind wanted e = cc
 
   -- the values from a place on are those of the imported globals
@@ -135,8 +140,8 @@ pub supply_fits : SuppliesMatch
 supply_fits m script supply fits is =
     let p = no_link_fault (first_fault script m.imports 0 0) (supply_for m script) supply is in
     let own : IsSupply m (supply_for m script) = record {
-      memory = limits_given script MOST_PAGES script.memory memory_import (memory_given script) m.imports 0 0 p.0;
-      table = limits_given script MOST_ENTRIES script.table table_import (table_given script) m.imports 0 0 p.0;
+      memory = limits_given script MAX_PAGES script.memory memory_import (memory_given script) m.imports 0 0 p.0;
+      table = limits_given script MAX_ENTRIES script.table table_import (table_given script) m.imports 0 0 p.0;
       globals = globals_matched script (func_count m) m.imports 0 0 p.0 [] script.globals refl refl fits.globals
           fits.values;
     } in

@@ -4,14 +4,14 @@ use Rattle.std.specs.Prelude.{nat_le, nat_lt, replicate, is_some, IsTrue, IfSome
 use Rattle.std.proofs.lemmas.Bool.{leb-true}
 use Rattle.std.proofs.lemmas.List.{length-append, length-replicate, length-set}
 use Rattle.std.proofs.lemmas.List.Elements.{All-set, All-append, All-replicate}
+use Rattle.std.proofs.lemmas.Option.{cond_some}
 use Rattle.base.proofs.Booleans.{and_parts}
-use Rattle.wasm_syntax.specs.declared.limits.TheConstants.{MOST_ENTRIES}
+use Rattle.wasm_syntax.specs.declared.limits.TheConstants.{MAX_ENTRIES}
 use Rattle.host_script.specs.Supply.{is_within}
 use Rattle.wasm_syntax.specs.declared.signatures.Limits.{Limits}
 use Rattle.history_spec.specs.Store.{Table, grown_table_if, grown_table, with_entry}
 use Rattle.history_spec.specs.Instruction.{referent}
 use Rattle.type_safety.specs.Stores.{IsTable, MayBeTable}
-use Rattle.type_safety.proofs.Memories.{cond_some}
 
 -- the table exists, and it may be changed to another that is well typed if the first is
 pub record TableThere (n : ℕ) (limits : List Limits) (o : Option Table) : Type 0 where
@@ -41,14 +41,14 @@ entry_set_fits n limits table index entry entries good fits is =
       entries = subst (λ es. All (IsEntry n) es) p.1 (All-set (IsEntry n) table.entries index entry fits good.entries);
       least = subst (λ k. limits.min ≤ k) size good.least;
       within = subst (λ k. IsTrue (is_within k table.max)) size good.within;
-      most = subst (λ k. k ≤ MOST_ENTRIES) size good.most;
+      most = subst (λ k. k ≤ MAX_ENTRIES) size good.most;
     }
 
 pub table_grown : (n : ℕ) (limits : Limits) (table : Table) (by : ℕ) (entry : Option ℕ) (new : Table)
     → IsTable n limits table → IfSome entry (λ func. func < n) → grown_table table by entry ≡ Some new
     → IsTable n limits new
 table_grown n limits table by entry new good fits is =
-    from (is_within (length table.entries + by) table.max && nat_le (length table.entries + by) MOST_ENTRIES) refl is
+    from (is_within (length table.entries + by) table.max && nat_le (length table.entries + by) MAX_ENTRIES) refl is
   where
     larger : Table
     larger = record table { entries = table.entries ++ replicate by entry }
@@ -61,18 +61,18 @@ table_grown n limits table by entry new good fits is =
     )
 
     from : (b : Bool)
-        → (is_within (length table.entries + by) table.max && nat_le (length table.entries + by) MOST_ENTRIES) ≡ b
+        → (is_within (length table.entries + by) table.max && nat_le (length table.entries + by) MAX_ENTRIES) ≡ b
         → grown_table_if b table by entry ≡ Some new → IsTable n limits new
     from true e made =
         let tests = and_parts (is_within (length table.entries + by) table.max)
-        (nat_le (length table.entries + by) MOST_ENTRIES) e in
+        (nat_le (length table.entries + by) MAX_ENTRIES) e in
         let it : larger ≡ new = cc in
         subst (λ new'. IsTable n limits new') it (record {
           entries = All-append (IsEntry n) table.entries (replicate by entry) good.entries
               (All-replicate (IsEntry n) by entry fits);
           least = subst (λ k. limits.min ≤ k) size (omega (arith, good.least));
           within = subst (λ k. IsTrue (is_within k table.max)) size tests.0;
-          most = subst (λ k. k ≤ MOST_ENTRIES) size (leb-true (length table.entries + by) MOST_ENTRIES tests.1);
+          most = subst (λ k. k ≤ MAX_ENTRIES) size (leb-true (length table.entries + by) MAX_ENTRIES tests.1);
         })
     from false e made = cc
 

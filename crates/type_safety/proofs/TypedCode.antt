@@ -10,7 +10,6 @@ use Rattle.base.proofs.Options.{and_then_some, map_some}
 use Rattle.wasm_syntax.specs.declared.signatures.FuncType.{FuncType}
 use Rattle.wasm_syntax.specs.declared.modules.Module.{Module}
 use Rattle.wasm_syntax.specs.declared.modules.Func.{Func}
-use Rattle.wasm_syntax.specs.declared.modules.ImportKind.TheVariants as import
 use Rattle.wasm_syntax.specs.Index.{of_kind, func_import, func_indices, imported_funcs}
 use Rattle.wasm_syntax.specs.Validity.{IsTypedFunc, IsValid, body_context, each_local}
 use Rattle.wasm_syntax.specs.Profile.{IsSupported}

@@ -1,6 +1,6 @@
 -- Stores that are well typed for a module (Core 1.0, appendix 7.5, "Store Validity").
 use Rattle.std.specs.Prelude.{◌≡◌, ℕ, ◌*◌, ◌<◌, ◌≤◌, List, [], ◌∷◌, length, map, Option, Some, None, IsTrue, IfSome, All}
-use Rattle.wasm_syntax.specs.declared.limits.TheConstants.{MOST_ENTRIES, MOST_PAGES, PAGE_SIZE}
+use Rattle.wasm_syntax.specs.declared.limits.TheConstants.{MAX_ENTRIES, MAX_PAGES, PAGE_SIZE}
 use Rattle.host_script.specs.Supply.{is_within}
 use Rattle.wasm_syntax.specs.declared.values.ValType.{ValType}
 use Rattle.wasm_syntax.specs.declared.signatures.Limits.{Limits}
@@ -19,14 +19,14 @@ pub record IsMemory (limits : Limits) (memory : Memory) : Type 0 where
   pub whole : length memory.bytes ≡ pages memory * PAGE_SIZE
   pub least : limits.min ≤ pages memory
   pub within : IsTrue (is_within (pages memory) memory.max)
-  pub most : pages memory ≤ MOST_PAGES
+  pub most : pages memory ≤ MAX_PAGES
 
 -- a table: each entry is empty or names a function; within its limits (Core 1.0, 7.5, "Table Instances")
 pub record IsTable (funcs : ℕ) (limits : Limits) (table : Table) : Type 0 where
   pub entries : All (λ entry. IfSome entry (λ func. func < funcs)) table.entries
   pub least : limits.min ≤ length table.entries
   pub within : IsTrue (is_within (length table.entries) table.max)
-  pub most : length table.entries ≤ MOST_ENTRIES
+  pub most : length table.entries ≤ MAX_ENTRIES
 
 -- a memory exists if and only if the module has one, and it is well typed
 abbrev pub MayBeMemory : List Limits → Option Memory → Type 0

@@ -1,6 +1,6 @@
 -- Supplies that match a module's imports (Core 1.0, 4.5.2), and modules that can be run.
 use Rattle.std.specs.Prelude.{ℕ, ◌<◌, List, [], ◌∷◌, map, Option, Some, None, IsTrue, All}
-use Rattle.wasm_syntax.specs.declared.limits.TheConstants.{MOST_ENTRIES, MOST_PAGES}
+use Rattle.wasm_syntax.specs.declared.limits.TheConstants.{MAX_ENTRIES, MAX_PAGES}
 use Rattle.wasm_syntax.specs.declared.signatures.Limits.{Limits}
 use Rattle.wasm_syntax.specs.declared.modules.Module.{Module}
 use Rattle.wasm_syntax.specs.Index.{of_kind, memory_import, table_import, imported_globals}
@@ -29,6 +29,6 @@ Match most (wanted ∷ more) (Some given) = IsTrue (limits_match most given want
 
 -- a supply matches the imports, each global by its type
 pub record IsSupply (m : Module) (supply : Supply) : Type 0 where
-  pub memory : Match MOST_PAGES (of_kind memory_import m.imports) supply.memory
-  pub table : Match MOST_ENTRIES (of_kind table_import m.imports) supply.table
+  pub memory : Match MAX_PAGES (of_kind memory_import m.imports) supply.memory
+  pub table : Match MAX_ENTRIES (of_kind table_import m.imports) supply.table
   pub globals : AreValues (func_count m) (map (λ global. global.ty) (imported_globals m)) supply.globals

@@ -6,6 +6,7 @@ use Rattle.std.proofs.lemmas.Bool.{cases_lt}
 use Rattle.wasm_syntax.specs.Encoding.Sections.{Section, CustomSection, TypeSection, ImportSection, FunctionSection, TableSection, MemorySection, GlobalSection, ExportSection, StartSection, ElementSection, CodeSection, DataSection, id_of}
 use Rattle.wasm_syntax.specs.Encoding.Modules.{AreInOrder, types_in, imports_in, functions_in, tables_in, memories_in, globals_in, exports_in, starts_in, elems_in, codes_in, datas_in, customs_in}
 use Rattle.wasm_syntax.specs.Encoding.ReadModules.{first_of, funcs_of, module_of}
+use Rattle.wasm_syntax.proofs.Encoding.Arrangements.{order_cases}
 use Rattle.wasm_decode.specs.declared.draft.Draft.{Draft}
 use Rattle.wasm_decode.specs.Drafts.{empty_draft, draft_with, draft_with_all, module_of_draft}
 
@@ -15,11 +16,6 @@ IsPart id get held =
     (section : Section) (draft : Draft)
     → ((id_of section ≡ id) × (get (draft_with section draft) ≡ held section))
     ⊎ ((id_of section ≢ id) × (get (draft_with section draft) ≡ get draft) × (held section ≡ []))
-
-order_cases : (last : ℕ) (section : Section) (rest : List Section) → AreInOrder last (section ∷ rest)
-    → ((id_of section ≡ 0) × AreInOrder last rest) ⊎ ((last < id_of section) × AreInOrder (id_of section) rest)
-order_cases last (CustomSection custom) rest h = inl (refl, h)
-order_cases last section rest h = inr h
 
 -- if a section of the kind can no longer come
 after : {A : Type 0} (id : ℕ) (get : Draft → List A) (held : Section → List A) → IsPart id get held → 0 < id

@@ -1,12 +1,13 @@
 -- Sections one after another, as far as they are whole and in lawful order.
-use Rattle.std.proofs.Common.{◌≡◌, ℕ, zero, suc, ◌<◌, ◌≤◌, List, [], ◌∷◌, length, Option, Some, None, Bool, true, false, cond, refl, ap, sym, ◌∙◌, subst, arith, eq-eqb, ne_eqb, ◌≢◌}
+use Rattle.std.proofs.Common.{◌≡◌, ℕ, zero, suc, ◌<◌, ◌≤◌, List, [], length, Option, Some, None, cond, refl, ap, sym, ◌∙◌, subst, arith, eq-eqb, ne_eqb, ◌≢◌}
 use Rattle.std.specs.Prelude.{nat_lt, nat_eq, option_map, option_and_then}
-use Rattle.std.proofs.lemmas.Bool.{ltb-true, lt-ltb, le-ltb}
+use Rattle.std.proofs.lemmas.Bool.{lt-ltb, le-ltb}
 use Rattle.std.proofs.lemmas.Option.{same_Some, none-some}
 use Rattle.wasm_syntax.specs.declared.forms.Form.{Form}
 use Rattle.wasm_syntax.specs.Encoding.Sections.{Section, CustomSection, id_of}
 use Rattle.wasm_syntax.specs.Encoding.Modules.{AreInOrder}
 use Rattle.wasm_syntax.specs.Encoding.ReadModules.{first_section, last_after, with_last, next_section, with_section, lawful_sections}
+use Rattle.wasm_syntax.proofs.Encoding.Order.{behind_order}
 use Rattle.wasm_decode.specs.declared.draft.Draft.{Draft}
 use Rattle.wasm_decode.specs.Drafts.{draft_with, draft_with_read}
 
@@ -16,20 +17,6 @@ pub by_id : (last : ℕ) (section : Section)
     ≡ cond (nat_eq (id_of section) 0) (Some last) (cond (nat_lt last (id_of section)) (Some (id_of section)) None)
 by_id last (CustomSection custom) = refl
 by_id last section = refl
-
-where_less : (last id next : ℕ) → cond (nat_lt last id) (Some id) None ≡ Some next → (last < id) × (id ≡ next)
-where_less last id next = go (nat_lt last id) (ltb-true last id)
-  where
-    go : (b : Bool) → (b ≡ true → last < id) → cond b (Some id) None ≡ Some next → (last < id) × (id ≡ next)
-    go true less e = (less refl, same_Some id next e)
-    go false less e = absurd (none-some next e)
-
-in_order_after : (last id : ℕ) (section : Section) (rest : List Section) → last_after last section ≡ Some id
-    → AreInOrder id rest → AreInOrder last (section ∷ rest)
-in_order_after last id (CustomSection custom) rest e h = subst (λ i. AreInOrder i rest) (sym (same_Some last id e)) h
-in_order_after last id section rest e h =
-    let g = where_less last (id_of section) id e in
-    (g.0, subst (λ i. AreInOrder i rest) (sym g.1) h)
 
 -- the last id after a section that may come
 last_of : (last : ℕ) (o : Option (Section × List ℕ)) (next : Section × ℕ × List ℕ)
@@ -96,7 +83,7 @@ module _ (form : Form) where
           ]).0
       go further None e = tt
       go further (Some next) e =
-          in_order_after last next.1 next.0 (lawful_sections form most next.1 next.2).0 (may_come last bytes next e)
+          behind_order last next.1 next.0 (lawful_sections form most next.1 next.2).0 (may_come last bytes next e)
           (further next.1 next.2)
 
   -- if no section comes, nothing more is read

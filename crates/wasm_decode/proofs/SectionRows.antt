@@ -3,6 +3,7 @@ use Rattle.std.proofs.Common.{◌≡◌, ℕ, ◌<◌, List, [], ◌∷◌, Opti
 use Rattle.std.specs.Prelude.{Result, option_and_then, nat_le, ◌&&◌}
 use Rattle.std.proofs.lemmas.Bool.Decides.{nat_tests}
 use Rattle.base.specs.declared.marks.TheConstants.{SECTION_ELEMENT, SECTION_CODE, SECTION_DATA}
+use Rattle.base.proofs.Booleans.{and_parts}
 use Rattle.wasm_syntax.specs.declared.forms.Form.{Form}
 use Rattle.wasm_syntax.specs.Encoding.Combinators.{Reader, Rows, row_at, first_sized, first_vector, map_read, whole}
 use Rattle.wasm_syntax.specs.Encoding.Readers.{first_code, first_elem}
@@ -52,16 +53,11 @@ abbrev are_within : {A : Type 0} → ℕ → Rows A → Bool
 are_within most [] = true
 are_within most (row ∷ rows) = nat_le row.0 most && are_within most rows
 
-both : (a b : Bool) → (a && b) ≡ true → (a ≡ true) × (b ≡ true)
-both true true h = (refl, refl)
-both true false h = cc
-both false b h = cc
-
 no_row : {A : Type 0} (rows : Rows A) (most mark : ℕ) → are_within most rows ≡ true → most < mark
     → row_at rows mark ≡ None
 no_row [] most mark within high = refl
 no_row (row ∷ rows) most mark within high =
-    let parts = both (nat_le row.0 most) (are_within most rows) within in
+    let parts = and_parts (nat_le row.0 most) (are_within most rows) within in
     let differs : nat_eq row.0 mark ≡ false = grind (arith, nat_tests, parts.0, high) in
     ap (λ (b : Bool). cond b (Some row.1) (row_at rows mark)) differs ∙ no_row rows most mark parts.1 high
 

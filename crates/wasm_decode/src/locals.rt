@@ -62,7 +62,7 @@ fn runs_of(alloc: Global, written: &[Run]) -> Result<Runs, NoMemory>
         ty: ValType::I32,
     };
     for run in written {
-        last = joined(&mut runs, last, *run)?;
+        last = join_runs(&mut runs, last, *run)?;
     }
     if last.count > 0 {
         runs.push(last)?;
@@ -72,7 +72,7 @@ fn runs_of(alloc: Global, written: &[Run]) -> Result<Runs, NoMemory>
 
 /// The run that may still grow once another one comes; if that one cannot be joined, the last one
 /// is put after the runs.
-fn joined(runs: &mut Vec<Run>, last: Run, run: Run) -> Result<Run, NoMemory>
+fn join_runs(runs: &mut Vec<Run>, last: Run, run: Run) -> Result<Run, NoMemory>
     requires { last.count + run.count < 2 ^ 32 }
     ensures same { IfOk result (λ next. (rest : List Run) →
         runs.new.items ++ runs_of (next ∷ rest) ≡ runs.old.items ++ runs_of (last ∷ run ∷ rest)) }

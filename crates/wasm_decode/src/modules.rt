@@ -64,11 +64,11 @@ pub fn decode(alloc: Global, bytes: &[u8], form: Form) -> Result<Module, DecodeF
     shortest_encoding();
     encoding_forms();
     lists_of_encoding();
-    read(alloc, bytes, form)
+    read_form(alloc, bytes, form)
 }
 
 /// Decodes a module as the plain program reads it.
-fn read(alloc: Global, bytes: &[u8], form: Form) -> Result<Module, DecodeFault>
+fn read_form(alloc: Global, bytes: &[u8], form: Form) -> Result<Module, DecodeFault>
     ensures { IsRead form bytes.now result }
 {
     let Some(after) = bytes.strip_prefix(&PREAMBLE) else {

@@ -13,6 +13,7 @@ mod host;
 pub mod instr_entries;
 mod instructions;
 mod laws;
+mod loop_code;
 mod loops;
 pub mod machine;
 mod memory;

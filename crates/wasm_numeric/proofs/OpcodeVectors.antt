@@ -1,5 +1,6 @@
 -- Rows of the table of opcodes (Core 1.0, 5.4.5; Core 2.0, 5.4.7), by the standard's numbers, so that a name with a
 -- wrong number is found.
+-- These are examples, which the check computes.
 use Rattle.std.proofs.Common.{◌≡◌, ℕ, List, [], ◌∷◌, refl}
 use Rattle.std.specs.Prelude.{map}
 use Rattle.wasm_numeric.specs.Opcode.{NumType, I32, I64, F32, F64, Kind, Test, Compare, Unary, Binary, Convert, FloatComparison, FloatArithmetic, FloatConversion, NotNumeric, kind_of, operands_of, result_of}

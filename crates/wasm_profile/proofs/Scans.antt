@@ -1,9 +1,9 @@
 -- Passes over a list that stop at the first refusal.
-use Rattle.std.proofs.Common.{◌≡◌, ℕ, suc, ◌+◌, ◌<◌, List, [], ◌∷◌, ◌++◌, Option, Some, None, length, drop, get_or, refl, ap, sym, ◌∙◌, arith, add_assoc}
+use Rattle.std.proofs.Common.{◌≡◌, ℕ, ◌+◌, ◌<◌, List, [], ◌∷◌, ◌++◌, Option, Some, None, length, drop, get_or, refl, ap, sym, ◌∙◌, arith, add_assoc}
 use Rattle.std.specs.Prelude.{filter_map, slice_get, option_to_list}
 use Rattle.std.specs.List.{cons_option, enumerate_from}
 use Rattle.std.proofs.lemmas.List.Elements.{filter_map-append}
-use Rattle.std.proofs.Math.Seq.{drop-cons}
+use Rattle.base.proofs.Lists.{drop_at_item}
 use Rattle.wasm_profile.specs.Answers.{refused_of_all}
 use Rattle.wasm_syntax.specs.Index.{of_kind}
 use Rattle.wasm_syntax.specs.Profile.{Refusal, refused_in}
@@ -15,18 +15,12 @@ use Rattle.wasm_syntax.specs.declared.modules.ImportKind.{ImportKind}
 abbrev pub first : {A : Type 0} → List A → Option A
 first xs = slice_get xs 0
 
-pub from_here : {A : Type 0} (xs : List A) (i : ℕ) (x : A) → i < length xs → x ≡ get_or xs i x
-    → drop i xs ≡ x ∷ drop (i + 1) xs
-from_here xs i x within is =
-    let next : suc i ≡ i + 1 = omega arith in
-    drop-cons xs i x within ∙ ap (λ y. y ∷ drop (suc i) xs) (sym is) ∙ ap (λ n. x ∷ drop n xs) next
-
 -- ---- items with their places
 
 pub place_next : {A : Type 0} (k : ℕ) (xs : List A) (i : ℕ) (x : A) → i < length xs → x ≡ get_or xs i x
     → enumerate_from (k + i) (drop i xs) ≡ (k + i, x) ∷ enumerate_from (k + (i + 1)) (drop (i + 1) xs)
 place_next k xs i x within is =
-    ap (enumerate_from (k + i)) (from_here xs i x within is) ∙ ap (λ n. (k + i, x) ∷ enumerate_from n (drop (i + 1) xs)) (add_assoc k i 1)
+    ap (enumerate_from (k + i)) (drop_at_item xs i x within is) ∙ ap (λ n. (k + i, x) ∷ enumerate_from n (drop (i + 1) xs)) (add_assoc k i 1)
 
 -- ---- lists of refusals, one after another
 
@@ -67,7 +61,7 @@ pub count_next : {K : Type 0} (pick : ImportKind → Option K) (n total : ℕ) (
     → total ≡ n + length (of_kind pick (drop i xs)) → i < length xs → x ≡ get_or xs i x
     → total ≡ (n + length (option_to_list (pick x.kind))) + length (of_kind pick (drop (i + 1) xs))
 count_next pick n total xs i x so_far within is =
-    omega (arith, so_far, ap (λ ys. length (of_kind pick ys)) (from_here xs i x within is), counted (pick x.kind) (of_kind pick (drop (i + 1) xs)))
+    omega (arith, so_far, ap (λ ys. length (of_kind pick ys)) (drop_at_item xs i x within is), counted (pick x.kind) (of_kind pick (drop (i + 1) xs)))
 
 -- ---- what is picked of two lists, one after the other
 

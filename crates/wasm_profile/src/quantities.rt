@@ -5,14 +5,12 @@ ghost use Rattle.std.specs.List.{AllByRecursion};
 ghost use Rattle.wasm_profile.specs.Answers.{refusal_in, limits_import, past_minimum};
 ghost use Rattle.wasm_profile.specs.Sizes.{HasShortLists, IsShortFunc};
 ghost use Rattle.wasm_syntax.specs.Index.{all_memories, all_tables, of_kind};
-ghost use Rattle.wasm_syntax.specs.Profile.{count_of_locals, most_locals, past, quantities_past};
-ghost use Rattle.wasm_syntax.specs.declared.limits.TheConstants.{MOST_ENTRIES, MOST_PAGES, MOST_PARAMETERS};
+ghost use Rattle.wasm_syntax.specs.Profile.{count_of_locals, max_locals, past, quantities_past};
+ghost use Rattle.wasm_syntax.specs.declared.limits.TheConstants.{MAX_ENTRIES, MAX_PAGES, MAX_PARAMETERS};
 ghost use Rattle.wasm_syntax.specs.declared.profile.Which.TheVariants.{Parameters, Table, Memory, Locals};
 
 use crate::faults::ProfileFault;
-use wasm_syntax::limits::{
-    MOST_ENTRIES, MOST_LOCALS, MOST_LOCALS_HOOKED, MOST_PAGES, MOST_PARAMETERS,
-};
+use wasm_syntax::limits::{MAX_ENTRIES, MAX_LOCALS, MAX_LOCALS_HOOKED, MAX_PAGES, MAX_PARAMETERS};
 use wasm_syntax::{Func, FuncType, Import, ImportKind, Limits, Module, Which};
 
 /// Refuses the first quantity past its limit.
@@ -24,17 +22,17 @@ pub(crate) fn refuse_quantities(module: &Module, hooked: bool) -> Result<(), Pro
     refuse_parameters(module.types.as_slice())?;
     refuse_tables(module)?;
     refuse_memories(module)?;
-    refuse_locals(module.funcs.as_slice(), most_locals(hooked))
+    refuse_locals(module.funcs.as_slice(), max_locals(hooked))
 }
 
 /// Refuses the first type with too many parameters.
 pub(crate) fn refuse_parameters(types: &[FuncType]) -> Result<(), ProfileFault>
     ensures { refusal_in result ≡ slice_get
-        (filter_map (λ ty. past MOST_PARAMETERS Parameters (length ty.params)) types.now) 0 }
+        (filter_map (λ ty. past MAX_PARAMETERS Parameters (length ty.params)) types.now) 0 }
 {
     'types: for ty in types {
         let count = ty.params.as_slice().len() as u64;
-        refuse_past(MOST_PARAMETERS, Which::Parameters, count)?;
+        refuse_past(MAX_PARAMETERS, Which::Parameters, count)?;
     }
     Ok(())
 }
@@ -42,22 +40,17 @@ pub(crate) fn refuse_parameters(types: &[FuncType]) -> Result<(), ProfileFault>
 /// Refuses the first table that begins with too many entries, imported ones first.
 fn refuse_tables(module: &Module) -> Result<(), ProfileFault>
     ensures { refusal_in result ≡ slice_get
-        (filter_map (λ limits. past MOST_ENTRIES Table limits.min) (all_tables «module».now)) 0 }
+        (filter_map (λ limits. past MAX_ENTRIES Table limits.min) (all_tables «module».now)) 0 }
 {
-    refuse_all(MOST_ENTRIES, Which::Table, module, module.tables.as_slice())
+    refuse_all(MAX_ENTRIES, Which::Table, module, module.tables.as_slice())
 }
 
 /// Refuses the first memory that begins with too many pages, imported ones first.
 fn refuse_memories(module: &Module) -> Result<(), ProfileFault>
     ensures { refusal_in result ≡ slice_get
-        (filter_map (λ limits. past MOST_PAGES Memory limits.min) (all_memories «module».now)) 0 }
+        (filter_map (λ limits. past MAX_PAGES Memory limits.min) (all_memories «module».now)) 0 }
 {
-    refuse_all(
-        MOST_PAGES,
-        Which::Memory,
-        module,
-        module.memories.as_slice(),
-    )
+    refuse_all(MAX_PAGES, Which::Memory, module, module.memories.as_slice())
 }
 
 /// Refuses the first of these quantities of tables or of memories, imported ones first.
@@ -116,13 +109,13 @@ pub(crate) fn refuse_locals(funcs: &[Func], most: u32) -> Result<(), ProfileFaul
 }
 
 /// The most locals of a function.
-pub(crate) fn most_locals(hooked: bool) -> u32
-    ensures { result ≡ most_locals hooked }
+pub(crate) fn max_locals(hooked: bool) -> u32
+    ensures { result ≡ max_locals hooked }
 {
     if hooked {
-        MOST_LOCALS_HOOKED
+        MAX_LOCALS_HOOKED
     } else {
-        MOST_LOCALS
+        MAX_LOCALS
     }
 }
 

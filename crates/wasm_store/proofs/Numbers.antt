@@ -1,22 +1,12 @@
 -- Numbers as their bytes, the lowest first: as this project has them, and as the library has them.
-use Rattle.std.proofs.Common.{◌≡◌, ℕ, zero, suc, ◌+◌, ◌-◌, ◌*◌, ◌<◌, ◌≤◌, ◌^◌, get_or, subst, List, [], ◌∷◌, ◌++◌, length, take, drop, replicate, refl, ap, sym, ◌∙◌, arith, Some, option_map, length-append, length-drop}
+use Rattle.std.proofs.Common.{◌≡◌, ℕ, suc, ◌+◌, ◌-◌, ◌*◌, ◌<◌, ◌≤◌, ◌^◌, get_or, subst, List, [], ◌∷◌, ◌++◌, length, take, drop, replicate, ap, sym, ◌∙◌, arith, Some, option_map, length-append, length-drop}
 use Rattle.std.specs.Int.{w64, from_le_bytes}
 use Rattle.std.proofs.Math.Nat.{pow-succ'}
 use Rattle.std.proofs.Math.Seq.{take-length}
 use Rattle.std.proofs.lemmas.List.{drop-replicate, length-take-le, get_or-take, get_or-drop}
 use Rattle.std.proofs.lemmas.Bool.{cond-true, le-leb}
 use Rattle.history_spec.specs.Store.{number_of, bytes_at}
-
--- zeros above a number do not change it
-pub number_of-zeros : (bytes : List ℕ) (k : ℕ) → number_of (bytes ++ replicate k 0) ≡ number_of bytes
-number_of-zeros [] zero = refl
-number_of-zeros [] (suc k) = let e : number_of (replicate k 0) ≡ 0 = number_of-zeros [] k in omega arith
-number_of-zeros (b ∷ bs) k = ap (λ n. b + 256 * n) (number_of-zeros bs k)
-
--- the number of eight bytes
-pub from_le_bytes-number_of : (bytes : List ℕ) → length bytes ≡ 8 → from_le_bytes w64 bytes ≡ number_of bytes
-from_le_bytes-number_of (a ∷ b ∷ c ∷ d ∷ e ∷ f ∷ g ∷ h ∷ []) is_8 = omega arith
-from_le_bytes-number_of bytes is_8 = absurd (omega arith)
+use Rattle.history_spec.proofs.ByteNumbers.{number_of-zeros, from_le_bytes-number_of}
 
 -- bytes that all exist
 pub bytes_at-there : (bytes : List ℕ) (address count : ℕ) → address + count ≤ length bytes

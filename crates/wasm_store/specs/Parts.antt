@@ -1,6 +1,6 @@
 -- The parts of a store in code, and the store that they represent.
 use Rattle.std.specs.Prelude.{◌≡◌, ℕ, ◌*◌, ◌≤◌, List, length, Option, Some, None, Bool, true, false}
-use Rattle.wasm_syntax.specs.declared.limits.TheConstants.{MOST_ENTRIES, MOST_PAGES, PAGE_SIZE}
+use Rattle.wasm_syntax.specs.declared.limits.TheConstants.{MAX_ENTRIES, MAX_PAGES, PAGE_SIZE}
 use Rattle.wasm_syntax.specs.declared.values.Val.{Val}
 use Rattle.wasm_syntax.specs.declared.signatures.Limits.{Limits}
 use Rattle.history_spec.specs.Store.{Store, Memory, Table}
@@ -40,7 +40,7 @@ size_if false size = None
 pub record IsSized (bytes : List ℕ) (pages : ℕ) (memory : Option Limits)
     (entries : List (Option ℕ)) (table : Option Limits) : Type 0 where
   pub whole : length bytes ≡ pages * PAGE_SIZE
-  pub few_pages : pages ≤ MOST_PAGES
-  pub few_entries : length entries ≤ MOST_ENTRIES
+  pub few_pages : pages ≤ MAX_PAGES
+  pub few_entries : length entries ≤ MAX_ENTRIES
   pub no_bytes : memory ≡ None → length bytes ≡ 0
   pub no_entries : table ≡ None → length entries ≡ 0

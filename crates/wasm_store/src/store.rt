@@ -1,7 +1,7 @@
 // The store of a run.
 
 ghost use Rattle.std.specs.Prelude.{◌≡◌, ℕ, ◌+◌, ◌*◌, ◌^◌, ◌<◌, ◌≤◌, List, length, Option, Some, None, IsTrue, IfOk, OnOk, OnErr, IfSome, IfNone, IsSome, OnSome, ◌&&◌, nat_le, is_some, option_map, slice_get};
-ghost use Rattle.wasm_syntax.specs.declared.limits.TheConstants.{MOST_ENTRIES, MOST_PAGES, PAGE_SIZE};
+ghost use Rattle.wasm_syntax.specs.declared.limits.TheConstants.{MAX_ENTRIES, MAX_PAGES, PAGE_SIZE};
 ghost use Rattle.host_script.specs.Supply.{is_within};
 ghost use Rattle.history_spec.specs.Store.{bytes_of, with_global};
 ghost use Rattle.history_spec.specs.Instantiation.{new_memory, new_table};
@@ -13,7 +13,7 @@ use crate::{bytes, table};
 use base::NoMemory;
 use std::alloc::Global;
 use std::marker::Model;
-use wasm_syntax::limits::{MOST_ENTRIES, MOST_PAGES, PAGE_SIZE};
+use wasm_syntax::limits::{MAX_ENTRIES, MAX_PAGES, PAGE_SIZE};
 use wasm_syntax::{Limits, Val};
 
 /// A memory, a table and globals (Core 1.0, 4.2.3). The memory and the table may be absent.
@@ -50,7 +50,7 @@ fn minimum(limits: Option<Limits>) -> u32
 
 /// The number of bytes of a number of pages (Core 1.0, 4.2.8).
 fn byte_count(pages: u32) -> usize
-    requires { pages ≤ MOST_PAGES }
+    requires { pages ≤ MAX_PAGES }
     ensures { result ≡ pages * PAGE_SIZE }
 {
     pages as usize * PAGE_SIZE as usize
@@ -96,8 +96,8 @@ impl Store {
         entries: Option<Limits>,
         globals: Vec<Val>,
     ) -> Result<Store, NoMemory>
-        requires pages { minimum_of pages ≤ MOST_PAGES }
-        requires entries { minimum_of entries ≤ MOST_ENTRIES }
+        requires pages { minimum_of pages ≤ MAX_PAGES }
+        requires entries { minimum_of entries ≤ MAX_ENTRIES }
         ensures { IfOk result (λ store. store ≡ record {
           memory = option_map new_memory pages;
           table = option_map new_table entries;
@@ -154,7 +154,7 @@ impl Store {
     pub fn pages(&self) -> u32
         ensures size { result ≡ calls.pages_in self.now }
         ensures whole { length (calls.bytes_in self.now) ≡ result * PAGE_SIZE }
-        ensures most { result ≤ MOST_PAGES }
+        ensures most { result ≤ MAX_PAGES }
     {
         self.pages
     }
@@ -177,7 +177,7 @@ impl Store {
         ensures err { OnErr result (self.new ≡ self.old) }
     {
         let old = self.pages;
-        let Some(size) = grown_size(old, pages, maximum(self.memory), MOST_PAGES) else {
+        let Some(size) = grown_size(old, pages, maximum(self.memory), MAX_PAGES) else {
             return Ok(None);
         };
         self.bytes.resize(byte_count(size), 0)?;
@@ -225,7 +225,7 @@ impl Store {
         ensures err { OnErr result (self.new ≡ self.old) }
     {
         let old_size = self.table_size();
-        let Some(size) = grown_size(old_size, entries, maximum(self.table), MOST_ENTRIES) else {
+        let Some(size) = grown_size(old_size, entries, maximum(self.table), MAX_ENTRIES) else {
             return Ok(None);
         };
         self.entries.resize(size as usize, func)?;
@@ -324,7 +324,7 @@ impl Store {
     #[inline]
     pub fn table_size(&self) -> u32
         ensures size { result ≡ length (calls.entries_in self.now) }
-        ensures most { result ≤ MOST_ENTRIES }
+        ensures most { result ≤ MAX_ENTRIES }
     {
         self.entries.len() as u32
     }

@@ -1,4 +1,5 @@
 -- Small encodings, good and bad, read by the definitions (Core 1.0, 5.2 to 5.5).
+-- These are examples, which the check computes.
 use Rattle.std.proofs.Common.{◌≡◌, ℕ, List, [], ◌∷◌, ◌++◌, Option, Some, None, refl}
 use Rattle.std.specs.Str.{is_utf8, chars}
 use Rattle.leb_bytes.specs.Unsigned.{first_u32}
@@ -190,9 +191,9 @@ joined : locals (0x04 ∷ 0x02 ∷ 0x7F ∷ 0x00 ∷ 0x7E ∷ 0x03 ∷ 0x7F ∷ 
 unfolding locals
 joined = refl
 
-most_locals : locals (0x01 ∷ 0xFF ∷ 0xFF ∷ 0xFF ∷ 0xFF ∷ 0x0F ∷ 0x7F ∷ []) ≡ Some (record { count = 0xFFFF_FFFF; ty = I32 } ∷ [])
+max_locals : locals (0x01 ∷ 0xFF ∷ 0xFF ∷ 0xFF ∷ 0xFF ∷ 0x0F ∷ 0x7F ∷ []) ≡ Some (record { count = 0xFFFF_FFFF; ty = I32 } ∷ [])
 unfolding locals
-most_locals = refl
+max_locals = refl
 
 too_many_locals : locals (0x02 ∷ 0xFF ∷ 0xFF ∷ 0xFF ∷ 0xFF ∷ 0x0F ∷ 0x7F ∷ 0x01 ∷ 0x7E ∷ []) ≡ None
 unfolding locals

@@ -1,4 +1,5 @@
 -- Modules of known bytes, read and written by the definitions.
+-- These are examples, which the check computes.
 use Rattle.std.proofs.Common.{◌≡◌, ℕ, List, [], ◌∷◌, take, length, Option, Some, None, refl}
 use Rattle.std.specs.Prelude.{option_map}
 use Rattle.std.specs.List.{AllByRecursion}

@@ -10,7 +10,7 @@ use Rattle.wasm_syntax.specs.declared.values.ValType.{ValType}
 use Rattle.wasm_syntax.specs.declared.values.ValType.TheVariants.{I32}
 use Rattle.wasm_syntax.specs.Typing.{Context, InstrType, Moves, Drops, Selects, Leaves, Switches, is_number, Leads}
 use Rattle.wasm_syntax.specs.KnownStacks.{Known, known_stack, anything, IsSlot, AreSlots, Fits, same_type, may_be, push_types, pop, pops, drop_any, common_slot, select_slot, takes, common_label, after_instr}
-use Rattle.wasm_syntax.proofs.KnownStacks.{slot_true, slot_from_true, pop_fits, pop_from_fits, pops_fits, pops_from_fits, pushed_fits, below_pushed, some_fits}
+use Rattle.wasm_syntax.proofs.KnownStacks.{slot_true, slot_from_true, pop_fits, pop_from_fits, pops_fits, pops_from_fits, pushed_fits, below_pushed, some_fits, some_type}
 
 -- ---- `drop`
 
@@ -20,17 +20,13 @@ dropped_fits [] true t types h = (anything, refl, tt)
 dropped_fits [] false t types h = cc
 dropped_fits (slot ∷ slots) free t types h = (known_stack slots free, refl, h.1)
 
-some_of_slot : (slot : Option ValType) → (t : ValType) × IsSlot slot t
-some_of_slot None = (I32, refl)
-some_of_slot (Some u) = (u, refl)
-
 dropped_from : (slots : List (Option ValType)) (free : Bool) (below : Known) (types : List ValType)
     → drop_any slots free ≡ Some below → Fits below types → (t : ValType) × AreSlots slots free (t ∷ types)
 dropped_from [] true below types e h = (I32, tt)
 dropped_from [] false below types e h = cc
 dropped_from (slot ∷ slots) free below types e h =
     let is_below : known_stack slots free ≡ below = cc in
-    let t = some_of_slot slot in
+    let t = some_type slot in
     (t.0, (t.1, subst (λ k. Fits k types) (sym is_below) h))
 
 -- ---- `select`

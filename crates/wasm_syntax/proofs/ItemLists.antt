@@ -8,16 +8,9 @@ use Rattle.std.proofs.lemmas.List.{length-append}
 use Rattle.leb_bytes.specs.Unsigned.{unsigned_bytes, u32_bytes}
 use Rattle.wasm_syntax.specs.Encoding.Sections.{Section}
 use Rattle.wasm_syntax.specs.Encoding.Shortest.{sized_bytes, vector_bytes, content_bytes, section_bytes, unless_empty}
+use Rattle.wasm_syntax.proofs.Encoding.Encodable.{content_le}
 
 -- ---- numbers
-
-unsigned_some : (more n : ℕ) → 0 < length (unsigned_bytes more n)
-unfolding unsigned_bytes
-unsigned_some zero n = omega arith
-unsigned_some (suc more) n = elim (cases_lt n (2 ^ 7)) [
-  | inl small ↦ grind (arith, nat_tests)
-  | inr large ↦ grind (arith, nat_tests)
-]
 
 unsigned_most : (more n : ℕ) → length (unsigned_bytes more n) ≤ more + 1
 unfolding unsigned_bytes
@@ -26,10 +19,6 @@ unsigned_most (suc more) n = elim (cases_lt n (2 ^ 7)) [
   | inl small ↦ grind (arith, nat_tests)
   | inr large ↦ let rest = unsigned_most more (n / 2 ^ 7) in grind (arith, nat_tests, rest)
 ]
-
-pub u32_some : (n : ℕ) → 0 < length (u32_bytes n)
-unfolding u32_bytes
-u32_some n = unsigned_some 4 n
 
 pub u32_most : (n : ℕ) → length (u32_bytes n) ≤ 5
 unfolding u32_bytes
@@ -104,9 +93,6 @@ section_most section = omega (
   u32_most (length (content_bytes section)),
 )
 
-section_least : (section : Section) → length (content_bytes section) ≤ length (section_bytes section)
-section_least section = omega (arith, section_length section, sized_length (content_bytes section))
-
 -- the content of this kind of section is a vector of items
 abbrev pub IsVectorOf : {A : Type 0} → (List A → Section) → (A → List ℕ) → Type 0
 IsVectorOf {A} make write = (xs : List A) → content_bytes (make xs) ≡ vector_bytes write xs
@@ -118,7 +104,7 @@ list_least make write is [] = omega (arith, items_nil write)
 list_least make write is (x ∷ xs) = omega (
   arith,
   items_cons section_bytes (make (x ∷ xs)) [],
-  section_least (make (x ∷ xs)),
+  content_le (make (x ∷ xs)),
   ap length (is (x ∷ xs)),
   vector_length write (x ∷ xs),
 )

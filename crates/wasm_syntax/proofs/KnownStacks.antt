@@ -67,7 +67,7 @@ below_pushed (t ∷ results) stack (u ∷ types) h =
 
 -- ---- some stack fits
 
-some_type : (slot : Option ValType) → (t : ValType) × IsSlot slot t
+pub some_type : (slot : Option ValType) → (t : ValType) × IsSlot slot t
 some_type None = (I32, refl)
 some_type (Some u) = (u, refl)
 

@@ -215,7 +215,7 @@ too_many_pages = record empty_module {
 }
 
 -- a memory of 4,096 pages
-abbrev pub most_pages : Module
-most_pages = record empty_module {
+abbrev pub max_pages : Module
+max_pages = record empty_module {
   memories = limits 4096 None ∷ [];
 }

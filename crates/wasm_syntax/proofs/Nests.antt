@@ -6,7 +6,7 @@ use Rattle.wasm_syntax.specs.Nest.{Nest, Empty, Plain, InBlock, InLoop, InIf, In
 
 -- ---- the tree's flat list is read back
 
-plain_in_front : (i : Instr) (first : Nest) (around : Open) → IsTrue (is_plain i)
+pub plain_in_front : (i : Instr) (first : Nest) (around : Open) → IsTrue (is_plain i)
     → in_front i (Within first around) ≡ Within (Plain i first) around
 plain_in_front (Block ty) first around h = cc
 plain_in_front (Loop ty) first around h = cc
@@ -15,10 +15,6 @@ plain_in_front Else first around h = cc
 plain_in_front End first around h = cc
 plain_in_front i first around h = refl
 
--- what is before an `End`, with what is after it
-spread : (inner : List Instr) (i : Instr) (rest is : List Instr) → (inner ++ i ∷ rest) ++ is ≡ inner ++ i ∷ (rest ++ is)
-spread inner i rest is = append_assoc inner (i ∷ rest) is
-
 pub reading_flat : (nest : Nest) (is : List Instr) (around : Open) → IsNest nest → open_nest is ≡ Within Empty around
     → open_nest (flat nest ++ is) ≡ Within nest around
 reading_flat Empty is around h e = e
@@ -26,20 +22,20 @@ reading_flat (Plain i rest) is around h e =
     ap (in_front i) (reading_flat rest is around h.1 e) ∙ plain_in_front i rest around h.0
 reading_flat (InBlock ty body rest) is around h e =
     let behind = ap (in_front End) (reading_flat rest is around h.1 e) in
-    ap (λ l. in_front (Block ty) (open_nest l)) (spread (flat body) End (flat rest) is)
+    ap (λ l. in_front (Block ty) (open_nest l)) (append_assoc (flat body) (End ∷ flat rest) is)
     ∙ ap (in_front (Block ty)) (reading_flat body (End ∷ (flat rest ++ is)) (InEnd around rest) h.0 behind)
 reading_flat (InLoop ty body rest) is around h e =
     let behind = ap (in_front End) (reading_flat rest is around h.1 e) in
-    ap (λ l. in_front (Loop ty) (open_nest l)) (spread (flat body) End (flat rest) is)
+    ap (λ l. in_front (Loop ty) (open_nest l)) (append_assoc (flat body) (End ∷ flat rest) is)
     ∙ ap (in_front (Loop ty)) (reading_flat body (End ∷ (flat rest ++ is)) (InEnd around rest) h.0 behind)
 reading_flat (InIf ty body rest) is around h e =
     let behind = ap (in_front End) (reading_flat rest is around h.1 e) in
-    ap (λ l. in_front (If ty) (open_nest l)) (spread (flat body) End (flat rest) is)
+    ap (λ l. in_front (If ty) (open_nest l)) (append_assoc (flat body) (End ∷ flat rest) is)
     ∙ ap (in_front (If ty)) (reading_flat body (End ∷ (flat rest ++ is)) (InEnd around rest) h.0 behind)
 reading_flat (InIfElse ty body other rest) is around h e =
     let behind = ap (in_front End) (reading_flat rest is around h.2 e) in
     let parted = ap (in_front Else) (reading_flat other (End ∷ (flat rest ++ is)) (InEnd around rest) h.1 behind) in
-    ap (λ l. in_front (If ty) (open_nest l)) (spread (flat body) Else (flat other ++ End ∷ flat rest) is ∙ ap (λ l. flat body ++ Else ∷ l) (spread (flat other) End (flat rest) is))
+    ap (λ l. in_front (If ty) (open_nest l)) (append_assoc (flat body) (Else ∷ (flat other ++ End ∷ flat rest)) is ∙ ap (λ l. flat body ++ Else ∷ l) (append_assoc (flat other) (End ∷ flat rest) is))
     ∙ ap (in_front (If ty)) (reading_flat body (Else ∷ (flat other ++ End ∷ (flat rest ++ is))) (InElse around other rest) h.0 parted)
 
 -- a body's tree is the one that is read
@@ -77,17 +73,17 @@ stood_in_front Else (Within first (InEnd outer rest)) is h = (tt, (h.0, h.1.0, h
 stood_in_front Else (Within first Outside) is h = tt
 stood_in_front Else (Within first (InElse outer other rest)) is h = tt
 stood_in_front (Block ty) (Within first (InEnd outer rest)) is h =
-    ((h.0, h.1.0), h.1.1, ap (λ l. Block ty ∷ l) (spread (flat first) End (flat rest) (text outer) ∙ h.2))
+    ((h.0, h.1.0), h.1.1, ap (λ l. Block ty ∷ l) (append_assoc (flat first) (End ∷ flat rest) (text outer) ∙ h.2))
 stood_in_front (Block ty) (Within first Outside) is h = tt
 stood_in_front (Block ty) (Within first (InElse outer other rest)) is h = tt
 stood_in_front (Loop ty) (Within first (InEnd outer rest)) is h =
-    ((h.0, h.1.0), h.1.1, ap (λ l. Loop ty ∷ l) (spread (flat first) End (flat rest) (text outer) ∙ h.2))
+    ((h.0, h.1.0), h.1.1, ap (λ l. Loop ty ∷ l) (append_assoc (flat first) (End ∷ flat rest) (text outer) ∙ h.2))
 stood_in_front (Loop ty) (Within first Outside) is h = tt
 stood_in_front (Loop ty) (Within first (InElse outer other rest)) is h = tt
 stood_in_front (If ty) (Within first (InEnd outer rest)) is h =
-    ((h.0, h.1.0), h.1.1, ap (λ l. If ty ∷ l) (spread (flat first) End (flat rest) (text outer) ∙ h.2))
+    ((h.0, h.1.0), h.1.1, ap (λ l. If ty ∷ l) (append_assoc (flat first) (End ∷ flat rest) (text outer) ∙ h.2))
 stood_in_front (If ty) (Within first (InElse outer other rest)) is h =
-    ((h.0, h.1.0, h.1.1), h.1.2, ap (λ l. If ty ∷ l) (spread (flat first) Else (flat other ++ End ∷ flat rest) (text outer) ∙ ap (λ l. flat first ++ Else ∷ l) (spread (flat other) End (flat rest) (text outer)) ∙ h.2))
+    ((h.0, h.1.0, h.1.1), h.1.2, ap (λ l. If ty ∷ l) (append_assoc (flat first) (Else ∷ (flat other ++ End ∷ flat rest)) (text outer) ∙ ap (λ l. flat first ++ Else ∷ l) (append_assoc (flat other) (End ∷ flat rest) (text outer)) ∙ h.2))
 stood_in_front (If ty) (Within first Outside) is h = tt
 stood_in_front i (Within first around) is h = stood_plain i is first around refl h
 

@@ -1,5 +1,6 @@
 -- The types of the opcodes by the standard's table of names (Core 1.0, 5.4 and 7.7; Core 2.0, 5.4.7), and their
 -- classes in the accepted profile.
+-- These are examples, which the check computes.
 use Rattle.std.proofs.Common.{◌≡◌, ℕ, List, [], ◌∷◌, ◌++◌, Option, Some, None, Bool, true, false, map, refl}
 use Rattle.wasm_syntax.specs.declared.values.ValType.{ValType}
 use Rattle.wasm_syntax.specs.declared.values.ValType.TheVariants.{I32, I64, F32, F64}

@@ -1,4 +1,5 @@
 -- What the accepted profile refuses of modules, by its order and at the edges of its limits.
+-- These are examples, which the check computes.
 use Rattle.std.proofs.Common.{◌≡◌, ℕ, List, [], ◌∷◌, ◌++◌, Option, Some, None, true, false, replicate, refl}
 use Rattle.std.specs.Prelude.{codes}
 use Rattle.wasm_syntax.specs.declared.values.ValType.TheVariants.{I32, I64, F32, F64}
@@ -13,7 +14,7 @@ use Rattle.wasm_syntax.specs.declared.modules.Func.{Func}
 use Rattle.wasm_syntax.specs.Profile.{Refusal, Unsupported, Limit, Reserved, first_refusal, IsAccepted}
 use Rattle.wasm_syntax.proofs.Places.{valid_if}
 use Rattle.wasm_syntax.specs.EmptyModule.{empty_module}
-use Rattle.wasm_syntax.proofs.ModuleExamples.{func_type, limits, constant, two_answers, c_buffers, float_body, replay_two_answers, too_many_pages, most_pages}
+use Rattle.wasm_syntax.proofs.ModuleExamples.{func_type, limits, constant, two_answers, c_buffers, float_body, replay_two_answers, too_many_pages, max_pages}
 
 -- a module that is not instrumented; one that may be
 abbrev refused : Module → Option Refusal
@@ -68,7 +69,7 @@ then_import = refl
 pages_past : refused too_many_pages ≡ Some (Limit Memory 4097)
 pages_past = refl
 
-pages_within : refused most_pages ≡ None
+pages_within : refused max_pages ≡ None
 pages_within = refl
 
 abbrev importing : ImportKind → Module

@@ -1,5 +1,6 @@
 -- Bodies that have a typing and bodies that have no typing, at least one of each for each rule (Core 1.0, 3.3;
 -- Core 2.0, 3.3.1, 3.3.2, 3.3.6 and 3.3.7).
+-- These are examples, which the check computes.
 use Rattle.std.proofs.Common.{◌≡◌, ℕ, ◌^◌, List, [], ◌∷◌, ◌++◌, Option, Some, None, Bool, true, false, not, All, Decides, refl, ap, ◌∙◌}
 use Rattle.std.specs.List.{list_all}
 use Rattle.std.proofs.lemmas.Bool.Decides.{Decides-by_and, Decides-not}

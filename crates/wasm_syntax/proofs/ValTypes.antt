@@ -1,11 +1,13 @@
--- The tests for equality of value types, of lists of them and of function types: each passes for equals alone.
-use Rattle.std.proofs.Common.{◌≡◌, ℕ, List, [], ◌∷◌, true, cond, nat_eq, refl, sym, ap, ◌∙◌}
+-- The tests for equality of value types, of lists of them and of function types: each passes for equals alone. A block
+-- has one result at most.
+use Rattle.std.proofs.Common.{◌≡◌, ℕ, ◌≤◌, List, [], ◌∷◌, length, Option, Some, None, true, cond, nat_eq, refl, sym, ap, ◌∙◌, arith}
 use Rattle.std.proofs.lemmas.Bool.Decides.{Decides-eqb}
 use Rattle.base.proofs.Booleans.{and_parts, and_true}
 use Rattle.base.specs.declared.marks.TheConstants.{TYPE_I32, TYPE_I64, TYPE_F32, TYPE_F64}
 use Rattle.wasm_syntax.specs.declared.values.ValType.{ValType}
 use Rattle.wasm_syntax.specs.declared.values.ValType.TheVariants.{I32, I64, F32, F64, FuncRef}
 use Rattle.wasm_syntax.specs.declared.signatures.FuncType.{FuncType}
+use Rattle.wasm_syntax.specs.Typing.{results_of}
 use Rattle.wasm_syntax.specs.Alike.{type_byte, same_type, same_types, same_signature}
 
 -- the type that a byte encodes
@@ -47,3 +49,7 @@ signature_same a b h =
 pub signature_own : (a : FuncType) → same_signature a a ≡ true
 signature_own a =
     and_true (same_types a.params a.params) (same_types a.results a.results) (types_own a.params) (types_own a.results)
+
+pub results_one : (ty : Option ValType) → length (results_of ty) ≤ 1
+results_one None = omega arith
+results_one (Some t) = omega arith

@@ -1,4 +1,5 @@
 -- Valid modules, and modules that break each condition of validity once (Core 1.0, 3.4).
+-- These are examples, which the check computes.
 use Rattle.std.proofs.Common.{◌≡◌, ℕ, ◌^◌, List, [], ◌∷◌, ◌++◌, Option, Some, None, Bool, true, false, nat_eq, get_or, All, refl, ap}
 use Rattle.std.specs.Prelude.{codes}
 use Rattle.std.specs.List.{list_all}
@@ -20,7 +21,7 @@ use Rattle.wasm_syntax.specs.Validity.{IsValid, IsInvalidAt}
 use Rattle.wasm_syntax.specs.ValidityTests.{invalid_at}
 use Rattle.wasm_syntax.proofs.Places.{valid_if, invalid_if}
 use Rattle.wasm_syntax.specs.EmptyModule.{empty_module}
-use Rattle.wasm_syntax.proofs.ModuleExamples.{func_type, limits, constant, two_answers, two_answers_untyped, overwrite, grow_access, grow_failed, nested_call, table_entry, float_global, imported_offset, float_body, c_buffers, replay_two_answers, too_many_pages, most_pages}
+use Rattle.wasm_syntax.proofs.ModuleExamples.{func_type, limits, constant, two_answers, two_answers_untyped, overwrite, grow_access, grow_failed, nested_call, table_entry, float_global, imported_offset, float_body, c_buffers, replay_two_answers, too_many_pages, max_pages}
 
 -- ---- the plain tests decide this
 
@@ -69,7 +70,7 @@ all_invalid rows h k d below =
 abbrev valid_modules : List Module
 valid_modules =
     empty_module ∷ two_answers ∷ overwrite ∷ grow_access ∷ grow_failed ∷ nested_call ∷ table_entry ∷ float_global ∷ imported_offset ∷ float_body ∷ c_buffers
-    ∷ replay_two_answers ∷ too_many_pages ∷ most_pages ∷ []
+    ∷ replay_two_answers ∷ too_many_pages ∷ max_pages ∷ []
 
 abbrev expression : Instr → List Instr
 expression i = i ∷ End ∷ []

@@ -15,8 +15,9 @@ use Rattle.wasm_syntax.specs.Encoding.Modules.{code_of}
 use Rattle.wasm_syntax.specs.Encoding.Shortest.{vector_bytes, val_type_bytes, func_type_bytes, instr_bytes, import_bytes, run_bytes, body_bytes, code_bytes, encoding_of}
 use Rattle.wasm_syntax.proofs.Encoding.NotEmpty.{func_type_bytes_some, import_bytes_some, run_bytes_some, instr_bytes_some}
 use Rattle.wasm_syntax.specs.ListsWithin.{HasListsWithin}
-use Rattle.wasm_syntax.proofs.ItemLists.{u32_some, items, items_as, items_some, items_some_of, items_one, vector_length, sized_length}
+use Rattle.wasm_syntax.proofs.ItemLists.{items, items_as, items_some, items_some_of, items_one, vector_length, sized_length}
 use Rattle.wasm_syntax.proofs.SectionLists.{encoding_least}
+use Rattle.wasm_syntax.proofs.Encoding.Writing.{u32_some}
 
 -- ---- items
 

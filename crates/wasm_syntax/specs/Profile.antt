@@ -2,7 +2,7 @@
 use Rattle.std.specs.Prelude.{◌≡◌, ℕ, List, [], ◌++◌, length, sum_by, filter, filter_map, flat_map, Option, Some, None, Bool, true, false, cond, ◌||◌, nat_lt, bytes_eq, codes, slice_get, option_map}
 use Rattle.std.specs.List.{enumerate_from}
 use Rattle.base.specs.declared.opcodes.TheConstants.{F32_EQ, F64_GE, F32_ABS, F64_COPYSIGN, I32_TRUNC_F32_S, I32_TRUNC_F64_U, I64_TRUNC_F32_S, F64_PROMOTE_F32}
-use Rattle.wasm_syntax.specs.declared.limits.TheConstants.{MOST_ENTRIES, MOST_LOCALS, MOST_LOCALS_HOOKED, MOST_PAGES, MOST_PARAMETERS}
+use Rattle.wasm_syntax.specs.declared.limits.TheConstants.{MAX_ENTRIES, MAX_LOCALS, MAX_LOCALS_HOOKED, MAX_PAGES, MAX_PARAMETERS}
 use Rattle.wasm_syntax.specs.declared.profile.Feature.{Feature}
 use Rattle.wasm_syntax.specs.declared.profile.Feature.TheVariants.{FloatComparison, FloatArithmetic, FloatConversion}
 use Rattle.wasm_syntax.specs.declared.profile.Which.{Which}
@@ -63,16 +63,16 @@ abbrev pub count_of_locals : Func → ℕ
 count_of_locals f = sum_by (λ run. run.count) f.locals
 
 -- the most locals of a function; an instrumented module has five more
-abbrev pub most_locals : Bool → ℕ
-most_locals hooked = cond hooked MOST_LOCALS_HOOKED MOST_LOCALS
+abbrev pub max_locals : Bool → ℕ
+max_locals hooked = cond hooked MAX_LOCALS_HOOKED MAX_LOCALS
 
 -- each quantity past its limit: parameters by type, the table's and the memory's minimum, locals by function
 abbrev pub quantities_past : Bool → Module → List Refusal
 quantities_past hooked m =
-    filter_map (λ ty. past MOST_PARAMETERS Parameters (length ty.params)) m.types
-    ++ filter_map (λ limits. past MOST_ENTRIES Table limits.min) (all_tables m)
-    ++ filter_map (λ limits. past MOST_PAGES Memory limits.min) (all_memories m)
-    ++ filter_map (λ f. past (most_locals hooked) Locals (count_of_locals f)) m.funcs
+    filter_map (λ ty. past MAX_PARAMETERS Parameters (length ty.params)) m.types
+    ++ filter_map (λ limits. past MAX_ENTRIES Table limits.min) (all_tables m)
+    ++ filter_map (λ limits. past MAX_PAGES Memory limits.min) (all_memories m)
+    ++ filter_map (λ f. past (max_locals hooked) Locals (count_of_locals f)) m.funcs
 
 -- the refusal of an import from the module `r3`
 abbrev pub reserved_import : ℕ × Import → Option Refusal

@@ -1,5 +1,6 @@
 -- Validity of modules (Core 1.0, 3.4), and the place at which a module is invalid.
 use Rattle.std.specs.Prelude.{◌≡◌, ◌≢◌, ℕ, ◌+◌, ◌^◌, ◌<◌, ◌≤◌, List, [], ◌∷◌, ◌++◌, length, reverse, replicate, flat_map, filter_map, Option, Some, None, cond, IsTrue, IfSome, slice_get, option_and_then, All, AllPairs}
+use Rattle.wasm_syntax.specs.declared.limits.TheConstants.{MAX_DECLARED_PAGES}
 use Rattle.wasm_syntax.specs.declared.values.ValType.{ValType}
 use Rattle.wasm_syntax.specs.declared.values.ValType.TheVariants.{I32}
 use Rattle.wasm_syntax.specs.declared.signatures.FuncType.{FuncType}
@@ -43,7 +44,7 @@ abbrev pub IsTable : Limits → Type 0
 IsTable limits = IsLimits (2 ^ 32) limits
 
 abbrev pub IsMemory : Limits → Type 0
-IsMemory limits = IsLimits (2 ^ 16) limits
+IsMemory limits = IsLimits MAX_DECLARED_PAGES limits
 
 -- there is a function, table, memory or global of this index (Core 1.0, 3.4.8)
 abbrev pub IsThere : Module → ExportKind → Type 0

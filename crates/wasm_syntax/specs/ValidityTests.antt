@@ -1,6 +1,7 @@
 -- Plain tests beside the conditions of validity: they find the place at which a module is invalid.
 use Rattle.std.specs.Prelude.{ℕ, ◌+◌, ◌^◌, List, [], ◌∷◌, length, reverse, Option, Some, None, Bool, true, false, cond, not, ◌&&◌, nat_lt, nat_le, bytes_eq, position, option_map, option_and_then}
 use Rattle.std.specs.List.{list_all}
+use Rattle.wasm_syntax.specs.declared.limits.TheConstants.{MAX_DECLARED_PAGES}
 use Rattle.wasm_syntax.specs.declared.values.ValType.{ValType}
 use Rattle.wasm_syntax.specs.declared.values.ValType.TheVariants.{I32}
 use Rattle.wasm_syntax.specs.declared.signatures.FuncType.{FuncType}
@@ -41,7 +42,7 @@ abbrev pub is_table : Limits → Bool
 is_table limits = is_limits (2 ^ 32) limits
 
 abbrev pub is_memory : Limits → Bool
-is_memory limits = is_limits (2 ^ 16) limits
+is_memory limits = is_limits MAX_DECLARED_PAGES limits
 
 abbrev pub is_there : Module → ExportKind → Bool
 is_there m (Func x) = nat_lt x (length (func_indices m))

@@ -12,14 +12,12 @@ use Rattle.wasm_syntax.specs.Nest.{Nest, Empty, Plain, InBlock, InLoop, InIf, In
 use Rattle.wasm_syntax.specs.Typing.{Context, instr_type, is_block_type, results_of, inside}
 use Rattle.wasm_syntax.specs.KnownStacks.{Known, nothing, push_types, pop, ends, after_instr, known_after}
 use Rattle.wasm_syntax.specs.ValidityTests.{nest_ends}
+use Rattle.wasm_syntax.proofs.Nests.{plain_in_front}
 use Rattle.wasm_validate.specs.declared.stacks.Kind.{Kind}
 use Rattle.wasm_validate.specs.declared.stacks.Kind.TheVariants.{Block, Loop, If}
 use Rattle.wasm_validate.specs.Flat.{Level, level, State, state, within, after_open, may_leave, is_if, may_close, after_plain, state_after, on_some, scan, body_start}
 
 -- ---- the tests
-
-spread : (inner : List Instr) (i : Instr) (rest is : List Instr) → (inner ++ i ∷ rest) ++ is ≡ inner ++ i ∷ (rest ++ is)
-spread inner i rest is = append_assoc inner (i ∷ rest) is
 
 changed-plain : (ctx : Context) (i : Instr) (s : State) → IsTrue (is_plain i)
     → state_after ctx i s ≡ after_plain (instr_type (within ctx s.levels) i) (within ctx s.levels) s
@@ -121,7 +119,7 @@ scan-flat ctx (Plain i rest) is l levels here h =
 scan-flat ctx (InBlock ty body rest) is l levels here h =
     let outer = within ctx (l ∷ levels) in
     let tail = flat rest ++ is in
-    ap (λ is. scan ctx (instr.Block ty ∷ is) (state (l ∷ levels) here)) (spread (flat body) instr.End (flat rest) is)
+    ap (λ is. scan ctx (instr.Block ty ∷ is) (state (l ∷ levels) here)) (append_assoc (flat body) (instr.End ∷ flat rest) is)
     ∙ block-scanned ctx (flat body ++ instr.End ∷ tail) tail is Block ty here (l ∷ levels) (known_after (inside (results_of ty) outer) body nothing)
     (known_after outer rest (push_types (results_of ty) here)) refl
     (scan-flat ctx body (instr.End ∷ tail) (level Block ty here) (l ∷ levels) nothing h.0)
@@ -129,7 +127,7 @@ scan-flat ctx (InBlock ty body rest) is l levels here h =
 scan-flat ctx (InLoop ty body rest) is l levels here h =
     let outer = within ctx (l ∷ levels) in
     let tail = flat rest ++ is in
-    ap (λ is. scan ctx (instr.Loop ty ∷ is) (state (l ∷ levels) here)) (spread (flat body) instr.End (flat rest) is)
+    ap (λ is. scan ctx (instr.Loop ty ∷ is) (state (l ∷ levels) here)) (append_assoc (flat body) (instr.End ∷ flat rest) is)
     ∙ block-scanned ctx (flat body ++ instr.End ∷ tail) tail is Loop ty here (l ∷ levels) (known_after (inside [] outer) body nothing)
     (known_after outer rest (push_types (results_of ty) here)) refl
     (scan-flat ctx body (instr.End ∷ tail) (level Loop ty here) (l ∷ levels) nothing h.0)
@@ -139,7 +137,7 @@ scan-flat ctx (InIf ty body rest) is l levels here h =
     let inner = known_after (inside (results_of ty) outer) body nothing in
     let e = ends (results_of ty) inner in
     let e0 = ends (results_of ty) (Some nothing) in
-    ap (λ is. scan ctx (instr.If ty ∷ is) (state (l ∷ levels) here)) (spread (flat body) instr.End (flat rest) is)
+    ap (λ is. scan ctx (instr.If ty ∷ is) (state (l ∷ levels) here)) (append_assoc (flat body) (instr.End ∷ flat rest) is)
     ∙ elim (pop I32 here) as (λ o. on_some (λ s. scan ctx (flat body ++ instr.End ∷ (flat rest ++ is)) s) (after_open If ty (l ∷ levels) o) ≡ then ctx is (l ∷ levels) (cond (is_block_type ty && e && e0) (option_and_then (λ below. known_after outer rest (push_types (results_of ty) below)) o) None)) [
       | None ↦ on_some-opened (λ s. scan ctx (flat body ++ instr.End ∷ (flat rest ++ is)) s) ty (l ∷ levels) ∙ then-none ctx is (l ∷ levels) (is_block_type ty && e && e0)
       | Some below ↦
@@ -156,7 +154,7 @@ scan-flat ctx (InIfElse ty body other rest) is l levels here h =
     let e = ends (results_of ty) inner in
     let e1 = ends (results_of ty) second in
     let text = instr.Else ∷ (flat other ++ instr.End ∷ (flat rest ++ is)) in
-    ap (λ is. scan ctx (instr.If ty ∷ is) (state (l ∷ levels) here)) (spread (flat body) instr.Else (flat other ++ instr.End ∷ flat rest) is ∙ ap (λ l. flat body ++ instr.Else ∷ l) (spread (flat other) instr.End (flat rest) is))
+    ap (λ is. scan ctx (instr.If ty ∷ is) (state (l ∷ levels) here)) (append_assoc (flat body) (instr.Else ∷ (flat other ++ instr.End ∷ flat rest)) is ∙ ap (λ l. flat body ++ instr.Else ∷ l) (append_assoc (flat other) (instr.End ∷ flat rest) is))
     ∙ elim (pop I32 here) as (λ o. on_some (λ s. scan ctx (flat body ++ text) s) (after_open If ty (l ∷ levels) o) ≡ then ctx is (l ∷ levels) (cond (is_block_type ty && e && e1) (option_and_then (λ below. known_after outer rest (push_types (results_of ty) below)) o) None)) [
       | None ↦ on_some-opened (λ s. scan ctx (flat body ++ text) s) ty (l ∷ levels) ∙ then-none ctx is (l ∷ levels) (is_block_type ty && e && e1)
       | Some below ↦
@@ -226,18 +224,9 @@ reads-last : (ctx : Context) (l : Level) (is : List Instr) (here : Known) → sc
 reads-last ctx l [] here h = record { first = Empty; around = InEnd Outside Empty; read = refl; blocks = (refl, refl) }
 reads-last ctx l (i ∷ is) here h = absurd (false≢true h)
 
-plain-front : (i : Instr) (first : Nest) (around : Open) → IsTrue (is_plain i)
-    → in_front i (Within first around) ≡ Within (Plain i first) around
-plain-front (instr.Block ty) first around h = cc
-plain-front (instr.Loop ty) first around h = cc
-plain-front (instr.If ty) first around h = cc
-plain-front instr.Else first around h = cc
-plain-front instr.End first around h = cc
-plain-front i first around h = refl
-
 reads-plain : (i : Instr) (levels : List Level) (is : List Instr) → IsTrue (is_plain i) → IsRead levels is
     → IsRead levels (i ∷ is)
-reads-plain i levels is h r = record { first = Plain i r.first; around = r.around; read = ap (in_front i) r.read ∙ plain-front i r.first r.around h; blocks = r.blocks }
+reads-plain i levels is h r = record { first = Plain i r.first; around = r.around; read = ap (in_front i) r.read ∙ plain_in_front i r.first r.around h; blocks = r.blocks }
 
 cond-left : (b x : Bool) → cond b x false ≡ true → b ≡ true
 cond-left true x h = refl

@@ -12,6 +12,7 @@ use Rattle.std.proofs.lemmas.Slice.Eq.{bytes_eq-Decides}
 use Rattle.std.proofs.lemmas.List.{take_more, drop_more, drop_all}
 use Rattle.std.proofs.lemmas.List.Folds.{list_any-append}
 use denote.Bor.{Bor}
+use Rattle.base.proofs.Booleans.{same_tests}
 use Rattle.wasm_syntax.specs.declared.modules.Export.{Export}
 use Rattle.wasm_syntax.specs.ValidityTests.{names_differ}
 use Rattle.wasm_validate.specs.Names.{exports_have, are_new_names}
@@ -29,11 +30,6 @@ or-comm true true = refl
 or-comm true false = refl
 or-comm false true = refl
 or-comm false false = refl
-
-same-test : (a b : Bool) → (a ≡ true → b ≡ true) → (b ≡ true → a ≡ true) → a ≡ b
-same-test true b f g = sym (f refl)
-same-test false true f g = g refl
-same-test false false f g = refl
 
 -- ---- the set of names
 
@@ -80,7 +76,7 @@ fresh-next exports i e h is =
 pub fresh-stops : (exports : List Export) (i : ℕ) (e : Export) (added : Bool) → i < length exports
     → e ≡ get_or exports i e → added ≡ not (exports_have (take i exports) e.name) → added ≡ false
     → false ≡ are_new_names (take i exports) (drop i exports)
-fresh-stops exports i e added h is told new = ap (λ b. b && are_new_names (take (i + 1) exports) (drop (i + 1) exports)) (sym new ∙ told) ∙ sym (fresh-next exports i e h is)
+fresh-stops exports i e added h is reported new = ap (λ b. b && are_new_names (take (i + 1) exports) (drop (i + 1) exports)) (sym new ∙ reported) ∙ sym (fresh-next exports i e h is)
 
 pub fresh-ends : (exports : List Export) (i : ℕ) → length exports ≤ i
     → true ≡ are_new_names (take i exports) (drop i exports)
@@ -102,7 +98,7 @@ and-shift true false c d = refl
 and-shift false b c d = refl
 
 bytes_eq-swap : (a b : List ℕ) → bytes_eq a b ≡ bytes_eq b a
-bytes_eq-swap a b = same-test (bytes_eq a b) (bytes_eq b a) (λ h. (bytes_eq-Decides b a).1 (sym ((bytes_eq-Decides a b).0 h))) (λ h. (bytes_eq-Decides a b).1 (sym ((bytes_eq-Decides b a).0 h)))
+bytes_eq-swap a b = same_tests (bytes_eq a b) (bytes_eq b a) (λ h. (bytes_eq-Decides b a).1 (sym ((bytes_eq-Decides a b).0 h))) (λ h. (bytes_eq-Decides a b).1 (sym ((bytes_eq-Decides b a).0 h)))
 
 new-more : (done : List Export) (e : Export) (name : List ℕ)
     → not (exports_have (done ++ e ∷ []) name) ≡ (not (exports_have done name) && not (bytes_eq e.name name))

@@ -12,6 +12,7 @@ use base::NoMemory;
 use module_index::scope::Scope;
 use module_index::{is_number, is_value, same_type};
 use std::alloc::Global;
+use wasm_syntax::limits::MAX_DECLARED_PAGES;
 use wasm_syntax::{
     DataSeg, ElemSeg, ExportKind, Func, FuncType, Global as Variable, ImportKind, Instr, Limits,
     Run, ValType,
@@ -155,7 +156,7 @@ fn is_table(limits: Limits) -> bool
 fn is_memory(limits: Limits) -> bool
     ensures { result ≡ decide.is_memory limits }
 {
-    is_limits(1 << 16, limits)
+    is_limits(u64::from(MAX_DECLARED_PAGES), limits)
 }
 
 /// What is imported (Core 1.0, 3.4.9).

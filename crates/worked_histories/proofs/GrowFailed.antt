@@ -3,7 +3,7 @@
 use Rattle.std.proofs.Common.{◌≡◌, ℕ, ◌+◌, ◌*◌, ◌/◌, List, [], ◌∷◌, ◌++◌, length, Some, None, Ok, refl, ◌∙◌, ap, ◌&&◌, nat_le}
 use Rattle.std.proofs.lemmas.List.{length-append}
 use Rattle.std.specs.Fmt.{digits}
-use Rattle.wasm_syntax.specs.declared.limits.TheConstants.{MOST_PAGES, PAGE_SIZE}
+use Rattle.wasm_syntax.specs.declared.limits.TheConstants.{MAX_PAGES, PAGE_SIZE}
 use Rattle.host_script.specs.Supply.{is_within}
 use Rattle.wasm_syntax.specs.declared.values.Val.{Val}
 use Rattle.wasm_syntax.specs.declared.instructions.Instr.TheVariants.{Const, MemoryGrow}
@@ -24,7 +24,7 @@ use Rattle.worked_histories.specs.Build.{i32}
 use Rattle.worked_histories.specs.Modules.{grow_failed}
 use Rattle.worked_histories.specs.Scripts.{does}
 use Rattle.worked_histories.specs.Histories.{GrowFailed}
-use Rattle.worked_histories.specs.Tells.{TellResult, tell_run, tell_from, whole}
+use Rattle.worked_histories.specs.RunLines.{PrintResult, print_run, print_from, whole}
 
 abbrev pub program : Program
 program = program_of grow_failed (does (Grow 4))
@@ -73,10 +73,10 @@ initial bytes = start program None (store_of bytes) (0 ∷ []) (Call 1 [] ∷ []
 
 -- whether a growth succeeds, by the known number of pages
 pub grown_from : (bytes : List ℕ) (by p : ℕ) → pages (memory_of bytes) ≡ p
-    → grown_memory (memory_of bytes) by ≡ grown_memory_if (is_within (p + by) (Some 10) && nat_le (p + by) MOST_PAGES)
+    → grown_memory (memory_of bytes) by ≡ grown_memory_if (is_within (p + by) (Some 10) && nat_le (p + by) MAX_PAGES)
     (memory_of bytes) by
 grown_from bytes by p e =
-    ap (λ q. grown_memory_if (is_within (q + by) (Some 10) && nat_le (q + by) MOST_PAGES) (memory_of bytes) by) e
+    ap (λ q. grown_memory_if (is_within (q + by) (Some 10) && nat_le (q + by) MAX_PAGES) (memory_of bytes) by) e
 
 pub pages_of : (bytes : List ℕ) (n : ℕ) → length bytes ≡ n → pages (memory_of bytes) ≡ n / PAGE_SIZE
 pages_of bytes n e = ap (λ l. l / PAGE_SIZE) e
@@ -121,23 +121,23 @@ pub grown_length : (bytes : List ℕ) → length bytes ≡ 262144 → length (by
 grown_length bytes h = length-append bytes (zeros (4 * PAGE_SIZE)) ∙ ap (λ n. n + 262144) h
 
 -- the lines of the whole run, given the results of the host's step and of the module's part
-abbrev pub lines_after_step : StepResult → TellResult
+abbrev pub lines_after_step : StepResult → PrintResult
 lines_after_step s =
-    tell_run whole
+    print_run whole
     (run_after [] 0
     (run_after (HostCall 1 [] ∷ []) 1
     (run_after (Step 1 0 [] [] None ∷ ImportCall 0 [] ∷ []) 1
     (run_after s.entries 1 (steps program all_one 97 s.next)))))
 
-abbrev pub lines_with_run : Run → TellResult
+abbrev pub lines_with_run : Run → PrintResult
 lines_with_run run =
-    tell_run whole
+    print_run whole
     (run_after [] 0
     (run_after (HostCall 1 [] ∷ []) 1
     (run_after (Step 1 0 [] [] None ∷ ImportCall 0 [] ∷ []) 1 (run_after (ImportReturn 0 [] ∷ []) 1 run))))
 
 pub lines_from_store : (bytes : List ℕ) → length bytes ≡ 262144
-    → tell_run whole (run_from program all_one (initial bytes) 100) ≡ lines_with_run last_run
+    → print_run whole (run_from program all_one (initial bytes) 100) ≡ lines_with_run last_run
 lines_from_store bytes h =
     ap lines_after_step (host_step bytes h)
     ∙ ap lines_with_run (module_run (bytes ++ zeros (4 * PAGE_SIZE)) (grown_length bytes h))
@@ -148,5 +148,5 @@ starts = refl
 pub grow_failed_lines : GrowFailed
 unfolding digits
 grow_failed_lines =
-    ap (tell_from (λ initial. tell_run whole (run_from program all_one initial 100))) starts
+    ap (print_from (λ initial. print_run whole (run_from program all_one initial 100))) starts
     ∙ lines_from_store (zeros (4 * PAGE_SIZE)) refl

@@ -1,5 +1,5 @@
 pub mod Build
 pub mod Modules
 pub mod Scripts
-pub mod Tells
+pub mod RunLines
 pub mod Histories

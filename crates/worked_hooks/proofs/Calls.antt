@@ -1,6 +1,6 @@
 -- The hook calls of examples, computed.
 use Rattle.std.proofs.Common.{refl}
-use Rattle.worked_hooks.specs.Calls.{HookCallExamples, TwoAnswersCalls, EveryKindCalls, TwoAnswersTold, EveryKindTold, TwoAnswersInOrder, EveryKindInOrder, EntersAtEnd, TellsReference, FunctionInTable, HookInTable, NoFunctionInTable, TableSmaller}
+use Rattle.worked_hooks.specs.Calls.{HookCallExamples, TwoAnswersCalls, EveryKindCalls, TwoAnswersReported, EveryKindReported, TwoAnswersInOrder, EveryKindInOrder, EntersAtEnd, ReportsReference, FunctionInTable, HookInTable, NoFunctionInTable, TableSmaller}
 
 two_answers_calls : TwoAnswersCalls
 two_answers_calls = refl
@@ -8,11 +8,11 @@ two_answers_calls = refl
 every_kind_calls : EveryKindCalls
 every_kind_calls = refl
 
-two_answers_told : TwoAnswersTold
-two_answers_told = refl
+two_answers_reported : TwoAnswersReported
+two_answers_reported = refl
 
-every_kind_told : EveryKindTold
-every_kind_told = refl
+every_kind_reported : EveryKindReported
+every_kind_reported = refl
 
 two_answers_in_order : TwoAnswersInOrder
 two_answers_in_order = refl
@@ -23,8 +23,8 @@ every_kind_in_order = refl
 enters_at_end : EntersAtEnd
 enters_at_end = refl
 
-tells_reference : TellsReference
-tells_reference = refl
+reports_reference : ReportsReference
+reports_reference = refl
 
 function_in_table : FunctionInTable
 function_in_table = refl
@@ -43,12 +43,12 @@ hook_call_examples =
     record {
       two_answers_calls = two_answers_calls;
       every_kind_calls = every_kind_calls;
-      two_answers_told = two_answers_told;
-      every_kind_told = every_kind_told;
+      two_answers_reported = two_answers_reported;
+      every_kind_reported = every_kind_reported;
       two_answers_in_order = two_answers_in_order;
       every_kind_in_order = every_kind_in_order;
       enters_at_end = enters_at_end;
-      tells_reference = tells_reference;
+      reports_reference = reports_reference;
       function_in_table = function_in_table;
       hook_in_table = hook_in_table;
       no_function_in_table = no_function_in_table;

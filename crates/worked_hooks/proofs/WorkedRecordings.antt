@@ -49,7 +49,7 @@ module _ (of_log : TestedTapesAreOfLogs) (needs : WorkedTapes) where
         two_answers_all_turns = refl;
         two_answers_spent = refl;
         enters_at_end = refl;
-        tells_reference = refl;
+        reports_reference = refl;
         mixed_balanced = refl;
         mixed = of_log mixed_log mixed_tape refl;
         wrong_byte = refl;

@@ -11,7 +11,7 @@ use Rattle.worked_histories.specs.Modules.{two_answers}
 use Rattle.worked_histories.specs.Scripts.{five_seven}
 use Rattle.host_script.specs.declared.scripts.Action.TheVariants.{Call}
 use Rattle.worked_hooks.specs.Examples.{i64, hooked_two_answers, damaged, every_kind, hooked_every_kind, small_store}
-use Rattle.worked_hooks.specs.Recordings.{calls_made, calls_told, shown, shown_calls}
+use Rattle.worked_hooks.specs.Recordings.{calls_made, calls_reported, shown, shown_calls}
 
 -- a store without memory, table and globals
 abbrev pub empty_store : Store
@@ -54,16 +54,16 @@ EveryKindCalls =
 -- ---- the calls, with their views, are those of the originals' runs
 
 -- the hook calls of two answers are those of the original's run
-abbrev pub TwoAnswersTold : Type 0
-TwoAnswersTold =
+abbrev pub TwoAnswersReported : Type 0
+TwoAnswersReported =
     calls_made hooked_two_answers five_seven empty_store
-    ≡ map (renumbered_call 1) (calls_told two_answers five_seven empty_store)
+    ≡ map (renumbered_call 1) (calls_reported two_answers five_seven empty_store)
 
 -- the hook calls of `every_kind` are those of the original's run
-abbrev pub EveryKindTold : Type 0
-EveryKindTold =
+abbrev pub EveryKindReported : Type 0
+EveryKindReported =
     calls_made hooked_every_kind calls_one (small_store 17)
-    ≡ map (renumbered_call 1) (calls_told every_kind calls_one (small_store 2))
+    ≡ map (renumbered_call 1) (calls_reported every_kind calls_one (small_store 2))
 
 -- ---- order: the number of the first call out of order
 
@@ -84,8 +84,8 @@ abbrev pub EntersAtEnd : Type 0
 EntersAtEnd = disorder (damaged 127 2) 0 (calls_made (damaged 127 2) five_seven empty_store) ≡ Some 7
 
 -- a hook reports the byte of a reference's type for the first answer
-abbrev pub TellsReference : Type 0
-TellsReference = disorder (damaged 111 3) 0 (calls_made (damaged 111 3) five_seven empty_store) ≡ Some 2
+abbrev pub ReportsReference : Type 0
+ReportsReference = disorder (damaged 111 3) 0 (calls_made (damaged 111 3) five_seven empty_store) ≡ Some 2
 
 -- a call by the table, whose entry is this function of the instrumented module
 abbrev pub calls_by_table : (func : ℕ) → List HookCall
@@ -113,12 +113,12 @@ TableSmaller = disorder hooked_every_kind 2 (calls_by_table 17) ≡ Some 1
 pub record HookCallExamples : Type 0 where
   pub two_answers_calls : TwoAnswersCalls
   pub every_kind_calls : EveryKindCalls
-  pub two_answers_told : TwoAnswersTold
-  pub every_kind_told : EveryKindTold
+  pub two_answers_reported : TwoAnswersReported
+  pub every_kind_reported : EveryKindReported
   pub two_answers_in_order : TwoAnswersInOrder
   pub every_kind_in_order : EveryKindInOrder
   pub enters_at_end : EntersAtEnd
-  pub tells_reference : TellsReference
+  pub reports_reference : ReportsReference
   pub function_in_table : FunctionInTable
   pub hook_in_table : HookInTable
   pub no_function_in_table : NoFunctionInTable

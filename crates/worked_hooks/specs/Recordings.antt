@@ -17,7 +17,7 @@ use Rattle.record_replay_spec.specs.Needed.{opening_store, IsNeededOfRun}
 use Rattle.record_replay_spec.specs.declared.hooks.Hook.{Hook}
 use Rattle.record_replay_spec.specs.Hooks.{HookCall}
 use Rattle.record_replay_spec.specs.HookedRuns.{hooked_script, renumbered_script, hook_calls}
-use Rattle.record_replay_spec.specs.ToldCalls.{told_by_run}
+use Rattle.record_replay_spec.specs.ReportedCalls.{reported_by_run}
 use Rattle.record_replay_spec.specs.Order.{shape_of}
 use Rattle.record_replay_spec.specs.Logs.{log_of}
 use Rattle.record_replay_spec.specs.LogTapes.{IsLogTape}
@@ -41,8 +41,8 @@ calls_made hooked script store =
     (start_in_store hooked (script_for_hooked script) store).next
 
 -- the hook calls of the original's run from a store on
-abbrev pub calls_told : Module → Script → Store → List HookCall
-calls_told m script store = told_by_run m (program_of m script) store (start_in_store m script store) enough
+abbrev pub calls_reported : Module → Script → Store → List HookCall
+calls_reported m script store = reported_by_run m (program_of m script) store (start_in_store m script store) enough
 
 -- a call without its view
 pub record CallShown : Type 0 where

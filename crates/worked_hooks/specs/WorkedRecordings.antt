@@ -18,7 +18,7 @@ use Rattle.record_replay_spec.specs.LogTapes.{IsLogTape}
 use Rattle.record_replay_spec.specs.LogTapeTest.{is_log_tape}
 use Rattle.worked_histories.specs.Build.{value, i32, limits}
 use Rattle.worked_histories.specs.Modules.{two_answers, overwrite, grow_access, copy_load, copy_overlap, fill_past, grow_failed, nested_call, nested_trap, table_entry, table_growth, float_global, c_buffers}
-use Rattle.worked_histories.specs.Tells.{tell, Spent}
+use Rattle.worked_histories.specs.RunLines.{print, Spent}
 use Rattle.worked_histories.specs.Scripts.{five_seven, does, does_all, does_nothing, host_traps, calls_back, reads_hi}
 use Rattle.worked_tapes.specs.TapeBuild.{segment, changes, changes_then_traps}
 use Rattle.worked_hooks.specs.Examples.{hooked_two_answers, damaged}
@@ -45,15 +45,15 @@ TwoAnswersAllTurns = recording_by hooked_two_answers five_seven all_one ≡ Reco
 
 -- one turn less does not suffice
 abbrev pub TwoAnswersSpent : Type 0
-TwoAnswersSpent = tell hooked_two_answers (script_for_hooked five_seven) 28 ≡ Spent
+TwoAnswersSpent = print hooked_two_answers (script_for_hooked five_seven) 28 ≡ Spent
 
 -- a module whose hook calls are out of order has no log
 abbrev pub EntersAtEndLog : Type 0
 EntersAtEndLog = recording_by (damaged 127 2) five_seven all_one ≡ OutOfOrder 7
 
 -- a module that reports a reference's type has no log
-abbrev pub TellsReferenceLog : Type 0
-TellsReferenceLog = recording_by (damaged 111 3) five_seven all_one ≡ OutOfOrder 2
+abbrev pub ReportsReferenceLog : Type 0
+ReportsReferenceLog = recording_by (damaged 111 3) five_seven all_one ≡ OutOfOrder 2
 
 -- ---- one call of an import, which changes something and returns nothing
 
@@ -291,7 +291,7 @@ pub record WorkedRecordings : Type 0 where
   pub two_answers_all_turns : TwoAnswersAllTurns
   pub two_answers_spent : TwoAnswersSpent
   pub enters_at_end : EntersAtEndLog
-  pub tells_reference : TellsReferenceLog
+  pub reports_reference : ReportsReferenceLog
   -- logs and tapes of no run
   pub mixed_balanced : MixedBalanced
   pub mixed : MixedTape

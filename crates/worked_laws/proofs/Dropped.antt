@@ -25,7 +25,7 @@ use Rattle.tape_laws.specs.Dropped.{AreLeftSegments, IsAnother, NothingCanBeDrop
 use Rattle.worked_histories.specs.Modules.{overwrite, grow_access, nested_call, table_entry, table_growth, float_global}
 use Rattle.worked_histories.specs.Build.{value}
 use Rattle.worked_histories.specs.Scripts.{does, does_all, calls_back}
-use Rattle.worked_tapes.specs.TapeBuild.{changes, changes_then_traps, IfOpened, most_steps, scripted_run}
+use Rattle.worked_tapes.specs.TapeBuild.{changes, changes_then_traps, IfOpened, max_steps, scripted_run}
 use Rattle.worked_tapes.specs.NeededTapes.{needed_bytes, nested_tape}
 use Rattle.worked_laws.specs.Dropped.{Lacks, writes_four, unwritten_tape, WorkedDrops}
 use Rattle.worked_laws.proofs.Left.{kept, taken, none_of, first_of_two, entry_alone, size_alone}
@@ -35,7 +35,7 @@ use Rattle.worked_laws.proofs.Runs.{none_supplied, CanRun, HasTape, needed_tape,
 record Passes (m : Module) (script : Script) (segments left : List Segment) (outcome : Outcome) (store : Store)
     : Type 0 where
   pub has : HasTape m script segments outcome store
-  pub are_left : AreLeftSegments (run_observations (program_of m script) (start_in_store m script store) most_steps)
+  pub are_left : AreLeftSegments (run_observations (program_of m script) (start_in_store m script store) max_steps)
       segments left
 
 -- segments of less weight are different segments

@@ -4,4 +4,4 @@ pub mod Runs
 pub mod EachRun
 pub mod Dropped
 pub mod Replayed
-mod Shown
+mod ShownRuns

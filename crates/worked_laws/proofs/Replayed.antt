@@ -11,7 +11,7 @@ use Rattle.history_spec.specs.Code.{code_of}
 use Rattle.record_replay_spec.specs.Laws.{TestedSegmentsAreNeeded}
 use Rattle.record_replay_spec.specs.Needed.{opening_store}
 use Rattle.tape_laws.specs.Laws.{IsReplayed, NeededTapesReplayRuns}
-use Rattle.worked_tapes.specs.TapeBuild.{IfOpened, most_steps, scripted_run}
+use Rattle.worked_tapes.specs.TapeBuild.{IfOpened, max_steps, scripted_run}
 use Rattle.worked_laws.specs.Replayed.{Replays, WorkedReplays}
 use Rattle.worked_laws.proofs.Runs.{none_supplied, CanRun, HasTape, needed_tape, runnable, opens}
 use Rattle.worked_laws.proofs.EachRun.{of_each_run}
@@ -25,7 +25,7 @@ replays law tested valid m script segments outcome can has = go (opening_store m
         → IfOpened o (λ store. IsReplayed (code_of m) store segments (scripted_run m script store).history outcome)
     go (Err fault) e has = has
     go (Ok store) e has =
-        law m script none_supplied store segments most_steps outcome (runnable valid m script can) can.fits
+        law m script none_supplied store segments max_steps outcome (runnable valid m script can) can.fits
         can.supplied (opens m script store can e) (needed_tape tested m script segments outcome store has) has.ends
 
 pub examples_replay : NeededTapesReplayRuns → TestedSegmentsAreNeeded → ValidityIsDecided → WorkedReplays

@@ -18,7 +18,7 @@ use Rattle.tape_laws.specs.Dropped.{AreLeftSegments, IsAnother}
 use Rattle.worked_histories.specs.Build.{value, i32}
 use Rattle.worked_histories.specs.Modules.{overwrite, grow_access, copy_load, nested_call, table_entry, table_growth, float_global}
 use Rattle.worked_histories.specs.Scripts.{does, does_all, calls_back}
-use Rattle.worked_tapes.specs.TapeBuild.{segment, changes, changes_then_traps, IfOpened, most_steps, scripted_run}
+use Rattle.worked_tapes.specs.TapeBuild.{segment, changes, changes_then_traps, IfOpened, max_steps, scripted_run}
 
 -- the run of the remaining segments disagrees before it has the scripted run's history, or has another
 abbrev pub Lacks : Module → Script → List Segment → Type 0
@@ -30,7 +30,7 @@ Lacks m script left =
 abbrev pub IsNotLeft : Module → Script → (needed left : List Segment) → Type 0
 IsNotLeft m script needed left =
     IfOpened (opening_store m script) (λ store.
-    AreLeftSegments (run_observations (program_of m script) (start_in_store m script store) most_steps) needed left
+    AreLeftSegments (run_observations (program_of m script) (start_in_store m script store) max_steps) needed left
     → ⊥)
 
 -- the host writes four bytes, and the module reads two of them

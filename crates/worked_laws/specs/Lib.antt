@@ -1,4 +1,4 @@
 pub mod Dropped
 pub mod Runs
 pub mod Replayed
-pub mod Shown
+pub mod ShownRuns

@@ -22,7 +22,7 @@ pub fn laws_of_tapes_hold_at_examples()
     validity_is_decided();
 }
 
-ghost use Rattle.worked_laws.specs.Shown.{WorkedShown};
+ghost use Rattle.worked_laws.specs.ShownRuns.{WorkedShown};
 
 use replay_theorem::runs_are_replayed;
 

@@ -7,7 +7,7 @@ use Rattle.std.proofs.lemmas.List.Elements.{All-append, All-tail}
 use Rattle.std.proofs.lemmas.List.Sums.{AllPass-from_list_all}
 use Rattle.base.proofs.Lists.{get_after}
 use Rattle.wasm_syntax.specs.declared.values.ValType.TheVariants.{I32}
-use Rattle.wasm_syntax.specs.declared.limits.TheConstants.{MOST_LOCALS, MOST_PARAMETERS}
+use Rattle.wasm_syntax.specs.declared.limits.TheConstants.{MAX_LOCALS, MAX_PARAMETERS}
 use Rattle.wasm_syntax.specs.declared.signatures.FuncType.{FuncType}
 use Rattle.wasm_syntax.specs.declared.modules.Module.{Module}
 use Rattle.wasm_syntax.specs.declared.modules.Func.{Func}
@@ -44,10 +44,10 @@ all_around P xs ys zs h =
 
 -- a generated type is within the limits
 abbrev few_params : FuncType → Bool
-few_params ty = nat_le (length ty.params) MOST_PARAMETERS
+few_params ty = nat_le (length ty.params) MAX_PARAMETERS
 
 abbrev few_locals : Func → Bool
-few_locals func = nat_le (count_of_locals func) MOST_LOCALS
+few_locals func = nat_le (count_of_locals func) MAX_LOCALS
 
 few_is_few : {X : Type 0} (size : X → ℕ) (most : ℕ) (xs : List X) → list_all (λ x. nat_le (size x) most) xs ≡ true
     → All (λ x. size x ≤ most) xs
@@ -82,8 +82,8 @@ fits : (m : Module) (plan : Plan) → IsValid (unsupplied_module m (fragment_of 
 fits m plan valid besides =
     let fragment = fragment_of m plan in
     let whole = unsupplied_module m fragment in
-    let few_types = few_is_few (λ (ty : FuncType). length ty.params) MOST_PARAMETERS fragment.types besides.params in
-    let few = few_is_few count_of_locals MOST_LOCALS (fragment.bodies ++ fragment.helpers) besides.locals in
+    let few_types = few_is_few (λ (ty : FuncType). length ty.params) MAX_PARAMETERS fragment.types besides.params in
+    let few = few_is_few count_of_locals MAX_LOCALS (fragment.bodies ++ fragment.helpers) besides.locals in
     let own = map (constant_global (declared_supply m).globals) m.globals in
     let imported = map supplied_global (zip (imported_globals m) (declared_supply m).globals) in
     let declared = all_around (IsDeclaredFunc whole) fragment.bodies m.funcs fragment.helpers valid.outside.funcs in

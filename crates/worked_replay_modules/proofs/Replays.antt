@@ -9,15 +9,15 @@ use Rattle.trace_model.specs.declared.tapes.Segment.{Segment}
 use Rattle.replay_module_spec.specs.Plans.{plan_of}
 use Rattle.replay_run_spec.specs.Steps.{are_within_bound}
 use Rattle.replay_run_spec.specs.Laws.{EffectsAreTested, BoundsAreTested}
-use Rattle.worked_histories.specs.Tells.{Lines}
+use Rattle.worked_histories.specs.RunLines.{Lines}
 use Rattle.worked_replay_modules.specs.Cases.{ReplayCase, empty_case, never_called_case, two_answers_case, overwrite_case, unread_write_case, fifteen_bytes_case, grow_access_case, grow_access_traps_case, copy_load_case, fill_past_case, fill_grown_case, nested_call_case, nested_trap_case, host_trap_case, table_entry_case, table_entry_emptied_case, table_entry_import_case, table_growth_case, table_growth_short_case, table_not_grown_case, float_global_case, imported_offset_case, c_buffers_case}
-use Rattle.worked_replay_modules.specs.Tests.{replay_of, tell_tape, stretches_made, changes_made, steps_made, script_lines}
+use Rattle.worked_replay_modules.specs.Tests.{replay_of, print_tape, stretches_made, changes_made, steps_made, script_lines}
 use Rattle.worked_replay_modules.specs.Replays.{Replays, ReplaysOfRuns}
 
 -- the results of the plain programs beside the definitions
 record Computes (c : ReplayCase) : Type 0 where
   valid : invalid_at (replay_of c.original c.script c.tape) ≡ None
-  shows : tell_tape c.original c.script c.tape 100 ≡ Lines c.turns (script_lines c.original c.script)
+  shows : print_tape c.original c.script c.tape 100 ≡ Lines c.turns (script_lines c.original c.script)
   changes : changes_made c.original c.script c.tape 100
       ≡ map (λ (segment : Segment). segment.effects) c.tape.segments
   steps : are_within_bound (plan_of (imported_funcs c.original) c.tape).imports

@@ -16,13 +16,13 @@ use Rattle.replay_module_spec.specs.Plans.{plan_of}
 use Rattle.replay_module_spec.specs.Segments.{effects_code}
 use Rattle.replay_module_spec.specs.Fragments.{fragment_of}
 use Rattle.replay_module_spec.specs.Merge.{memory_written}
-use Rattle.replay_module_spec.specs.Size.{most_bytes}
+use Rattle.replay_module_spec.specs.Size.{max_bytes}
 use Rattle.worked_histories.specs.Build.{i32, value, func_type, limits, global_type, memory_arg, run, func, global}
 use Rattle.worked_histories.specs.Modules.{two_answers, nested_call, table_entry, imported_offset}
 use Rattle.worked_histories.specs.Scripts.{idle, five_seven, gives_global}
-use Rattle.worked_histories.specs.Tells.{Lines}
+use Rattle.worked_histories.specs.RunLines.{Lines}
 use Rattle.worked_replay_modules.specs.Tapes.{calls_one, ends_work, calls_two, two, four_then_one, two_answers_tape, nested_call_tape, fifteen_bytes, one_return_then_trap, calls_zero_tape, counted_tape}
-use Rattle.worked_replay_modules.specs.Tests.{replay_of, tell_call}
+use Rattle.worked_replay_modules.specs.Tests.{replay_of, print_call}
 
 -- ---- plans
 
@@ -117,7 +117,7 @@ ManyCallsValid = IsValid (replay_of nested_call idle (counted_tape 300))
 
 -- after `calls` calls of the import, a run with one more call takes these turns and shows these lines
 abbrev pub ManyCalls : (calls turns : ℕ) → List (List ℕ) → Type 0
-ManyCalls calls turns lines = tell_call nested_call idle (counted_tape 300) 2 0 calls 400 ≡ Lines turns lines
+ManyCalls calls turns lines = print_call nested_call idle (counted_tape 300) 2 0 calls 400 ≡ Lines turns lines
 
 -- the lines of a run whose call of the import is answered, with these lines of its two returns
 abbrev pub answered : (text : List ℕ) → (returned : List ℕ) → List (List ℕ)
@@ -148,7 +148,7 @@ pub record CallsOfGroups : Type 0 where
 -- the length of the replay module's shortest encoding, which is within the bound
 pub record HasSize (m : Module) (script : Script) (tape : Tape) (bytes : ℕ) : Type 0 where
   pub size : length (encoding_of (replay_of m script tape)) ≡ bytes
-  pub within : nat_le bytes (most_bytes m (tape_weight tape)) ≡ true
+  pub within : nat_le bytes (max_bytes m (tape_weight tape)) ≡ true
 
 -- the length of the encoding of two answers' replay module
 abbrev pub TwoAnswersSize : Type 0

@@ -5,15 +5,15 @@ use Rattle.wasm_syntax.specs.Validity.{IsValid}
 use Rattle.replay_module_spec.specs.Plans.{plan_of}
 use Rattle.replay_run_spec.specs.Stretches.{AreEffectsOf}
 use Rattle.replay_run_spec.specs.Steps.{AreWithinBound}
-use Rattle.worked_histories.specs.Tells.{Lines}
+use Rattle.worked_histories.specs.RunLines.{Lines}
 use Rattle.worked_replay_modules.specs.Cases.{ReplayCase, empty_case, never_called_case, two_answers_case, overwrite_case, unread_write_case, fifteen_bytes_case, grow_access_case, grow_access_traps_case, copy_load_case, fill_past_case, fill_grown_case, nested_call_case, nested_trap_case, host_trap_case, table_entry_case, table_entry_emptied_case, table_entry_import_case, table_growth_case, table_growth_short_case, table_not_grown_case, float_global_case, imported_offset_case, c_buffers_case}
-use Rattle.worked_replay_modules.specs.Tests.{replay_of, tell_tape, stretches_made, steps_made, script_lines}
+use Rattle.worked_replay_modules.specs.Tests.{replay_of, print_tape, stretches_made, steps_made, script_lines}
 
 -- the replay module is valid; its run ends after `c.turns` turns and shows the lines of the run under the script; its
 -- stretches make exactly the effects of the tape's segments; and its calls of imports are within the bound of steps
 pub record Replays (c : ReplayCase) : Type 0 where
   pub valid : IsValid (replay_of c.original c.script c.tape)
-  pub shows : tell_tape c.original c.script c.tape 100 ≡ Lines c.turns (script_lines c.original c.script)
+  pub shows : print_tape c.original c.script c.tape 100 ≡ Lines c.turns (script_lines c.original c.script)
   pub changes : AreEffectsOf c.tape.segments (stretches_made c.original c.script c.tape 100)
   pub steps : AreWithinBound (plan_of (imported_funcs c.original) c.tape).imports
       (steps_made c.original c.script c.tape 100)

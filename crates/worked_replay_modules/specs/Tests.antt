@@ -25,7 +25,7 @@ use Rattle.replay_module_spec.specs.Merge.{replay_module}
 use Rattle.replay_run_spec.specs.Items.{Item, run_items, shown_items}
 use Rattle.replay_run_spec.specs.Stretches.{stretches, all_joined}
 use Rattle.replay_run_spec.specs.Steps.{StepCount, call_steps}
-use Rattle.worked_histories.specs.Tells.{TellResult, Lines, tell, tell_run, tell_replay}
+use Rattle.worked_histories.specs.RunLines.{PrintResult, Lines, print, print_run, print_replay}
 
 -- the generated part of a tape for a module
 abbrev pub fragment_for : Module → Tape → Fragment
@@ -48,12 +48,12 @@ abbrev pub entry_of : Module → ℕ
 entry_of m = imported_funcs m + length m.funcs
 
 -- what the run of a replay module shows of the original
-abbrev pub tell_plan : Module → Script → Plan → (steps : ℕ) → TellResult
-tell_plan m script plan steps = tell_replay (replay_of_plan m script plan) (layout_of m) (entry_of m) steps
+abbrev pub print_plan : Module → Script → Plan → (steps : ℕ) → PrintResult
+print_plan m script plan steps = print_replay (replay_of_plan m script plan) (layout_of m) (entry_of m) steps
 
 -- what the run of the replay module of a tape shows of the original
-abbrev pub tell_tape : Module → Script → Tape → (steps : ℕ) → TellResult
-tell_tape m script tape steps = tell_plan m script (plan_of (imported_funcs m) tape) steps
+abbrev pub print_tape : Module → Script → Tape → (steps : ℕ) → PrintResult
+print_tape m script tape steps = print_plan m script (plan_of (imported_funcs m) tape) steps
 
 -- the items that the run of a replay module shows
 abbrev pub items_from : Module → Module → (steps : ℕ) → Result StepResult LinkFault → List Item
@@ -80,13 +80,13 @@ abbrev pub steps_made : Module → Script → Tape → (steps : ℕ) → List (L
 steps_made m script tape steps = call_steps (imported_funcs m) (items_of m script tape steps)
 
 -- the lines of a run that ended or trapped
-abbrev pub lines_of_result : TellResult → List (List ℕ)
+abbrev pub lines_of_result : PrintResult → List (List ℕ)
 lines_of_result (Lines turns lines) = lines
 lines_of_result other = []
 
 -- the lines of the run under the script
 abbrev pub script_lines : Module → Script → List (List ℕ)
-script_lines m script = lines_of_result (tell m script 100)
+script_lines m script = lines_of_result (print m script 100)
 
 -- the two lists of lines are equal
 abbrev pub same_lines : List (List ℕ) → List (List ℕ) → Bool
@@ -101,9 +101,9 @@ store_with global value (Err fault) = record { memory = None; table = None; glob
 
 -- what the replay module shows of a run in which the host calls a function of the original, after `calls` calls of its
 -- one import, which a global counts
-abbrev pub tell_call : Module → Script → Tape → (func global calls steps : ℕ) → TellResult
-tell_call m script tape func global calls steps =
-    tell_run (projection (layout_of m))
+abbrev pub print_call : Module → Script → Tape → (func global calls steps : ℕ) → PrintResult
+print_call m script tape func global calls steps =
+    print_run (projection (layout_of m))
     (run_from (program_alone (replay_of m script tape)) instructions
     (start (program_alone (replay_of m script tape)) None
     (store_with global (i32_value calls) (instantiate (replay_of m script tape) alone)) [] (Call func [] ∷ []))

@@ -13,12 +13,12 @@ use Rattle.replay_run_spec.specs.Steps.{AreWithinBound}
 use Rattle.worked_histories.specs.Modules.{two_answers, overwrite, grow_access, nested_call, table_entry}
 use Rattle.worked_histories.specs.Scripts.{five_seven, does, calls_back}
 use Rattle.worked_replay_modules.specs.Tapes.{calls_one, ends_work, five, seven, calls_two, two, four_then_one, tape, one_return, one_return_then_trap, early_effects_tape}
-use Rattle.worked_replay_modules.specs.Tests.{tell_plan, lines_of_result, script_lines, same_lines, changes_made, steps_made}
+use Rattle.worked_replay_modules.specs.Tests.{print_plan, lines_of_result, script_lines, same_lines, changes_made, steps_made}
 
 -- the replay module of a plan shows another history than the script's
 abbrev pub ShowsAnother : Module → Script → Plan → Type 0
 ShowsAnother m script plan =
-    same_lines (lines_of_result (tell_plan m script plan 100)) (script_lines m script) ≡ false
+    same_lines (lines_of_result (print_plan m script plan 100)) (script_lines m script) ≡ false
 
 -- the replay module of a tape shows another history than the script's
 abbrev pub TapeShowsAnother : Module → Script → Tape → Type 0

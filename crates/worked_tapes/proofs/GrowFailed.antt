@@ -1,7 +1,7 @@
 -- The needed tape of the run whose growth fails. Its memory is a list of 524,288 bytes by then, so the run, its
 -- observations and the run of the tape are followed with the memory's length alone known.
 use Rattle.std.proofs.Common.{◌≡◌, ℕ, ◌+◌, ◌-◌, ◌*◌, List, [], ◌∷◌, ◌++◌, length, Some, None, true, cond, ◌&&◌, nat_le, option_map, option_and_then, unwrap_or, refl, sym, ap, ◌∙◌}
-use Rattle.wasm_syntax.specs.declared.limits.TheConstants.{MOST_PAGES, PAGE_SIZE}
+use Rattle.wasm_syntax.specs.declared.limits.TheConstants.{MAX_PAGES, PAGE_SIZE}
 use Rattle.wasm_syntax.specs.Nest.{Empty}
 use Rattle.host_script.specs.Supply.{is_within}
 use Rattle.host_script.specs.declared.scripts.Action.TheVariants.{Grow as GrowBy}
@@ -28,7 +28,7 @@ use Rattle.worked_histories.specs.Build.{i32}
 use Rattle.worked_histories.specs.Modules.{grow_failed}
 use Rattle.worked_histories.specs.Scripts.{does}
 use Rattle.worked_histories.proofs.GrowFailed.{program, memory_of, store_of, frame_at, after_call, module_frame, initial, grown_from, pages_of, host_step, module_step, last_entries, module_run, last_run, grown_length}
-use Rattle.worked_tapes.specs.TapeBuild.{segment, changes, IfOpened, most_steps}
+use Rattle.worked_tapes.specs.TapeBuild.{segment, changes, IfOpened, max_steps}
 use Rattle.worked_tapes.proofs.Needs.{Passes}
 
 abbrev tape : List Segment
@@ -52,7 +52,7 @@ run_with run =
     (run_after (HostCall 1 [] ∷ []) 1 (run_after (Step 1 0 [] [] None ∷ ImportCall 0 [] ∷ []) 1 run))
 
 whole_run : (bytes : List ℕ) → length bytes ≡ 262144
-    → run_from program all_one (initial bytes) most_steps
+    → run_from program all_one (initial bytes) max_steps
     ≡ record { history = whole_history; turns = 5; at = Finished Ended }
 whole_run bytes h =
     ap (λ (s : StepResult). run_with (run_after s.entries 1 (steps program all_one 97 s.next))) (host_step bytes h)
@@ -75,7 +75,7 @@ growth_seen bytes h =
     ∙ ap (λ q. Resizes q q ∷ []) p
 
 seen : (bytes : List ℕ) → length bytes ≡ 262144
-    → run_observations program (initial bytes) most_steps ≡ whole_seen
+    → run_observations program (initial bytes) max_steps ≡ whole_seen
 seen bytes h =
     let more = grown bytes in
     let long = grown_length bytes h in
@@ -93,7 +93,7 @@ abbrev opening_with : List ℕ → ℕ → Known
 opening_with bytes n = record (opening_known (store_of bytes)) { pages = n }
 
 tested : (bytes : List ℕ) → length bytes ≡ 262144
-    → are_needed_segments (opening_known (store_of bytes)) (run_observations program (initial bytes) most_steps) tape
+    → are_needed_segments (opening_known (store_of bytes)) (run_observations program (initial bytes) max_steps) tape
     ≡ true
 tested bytes h =
     ap (λ sights. are_needed_segments (opening_known (store_of bytes)) sights tape) (seen bytes h)
@@ -122,7 +122,7 @@ effect_done bytes h =
     let p : pages (memory_of bytes) ≡ 4 = pages_of bytes 262144 h in
     ap (λ n.
     cond (nat_le n 8)
-    (grown_memory_if (is_within (n + (8 - n)) (Some 10) && nat_le (n + (8 - n)) MOST_PAGES) (memory_of bytes) (8 - n))
+    (grown_memory_if (is_within (n + (8 - n)) (Some 10) && nat_le (n + (8 - n)) MAX_PAGES) (memory_of bytes) (8 - n))
     None)
     p
 
@@ -148,7 +148,7 @@ taped_with r =
     (tape_after (Step 1 0 [] [] None ∷ ImportCall 0 [] ∷ []) (tape_after r.entries (tape_steps code 97 r.next)))
 
 replays : (bytes : List ℕ) → length bytes ≡ 262144
-    → tape_run code (store_of bytes) tape most_steps ≡ tape_result whole_history (Over Ended)
+    → tape_run code (store_of bytes) tape max_steps ≡ tape_result whole_history (Over Ended)
 replays bytes h =
     let more = grown bytes in
     ap (λ o.

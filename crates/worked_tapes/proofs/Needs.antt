@@ -15,21 +15,21 @@ use Rattle.record_replay_spec.specs.Needed.{IsNeededTape, opening_store, IsNeede
 use Rattle.record_replay_spec.specs.NeededTest.{are_needed_segments}
 use Rattle.record_replay_spec.specs.TapeRun.{Over, tape_result}
 use Rattle.record_replay_spec.specs.Laws.{TestedSegmentsAreNeeded}
-use Rattle.worked_tapes.specs.TapeBuild.{IfOpened, most_steps, scripted_run, run_of_tape, Needs}
+use Rattle.worked_tapes.specs.TapeBuild.{IfOpened, max_steps, scripted_run, run_of_tape, Needs}
 
 -- the test of the segments for the run from this store
 abbrev pub test : Module → Script → List Segment → Store → Bool
 test m script segments store =
     are_needed_segments (opening_known store)
-    (run_observations (program_of m script) (start_in_store m script store) most_steps) segments
+    (run_observations (program_of m script) (start_in_store m script store) max_steps) segments
 
 abbrev pub needed_by_test : TestedSegmentsAreNeeded
     → (m : Module) (script : Script) (segments : List Segment) (outcome : Outcome) (store : Store)
     → (scripted_run m script store).at ≡ Finished outcome → test m script segments store ≡ true
     → IsNeededTape (program_of m script) (start_in_store m script store) store segments
 needed_by_test law m script segments outcome store ends tested =
-    let seen = run_observations (program_of m script) (start_in_store m script store) most_steps in
-    record { count = most_steps; outcome = outcome; ends = ends; needed = law (opening_known store) seen segments tested }
+    let seen = run_observations (program_of m script) (start_in_store m script store) max_steps in
+    record { count = max_steps; outcome = outcome; ends = ends; needed = law (opening_known store) seen segments tested }
 
 -- the computed tests for a run from this store
 pub record Passes (m : Module) (script : Script) (segments : List Segment) (outcome : Outcome) (store : Store)

@@ -42,16 +42,16 @@ IfOpened (Ok store) holds = holds store
 IfOpened (Err fault) holds = ⊥
 
 -- the number of steps that are computed: more than any of the runs takes
-abbrev pub most_steps : ℕ
-most_steps = 100
+abbrev pub max_steps : ℕ
+max_steps = 100
 
 -- the scripted run
 abbrev pub scripted_run : Module → Script → Store → Run
-scripted_run m script store = run_from (program_of m script) all_one (start_in_store m script store) most_steps
+scripted_run m script store = run_from (program_of m script) all_one (start_in_store m script store) max_steps
 
 -- the run of a tape
 abbrev pub run_of_tape : Module → Store → List Segment → TapeResult
-run_of_tape m store segments = tape_run (code_of m) store segments most_steps
+run_of_tape m store segments = tape_run (code_of m) store segments max_steps
 
 -- ---- statements
 
@@ -73,7 +73,7 @@ pub record Needs (m : Module) (script : Script) (segments : List Segment) (weigh
 abbrev pub Observes : Module → Script → List Observation → Type 0
 Observes m script seen =
     IfOpened (opening_store m script) (λ store.
-    run_observations (program_of m script) (start_in_store m script store) most_steps ≡ seen)
+    run_observations (program_of m script) (start_in_store m script store) max_steps ≡ seen)
 
 -- the run of the tape has these entries, and then this progress: it is over, disagrees or finds no rule
 abbrev pub Comes : Module → Script → List Segment → List Entry → TapeProgress → Type 0

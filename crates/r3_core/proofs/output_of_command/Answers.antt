@@ -1,16 +1,16 @@
 use Rattle.std.proofs.Common.{◌≡◌, ℕ, ◌<◌, ◌≤◌, List, [], ◌∷◌, length, get_or, Option, Some, None, Vec, sym, subst, arith}
 use Rattle.r3_make.specs.Refusals.{AreReplayable, IsMakeRefusal}
-use Rattle.r3_instrument.specs.Hooked.{IsHookedOf, IsHookedRefusal}
+use Rattle.r3_instrument.specs.InstrumentedBytes.{IsHookedOf, IsHookedRefusal}
 use Rattle.r3_make.specs.LogFiles.{IsLogFile, IsLogRefusal}
-use Rattle.r3_reduce.specs.Reduced.{IsReduced, IsReduceRefusal}
+use Rattle.r3_reduce.specs.TapeFiles.{IsReduced, IsReduceRefusal}
 use Rattle.r3_make.specs.BuildRefusals.{IsBuildRefusal}
 use Rattle.r3_make.specs.BuiltReplays as built
 use Rattle.r3_history.specs.Histories.{IsHistory, IsHistoryRefusal}
 use Rattle.r3_replay.specs.ReplayTexts.{IsReplayText, IsReplayRefusal}
-use Rattle.r3_show.specs.Shown.{IsShown, IsShowRefusal}
+use Rattle.r3_show.specs.FileLines.{IsShown, IsShowRefusal}
 use Rattle.load_maker.specs.Loads.{load_script}
 use Rattle.load_maker.specs.declared.load_module.TheConstants.{LOAD_MODULE}
-use Rattle.r3_make.specs.Summaries.{load_turns}
+use Rattle.wasm_syntax.specs.declared.limits.TheConstants.{LOAD_TURNS}
 use Rattle.r3_core.specs.declared.words.Command.{Command}
 use Rattle.r3_core.specs.declared.words.Command.TheVariants.{Make, Instrument, Record, Reduce, Build, History, Replay, Show, Load}
 use Rattle.r3_core.specs.Causes.{IsRefusal, IsDoable, all_bytes}
@@ -40,8 +40,8 @@ returns-in-History-len2-Some-clause-refused c = λ fault sure.
     let here = c.in-History-len2-Some in
     c.history.ensures.refused fault
     (subst (λ bytes. IsHistoryRefusal bytes c.deref-in-History-len2-Some-2.result.now here.turns fault) (sym c.deref-in-History-len2-Some.ensures.value)
-    (subst (λ bytes. IsHistoryRefusal c.told-item.result.items bytes here.turns fault) (sym c.deref-in-History-len2-Some-2.ensures.value)
-    (two-files c.args.command History (λ a b turns. IsHistoryRefusal a b turns fault) (λ command loaded number. IsRefusal command loaded number fault) c.args.loaded.now c.args.number c.told-item.result c.telling-item.result here.turns (λ a b sure. sure) here.is-0 here.is-2 c.told-item.is c.telling-item.is (omega (arith, here.len_at_least)) (omega (arith, here.len_below)) sure)))
+    (subst (λ bytes. IsHistoryRefusal c.known-item.result.items bytes here.turns fault) (sym c.deref-in-History-len2-Some-2.ensures.value)
+    (two-files c.args.command History (λ a b turns. IsHistoryRefusal a b turns fault) (λ command loaded number. IsRefusal command loaded number fault) c.args.loaded.now c.args.number c.known-item.result c.known_script-item.result here.turns (λ a b sure. sure) here.is-0 here.is-2 c.known-item.is c.known_script-item.is (omega (arith, here.len_at_least)) (omega (arith, here.len_below)) sure)))
 
 pub returns-in-Make-len2-Some-clause-done : goal.returns-in-Make-len2-Some-clause-done
 returns-in-Make-len2-Some-clause-done c = λ doable.
@@ -60,8 +60,8 @@ returns-in-History-len2-Some-clause-done c = λ doable.
     let here = c.in-History-len2-Some in
     let history =
     (subst (λ bytes. HasHistory bytes c.deref-in-History-len2-Some-2.result.now here.turns) (sym c.deref-in-History-len2-Some.ensures.value)
-    (subst (λ bytes. HasHistory c.told-item.result.items bytes here.turns) (sym c.deref-in-History-len2-Some-2.ensures.value)
-    (two-files c.args.command History (λ a b turns. HasHistory a b turns) (λ command loaded number. IsDoable command loaded number) c.args.loaded.now c.args.number c.told-item.result c.telling-item.result here.turns (λ a b doable. doable) here.is-0 here.is-2 c.told-item.is c.telling-item.is (omega (arith, here.len_at_least)) (omega (arith, here.len_below)) doable)))
+    (subst (λ bytes. HasHistory c.known-item.result.items bytes here.turns) (sym c.deref-in-History-len2-Some-2.ensures.value)
+    (two-files c.args.command History (λ a b turns. HasHistory a b turns) (λ command loaded number. IsDoable command loaded number) c.args.loaded.now c.args.number c.known-item.result c.known_script-item.result here.turns (λ a b doable. doable) here.is-0 here.is-2 c.known-item.is c.known_script-item.is (omega (arith, here.len_at_least)) (omega (arith, here.len_below)) doable)))
     in
     (c.history.ensures.accepted history.0 history.1).1
 
@@ -119,7 +119,7 @@ returns-in-Replay-len1-Some-clause-done c = λ doable.
 pub returns-in-Instrument-len1-None-clause-refused : goal.returns-in-Instrument-len1-None-clause-refused
 returns-in-Instrument-len1-None-clause-refused c = λ fault sure.
     let here = c.in-Instrument-len1-None in
-    c.hooked.ensures.refused fault
+    c.instrument_bytes.ensures.refused fault
     (subst (λ bytes. IsHookedRefusal bytes fault) (sym c.deref-in-Instrument-len1-None.ensures.value)
     (one-file c.args.command Instrument None (λ a. IsHookedRefusal a fault) (λ command loaded number. IsRefusal command loaded number fault) c.args.loaded.now c.args.number c.original-item.result (λ a sure. sure) here.is-0 here.is-2 c.original-item.is (omega (arith, here.len_at_least)) (omega (arith, here.len_below)) sure))
 
@@ -134,7 +134,7 @@ returns-in-Instrument-len1-None-clause-done c = λ doable.
     (subst HasHooked (sym c.deref-in-Instrument-len1-None.ensures.value)
     (one-file c.args.command Instrument None HasHooked (λ command loaded number. IsDoable command loaded number) c.args.loaded.now c.args.number c.original-item.result (λ a doable. doable) here.is-0 here.is-2 c.original-item.is (omega (arith, here.len_at_least)) (omega (arith, here.len_below)) doable))
     in
-    (c.hooked.ensures.accepted text.0 text.1).1
+    (c.instrument_bytes.ensures.accepted text.0 text.1).1
 
 pub returns-in-Reduce-len1-None-clause-refused : goal.returns-in-Reduce-len1-None-clause-refused
 returns-in-Reduce-len1-None-clause-refused c = λ fault sure.
@@ -227,4 +227,4 @@ pub returns-in-Load-empty-Some-clause-refused : goal.returns-in-Load-empty-Some-
 returns-in-Load-empty-Some-clause-refused c = λ fault sure.
     let here = c.in-Load-empty-Some in
     c.load_summary.ensures.refused fault
-    (no-file c.args.command Load (Some here.number) (IsMakeRefusal LOAD_MODULE (load_script here.number) load_turns fault) (λ command loaded number. IsRefusal command loaded number fault) c.args.loaded.now c.args.number (λ sure. sure) here.is-0 here.is-2 (omega (arith, here.len_below)) sure)
+    (no-file c.args.command Load (Some here.number) (IsMakeRefusal LOAD_MODULE (load_script here.number) LOAD_TURNS fault) (λ command loaded number. IsRefusal command loaded number fault) c.args.loaded.now c.args.number (λ sure. sure) here.is-0 here.is-2 (omega (arith, here.len_below)) sure)

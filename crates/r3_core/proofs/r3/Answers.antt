@@ -1,6 +1,6 @@
 use Rattle.std.proofs.Common.{[], ◌∷◌, sym, ◌∙◌, ap, subst, inl, inr, Err}
 use Rattle.std.specs.List.{Contains}
-use Rattle.r3_core.proofs.ResultLemmas.{IsTold-from}
+use Rattle.r3_core.proofs.ResultLemmas.{IsReported-from}
 use Rattle.r3_core.proofs.StatusLemmas.{status-usage, status-read, status-too_long, status-write, status-not_done, done-after, listed-unless_usage}
 use Rattle.r3_faults.specs.Lines.{status_of}
 use Rattle.r3_core.proofs.r3.Goals as goal
@@ -30,19 +30,19 @@ returns-in-Err-clause-printed_prefix g c = λ e.
     c.in-Err.ensures.printed_prefix (ap Err (status-write _ _ _ _ c.in-Err.fault c.in-Err.ensures.cause (sym c.status.ensures ∙ e)).0)
 
 pub returns-in-Err-clause-longer : goal.returns-in-Err-clause-longer
-returns-in-Err-clause-longer g c = λ listed told e longer.
-    subst (Contains (3 ∷ 4 ∷ 14 ∷ [])) (sym c.status.ensures) (c.in-Err.ensures.longer listed told e longer)
+returns-in-Err-clause-longer g c = λ listed known e longer.
+    subst (Contains (3 ∷ 4 ∷ 14 ∷ [])) (sym c.status.ensures) (c.in-Err.ensures.longer listed known e longer)
 
 pub returns-in-Err-clause-refused : goal.returns-in-Err-clause-refused
-returns-in-Err-clause-refused g c = λ command names number fault says told e none sure.
-    subst (Contains (status_of fault ∷ 3 ∷ 14 ∷ [])) (sym c.status.ensures) (c.in-Err.ensures.refused command names number fault says told e none sure)
+returns-in-Err-clause-refused g c = λ command names number fault says known e none sure.
+    subst (Contains (status_of fault ∷ 3 ∷ 14 ∷ [])) (sym c.status.ensures) (c.in-Err.ensures.refused command names number fault says known e none sure)
 
-pub returns-in-Err-clause-told : goal.returns-in-Err-clause-told
-returns-in-Err-clause-told g c = λ other. (
+pub returns-in-Err-clause-reported : goal.returns-in-Err-clause-reported
+returns-in-Err-clause-reported g c = λ other. (
   c.in-Err.fault,
   sym c.status.ensures,
   c.in-Err.ensures.cause,
-  IsTold-from c.put_line.result _ _ _ _ _ c.put_line.ensures.wrote c.put_line.ensures.wrote_prefix c.put_line.ensures.failed,
+  IsReported-from c.put_line.result _ _ _ _ _ c.put_line.ensures.wrote c.put_line.ensures.wrote_prefix c.put_line.ensures.failed,
 )
 
 pub returns-in-Err-clause-unread : goal.returns-in-Err-clause-unread
@@ -62,5 +62,5 @@ returns-in-Err-clause-nothing_printed g c = λ some other.
     c.in-Err.ensures.nothing_printed (λ is. other (c.status.ensures ∙ ap status_of is))
 
 pub returns-in-Err-clause-done : goal.returns-in-Err-clause-done
-returns-in-Err-clause-done g c = λ command names number says told e none doable.
-    subst (Contains (0 ∷ 3 ∷ 13 ∷ 14 ∷ [])) (sym c.status.ensures) (done-after _ (c.in-Err.ensures.done command names number says told e none doable))
+returns-in-Err-clause-done g c = λ command names number says known e none doable.
+    subst (Contains (0 ∷ 3 ∷ 13 ∷ 14 ∷ [])) (sym c.status.ensures) (done-after _ (c.in-Err.ensures.done command names number says known e none doable))

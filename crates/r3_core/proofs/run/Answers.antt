@@ -9,9 +9,9 @@ use Rattle.r3_core.proofs.StatusLemmas.{print-other, IsCause-printing, IsRefusal
 use Rattle.r3_core.proofs.run.Goals as goal
 
 pub returns-in_err-printed-clause-longer : goal.returns-in_err-printed-clause-longer
-returns-in_err-printed-clause-longer g c = λ listed told e longer.
-    let here = longer-said _ _ _ _ c.in_ok-call.ensures.listed told longer in
-    IsErrAnd-from _ _ _ c.from_residual-in_err-printed.ensures.1 (c.in_err-printed.ensures.longer told e here)
+returns-in_err-printed-clause-longer g c = λ listed known e longer.
+    let here = longer-said _ _ _ _ c.in_ok-call.ensures.listed known longer in
+    IsErrAnd-from _ _ _ c.from_residual-in_err-printed.ensures.1 (c.in_err-printed.ensures.longer known e here)
 
 pub returns-in_err-printed-clause-cause : goal.returns-in_err-printed-clause-cause
 returns-in_err-printed-clause-cause g c =
@@ -19,48 +19,48 @@ returns-in_err-printed-clause-cause g c =
     (IsCause-printing _ _ _ _ c.in_ok-call.ensures.listed _ _ _ c.in_err-printed.field-0.0 c.in_err-printed.ensures.cause)
 
 pub returns-in_err-printed-clause-refused : goal.returns-in_err-printed-clause-refused
-returns-in_err-printed-clause-refused g c = λ command names number fault says told e none sure.
+returns-in_err-printed-clause-refused g c = λ command names number fault says known e none sure.
     let here = c.in_ok-call.ensures.listed in
     IsErrAnd-from _ _ _ c.from_residual-in_err-printed.ensures.1
-    (c.in_err-printed.ensures.refused fault told e
-    (subst (λ files. first_longer told files ≡ None) (files_of-Says _ _ _ _ here) none)
-    (IsRefusal-said _ _ _ _ _ _ _ here says told fault sure))
+    (c.in_err-printed.ensures.refused fault known e
+    (subst (λ files. first_longer known files ≡ None) (files_of-Says _ _ _ _ here) none)
+    (IsRefusal-said _ _ _ _ _ _ _ here says known fault sure))
 
 pub returns-in_err-put_all-clause-longer : goal.returns-in_err-put_all-clause-longer
-returns-in_err-put_all-clause-longer g c = λ listed told e longer.
-    let here = longer-said _ _ _ _ c.in_ok-call.ensures.listed told longer in
-    absurd (c.in_ok-printed.ensures.longer told e here)
+returns-in_err-put_all-clause-longer g c = λ listed known e longer.
+    let here = longer-said _ _ _ _ c.in_ok-call.ensures.listed known longer in
+    absurd (c.in_ok-printed.ensures.longer known e here)
 
 pub returns-in_err-put_all-clause-refused : goal.returns-in_err-put_all-clause-refused
-returns-in_err-put_all-clause-refused g c = λ command names number fault says told e none sure.
+returns-in_err-put_all-clause-refused g c = λ command names number fault says known e none sure.
     let here = c.in_ok-call.ensures.listed in
     absurd
-    (c.in_ok-printed.ensures.refused fault told e
-    (subst (λ files. first_longer told files ≡ None) (files_of-Says _ _ _ _ here) none)
-    (IsRefusal-said _ _ _ _ _ _ _ here says told fault sure))
+    (c.in_ok-printed.ensures.refused fault known e
+    (subst (λ files. first_longer known files ≡ None) (files_of-Says _ _ _ _ here) none)
+    (IsRefusal-said _ _ _ _ _ _ _ here says known fault sure))
 
 pub returns-clause-longer : goal.returns-clause-longer
-returns-clause-longer g c = λ listed told e longer.
-    let here = longer-said _ _ _ _ c.in_ok-call.ensures.listed told longer in
-    c.in_ok-printed.ensures.longer told e here
+returns-clause-longer g c = λ listed known e longer.
+    let here = longer-said _ _ _ _ c.in_ok-call.ensures.listed known longer in
+    c.in_ok-printed.ensures.longer known e here
 
 pub returns-clause-refused : goal.returns-clause-refused
-returns-clause-refused g c = λ command names number fault says told e none sure.
+returns-clause-refused g c = λ command names number fault says known e none sure.
     let here = c.in_ok-call.ensures.listed in
-    c.in_ok-printed.ensures.refused fault told e
-    (subst (λ files. first_longer told files ≡ None) (files_of-Says _ _ _ _ here) none)
-    (IsRefusal-said _ _ _ _ _ _ _ here says told fault sure)
+    c.in_ok-printed.ensures.refused fault known e
+    (subst (λ files. first_longer known files ≡ None) (files_of-Says _ _ _ _ here) none)
+    (IsRefusal-said _ _ _ _ _ _ _ here says known fault sure)
 
 pub returns-in_err-printed-clause-done : goal.returns-in_err-printed-clause-done
-returns-in_err-printed-clause-done g c = λ command names number says told e none doable.
+returns-in_err-printed-clause-done g c = λ command names number says known e none doable.
     let here = c.in_ok-call.ensures.listed in
     IfErr-from _ c.in_err-printed.field-0.0 _ c.from_residual-in_err-printed.ensures.1
-    (c.in_err-printed.ensures.done told e
-    (subst (λ files. first_longer told files ≡ None) (files_of-Says _ _ _ _ here) none)
-    (IsDoable-said _ _ _ _ _ _ _ here says told doable))
+    (c.in_err-printed.ensures.done known e
+    (subst (λ files. first_longer known files ≡ None) (files_of-Says _ _ _ _ here) none)
+    (IsDoable-said _ _ _ _ _ _ _ here says known doable))
 
 pub returns-in_err-put_all-clause-done : goal.returns-in_err-put_all-clause-done
-returns-in_err-put_all-clause-done g c = λ command names number says told e none doable.
+returns-in_err-put_all-clause-done g c = λ command names number says known e none doable.
     IfErr-from _ WriteFault _ c.from_residual-in_err-put_all.ensures.1 (1, omega arith, refl)
 
 err-one : {T : Type 0} (r : Result T Fault) (f g : Fault) → r ≡ Err f → r ≡ Err g → f ≡ g

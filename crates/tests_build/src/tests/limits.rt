@@ -1,6 +1,6 @@
 //! The limit of a tape's weight.
 
-use crate::tests::builds::{module_bytes, refusal_of, tape_file};
+use crate::tests::build_calls::{module_bytes, refusal_of, tape_file};
 use r3_faults::Fault;
 use r3_make::build;
 use sample_inputs::examples::OVERWRITE;

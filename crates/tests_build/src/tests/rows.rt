@@ -1,6 +1,6 @@
 //! Replay modules of tapes whose runs were worked out by hand.
 
-use crate::tests::builds::{answer_for, lines_shown_by};
+use crate::tests::build_calls::{answer_for, lines_shown_by};
 use sample_inputs::examples::{
     C_BUFFERS, EMPTY, FLOAT_GLOBAL, GROW_ACCESS, GROW_FAILED, IMPORTED_OFFSET, NESTED_CALL,
     NESTED_TRAP, OVERWRITE, TABLE_ENTRY, TABLE_GROWTH, TWO_ANSWERS,

@@ -1,8 +1,9 @@
 //! Runs of some million turns and calls, and a module of some megabytes.
 
-use sample_commands::calls::{files_of, outcome_of, outcome_of_command, takes_turns};
+use sample_commands::calls::{Outcome, files_of, outcome_of, outcome_of_command, takes_turns};
 use sample_inputs::examples::TWO_ANSWERS;
 use sample_inputs::scripts::{ANSWERS, script_of_answers};
+use std::alloc::Global;
 use std::test::Fail;
 
 /// A loop whose run takes 2,000,000 turns: the host's call, seven instructions before the loop, and six in
@@ -53,17 +54,33 @@ const ROUNDS_REPLAYED: &str = "0061736d01000000\
      1800024002402000418002700e0100010b41a0c21e0f0b000b\
      000c0972332e6c61796f75740101";
 
+/// Whether the replay module of 500,000 rounds is printed within this many turns.
+fn is_replayed(alloc: Global, script: &str, turns: &str) -> Result<bool, Fail> {
+    let answer = outcome_of_command(alloc, "make", ROUNDS, script, turns)?;
+    let wanted = hex::decode(alloc, ROUNDS_REPLAYED)?;
+    Ok(answer.is_done() && answer.printed.as_slice() == wanted.as_slice())
+}
+
+/// Whether `make` ends with this status and this line.
+fn is_refused(
+    alloc: Global,
+    module: &str,
+    script: &str,
+    turns: &str,
+    refusal: (u8, &str),
+) -> Result<bool, Fail> {
+    let answer = outcome_of_command(alloc, "make", module, script, turns)?;
+    Ok(answer.is_refused(refusal.0, refusal.1))
+}
+
 #[test]
 fn a_run_of_three_million_turns(rt: HostRuntime) -> Result<(), Fail> {
     let alloc = rt.alloc();
     let script = script_of_answers(alloc, &[500_000], 0)?;
     // The host's call, three instructions, and six in each round.
-    let answer = outcome_of_command(alloc, "make", ROUNDS, script.as_str(), "3000004")?;
-    assert!(rt; answer.is_done());
-    let wanted = hex::decode(alloc, ROUNDS_REPLAYED)?;
-    assert_eq!(rt; answer.printed.as_slice(), wanted.as_slice());
-    let spent = outcome_of_command(alloc, "make", ROUNDS, script.as_str(), "3000003")?;
-    assert!(rt; spent.is_refused(12, "turns spent: 3000003\n"));
+    assert!(rt; is_replayed(alloc, script.as_str(), "3000004")?);
+    let spent = (12, "turns spent: 3000003\n");
+    assert!(rt; is_refused(alloc, ROUNDS, script.as_str(), "3000003", spent)?);
     Ok(())
 }
 
@@ -85,10 +102,10 @@ fn a_run_of_two_million_calls_and_one(rt: HostRuntime) -> Result<(), Fail> {
     let alloc = rt.alloc();
     let script = script_of_answers(alloc, &[], 250_000)?;
     // The host's call, and 24 instructions in each round.
-    let spent = outcome_of_command(alloc, "make", EIGHT_IMPORTS, script.as_str(), "6000000")?;
-    assert!(rt; spent.is_refused(12, "turns spent: 6000000\n"));
-    let answer = outcome_of_command(alloc, "make", EIGHT_IMPORTS, script.as_str(), "6000001")?;
-    assert!(rt; answer.is_refused(18, "tape limit: 4000002\n"));
+    let spent = (12, "turns spent: 6000000\n");
+    assert!(rt; is_refused(alloc, EIGHT_IMPORTS, script.as_str(), "6000000", spent)?);
+    let limit = (18, "tape limit: 4000002\n");
+    assert!(rt; is_refused(alloc, EIGHT_IMPORTS, script.as_str(), "6000001", limit)?);
     Ok(())
 }
 
@@ -101,19 +118,30 @@ const BEFORE_THE_NOPS: &str =
     "0061736d010000000105016000017f020701016801660000030302000007050101670001\
      0ad18db701020700100010006a0bc48db70100";
 
-#[test]
-fn a_module_of_three_million_bytes(rt: HostRuntime) -> Result<(), Fail> {
-    let alloc = rt.alloc();
-    let mut module = hex::decode(alloc, BEFORE_THE_NOPS)?;
+/// Appends the `nop`s, and the end of the body.
+fn append_nops(alloc: Global, module: &mut Vec<u8>) -> Result<(), Fail> {
     let nops = vec![in alloc; 1u8; 3_000_000]?;
     module.extend_from_slice(nops.as_slice())?;
     // i32.const 1, end
     module.extend_from_slice(&[0x41, 1, 0x0b])?;
+    Ok(())
+}
+
+/// The outcome of `make` on the bytes of a module.
+fn outcome_of_module(alloc: Global, module: &[u8]) -> Result<Outcome, Fail> {
     let mut files = files_of(alloc, TWO_ANSWERS, ANSWERS, Vec::new(alloc))?;
-    files.add("large", module.as_slice())?;
-    let answer = outcome_of(alloc, &["make", "large", "s.json", "4"], &mut files)?;
+    files.add("large", module)?;
+    outcome_of(alloc, &["make", "large", "s.json", "4"], &mut files)
+}
+
+#[test]
+fn a_module_of_three_million_bytes(rt: HostRuntime) -> Result<(), Fail> {
+    let alloc = rt.alloc();
+    let mut module = hex::decode(alloc, BEFORE_THE_NOPS)?;
+    append_nops(alloc, &mut module)?;
+    let answer = outcome_of_module(alloc, module.as_slice())?;
     assert!(rt; answer.is_done());
     // As for the small module, 121 bytes more than the original's 3,000,058.
-    assert_eq!(rt; answer.printed.len(), 3_000_179);
+    assert!(rt; answer.printed.len() == 3_000_179);
     Ok(())
 }

@@ -6,7 +6,7 @@ ghost use Rattle.wasm_syntax.specs.Encoding.Encodable.{IsEncodable};
 ghost use Rattle.wasm_syntax.specs.declared.forms.Form.TheVariants.{Replay};
 ghost use Rattle.wasm_syntax.specs.declared.instructions.Instr.TheVariants.{Call, End, Numeric};
 
-use crate::tests::decoded_modules::{has_later_instructions, module_with_body};
+use crate::tests::decoded_modules::{are_later_instructions, module_with_body};
 use base::opcodes::I32_ADD;
 use std::alloc::{AllocError, Global as Heap};
 use std::test::Fail;
@@ -90,7 +90,7 @@ fn two_answers(alloc: Heap) -> Result<Module, AllocError>
 fn two_answers_in_46_bytes(rt: HostRuntime) -> Result<(), Fail> {
     let module = two_answers(rt.alloc())?;
     let bytes = encode(rt.alloc(), &module, 46)?;
-    assert_eq!(rt; bytes.as_slice(), TWO_ANSWERS.as_slice());
+    assert!(rt; bytes.as_slice() == TWO_ANSWERS.as_slice());
     Ok(())
 }
 
@@ -98,7 +98,7 @@ fn two_answers_in_46_bytes(rt: HostRuntime) -> Result<(), Fail> {
 fn two_answers_not_in_45_bytes(rt: HostRuntime) -> Result<(), Fail> {
     let module = two_answers(rt.alloc())?;
     let refused = encode(rt.alloc(), &module, 45).err();
-    assert_eq!(rt; refused, Some(EncodeFault::TooLong));
+    assert!(rt; refused == Some(EncodeFault::TooLong));
     Ok(())
 }
 
@@ -113,37 +113,39 @@ fn encoded_again(
     Ok(encode(alloc, &module, most))
 }
 
+/// The later instructions, in numbers that are longer than they need to be.
+const LATER_INSTRUCTIONS: &str = "fc8a000000fc8b8080800000fc8f008300fc9080808000ac8200c40b";
+
 /// The encoding of a module with one function in at most this many bytes. The function is read from numbers that are
 /// longer than they need to be.
 fn later_instructions(alloc: Heap, most: u32) -> Result<Result<Vec<u8>, EncodeFault>, Fail> {
-    let body = hex::decode(
-        alloc,
-        "fc8a000000fc8b8080800000fc8f008300fc9080808000ac8200c40b",
-    )?;
-    let bytes = module_with_body(alloc, body.as_slice())?;
-    if !has_later_instructions(&decode(alloc, bytes.as_slice(), Form::Replay)?) {
+    if !are_later_instructions(alloc, LATER_INSTRUCTIONS)? {
         return Err(Fail::from("other instructions"));
     }
+    let body = hex::decode(alloc, LATER_INSTRUCTIONS)?;
+    let bytes = module_with_body(alloc, body.as_slice())?;
     encoded_again(alloc, bytes.as_slice(), most)
 }
 
+/// The module of the later instructions.
+const LATER: [u8; 39] = [
+    0x00, 0x61, 0x73, 0x6d, 0x01, 0x00, 0x00, 0x00, // preamble
+    0x01, 0x04, 0x01, 0x60, 0x00, 0x00, // types
+    0x03, 0x02, 0x01, 0x00, // functions
+    0x0a, 0x13, 0x01, 0x11, 0x00, // code
+    0xfc, 0x0a, 0x00, 0x00, // memory.copy
+    0xfc, 0x0b, 0x00, // memory.fill
+    0xfc, 0x0f, 0x03, // table.grow 3
+    0xfc, 0x10, 0xac, 0x02, // table.size 300
+    0xc4, // i64.extend32_s
+    0x0b, // end
+];
+
 #[test]
 fn later_instructions_in_16_bytes(rt: HostRuntime) -> Result<(), Fail> {
-    let expected: [u8; 39] = [
-        0x00, 0x61, 0x73, 0x6d, 0x01, 0x00, 0x00, 0x00, // preamble
-        0x01, 0x04, 0x01, 0x60, 0x00, 0x00, // types
-        0x03, 0x02, 0x01, 0x00, // functions
-        0x0a, 0x13, 0x01, 0x11, 0x00, // code
-        0xfc, 0x0a, 0x00, 0x00, // memory.copy
-        0xfc, 0x0b, 0x00, // memory.fill
-        0xfc, 0x0f, 0x03, // table.grow 3
-        0xfc, 0x10, 0xac, 0x02, // table.size 300
-        0xc4, // i64.extend32_s
-        0x0b, // end
-    ];
     let bytes = later_instructions(rt.alloc(), 39)??;
-    assert_eq!(rt; bytes.as_slice(), expected.as_slice());
+    assert!(rt; bytes.as_slice() == LATER.as_slice());
     let refused = later_instructions(rt.alloc(), 38)?.err();
-    assert_eq!(rt; refused, Some(EncodeFault::TooLong));
+    assert!(rt; refused == Some(EncodeFault::TooLong));
     Ok(())
 }

@@ -96,60 +96,91 @@ fn customs(alloc: Heap) -> Result<Customs, AllocError> {
     one(alloc, Custom { name, bytes })
 }
 
-// A module with a part of each kind.
-fn whole(alloc: Heap) -> Result<Module, AllocError> {
+/// Gives a module a part of each kind, but for its segments and custom sections.
+fn add_definitions(alloc: Heap, module: &mut Module) -> Result<(), AllocError> {
     let limits = Limits {
         min: 1,
         max: Some(2),
     };
-    Ok(Module {
-        types: types(alloc)?,
-        imports: imports(alloc)?,
-        funcs: funcs(alloc)?,
-        tables: one(alloc, limits)?,
-        memories: one(alloc, limits)?,
-        globals: globals(alloc)?,
-        exports: exports(alloc)?,
-        start: Some(1),
-        elems: elems(alloc)?,
-        datas: datas(alloc)?,
-        customs: customs(alloc)?,
-    })
+    module.types = types(alloc)?;
+    module.imports = imports(alloc)?;
+    module.funcs = funcs(alloc)?;
+    module.tables = one(alloc, limits)?;
+    module.memories = one(alloc, limits)?;
+    module.globals = globals(alloc)?;
+    module.exports = exports(alloc)?;
+    module.start = Some(1);
+    Ok(())
+}
+
+/// Gives a module segments of each kind and a custom section.
+fn add_segments(alloc: Heap, module: &mut Module) -> Result<(), AllocError> {
+    module.elems = elems(alloc)?;
+    module.datas = datas(alloc)?;
+    module.customs = customs(alloc)?;
+    Ok(())
+}
+
+/// A module with a part of each kind.
+fn whole(alloc: Heap) -> Result<Module, AllocError> {
+    let mut module = Module::empty(alloc);
+    add_definitions(alloc, &mut module)?;
+    add_segments(alloc, &mut module)?;
+    Ok(module)
+}
+
+/// The text of a module for a programmer.
+fn text_of(alloc: Heap, module: &Module) -> Result<String, AllocError> {
+    format!(in alloc; "{module:?}")
+}
+
+/// Whether the copy of a module has the text of the module.
+fn is_copied(alloc: Heap, module: &Module) -> Result<bool, Fail> {
+    let text = text_of(alloc, module)?;
+    let copy = module.clone()?;
+    let copied = text_of(alloc, &copy)?;
+    Ok(copied.as_str() == text.as_str())
 }
 
 #[test]
 fn a_module_with_every_part_is_cloned(rt: HostRuntime) -> Result<(), Fail> {
     let alloc = rt.alloc();
     let module = whole(alloc)?;
-    let copy = module.clone()?;
-    let text = format!(in alloc; "{module:?}")?;
-    let copy = format!(in alloc; "{copy:?}")?;
-    assert_eq!(rt; copy.as_str(), text.as_str());
+    assert!(rt; is_copied(alloc, &module)?);
     Ok(())
+}
+
+/// The type of functions that have these parameters and results.
+fn type_of(alloc: Heap, params: &[ValType], results: &[ValType]) -> Result<FuncType, AllocError> {
+    let params = List::from_vec(Vec::from_slice(alloc, params)?);
+    let results = List::from_vec(Vec::from_slice(alloc, results)?);
+    Ok(FuncType { params, results })
+}
+
+/// The numbers of types after five others, in the order in which they are asked for here, and the list of them.
+fn numbers_of(
+    alloc: Heap,
+    none: &FuncType,
+    some: &FuncType,
+    other: &FuncType,
+) -> Result<([u32; 5], FuncTypes), Fail> {
+    let mut types = Types::after(alloc, 5);
+    let first = types.number(some)?;
+    let second = types.number(none)?;
+    let again = types.number(some)?;
+    let third = types.number(other)?;
+    let numbers = [first, second, again, third, types.number(none)?];
+    Ok((numbers, types.into_list()?))
 }
 
 #[test]
 fn appended_types_are_numbered_once_each(rt: HostRuntime) -> Result<(), Fail> {
     let alloc = rt.alloc();
-    let none = FuncType {
-        params: List::new(alloc),
-        results: List::new(alloc),
-    };
-    let some = FuncType {
-        params: one(alloc, ValType::I32)?,
-        results: List::new(alloc),
-    };
-    let other = FuncType {
-        params: List::new(alloc),
-        results: one(alloc, ValType::I32)?,
-    };
-    let mut types = Types::after(alloc, 5);
-    assert_eq!(rt; types.number(&some)?, 5);
-    assert_eq!(rt; types.number(&none)?, 6);
-    assert_eq!(rt; types.number(&some)?, 5);
-    assert_eq!(rt; types.number(&other)?, 7);
-    assert_eq!(rt; types.number(&none)?, 6);
-    let list = types.into_list()?;
+    let none = type_of(alloc, &[], &[])?;
+    let some = type_of(alloc, &[ValType::I32], &[])?;
+    let other = type_of(alloc, &[], &[ValType::I32])?;
+    let (numbers, list) = numbers_of(alloc, &none, &some, &other)?;
+    assert!(rt; numbers == [5, 6, 5, 7, 6]);
     assert!(rt; list.as_slice() == [some, none, other].as_slice());
     Ok(())
 }

@@ -4,7 +4,7 @@ use r3_faults::Fault;
 use r3_inputs::module_of;
 use std::alloc::Global;
 use std::test::Fail;
-use wasm_syntax::limits::MOST_FILE_BYTES;
+use wasm_syntax::limits::MAX_FILE_BYTES;
 use wasm_syntax::{Feature, Which};
 
 /// What a module's bytes are answered with.
@@ -32,7 +32,7 @@ pub enum Answer {
 ///
 /// When memory runs out, or the bytes are more than a module may have.
 pub fn answer_to(alloc: Global, bytes: &[u8]) -> Result<Answer, Fail> {
-    if bytes.len() as u64 > MOST_FILE_BYTES {
+    if bytes.len() as u64 > MAX_FILE_BYTES {
         return Err(Fail::from("too many bytes"));
     }
     match module_of(alloc, bytes) {

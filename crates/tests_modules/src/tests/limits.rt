@@ -2,9 +2,10 @@
 
 use crate::tests::answers::Answer::{self, Limit, Taken, Unsupported};
 use crate::tests::answers::{answer_to, check_rows};
-use r3_inputs::{MOST_INSTRUMENTED_BYTES, ModuleFile, module_in};
+use r3_inputs::{ModuleFile, module_in};
 use std::alloc::Global;
 use std::test::Fail;
+use wasm_syntax::limits::MAX_INSTRUMENTED_BYTES;
 use wasm_syntax::{Feature, Which};
 
 /// A module of one type, which has parameters of the type i64: its bytes up to these, how many there are, and the
@@ -70,7 +71,7 @@ const MANY_LOCALS: &str = "0061736d01000000010401600000030201000a08010601d186037
 
 /// Whether an instrumented module of these bytes is taken.
 fn is_taken_instrumented(alloc: Global, bytes: &[u8]) -> Result<bool, Fail> {
-    if bytes.len() as u64 > MOST_INSTRUMENTED_BYTES {
+    if bytes.len() as u64 > MAX_INSTRUMENTED_BYTES {
         return Err(Fail::from("too many bytes"));
     }
     Ok(module_in(alloc, ModuleFile::Instrumented, bytes).is_ok())

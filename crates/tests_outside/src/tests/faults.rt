@@ -99,7 +99,7 @@ fn parts_are_written_until_a_call_fails(rt: HostRuntime) -> Result<(), Fail> {
 }
 
 #[test]
-fn a_sink_that_never_fails_tells_its_bytes(rt: HostRuntime) {
+fn a_sink_that_never_fails_reports_its_bytes(rt: HostRuntime) {
     let mut sink = SureSink::new(rt.alloc());
     assert!(rt; put_parts(&mut sink, &[b"0123", b"45"]).is_ok());
     assert!(rt; sink.bytes() == Some(b"012345"));

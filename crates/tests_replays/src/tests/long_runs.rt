@@ -1,7 +1,7 @@
 //! Longer runs: their replay modules show the history of the scripted run.
 
-use crate::tests::replays::{
-    MOST_TURNS_REPLAYED, lines_of_history, lines_of_replay, lines_shown_by, printed_by_replay,
+use crate::tests::replay_modules::{
+    MAX_TURNS_REPLAYED, lines_of_history, lines_of_replay, lines_shown_by, printed_by_replay,
     replay_of_run,
 };
 use sample_inputs::examples::COLLATZ;
@@ -12,17 +12,27 @@ use std::test::Fail;
 
 /// The lines that the replay module of a run shows, if they are those of the run's own history.
 fn shown_lines(alloc: Global, module: &str, script: &str, turns: u64) -> Result<Vec<u8>, Fail> {
-    let shown = lines_of_replay(alloc, module, script, turns)?;
     let history = lines_of_history(alloc, module, script, turns)?;
-    if shown.as_slice() != history.as_slice() {
-        return Err(Fail::from("other lines than those of the history"));
-    }
     let replay = replay_of_run(alloc, module, script, turns)?;
-    let printed = printed_by_replay(alloc, replay.as_slice(), MOST_TURNS_REPLAYED)?;
-    if printed.as_slice() != history.as_slice() {
+    common_lines(alloc, replay.as_slice(), history.as_slice())
+}
+
+/// The lines that a replay module shows and `replay` prints, if they are those of a history.
+fn common_lines(alloc: Global, replay: &[u8], history: &[u8]) -> Result<Vec<u8>, Fail> {
+    if !is_printed_as(alloc, replay, history)? {
         return Err(Fail::from("other lines are printed than those of the history"));
     }
+    let shown = lines_shown_by(alloc, replay)?;
+    if shown.as_slice() != history {
+        return Err(Fail::from("other lines than those of the history"));
+    }
     Ok(shown)
+}
+
+/// Whether `replay` prints the lines of a history.
+fn is_printed_as(alloc: Global, replay: &[u8], history: &[u8]) -> Result<bool, Fail> {
+    let printed = printed_by_replay(alloc, replay, MAX_TURNS_REPLAYED)?;
+    Ok(printed.as_slice() == history)
 }
 
 /// The number of lines of a text.
@@ -56,7 +66,7 @@ fn a_replay_is_made_anew_with_the_same_bytes(rt: HostRuntime) -> Result<(), Fail
     let alloc = rt.alloc();
     let once = replay_of_run(alloc, COLLATZ, COLLATZ_NUMBERS, 639)?;
     let again = replay_of_run(alloc, COLLATZ, COLLATZ_NUMBERS, 639)?;
-    assert_eq!(rt; once.as_slice(), again.as_slice());
+    assert!(rt; once.as_slice() == again.as_slice());
     let shown = lines_shown_by(alloc, again.as_slice())?;
     assert_eq!(rt; line_count(shown.as_slice()), 649);
     Ok(())

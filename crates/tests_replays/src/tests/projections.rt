@@ -153,6 +153,26 @@ impl Walk {
             _ => Err(Fail::from("an entry of an import")),
         }
     }
+
+    /// Keeps the lines of entries.
+    fn entries(&mut self, entries: &[Entry]) -> Result<(), Fail> {
+        for entry in entries {
+            self.entry(entry)?;
+        }
+        Ok(())
+    }
+
+    /// Keeps the lines of a run, and of its outcome.
+    fn walk(&mut self, run: &FinishedRun) -> Result<(), Fail> {
+        self.entries(run.entries.as_slice())?;
+        let outcome = outcome_shown(self.layout, run)?;
+        print_outcome(&mut self.lines, outcome)?;
+        Ok(())
+    }
+
+    fn into_lines(self) -> Vec<u8> {
+        self.lines
+    }
 }
 
 /// The outcome of a history that ends with a trap, by the function that traps.
@@ -193,11 +213,6 @@ pub fn lines_of_projection(
         args: Vec::new(alloc),
         lines: Vec::new(alloc),
     };
-    for entry in run.entries.as_slice() {
-        walk.entry(entry)?;
-    }
-    let Walk { lines, .. } = walk;
-    let mut lines = lines;
-    print_outcome(&mut lines, outcome_shown(layout, run)?)?;
-    Ok(lines)
+    walk.walk(run)?;
+    Ok(walk.into_lines())
 }

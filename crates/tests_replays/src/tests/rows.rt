@@ -1,11 +1,10 @@
 //! The lines of scripted runs, worked out by hand, and what the runs of their replay modules show.
 
-use crate::tests::replays::{
-    MOST_TURNS_REPLAYED, lines_of_history, lines_of_replay, printed_by_replay, replay_of_run,
-};
+use crate::tests::replay_modules::{is_printed, lines_of_history, lines_of_replay, replay_of_run};
 use sample_inputs::examples::TWO_ANSWERS;
 use sample_inputs::importers::{DIVISION, IN_TURN};
 use sample_inputs::scripts::ANSWERS;
+use std::alloc::Global;
 use std::test::Fail;
 
 /// Two calls of the host, with four answers.
@@ -34,8 +33,10 @@ const BOTH: &str = "0061736d01000000\
     07090201670001016b0002\
     0a0e020700100210026b0b040010000b";
 
-/// Modules and scripts with the turns that their runs take, and the lines of these runs.
-const ROWS: &[(&str, &str, &str, u64, &str)] = &[
+/// A name, a module and a script with the turns that its run takes, and the lines of this run.
+type Row = (&'static str, &'static str, &'static str, u64, &'static str);
+
+const ROWS: &[Row] = &[
     (
         "two answers",
         TWO_ANSWERS,
@@ -113,29 +114,52 @@ const ROWS: &[(&str, &str, &str, u64, &str)] = &[
     ),
 ];
 
+/// Whether the replay of a run shows these lines.
+fn replay_has_lines(alloc: Global, row: Row) -> Result<bool, Fail> {
+    let (_, module, script, turns, lines) = row;
+    let shown = lines_of_replay(alloc, module, script, turns)?;
+    Ok(shown.as_slice() == lines.as_bytes())
+}
+
+/// Whether the history of a run has these lines.
+fn history_has_lines(alloc: Global, row: Row) -> Result<bool, Fail> {
+    let (_, module, script, turns, lines) = row;
+    let history = lines_of_history(alloc, module, script, turns)?;
+    Ok(history.as_slice() == lines.as_bytes())
+}
+
 #[test]
 fn replays_show_what_was_worked_out(rt: HostRuntime) -> Result<(), Fail> {
-    let alloc = rt.alloc();
-    for (what, module, script, turns, lines) in ROWS {
-        let shown = lines_of_replay(alloc, module, script, *turns)?;
-        assert_eq!(rt; shown.as_slice(), lines.as_bytes(), "{what}");
-        let history = lines_of_history(alloc, module, script, *turns)?;
-        assert_eq!(rt; history.as_slice(), lines.as_bytes(), "{what}");
+    for &row in ROWS {
+        assert!(rt; replay_has_lines(rt.alloc(), row)?, "{}", row.0);
+        assert!(rt; history_has_lines(rt.alloc(), row)?, "{}", row.0);
     }
     Ok(())
+}
+
+/// Whether the replay of a run has these bytes.
+fn is_made_again(alloc: Global, row: Row, replay: &[u8]) -> Result<bool, Fail> {
+    let (_, module, script, turns, _) = row;
+    let again = replay_of_run(alloc, module, script, turns)?;
+    Ok(again.as_slice() == replay)
+}
+
+/// Whether `replay` prints the lines for the replay of a run, which is made anew with the same bytes.
+fn is_printed_and_made_again(alloc: Global, row: Row) -> Result<bool, Fail> {
+    let (_, module, script, turns, lines) = row;
+    let replay = replay_of_run(alloc, module, script, turns)?;
+    Ok(
+        is_printed(alloc, replay.as_slice(), lines)?
+            && is_made_again(alloc, row, replay.as_slice())?,
+    )
 }
 
 #[test]
 fn replays_print_the_history_and_are_made_anew_with_the_same_bytes(
     rt: HostRuntime,
 ) -> Result<(), Fail> {
-    let alloc = rt.alloc();
-    for (what, module, script, turns, lines) in ROWS {
-        let replay = replay_of_run(alloc, module, script, *turns)?;
-        let printed = printed_by_replay(alloc, replay.as_slice(), MOST_TURNS_REPLAYED)?;
-        assert_eq!(rt; printed.as_slice(), lines.as_bytes(), "{what}");
-        let again = replay_of_run(alloc, module, script, *turns)?;
-        assert_eq!(rt; replay.as_slice(), again.as_slice(), "{what}");
+    for &row in ROWS {
+        assert!(rt; is_printed_and_made_again(rt.alloc(), row)?, "{}", row.0);
     }
     Ok(())
 }

@@ -11,7 +11,7 @@ use wasm_interp::{Pause, Turn};
 use wasm_syntax::List;
 
 /// More turns than the run of any row takes.
-const MOST_TURNS: u32 = 100_000;
+const MAX_TURNS: u32 = 100_000;
 
 /// The entries of a run that is over, and how it ended.
 #[derive(Drop)]
@@ -28,15 +28,26 @@ pub struct FinishedRun {
 pub fn run(alloc: Global, instance: &mut Instance, func: u32) -> Result<FinishedRun, Fail>
     requires { IsIdle instance.old.«module» instance.old.machine }
 {
-    let first = first_turn(alloc, instance, func)?;
     let mut entries = Vec::new(alloc);
-    entries.push(Entry::HostCall {
-        func,
-        args: List::new(alloc),
-    })?;
-    append(&mut entries, first.entries)?;
-    let pause = pause_of(instance, first.pause, &mut entries)?;
+    let pause = pause_of_call(alloc, instance, func, &mut entries)?;
     Ok(FinishedRun { entries, pause })
+}
+
+/// Calls a function and goes on to the end; appends the entries, and returns where the machine pauses.
+fn pause_of_call(
+    alloc: Global,
+    instance: &mut Instance,
+    func: u32,
+    entries: &mut Vec<Entry>,
+) -> Result<Pause, Fail>
+    requires { IsIdle instance.old.«module» instance.old.machine }
+{
+    let args = List::new(alloc);
+    entries.push(Entry::HostCall { func, args })?;
+    let first = first_turn(alloc, instance, func)?;
+    let pause = first.pause;
+    append(entries, first.entries)?;
+    pause_of(instance, pause, entries)
 }
 
 /// Calls a function, and executes the returns that are due.
@@ -60,7 +71,7 @@ fn pause_of(
     requires { ComesBy instance.old.«module» pause instance.old.machine }
 {
     let mut pause = pause;
-    'turns: for _turn in 0..MOST_TURNS {
+    'turns: for _turn in 0..MAX_TURNS {
         if let Some(pause) = pause {
             return Ok(pause);
         }

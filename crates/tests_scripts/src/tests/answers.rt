@@ -5,7 +5,7 @@ use r3_inputs::{module_of, script_of};
 use r3_outside::MemSink;
 use std::alloc::Global;
 use std::test::Fail;
-use wasm_syntax::limits::MOST_FILE_BYTES;
+use wasm_syntax::limits::MAX_FILE_BYTES;
 use wasm_validate::Checked;
 
 /// Imports a function `h.f` of type `[i64] -> []`, has a memory and a table of its own, and exports only a
@@ -29,7 +29,7 @@ pub const IMPORTED: &str =
 /// An error if memory runs out, the text is not hexadecimal, or its bytes are not an accepted module.
 pub fn module(alloc: Global, text: &str) -> Result<Checked, Fail> {
     let bytes = hex::decode(alloc, text)?;
-    if bytes.len() as u64 > MOST_FILE_BYTES {
+    if bytes.len() as u64 > MAX_FILE_BYTES {
         return Err(Fail::from("too many bytes"));
     }
     match module_of(alloc, bytes.as_slice()) {
@@ -85,10 +85,38 @@ fn check_row(
 /// An error for the first result that differs, and the errors of `module`.
 pub fn check_rows(alloc: Global, text: &str, rows: &[(&str, &str, &str)]) -> Result<(), Fail> {
     let checked = module(alloc, text)?;
+    check_rows_in(alloc, &checked, rows)
+}
+
+fn check_rows_in(
+    alloc: Global,
+    checked: &Checked,
+    rows: &[(&str, &str, &str)],
+) -> Result<(), Fail> {
     for &(name, script, want) in rows {
-        check_row(alloc, &checked, name, script, want)?;
+        check_row(alloc, checked, name, script, want)?;
     }
     Ok(())
+}
+
+/// Compares the result for a row of a table with the one that the row has.
+fn check_text(alloc: Global, checked: &Checked, row: &str) -> Result<(), Fail> {
+    let Some((name, rest)) = row.split_once(" |") else {
+        return Err(Fail::from("a row without a name"));
+    };
+    let Some((script, want)) = rest.split_once("=>") else {
+        return Err(Fail::from("a row without an answer"));
+    };
+    check_row(alloc, checked, name, script.trim(), want.trim())
+}
+
+fn check_table_in(alloc: Global, checked: &Checked, table: &str) -> Result<u64, Fail> {
+    let mut count = 0u64;
+    for row in table.split("\n- ").skip(1) {
+        check_text(alloc, checked, row)?;
+        count = count.saturating_add(1);
+    }
+    Ok(count)
 }
 
 /// Compares the results for the rows of a table, and returns their number. Each row begins with `- ` on a line
@@ -99,16 +127,5 @@ pub fn check_rows(alloc: Global, text: &str, rows: &[(&str, &str, &str)]) -> Res
 /// An error for the first result that differs or a row of another form, and the errors of `module`.
 pub fn check_table(alloc: Global, text: &str, table: &str) -> Result<u64, Fail> {
     let checked = module(alloc, text)?;
-    let mut count = 0u64;
-    for row in table.split("\n- ").skip(1) {
-        let Some((name, rest)) = row.split_once(" |") else {
-            return Err(Fail::from("a row without a name"));
-        };
-        let Some((script, want)) = rest.split_once("=>") else {
-            return Err(Fail::from("a row without an answer"));
-        };
-        check_row(alloc, &checked, name, script.trim(), want.trim())?;
-        count = count.saturating_add(1);
-    }
-    Ok(count)
+    check_table_in(alloc, &checked, table)
 }

@@ -1,12 +1,12 @@
 //! A script whose host calls functions and sets entries of a table, by itself and when it is called.
 
 use hooked_scripts::script_with_hooks;
-use host_script::Script;
+use host_script::{Answer, Script};
 use r3_inputs::{module_of, script_of};
 use sample_inputs::importers::EVERY_KIND;
 use std::alloc::Global;
 use std::test::Fail;
-use wasm_syntax::limits::MOST_FILE_BYTES;
+use wasm_syntax::limits::MAX_FILE_BYTES;
 
 /// Of the imports, the functions 0 to 5, only the first has an answer.
 const SCRIPT: &str = r#"{"imports":{"h":{"f":{
@@ -30,9 +30,9 @@ const HOOK: &str = "Some(Answer { calls: List { items: [] }, \
     rest: Some(Response { actions: List { items: [] }, end: Return(None) }) })";
 
 /// The script for the instrumented module.
-fn hooked(alloc: Global) -> Result<Script, Fail> {
+fn script_of_every_kind(alloc: Global) -> Result<Script, Fail> {
     let bytes = hex::decode(alloc, EVERY_KIND)?;
-    if bytes.len() > MOST_FILE_BYTES as usize {
+    if bytes.len() > MAX_FILE_BYTES as usize {
         return Err(Fail::from("a long text"));
     }
     let Ok(checked) = module_of(alloc, bytes.as_slice()) else {
@@ -55,20 +55,34 @@ fn wanted(import: usize) -> &'static str {
     }
 }
 
-#[test]
-fn functions_are_renumbered_and_hooks_answered(rt: HostRuntime) -> Result<(), Fail> {
-    let script = hooked(rt.alloc())?;
-    let mut main = String::new(rt.alloc());
-    write!(main, "{:?}", script.main)?;
-    assert!(rt; main.as_str() == MAIN);
-    let answers = script.imports.as_slice();
-    assert!(rt; answers.len() == 21);
-    for import in 0..answers.len() {
-        let mut text = String::new(rt.alloc());
-        write!(text, "{:?}", answers[import])?;
-        if text.as_str() != wanted(import) {
-            return Err(Fail::new(format_args!("import {import}: {text}")));
+/// Whether the host's own actions are those of `MAIN`.
+fn is_main(alloc: Global, script: &Script) -> Result<bool, Fail> {
+    let mut text = String::new(alloc);
+    write!(text, "{:?}", script.main)?;
+    Ok(text.as_str() == MAIN)
+}
+
+fn is_wanted(alloc: Global, import: usize, answer: &Option<Answer>) -> Result<bool, Fail> {
+    let mut text = String::new(alloc);
+    write!(text, "{answer:?}")?;
+    Ok(text.as_str() == wanted(import))
+}
+
+/// The first import with another answer.
+fn first_other(alloc: Global, script: &Script) -> Result<Option<usize>, Fail> {
+    for (import, answer) in script.imports.as_slice().iter().enumerate() {
+        if !is_wanted(alloc, import, answer)? {
+            return Ok(Some(import));
         }
     }
+    Ok(None)
+}
+
+#[test]
+fn functions_are_renumbered_and_hooks_answered(rt: HostRuntime) -> Result<(), Fail> {
+    let script = script_of_every_kind(rt.alloc())?;
+    assert!(rt; is_main(rt.alloc(), &script)?);
+    assert!(rt; script.imports.as_slice().len() == 21);
+    assert_eq!(rt; first_other(rt.alloc(), &script)?, None);
     Ok(())
 }

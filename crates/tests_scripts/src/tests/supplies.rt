@@ -8,6 +8,7 @@ use r3_inputs::script_of;
 use std::alloc::Global;
 use std::test::Fail;
 use wasm_syntax::{Limits, Val, ValType};
+use wasm_validate::Checked;
 
 /// Supplies that match the imports: a table of 2 to 4 entries, a memory of 1 to 3 pages and two globals.
 const TABLE: &str = r#""table":{"size":2,"max":4},"#;
@@ -23,31 +24,25 @@ fn supply_by(
     memory: &str,
     globals: &str,
 ) -> Result<Result<Supply, LinkFault>, Fail> {
-    let checked = module(alloc, IMPORTED)?;
     let text = format!(in alloc; "{{{table}{memory}{globals}}}")?;
-    match script_of(alloc, text.as_bytes(), &checked) {
+    let checked = module(alloc, IMPORTED)?;
+    supply_in(alloc, &checked, text.as_bytes())
+}
+
+/// What a script supplies for a module.
+fn supply_in(
+    alloc: Global,
+    checked: &Checked,
+    text: &[u8],
+) -> Result<Result<Supply, LinkFault>, Fail> {
+    match script_of(alloc, text, checked) {
         Ok(script) => Ok(supply_of(alloc, checked.module(), &script)),
         Err(_fault) => Err(Fail::from("a script that is not taken")),
     }
 }
 
-/// Tables that do not match the imported one.
-const OTHER_TABLES: [&str; 5] = [
-    r#""table":{"size":1,"max":4},"#,
-    r#""table":{"size":2},"#,
-    r#""table":{"size":2,"max":5},"#,
-    r#""table":{"size":3,"max":2},"#,
-    r#""table":{"size":4,"max":3},"#,
-];
-
 /// A table that is full.
 const FULL_TABLE: &str = r#""table":{"size":3,"max":3},"#;
-
-/// Memories that do not match the imported one.
-const OTHER_MEMORIES: [&str; 2] = [
-    r#""memory":{"pages":0,"max":3},"#,
-    r#""memory":{"pages":1,"max":4},"#,
-];
 
 /// The first global with a value of another type, and with its own.
 const OF_I64: &str = r#""globals":{"h":{"g":{"i64":7}}}"#;
@@ -62,6 +57,50 @@ const ROWS: &[(&str, &str, &str, LinkFault)] = &[
     (TABLE, MEMORY, r#""main":[]"#, Missing { import: 2 }),
     (TABLE, MEMORY, OF_I64, Mismatch { import: 2 }),
     (TABLE, MEMORY, OF_I32, Missing { import: 3 }),
+    // Tables that do not match the imported one.
+    (
+        r#""table":{"size":1,"max":4},"#,
+        "",
+        GLOBALS,
+        Mismatch { import: 0 },
+    ),
+    (
+        r#""table":{"size":2},"#,
+        "",
+        GLOBALS,
+        Mismatch { import: 0 },
+    ),
+    (
+        r#""table":{"size":2,"max":5},"#,
+        "",
+        GLOBALS,
+        Mismatch { import: 0 },
+    ),
+    (
+        r#""table":{"size":3,"max":2},"#,
+        "",
+        GLOBALS,
+        Mismatch { import: 0 },
+    ),
+    (
+        r#""table":{"size":4,"max":3},"#,
+        "",
+        GLOBALS,
+        Mismatch { import: 0 },
+    ),
+    // Memories that do not match the imported one.
+    (
+        TABLE,
+        r#""memory":{"pages":0,"max":3},"#,
+        GLOBALS,
+        Mismatch { import: 1 },
+    ),
+    (
+        TABLE,
+        r#""memory":{"pages":1,"max":4},"#,
+        GLOBALS,
+        Mismatch { import: 1 },
+    ),
 ];
 
 /// The fault of a supply, if there is one.
@@ -76,20 +115,36 @@ fn fault_of(
 
 #[test]
 fn first_import_that_is_not_matched(rt: HostRuntime) -> Result<(), Fail> {
-    let alloc = rt.alloc();
     for &(table, memory, globals, want) in ROWS {
-        let fault = fault_of(alloc, table, memory, globals)?;
-        assert_eq!(rt; fault, Some(want), "{table}{memory}{globals}");
-    }
-    for table in OTHER_TABLES {
-        let fault = fault_of(alloc, table, "", GLOBALS)?;
-        assert_eq!(rt; fault, Some(Mismatch { import: 0 }), "{table}");
-    }
-    for memory in OTHER_MEMORIES {
-        let fault = fault_of(alloc, TABLE, memory, GLOBALS)?;
-        assert_eq!(rt; fault, Some(Mismatch { import: 1 }), "{memory}");
+        let fault = fault_of(rt.alloc(), table, memory, globals)?;
+        assert!(rt; fault == Some(want), "{table}{memory}{globals}");
     }
     Ok(())
+}
+
+/// Whether a supply has a table of 3 to 4 entries, a memory of two pages, and the two globals.
+fn is_whole(supply: &Supply) -> bool {
+    let table = Limits {
+        min: 3,
+        max: Some(4),
+    };
+    let memory = Limits {
+        min: 2,
+        max: Some(2),
+    };
+    let globals = [
+        Val {
+            ty: ValType::I32,
+            bits: 7,
+        },
+        Val {
+            ty: ValType::I64,
+            bits: u64::MAX,
+        },
+    ];
+    supply.table == Some(table)
+        && supply.memory == Some(memory)
+        && supply.globals.as_slice() == globals.as_slice()
 }
 
 #[test]
@@ -98,31 +153,7 @@ fn all_imports_supplied(rt: HostRuntime) -> Result<(), Fail> {
     let memory = r#""memory":{"pages":2,"max":2},"#;
     match supply_by(rt.alloc(), table, memory, GLOBALS)? {
         Ok(supply) => {
-            assert_eq!(rt;
-                supply.table,
-                Some(Limits {
-                    min: 3,
-                    max: Some(4)
-                })
-            );
-            assert_eq!(rt;
-                supply.memory,
-                Some(Limits {
-                    min: 2,
-                    max: Some(2)
-                })
-            );
-            let values = [
-                Val {
-                    ty: ValType::I32,
-                    bits: 7,
-                },
-                Val {
-                    ty: ValType::I64,
-                    bits: u64::MAX,
-                },
-            ];
-            assert_eq!(rt; supply.globals.as_slice(), values.as_slice());
+            assert!(rt; is_whole(&supply));
             Ok(())
         }
         Err(_fault) => Err(Fail::from("not supplied")),

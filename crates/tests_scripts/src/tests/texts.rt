@@ -3,7 +3,9 @@
 use crate::tests::answers::{answer_to, check_rows, check_table, module};
 use sample_inputs::examples::TWO_ANSWERS;
 use sample_inputs::importers::{EVERY_KIND, EXPORTED_IMPORT};
+use std::alloc::Global;
 use std::test::Fail;
+use wasm_validate::Checked;
 
 const ROWS: &str = r#"
 - an open object | { => script: not json
@@ -87,7 +89,7 @@ const WITH_SPACES: &[(&str, &str, &str)] = &[
 
 #[test]
 fn texts_and_keys(rt: HostRuntime) -> Result<(), Fail> {
-    assert_eq!(rt; check_table(rt.alloc(), EVERY_KIND, ROWS)?, 57);
+    assert!(rt; check_table(rt.alloc(), EVERY_KIND, ROWS)? == 57);
     check_rows(rt.alloc(), EVERY_KIND, WITH_SPACES)
 }
 
@@ -101,16 +103,20 @@ const OTHER_BYTES: &[&[u8]] = &[
     b"\xef\xbb\xbf{}",
 ];
 
+/// The number of the first of these scripts that has another answer.
+fn first_other_bytes(alloc: Global, checked: &Checked) -> Result<Option<usize>, Fail> {
+    for (number, bytes) in OTHER_BYTES.iter().enumerate() {
+        if answer_to(alloc, checked, bytes)?.as_str() != "script: not json" {
+            return Ok(Some(number));
+        }
+    }
+    Ok(None)
+}
+
 #[test]
 fn bytes_that_are_no_text(rt: HostRuntime) -> Result<(), Fail> {
-    let alloc = rt.alloc();
-    let checked = module(alloc, EVERY_KIND)?;
-    for &bytes in OTHER_BYTES {
-        assert_eq!(rt;
-            answer_to(alloc, &checked, bytes)?.as_str(),
-            "script: not json"
-        );
-    }
+    let checked = module(rt.alloc(), EVERY_KIND)?;
+    assert_eq!(rt; first_other_bytes(rt.alloc(), &checked)?, None);
     Ok(())
 }
 
@@ -130,7 +136,7 @@ const EXPORTED_ROWS: &str = r#"
 
 #[test]
 fn worked_faults(rt: HostRuntime) -> Result<(), Fail> {
-    assert_eq!(rt; check_table(rt.alloc(), TWO_ANSWERS, ADDING_ROWS)?, 5);
-    assert_eq!(rt; check_table(rt.alloc(), EXPORTED_IMPORT, EXPORTED_ROWS)?, 1);
+    assert!(rt; check_table(rt.alloc(), TWO_ANSWERS, ADDING_ROWS)? == 5);
+    assert!(rt; check_table(rt.alloc(), EXPORTED_IMPORT, EXPORTED_ROWS)? == 1);
     Ok(())
 }

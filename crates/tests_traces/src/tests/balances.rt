@@ -2,9 +2,10 @@
 
 use crate::tests::files::file;
 use sample_inputs::traces::{LOG, LOG_OF_TWO_ANSWERS};
+use std::alloc::Global;
 use std::test::Fail;
 use trace_format::read_log;
-use trace_model::{BalanceFault, balanced};
+use trace_model::{BalanceFault, check_balance};
 
 /// The first event of logs that is not allowed, `None` if they are balanced; the name of each, and the bytes
 /// after its digest. Function 0 is imported.
@@ -81,6 +82,15 @@ const ROWS: &[(Option<u64>, &[(&str, &str)])] = &[
     ),
 ];
 
+/// Whether a log is balanced, or the first event that is not allowed.
+fn balance_of(alloc: Global, body: &str) -> Result<Result<(), BalanceFault>, Fail> {
+    let bytes = file(alloc, LOG, "02", body)?;
+    match read_log(alloc, bytes.as_slice()) {
+        Ok((_, log)) => Ok(check_balance(alloc, &log)),
+        Err(_) => Err(Fail::from("a log that is not read")),
+    }
+}
+
 #[test]
 fn the_first_event_out_of_order(rt: HostRuntime) -> Result<(), Fail> {
     for &(unordered, rows) in ROWS {
@@ -89,13 +99,7 @@ fn the_first_event_out_of_order(rt: HostRuntime) -> Result<(), Fail> {
             Some(event) => Err(BalanceFault::Event(event)),
         };
         for &(name, body) in rows {
-            let bytes = file(rt.alloc(), LOG, "02", body)?;
-            let Ok((_, log)) = read_log(rt.alloc(), bytes.as_slice()) else {
-                return Err(Fail::new(format_args!("{name} is not read")));
-            };
-            if balanced(rt.alloc(), &log) != want {
-                return Err(Fail::new(format_args!("{name}")));
-            }
+            assert!(rt; balance_of(rt.alloc(), body)? == want, "{name}");
         }
     }
     Ok(())

@@ -3,9 +3,10 @@
 use crate::tests::files::Kind::{self, Log, Tape};
 use crate::tests::files::{check_answers, file};
 use sample_inputs::traces::{LOG_OF_TWO_ANSWERS, TAPE_OF_TWO_ANSWERS};
+use std::alloc::Global;
 use std::test::Fail;
+use trace_format::FormatFault;
 use trace_format::FormatFault::{Bad, Version};
-use trace_format::{lines_of_log, lines_of_tape};
 
 /// Files of unknown versions: their kind, their version in hexadecimal and as a number, the bytes after the
 /// digest.
@@ -109,14 +110,27 @@ fn faulty_files_are_refused(rt: HostRuntime) -> Result<(), Fail> {
     Ok(())
 }
 
+/// The first bytes of each kind of file and of a module, and its version.
+const A_LOG: (&str, &str, &str) = ("72336c67", "02", LOG_OF_TWO_ANSWERS);
+
+const A_TAPE: (&str, &str, &str) = ("72337470", "02", TAPE_OF_TWO_ANSWERS);
+
+const A_MODULE: (&str, &str, &str) = ("0061736d", "01", "");
+
+/// Why a file is not shown as one of a kind; None if it is.
+fn fault_as(
+    alloc: Global,
+    kind: Kind,
+    other: (&str, &str, &str),
+) -> Result<Option<FormatFault>, Fail> {
+    let bytes = file(alloc, other.0, other.1, other.2)?;
+    Ok(kind.shown_lines(alloc, bytes.as_slice()).err())
+}
+
 #[test]
 fn one_kind_is_not_the_other(rt: HostRuntime) -> Result<(), Fail> {
-    let alloc = rt.alloc();
-    let log = file(alloc, "72336c67", "02", LOG_OF_TWO_ANSWERS)?;
-    let tape = file(alloc, "72337470", "02", TAPE_OF_TWO_ANSWERS)?;
-    let module = file(alloc, "0061736d", "01", "")?;
-    assert!(rt; lines_of_tape(alloc, log.as_slice()) == Err(Bad { at: 0 }));
-    assert!(rt; lines_of_log(alloc, tape.as_slice()) == Err(Bad { at: 0 }));
-    assert!(rt; lines_of_log(alloc, module.as_slice()) == Err(Bad { at: 0 }));
+    assert!(rt; fault_as(rt.alloc(), Tape, A_LOG)? == Some(Bad { at: 0 }));
+    assert!(rt; fault_as(rt.alloc(), Log, A_TAPE)? == Some(Bad { at: 0 }));
+    assert!(rt; fault_as(rt.alloc(), Log, A_MODULE)? == Some(Bad { at: 0 }));
     Ok(())
 }

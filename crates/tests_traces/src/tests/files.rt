@@ -85,12 +85,29 @@ fn tape_again(alloc: Global, bytes: &[u8]) -> Result<Vec<u8>, FormatFault> {
     Ok(write_tape(alloc, digest.as_bytes(), &tape)?)
 }
 
+/// Appends the bytes that hexadecimal digits give.
+fn append(alloc: Global, bytes: &mut Vec<u8>, digits: &str) -> Result<(), Fail> {
+    bytes.extend_from_slice(hex::decode(alloc, digits)?.as_slice())?;
+    Ok(())
+}
+
+/// Appends the first bytes of a file, its version and its digest.
+fn append_header(
+    alloc: Global,
+    bytes: &mut Vec<u8>,
+    magic: &str,
+    version: &str,
+) -> Result<(), Fail> {
+    append(alloc, bytes, magic)?;
+    append(alloc, bytes, version)?;
+    append(alloc, bytes, DIGEST)
+}
+
 /// The bytes of a file.
 pub fn file(alloc: Global, magic: &str, version: &str, body: &str) -> Result<Vec<u8>, Fail> {
-    let mut bytes = hex::decode(alloc, magic)?;
-    bytes.extend_from_slice(hex::decode(alloc, version)?.as_slice())?;
-    bytes.extend_from_slice(hex::decode(alloc, DIGEST)?.as_slice())?;
-    bytes.extend_from_slice(hex::decode(alloc, body)?.as_slice())?;
+    let mut bytes = Vec::new(alloc);
+    append_header(alloc, &mut bytes, magic, version)?;
+    append(alloc, &mut bytes, body)?;
     Ok(bytes)
 }
 
@@ -105,12 +122,23 @@ pub fn check_answers(
     want: Result<&str, FormatFault>,
 ) -> Result<(), Fail> {
     let bytes = file(alloc, kind.magic(), version, body)?;
-    let read = kind.read_lines(alloc, bytes.as_slice());
-    let shown = kind.shown_lines(alloc, bytes.as_slice());
-    if !agree(alloc, kind, read, want)? || !agree(alloc, kind, shown, want)? {
+    if !are_answers(alloc, kind, bytes.as_slice(), want)? {
         return Err(Fail::new(format_args!("{} {name}", kind.word())));
     }
     Ok(())
+}
+
+/// Whether the results for a file, read and shown, and shown at once, are the expected one.
+fn are_answers(
+    alloc: Global,
+    kind: Kind,
+    bytes: &[u8],
+    want: Result<&str, FormatFault>,
+) -> Result<bool, Fail> {
+    Ok(
+        agree(alloc, kind, kind.read_lines(alloc, bytes), want)?
+            && agree(alloc, kind, kind.shown_lines(alloc, bytes), want)?,
+    )
 }
 
 /// Whether the result is the expected one.
@@ -121,16 +149,26 @@ fn agree(
     want: Result<&str, FormatFault>,
 ) -> Result<bool, Fail> {
     match (answer, want) {
-        (Ok(lines), Ok(text)) => {
-            let mut expected = Vec::new(alloc);
-            expected.extend_from_slice(kind.word().as_bytes())?;
-            expected.extend_from_slice(b" ")?;
-            expected.extend_from_slice(DIGEST.as_bytes())?;
-            expected.extend_from_slice(b"\n")?;
-            expected.extend_from_slice(text.as_bytes())?;
-            Ok(lines.as_slice() == expected.as_slice())
-        }
+        (Ok(lines), Ok(text)) => Ok(
+            lines.as_slice() == expected_lines(alloc, kind, text)?.as_slice(),
+        ),
         (Err(fault), Err(cause)) => Ok(fault == cause),
         _ => Ok(false),
     }
+}
+
+/// The first line of a file, and the lines after it.
+fn expected_lines(alloc: Global, kind: Kind, text: &str) -> Result<Vec<u8>, Fail> {
+    let mut lines = Vec::new(alloc);
+    append_lines(&mut lines, kind, text)?;
+    Ok(lines)
+}
+
+fn append_lines(lines: &mut Vec<u8>, kind: Kind, text: &str) -> Result<(), Fail> {
+    lines.extend_from_slice(kind.word().as_bytes())?;
+    lines.extend_from_slice(b" ")?;
+    lines.extend_from_slice(DIGEST.as_bytes())?;
+    lines.extend_from_slice(b"\n")?;
+    lines.extend_from_slice(text.as_bytes())?;
+    Ok(())
 }

@@ -8,7 +8,8 @@ use std::test::Fail;
 use trace_format::read_tape;
 use trace_model::{Tape, TapeFault, fits};
 use wasm_syntax::{
-    Func, FuncType, Import, ImportKind, Instr, Limits, List, Module, Name, NoMemory, ValType,
+    Func, FuncType, FuncTypes, Funcs, Import, ImportKind, Imports, Instr, Limits, List, Module,
+    Name, NoMemory, ValType,
 };
 
 /// The first segment of tapes that does not fit, `None` if they fit; the name of each, and the bytes after its
@@ -129,7 +130,7 @@ fn check_rows(alloc: Global, module: &Module, groups: &[Rows]) -> Result<(), Fai
             Some(segment) => Err(TapeFault::Unfit { segment }),
         };
         for &(name, body) in rows {
-            if fits(alloc, &tape_of(alloc, body)?, module) != want {
+            if fit_of(alloc, body, module)? != want {
                 return Err(Fail::new(format_args!("{name}")));
             }
         }
@@ -137,33 +138,58 @@ fn check_rows(alloc: Global, module: &Module, groups: &[Rows]) -> Result<(), Fai
     Ok(())
 }
 
+/// Whether a tape fits a module, or the first segment that does not fit.
+fn fit_of(alloc: Global, body: &str, module: &Module) -> Result<Result<(), TapeFault>, Fail> {
+    let tape = tape_of(alloc, body)?;
+    Ok(fits(alloc, &tape, module))
+}
+
 /// A module with an imported function of these results, a function that returns an i32, and memories.
 fn module_of(alloc: Global, given: &[ValType], memories: &[Limits]) -> Result<Module, NoMemory> {
+    let mut module = module_without_parts(alloc);
+    add_parts(alloc, &mut module, given, memories)?;
+    Ok(module)
+}
+
+fn add_parts(
+    alloc: Global,
+    module: &mut Module,
+    given: &[ValType],
+    memories: &[Limits],
+) -> Result<(), NoMemory> {
+    module.types = types_of(alloc, given)?;
+    module.imports = imports_of(alloc)?;
+    module.funcs = funcs_of(alloc)?;
+    module.memories = List::from_vec(Vec::from_slice(alloc, memories)?);
+    Ok(())
+}
+
+/// The type of the imported function and that of the other.
+fn types_of(alloc: Global, given: &[ValType]) -> Result<FuncTypes, NoMemory> {
     let mut types = Vec::new(alloc);
     types.push(type_of(alloc, given)?)?;
     types.push(type_of(alloc, &[ValType::I32])?)?;
-    let mut imports = Vec::new(alloc);
-    imports.push(Import {
-        module: name_of(alloc, "h")?,
-        name: name_of(alloc, "f")?,
-        kind: ImportKind::Func(0),
-    })?;
+    Ok(List::from_vec(types))
+}
+
+fn imports_of(alloc: Global) -> Result<Imports, NoMemory> {
+    let module = name_of(alloc, "h")?;
+    let name = name_of(alloc, "f")?;
+    let kind = ImportKind::Func(0);
+    let import = Import { module, name, kind };
+    Ok(List::from_vec(vec![in alloc; import]?))
+}
+
+fn funcs_of(alloc: Global) -> Result<Funcs, NoMemory> {
     let mut body = Vec::new(alloc);
     body.push(Instr::Unreachable)?;
     body.push(Instr::End)?;
-    let mut funcs = Vec::new(alloc);
-    funcs.push(Func {
+    let func = Func {
         ty: 1,
         locals: List::new(alloc),
         body: List::from_vec(body),
-    })?;
-    Ok(Module {
-        types: List::from_vec(types),
-        imports: List::from_vec(imports),
-        funcs: List::from_vec(funcs),
-        memories: List::from_vec(Vec::from_slice(alloc, memories)?),
-        ..module_without_parts(alloc)
-    })
+    };
+    Ok(List::from_vec(vec![in alloc; func]?))
 }
 
 /// The type of functions without parameters that have these results.
@@ -188,20 +214,19 @@ fn tape_of(alloc: Global, body: &str) -> Result<Tape, Fail> {
     }
 }
 
+fn weight_of(alloc: Global, body: &str) -> Result<u64, Fail> {
+    Ok(tape_of(alloc, body)?.weight())
+}
+
+/// Two bytes, a size of each kind, an entry, a global; two arguments; three times control leaves.
+const OF_WEIGHT_11: &str =
+    "000505020a05070a02ccdd0800010309027f070000002003027f010000007e0200000000000000\
+    01000021000200222f";
+
 #[test]
 fn tapes_weigh(rt: HostRuntime) -> Result<(), Fail> {
-    let alloc = rt.alloc();
-    assert!(rt; tape_of(alloc, TAPE_OF_TWO_ANSWERS)?.weight() == 6);
-    // Two bytes, a size of each kind, an entry, a global; two arguments; three times control leaves.
-    assert!(rt;
-        tape_of(
-            alloc,
-            "000505020a05070a02ccdd0800010309027f070000002003027f010000007e0200000000000000\
-         01000021000200222f",
-        )?
-        .weight()
-            == 11
-    );
-    assert!(rt; tape_of(alloc, "2f")?.weight() == 0);
+    assert!(rt; weight_of(rt.alloc(), TAPE_OF_TWO_ANSWERS)? == 6);
+    assert!(rt; weight_of(rt.alloc(), OF_WEIGHT_11)? == 11);
+    assert!(rt; weight_of(rt.alloc(), "2f")? == 0);
     Ok(())
 }

@@ -52,11 +52,17 @@ fn check_prefixes(
         if bytes.len() != whole {
             return Err(Fail::new(format_args!("a file of {} bytes", bytes.len())));
         }
-        for length in 0..bytes.len() {
-            let at = place_within(places, length);
-            if kind.fault(alloc, &bytes[..length]) != Some(FormatFault::Bad { at }) {
-                return Err(Fail::new(format_args!("the first {length} bytes")));
-            }
+        check_fronts(alloc, kind, bytes.as_slice(), places)?;
+    }
+    Ok(())
+}
+
+/// Compares the faults of the proper prefixes of a file.
+fn check_fronts(alloc: Global, kind: Kind, bytes: &[u8], places: &[u64]) -> Result<(), Fail> {
+    for length in 0..bytes.len() {
+        let at = place_within(places, length);
+        if kind.fault(alloc, &bytes[..length]) != Some(FormatFault::Bad { at }) {
+            return Err(Fail::new(format_args!("the first {length} bytes")));
         }
     }
     Ok(())

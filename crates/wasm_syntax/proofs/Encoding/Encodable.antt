@@ -25,7 +25,7 @@ use Rattle.wasm_syntax.proofs.Encoding.BestSections.{FitsContent, Fits}
 use Rattle.wasm_syntax.proofs.Encoding.BestModules.{all_append, each_fits, fitting_encodes}
 
 -- a section is longer than its content
-content_le : (section : Section) → length (content_bytes section) ≤ length (section_bytes section)
+pub content_le : (section : Section) → length (content_bytes section) ≤ length (section_bytes section)
 unfolding section_bytes
 content_le section = omega (arith, length-append (u32_bytes (length (content_bytes section))) (content_bytes section))
 

@@ -36,7 +36,7 @@ bytes_one : (n : ℕ) → length (unsigned_bytes zero n) ≡ 1
 unfolding unsigned_bytes
 bytes_one n = refl
 
-bytes_some : (more n : ℕ) → 0 < length (unsigned_bytes more n)
+pub bytes_some : (more n : ℕ) → 0 < length (unsigned_bytes more n)
 bytes_some zero n = omega (arith, bytes_one n)
 bytes_some (suc more) n = elim (cases_lt n (2 ^ 7)) [
   | inl small ↦ omega (arith, bytes_small (suc more) n small)
@@ -191,9 +191,6 @@ module _ (laws : NumberLaws) where
               laws.u32_shortest.least h.0 (length xs) h.3,
             );
       }
-
-  pub vector_some : {A : Type 0} (write : A → List ℕ) (xs : List A) → 0 < length (vector_bytes write xs)
-  vector_some write xs = omega (arith, length-append (u32_bytes (length xs)) (flat_map write xs), u32_some (length xs))
 
 -- the shortest encoding, with what fits stated in another way
 pub refit : {P Q : Type 0} (E : List ℕ → Type 0) (best : List ℕ) → (Q → P) → (P → Q) → IsBest E P best → IsBest E Q best

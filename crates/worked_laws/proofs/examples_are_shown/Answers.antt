@@ -1,4 +1,4 @@
-use Rattle.worked_laws.proofs.Shown.{examples_are_shown}
+use Rattle.worked_laws.proofs.ShownRuns.{examples_are_shown}
 use Rattle.worked_laws.proofs.examples_are_shown.Goals as goal
 
 pub returns : goal.returns

@@ -1,6 +1,6 @@
 use Rattle.std.proofs.Common.{Ok, Err, refl, subst}
 use Rattle.host_script.specs.declared.scripts.Action.TheVariants.{Write, Copy, SetTable, SetGlobal, Grow, GrowTable}
-use Rattle.host_actions.specs.declared.actions.Done.TheVariants.{Enters}
+use Rattle.host_actions.specs.declared.actions.ActionEnd.TheVariants.{Enters}
 use Rattle.host_actions.specs.declared.actions.ActionFault.TheVariants.{Fault}
 use Rattle.host_actions.specs.Does.{Does}
 use Rattle.host_actions.proofs.Answering.{does_so, addresses_so, calls_so}

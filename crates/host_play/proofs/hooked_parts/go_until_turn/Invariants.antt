@@ -8,13 +8,13 @@ use Rattle.host_play.proofs.hooked_parts.go_until_turn.Given as goal
 abbrev pub invariant-parts : goal.invariant-parts
 invariant-parts g l =
     ((m : Module) (initial : StepResult) (begun : g.row.H.Denot)
-    → HooksSoFar g.H.Hooks.is_step m l.script l.meter l.imports initial l.turns begun l.fn.hooks l.fn.first l.fn.playing l.fn.left
-    → HooksSoFar g.H.Hooks.is_step m l.script l.meter l.imports initial l.turns begun l.hooks l.stand l.playing l.left)
+    → HooksSoFar g.H.Hooks.is_step m l.script l.settings initial begun l.fn.hooks l.fn.first l.fn.playing l.fn.left
+    → HooksSoFar g.H.Hooks.is_step m l.script l.settings initial begun l.hooks l.stand l.playing l.left)
     × BeginsPart l.stand
     × IsOn l.stand
     × (l.left ≡ l.before)
     × (l.before ≡ l.fn.left)
-    × (l.left ≤ l.turns)
+    × (l.left ≤ l.settings.turns)
 
 abbrev pub decreases-parts : goal.decreases-parts
 decreases-parts g l = free l.stand l.playing

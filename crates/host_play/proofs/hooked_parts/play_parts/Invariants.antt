@@ -8,10 +8,10 @@ use Rattle.host_play.proofs.hooked_parts.play_parts.Given as goal
 abbrev pub invariant-turns : goal.invariant-turns
 invariant-turns g l =
     ((m : Module) (initial : StepResult) (begun : g.row.H.Denot)
-    → HooksSoFar g.H.Hooks.is_step m l.script l.meter l.imports initial l.turns begun l.fn.hooks l.fn.first l.fn.playing l.turns
-    → HooksSoFar g.H.Hooks.is_step m l.script l.meter l.imports initial l.turns begun l.hooks l.stand l.playing l.left)
+    → HooksSoFar g.H.Hooks.is_step m l.script l.settings initial begun l.fn.hooks l.fn.first l.fn.playing l.settings.turns
+    → HooksSoFar g.H.Hooks.is_step m l.script l.settings initial begun l.hooks l.stand l.playing l.left)
     × BeginsPart l.stand
-    × (l.left ≤ l.turns)
+    × (l.left ≤ l.settings.turns)
 
 abbrev pub decreases-turns : goal.decreases-turns
 decreases-turns g l = l.left + going l.stand

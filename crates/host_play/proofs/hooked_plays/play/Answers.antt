@@ -10,14 +10,14 @@ use Rattle.host_play.proofs.hooked_plays.play.Goals as goal
 pub play_from-requires-clause-begins : goal.play_from-requires-clause-begins
 play_from-requires-clause-begins g c =
     begins_with c.args.play c.requires.begins
-    (subst (Fits c.args.play.code.now) (sym c.with_hooks-host.ensures) (hooked_fits c.args.play.code.now c.args.imports c.requires.hooked c.args.play.script.now c.requires.begins.fits))
+    (subst (Fits c.args.play.code.now) (sym c.with_hooks-host.ensures) (hooked_fits c.args.play.code.now c.args.settings.now.imports c.requires.hooked c.args.play.script.now c.requires.begins.fits))
 
 pub play_from-requires-clause-hooked : goal.play_from-requires-clause-hooked
 play_from-requires-clause-hooked g c =
-    subst (λ script. CanPlay c.args.play.code.now script c.args.meter.now c.args.imports) (sym c.with_hooks-host.ensures)
-    (can_play c.args.play.code.now c.args.imports c.args.play.script.now c.args.meter.now c.requires.hooked c.requires.meter)
+    subst (λ script. CanPlay c.args.play.code.now script c.args.settings.now) (sym c.with_hooks-host.ensures)
+    (can_play c.args.play.code.now c.args.play.script.now c.args.settings.now c.requires.hooked c.requires.meter)
 
 pub returns : goal.returns
 returns g c =
-    subst (λ script. IsPlayedWithHooks g.H.Hooks.is_step (run_in c.args.play.code.now script c.args.meter.now c.args.imports (start_in_store c.args.play.code.now script c.args.play.store) c.args.turns) c.play_from.result c.args.hooks.now c.play_from.new.hooks)
+    subst (λ script. IsPlayedWithHooks g.H.Hooks.is_step (run_in c.args.play.code.now script c.args.settings.now (start_in_store c.args.play.code.now script c.args.play.store)) c.play_from.result c.args.hooks.now c.play_from.new.hooks)
     c.with_hooks-host.ensures c.play_from.ensures

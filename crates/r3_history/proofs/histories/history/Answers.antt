@@ -6,12 +6,12 @@ use Rattle.r3_faults.specs.declared.faults.Fault.{Fault}
 use Rattle.r3_faults.specs.declared.faults.Fault.TheVariants.{Memory}
 use Rattle.accepted_runs.proofs.InputAnswers.{IsWhy, inputs-answer, inputs-same, inputs-why}
 use Rattle.r3_inputs.proofs.AnswerLemmas.{passed_exact}
-use Rattle.r3_history.specs.Histories.{IsHistory, IsHistoryOf, IsHistoryRefusal, OfInputs, OfRun, IsUntold}
+use Rattle.r3_history.specs.Histories.{IsHistory, IsHistoryOf, IsHistoryRefusal, OfInputs, OfRun, IsUnprinted}
 use Rattle.r3_history.proofs.histories.history.Goals as goal
 
 -- why there is no history of a module and a script
 abbrev Why : ℕ → Module → Script → Fault → Type 0
-Why turns m script fault = IsUntold m script turns fault
+Why turns m script fault = IsUnprinted m script turns fault
 
 why : (module_bytes script_bytes : List ℕ) (turns : ℕ) (fault : Fault) → IsHistoryRefusal module_bytes script_bytes turns fault → IsWhy module_bytes script_bytes (Why turns) fault
 why module_bytes script_bytes turns fault (OfInputs x) = inl x
@@ -33,9 +33,9 @@ pub returns : goal.returns
 returns c =
     record {
       cause =
-          IfErr-weaker c.history_of.result (λ fault. (fault ≡ Memory) ⊎ IsUntold c.in_ok-checked.checked c.in_ok-checked.script c.args.turns fault)
+          IfErr-weaker c.history_of.result (λ fault. (fault ≡ Memory) ⊎ IsUnprinted c.in_ok-checked.checked c.in_ok-checked.script c.args.turns fault)
           (λ fault. (fault ≡ Memory) ⊎ IsHistoryRefusal c.args.module.now c.args.script.now c.args.turns fault)
-          (λ fault either. elim either [ inl memory ↦ inl memory | inr untold ↦ inr (OfRun c.in_ok-checked.checked c.in_ok-checked.script c.in_ok-checked.ensures.taken.inputs untold) ])
+          (λ fault either. elim either [ inl memory ↦ inl memory | inr unprinted ↦ inr (OfRun c.in_ok-checked.checked c.in_ok-checked.script c.in_ok-checked.ensures.taken.inputs unprinted) ])
           c.history_of.ensures.cause;
       refused =
           λ fault refusal.

@@ -6,7 +6,7 @@ use Rattle.wasm_syntax.specs.Encoding.Modules.{Encodes}
 use Rattle.wasm_syntax.specs.Encoding.Shortest.{encoding_of}
 use Rattle.wasm_syntax.specs.Validity.{IsValid}
 use Rattle.trace_model.specs.Weight.{tape_weight}
-use Rattle.replay_module_spec.specs.Size.{most_bytes}
+use Rattle.replay_module_spec.specs.Size.{max_bytes}
 use Rattle.r3_make.proofs.Playable.{playable}
 use Rattle.r3_make.proofs.Sized.{fits_indices, is_encodable, is_short, is_within}
 use Rattle.r3_make.proofs.built_replays.replay_bytes.Goals as goal
@@ -38,7 +38,7 @@ returns-in-Ok-clause-printed c = λ store begins.
       follows = c.in_ok-replay.ensures.follows store
           (playable m supply store tape c.requires.runnable c.requires.supplied begins c.requires.fits
           c.requires.constants c.requires.light);
-      most = subst (λ (bytes : List ℕ). length bytes ≤ most_bytes m (tape_weight tape)) (sym shortest)
+      most = subst (λ (bytes : List ℕ). length bytes ≤ max_bytes m (tape_weight tape)) (sym shortest)
           (is_within c.args.bytes.now m tape c.requires.encoded c.requires.small c.requires.runnable.valid
           c.requires.fits c.requires.constants c.requires.light supply c.replay_modules_are_short.ensures.short
           c.encoding_forms.ensures.core c.shortest_encoding.ensures.encodable);

@@ -4,31 +4,31 @@ use Rattle.load_maker.specs.declared.load_module.TheConstants.{LOAD_MODULE}
 use Rattle.r3_faults.specs.declared.faults.Fault.{Fault}
 use Rattle.r3_faults.specs.declared.faults.Fault.TheVariants.{Memory}
 use Rattle.r3_make.specs.Refusals.{AreReplayable, IsMakeRefusal}
-use Rattle.r3_make.specs.Summaries.{load_turns}
+use Rattle.wasm_syntax.specs.declared.limits.TheConstants.{LOAD_TURNS}
 use Rattle.r3_make.proofs.summaries.load_summary.Goals as goal
 
 -- a result for the bytes of two files is one for the load, if the bytes are those of the load
 module _ {T : Type 0} (r : Result T Fault) (bytes text code script : List ℕ) (same : bytes ≡ code) (alike : text ≡ script)
   where
-    cause-same : IfErr r (λ fault. (fault ≡ Memory) ⊎ IsMakeRefusal bytes text load_turns fault)
-        → IfErr r (λ fault. (fault ≡ Memory) ⊎ IsMakeRefusal code script load_turns fault)
+    cause-same : IfErr r (λ fault. (fault ≡ Memory) ⊎ IsMakeRefusal bytes text LOAD_TURNS fault)
+        → IfErr r (λ fault. (fault ≡ Memory) ⊎ IsMakeRefusal code script LOAD_TURNS fault)
     cause-same cause =
-        subst (λ text. IfErr r (λ fault. (fault ≡ Memory) ⊎ IsMakeRefusal code text load_turns fault)) alike
-        (subst (λ bytes. IfErr r (λ fault. (fault ≡ Memory) ⊎ IsMakeRefusal bytes text load_turns fault)) same cause)
+        subst (λ text. IfErr r (λ fault. (fault ≡ Memory) ⊎ IsMakeRefusal code text LOAD_TURNS fault)) alike
+        (subst (λ bytes. IfErr r (λ fault. (fault ≡ Memory) ⊎ IsMakeRefusal bytes text LOAD_TURNS fault)) same cause)
 
-    refused-same : ((fault : Fault) → IsMakeRefusal bytes text load_turns fault → (r ≡ Err fault) ⊎ (r ≡ Err Memory))
-        → (fault : Fault) → IsMakeRefusal code script load_turns fault → (r ≡ Err fault) ⊎ (r ≡ Err Memory)
+    refused-same : ((fault : Fault) → IsMakeRefusal bytes text LOAD_TURNS fault → (r ≡ Err fault) ⊎ (r ≡ Err Memory))
+        → (fault : Fault) → IsMakeRefusal code script LOAD_TURNS fault → (r ≡ Err fault) ⊎ (r ≡ Err Memory)
     refused-same refused fault refusal =
         refused fault
-        (subst (λ bytes. IsMakeRefusal bytes text load_turns fault) (sym same)
-        (subst (λ text. IsMakeRefusal code text load_turns fault) (sym alike) refusal))
+        (subst (λ bytes. IsMakeRefusal bytes text LOAD_TURNS fault) (sym same)
+        (subst (λ text. IsMakeRefusal code text LOAD_TURNS fault) (sym alike) refusal))
 
-    accepted-same : (AreReplayable bytes text load_turns → IfErr r (λ fault. fault ≡ Memory))
-        → AreReplayable code script load_turns → IfErr r (λ fault. fault ≡ Memory)
+    accepted-same : (AreReplayable bytes text LOAD_TURNS → IfErr r (λ fault. fault ≡ Memory))
+        → AreReplayable code script LOAD_TURNS → IfErr r (λ fault. fault ≡ Memory)
     accepted-same accepted these =
         accepted
-        (subst (λ bytes. AreReplayable bytes text load_turns) (sym same)
-        (subst (λ text. AreReplayable code text load_turns) (sym alike) these))
+        (subst (λ bytes. AreReplayable bytes text LOAD_TURNS) (sym same)
+        (subst (λ text. AreReplayable code text LOAD_TURNS) (sym alike) these))
 
 pub returns-clause-cause : goal.returns-clause-cause
 returns-clause-cause c =

@@ -18,7 +18,7 @@ tape_of-requires c =
     c.requires.linked.0 c.requires.is_module c.requires.small c.requires.within c.requires.runnable c.requires.bytes
     c.requires.linked.1 c.in_ok-inputs.inputs c.in_ok-inputs.ensures in
     let run = recorded.0 in
-    taken run c.args.turns (c.records_tell_originals.ensures run c.args.turns) c.requires.linked.1
+    taken run c.args.turns (c.records_report_originals.ensures run c.args.turns) c.requires.linked.1
     c.in_ok-inputs.inputs.imports recorded.1.inputs_are.imports c.in-Ok.reducer
     c.in-Ok.outcome (c.in-Ok.ensures run recorded.1)
     c.logs_are_balanced.ensures
@@ -30,7 +30,7 @@ returns-in-Ok-clause-needed c =
     c.requires.linked.0 c.requires.is_module c.requires.small c.requires.within c.requires.runnable c.requires.bytes
     c.requires.linked.1 c.in_ok-inputs.inputs c.in_ok-inputs.ensures in
     let run = recorded.0 in
-    needed_answer run c.args.turns (c.records_tell_originals.ensures run c.args.turns) c.requires.linked.1
+    needed_answer run c.args.turns (c.records_report_originals.ensures run c.args.turns) c.requires.linked.1
     c.in_ok-inputs.inputs.imports recorded.1.inputs_are.imports c.in-Ok.reducer
     c.in-Ok.outcome (c.in-Ok.ensures run recorded.1)
     c.tape_of.result c.tape_of.ensures
@@ -42,7 +42,7 @@ returns-in-Ok-clause-light c =
     c.requires.linked.0 c.requires.is_module c.requires.small c.requires.within c.requires.runnable c.requires.bytes
     c.requires.linked.1 c.in_ok-inputs.inputs c.in_ok-inputs.ensures in
     let run = recorded.0 in
-    light_answer run c.args.turns (c.records_tell_originals.ensures run c.args.turns) c.requires.linked.1
+    light_answer run c.args.turns (c.records_report_originals.ensures run c.args.turns) c.requires.linked.1
     c.in_ok-inputs.inputs.imports recorded.1.inputs_are.imports c.in-Ok.reducer
     c.in-Ok.outcome (c.in-Ok.ensures run recorded.1)
     c.tape_of.result c.tape_of.ensures
@@ -54,7 +54,7 @@ returns-in-Ok-clause-cause c =
     c.requires.linked.0 c.requires.is_module c.requires.small c.requires.within c.requires.runnable c.requires.bytes
     c.requires.linked.1 c.in_ok-inputs.inputs c.in_ok-inputs.ensures in
     let run = recorded.0 in
-    heavy_answer run c.args.turns (c.records_tell_originals.ensures run c.args.turns) c.requires.linked.1
+    heavy_answer run c.args.turns (c.records_report_originals.ensures run c.args.turns) c.requires.linked.1
     c.in_ok-inputs.inputs.imports recorded.1.inputs_are.imports c.in-Ok.reducer
     c.in-Ok.outcome (c.in-Ok.ensures run recorded.1)
     c.tape_of.result c.tape_of.ensures
@@ -67,9 +67,9 @@ returns-in-Err-Fault-clause-cause c =
     c.requires.linked.1 c.in_ok-inputs.inputs c.in_ok-inputs.ensures in
     let run = recorded.0 in
     inr
-    (faulty run c.args.turns (c.records_tell_originals.ensures run c.args.turns) c.requires.linked.1
+    (faulty run c.args.turns (c.records_report_originals.ensures run c.args.turns) c.requires.linked.1
     c.in-Err-Fault.turn c.in-Err-Fault.kind
-    ((c.records_tell_originals.ensures run c.args.turns).faults c.in-Err-Fault.turn c.in-Err-Fault.kind
+    ((c.records_report_originals.ensures run c.args.turns).faults c.in-Err-Fault.turn c.in-Err-Fault.kind
     (subst (RefusesRecord (record_of run c.args.turns)) c.in-Err-Fault.field-0-is (c.in-Err-Fault.ensures run recorded.1))))
 
 pub returns-in-Err-Spent-clause-cause : goal.returns-in-Err-Spent-clause-cause
@@ -80,8 +80,8 @@ returns-in-Err-Spent-clause-cause c =
     c.requires.linked.1 c.in_ok-inputs.inputs c.in_ok-inputs.ensures in
     let run = recorded.0 in
     inr
-    (spent run c.args.turns (c.records_tell_originals.ensures run c.args.turns) c.requires.linked.1
-    ((c.records_tell_originals.ensures run c.args.turns).spends
+    (spent run c.args.turns (c.records_report_originals.ensures run c.args.turns) c.requires.linked.1
+    ((c.records_report_originals.ensures run c.args.turns).spends
     (subst (RefusesRecord (record_of run c.args.turns)) c.in-Err-Spent.field-0-is (c.in-Err-Spent.ensures run recorded.1))))
 
 pub unreachable-requires : goal.unreachable-requires
@@ -91,5 +91,5 @@ unreachable-requires c =
     c.requires.linked.0 c.requires.is_module c.requires.small c.requires.within c.requires.runnable c.requires.bytes
     c.requires.linked.1 c.in_ok-inputs.inputs c.in_ok-inputs.ensures in
     let run = recorded.0 in
-    (c.records_tell_originals.ensures run c.args.turns).ordered c.in-Err-Hook.field-0-0
+    (c.records_report_originals.ensures run c.args.turns).ordered c.in-Err-Hook.field-0-0
     (subst (RefusesRecord (record_of run c.args.turns)) c.in-Err-Hook.field-0-is (c.in-Err-Hook.ensures run recorded.1))

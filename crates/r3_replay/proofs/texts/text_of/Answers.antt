@@ -7,4 +7,4 @@ returns c =
     let m = c.args.checked.now in
     exact m c.args.turns (c.layouts_are_one.ensures.modules m)
     (λ initial. c.runs_have_one_result_at_most.ensures (program_alone m) instructions initial c.args.turns)
-    c.told_text.result c.told_text.ensures
+    c.replay_text.result c.replay_text.ensures

@@ -2,10 +2,10 @@ use Rattle.std.proofs.Common.{◌≡◌, ℕ, ◌+◌, ◌-◌, ◌≤◌, [], �
 use Rattle.std.proofs.Math.Seq.{take-length}
 use Rattle.std.proofs.lemmas.List.{drop-drop, drop_all, length-drop}
 use Rattle.record_replay_spec.specs.Observations.{Reads}
-use Rattle.recorder.specs.Known.{TellsOfMemory}
+use Rattle.recorder.specs.Known.{ReportsMemory}
 use Rattle.recorder.specs.Bytes.{FindsNothing, FindsRun}
 use Rattle.recorder.proofs.Arms.{if_none, if_some}
-use Rattle.recorder.proofs.Finds.{finds_end, finds_nothing, finds_then}
+use Rattle.recorder.proofs.FoundBytes.{finds_end, finds_nothing, finds_then}
 use Rattle.recorder.proofs.bytes.find_bytes.Goals as goal
 
 -- the rest of the bytes, in the form of a slice
@@ -19,7 +19,7 @@ runs-init g c =
       goes_on = λ after sink h.
           let e : c.args.addr + 0 ≡ c.args.addr = omega arith in
           subst
-          (λ at. TellsOfMemory g.S.EventSink.has_taken c.args.memory.now c.args.sink.now (Reads at c.args.bytes.now ∷ []) after sink)
+          (λ at. ReportsMemory g.S.EventSink.has_taken c.args.memory.now c.args.sink.now (Reads at c.args.bytes.now ∷ []) after sink)
           e h;
     }
 
@@ -42,11 +42,11 @@ runs-preserved g c =
           (finds_then g.S.EventSink.has_taken c.runs.memory c.runs.sink at rest c.in-Some.run' c.find_run.new.memory c.find_run.new.sink after
           sink found
           (subst
-          (λ bs. TellsOfMemory g.S.EventSink.has_taken c.find_run.new.memory c.find_run.new.sink
+          (λ bs. ReportsMemory g.S.EventSink.has_taken c.find_run.new.memory c.find_run.new.sink
           (Reads (at + c.in-Some.run'.«end») bs ∷ []) after sink)
           (sym (drop-drop c.in-Some.run'.«end» c.runs.done c.args.bytes.now))
           (subst
-          (λ place. TellsOfMemory g.S.EventSink.has_taken c.find_run.new.memory c.find_run.new.sink
+          (λ place. ReportsMemory g.S.EventSink.has_taken c.find_run.new.memory c.find_run.new.sink
           (Reads place (drop (c.runs.done + c.in-Some.run'.«end») c.args.bytes.now) ∷ []) after sink)
           e h)));
     }

@@ -1,6 +1,6 @@
 use Rattle.std.proofs.Common.{◌+◌, ◌≤◌, take, replicate, arith}
 use Rattle.std.proofs.lemmas.List.{take-replicate}
-use Rattle.recorder.proofs.Finds.{taken_same}
+use Rattle.recorder.proofs.FoundBytes.{taken_same}
 use Rattle.recorder.proofs.bytes.take_same.Goals as goal
 
 pub parts-preserved : goal.parts-preserved

@@ -7,7 +7,7 @@ pub returns : goal.returns
 returns g c =
     on_ok c.copy_bytes.result
     (copy_all g.S.EventSink.has_taken c.args.view.now c.args.memory.now c.reach.new.memory c.reach-2.new.memory c.copy_bytes.new.memory
-    c.args.sink.now c.reach.new.sink c.reach-2.new.sink c.copy_bytes.new.sink c.args.told.0 c.args.told.1 c.args.told.2
+    c.args.sink.now c.reach.new.sink c.reach-2.new.sink c.copy_bytes.new.sink c.args.reported.0 c.args.reported.1 c.args.reported.2
     c.end_of.result c.end_of-2.result c.pages.result c.pages-2.result c.bytes.result.now
     (sym c.if-not-has_memory.ensures) c.end_of.ensures c.end_of-2.ensures c.pages.ensures c.pages-2.ensures
     c.bytes.ensures.bytes c.in_ok-reach.ensures c.in_ok-reach-2.ensures)

@@ -1,6 +1,6 @@
 use Rattle.std.proofs.Common.{length, drop, ◌-◌, arith}
 use Rattle.std.proofs.lemmas.List.{length-drop, length-take}
-use Rattle.shadow_memory.proofs.Written.{taken_whole}
+use Rattle.shadow_memory.proofs.WrittenBytes.{taken_whole}
 use Rattle.shadow_memory.proofs.runs.take_difference.Goals as goal
 
 pub returns-clause-taken : goal.returns-clause-taken

@@ -1,5 +1,5 @@
 use Rattle.std.proofs.Common.{◌≡◌, ℕ, ◌<◌, ◌≤◌, true}
-use Rattle.shadow_memory.specs.Kept.{is_touched}
+use Rattle.shadow_memory.specs.KnownBytes.{is_touched}
 use Rattle.shadow_memory.specs.Shadow.{AreSame}
 use Rattle.shadow_memory.proofs.runs.touch_all.Given as goal
 

@@ -5,4 +5,4 @@ use Rattle.tests_recorder.proofs.steps.new_recorder.Goals as goal
 pub validate-requires : goal.validate-requires
 validate-requires c =
     few c.in_ok-module.module c.in_ok-module.ensures
-    (omega (arith, ap length c.as_slice.ensures, c.if-as_slice-gt-MOST_FUNCS.false))
+    (omega (arith, ap length c.as_slice.ensures, c.if-as_slice-gt-MAX_FUNCS.false))

@@ -1,11 +1,11 @@
 use Rattle.std.proofs.Common.{subst}
 use Rattle.std.specs.Prelude.{codes}
 use Rattle.history_spec.specs.Line.{line}
+use Rattle.leb_bytes.proofs.Placed.{behind}
 use Rattle.trace_format.specs.Answers.{header_length}
 use Rattle.trace_format.specs.Lines.{IsEndShown}
 use Rattle.trace_format.specs.Reading.{first_close, first_segment}
 use Rattle.trace_format.specs.Text.{segment_text}
-use Rattle.trace_format.proofs.EndLemmas.{whole_rest}
 use Rattle.trace_format.proofs.FileSteps.{items_fault_of_tape}
 use Rattle.trace_format.proofs.LineLemmas.{tape_shown}
 use Rattle.trace_format.proofs.Shrinking.{segments_shrink}
@@ -21,7 +21,7 @@ returns-in-Ok c =
     (subst
     (λ r. IsEndShown (first_segment c.in_ok-version.version) first_close segment_text (λ it. line (codes "close")) r
     c.in_ok-out.out.items c.put_items_after.new.out.items)
-    (whole_rest c.args.bytes.now header_length) c.in-Ok.ensures)
+    (behind c.args.bytes.now header_length) c.in-Ok.ensures)
 
 pub returns-in-Err : goal.returns-in-Err
 returns-in-Err c =

@@ -4,7 +4,7 @@ use Rattle.trace_format.proofs.items.put_whole_items.Given as goal
 
 abbrev pub invariant-items : goal.invariant-items
 invariant-items g l = record {
-  shown : AreShown (g.K.Kind.first l.fn.version) g.K.Shown.lines l.bytes l.rest l.fn.out.items l.out.items;
+  shown : AreShown (g.K.Kind.first l.fn.version) g.K.HasLines.lines l.bytes l.rest l.fn.out.items l.out.items;
   shorter : length l.rest ≤ length l.bytes;
 }
 

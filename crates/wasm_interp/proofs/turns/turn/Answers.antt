@@ -3,24 +3,24 @@ use Rattle.std.proofs.Common.{◌∷◌, [], ap, arith}
 use Rattle.flat_steps.specs.FlatStep.{turn}
 use Rattle.wasm_interp.specs.InstrEntries.{as_entry}
 use Rattle.wasm_interp.specs.Steps.{after_control}
-use Rattle.wasm_interp.proofs.Entries.{turned, turn_told}
+use Rattle.wasm_interp.proofs.Entries.{turned, turn_recorded}
 use Rattle.wasm_interp.proofs.Fits.{act_keeps, on_ok}
 use Rattle.wasm_interp.proofs.Safety.{base_top}
 use Rattle.wasm_interp.proofs.CodeBounds.{Stands, stands, instr_bound, after_safe, no_instr}
 use Rattle.wasm_interp.proofs.turns.turn.Goals as goal
 
-pub execute_and_tell_all-requires-clause-instr : goal.execute_and_tell_all-requires-clause-instr
-execute_and_tell_all-requires-clause-instr c =
+pub execute_and_record_all-requires-clause-instr : goal.execute_and_record_all-requires-clause-instr
+execute_and_record_all-requires-clause-instr c =
     instr_bound c.args.flat.now c.args.slots.now.items c.in-Some.frame c.in-Some-function_at.func.now c.in-Some-instr_at.i.now
     (stands c.args.flat.now c.args.frames.now c.args.slots.now.items c.in-Some.frame c.in-Some-function_at.func.now c.in-Some.ensures c.requires.safe c.requires.module c.in-Some-function_at.ensures.there)
     c.in-Some-instr_at.ensures.there
 
-pub execute_and_tell_all-requires-clause-room : goal.execute_and_tell_all-requires-clause-room
-execute_and_tell_all-requires-clause-room c =
+pub execute_and_record_all-requires-clause-room : goal.execute_and_record_all-requires-clause-room
+execute_and_record_all-requires-clause-room c =
     (stands c.args.flat.now c.args.frames.now c.args.slots.now.items c.in-Some.frame c.in-Some-function_at.func.now c.in-Some.ensures c.requires.safe c.requires.module c.in-Some-function_at.ensures.there).place.room
 
-pub execute_and_tell_all-requires-clause-locals : goal.execute_and_tell_all-requires-clause-locals
-execute_and_tell_all-requires-clause-locals c =
+pub execute_and_record_all-requires-clause-locals : goal.execute_and_record_all-requires-clause-locals
+execute_and_record_all-requires-clause-locals c =
     let reach = (stands c.args.flat.now c.args.frames.now c.args.slots.now.items c.in-Some.frame c.in-Some-function_at.func.now c.in-Some.ensures c.requires.safe c.requires.module c.in-Some-function_at.ensures.there).bound.reach in
     omega (arith, reach)
 
@@ -28,25 +28,25 @@ pub after_control-requires-clause-control : goal.after_control-requires-clause-c
 after_control-requires-clause-control c =
     let s : Stands c.args.flat.now c.args.slots.now.items c.in-Some.frame c.in-Some-function_at.func.now =
     stands c.args.flat.now c.args.frames.now c.args.slots.now.items c.in-Some.frame c.in-Some-function_at.func.now c.in-Some.ensures c.requires.safe c.requires.module c.in-Some-function_at.ensures.there in
-    after_safe c.args.flat.now c.args.frames.now c.args.slots.now.items c.execute_and_tell_all.new.slots.items c.in-Some.frame c.in-Some-function_at.func.now c.in-Some-instr_at.i.now c.args.store.now c.in_ok-control.control
+    after_safe c.args.flat.now c.args.frames.now c.args.slots.now.items c.execute_and_record_all.new.slots.items c.in-Some.frame c.in-Some-function_at.func.now c.in-Some-instr_at.i.now c.args.store.now c.in_ok-control.control
     c.in-Some.ensures c.requires.safe s c.in-Some-function_at.ensures.there
     (instr_bound c.args.flat.now c.args.slots.now.items c.in-Some.frame c.in-Some-function_at.func.now c.in-Some-instr_at.i.now s c.in-Some-instr_at.ensures.there)
-    c.in_ok-control.ensures.control c.execute_and_tell_all.ensures.same
+    c.in_ok-control.ensures.control c.execute_and_record_all.ensures.same
 
 pub after_control-requires-clause-small : goal.after_control-requires-clause-small
 after_control-requires-clause-small c =
     let room = (stands c.args.flat.now c.args.frames.now c.args.slots.now.items c.in-Some.frame c.in-Some-function_at.func.now c.in-Some.ensures c.requires.safe c.requires.module c.in-Some-function_at.ensures.there).place.room in
     let base = base_top c.args.frames.now c.in-Some.frame c.in-Some.ensures in
-    let same = c.execute_and_tell_all.ensures.same in
+    let same = c.execute_and_record_all.ensures.same in
     omega (arith, room, base, same)
 
 pub returns-clause-done : goal.returns-clause-done
 returns-clause-done c =
-    turn_told c.after_control.result (as_entry c.execute_and_tell_all.new.entry) c.after_control.new.entries.items c.args.entries.now.items c.execute_and_tell_all.new.store c.after_control.new.frames c.after_control.new.slots.items
-    (after_control c.args.flat.now c.execute_and_tell_all.new.store c.execute_and_tell_all.new.slots.items c.args.frames.now c.in-Some-instr_at.i.now c.in_ok-control.control)
+    turn_recorded c.after_control.result (as_entry c.execute_and_record_all.new.entry) c.after_control.new.entries.items c.args.entries.now.items c.execute_and_record_all.new.store c.after_control.new.frames c.after_control.new.slots.items
+    (after_control c.args.flat.now c.execute_and_record_all.new.store c.execute_and_record_all.new.slots.items c.args.frames.now c.in-Some-instr_at.i.now c.in_ok-control.control)
     (turn c.args.flat.now c.args.store.now c.args.frames.now c.args.slots.now.items)
     c.requires.none
-    (turned c.args.flat.now c.args.store.now c.execute_and_tell_all.new.store c.args.slots.now.items c.execute_and_tell_all.new.slots.items c.args.frames.now c.in-Some.frame c.in-Some-function_at.func.now c.in-Some-instr_at.i.now c.in_ok-control.control [] (as_entry c.execute_and_tell_all.new.entry ∷ [])
+    (turned c.args.flat.now c.args.store.now c.execute_and_record_all.new.store c.args.slots.now.items c.execute_and_record_all.new.slots.items c.args.frames.now c.in-Some.frame c.in-Some-function_at.func.now c.in-Some-instr_at.i.now c.in_ok-control.control [] (as_entry c.execute_and_record_all.new.entry ∷ [])
     c.in-Some.ensures c.in-Some-function_at.ensures.there c.in-Some-instr_at.ensures.there c.in_ok-control.ensures.control c.in_ok-control.ensures.store c.in_ok-control.ensures.slots (ap (λ e. e ∷ []) c.in_ok-control.ensures.entry))
     c.after_control.ensures.done
 
@@ -59,7 +59,7 @@ unreachable-requires-in_default-instr_at c =
 pub returns-clause-fits : goal.returns-clause-fits
 returns-clause-fits c =
     on_ok c.after_control.result
-    (act_keeps c.args.flat.now c.in-Some-function_at.func.now c.args.store.now c.execute_and_tell_all.new.store c.args.slots.now.items c.in-Some.frame.base c.in-Some-instr_at.i.now
+    (act_keeps c.args.flat.now c.in-Some-function_at.func.now c.args.store.now c.execute_and_record_all.new.store c.args.slots.now.items c.in-Some.frame.base c.in-Some-instr_at.i.now
     (instr_bound c.args.flat.now c.args.slots.now.items c.in-Some.frame c.in-Some-function_at.func.now c.in-Some-instr_at.i.now
     (stands c.args.flat.now c.args.frames.now c.args.slots.now.items c.in-Some.frame c.in-Some-function_at.func.now c.in-Some.ensures c.requires.safe c.requires.module c.in-Some-function_at.ensures.there)
     c.in-Some-instr_at.ensures.there)

@@ -1,7 +1,7 @@
 use Rattle.std.proofs.Common.{◌++◌, slice_get, ap, ◌∙◌}
 use Rattle.std.specs.Prelude.{filter_map}
 use Rattle.wasm_syntax.specs.Index.{of_kind, memory_import}
-use Rattle.wasm_syntax.specs.declared.limits.TheConstants.{MOST_PAGES}
+use Rattle.wasm_syntax.specs.declared.limits.TheConstants.{MAX_PAGES}
 use Rattle.wasm_syntax.specs.declared.profile.Which.TheVariants.{Memory}
 use Rattle.wasm_profile.specs.Answers.{past_minimum}
 use Rattle.wasm_profile.proofs.quantities.refuse_memories.Goals as goal
@@ -9,4 +9,4 @@ use Rattle.wasm_profile.proofs.quantities.refuse_memories.Goals as goal
 pub returns : goal.returns
 returns c =
     c.refuse_all.ensures
-    ∙ ap (λ all. slice_get (filter_map (past_minimum MOST_PAGES Memory) (of_kind memory_import c.args.«module».now.imports ++ all)) 0) c.as_slice.ensures
+    ∙ ap (λ all. slice_get (filter_map (past_minimum MAX_PAGES Memory) (of_kind memory_import c.args.«module».now.imports ++ all)) 0) c.as_slice.ensures

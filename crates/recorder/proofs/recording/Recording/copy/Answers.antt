@@ -1,6 +1,6 @@
 use Rattle.std.proofs.Common.{refl}
 use Rattle.recorder.proofs.Arms.{err_led}
-use Rattle.recorder.proofs.Told.{copy_is}
+use Rattle.recorder.proofs.AccessArguments.{copy_is}
 use Rattle.recorder.proofs.Steps.{take_memory}
 use Rattle.recorder.proofs.recording.Recording.copy.Goals as goal
 

@@ -1,5 +1,5 @@
 use Rattle.recorder.proofs.Arms.{err_led}
-use Rattle.recorder.proofs.Told.{known_typed}
+use Rattle.recorder.proofs.AccessArguments.{known_typed}
 use Rattle.recorder.proofs.Steps.{take_gget}
 use Rattle.recorder.proofs.recording.Recording.gget.Goals as goal
 
@@ -12,4 +12,4 @@ returns-in_err-find_global-clause-err g c = err_led c.from_residual.result (c.in
 pub returns-clause-ok : goal.returns-clause-ok
 returns-clause-ok g c =
     take_gget c.in-Some.ensures.0 c.in-Some.ensures.1 c.in_ok-find_global.ensures.entries
-    c.in_ok-find_global.ensures.tells
+    c.in_ok-find_global.ensures.reports

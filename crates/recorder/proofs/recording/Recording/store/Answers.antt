@@ -1,6 +1,6 @@
 use Rattle.std.proofs.Common.{refl}
 use Rattle.recorder.proofs.Arms.{err_led}
-use Rattle.recorder.proofs.Told.{store_is}
+use Rattle.recorder.proofs.AccessArguments.{store_is}
 use Rattle.recorder.proofs.Steps.{take_memory}
 use Rattle.recorder.proofs.recording.Recording.store.Goals as goal
 

@@ -5,6 +5,6 @@ use Rattle.trace_reduce.proofs.reducer.Reducer.step.Goals as goal
 pub returns-clause-takes : goal.returns-clause-takes
 returns-clause-takes c =
     let holds : not c.in_ok-step.field-0 ≡ false = search rules in
-    event_taken c.args.self.now c.step.new.self c.tell.new.self c.args.event c.tell.result
-    (takes_some c.in_ok-step.field-0 c.step.new.self _ c.in_ok-step.ensures.ok holds) c.tell.ensures.imports
-    c.tell.ensures.tells
+    event_taken c.args.self.now c.step.new.self c.report.new.self c.args.event c.report.result
+    (takes_some c.in_ok-step.field-0 c.step.new.self _ c.in_ok-step.ensures.ok holds) c.report.ensures.imports
+    c.report.ensures.reports

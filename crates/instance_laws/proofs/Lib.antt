@@ -1,0 +1,12 @@
+pub mod Settling
+pub mod Instructions
+pub mod Steps
+pub mod Typings
+pub mod Bodies
+pub mod Openings
+pub mod Numbers
+pub mod WidenedParts
+pub mod WidenedRuns
+pub mod DeclaredFuncs
+pub mod RenamedTrees
+pub mod WidenedValid

@@ -1,0 +1,5 @@
+pub mod Instances
+pub mod Renamed
+pub mod ForeignRuns
+pub mod Widened
+pub mod Laws

@@ -1,5 +1,0 @@
-use Rattle.record_replay_spec.proofs.LongestRuns.{differing_bytes_are_told}
-use Rattle.record_replay_spec.proofs.hook_laws.differing_bytes_are_told.Goals as goal
-
-pub returns : goal.returns
-returns c = differing_bytes_are_told

@@ -1,0 +1,4 @@
+pub mod Lines
+pub mod Modules
+pub mod Histories
+pub mod Widened
