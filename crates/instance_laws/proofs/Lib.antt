@@ -10,3 +10,7 @@ pub mod WidenedRuns
 pub mod DeclaredFuncs
 pub mod RenamedTrees
 pub mod WidenedValid
+pub mod WidenedEncodable
+pub mod WidenedAccepted
+pub mod Outcomes
+pub mod WidenedSizes

@@ -1,1 +1,2 @@
 pub mod Typings
+pub mod SizeLaws

@@ -3,3 +3,5 @@ pub mod Renamed
 pub mod ForeignRuns
 pub mod Widened
 pub mod Laws
+pub mod WidenedLaws
+pub mod Outcomes
