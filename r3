@@ -16,22 +16,25 @@ print_help() {
     cat << 'END'
 r3 records one run of a WebAssembly module together with what its host did, and prints a module that replays it.
 
-  make MODULE SCRIPT TURNS            prints the replay module of the module's run under the script
-  history MODULE SCRIPT TURNS         prints the run: a line for each entry, and how it ends
-  replay REPLAY_MODULE TURNS          runs a replay module and prints what it shows, as history does
-  instrument MODULE                   prints the module with calls of hooks
-  record INSTRUMENTED SCRIPT TURNS    runs an instrumented module and prints the log of its run
-  reduce LOG                          prints the tape of a log: what the host did that the run needs
-  build MODULE SCRIPT TAPE            prints the replay module of a tape
-  show LOG_OR_TAPE                    prints a log or a tape as text
-  load NUMBER                         makes a large run of NUMBER calls (1 to 60000) and prints its sizes
-  --help, --version                   print this text; the version and the digest of the sources
+  make MODULE SCRIPT TURNS                   prints the replay module of the module's run under the script
+  history MODULE SCRIPT TURNS                prints the run: a line for each entry, and how it ends
+  foreign MODULE DECLS SCRIPT TURNS          as make, for a host with functions that are not imports
+  foreign-history MODULE DECLS SCRIPT TURNS  as history, for such a host
+  replay REPLAY_MODULE TURNS                 runs a replay module and prints what it shows, as history does
+  instrument MODULE                          prints the module with calls of hooks
+  record INSTRUMENTED SCRIPT TURNS           runs an instrumented module and prints the log of its run
+  reduce LOG                                 prints the tape of a log: what the host did that the run needs
+  build MODULE SCRIPT TAPE                   prints the replay module of a tape
+  show LOG_OR_TAPE                           prints a log or a tape as text
+  load NUMBER                                makes a large run of NUMBER calls (1 to 60000) and prints its sizes
+  --help, --version                          print this text; the version and the digest of the sources
 
-TURNS is the most steps: 1 to 1000000000 for make, to 2000000 for history, to 20000000 for record and replay.
+TURNS is the most steps: 1 to 1000000000 for make and foreign, to 2000000 for history and foreign-history, to 20000000
+for record and replay. DECLS declares the functions of the host that are not imports, as a JSON list.
 All is printed to standard output. A call that fails prints one line to standard error: README.md lists the statuses.
 END
     echo "Pages, in $(unset CDPATH && cd -- "$top" && pwd):"
-    echo "README.md, docs/SCRIPTS.md (scripts), docs/HISTORIES.md (histories), examples/README.md (examples)."
+    echo "README.md, docs/SCRIPTS.md (scripts, declarations), docs/HISTORIES.md (histories), examples/README.md (examples)."
 }
 
 # Whether a word is a number from 1 to $2, without a sign and leading zeros.
@@ -45,6 +48,8 @@ are_words_taken() {
     case ${1-}:$# in
         make:4) is_number "$4" 1000000000 ;;
         history:4) is_number "$4" 2000000 ;;
+        foreign:5) is_number "$5" 1000000000 ;;
+        foreign-history:5) is_number "$5" 2000000 ;;
         record:4) is_number "$4" 20000000 ;;
         replay:3) is_number "$3" 20000000 ;;
         load:2) is_number "$2" 60000 ;;

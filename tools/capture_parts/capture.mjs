@@ -1,8 +1,10 @@
 /** Captures the run of a module with a host: runs both once, and gives the script that does what the host did. */
 import { Crossings } from './crossings.mjs';
 import { HostChanges } from './host_changes.mjs';
+import { HostFunctions } from './host_functions.mjs';
 import { JavascriptInterface, engine } from './javascript_interface.mjs';
 import { fixedAddress } from './addresses.mjs';
+import { markedModule } from './marked_module.mjs';
 import { MemoryChanges } from './memory_changes.mjs';
 import { ModuleFunctions } from './module_functions.mjs';
 import { moduleTypes } from './module_types.mjs';
@@ -16,12 +18,14 @@ class HostExit extends Error {}
 
 class Capture {
   constructor(module, bytes, options) {
-    this.module = module;
     this.types = moduleTypes(bytes);
+    this.marked = this.types.hostReachesMemory ? markedModule(bytes, this.types) : null;
+    this.module = this.marked?.module ?? module;
     this.script = new Script(this.types);
     this.changes = new HostChanges();
     this.functions = new ModuleFunctions(this.types);
     this.crossings = new Crossings(this.types, this.script, this.changes, this.functions, options);
+    this.hostFunctions = new HostFunctions(this.types, this.crossings, options.isDeclaring);
     this.interface = new JavascriptInterface();
     this.functions.onKnown = (func, index) => {
       if (index < this.types.importedFunctions) return;
@@ -31,15 +35,18 @@ class Capture {
 
   /** Instantiates the module among what the host gives. Gives the exports for the host, or null after a trap. */
   instantiated(given) {
-    const { types, script, changes, crossings, functions } = this;
-    this.supply = new Supply(types, script, changes, crossings, functions, this.interface);
+    const { types, script, changes, crossings, functions, hostFunctions } = this;
+    this.supply = new Supply(types, script, changes, crossings, functions, hostFunctions, this.interface);
     const imports = this.supply.imports(given);
     const instance = this.linked(imports);
     if (instance === null) return null;
+    this.regions = this.marked?.regions(instance) ?? null;
+    if (changes.memory !== null) changes.memory.regions = this.regions;
     const exports = this.exportsForHost(instance);
     if (!crossings.hostHasControl) crossings.enterHost();
     crossings.instantiating = false;
     script.main.unshift(...changes.memory?.writes(this.supply.filled, fixedAddress) ?? []);
+    script.main.unshift(...changes.table?.filled ?? []);
     return exports;
   }
 
@@ -76,14 +83,14 @@ class Capture {
 
   memory(_, memory) {
     if (this.changes.memory === null) {
-      this.changes.memory = new MemoryChanges(memory);
+      this.changes.memory = new MemoryChanges(memory, this.regions);
       this.changes.memory.look();
     }
   }
 
   table(_, table) {
     if (this.changes.table === null) {
-      this.changes.table = new TableChanges(table, this.functions, this.interface, new Set());
+      this.changes.table = new TableChanges(table, this.functions, this.hostFunctions, this.interface, new Set());
       this.changes.table.begin();
     }
   }
@@ -116,9 +123,9 @@ async function hostOf(file) {
 }
 
 /**
- * Runs the module of `bytes` once with the host of `hostFile`, which gets `context`, and gives the script and, where
- * the run ended by a trap, a line that says so. `options` are `relative` and `progress`. Throws a `Refusal` where the
- * run cannot be written as a script.
+ * Runs the module of `bytes` once with the host of `hostFile`, which gets `context`, and gives the script, the
+ * declarations of the host's own functions and, where the run ended by a trap, a line that says so. `options` are
+ * `relative`, `isDeclaring` and `progress`. Throws a `Refusal` where the run cannot be written as a script.
  */
 export async function captured(bytes, hostFile, context, options) {
   let module;
@@ -131,14 +138,15 @@ export async function captured(bytes, hostFile, context, options) {
   capture.interface.install();
   process.exit = code => { throw new HostExit(`process.exit(${code ?? ''})`); };
   const host = await hostOf(hostFile);
-  Object.assign(context, { module, instance: undefined });
+  const hostFunction = (name, type, func) => capture.hostFunctions.make(name, type, func);
+  Object.assign(context, { module, hostFunction, instance: undefined });
   const { imports, main } = await hostCalled(host, context);
   const exports = capture.instantiated(imports);
   if (exports !== null) {
     context.instance = Object.freeze({ exports });
     await capture.main(main ?? (() => {}), exports);
   }
-  return { script: capture.script, over: capture.crossings.over };
+  return { script: capture.script, declarations: capture.hostFunctions.text(), over: capture.crossings.over };
 }
 
 async function hostCalled(host, context) {

@@ -4,6 +4,7 @@
  */
 import { fixedAddress, relativeAddress } from './addresses.mjs';
 import { Refusal, refuse } from './refusal.mjs';
+import { Response } from './script_text.mjs';
 import { bits, converted, valueText } from './values.mjs';
 
 /** Whether an error says that the engine's stack is full. A run under a script has no such end. */
@@ -54,11 +55,26 @@ export class Crossings {
 
   /** What the engine calls for an imported function. */
   importedFunction(index, hostFunction) {
+    const [type, responses] = [this.types.functions[index], this.script.responses[index]];
+    const answering = this.answering({ type, responses, words: `import ${index}` }, hostFunction);
+    return (...args) => {
+      const starts = this.instantiating && this.types.startIsImported && !this.hostHasControl;
+      return starts ? this.start(hostFunction) : answering(...args);
+    };
+  }
+
+  /** What the engine calls for a function of the host's own that is in the table. */
+  functionInTable(name, type, hostFunction) {
+    const responses = this.script.foreignResponses(name);
+    return this.answering({ type, responses, words: `the host's function ${quoted(name)}` }, hostFunction);
+  }
+
+  /** `callee` has the type of a host's function, the list that its answers go to, and words for it. */
+  answering(callee, hostFunction) {
     return (...args) => {
       // The host calls a function of its own, by an export or a table. The module does not see it.
       if (this.hostHasControl) return hostFunction(...args);
-      if (this.instantiating && this.types.startIsImported) return this.start(hostFunction);
-      return this.answer(index, hostFunction, args);
+      return this.answer(callee, hostFunction, args);
     };
   }
 
@@ -68,15 +84,15 @@ export class Crossings {
     return hostFunction();
   }
 
-  answer(index, hostFunction, args) {
-    const { params } = this.types.functions[index];
+  answer(callee, hostFunction, args) {
     const outer = { actions: this.actions, address: this.address };
-    const response = this.script.response(index);
+    const response = new Response();
+    callee.responses.push(response);
     this.actions = response.actions;
-    if (this.options.relative) this.address = relativeAddress(params, args);
+    if (this.options.relative) this.address = relativeAddress(callee.type.params, args);
     try {
       this.enterHost();
-      return this.answered(index, response, hostFunction, args);
+      return this.answered(callee, response, hostFunction, args);
     } finally {
       this.hostHasControl = false;
       Object.assign(this, outer);
@@ -84,9 +100,8 @@ export class Crossings {
     }
   }
 
-  answered(index, response, hostFunction, args) {
-    const { result } = this.types.functions[index];
-    const where = `call ${this.script.responses[index].length} of import ${index}`;
+  answered({ type: { result }, responses, words }, response, hostFunction, args) {
+    const where = `call ${responses.length} of ${words}`;
     try {
       const returned = hostFunction(...args);
       const value = result === null ? undefined : converted(result, returned);

@@ -29,8 +29,8 @@ function writeAll(bytes) {
   }
 }
 
-/** Prints the script, and gives how many bytes it has. If the script refuses, it does so before its first piece. */
-function print(script) {
+/** Prints the pieces of the script, and gives how many bytes they have. */
+function print(pieces) {
   let [text, length] = ['', 0];
   const flush = () => {
     const bytes = Buffer.from(text);
@@ -38,7 +38,7 @@ function print(script) {
     length += bytes.length;
     text = '';
   };
-  for (const piece of script.pieces()) {
+  for (const piece of pieces) {
     text += piece;
     if (text.length > PIECE) flush();
   }
@@ -54,15 +54,25 @@ function moduleBytes(file) {
   }
 }
 
+function writeDeclarations(file, text) {
+  try {
+    fs.writeFileSync(file, text);
+  } catch (error) {
+    refuse(`the declarations: ${error.message}`);
+  }
+}
+
 async function capture(words) {
   const progress = new Progress(process.stderr);
   const wasi = fileURLToPath(new URL('../capture_wasi.mjs', import.meta.url));
   const context = { file: words.module, words: words.words, folders: words.folders, environment: words.environment };
   const hostFile = pathToFileURL(words.wasi ? wasi : path.resolve(words.host)).href;
-  const options = { relative: words.relative, progress };
+  const options = { relative: words.relative, isDeclaring: words.declarations !== null, progress };
   const run = captured(moduleBytes(words.module), hostFile, context, options);
-  const { script, over } = await run.finally(() => progress.clear());
-  const length = print(script);
+  const { script, declarations, over } = await run.finally(() => progress.clear());
+  const pieces = script.pieces();
+  if (options.isDeclaring) writeDeclarations(words.declarations, declarations);
+  const length = print(pieces);
   if (over !== null) report(`the run ended by a trap: ${over}`);
   if (length > MOST_BYTES) report(`the script has ${length} bytes, and r3 reads at most ${MOST_BYTES}`);
 }

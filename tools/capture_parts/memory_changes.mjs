@@ -4,34 +4,40 @@ import { refuse } from './refusal.mjs';
 export const PAGE = 65536;
 const MOST_PAGES = 4096;
 
-/** Parts of the memory that are compared by one call, the larger ones first. */
-const CHUNK = 262144;
-const PART = 4096;
+/** The sizes of the parts that are compared by one call: the smaller ones only within larger ones that differ. */
+const SIZES = [262144, 16384, 1024];
+
+/** Within what the module may have written to, most parts differ, and are copied. */
+const SIZES_WRITTEN = [16384];
+
+/** How far a store may go on behind the region that it is known by, in whole parts. */
+const MARGIN = 16384;
 
 /** A run of changed bytes goes on over this many bytes that did not change: to begin a new write takes more text. */
 const JOIN = 8;
 
 const differ = (one, other, from, to) => one.compare(other, from, to, from, to) !== 0;
 
-/** Where the parts begin whose bytes differ. The length is a number of whole pages. */
-function* differingParts(one, other) {
-  for (let chunk = 0; chunk < one.length; chunk += CHUNK) {
-    const end = Math.min(chunk + CHUNK, one.length);
-    if (!differ(one, other, chunk, end)) continue;
-    for (let part = chunk; part < end; part += PART) {
-      if (differ(one, other, part, part + PART)) yield part;
+/** The parts whose bytes differ, within ranges of whole parts: both as lists of `[begin, end]`. */
+function differingParts(one, other, ranges, [size, ...smaller]) {
+  const parts = [];
+  for (const [begin, end] of ranges) {
+    for (let at = begin; at < end; at += size) {
+      const partEnd = Math.min(at + size, end);
+      if (differ(one, other, at, partEnd)) parts.push([at, partEnd]);
     }
   }
+  return smaller.length === 0 || parts.length === 0 ? parts : differingParts(one, other, parts, smaller);
 }
 
-/** The runs of bytes that differ, as `[begin, end]` in order of address. */
-function differingRuns(one, other) {
+/** The runs of bytes that differ in these parts, as `[begin, end]` in order of address. */
+function differingRuns(one, other, parts) {
   const words = new Int32Array(one.buffer, one.byteOffset, one.length / 4);
   const otherWords = new Int32Array(other.buffer, other.byteOffset, other.length / 4);
   const runs = [];
   let last = null;
-  for (const part of differingParts(one, other)) {
-    for (let word = part / 4; word < (part + PART) / 4; word++) {
+  for (const [begin, end] of parts) {
+    for (let word = begin / 4; word < end / 4; word++) {
       if (words[word] === otherWords[word]) continue;
       for (let at = word * 4; at < word * 4 + 4; at++) {
         if (one[at] === other[at]) continue;
@@ -44,10 +50,12 @@ function differingRuns(one, other) {
 }
 
 export class MemoryChanges {
-  /** `memory` is imported or exported, so that the host reaches it. */
-  constructor(memory) {
-    this.memory = memory;
-    this.noted = Buffer.alloc(0);
+  /**
+   * `memory` is imported or exported, so that the host reaches it. `regions` says where the module writes to it, or is
+   * null where nothing does.
+   */
+  constructor(memory, regions) {
+    Object.assign(this, { memory, regions, noted: Buffer.alloc(0) });
   }
 
   now() {
@@ -68,17 +76,23 @@ export class MemoryChanges {
     return this.noted;
   }
 
-  /** Notes the memory as it is, when control comes to the host. */
+  /** Notes these parts of the memory as they are. */
+  note(now, parts) {
+    for (const [begin, end] of parts) this.noted.set(now.subarray(begin, end), begin);
+  }
+
+  /** Notes the memory as it is when control comes to the host: the module has written since it was noted last. */
   look() {
     const now = this.now();
-    const noted = this.extended(now.length);
-    for (const part of differingParts(now, noted)) noted.set(now.subarray(part, part + PART), part);
+    const ranges = this.regions?.take(now.length, MARGIN) ?? [[0, now.length]];
+    this.note(now, differingParts(now, this.extended(now.length), ranges, SIZES_WRITTEN));
   }
 
   /** The runs of bytes that are not zero. */
   filledRuns() {
     const now = this.now();
-    return differingRuns(now, Buffer.alloc(now.length));
+    const zeros = Buffer.alloc(now.length);
+    return differingRuns(now, zeros, differingParts(now, zeros, [[0, now.length]], SIZES));
   }
 
   /** A write of each of these runs, with the bytes that are there. `address` gives an address as a script has it. */
@@ -87,11 +101,14 @@ export class MemoryChanges {
     return runs.map(([begin, end]) => `{"write":${address(begin)},"bytes":"${now.toString('hex', begin, end)}"}`);
   }
 
-  /** The actions that make the noted memory the one that is there. */
+  /** The actions that make the noted memory the one that is there, which is noted then. */
   actions(address) {
     const now = this.now();
     const grown = (now.length - this.noted.length) / PAGE;
-    const writes = this.writes(differingRuns(now, this.extended(now.length)), address);
+    const noted = this.extended(now.length);
+    const parts = differingParts(now, noted, [[0, now.length]], SIZES);
+    const writes = this.writes(differingRuns(now, noted, parts), address);
+    this.note(now, parts);
     return grown > 0 ? [`{"grow":${grown}}`, ...writes] : writes;
   }
 }

@@ -4,16 +4,21 @@
  */
 import { refuse } from './refusal.mjs';
 
-const VALUE_TYPES = new Map([[0x7f, 'i32'], [0x7e, 'i64'], [0x7d, 'f32'], [0x7c, 'f64']]);
+/** The bytes of the value types. */
+export const TYPE_BYTES = { i32: 0x7f, i64: 0x7e, f32: 0x7d, f64: 0x7c };
+
+const VALUE_TYPES = new Map(Object.entries(TYPE_BYTES).map(([type, byte]) => [byte, type]));
 const KINDS = ['function', 'table', 'memory', 'global'];
-const SECTION = { type: 1, import: 2, function: 3, table: 4, memory: 5, global: 6, export: 7, start: 8 };
+export const SECTION = {
+  type: 1, import: 2, function: 3, table: 4, memory: 5, global: 6, export: 7, start: 8, code: 10, dataCount: 12,
+};
 const FUNCTION_TYPE = 0x60;
 const FUNCTION_REFERENCE = 0x70;
 
 const hex = byte => `0x${byte.toString(16).padStart(2, '0')}`;
 
 /** Reads the parts of the binary format from a place on. */
-class Reader {
+export class Reader {
   constructor(bytes) {
     this.bytes = bytes;
     this.at = 8;
@@ -138,8 +143,9 @@ function sections(bytes) {
 
 /**
  * What a module has: `imports` and `exports` in order; `functions`, `globals` and their types by index, imported ones
- * first; `importedFunctions`, how many of the functions are imported; `start`, the start function's number or null, of
- * which `startIsImported` and `startIsDefined` say more.
+ * first; `importedFunctions`, how many of the functions are imported; `hostReachesMemory`, whether the memory is
+ * imported or exported; `start`, the start function's number or null, of which `startIsImported` and `startIsDefined`
+ * say more.
  */
 export function moduleTypes(bytes) {
   const found = sections(bytes);
@@ -155,6 +161,7 @@ export function moduleTypes(bytes) {
     functions: [...imported('function').map(item => item.type), ...found.functions].map(type => found.types[type]),
     importedFunctions,
     globals: [...imported('global'), ...found.globals].map(({ type, mutable }) => ({ type, mutable })),
+    hostReachesMemory: [...found.imports, ...found.exports].some(item => item.kind === 'memory'),
     start: found.start,
     startIsImported: found.start !== null && found.start < importedFunctions,
     startIsDefined: found.start !== null && found.start >= importedFunctions,

@@ -1,8 +1,14 @@
 /** The script of a run while it is captured, and its text. Actions and responses are kept as text. */
 import { refuse } from './refusal.mjs';
 
-/** The answer to one call of an import. It is a trap of the host until it is given: a run may end within the call. */
-class Response {
+/** The module name by which a script answers functions of the host's own that are no imports. */
+export const FOREIGN = 'foreign';
+
+/**
+ * The answer to one call of a function of the host. It is a trap of the host until it is given: a run may end within
+ * the call.
+ */
+export class Response {
   constructor() {
     this.actions = [];
     this.end = '"trap":true';
@@ -24,21 +30,22 @@ export class Script {
     this.imports = types.imports.filter(item => item.kind === 'function');
     this.types = types;
     this.responses = this.imports.map(() => []);
+    /** The answers of functions that are no imports, by their names. */
+    this.foreign = new Map();
     this.supplied = new Map();
     this.globals = new Map();
     this.main = [];
   }
 
-  /** Begins the answer to the next call of an imported function. */
-  response(index) {
-    const response = new Response();
-    this.responses[index].push(response);
-    return response;
+  /** The answers of a function of the host's own, of which there are none yet. */
+  foreignResponses(name) {
+    this.foreign.set(name, []);
+    return this.foreign.get(name);
   }
 
-  /** How many calls of imports are answered so far. */
+  /** How many calls of the host's functions are answered so far. */
   calls() {
-    return this.responses.reduce((sum, responses) => sum + responses.length, 0);
+    return [...this.responses, ...this.foreign.values()].reduce((sum, responses) => sum + responses.length, 0);
   }
 
   /** Supplies `memory` or `table`. */
@@ -54,7 +61,7 @@ export class Script {
     return names.get(name);
   }
 
-  /** The imported functions that are called, by module name and name: those of equal names share their answers. */
+  /** The host's functions that are called, by module name and name: imports of equal names share their answers. */
   called() {
     const modules = new Map();
     this.imports.forEach(({ module, name }, index) => {
@@ -63,6 +70,9 @@ export class Script {
       const names = modules.get(module);
       if (!names.has(name)) names.set(name, this.shared(module, name));
     });
+    const foreign = [...this.foreign].filter(([, responses]) => responses.length > 0);
+    const texts = foreign.map(([name, responses]) => [name, responses.map(response => response.text())]);
+    if (texts.length > 0) modules.set(FOREIGN, new Map(texts));
     return modules;
   }
 
@@ -84,11 +94,14 @@ export class Script {
     return texts;
   }
 
-  /** The text of the script, in pieces: one action or answer a line. */
-  *pieces() {
+  /** The text of the script, in pieces: one action or answer a line. Refuses, if it does, before the first piece. */
+  pieces() {
+    return this.piecesWith(this.called());
+  }
+
+  *piecesWith(called) {
     const parts = [...this.supplied].map(([key, text]) => [`"${key}":${text}`]);
     if (this.globals.size > 0) parts.push(objectPieces('globals', this.globals, text => [text]));
-    const called = this.called();
     if (called.size > 0) parts.push(objectPieces('imports', called, texts => ['{"calls":', ...listPieces(texts), '}']));
     parts.push(['"main":', ...listPieces(this.main)]);
     yield '{';

@@ -19,8 +19,8 @@ function maximumText(item, object, interface_) {
 
 /** Takes what the host gives, and is asked for what the engine is to get for each import. */
 export class Supply {
-  constructor(types, script, changes, crossings, functions, interface_) {
-    Object.assign(this, { types, script, changes, crossings, functions, interface_ });
+  constructor(types, script, changes, crossings, functions, hostFunctions, interface_) {
+    Object.assign(this, { types, script, changes, crossings, functions, hostFunctions, interface_ });
     this.filled = [];
     this.functionCount = 0;
     this.globalCount = 0;
@@ -59,7 +59,7 @@ export class Supply {
     if (!(memory instanceof WebAssembly.Memory)) refuse(`${where(item)}: the host gives no memory for it`);
     const pages = memory.buffer.byteLength / PAGE;
     this.script.supply('memory', `{"pages":${pages}${maximumText(item, memory, this.interface_)}}`);
-    this.changes.memory = new MemoryChanges(memory);
+    this.changes.memory = new MemoryChanges(memory, null);
     this.filled = this.changes.memory.filledRuns();
     if (this.filled.length > 0 && this.types.startIsDefined) {
       refuse(`${where(item)}: not zero at ${this.filled[0][0]}, before the start function runs`);
@@ -70,8 +70,14 @@ export class Supply {
   table(item, table) {
     if (!(table instanceof WebAssembly.Table)) refuse(`${where(item)}: the host gives no table for it`);
     this.script.supply('table', `{"size":${table.length}${maximumText(item, table, this.interface_)}}`);
-    const before = new Set(Array.from({ length: table.length }, (_, index) => engine.entry(table, index)));
-    this.changes.table = new TableChanges(table, this.functions, this.interface_, before);
+    const entries = Array.from({ length: table.length }, (_, index) => engine.entry(table, index));
+    const own = entries.findIndex(func => func !== null && this.hostFunctions.has(func));
+    if (own !== -1 && this.types.startIsDefined) {
+      refuse(`${where(item)}: entry ${own} is a function of the host's own before the start function runs`);
+    }
+    this.changes.table = new TableChanges(
+      table, this.functions, this.hostFunctions, this.interface_, new Set(entries),
+    );
     return table;
   }
 

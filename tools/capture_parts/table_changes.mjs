@@ -6,11 +6,13 @@ const MOST_ENTRIES = 1000000;
 
 export class TableChanges {
   /**
-   * `table` is imported or exported. `functions` knows the module's functions. `before` has the functions that an
-   * imported table had before the module was instantiated.
+   * `table` is imported or exported. `functions` knows the module's functions, and `hostFunctions` those of the host's
+   * own. `before` has the functions that an imported table had before the module was instantiated.
    */
-  constructor(table, functions, interface_, before) {
-    Object.assign(this, { table, functions, interface_, before, noted: null, places: new Map() });
+  constructor(table, functions, hostFunctions, interface_, before) {
+    Object.assign(this, { table, functions, hostFunctions, interface_, before, noted: null, places: new Map() });
+    /** The actions that put functions of the host's own where instantiation has left them. */
+    this.filled = [];
   }
 
   entries() {
@@ -22,14 +24,18 @@ export class TableChanges {
     this.noted = this.entries();
     this.noted.forEach((func, index) => {
       if (func === null) return;
-      if (this.before.has(func)) this.refuseForeign(index);
-      this.functions.know(func, Number(func.name));
+      if (this.before.has(func)) {
+        this.filled.push(this.setting(index, func));
+      } else {
+        this.functions.know(func, Number(func.name));
+      }
     });
     this.interface_.takeTouched(this.table);
   }
 
   refuseForeign(index) {
-    refuse(`entry ${index} of the table: a function of the host's own`);
+    const cure = '--decls FILE captures those that context.hostFunction makes';
+    refuse(`entry ${index} of the table: a function of the host's own; ${cure}`);
   }
 
   /** The place of a function in the table, or -1. */
@@ -58,12 +64,16 @@ export class TableChanges {
   }
 
   setting(index, func) {
-    if (func === null) return `{"set_table":${index},"func":null}`;
-    if (!this.functions.has(func)) this.refuseForeign(index);
-    const name = this.functions.exportName(func);
-    if (name === null) {
-      refuse(`entry ${index} of the table: function ${this.functions.index(func)}, which the module does not export`);
-    }
+    const name = func === null ? null : this.name(index, func);
     return `{"set_table":${index},"func":${JSON.stringify(name)}}`;
+  }
+
+  /** The name of the function of an entry, as a script gives it. */
+  name(index, func) {
+    if (this.hostFunctions.has(func)) return this.hostFunctions.name(func);
+    if (!this.functions.has(func)) this.refuseForeign(index);
+    const number = this.functions.index(func);
+    const otherwise = () => refuse(`entry ${index} of the table: function ${number}, which the module does not export`);
+    return this.functions.exportName(func) ?? otherwise();
   }
 }

@@ -1,16 +1,18 @@
 /** The words of the command `capture`. */
-export const usage = `usage: tools/capture [--relative] MODULE HOST [WORDS..] > script.json
+export const usage = `usage: tools/capture [--relative] [--decls FILE] MODULE HOST [WORDS..] > script.json
        tools/capture [--relative] --wasi [--dir FOLDER[::NAME]] [--env NAME=VALUE] MODULE [WORDS..] > script.json
 
 Runs the module once with a real host, and prints the script that does what the host did.
 
 HOST        a file of JavaScript that exports host(context), which gives { imports, main(exports) };
-            context has the module, its file, the words, and the instance once it is there
+            context has the module, its file, the words, the instance once it is there, and hostFunction
 --wasi      the host is that of WASI, preview 1: the words, this process's standard input, the current folder;
             what the program prints goes to standard error
 --dir       one more folder that the program may open, by NAME or by its own path
 --env       a variable of the program's environment
 --relative  gives addresses from arguments of the import call where one is near, and not as numbers alone
+--decls     captures functions of the host's own in the table, made by context.hostFunction(name, type, function);
+            writes their declarations to FILE, as r3 foreign takes them
 `;
 
 /** Thrown where the words are none of the command's. */
@@ -26,7 +28,8 @@ function pair(word, separator) {
 }
 
 export function readWords(given) {
-  const words = { relative: false, wasi: false, help: false, folders: [['.', '.']], environment: {} };
+  const words = { relative: false, wasi: false, help: false, declarations: null };
+  Object.assign(words, { folders: [['.', '.']], environment: {} });
   const left = [...given];
   while (left[0]?.startsWith('--')) {
     const word = left.shift();
@@ -35,6 +38,8 @@ export function readWords(given) {
     } else if (word === '--dir') {
       const [folder, name] = pair(left.shift(), '::');
       words.folders.push([name ?? folder, folder]);
+    } else if (word === '--decls') {
+      words.declarations = left.shift() ?? '';
     } else if (word === '--env') {
       const [name, value] = pair(left.shift(), '=');
       words.environment[name] = value ?? '';

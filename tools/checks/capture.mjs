@@ -7,11 +7,13 @@
 import fs from 'node:fs';
 import path from 'node:path';
 import { cases } from './capture_cases.mjs';
+import { hostFunctionCases } from './capture_host_functions.mjs';
+import { markCases } from './capture_marks.mjs';
 import { refusals } from './capture_refusals.mjs';
 import { Random } from './random.mjs';
 import { randomModule } from './random_modules.mjs';
 import { randomScript } from './random_scripts.mjs';
-import { Runner, Tally, difference, root, scriptHost } from './running.mjs';
+import { Runner, Tally, crossings, difference, root, scriptHost } from './running.mjs';
 import { NO_EXPORTS } from './script_host.mjs';
 import { wasiCases } from './capture_wasi_cases.mjs';
 
@@ -27,10 +29,11 @@ function moduleOf(example) {
   throw new Error(`${example} has no module`);
 }
 
-/** For each example with a history: the host that does what its script says is captured, with the same history. */
+/** For each example with a history, without declarations: the captured host that plays its script has this history. */
 function examples(runner) {
   const folder = path.join(root, 'examples');
-  const names = fs.readdirSync(folder).filter(file => file.endsWith(ENDING)).map(file => file.slice(0, -ENDING.length));
+  const all = fs.readdirSync(folder).filter(file => file.endsWith(ENDING)).map(file => file.slice(0, -ENDING.length));
+  const names = all.filter(name => !fs.existsSync(path.join(folder, `${name}.decls.json`)));
   return names.map(name => [name, () => {
     const module = moduleOf(name);
     const captured = runner.capture([module, scriptHost, path.join(folder, `${name}.json`)]);
@@ -45,8 +48,6 @@ function withoutNans(line) {
     .replace(/f32:[7f]f(?!800000)[89a-f]\w{5}/g, 'f32:nan')
     .replace(/f64:[7f]ff(?!0{13})\w{13}/g, 'f64:nan');
 }
-
-const crossings = history => history.split('\n').filter(line => /^(host|import)-(call|return)/.test(line));
 
 /**
  * A random module and host, or null where the host cannot do what the script says, or a host in JavaScript cannot: call
@@ -101,6 +102,8 @@ function main([program]) {
   tally.group('random modules with random hosts', randomModules(runner));
   tally.group('what no script can say is refused', refused(runner));
   tally.group('what a host does', cases(runner));
+  tally.group("functions of the host's own in the table", hostFunctionCases(runner));
+  tally.group('what a module writes', markCases());
   tally.group('programs for WASI', wasiCases(runner));
   runner.remove();
   console.log(`${tally.passed} passed, ${tally.failed} failed`);

@@ -44,6 +44,7 @@ const OTHER = `new WebAssembly.Instance(new WebAssembly.Module(Uint8Array.from($
 const host = (imports, main = '', before = '') =>
   `${before}\nexport function host(context) { return { imports: ${imports}, main(exports) { ${main} } }; }\n`;
 const F = '{ h: { f() {} } }';
+const CURE = '--decls FILE captures those that context.hostFunction makes';
 
 /** A module by hand: section 1 with a function type that has two results. */
 const twoResults = Buffer.from([0, 0x61, 0x73, 0x6d, 1, 0, 0, 0, 1, 6, 1, 0x60, 0, 2, 0x7f, 0x7f]);
@@ -90,10 +91,10 @@ export const refusals = [
   ['the same mutable global twice', twoGlobals, host('{ h: { a: one, b: one } }', '', `const one = ${global};`),
     'import 1 (h.b): the same mutable global as import 0'],
   ['a function of the host in the table', withTable(), host(F, `exports.table.set(1, ${OTHER}.f); exports.g();`),
-    "entry 1 of the table: a function of the host's own"],
+    `entry 1 of the table: a function of the host's own; ${CURE}`],
   ['one in a supplied table', shared({ kind: 'table', min: 1 }), host('{ h: { m: table } }', '',
     `const table = new WebAssembly.Table({ element: 'anyfunc', initial: 1 }); table.set(0, ${OTHER}.f);`),
-  "entry 0 of the table: a function of the host's own"],
+  `entry 0 of the table: a function of the host's own; ${CURE}`],
   ['a function that is not exported', withTable(), host(F, 'exports.table.set(1, exports.table.get(0)); exports.g();'),
     'entry 1 of the table: function 2, which the module does not export'],
   ['a function that is nowhere', withTable(),

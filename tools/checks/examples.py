@@ -20,6 +20,18 @@ def names(ending):
     return sorted(name[: -len(ending)] for name in os.listdir(EXAMPLES) if name.endswith(ending))
 
 
+def files_of(script, module):
+    """The files of a run: the module, its declarations of host functions if it has some, and the script."""
+    declared = os.path.join(EXAMPLES, module + ".decls.json")
+    between = [declared] if os.path.isfile(declared) else []
+    return [os.path.join(EXAMPLES, module + ".wasm"), *between, os.path.join(EXAMPLES, script + ".json")]
+
+
+def commands_of(files):
+    """The commands that make the replay module and print the history of the run of these files."""
+    return ("make", "history") if len(files) == 2 else ("foreign", "foreign-history")
+
+
 def runs():
     """Each script's name, with the name of its module: the longest one with which it begins."""
     modules = names(".wasm")
@@ -75,13 +87,16 @@ def in_parts(group, script, files):
 
 def check_run(group, script, module):
     """Checks a run that has an outcome, and returns what the commands print, by name."""
-    files = [os.path.join(EXAMPLES, module + ".wasm"), os.path.join(EXAMPLES, script + ".json")]
+    files = files_of(script, module)
+    makes, shows = commands_of(files)
     history = contents(os.path.join(EXAMPLES, script + ".history.txt"))
-    group.expect(group.done("history", *files, TURNS) == history, f"{script}: `history` prints {script}.history.txt")
-    replay = group.done("make", *files, TURNS)
-    group.expect(group.done("make", *files, TURNS) == replay, f"{script}: `make` prints the same again")
+    group.expect(group.done(shows, *files, TURNS) == history, f"{script}: `{shows}` prints {script}.history.txt")
+    replay = group.done(makes, *files, TURNS)
+    group.expect(group.done(makes, *files, TURNS) == replay, f"{script}: `{makes}` prints the same again")
     path = group.put(script + ".replay.wasm", replay)
-    group.expect(group.done("replay", path, TURNS) == history, f"{script}: `replay` prints the lines of `history`")
+    group.expect(group.done("replay", path, TURNS) == history, f"{script}: `replay` prints the lines of `{shows}`")
+    if makes == "foreign":
+        return {script + ".replay.wasm": replay}
     printed, built = in_parts(group, script, files)
     group.expect(built == replay, f"{script}: `build` prints what `make` prints")
     last = printed[script + ".log.txt"].split(b"\n")[-2:]
@@ -91,14 +106,24 @@ def check_run(group, script, module):
 
 def check_refused(group):
     for script, (status, line) in REFUSED.items():
-        module = dict(runs())[script]
-        files = [os.path.join(EXAMPLES, module + ".wasm"), os.path.join(EXAMPLES, script + ".json")]
-        for command in ("make", "history"):
+        files = files_of(script, dict(runs())[script])
+        for command in commands_of(files):
             group.refused([command, *files, TURNS], status, line)
     files = [os.path.join(EXAMPLES, name) for name in ("float_body.wasm", "empty.json")]
     line = "unsupported: function 2 instruction 3 float arithmetic"
     for words in (["make", *files, TURNS], ["history", *files, TURNS], ["instrument", files[0]]):
         group.refused(words, 7, line)
+
+
+def check_no_declarations(group):
+    """With an empty list of declarations the histories are those without one."""
+    none = group.put("none.decls.json", b"[]")
+    for script, module in runs():
+        files = files_of(script, module)
+        if len(files) == 2:
+            answer = group.call("foreign-history", files[0], none, files[1], TURNS)
+            is_same = answer == group.call("history", *files, TURNS)
+            group.expect(is_same, f"{script}: `foreign-history` with [] prints what `history` prints", answer)
 
 
 def printed_by(group):
@@ -123,8 +148,10 @@ def checks(group):
     lines = contents(os.path.join(EXAMPLES, "two_answers.history.txt"))
     group.expect(group.done("replay", by_hand, TURNS) == lines, "replay_two_answers.wasm shows two_answers.history.txt")
     check_refused(group)
+    check_no_declarations(group)
     for name, turns in turns_in_readme():
-        files = [os.path.join(EXAMPLES, name + ending) for ending in (".wasm", ".json")]
-        group.done("make", *files, str(turns))
-        group.refused(["make", *files, str(turns - 1)], 12, f"turns spent: {turns - 1}")
-        group.refused(["history", *files, str(turns - 1)], 12, f"turns spent: {turns - 1}")
+        files = files_of(name, name)
+        makes, shows = commands_of(files)
+        group.done(makes, *files, str(turns))
+        group.refused([makes, *files, str(turns - 1)], 12, f"turns spent: {turns - 1}")
+        group.refused([shows, *files, str(turns - 1)], 12, f"turns spent: {turns - 1}")

@@ -1,4 +1,4 @@
-"""Larger inputs: a load, a large module, a deep recursion. Each call has the time limit of all calls."""
+"""Larger inputs: a load, a large module, a deep recursion, many declarations. Each call has the usual time limit."""
 import json
 
 import modules
@@ -8,6 +8,8 @@ NULLARY = ([], [])
 ADDITIONS = 100000
 DEPTH = 20000
 LOAD = 1000
+DECLARATIONS = 60000
+NINE = {"return": {"i32": 9}}
 
 
 def load_lines(number):
@@ -65,9 +67,59 @@ def check_large_answer(group):
     group.expect(f"host-return 1 i32:{sum(data):08x}" in history, "the bytes that the host writes are added up")
 
 
+def declared(name, params=(), results=()):
+    return {"name": name, "params": list(params), "results": list(results)}
+
+
+def check_many_declarations(group):
+    """60,000 declarations, of which the last is called through the table by its number."""
+    declarations = [declared(f"f{place}", results=["i32"]) for place in range(DECLARATIONS)]
+    last = f"f{DECLARATIONS - 1}"
+    script = {
+        "imports": {"h": {"f": {"rest": {"do": [{"set_table": 0, "func": last}]}}}, "foreign": {last: {"rest": NINE}}},
+        "main": [{"call": "g"}],
+    }
+    files = [
+        group.put("table.wasm", example("table_entry.wasm")),
+        group.put("many.decls.json", json.dumps(declarations).encode()),
+        group.put("many.json", json.dumps(script).encode()),
+    ]
+    history = group.done("foreign-history", *files, "5")
+    replay = group.put("many.replay.wasm", group.done("foreign", *files, "5"))
+    group.expect(group.done("replay", replay, "20000000") == history, "many declarations: `replay` prints the history")
+    call = f"step {DECLARATIONS + 1} 2 i32:00000000 -> found {DECLARATIONS}\nimport-call {DECLARATIONS}\n"
+    group.expect(call in history.decode(), "the last of many declared functions is called by its number")
+    again = group.put("again.decls.json", json.dumps([*declarations, declared(last)]).encode())
+    group.refused(["foreign", files[0], again, files[2], "5"], 20, f"declarations: taken {last}")
+
+
+def check_large_declarations(group):
+    """Declarations that are large, deep or damaged in one place, with their one line."""
+    module = group.put("table.wasm", example("table_entry.wasm"))
+    script = group.put("none.json", b"{}")
+    name = "n" * 1000000
+    types = ",".join(['"i32"'] * 1000000)
+    cases = [
+        ([declared(name), declared(name)], "declarations: taken " + name),
+        ("[" * 1000 + "]" * 1000, "declarations: not json"),
+        ("[" * 100 + "]" * 100, "declarations: shape /0"),
+        ('[{"name":"a","params":[%s],"results":[]}]' % types, "declarations: shape /0/params"),
+        ('[{"name":"a","params":[%s,],"results":[]}]' % types, "declarations: not json"),
+        (json.dumps([declared(f"f{place}") for place in range(DECLARATIONS)])[:-1], "declarations: not json"),
+        ([*(declared(f"f{place}") for place in range(DECLARATIONS)), 0], f"declarations: shape /{DECLARATIONS}"),
+    ]
+    for number, (declarations, line) in enumerate(cases):
+        text = declarations if isinstance(declarations, str) else json.dumps(declarations)
+        path = group.put(f"large{number}.decls.json", text.encode())
+        for command in ("foreign", "foreign-history"):
+            group.refused([command, module, path, script, "5"], 20, line)
+
+
 def checks(group):
     answer = group.done("load", str(LOAD))
     group.expect(answer.decode() == load_lines(LOAD), f"`load {LOAD}` prints its four sizes")
     check_large_module(group)
     check_recursion(group)
     check_large_answer(group)
+    check_many_declarations(group)
+    check_large_declarations(group)

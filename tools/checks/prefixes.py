@@ -1,14 +1,15 @@
 """Every proper prefix of a small module, script, log, tape and replay module: no prefix is taken for a whole file.
 
 A prefix of a module is a module itself if it ends with a section, and has either no function section or the code
-section too. A prefix of a script is no JSON text, since the text is one object and ends with its brace. A prefix of a
-log or of a tape is never whole, since both end with the one byte that closes them.
+section too. A prefix of a script or of declarations is no JSON text, since the text is one object or list and ends
+with its bracket. A prefix of a log or of a tape is never whole, since both end with the one byte that closes them.
 """
 import re
 
 from modules import example, section_ends
 
 TURNS = "1000"
+DECLARATIONS = b'[{"name":"own","params":["i32"],"results":[]}]'
 
 
 def well_formed(binary):
@@ -80,11 +81,20 @@ def cut_script(group, module, script):
             group.refused([command, path, "script.json", TURNS], 9, "script: not json", what=what)
 
 
+def cut_declarations(group, files):
+    for length in each_prefix(group, "decls.json", DECLARATIONS):
+        for command in ("foreign", "foreign-history"):
+            what = f"`{command}` with the first {length} bytes of declarations"
+            words = [command, files[0], "decls.json", files[1], TURNS]
+            group.refused(words, 20, "declarations: not json", what=what)
+
+
 def checks(group):
     module, script = example("two_answers.wasm"), example("two_answers.json").rstrip()
     files = [group.put("m.wasm", module), group.put("s.json", script)]
     cut_module(group, module, script)
     cut_script(group, module, script)
+    cut_declarations(group, files)
     hooked = group.put("hooked.wasm", group.done("instrument", files[0]))
     log = group.done("record", hooked, files[1], TURNS)
     tape = group.done("reduce", group.put("whole.log", log))

@@ -76,6 +76,9 @@ export class Tally {
   }
 }
 
+/** The lines of a history that a host sees. */
+export const crossings = history => history.split('\n').filter(line => /^(host|import)-(call|return)/.test(line));
+
 /** Null where two texts are equal, else where they first differ. */
 export function difference(found, expected) {
   if (found === expected) return null;

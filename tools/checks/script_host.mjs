@@ -1,7 +1,8 @@
 /**
- * A host for `capture` that does what a script says. Its words are the script's file, and a file to which the calls and
- * returns between host and module are written as a history prints them. The tests capture this host, and compare what
- * r3 says of the captured script with what it says of the one that was played, and with those lines.
+ * A host for `capture` that does what a script says. Its words are the script's file, a file to which the calls and
+ * returns between host and module are written as a history prints them, and one with declarations of functions of the
+ * host's own. The tests capture this host, and compare what r3 says of the captured script with what it says of the one
+ * that was played, and with those lines.
  */
 import fs from 'node:fs';
 import { moduleTypes } from '../capture_parts/module_types.mjs';
@@ -24,7 +25,9 @@ class Given {
   }
 
   function({ module, name }) {
-    return this.player.answering(this.functionCount++, this.player.script.imports?.[module]?.[name] ?? {});
+    const index = this.functionCount++;
+    const type = this.player.types.functions[index];
+    return this.player.answering(index, type, this.player.script.imports?.[module]?.[name] ?? {});
   }
 
   memory() {
@@ -56,6 +59,21 @@ class Player {
     this.globals = new Map();
     this.linesFile = context.words[1];
     if (this.linesFile !== undefined) fs.writeFileSync(this.linesFile, '');
+    const declarations = context.words[2] === undefined ? [] : JSON.parse(fs.readFileSync(context.words[2], 'utf8'));
+    this.declared = new Map(declarations.map((item, place) => [item.name, this.made(item, place)]));
+  }
+
+  /** A function of the host's own, which is numbered behind the imports. */
+  made({ name, params, results }, place) {
+    const type = { params, result: results[0] ?? null };
+    const response = this.script.imports?.foreign?.[name] ?? {};
+    const answering = this.answering(this.types.importedFunctions + place, type, response);
+    return this.context.hostFunction(name, { params, results }, answering);
+  }
+
+  /** The number of a function of the module among all functions: the host's own are behind the imports. */
+  numbered(index) {
+    return index < this.types.importedFunctions ? index : index + this.declared.size;
   }
 
   /** The imports. Those of equal names are read one after another, and each counts its own calls. */
@@ -79,8 +97,7 @@ class Player {
     fs.appendFileSync(this.linesFile, `${line}\n`);
   }
 
-  answering(index, { calls = [], rest }) {
-    const { params, result } = this.types.functions[index];
+  answering(index, { params, result }, { calls = [], rest }) {
     let call = 0;
     return (...args) => {
       const response = calls[call++] ?? rest;
@@ -118,9 +135,13 @@ class Player {
 
   call(index, func, args) {
     const { params, result } = this.types.functions[index];
-    this.line('host-call', index, params, args);
+    this.line('host-call', this.numbered(index), params, args);
     const returned = func(...args);
-    this.line('host-return', index, result === null ? [] : [result], [returned]);
+    this.line('host-return', this.numbered(index), result === null ? [] : [result], [returned]);
+  }
+
+  functionOf(name) {
+    return this.declared.get(name) ?? this.exports()[name];
   }
 
   functionIndex(name) {
@@ -135,7 +156,7 @@ class Player {
 
   /** What the host does by itself, behind the start function. */
   main() {
-    if (this.types.startIsDefined) this.line('host-return', this.types.start, [], []);
+    if (this.types.startIsDefined) this.line('host-return', this.numbered(this.types.start), [], []);
     this.do(this.script.main ?? [], []);
   }
 }
@@ -154,7 +175,7 @@ const ACTIONS = Object.entries({
   grow: (player, { grow }) => (player.memory ?? player.exported(WebAssembly.Memory)).grow(grow),
   grow_table: (player, action) => player.hostTable().grow(action.grow_table),
   set_table: (player, action) => {
-    player.hostTable().set(action.set_table, action.func === null ? null : player.exports()[action.func]);
+    player.hostTable().set(action.set_table, action.func === null ? null : player.functionOf(action.func));
   },
   set_global: (player, { set_global: target, value }) => {
     const imported = typeof target === 'object';
@@ -172,6 +193,6 @@ const ACTIONS = Object.entries({
 export function host(context) {
   const player = new Player(scriptOf(context.words[0]), context);
   const imports = player.imports();
-  if (player.types.startIsDefined) player.line('host-call', player.types.start, [], []);
+  if (player.types.startIsDefined) player.line('host-call', player.numbered(player.types.start), [], []);
   return { imports, main: () => player.main() };
 }

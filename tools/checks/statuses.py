@@ -1,5 +1,6 @@
 """Each status and line of README's table, by a call that ends with it; and the words of a call, with its numbers."""
 import hashlib
+import json
 import resource
 
 from modules import FUNC, I32, LOG, TABLE, TAPE, example, limits, module, trace, u32
@@ -14,6 +15,8 @@ TABLES = module(
     exports=[("run", FUNC, 1), ("t", TABLE, 0), ("own", FUNC, 0)], elements=[[1, 0]], bodies=[b"\x10\0", b"\x41\1"],
 )
 FLOAT = b"\x43\0\0\0\0"
+FOREIGN = module([NULLARY], [("h", "f", b"\0\0"), ("foreign", "t", b"\1\x70" + limits(1))])
+CALLS_OWN = "script fault: turn 2 calls own"
 LAYOUT = "r3.layout"
 GO = b'{"main":[{"call":"g"}]}'
 
@@ -21,6 +24,11 @@ GO = b'{"main":[{"call":"g"}]}'
 def of_body(body):
     """A module of one function without a result."""
     return module([NULLARY], funcs=[0], bodies=[body])
+
+
+def declarations(*names):
+    """Declarations of functions without parameters and results."""
+    return json.dumps([{"name": it, "params": [], "results": []} for it in names]).encode()
 
 
 # Modules that are refused, and the status and the line.
@@ -61,6 +69,23 @@ SCRIPTS = [
     (TWO_ANSWERS, ANSWERS, 12, "turns spent: 3"),
 ]
 
+# Declarations that do not fit a module, with a script, and the status and the line.
+DECLARATIONS = [
+    (TABLES, b"[", b"{}", 20, "declarations: not json"),
+    (TABLES, b"{}", b"{}", 20, "declarations: shape "),
+    (TABLES, b'[{"name":"a","params":["i32","i33"],"results":[]}]', b"{}", 20, "declarations: shape /0/params/1"),
+    (TABLES, b'[{"name":"a","params":[],"results":["i32","i32"]}]', b"{}", 20, "declarations: shape /0/results"),
+    (FOREIGN, b"[]", b"{}", 20, "declarations: reserved 1"),
+    (TABLES, declarations("a", "own"), b"{}", 20, "declarations: taken own"),
+    (TABLES, declarations("\\\u00e9", "b", "b", "\\\u00e9"), b"{}", 20, "declarations: taken b"),
+    (TABLES, declarations("\\\u00e9", "\\\u00e9"), b"{", 20, "declarations: taken \\5c\\c3\\a9"),
+    (of_body(b"\x41\1"), b"[", b"{", 6, "invalid: function 0"),
+    (TABLES, declarations("a"), b"{", 9, "script: not json"),
+    (TABLES, declarations("a"), b'{"main":[{"call":"a"}]}', 9, "script: calls own a"),
+    (TABLES, declarations("a"), b'{"imports":{"foreign":{"b":{}}}}', 9, "script: unknown b"),
+    (TABLES, declarations("a"), b'{"main":[{"set_table":2,"func":"a"},{"call_table":2}]}', 11, CALLS_OWN),
+]
+
 # Modules that `replay` refuses.
 REPLAYS = [
     (TWO_ANSWERS, 17, "replay: layout"),
@@ -83,6 +108,8 @@ def check_modules(group):
         path = group.put(f"module{number}.wasm", binary)
         for words in (["instrument", path], ["make", path, played, "9"], ["history", path, played, "9"]):
             group.refused(words, status, line)
+        for command in ("foreign", "foreign-history"):
+            group.refused([command, path, played, played, "9"], status, line)
         group.refused(["replay", path, "9"], status, line)
 
 
@@ -90,6 +117,15 @@ def check_scripts(group):
     for number, (binary, script, status, line) in enumerate(SCRIPTS):
         files = [group.put(f"script{number}.wasm", binary), group.put(f"script{number}.json", script)]
         for command in ("make", "history"):
+            group.refused([command, *files, "3"], status, line)
+
+
+def check_declarations(group):
+    """Declarations that are refused, and what comes before and after them."""
+    for number, (binary, declared, script, status, line) in enumerate(DECLARATIONS):
+        endings = {"wasm": binary, "decls.json": declared, "json": script}
+        files = [group.put(f"declared{number}.{ending}", data) for ending, data in endings.items()]
+        for command in ("foreign", "foreign-history"):
             group.refused([command, *files, "3"], status, line)
 
 
@@ -167,6 +203,7 @@ def check_memory(group):
 def checks(group):
     check_modules(group)
     check_scripts(group)
+    check_declarations(group)
     check_record(group)
     check_traces(group)
     check_build(group)
@@ -180,6 +217,8 @@ def checks(group):
 COMMANDS = {
     "make": (2, 1000000000),
     "history": (2, 2000000),
+    "foreign": (3, 1000000000),
+    "foreign-history": (3, 2000000),
     "record": (2, 20000000),
     "replay": (1, 20000000),
     "load": (0, 60000),

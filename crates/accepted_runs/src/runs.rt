@@ -52,6 +52,8 @@ pub fn printed_run(
 
 /// Why a run within a number of turns has no outcome, as the fault of a call.
 fn fault_of(fault: PlayFault, turns: u64) -> Fault
+    requires { (m : Module) × (script : Script) × (initial : StepResult)
+        × Refuses (program_of m script) initial turns fault }
     ensures { (m : Module) (script : Script) (initial : StepResult)
         → run_start m script ≡ Ok initial → Refuses (program_of m script) initial turns fault
         → (result ≡ Memory) ⊎ HasNoOutcome m script turns result }
@@ -59,7 +61,8 @@ fn fault_of(fault: PlayFault, turns: u64) -> Fault
     match fault {
         PlayFault::Fault { turn, kind } => Fault::Script { turn, kind },
         PlayFault::Spent => Fault::Spent { turns },
-        // a run without hooks never returns that a hook refused a call
-        PlayFault::Hook { .. } | PlayFault::Memory => Fault::Memory,
+        // A run without hooks never returns that a hook refused a call.
+        PlayFault::Hook { .. } => unreachable!(),
+        PlayFault::Memory => Fault::Memory,
     }
 }

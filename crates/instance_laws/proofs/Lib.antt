@@ -14,3 +14,5 @@ pub mod WidenedEncodable
 pub mod WidenedAccepted
 pub mod Outcomes
 pub mod WidenedSizes
+pub mod EncodedLengths
+pub mod WidenedWithin

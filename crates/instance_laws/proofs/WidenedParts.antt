@@ -46,7 +46,7 @@ no_globals ty (d ∷ decls) = no_globals (ty + 1) decls
 
 -- ---- functions
 
-types_kept : (i : Instance) (funcs : List Func)
+pub types_kept : (i : Instance) (funcs : List Func)
     → map (λ (f : Func). f.ty) (map (renamed_func i) funcs) ≡ map (λ (f : Func). f.ty) funcs
 types_kept i [] = refl
 types_kept i (f ∷ funcs) = ap (λ types. f.ty ∷ types) (types_kept i funcs)

@@ -13,5 +13,6 @@ pub use laws::{
 };
 pub use widened_laws::{
     outcomes_follow, widened_are_accepted, widened_are_core, widened_are_encodable,
-    widened_are_short, widened_are_supported, widened_have_lists_within, widened_outcomes_follow,
+    widened_are_short, widened_are_supported, widened_are_within, widened_have_lists_within,
+    widened_outcomes_follow,
 };

@@ -1,7 +1,7 @@
 // The laws that carry what is required of a module over to its widened module, each the contract of a function; the
-// statements are in `instance_spec`.
+// statements are in `instance_spec`, and those of sizes in `specs/SizeLaws.antt`.
 
-ghost use Rattle.instance_laws.specs.SizeLaws.{WidenedAreShort};
+ghost use Rattle.instance_laws.specs.SizeLaws.{WidenedAreShort, WidenedAreWithin};
 ghost use Rattle.instance_spec.specs.Outcomes.{OutcomesFollow, WidenedOutcomesFollow};
 ghost use Rattle.instance_spec.specs.WidenedLaws.{WidenedAreAccepted, WidenedAreCore, WidenedAreEncodable, WidenedAreSupported, WidenedHaveListsWithin};
 
@@ -63,4 +63,10 @@ pub fn widened_have_lists_within()
 /// A widened module is short enough to be made flat, if the original is and there are not too many declared functions.
 pub fn widened_are_short()
     ensures { WidenedAreShort }
+{}
+
+/// The shortest encoding of a widened module has at most `MAX_ORIGINAL_BYTES`, if that of the original has no more
+/// bytes than a file may have, and the declarations have no greater size.
+pub fn widened_are_within()
+    ensures { WidenedAreWithin }
 {}

@@ -5,3 +5,4 @@ pub mod Widened
 pub mod Laws
 pub mod WidenedLaws
 pub mod Outcomes
+pub mod DeclSizes

@@ -4,5 +4,7 @@
 #![tactic(auto)]
 
 pub mod decls;
+pub mod sides;
 
 pub use decls::{Decl, Decls};
+pub use sides::Side;

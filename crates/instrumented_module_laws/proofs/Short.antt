@@ -3,7 +3,7 @@ use Rattle.std.proofs.Common.{◌≡◌, ℕ, ◌+◌, ◌≤◌, ◌<◌, List,
 use Rattle.std.specs.List.{AllByRecursion}
 use Rattle.std.proofs.lemmas.List.Elements.{recursion_from_All, All-from_recursion, All-append, All-weaker}
 use Rattle.base.proofs.Lists.{all_at}
-use Rattle.wasm_syntax.specs.declared.limits.TheConstants.{MAX_FILE_BYTES}
+use Rattle.wasm_syntax.specs.declared.limits.TheConstants.{MAX_ORIGINAL_BYTES}
 use Rattle.wasm_syntax.specs.declared.signatures.FuncType.{FuncType}
 use Rattle.wasm_syntax.specs.declared.instructions.Instr.TheVariants.{End}
 use Rattle.wasm_syntax.specs.declared.modules.Func.{Func}
@@ -32,7 +32,7 @@ nest_within func nest read =
     let same = ap length (body_of_nest nest func.body read).written in
     let long = length-append (flat nest) (End ∷ []) in omega (arith, same, long)
 
-module _ (m : Module) (most : ℕ) (few : most ≤ MAX_FILE_BYTES) (within : HasListsWithin most m) where
+module _ (m : Module) (most : ℕ) (few : most ≤ MAX_ORIGINAL_BYTES) (within : HasListsWithin most m) where
   func_short : (index : ℕ) (func : Func) (ty : Option FuncType) (nest : Option Nest) → type_at m func.ty ≡ ty
       → nest_of func.body ≡ nest → length func.body ≤ most
       → length (instrumented_func m index func ty nest).body < list_limit

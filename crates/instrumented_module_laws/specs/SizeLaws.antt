@@ -2,7 +2,7 @@
 -- hooks report are words, their lists are short, their last imports are the hooks, and stores of their originals are
 -- theirs, with functions renumbered.
 use Rattle.std.specs.Prelude.{◌≡◌, ℕ, ◌≤◌, List, length, true, false}
-use Rattle.wasm_syntax.specs.declared.limits.TheConstants.{MAX_FILE_BYTES}
+use Rattle.wasm_syntax.specs.declared.limits.TheConstants.{MAX_ORIGINAL_BYTES}
 use Rattle.wasm_syntax.specs.declared.forms.Form.TheVariants.{Core}
 use Rattle.wasm_syntax.specs.declared.modules.Module.{Module}
 use Rattle.wasm_syntax.specs.Encoding.Forms.{IsCoreModule}
@@ -18,19 +18,19 @@ use Rattle.record_replay_spec.specs.HookedForm.{own_imports, imports_hooks}
 use Rattle.record_replay_spec.specs.Instrumented.{instrumented_module}
 use Rattle.instrumented_module_laws.specs.Laws.{HasWords}
 
--- a module whose encoding has at most as many bytes as a file may have is of the form Core, and the values that hooks
--- report of it are words
+-- a module that at most `MAX_ORIGINAL_BYTES` bytes encode is of the form Core, and the values that hooks report of it
+-- are words
 abbrev pub EncodedHaveWords : Type 0
 EncodedHaveWords =
-    (bytes : List ℕ) (m : Module) → Encodes Core bytes m → length bytes ≤ MAX_FILE_BYTES
+    (bytes : List ℕ) (m : Module) → Encodes Core bytes m → length bytes ≤ MAX_ORIGINAL_BYTES
     → IsCoreModule m × HasWords m
 
--- the instrumented module of an accepted one has short lists, if no list of the original has more items than a file
--- may have bytes
+-- the instrumented module of an accepted one has short lists, if no list of the original has more than
+-- `MAX_ORIGINAL_BYTES` items
 abbrev pub InstrumentedAreShort : Type 0
 InstrumentedAreShort =
     (m : Module) (digest : List ℕ) (most : ℕ) → IsAccepted false m → IsCoreModule m → HasWords m
-    → HasListsWithin most m → most ≤ MAX_FILE_BYTES → IsShort (instrumented_module m digest)
+    → HasListsWithin most m → most ≤ MAX_ORIGINAL_BYTES → IsShort (instrumented_module m digest)
 
 -- the last imports of functions of an instrumented module are the hooks, no other import is from their module, and
 -- before them are as many imports of functions as the original has

@@ -6,7 +6,7 @@ use crate::{encodable_have_words, instrumented_are_accepted};
 use record_replay_spec::{instrumented_are_hooked, instrumented_keep_indices};
 use wasm_syntax::{lists_of_encoding, shortest_encoding};
 
-/// A module that at most `MAX_FILE_BYTES` bytes encode in the form Core is of that form, and the values that hooks
+/// A module that at most `MAX_ORIGINAL_BYTES` bytes encode in the form Core is of that form, and the values that hooks
 /// report of it are words: offsets, and indices of functions and of globals.
 pub fn encoded_have_words()
     ensures { EncodedHaveWords }
@@ -17,7 +17,7 @@ pub fn encoded_have_words()
 }
 
 /// Flat code can be made of the instrumented module of an accepted module of the form Core, if no list of the
-/// original has more than `MAX_FILE_BYTES` items: each list of the instrumented one has fewer than 2^31.
+/// original has more than `MAX_ORIGINAL_BYTES` items: each list of the instrumented one has fewer than 2^31.
 pub fn instrumented_are_short()
     ensures { InstrumentedAreShort }
 {

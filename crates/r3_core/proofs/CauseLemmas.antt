@@ -92,6 +92,16 @@ module _ (reading : Reading) (files : List (List ℕ × ℕ)) (P : Fault → Typ
   load-cases faults.NoImports c = absurd c
   load-cases faults.NoEntry c = absurd c
   load-cases (faults.TapeLimit weight) c = absurd c
+  load-cases faults.DeclNotJson c = absurd c
+  load-cases (faults.DeclShape path) c = absurd c
+  load-cases (faults.DeclReserved import) c = absurd c
+  load-cases (faults.DeclTaken name) c = absurd c
+  load-cases (faults.PairUnresolved side import) c = absurd c
+  load-cases (faults.PairMismatch side import) c = absurd c
+  load-cases faults.TwoMemories c = absurd c
+  load-cases faults.TwoTables c = absurd c
+  load-cases faults.TwoStarts c = absurd c
+  load-cases (faults.NoCall k calls) c = absurd c
   load-cases faults.HookedLimit c = absurd c
 
 -- the cause of one file's fault, among files before it that are not too long

@@ -3,3 +3,9 @@ pub mod RefusalLemmas
 pub mod ResultLemmas
 pub mod StatusLemmas
 pub mod WordLemmas
+pub mod ForeignCommands
+pub mod ForeignOutcomes
+pub mod WidenedFacts
+pub mod FileStages
+pub mod ReadDecls
+pub mod CommandLimits

@@ -39,10 +39,20 @@ use Rattle.trace_model.specs.Weight.{tape_weight}
 use Rattle.r3_reduce.specs.TapeFiles.{IsReduceRefusal}
 use Rattle.r3_make.specs.BuildRefusals as tapes
 use Rattle.r3_make.specs.BuildRefusals.{IsBuildRefusal, IsUntaken}
+use Rattle.decl_text.specs.declared.faults.DeclFault.{DeclFault}
+use Rattle.decl_text.specs.declared.faults.DeclFault.TheVariants as decl
+use Rattle.instance_spec.specs.declared.decls.Decl.{Decl}
+use Rattle.r3_core.specs.ForeignInputs as foreign
+use Rattle.r3_core.specs.ForeignInputs.{foreign_files, AreForeignRefused, ForeignFiles}
+use Rattle.r3_core.specs.ForeignOutcomes as outcomes
+use Rattle.r3_core.specs.ForeignHistories as foreign_histories
+use Rattle.r3_core.specs.ForeignHistories.{IsForeignHistoryRefusal, IsForeignUnprinted}
+use Rattle.r3_core.specs.ForeignReplays as foreign_replays
+use Rattle.r3_core.specs.ForeignReplays.{IsForeignRefusal, IsForeignUnmade}
 use Rattle.load_maker.specs.Loads.{load_script}
 use Rattle.load_maker.specs.declared.load_module.TheConstants.{LOAD_MODULE}
 use Rattle.r3_core.specs.declared.words.Command.{Command}
-use Rattle.r3_core.specs.declared.words.Command.TheVariants.{Make, Instrument, Record, Reduce, Build, History, Replay, Show, Load}
+use Rattle.r3_core.specs.declared.words.Command.TheVariants.{Make, Instrument, Record, Reduce, Build, History, Replay, Show, Load, Foreign, ForeignHistory}
 use Rattle.r3_core.specs.Words.{form}
 use Rattle.r3_core.specs.Causes.{IsRefusal}
 
@@ -183,6 +193,50 @@ build-status : (m s t : List ℕ) (fault : Fault) → IsBuildRefusal m s t fault
 build-status m s t fault (tapes.OfInputs refused) = inputs-other m s fault refused
 build-status m s t fault (tapes.OfModule n played inputs u) = unbuilt-status n played (sha256 m) t fault u
 
+decl-other : (found : DeclFault) → (found ≡ decl.Memory → ⊥) → is_other (status_of (foreign.decl_fault found)) ≡ true
+decl-other decl.NotJson differs = refl
+decl-other (decl.Shape path) differs = refl
+decl-other (decl.Reserved import) differs = refl
+decl-other (decl.Taken name) differs = refl
+decl-other decl.Memory differs = absurd (differs refl)
+
+foreign_inputs-other : (files : ForeignFiles) (fault : Fault) → AreForeignRefused files fault → IsOther (status_of fault)
+foreign_inputs-other files fault (foreign.ByModule refused) = module-other Original files.original fault refused
+foreign_inputs-other files fault (foreign.ByDecls m is_module refused) =
+    named-other fault (foreign.decl_fault refused.found) refused.named (decl-other refused.found refused.differs)
+foreign_inputs-other files fault (foreign.ByScript m decls is_module are_decls refused) =
+    named-other fault (script_fault refused.found) refused.named (script-other refused.found refused.differs)
+
+module _ (m : Module) (decls : List Decl) (played : Script) (turns : ℕ) (fault : Fault) where
+  foreign_link-status : outcomes.IsForeignUnlinked m decls played fault → IsOther (status_of fault)
+  foreign_link-status u = named-other fault (unlinked.link_fault u.found) u.named (link-other u.found u.differs)
+
+  foreign_none-status : outcomes.HasNoForeignOutcome m decls played turns fault → IsOther (status_of fault)
+  foreign_none-status (outcomes.OfScript u) = named-other fault (faults.Script u.turn u.kind) u.named refl
+  foreign_none-status (outcomes.OfTurns u) = named-other fault (faults.Spent turns) u.named refl
+
+  foreign_unmade-status : IsForeignUnmade m decls played turns fault → IsOther (status_of fault)
+  foreign_unmade-status (foreign_replays.OfLink u) = foreign_link-status u
+  foreign_unmade-status (foreign_replays.OfOutcome u) = foreign_none-status u
+  foreign_unmade-status (foreign_replays.OfWeight u) =
+      named-other fault (faults.TapeLimit (min (tape_weight u.tape) (2 ^ 64 - 1))) u.named refl
+
+  foreign_unprinted-status : IsForeignUnprinted m decls played turns fault → IsOther (status_of fault)
+  foreign_unprinted-status (foreign_histories.OfLink u) = foreign_link-status u
+  foreign_unprinted-status (foreign_histories.OfOutcome u) = foreign_none-status u
+
+foreign-status : (files : ForeignFiles) (turns : ℕ) (fault : Fault) → IsForeignRefusal files turns fault
+    → IsOther (status_of fault)
+foreign-status files turns fault (foreign_replays.OfInputs refused) = foreign_inputs-other files fault refused
+foreign-status files turns fault (foreign_replays.OfModule m decls played inputs unmade) =
+    foreign_unmade-status m decls played turns fault unmade
+
+foreign_history-status : (files : ForeignFiles) (turns : ℕ) (fault : Fault) → IsForeignHistoryRefusal files turns fault
+    → IsOther (status_of fault)
+foreign_history-status files turns fault (foreign_histories.OfInputs refused) = foreign_inputs-other files fault refused
+foreign_history-status files turns fault (foreign_histories.OfRun m decls played inputs unprinted) =
+    foreign_unprinted-status m decls played turns fault unprinted
+
 pub refusal-status : (command : Command) (loaded : List (List ℕ)) (number : Option ℕ) (fault : Fault)
     → IsRefusal command loaded number fault → IsOther (status_of fault)
 refusal-status Make [] number fault c = absurd c
@@ -225,3 +279,16 @@ refusal-status Show (trace ∷ t ∷ more) number fault c = absurd c
 refusal-status Load [] None fault c = absurd c
 refusal-status Load [] (Some number) fault c = make-status LOAD_MODULE (load_script number) LOAD_TURNS fault c
 refusal-status Load (m ∷ more) number fault c = absurd c
+refusal-status Foreign [] number fault c = absurd c
+refusal-status Foreign (m ∷ []) number fault c = absurd c
+refusal-status Foreign (m ∷ d ∷ []) number fault c = absurd c
+refusal-status Foreign (m ∷ d ∷ s ∷ []) None fault c = absurd c
+refusal-status Foreign (m ∷ d ∷ s ∷ []) (Some turns) fault c = foreign-status (foreign_files m d s) turns fault c
+refusal-status Foreign (m ∷ d ∷ s ∷ x ∷ more) number fault c = absurd c
+refusal-status ForeignHistory [] number fault c = absurd c
+refusal-status ForeignHistory (m ∷ []) number fault c = absurd c
+refusal-status ForeignHistory (m ∷ d ∷ []) number fault c = absurd c
+refusal-status ForeignHistory (m ∷ d ∷ s ∷ []) None fault c = absurd c
+refusal-status ForeignHistory (m ∷ d ∷ s ∷ []) (Some turns) fault c =
+    foreign_history-status (foreign_files m d s) turns fault c
+refusal-status ForeignHistory (m ∷ d ∷ s ∷ x ∷ more) number fault c = absurd c

@@ -12,7 +12,7 @@ use Rattle.r3_faults.specs.Lines.{status_of}
 use Rattle.r3_faults.specs.declared.faults.Fault.{Fault}
 use Rattle.r3_faults.specs.declared.faults.Fault.TheVariants as faults
 use Rattle.r3_core.specs.declared.words.Command.{Command}
-use Rattle.r3_core.specs.declared.words.Command.TheVariants.{Make, Instrument, Record, Reduce, Build, History, Replay, Show, Load}
+use Rattle.r3_core.specs.declared.words.Command.TheVariants.{Make, Instrument, Record, Reduce, Build, History, Replay, Show, Load, Foreign, ForeignHistory}
 use Rattle.r3_core.specs.Words.{form, IsAfterFiles, Says, IsListed, files_of}
 use Rattle.r3_core.specs.Causes.{Reading, first_longer, IsLoadCause, AreBytesOf, IsRefusal, IsDoable, IsRefused, IsCause, Unlisted, Unloaded, Refused, Unwritten, OutOfMemory, IsPrintCause, UnloadedFile, RefusedBytes, NoMemoryLeft}
 use Rattle.r3_core.proofs.WordLemmas.{files_of-Says, Says-same}
@@ -207,6 +207,8 @@ most-IsSmall History = omega arith
 most-IsSmall Replay = omega arith
 most-IsSmall Show = tt
 most-IsSmall Load = omega arith
+most-IsSmall Foreign = omega arith
+most-IsSmall ForeignHistory = omega arith
 
 -- one number after the files
 IsAfterFiles-one : (most : Option ℕ) (after : List (List ℕ)) (a b : Option ℕ) → IsSmall most → IsAfterFiles most after a
@@ -340,4 +342,14 @@ status-not_done fault e = true≢false (sym (is_fault fault) ∙ ap (λ status. 
     is_fault faults.NoImports = refl
     is_fault faults.NoEntry = refl
     is_fault (faults.TapeLimit weight) = refl
+    is_fault faults.DeclNotJson = refl
+    is_fault (faults.DeclShape path) = refl
+    is_fault (faults.DeclReserved import) = refl
+    is_fault (faults.DeclTaken name) = refl
+    is_fault (faults.PairUnresolved side import) = refl
+    is_fault (faults.PairMismatch side import) = refl
+    is_fault faults.TwoMemories = refl
+    is_fault faults.TwoTables = refl
+    is_fault faults.TwoStarts = refl
+    is_fault (faults.NoCall k calls) = refl
     is_fault faults.HookedLimit = refl

@@ -13,6 +13,9 @@ use Rattle.r3_reduce.specs.TapeFiles.{IsReduced, IsReduceRefusal}
 use Rattle.r3_make.specs.BuildRefusals.{IsBuildRefusal}
 use Rattle.r3_make.specs.BuiltReplays as built
 use Rattle.r3_history.specs.Histories.{IsHistory, IsHistoryRefusal}
+use Rattle.r3_core.specs.ForeignHistories.{IsForeignHistory, IsForeignHistoryRefusal}
+use Rattle.r3_core.specs.ForeignInputs.{foreign_files}
+use Rattle.r3_core.specs.ForeignReplays.{AreForeignReplayable, IsForeignPrinted, IsForeignRefusal}
 use Rattle.r3_replay.specs.ReplayTexts.{IsReplayText, IsReplayRefusal}
 use Rattle.r3_show.specs.FileLines.{IsShown, IsShowRefusal}
 use Rattle.load_maker.specs.Loads.{load_script}
@@ -20,7 +23,7 @@ use Rattle.load_maker.specs.declared.load_module.TheConstants.{LOAD_MODULE}
 use Rattle.wasm_syntax.specs.declared.limits.TheConstants.{LOAD_TURNS}
 use Rattle.r3_make.specs.Summaries.{IsSummary}
 use Rattle.r3_core.specs.declared.words.Command.{Command}
-use Rattle.r3_core.specs.declared.words.Command.TheVariants.{Make, Instrument, Record, Reduce, Build, History, Replay, Show, Load}
+use Rattle.r3_core.specs.declared.words.Command.TheVariants.{Make, Instrument, Record, Reduce, Build, History, Replay, Show, Load, Foreign, ForeignHistory}
 use Rattle.r3_core.specs.Words.{form, IsListed, Says, files_of}
 
 -- ---- the files of a call
@@ -87,6 +90,10 @@ IsRefusal History (module_bytes ∷ script_bytes ∷ []) (Some turns) fault =
 IsRefusal Replay (binary ∷ []) (Some turns) fault = IsReplayRefusal binary turns fault
 IsRefusal Show (trace ∷ []) None fault = IsShowRefusal trace fault
 IsRefusal Load [] (Some number) fault = IsMakeRefusal LOAD_MODULE (load_script number) LOAD_TURNS fault
+IsRefusal Foreign (module_bytes ∷ decl_bytes ∷ script_bytes ∷ []) (Some turns) fault =
+    IsForeignRefusal (foreign_files module_bytes decl_bytes script_bytes) turns fault
+IsRefusal ForeignHistory (module_bytes ∷ decl_bytes ∷ script_bytes ∷ []) (Some turns) fault =
+    IsForeignHistoryRefusal (foreign_files module_bytes decl_bytes script_bytes) turns fault
 IsRefusal command loaded number fault = ⊥
 
 -- a command can do its job for the bytes of its files
@@ -103,6 +110,10 @@ IsDoable History (module_bytes ∷ script_bytes ∷ []) (Some turns) =
 IsDoable Replay (binary ∷ []) (Some turns) = (text : List ℕ) × IsReplayText binary turns text
 IsDoable Show (trace ∷ []) None = (text : List ℕ) × IsShown trace text
 IsDoable Load [] (Some number) = AreReplayable LOAD_MODULE (load_script number) LOAD_TURNS
+IsDoable Foreign (module_bytes ∷ decl_bytes ∷ script_bytes ∷ []) (Some turns) =
+    AreForeignReplayable (foreign_files module_bytes decl_bytes script_bytes) turns
+IsDoable ForeignHistory (module_bytes ∷ decl_bytes ∷ script_bytes ∷ []) (Some turns) =
+    (text : List ℕ) × IsForeignHistory (foreign_files module_bytes decl_bytes script_bytes) turns text
 IsDoable command loaded number = ⊥
 
 -- a command prints these bytes for the bytes of its files
@@ -120,6 +131,10 @@ Prints History (module_bytes ∷ script_bytes ∷ []) (Some turns) printed =
 Prints Replay (binary ∷ []) (Some turns) printed = IsReplayText binary turns printed
 Prints Show (trace ∷ []) None printed = IsShown trace printed
 Prints Load [] (Some number) printed = IsSummary number printed
+Prints Foreign (module_bytes ∷ decl_bytes ∷ script_bytes ∷ []) (Some turns) printed =
+    IsForeignPrinted (foreign_files module_bytes decl_bytes script_bytes) turns printed
+Prints ForeignHistory (module_bytes ∷ decl_bytes ∷ script_bytes ∷ []) (Some turns) printed =
+    IsForeignHistory (foreign_files module_bytes decl_bytes script_bytes) turns printed
 Prints command loaded number printed = ⊥
 
 -- ---- calls

@@ -5,7 +5,7 @@ use Rattle.std.specs.Option.{option_map_or}
 use Rattle.std.specs.Str.{bytes_eq}
 use Rattle.wasm_syntax.specs.declared.limits.TheConstants.{MAX_LOAD_CALLS, MAX_TRACE_BYTES, MAX_RECORD_TURNS, MAX_FILE_BYTES, MAX_INSTRUMENTED_BYTES, MAX_REPLAY_BYTES, MAX_TURNS, MAX_HISTORY_TURNS}
 use Rattle.r3_core.specs.declared.words.Command.{Command}
-use Rattle.r3_core.specs.declared.words.Command.TheVariants.{Make, Instrument, Record, Reduce, Build, History, Replay, Show, Load}
+use Rattle.r3_core.specs.declared.words.Command.TheVariants.{Make, Instrument, Record, Reduce, Build, History, Replay, Show, Load, Foreign, ForeignHistory}
 
 -- a command's name, the limit of each of its files, and the greatest number if the command takes one
 pub record Form : Type 0 where
@@ -35,13 +35,26 @@ form History =
 form Replay = record { name = codes "replay"; limits = MAX_REPLAY_BYTES ∷ []; most = Some MAX_RECORD_TURNS }
 form Show = record { name = codes "show"; limits = MAX_TRACE_BYTES ∷ []; most = None }
 form Load = record { name = codes "load"; limits = []; most = Some MAX_LOAD_CALLS }
+form Foreign =
+    record {
+      name = codes "foreign";
+      limits = MAX_FILE_BYTES ∷ MAX_FILE_BYTES ∷ MAX_FILE_BYTES ∷ [];
+      most = Some MAX_TURNS;
+    }
+form ForeignHistory =
+    record {
+      name = codes "foreign-history";
+      limits = MAX_FILE_BYTES ∷ MAX_FILE_BYTES ∷ MAX_FILE_BYTES ∷ [];
+      most = Some MAX_HISTORY_TURNS;
+    }
 
 -- the bytes of each word
 abbrev pub texts : {Y : Type 0} → List (String Y) → List (List ℕ)
 texts words = map string_bytes words
 
 abbrev pub commands : List Command
-commands = Make ∷ Instrument ∷ Record ∷ Reduce ∷ Build ∷ History ∷ Replay ∷ Show ∷ Load ∷ []
+commands =
+    Make ∷ Instrument ∷ Record ∷ Reduce ∷ Build ∷ History ∷ Replay ∷ Show ∷ Load ∷ Foreign ∷ ForeignHistory ∷ []
 
 abbrev pub command_of_name : List ℕ → Option Command
 command_of_name name = find (λ command. bytes_eq (form command).name name) commands

@@ -18,9 +18,16 @@ use std::alloc::Global;
 use words::{Call, Command, call_of};
 
 mod command_files;
+mod declared_modules;
+mod foreign_command;
+mod foreign_histories;
 mod sure;
+mod widened_bytes;
+mod widened_inputs;
 mod words;
 
+pub use foreign_command::foreign;
+pub use foreign_histories::foreign_history;
 pub use r3_faults::Fault;
 pub use r3_history::history;
 pub use r3_instrument::instrument_bytes;
@@ -211,6 +218,12 @@ fn output_of_command(
         (Command::Replay, [binary], Some(turns)) => replay_text(alloc, binary, turns),
         (Command::Show, [trace], None) => show(alloc, trace),
         (Command::Load, [], Some(number)) => load_summary(alloc, number as u32),
+        (Command::Foreign, [hosted, decls, answers], Some(turns)) => foreign(
+            alloc, hosted, decls, answers, turns,
+        ),
+        (Command::ForeignHistory, [shown, shown_decls, shown_answers], Some(turns)) => {
+            foreign_history(alloc, shown, shown_decls, shown_answers, turns)
+        }
         _ => unreachable!(),
     }
 }

@@ -22,6 +22,8 @@ pub(crate) enum Command {
     Replay,
     Show,
     Load,
+    Foreign,
+    ForeignHistory,
 }
 
 impl Command {
@@ -39,6 +41,8 @@ impl Command {
             "replay" => Some(Command::Replay),
             "show" => Some(Command::Show),
             "load" => Some(Command::Load),
+            "foreign" => Some(Command::Foreign),
+            "foreign-history" => Some(Command::ForeignHistory),
             _ => None,
         }
     }
@@ -55,6 +59,9 @@ impl Command {
             Command::Build => &[MAX_FILE_BYTES, MAX_FILE_BYTES, MAX_TRACE_BYTES],
             Command::Replay => &[MAX_REPLAY_BYTES],
             Command::Load => &[],
+            Command::Foreign | Command::ForeignHistory => {
+                &[MAX_FILE_BYTES, MAX_FILE_BYTES, MAX_FILE_BYTES]
+            }
         }
     }
 
@@ -63,8 +70,8 @@ impl Command {
         ensures { result ≡ (form self).most }
     {
         match self {
-            Command::Make => Some(MAX_TURNS),
-            Command::History => Some(MAX_HISTORY_TURNS),
+            Command::Make | Command::Foreign => Some(MAX_TURNS),
+            Command::History | Command::ForeignHistory => Some(MAX_HISTORY_TURNS),
             Command::Record | Command::Replay => Some(MAX_RECORD_TURNS),
             Command::Load => Some(u64::from(MAX_LOAD_CALLS)),
             Command::Instrument | Command::Reduce | Command::Build | Command::Show => None,

@@ -1,5 +1,5 @@
--- What a call that prints bytes returns.
-use Rattle.std.specs.Prelude.{◌≡◌, ◌⊎◌, ℕ, List, Vec, Result, Err, IfOk, IfErr}
+-- What a call that prints bytes, or gives another value, returns.
+use Rattle.std.specs.Prelude.{◌≡◌, ◌⊎◌, ℕ, List, Vec, Result, Ok, Err, IfOk, IfErr}
 use Rattle.r3_faults.specs.declared.faults.Fault.{Fault}
 use Rattle.r3_faults.specs.declared.faults.Fault.TheVariants.{Memory}
 
@@ -18,3 +18,11 @@ pub record IsExact {Z : Type 0} (Printed : List ℕ → Type 0) (Refusal : Fault
   pub printed : IfOk result (λ bytes. Printed bytes.items)
   pub accepted : (text : List ℕ) → Printed text
       → IfOk result (λ bytes. bytes.items ≡ text) × IfErr result (λ fault. fault ≡ Memory)
+
+-- the result is exact: except for out of memory, it is the value, if there is one, or a fault that refuses
+pub record IsExactValue {V : Type 0} (IsValue : V → Type 0) (Refusal : Fault → Type 0) (result : Result V Fault)
+    : Type 0 where
+  pub taken : IfOk result IsValue
+  pub cause : IfErr result (λ fault. (fault ≡ Memory) ⊎ Refusal fault)
+  pub refused : (fault : Fault) → Refusal fault → (result ≡ Err fault) ⊎ (result ≡ Err Memory)
+  pub accepted : (value : V) → IsValue value → (result ≡ Ok value) ⊎ (result ≡ Err Memory)

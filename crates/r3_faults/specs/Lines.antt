@@ -8,8 +8,10 @@ use Rattle.wasm_syntax.specs.declared.profile.Which.{Which}
 use Rattle.wasm_syntax.specs.declared.profile.Which.TheVariants.{Parameters, Table, Memory as MemoryPages, Locals}
 use Rattle.history_spec.specs.declared.entries.FaultKind.{FaultKind}
 use Rattle.history_spec.specs.declared.entries.FaultKind.TheVariants as kind
+use Rattle.instance_spec.specs.declared.sides.Side.{Side}
+use Rattle.instance_spec.specs.declared.sides.Side.TheVariants.{Left, Right}
 use Rattle.r3_faults.specs.declared.faults.Fault.{Fault}
-use Rattle.r3_faults.specs.declared.faults.Fault.TheVariants.{Usage, Read, TooLong, Malformed, InvalidFunction, InvalidModule, Unsupported, Limit, Reserved, NotJson, Shape, UnknownName, WrongType, NoAccess, CallsOwn, Missing, Mismatch, Segment, Script, Spent, Write, Memory, BadTrace, TraceVersion, OtherModule, NotHooked, HookOrder, Unbalanced, Unfit, NoLayout, NoImports, NoEntry, TapeLimit, HookedLimit}
+use Rattle.r3_faults.specs.declared.faults.Fault.TheVariants.{Usage, Read, TooLong, Malformed, InvalidFunction, InvalidModule, Unsupported, Limit, Reserved, NotJson, Shape, UnknownName, WrongType, NoAccess, CallsOwn, Missing, Mismatch, Segment, Script, Spent, Write, Memory, BadTrace, TraceVersion, OtherModule, NotHooked, HookOrder, Unbalanced, Unfit, NoLayout, NoImports, NoEntry, TapeLimit, DeclNotJson, DeclShape, DeclReserved, DeclTaken, PairUnresolved, PairMismatch, TwoMemories, TwoTables, TwoStarts, NoCall, HookedLimit}
 use Rattle.hex.specs.Hex.{encode_lower}
 
 -- the status with which the program ends after the fault
@@ -47,6 +49,16 @@ status_of NoLayout = 17
 status_of NoImports = 17
 status_of NoEntry = 17
 status_of (TapeLimit weight) = 18
+status_of DeclNotJson = 20
+status_of (DeclShape path) = 20
+status_of (DeclReserved import) = 20
+status_of (DeclTaken name) = 20
+status_of (PairUnresolved side import) = 21
+status_of (PairMismatch side import) = 21
+status_of TwoMemories = 21
+status_of TwoTables = 21
+status_of TwoStarts = 21
+status_of (NoCall k calls) = 22
 status_of HookedLimit = 23
 
 -- a byte that is printed as it is: from the space to `~`, except `\`
@@ -90,6 +102,14 @@ limit_text Table = codes "limit: table "
 limit_text MemoryPages = codes "limit: memory "
 limit_text Locals = codes "limit: locals "
 
+abbrev pub unresolved_text : Side → List ℕ
+unresolved_text Left = codes "pair: unresolved left "
+unresolved_text Right = codes "pair: unresolved right "
+
+abbrev pub mismatch_text : Side → List ℕ
+mismatch_text Left = codes "pair: mismatch left "
+mismatch_text Right = codes "pair: mismatch right "
+
 -- the line that is written on the error stream for the fault
 abbrev pub line_of : Fault → List ℕ
 line_of Usage = codes "usage\n"
@@ -128,6 +148,17 @@ line_of NoLayout = codes "replay: layout\n"
 line_of NoImports = codes "replay: imports\n"
 line_of NoEntry = codes "replay: entry\n"
 line_of (TapeLimit weight) = with_number (codes "tape limit: ") weight
+line_of DeclNotJson = codes "declarations: not json\n"
+line_of (DeclShape path) = with_name (codes "declarations: shape ") path
+line_of (DeclReserved import) = with_number (codes "declarations: reserved ") import
+line_of (DeclTaken name) = with_name (codes "declarations: taken ") name
+line_of (PairUnresolved side import) = with_number (unresolved_text side) import
+line_of (PairMismatch side import) = with_number (mismatch_text side) import
+line_of TwoMemories = codes "pair: two memories\n"
+line_of TwoTables = codes "pair: two tables\n"
+line_of TwoStarts = codes "pair: two starts\n"
+line_of (NoCall k calls) =
+    codes "no call: " ++ (decimal k ++ (codes " of " ++ (decimal calls ++ codes "\n")))
 line_of HookedLimit = codes "hooked limit: 134217728\n"
 
 -- the line was written whole, or a first part of it was written and the count of faults rose

@@ -6,6 +6,7 @@ ghost use Rattle.r3_faults.specs.declared.faults.Fault.TheVariants.{Memory, Writ
 
 use base::NoMemory;
 use history_spec::FaultKind;
+use instance_spec::Side;
 use r3_outside::PutFault;
 use std::alloc::{AllocError, AllocFailed};
 use std::error::Error;
@@ -137,6 +138,41 @@ pub enum Fault {
     TapeLimit {
         weight: u64,
     },
+    /// The declarations are not a JSON text.
+    DeclNotJson,
+    /// A value of the declarations has a wrong form.
+    DeclShape {
+        path: Name,
+    },
+    /// The module imports from `foreign`, where the declared functions have their place.
+    DeclReserved {
+        import: u64,
+    },
+    /// A declared name is that of an export or of an earlier declaration.
+    DeclTaken {
+        name: Name,
+    },
+    /// An import of one module of a pair has no export of the other module for it.
+    PairUnresolved {
+        side: Side,
+        import: u64,
+    },
+    /// An import of one module of a pair does not match what it stands for.
+    PairMismatch {
+        side: Side,
+        import: u64,
+    },
+    /// A pair has two memories.
+    TwoMemories,
+    /// A pair has two tables.
+    TwoTables,
+    /// Both modules of a pair have a start function.
+    TwoStarts,
+    /// The run has `calls` top-level calls, and call `k`, from 0 on, is none of them.
+    NoCall {
+        k: u64,
+        calls: u64,
+    },
     /// The instrumented module is too long for a file of one.
     HookedLimit,
 }
@@ -225,6 +261,16 @@ impl Fault {
             | Fault::NoImports
             | Fault::NoEntry => 17,
             Fault::TapeLimit { .. } => 18,
+            Fault::DeclNotJson
+            | Fault::DeclShape { .. }
+            | Fault::DeclReserved { .. }
+            | Fault::DeclTaken { .. } => 20,
+            Fault::PairUnresolved { .. }
+            | Fault::PairMismatch { .. }
+            | Fault::TwoMemories
+            | Fault::TwoTables
+            | Fault::TwoStarts => 21,
+            Fault::NoCall { .. } => 22,
             Fault::HookedLimit => 23,
         }
     }

@@ -4,11 +4,12 @@ ghost use Rattle.std.specs.Prelude.{◌≡◌, ◌<◌, ◌≤◌, ◌/◌, ◌%
 ghost use Rattle.hex.specs.Hex.{encode_lower};
 ghost use Rattle.r3_outside.specs.Count.{Rose};
 ghost use Rattle.r3_outside.specs.Growth.{Grew, GrewByPrefix};
-ghost use Rattle.r3_faults.specs.Lines.{line_of, escaped, is_plain, hex_digit, feature_text, kind_text, limit_text};
+ghost use Rattle.r3_faults.specs.Lines.{line_of, escaped, is_plain, hex_digit, feature_text, kind_text, limit_text, mismatch_text, unresolved_text};
 
 use crate::faults::Fault;
 use hex::encode_to_slice;
 use history_spec::FaultKind;
+use instance_spec::Side;
 use itoa::Buffer;
 use r3_outside::{PutFault, Sink, put_all, put_parts};
 use wasm_syntax::{Feature, Name, Which};
@@ -68,6 +69,18 @@ impl Fault {
             Fault::NoImports => put_all(err, b"replay: imports\n"),
             Fault::NoEntry => put_all(err, b"replay: entry\n"),
             Fault::TapeLimit { weight } => put_number(err, b"tape limit: ", *weight),
+            Fault::DeclNotJson => put_all(err, b"declarations: not json\n"),
+            Fault::DeclShape { path } => put_name(err, b"declarations: shape ", path, &[b"\n"]),
+            Fault::DeclReserved { import } => put_number(err, b"declarations: reserved ", *import),
+            Fault::DeclTaken { name } => put_name(err, b"declarations: taken ", name, &[b"\n"]),
+            Fault::PairUnresolved { side, import } => {
+                put_number(err, unresolved_text(*side), *import)
+            }
+            Fault::PairMismatch { side, import } => put_number(err, mismatch_text(*side), *import),
+            Fault::TwoMemories => put_all(err, b"pair: two memories\n"),
+            Fault::TwoTables => put_all(err, b"pair: two tables\n"),
+            Fault::TwoStarts => put_all(err, b"pair: two starts\n"),
+            Fault::NoCall { k, calls } => put_no_call(err, *k, *calls),
             Fault::HookedLimit => put_all(err, b"hooked limit: 134217728\n"),
         }
     }
@@ -147,6 +160,29 @@ fn put_unsupported<E: Sink>(
     )
 }
 
+/// Writes the line of a top-level call that the run does not have.
+fn put_no_call<E: Sink>(err: &mut E, k: u64, calls: u64) -> Result<(), PutFault>
+    ensures faults_never_fall { E.faults err.old ≤ E.faults err.new }
+    ensures failed { OnErr result (Rose (E.faults err.old) (E.faults err.new)) }
+    ensures wrote { OnOk result (Grew (E.written err.old) (E.written err.new)
+        (line_of (Fault.NoCall k calls))) }
+    ensures wrote_prefix { OnErr result (GrewByPrefix (E.written err.old) (E.written err.new)
+        (line_of (Fault.NoCall k calls))) }
+{
+    let mut call_buffer = Buffer::new();
+    let mut count_buffer = Buffer::new();
+    put_parts(
+        err,
+        &[
+            b"no call: ",
+            call_buffer.format(k).as_bytes(),
+            b" of ",
+            count_buffer.format(calls).as_bytes(),
+            b"\n",
+        ],
+    )
+}
+
 /// Writes the line of an action that the host cannot do.
 fn put_script<E: Sink>(err: &mut E, turn: u64, kind: FaultKind) -> Result<(), PutFault>
     ensures faults_never_fall { E.faults err.old ≤ E.faults err.new }
@@ -203,6 +239,26 @@ fn limit_text(which: Which) -> &'static [u8]
         Which::Table => b"limit: table ",
         Which::Memory => b"limit: memory ",
         Which::Locals => b"limit: locals ",
+    }
+}
+
+/// The beginning of the line of an import of a pair that no export stands for.
+fn unresolved_text(side: Side) -> &'static [u8]
+    ensures { result.now ≡ unresolved_text side }
+{
+    match side {
+        Side::Left => b"pair: unresolved left ",
+        Side::Right => b"pair: unresolved right ",
+    }
+}
+
+/// The beginning of the line of an import of a pair that does not match.
+fn mismatch_text(side: Side) -> &'static [u8]
+    ensures { result.now ≡ mismatch_text side }
+{
+    match side {
+        Side::Left => b"pair: mismatch left ",
+        Side::Right => b"pair: mismatch right ",
     }
 }
 

@@ -5,3 +5,4 @@ mod histories;
 mod lines;
 
 pub use histories::history;
+pub use lines::history_of;

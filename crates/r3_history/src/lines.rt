@@ -12,8 +12,13 @@ use r3_faults::Fault;
 use std::alloc::Global;
 use wasm_validate::Checked;
 
-/// The lines of the run of a module under a script that fits it.
-pub(crate) fn history_of(
+/// The lines of the run of a module under a script that fits it, within a number of turns.
+///
+/// # Errors
+///
+/// The fault names the cause: the module does not link, the host cannot do what the script says, or the run needs more
+/// turns. Each is reported if and only if it is the first cause that applies. `Memory` if memory is out.
+pub fn history_of(
     alloc: Global,
     checked: &Checked,
     script: &Script,

@@ -1,3 +1,4 @@
 pub mod Acceptance
 pub mod Refusals
 pub mod AnswerLemmas
+pub mod Stages

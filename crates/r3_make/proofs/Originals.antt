@@ -1,7 +1,7 @@
 -- The run of a module that bytes encode, in the form of the laws on instrumented modules.
 use Rattle.std.proofs.Common.{◌≡◌, ℕ, ◌≤◌, List, length, refl}
 use Rattle.sha2.specs.Sha256.{sha256}
-use Rattle.wasm_syntax.specs.declared.limits.TheConstants.{MAX_FILE_BYTES}
+use Rattle.wasm_syntax.specs.declared.limits.TheConstants.{MAX_ORIGINAL_BYTES}
 use Rattle.wasm_syntax.specs.declared.modules.Module.{Module}
 use Rattle.wasm_syntax.specs.Encoding.Forms.{IsCoreModule}
 use Rattle.wasm_syntax.specs.ListsWithin.{HasListsWithin}
@@ -19,7 +19,7 @@ use Rattle.r3_make.specs.declared.recorded_runs.HookedInputs.{HookedInputs}
 use Rattle.r3_make.specs.Records.{AreHooked, IsOriginal, IsRecordable}
 
 module _ (words : EncodedHaveWords) (bytes : List ℕ) (m : Module) (script : Script) (supply : Supply) (store : Store)
-    (is_module : IsModuleOf bytes m) (small : length bytes ≤ MAX_FILE_BYTES) (within : HasListsWithin (length bytes) m)
+    (is_module : IsModuleOf bytes m) (small : length bytes ≤ MAX_ORIGINAL_BYTES) (within : HasListsWithin (length bytes) m)
     (can : CanRun m script) (has_bytes : HasBytes m) (linked : IsLinked m script supply store) where
   pub of_words : IsCoreModule m × HasWords m
   of_words = words bytes m is_module.encoded small

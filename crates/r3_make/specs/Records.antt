@@ -1,6 +1,6 @@
 -- What is needed to record the run of a module.
 use Rattle.std.specs.Prelude.{◌≡◌, ℕ, ◌≤◌, Some, false}
-use Rattle.wasm_syntax.specs.declared.limits.TheConstants.{MAX_FILE_BYTES}
+use Rattle.wasm_syntax.specs.declared.limits.TheConstants.{MAX_ORIGINAL_BYTES}
 use Rattle.wasm_syntax.specs.Index.{imported_funcs}
 use Rattle.wasm_syntax.specs.Profile.{IsAccepted}
 use Rattle.wasm_syntax.specs.ListsWithin.{HasListsWithin}
@@ -20,7 +20,7 @@ pub record IsOriginal (run : OriginalRun) : Type 0 where
   pub words : HasWords run.m
   pub most : ℕ
   pub within : HasListsWithin most run.m
-  pub few : most ≤ MAX_FILE_BYTES
+  pub few : most ≤ MAX_ORIGINAL_BYTES
 
 -- the instrumented module of a run's original, its meter, and the script for it
 pub record AreHooked (run : OriginalRun) (inputs : HookedInputs) : Type 0 where

@@ -2,7 +2,7 @@
 
 ghost use Rattle.std.specs.Prelude.{◌≡◌, ◌<◌, ◌≤◌, ◌^◌, Ok, IfErr, IfOk, IfSome, length};
 ghost use Rattle.sha2.specs.Sha256.{sha256};
-ghost use Rattle.wasm_syntax.specs.declared.limits.TheConstants.{MAX_TAPE_WEIGHT, MAX_FILE_BYTES};
+ghost use Rattle.wasm_syntax.specs.declared.limits.TheConstants.{MAX_TAPE_WEIGHT, MAX_ORIGINAL_BYTES};
 ghost use Rattle.wasm_syntax.specs.declared.forms.Form.TheVariants.{Core};
 ghost use Rattle.wasm_syntax.specs.Encoding.Modules.{Encodes};
 ghost use Rattle.history_spec.specs.Instantiation.{instantiate};
@@ -43,7 +43,7 @@ pub(crate) fn replay_for(
     tape: &[u8],
 ) -> Result<Vec<u8>, Fault>
     requires encoded { Encodes Core bytes.now checked }
-    requires small { length bytes.now ≤ MAX_FILE_BYTES }
+    requires small { length bytes.now ≤ MAX_ORIGINAL_BYTES }
     requires runnable { CanRun checked script.now }
     requires bytes { HasBytes checked }
     ensures { IsExact (IsBuilt checked script.now (sha256 bytes.now) tape.now)
@@ -63,7 +63,7 @@ fn built_replay(
     tape: &[u8],
 ) -> Result<Vec<u8>, Fault>
     requires encoded { Encodes Core bytes.now checked }
-    requires small { length bytes.now ≤ MAX_FILE_BYTES }
+    requires small { length bytes.now ≤ MAX_ORIGINAL_BYTES }
     requires runnable { CanRun checked script.now }
     requires bytes { HasBytes checked }
     ensures { IsCaused (IsBuilt checked script.now (sha256 bytes.now) tape.now)
@@ -95,7 +95,7 @@ pub fn replay_bytes(
     tape: Tape,
 ) -> Result<Vec<u8>, Fault>
     requires encoded { Encodes Core bytes.now checked }
-    requires small { length bytes.now ≤ MAX_FILE_BYTES }
+    requires small { length bytes.now ≤ MAX_ORIGINAL_BYTES }
     requires runnable { IsRunnable checked }
     requires supplied { IsSupply checked supply.now }
     requires fits { IsFitting checked tape }

@@ -20,5 +20,6 @@ pub use built_replays::replay_bytes;
 pub use log_files::log_run;
 pub use make_command::make;
 pub use r3_faults::Fault;
+pub use replay_binary::replay_of;
 pub use summaries::load_summary;
 pub use tapes::needed_tape;

@@ -1,7 +1,7 @@
 // The lines on the run of an accepted module under a script, and on the tape that it needs.
 
 ghost use Rattle.std.specs.Prelude.{◌≡◌, ◌≤◌, ◌⊎◌, ◌++◌, Err, IfErr, IfOk, OnOk, length};
-ghost use Rattle.wasm_syntax.specs.declared.limits.TheConstants.{MAX_TAPE_WEIGHT, MAX_FILE_BYTES};
+ghost use Rattle.wasm_syntax.specs.declared.limits.TheConstants.{MAX_TAPE_WEIGHT, MAX_ORIGINAL_BYTES};
 ghost use Rattle.wasm_syntax.specs.ListsWithin.{HasListsWithin};
 ghost use Rattle.type_safety.specs.Supplies.{HasBytes};
 ghost use Rattle.trace_model.specs.Weight.{tape_weight};
@@ -43,7 +43,7 @@ pub(crate) fn lines_of(
     turns: u64,
 ) -> Result<Vec<u8>, Fault>
     requires is_module { IsModuleOf bytes.now checked.now }
-    requires small { length bytes.now ≤ MAX_FILE_BYTES }
+    requires small { length bytes.now ≤ MAX_ORIGINAL_BYTES }
     requires within { HasListsWithin (length bytes.now) checked.now }
     requires runnable { CanRun checked.now script }
     requires bytes { HasBytes checked.now }
@@ -66,7 +66,7 @@ fn printed_lines(
     turns: u64,
 ) -> Result<Vec<u8>, Fault>
     requires is_module { IsModuleOf bytes.now checked.now }
-    requires small { length bytes.now ≤ MAX_FILE_BYTES }
+    requires small { length bytes.now ≤ MAX_ORIGINAL_BYTES }
     requires within { HasListsWithin (length bytes.now) checked.now }
     requires runnable { CanRun checked.now script }
     requires bytes { HasBytes checked.now }

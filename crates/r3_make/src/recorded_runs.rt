@@ -2,7 +2,7 @@
 
 ghost use Rattle.std.specs.Prelude.{◌≡◌, ◌≤◌, ◌⊎◌, IfErr, IfOk, length};
 ghost use Rattle.sha2.specs.Sha256.{sha256};
-ghost use Rattle.wasm_syntax.specs.declared.limits.TheConstants.{MAX_FILE_BYTES};
+ghost use Rattle.wasm_syntax.specs.declared.limits.TheConstants.{MAX_ORIGINAL_BYTES};
 ghost use Rattle.wasm_syntax.specs.ListsWithin.{HasListsWithin};
 ghost use Rattle.host_script.specs.Fits.{Fits};
 ghost use Rattle.wasm_flat.specs.Bounds.{IsBound};
@@ -61,7 +61,7 @@ pub(crate) fn hooked_inputs(
     script: Script,
 ) -> Result<HookedInputs, NoMemory>
     requires is_module { IsModuleOf bytes.now checked.now }
-    requires small { length bytes.now ≤ MAX_FILE_BYTES }
+    requires small { length bytes.now ≤ MAX_ORIGINAL_BYTES }
     requires within { HasListsWithin (length bytes.now) checked.now }
     requires short { IsShort checked.now }
     requires fits { Fits checked.now script }

@@ -1,7 +1,7 @@
 // The replay module of a run, in its binary format.
 
 ghost use Rattle.std.specs.Prelude.{◌≡◌, ◌≤◌, ◌⊎◌, Err, IfErr, IfOk, OnOk, length};
-ghost use Rattle.wasm_syntax.specs.declared.limits.TheConstants.{MAX_FILE_BYTES};
+ghost use Rattle.wasm_syntax.specs.declared.limits.TheConstants.{MAX_ORIGINAL_BYTES};
 ghost use Rattle.wasm_syntax.specs.ListsWithin.{HasListsWithin};
 ghost use Rattle.type_safety.specs.Supplies.{HasBytes};
 ghost use Rattle.accepted_runs.specs.Runnable.{CanRun};
@@ -24,8 +24,15 @@ use tape_laws::nothing_can_be_dropped;
 use type_safety::typed_store;
 use wasm_validate::Checked;
 
-/// The replay module of the run of a module under a script that fits it; `bytes` encode the module.
-pub(crate) fn replay_of(
+/// The replay module of the run of an accepted module under a script that fits it, within a number of turns, in its
+/// binary format; at most `MAX_ORIGINAL_BYTES` bytes encode the module.
+///
+/// # Errors
+///
+/// The fault names the cause: the module does not link, the host cannot do what the script says, the run needs more
+/// turns, or it needs a tape that weighs more than `MAX_TAPE_WEIGHT`. Each is reported if and only if it is the first
+/// cause that applies. `Memory` if memory is out.
+pub fn replay_of(
     alloc: Global,
     bytes: &[u8],
     checked: Checked,
@@ -33,7 +40,7 @@ pub(crate) fn replay_of(
     turns: u64,
 ) -> Result<Vec<u8>, Fault>
     requires is_module { IsModuleOf bytes.now checked }
-    requires small { length bytes.now ≤ MAX_FILE_BYTES }
+    requires small { length bytes.now ≤ MAX_ORIGINAL_BYTES }
     requires within { HasListsWithin (length bytes.now) checked }
     requires runnable { CanRun checked script }
     requires bytes { HasBytes checked }
@@ -56,7 +63,7 @@ fn made_replay(
     turns: u64,
 ) -> Result<Vec<u8>, Fault>
     requires is_module { IsModuleOf bytes.now checked }
-    requires small { length bytes.now ≤ MAX_FILE_BYTES }
+    requires small { length bytes.now ≤ MAX_ORIGINAL_BYTES }
     requires within { HasListsWithin (length bytes.now) checked }
     requires runnable { CanRun checked script }
     requires bytes { HasBytes checked }

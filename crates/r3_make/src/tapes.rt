@@ -1,7 +1,7 @@
 // The tape that the run of a module needs.
 
 ghost use Rattle.std.specs.Prelude.{◌≡◌, ◌≤◌, ◌⊎◌, List, IfErr, IfOk, length};
-ghost use Rattle.wasm_syntax.specs.declared.limits.TheConstants.{MAX_TAPE_WEIGHT, MAX_FILE_BYTES};
+ghost use Rattle.wasm_syntax.specs.declared.limits.TheConstants.{MAX_TAPE_WEIGHT, MAX_ORIGINAL_BYTES};
 ghost use Rattle.wasm_syntax.specs.ListsWithin.{HasListsWithin};
 ghost use Rattle.trace_model.specs.declared.events.Event.{Event};
 ghost use Rattle.trace_model.specs.Weight.{tape_weight};
@@ -48,7 +48,7 @@ pub fn needed_tape(
     turns: u64,
 ) -> Result<Tape, Fault>
     requires is_module { IsModuleOf bytes.now checked.now }
-    requires small { length bytes.now ≤ MAX_FILE_BYTES }
+    requires small { length bytes.now ≤ MAX_ORIGINAL_BYTES }
     requires within { HasListsWithin (length bytes.now) checked.now }
     requires runnable { CanRun checked.now script }
     requires bytes { HasBytes checked.now }

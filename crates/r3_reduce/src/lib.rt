@@ -3,7 +3,6 @@
 
 mod reducer_sink;
 mod tape_files;
-mod writable;
 
 pub use r3_faults::Fault;
 pub use tape_files::reduce_log;

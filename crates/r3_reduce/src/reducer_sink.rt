@@ -1,15 +1,17 @@
 // A reducer as the sink of a log's events.
 
 ghost use Rattle.std.specs.Prelude.{◌≡◌, []};
-ghost use Rattle.trace_reduce.specs.Reducer.{HasTaken, imports_of};
+ghost use Rattle.trace_reduce.specs.Reducer.{HasTaken, imports_of, most_of};
+ghost use Rattle.wasm_syntax.specs.declared.limits.TheConstants.{MAX_TRACE_BYTES};
 
 use base::NoMemory;
 use std::alloc::Global;
 use trace_format::LogSink;
 use trace_model::Event;
 use trace_reduce::Reducer;
+use wasm_syntax::limits::MAX_TRACE_BYTES;
 
-/// Takes events as its reducer does. The weight of the tape is limited only by memory.
+/// Takes events as its reducer does. The tape may weigh as much as the log's file may have bytes.
 #[derive(Drop)]
 pub(crate) struct ReducerSink {
     pub(crate) reducer: Reducer,
@@ -21,9 +23,10 @@ impl ReducerSink {
     pub(crate) fn new(alloc: Global, imports: u32) -> ReducerSink
         ensures taken { HasTaken result.reducer [] }
         ensures imports { imports_of result.reducer ≡ imports }
+        ensures most { most_of result.reducer ≡ MAX_TRACE_BYTES }
     {
         ReducerSink {
-            reducer: Reducer::new(alloc, imports, u64::MAX),
+            reducer: Reducer::new(alloc, imports, MAX_TRACE_BYTES),
         }
     }
 

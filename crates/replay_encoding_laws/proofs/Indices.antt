@@ -3,7 +3,7 @@ use Rattle.std.proofs.Common.{◌≡◌, ℕ, ◌+◌, ◌*◌, ◌^◌, ◌<◌
 use Rattle.std.specs.Prelude.{All}
 use Rattle.std.proofs.lemmas.Bool.{cases_lt}
 use Rattle.std.proofs.lemmas.List.{get_or_past, length-append}
-use Rattle.wasm_syntax.specs.declared.limits.TheConstants.{MAX_TAPE_WEIGHT, MAX_FILE_BYTES}
+use Rattle.wasm_syntax.specs.declared.limits.TheConstants.{MAX_TAPE_WEIGHT, MAX_ORIGINAL_BYTES}
 use Rattle.wasm_syntax.specs.declared.signatures.FuncType.{FuncType}
 use Rattle.wasm_syntax.specs.declared.modules.Import.{Import}
 use Rattle.wasm_syntax.specs.declared.modules.ImportKind.{ImportKind}
@@ -110,8 +110,8 @@ parts_few m =
 
 -- ---- the bound
 
-pub bound_small : (m : Module) (tape : Tape) → length (encoding_of m) ≤ MAX_FILE_BYTES → tape_weight tape ≤ MAX_TAPE_WEIGHT
-    → max_bytes m (tape_weight tape) < 2 ^ 29
+pub bound_small : (m : Module) (tape : Tape) → length (encoding_of m) ≤ MAX_ORIGINAL_BYTES → tape_weight tape ≤ MAX_TAPE_WEIGHT
+    → max_bytes m (tape_weight tape) < 2 ^ 32
 bound_small m tape short weight = omega (
   arith,
   short,
@@ -133,7 +133,7 @@ params_few most m within few ty = elim (cases_lt ty (length m.types)) [
 ]
 
 pub indices_fit : (bytes : List ℕ) (m : Module) (tape : Tape) → HasListsWithin (length bytes) m
-    → length (encoding_of m) ≤ length bytes → length bytes ≤ MAX_FILE_BYTES → tape_weight tape ≤ MAX_TAPE_WEIGHT
+    → length (encoding_of m) ≤ length bytes → length bytes ≤ MAX_ORIGINAL_BYTES → tape_weight tape ≤ MAX_TAPE_WEIGHT
     → FitsIndices m (plan_of (imported_funcs m) tape)
 indices_fit bytes m tape within least few weight = record {
   types = let parts = within.parts in omega (arith, parts, few);

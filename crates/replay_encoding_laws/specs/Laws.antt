@@ -16,19 +16,19 @@ use Rattle.replay_module_spec.specs.Fragments.{fragment_of}
 use Rattle.replay_gen.specs.Bounds.{FitsIndices}
 use Rattle.replay_module_spec.specs.Merge.{replay_module}
 use Rattle.replay_module_spec.specs.Size.{max_bytes}
-use Rattle.replay_encoding_laws.specs.Premises.{IsFromFile, IsTakenSupply, IsTakenTape}
+use Rattle.replay_encoding_laws.specs.Premises.{IsFromBytes, IsTakenSupply, IsTakenTape}
 
 -- with the generated parts of a tape, all indices have 32 bits
 abbrev pub PlansFitIndices : Type 0
 PlansFitIndices =
-    (bytes : List ℕ) (m : Module) (tape : Tape) → IsFromFile bytes m → IsTakenTape m tape
+    (bytes : List ℕ) (m : Module) (tape : Tape) → IsFromBytes bytes m → IsTakenTape m tape
     → FitsIndices m (plan_of (imported_funcs m) tape)
 
 -- the replay module of a tape has an encoding, if counts and sizes may be any numbers
 abbrev pub ReplayModulesAreEncodable : Type 0
 ReplayModulesAreEncodable =
     (bytes : List ℕ) (m : Module) (supply : Supply) (tape : Tape)
-    → IsFromFile bytes m → IsTakenSupply m supply → IsTakenTape m tape
+    → IsFromBytes bytes m → IsTakenSupply m supply → IsTakenTape m tape
     → IsEncodable Replay (replay_module m supply (fragment_of m (plan_of (imported_funcs m) tape)))
 
 -- the shortest encoding of the replay module of any tape and any supply is within the bound
@@ -38,8 +38,8 @@ ReplayModulesAreShort =
     → length (encoding_of (replay_module m supply (fragment_of m (plan_of (imported_funcs m) tape))))
     ≤ max_bytes m (tape_weight tape)
 
--- the bound is within the greatest length of a file of a replay module
+-- the bound has 32 bits
 abbrev pub BoundsAreShort : Type 0
 BoundsAreShort =
-    (bytes : List ℕ) (m : Module) (tape : Tape) → IsFromFile bytes m → tape_weight tape ≤ MAX_TAPE_WEIGHT
-    → max_bytes m (tape_weight tape) < 2 ^ 29
+    (bytes : List ℕ) (m : Module) (tape : Tape) → IsFromBytes bytes m → tape_weight tape ≤ MAX_TAPE_WEIGHT
+    → max_bytes m (tape_weight tape) < 2 ^ 32

@@ -1,8 +1,7 @@
--- The parts from which a replay module is made: a module that is decoded from a file, a supply for its imports, and a
--- tape.
+-- The parts from which a replay module is made: a module that bytes encode, a supply for its imports, and a tape.
 use Rattle.std.specs.Prelude.{ℕ, ◌^◌, ◌<◌, ◌≤◌, List, length, IfSome}
 use Rattle.wasm_syntax.specs.declared.forms.Form.TheVariants.{Core}
-use Rattle.wasm_syntax.specs.declared.limits.TheConstants.{MAX_TAPE_WEIGHT, MAX_FILE_BYTES}
+use Rattle.wasm_syntax.specs.declared.limits.TheConstants.{MAX_TAPE_WEIGHT, MAX_ORIGINAL_BYTES}
 use Rattle.wasm_syntax.specs.declared.modules.Module.{Module}
 use Rattle.wasm_syntax.specs.Encoding.Modules.{Encodes}
 use Rattle.wasm_syntax.specs.Validity.{IsValid}
@@ -13,11 +12,11 @@ use Rattle.trace_model.specs.Fitting.{IsFitting}
 use Rattle.trace_model.specs.Weight.{tape_weight}
 use Rattle.replay_module_laws.specs.Written.{IsConstantTape}
 
--- a valid module that the bytes of a file encode
-pub record IsFromFile (bytes : List ℕ) (m : Module) : Type 0 where
+-- a valid module that these bytes encode, which are at most `MAX_ORIGINAL_BYTES`
+pub record IsFromBytes (bytes : List ℕ) (m : Module) : Type 0 where
   pub encoded : Encodes Core bytes m
   pub valid : IsValid m
-  pub few : length bytes ≤ MAX_FILE_BYTES
+  pub few : length bytes ≤ MAX_ORIGINAL_BYTES
 
 -- a tape of constants that fits the module, with at most the allowed weight
 pub record IsTakenTape (m : Module) (tape : Tape) : Type 0 where

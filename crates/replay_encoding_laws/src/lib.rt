@@ -12,8 +12,8 @@ pub use fragments::fragments_fit;
 use replay_module_laws::replay_modules_of_tapes_are_valid;
 use wasm_syntax::{encoding_forms, lists_of_encoding, shortest_encoding};
 
-/// With the generated parts of a tape all indices have 32 bits, if the module is decoded from a file and the tape has
-/// at most the allowed weight.
+/// With the generated parts of a tape all indices have 32 bits, if at most `MAX_ORIGINAL_BYTES` bytes encode the module
+/// and the tape has at most the allowed weight.
 pub fn plans_fit_indices()
     ensures { PlansFitIndices }
 {
@@ -32,8 +32,8 @@ pub fn replay_modules_are_encodable()
     replay_modules_of_tapes_are_valid();
 }
 
-/// The shortest encoding of a replay module is within the bound, which is below 2^29 for a module that is decoded from
-/// a file and a tape with at most the allowed weight.
+/// The shortest encoding of a replay module is within the bound, which is below 2^32 for a module that at most
+/// `MAX_ORIGINAL_BYTES` bytes encode and a tape with at most the allowed weight.
 pub fn replay_modules_are_short()
     ensures short { ReplayModulesAreShort }
     ensures bounds { BoundsAreShort }

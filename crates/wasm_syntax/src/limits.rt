@@ -3,6 +3,10 @@
 /// The most bytes of a module or of a script.
 pub const MAX_FILE_BYTES: u64 = 8_388_608;
 
+/// The most bytes of the encoding of a module whose run is recorded: a module from a file, or one that is made from
+/// the modules and declarations of files.
+pub const MAX_ORIGINAL_BYTES: u64 = 67_108_864;
+
 /// The most bytes of an instrumented module.
 pub const MAX_INSTRUMENTED_BYTES: u64 = 134_217_728;
 

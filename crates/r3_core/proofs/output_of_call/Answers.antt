@@ -1,11 +1,18 @@
-use Rattle.std.proofs.Common.{◌≡◌, List, [], length, sym, ap, subst, ◌∙◌, zip, Option, Some, None, IsSome, String, string_bytes}
+use Rattle.std.proofs.Common.{◌≡◌, ◌≤◌, ℕ, All, List, [], length, sym, ap, subst, ◌∙◌, zip, Option, Some, None, IsSome, String, string_bytes}
 use Rattle.std.proofs.lemmas.Bool.{false≢true}
 use Rattle.std.proofs.lemmas.List.{length-map}
 use Rattle.r3_core.specs.Causes.{first_longer, IsRefusal, IsDoable, all_bytes}
 use Rattle.r3_core.specs.Words.{form, texts}
+use Rattle.wasm_syntax.specs.declared.limits.TheConstants.{MAX_REPLAY_BYTES}
+use Rattle.r3_core.proofs.CommandLimits.{limits_small}
 use Rattle.r3_core.proofs.ResultLemmas.{IfErr-from, IsErrAnd-from}
 use Rattle.r3_core.proofs.StatusLemmas.{load-contains, load-refused, load-done, IsErrAnd-refused, IfErr-bytes, IfErr-done}
 use Rattle.r3_core.proofs.output_of_call.Goals as goal
+
+pub load_files-requires-clause-small : goal.load_files-requires-clause-small
+load_files-requires-clause-small g c =
+    subst (λ limits. All (λ (limit : ℕ). limit ≤ MAX_REPLAY_BYTES) limits) (sym c.limits.ensures)
+    (limits_small c.args.call.now.command)
 
 pub returns-in_err-loaded-clause-longer : goal.returns-in_err-loaded-clause-longer
 returns-in_err-loaded-clause-longer g c = λ known e longer.

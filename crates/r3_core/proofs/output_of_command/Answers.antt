@@ -6,13 +6,16 @@ use Rattle.r3_reduce.specs.TapeFiles.{IsReduced, IsReduceRefusal}
 use Rattle.r3_make.specs.BuildRefusals.{IsBuildRefusal}
 use Rattle.r3_make.specs.BuiltReplays as built
 use Rattle.r3_history.specs.Histories.{IsHistory, IsHistoryRefusal}
+use Rattle.r3_core.specs.ForeignHistories.{IsForeignHistory, IsForeignHistoryRefusal}
+use Rattle.r3_core.specs.ForeignInputs.{foreign_files}
+use Rattle.r3_core.specs.ForeignReplays.{AreForeignReplayable, IsForeignRefusal}
 use Rattle.r3_replay.specs.ReplayTexts.{IsReplayText, IsReplayRefusal}
 use Rattle.r3_show.specs.FileLines.{IsShown, IsShowRefusal}
 use Rattle.load_maker.specs.Loads.{load_script}
 use Rattle.load_maker.specs.declared.load_module.TheConstants.{LOAD_MODULE}
 use Rattle.wasm_syntax.specs.declared.limits.TheConstants.{LOAD_TURNS}
 use Rattle.r3_core.specs.declared.words.Command.{Command}
-use Rattle.r3_core.specs.declared.words.Command.TheVariants.{Make, Instrument, Record, Reduce, Build, History, Replay, Show, Load}
+use Rattle.r3_core.specs.declared.words.Command.TheVariants.{Make, Instrument, Record, Reduce, Build, History, Replay, Show, Load, Foreign, ForeignHistory}
 use Rattle.r3_core.specs.Causes.{IsRefusal, IsDoable, all_bytes}
 use Rattle.r3_core.proofs.output_of_command.Goals as goal
 
@@ -179,16 +182,16 @@ returns-in-Record-len2-Some-clause-done c = λ doable.
     (c.log_run.ensures.accepted file.0 file.1).1
 
 -- a command over three files
-three-files : {Z : Type 0} (command here : Command) (P : List ℕ → List ℕ → List ℕ → Type 0) (Q : Command → List (List ℕ) → Option ℕ → Type 0) (loaded : List (Vec ℕ Z)) (number : Option ℕ) (m s t : Vec ℕ Z) → ((a b d : List ℕ) → Q here (a ∷ b ∷ d ∷ []) None → P a b d)
-    → command ≡ here → number ≡ None → m ≡ get_or loaded 0 m → s ≡ get_or loaded 1 s → t ≡ get_or loaded 2 t → 3 ≤ length loaded → length loaded < 4 → Q command (all_bytes loaded) number → P m.items s.items t.items
-three-files command here P Q [] number m s t at c n first second third least most sure = absurd (omega (arith, least))
-three-files command here P Q (a ∷ []) number m s t at c n first second third least most sure = absurd (omega (arith, least))
-three-files command here P Q (a ∷ b ∷ []) number m s t at c n first second third least most sure = absurd (omega (arith, least))
-three-files command here P Q (a ∷ b ∷ d ∷ []) number m s t at c n first second third least most sure =
+three-files : {Z : Type 0} (command here : Command) (given : Option ℕ) (P : List ℕ → List ℕ → List ℕ → Type 0) (Q : Command → List (List ℕ) → Option ℕ → Type 0) (loaded : List (Vec ℕ Z)) (number : Option ℕ) (m s t : Vec ℕ Z) → ((a b d : List ℕ) → Q here (a ∷ b ∷ d ∷ []) given → P a b d)
+    → command ≡ here → number ≡ given → m ≡ get_or loaded 0 m → s ≡ get_or loaded 1 s → t ≡ get_or loaded 2 t → 3 ≤ length loaded → length loaded < 4 → Q command (all_bytes loaded) number → P m.items s.items t.items
+three-files command here given P Q [] number m s t at c n first second third least most sure = absurd (omega (arith, least))
+three-files command here given P Q (a ∷ []) number m s t at c n first second third least most sure = absurd (omega (arith, least))
+three-files command here given P Q (a ∷ b ∷ []) number m s t at c n first second third least most sure = absurd (omega (arith, least))
+three-files command here given P Q (a ∷ b ∷ d ∷ []) number m s t at c n first second third least most sure =
     let made = subst (λ command. Q command (a.items ∷ b.items ∷ d.items ∷ []) number) c sure in
     let numbered : P a.items b.items d.items = at a.items b.items d.items (subst (λ number. Q here (a.items ∷ b.items ∷ d.items ∷ []) number) n made) in
     subst (λ (t : Vec ℕ _). P m.items s.items t.items) (sym third) (subst (λ (s : Vec ℕ _). P m.items s.items d.items) (sym second) (subst (λ (m : Vec ℕ _). P m.items b.items d.items) (sym first) numbered))
-three-files command here P Q (a ∷ b ∷ d ∷ x ∷ more) number m s t at c n first second third least most sure = absurd (omega (arith, most))
+three-files command here given P Q (a ∷ b ∷ d ∷ x ∷ more) number m s t at c n first second third least most sure = absurd (omega (arith, most))
 
 pub returns-in-Build-len3-None-clause-refused : goal.returns-in-Build-len3-None-clause-refused
 returns-in-Build-len3-None-clause-refused c = λ fault sure.
@@ -197,7 +200,7 @@ returns-in-Build-len3-None-clause-refused c = λ fault sure.
     (subst (λ bytes. IsBuildRefusal bytes c.deref-in-Build-len3-None-2.result.now c.deref-in-Build-len3-None-3.result.now fault) (sym c.deref-in-Build-len3-None.ensures.value)
     (subst (λ bytes. IsBuildRefusal c.kept-item.result.items bytes c.deref-in-Build-len3-None-3.result.now fault) (sym c.deref-in-Build-len3-None-2.ensures.value)
     (subst (λ bytes. IsBuildRefusal c.kept-item.result.items c.supplied-item.result.items bytes fault) (sym c.deref-in-Build-len3-None-3.ensures.value)
-    (three-files c.args.command Build (λ a b d. IsBuildRefusal a b d fault) (λ command loaded number. IsRefusal command loaded number fault) c.args.loaded.now c.args.number c.kept-item.result c.supplied-item.result c.tape-item.result (λ a b d sure. sure) here.is-0 here.is-2 c.kept-item.is c.supplied-item.is c.tape-item.is (omega (arith, here.len_at_least)) (omega (arith, here.len_below)) sure))))
+    (three-files c.args.command Build None (λ a b d. IsBuildRefusal a b d fault) (λ command loaded number. IsRefusal command loaded number fault) c.args.loaded.now c.args.number c.kept-item.result c.supplied-item.result c.tape-item.result (λ a b d sure. sure) here.is-0 here.is-2 c.kept-item.is c.supplied-item.is c.tape-item.is (omega (arith, here.len_at_least)) (omega (arith, here.len_below)) sure))))
 
 -- the files have a replay module
 abbrev HasBuilt : (module_bytes script_bytes tape_bytes : List ℕ) → Type 0
@@ -210,9 +213,60 @@ returns-in-Build-len3-None-clause-done c = λ doable.
     (subst (λ bytes. HasBuilt bytes c.deref-in-Build-len3-None-2.result.now c.deref-in-Build-len3-None-3.result.now) (sym c.deref-in-Build-len3-None.ensures.value)
     (subst (λ bytes. HasBuilt c.kept-item.result.items bytes c.deref-in-Build-len3-None-3.result.now) (sym c.deref-in-Build-len3-None-2.ensures.value)
     (subst (λ bytes. HasBuilt c.kept-item.result.items c.supplied-item.result.items bytes) (sym c.deref-in-Build-len3-None-3.ensures.value)
-    (three-files c.args.command Build HasBuilt (λ command loaded number. IsDoable command loaded number) c.args.loaded.now c.args.number c.kept-item.result c.supplied-item.result c.tape-item.result (λ a b d doable. doable) here.is-0 here.is-2 c.kept-item.is c.supplied-item.is c.tape-item.is (omega (arith, here.len_at_least)) (omega (arith, here.len_below)) doable))))
+    (three-files c.args.command Build None HasBuilt (λ command loaded number. IsDoable command loaded number) c.args.loaded.now c.args.number c.kept-item.result c.supplied-item.result c.tape-item.result (λ a b d doable. doable) here.is-0 here.is-2 c.kept-item.is c.supplied-item.is c.tape-item.is (omega (arith, here.len_at_least)) (omega (arith, here.len_below)) doable))))
     in
     (c.build.ensures.accepted bytes.0 bytes.1).1
+
+-- ---- runs with foreign functions
+
+pub returns-in-Foreign-len3-Some-clause-refused : goal.returns-in-Foreign-len3-Some-clause-refused
+returns-in-Foreign-len3-Some-clause-refused c = λ fault sure.
+    let here = c.in-Foreign-len3-Some in
+    let found = three-files c.args.command Foreign (Some here.turns) (λ a b d. IsForeignRefusal (foreign_files a b d) here.turns fault) (λ command loaded number. IsRefusal command loaded number fault)
+    c.args.loaded.now c.args.number c.hosted-item.result c.decls-item.result c.answers-item.result (λ a b d sure. sure) here.is-0 here.is-2
+    c.hosted-item.is c.decls-item.is c.answers-item.is (omega (arith, here.len_at_least)) (omega (arith, here.len_below)) sure in
+    c.foreign.ensures.refused fault
+    (subst (λ x. IsForeignRefusal (foreign_files x c.deref-in-Foreign-len3-Some-2.result.now c.deref-in-Foreign-len3-Some-3.result.now) here.turns fault) (sym c.deref-in-Foreign-len3-Some.ensures.value)
+    (subst (λ y. IsForeignRefusal (foreign_files c.hosted-item.result.items y c.deref-in-Foreign-len3-Some-3.result.now) here.turns fault) (sym c.deref-in-Foreign-len3-Some-2.ensures.value)
+    (subst (λ z. IsForeignRefusal (foreign_files c.hosted-item.result.items c.decls-item.result.items z) here.turns fault) (sym c.deref-in-Foreign-len3-Some-3.ensures.value) found)))
+
+pub returns-in-Foreign-len3-Some-clause-done : goal.returns-in-Foreign-len3-Some-clause-done
+returns-in-Foreign-len3-Some-clause-done c = λ doable.
+    let here = c.in-Foreign-len3-Some in
+    let found = three-files c.args.command Foreign (Some here.turns) (λ a b d. AreForeignReplayable (foreign_files a b d) here.turns) (λ command loaded number. IsDoable command loaded number)
+    c.args.loaded.now c.args.number c.hosted-item.result c.decls-item.result c.answers-item.result (λ a b d doable. doable) here.is-0 here.is-2
+    c.hosted-item.is c.decls-item.is c.answers-item.is (omega (arith, here.len_at_least)) (omega (arith, here.len_below)) doable in
+    c.foreign.ensures.accepted
+    (subst (λ x. AreForeignReplayable (foreign_files x c.deref-in-Foreign-len3-Some-2.result.now c.deref-in-Foreign-len3-Some-3.result.now) here.turns) (sym c.deref-in-Foreign-len3-Some.ensures.value)
+    (subst (λ y. AreForeignReplayable (foreign_files c.hosted-item.result.items y c.deref-in-Foreign-len3-Some-3.result.now) here.turns) (sym c.deref-in-Foreign-len3-Some-2.ensures.value)
+    (subst (λ z. AreForeignReplayable (foreign_files c.hosted-item.result.items c.decls-item.result.items z) here.turns) (sym c.deref-in-Foreign-len3-Some-3.ensures.value) found)))
+
+pub returns-in-ForeignHistory-len3-Some-clause-refused : goal.returns-in-ForeignHistory-len3-Some-clause-refused
+returns-in-ForeignHistory-len3-Some-clause-refused c = λ fault sure.
+    let here = c.in-ForeignHistory-len3-Some in
+    let found = three-files c.args.command ForeignHistory (Some here.turns) (λ a b d. IsForeignHistoryRefusal (foreign_files a b d) here.turns fault) (λ command loaded number. IsRefusal command loaded number fault)
+    c.args.loaded.now c.args.number c.shown-item.result c.shown_decls-item.result c.shown_answers-item.result (λ a b d sure. sure) here.is-0 here.is-2
+    c.shown-item.is c.shown_decls-item.is c.shown_answers-item.is (omega (arith, here.len_at_least)) (omega (arith, here.len_below)) sure in
+    c.foreign_history.ensures.refused fault
+    (subst (λ x. IsForeignHistoryRefusal (foreign_files x c.deref-in-ForeignHistory-len3-Some-2.result.now c.deref-in-ForeignHistory-len3-Some-3.result.now) here.turns fault) (sym c.deref-in-ForeignHistory-len3-Some.ensures.value)
+    (subst (λ y. IsForeignHistoryRefusal (foreign_files c.shown-item.result.items y c.deref-in-ForeignHistory-len3-Some-3.result.now) here.turns fault) (sym c.deref-in-ForeignHistory-len3-Some-2.ensures.value)
+    (subst (λ z. IsForeignHistoryRefusal (foreign_files c.shown-item.result.items c.shown_decls-item.result.items z) here.turns fault) (sym c.deref-in-ForeignHistory-len3-Some-3.ensures.value) found)))
+
+-- the files have a history with foreign functions
+abbrev HasForeignHistory : (module_bytes decl_bytes script_bytes : List ℕ) → (turns : ℕ) → Type 0
+HasForeignHistory module_bytes decl_bytes script_bytes turns =
+    (text : List ℕ) × IsForeignHistory (foreign_files module_bytes decl_bytes script_bytes) turns text
+
+pub returns-in-ForeignHistory-len3-Some-clause-done : goal.returns-in-ForeignHistory-len3-Some-clause-done
+returns-in-ForeignHistory-len3-Some-clause-done c = λ doable.
+    let here = c.in-ForeignHistory-len3-Some in
+    let found = three-files c.args.command ForeignHistory (Some here.turns) (λ a b d. HasForeignHistory a b d here.turns) (λ command loaded number. IsDoable command loaded number)
+    c.args.loaded.now c.args.number c.shown-item.result c.shown_decls-item.result c.shown_answers-item.result (λ a b d doable. doable) here.is-0 here.is-2
+    c.shown-item.is c.shown_decls-item.is c.shown_answers-item.is (omega (arith, here.len_at_least)) (omega (arith, here.len_below)) doable in
+    let history = subst (λ x. HasForeignHistory x c.deref-in-ForeignHistory-len3-Some-2.result.now c.deref-in-ForeignHistory-len3-Some-3.result.now here.turns) (sym c.deref-in-ForeignHistory-len3-Some.ensures.value)
+    (subst (λ y. HasForeignHistory c.shown-item.result.items y c.deref-in-ForeignHistory-len3-Some-3.result.now here.turns) (sym c.deref-in-ForeignHistory-len3-Some-2.ensures.value)
+    (subst (λ z. HasForeignHistory c.shown-item.result.items c.shown_decls-item.result.items z here.turns) (sym c.deref-in-ForeignHistory-len3-Some-3.ensures.value) found)) in
+    (c.foreign_history.ensures.accepted history.0 history.1).1
 
 -- ---- loads
 

@@ -11,4 +11,4 @@ returns-in-Ok c =
     c.in-Ok.outcome
     (λ other number begins. ok_pair c.in_ok-digest.digest other c.in_ok-digest.imports number
     (c.in_ok-digest.ensures.only other number begins))
-    c.new-sink.ensures.taken c.new-sink.ensures.imports c.in-Ok.ensures.found)
+    c.new-sink.ensures.taken c.new-sink.ensures.imports c.new-sink.ensures.most c.in-Ok.ensures.found)

@@ -14,4 +14,6 @@ returns-in_default c =
     let replay = bytes_eq-false (codes "replay") name c.in_default.not-replay in
     let show = bytes_eq-false (codes "show") name c.in_default.not-show in
     let load = bytes_eq-false (codes "load") name c.in_default.not-load in
-    rw (make, instrument, record_, reduce, build, history, replay, show, load) refl
+    let foreign = bytes_eq-false (codes "foreign") name c.in_default.not-foreign in
+    let foreign_history = bytes_eq-false (codes "foreign-history") name c.in_default.not-text in
+    rw (make, instrument, record_, reduce, build, history, replay, show, load, foreign, foreign_history) refl

@@ -1,0 +1,11 @@
+pub mod Meanings
+pub mod Loops
+pub mod Counts
+pub mod TakenNames
+pub mod Parts
+pub mod Members
+pub mod Sizes
+pub mod DistinctNames
+pub mod FittingDecls
+pub mod TextNames
+pub mod Examples

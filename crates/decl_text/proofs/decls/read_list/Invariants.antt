@@ -1,0 +1,9 @@
+use Rattle.std.proofs.Common.{◌≡◌, drop}
+use Rattle.serde_json.specs.View.{items_view}
+use Rattle.decl_text.specs.Walk.{items_from}
+use Rattle.decl_text.specs.Texts.{decl_of}
+use Rattle.decl_text.proofs.Loops.{with_front}
+use Rattle.decl_text.proofs.decls.read_list.Given as goal
+
+abbrev pub invariant-items : goal.invariant-items
+invariant-items l = with_front l.found.items (items_from decl_of l.index (items_view (drop l.index l.values))) ≡ items_from decl_of 0 (items_view l.values)

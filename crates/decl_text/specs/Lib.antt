@@ -1,0 +1,4 @@
+pub mod Walk
+pub mod Texts
+pub mod Names
+pub mod Laws

@@ -1,0 +1,15 @@
+//! Reads declarations of functions of the host that a module does not import: returns the list, or the first fault of
+//! its form or its names.
+#![tactic(auto)]
+
+pub mod decls;
+pub mod faults;
+pub mod laws;
+mod names;
+mod objects;
+mod paths;
+mod types;
+
+pub use decls::read_decls;
+pub use faults::DeclFault;
+pub use laws::{declarations_are_within_texts, declarations_that_are_read_fit};

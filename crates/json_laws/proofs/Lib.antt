@@ -1,0 +1,5 @@
+pub mod Weights
+pub mod Contents
+pub mod Lexemes
+pub mod Grammar
+pub mod Values

@@ -1,0 +1,6 @@
+mod Among
+mod Places
+mod Finds
+mod FittingEffects
+mod Marks
+mod Segments

@@ -1,0 +1,177 @@
+-- Imports by their kinds: those of a linked module, and those of a side.
+use Rattle.std.proofs.Common.{◌≡◌, ℕ, zero, suc, List, [], ◌∷◌, ◌++◌, length, map, filter, Option, Some, None, Bool, true, false, cond, not, is_some, slice_get, refl, sym, ap, ◌∙◌}
+use Rattle.std.specs.List.{cons_option}
+use Rattle.wasm_syntax.specs.declared.signatures.GlobalType.{GlobalType}
+use Rattle.wasm_syntax.specs.declared.modules.Import.{Import}
+use Rattle.wasm_syntax.specs.declared.modules.ImportKind.{ImportKind}
+use Rattle.wasm_syntax.specs.declared.modules.ImportKind.TheVariants as import
+use Rattle.wasm_syntax.specs.Index.{of_kind, func_import, table_import, memory_import, global_import}
+use Rattle.instance_spec.specs.declared.sides.Side.{Side}
+use Rattle.instance_spec.specs.Instances.{Instance}
+use Rattle.pair_spec.specs.Pairs.{is_from_other, host_imports, Space, Funcs, Globals, is_in}
+use Rattle.pair_spec.specs.Linked.{linked_import}
+use Rattle.pair_laws.proofs.Lists.{of_choice}
+
+-- ---- imports of one kind
+
+cons_front : {K : Type 0} (o : Option K) (xs ys : List K) → cons_option o (xs ++ ys) ≡ cons_option o xs ++ ys
+cons_front None xs ys = refl
+cons_front (Some k) xs ys = refl
+
+pub kinds_joined : {K : Type 0} (pick : ImportKind → Option K) (imports more : List Import)
+    → of_kind pick (imports ++ more) ≡ of_kind pick imports ++ of_kind pick more
+kinds_joined pick [] more = refl
+kinds_joined pick (i ∷ imports) more =
+    ap (cons_option (pick i.kind)) (kinds_joined pick imports more)
+    ∙ cons_front (pick i.kind) (of_kind pick imports) (of_kind pick more)
+
+-- ---- linked imports
+
+module _ (i : Instance) where
+  pub funcs_linked : (imports : List Import)
+      → of_kind func_import (map (linked_import i) imports) ≡ map (i.types) (of_kind func_import imports)
+  funcs_linked [] = refl
+  funcs_linked (first ∷ imports) = by first.kind (funcs_linked imports)
+    where
+      by : (kind : ImportKind)
+          → of_kind func_import (map (linked_import i) imports) ≡ map (i.types) (of_kind func_import imports)
+          → of_kind func_import (map (linked_import i) (record first { kind = kind } ∷ imports))
+          ≡ map (i.types) (of_kind func_import (record first { kind = kind } ∷ imports))
+      by (import.Func ty) e = ap (λ types. i.types ty ∷ types) e
+      by (import.Table limits) e = e
+      by (import.Memory limits) e = e
+      by (import.Global ty) e = e
+
+  -- imports whose kind stays
+  kept_one : {K : Type 0} (pick : ImportKind → Option K) (first : Import) (imports : List Import)
+      → pick (linked_import i first).kind ≡ pick first.kind
+      → of_kind pick (map (linked_import i) imports) ≡ of_kind pick imports
+      → of_kind pick (map (linked_import i) (first ∷ imports)) ≡ of_kind pick (first ∷ imports)
+  kept_one pick first imports same later = (λ j. cons_option (same j) (later j))
+
+  pub memories_kept : (imports : List Import)
+      → of_kind memory_import (map (linked_import i) imports) ≡ of_kind memory_import imports
+  memories_kept [] = refl
+  memories_kept (first ∷ imports) = kept_one memory_import first imports (by first.kind) (memories_kept imports)
+    where
+      by : (kind : ImportKind) → memory_import (linked_import i (record first { kind = kind })).kind ≡ memory_import kind
+      by (import.Func ty) = refl
+      by (import.Table limits) = refl
+      by (import.Memory limits) = refl
+      by (import.Global ty) = refl
+
+  pub tables_kept : (imports : List Import)
+      → of_kind table_import (map (linked_import i) imports) ≡ of_kind table_import imports
+  tables_kept [] = refl
+  tables_kept (first ∷ imports) = kept_one table_import first imports (by first.kind) (tables_kept imports)
+    where
+      by : (kind : ImportKind) → table_import (linked_import i (record first { kind = kind })).kind ≡ table_import kind
+      by (import.Func ty) = refl
+      by (import.Table limits) = refl
+      by (import.Memory limits) = refl
+      by (import.Global ty) = refl
+
+-- ---- how many of the host's imports have their indices in a space
+
+counted_one : {K : Type 0} (o : Option K) (b : Bool) (first : Import) (kinds : List K) (imports : List Import)
+    → length kinds ≡ length imports
+    → length (cond b (cons_option o kinds) kinds) ≡ length (cond (is_some o) (cond b (first ∷ imports) imports) imports)
+counted_one None true first kinds imports e = e
+counted_one None false first kinds imports e = e
+counted_one (Some k) true first kinds imports e = ap suc e
+counted_one (Some k) false first kinds imports e = e
+
+-- what a kind picks is what has its index in a space
+abbrev pub IsKindOf : {K : Type 0} → (ImportKind → Option K) → Space → Type 0
+IsKindOf pick space = (kind : ImportKind) → is_in space kind ≡ is_some (pick kind)
+
+pub is_func : IsKindOf func_import Funcs
+is_func (import.Func ty) = refl
+is_func (import.Table limits) = refl
+is_func (import.Memory limits) = refl
+is_func (import.Global ty) = refl
+
+pub is_global : IsKindOf global_import Globals
+is_global (import.Func ty) = refl
+is_global (import.Table limits) = refl
+is_global (import.Memory limits) = refl
+is_global (import.Global ty) = refl
+
+pub hosts_counted : {K : Type 0} (pick : ImportKind → Option K) (space : Space) → IsKindOf pick space → (side : Side)
+    (imports : List Import)
+    → length (of_kind pick (host_imports side imports)) ≡ length (host_imports side (filter (λ i. is_in space i.kind) imports))
+hosts_counted pick space same side [] = refl
+hosts_counted pick space same side (first ∷ imports) =
+    let b = not (is_from_other side first) in
+    let hosts = host_imports side imports in
+    let others = filter (λ (i : Import). is_in space i.kind) imports in
+    let own = host_imports side others in
+    ap length (of_choice (of_kind pick) b (first ∷ hosts) hosts)
+    ∙ counted_one (pick first.kind) b first (of_kind pick hosts) own (hosts_counted pick space same side imports)
+    ∙ ap (λ c. length (cond c (cond b (first ∷ own) own) own)) (sym (same first.kind))
+    ∙ sym (ap length (of_choice (host_imports side) (is_in space first.kind) (first ∷ others) others))
+
+-- ---- imports by their indices
+
+-- the import of an index in a space, with its kind
+pub record IsImportAt (space : Space) (imports : List Import) (x : ℕ) (kind : ImportKind) : Type 0 where
+  pub imported : Import
+  pub there : slice_get (filter (λ i. is_in space i.kind) imports) x ≡ Some imported
+  pub kind_is : imported.kind ≡ kind
+
+module _ {K : Type 0} (pick : ImportKind → Option K) (space : Space) (make : K → ImportKind) (same : IsKindOf pick space)
+    (makes : (kind : ImportKind) (k : K) → pick kind ≡ Some k → kind ≡ make k) where
+  abbrev among : List Import → List Import
+  among imports = filter (λ i. is_in space i.kind) imports
+
+  import_at : (imports : List Import) (x : ℕ) (k : K) → slice_get (of_kind pick imports) x ≡ Some k
+      → IsImportAt space imports x (make k)
+  import_at [] x k h = cc
+  import_at (first ∷ imports) x k h = by (pick first.kind) refl x h (λ y h. import_at imports y k h)
+    where
+      is_there : (o : Option K) → pick first.kind ≡ o → is_in space first.kind ≡ is_some o
+      is_there o e = same first.kind ∙ ap is_some e
+
+      by : (o : Option K) → pick first.kind ≡ o → (x : ℕ) → slice_get (cons_option o (of_kind pick imports)) x ≡ Some k
+          → ((y : ℕ) → slice_get (of_kind pick imports) y ≡ Some k → IsImportAt space imports y (make k))
+          → IsImportAt space (first ∷ imports) x (make k)
+      by None e x h later =
+          let own = later x h in
+          record {
+            imported = own.imported;
+            there =
+                ap (λ b. slice_get (cond b (first ∷ among imports) (among imports)) x) (is_there None e) ∙ own.there;
+            kind_is = own.kind_is;
+          }
+      by (Some j) e zero h later =
+          let alike : j ≡ k = cc in
+          record {
+            imported = first;
+            there = ap (λ b. slice_get (cond b (first ∷ among imports) (among imports)) 0) (is_there (Some j) e);
+            kind_is = makes first.kind k (e ∙ ap (λ k. Some k) alike);
+          }
+      by (Some j) e (suc x) h later =
+          let own = later x h in
+          record {
+            imported = own.imported;
+            there =
+                ap (λ b. slice_get (cond b (first ∷ among imports) (among imports)) (suc x)) (is_there (Some j) e)
+                ∙ own.there;
+            kind_is = own.kind_is;
+          }
+
+func_kind : (kind : ImportKind) (ty : ℕ) → func_import kind ≡ Some ty → kind ≡ import.Func ty
+func_kind (import.Func t) ty h = let same : t ≡ ty = cc in ap import.Func same
+func_kind kind ty h = cc
+
+global_kind : (kind : ImportKind) (ty : GlobalType) → global_import kind ≡ Some ty → kind ≡ import.Global ty
+global_kind (import.Global t) ty h = let same : t ≡ ty = cc in ap import.Global same
+global_kind kind ty h = cc
+
+pub func_at : (imports : List Import) (x ty : ℕ) → slice_get (of_kind func_import imports) x ≡ Some ty
+    → IsImportAt Funcs imports x (import.Func ty)
+func_at = import_at func_import Funcs import.Func is_func func_kind
+
+pub global_at : (imports : List Import) (x : ℕ) (ty : GlobalType) → slice_get (of_kind global_import imports) x ≡ Some ty
+    → IsImportAt Globals imports x (import.Global ty)
+global_at = import_at global_import Globals import.Global is_global global_kind

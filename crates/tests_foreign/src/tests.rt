@@ -1,0 +1,4 @@
+mod calls;
+mod modules;
+mod refusals;
+mod runs;
