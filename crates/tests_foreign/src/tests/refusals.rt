@@ -109,7 +109,7 @@ const REFUSED: &[(&str, Texts<'static>, &str, u8, &str)] = &[
         },
         "5",
         7,
-        "unsupported: function 0 instruction 2 float arithmetic\n",
+        "unsupported: function 2 instruction 3 float arithmetic\n",
     ),
     (
         "a script that answers a function which is not declared",
