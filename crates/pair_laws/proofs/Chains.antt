@@ -1,6 +1,8 @@
 -- The ends of chains of imports, where a pair has no fault.
-use Rattle.std.proofs.Common.{◌≡◌, ℕ, zero, suc, ◌+◌, List, [], ◌∷◌, length, Option, Some, None, Bool, true, false, cond, ◌||◌, slice_get, option_and_then, refl, sym, ap, ◌∙◌, subst, arith}
+use Rattle.std.proofs.Common.{◌≡◌, ℕ, zero, suc, ◌+◌, List, [], ◌∷◌, length, filter, take, Option, Some, None, Bool, true, false, cond, ◌||◌, slice_get, option_and_then, refl, sym, ap, ◌∙◌, subst, arith}
 use Rattle.std.specs.Option.{option_or}
+use Rattle.std.proofs.lemmas.List.Elements.{filter_passes}
+use Rattle.base.proofs.Lists.{all_at}
 use Rattle.wasm_syntax.specs.declared.signatures.GlobalType.{GlobalType}
 use Rattle.wasm_syntax.specs.declared.modules.Module.{Module}
 use Rattle.wasm_syntax.specs.declared.modules.Import.{Import}
@@ -11,7 +13,7 @@ use Rattle.instance_spec.specs.declared.sides.Side.{Side}
 use Rattle.instance_spec.specs.declared.sides.Side.TheVariants.{Left, Right}
 use Rattle.pair_spec.specs.declared.faults.PairFault.{PairFault}
 use Rattle.pair_spec.specs.declared.faults.PairFault.TheVariants.{Unresolved, Mismatch}
-use Rattle.pair_spec.specs.Pairs.{ModulePair, module_of, other_side, is_from_other, Space, Globals, is_in, imports_in, space_of, exported_index}
+use Rattle.pair_spec.specs.Pairs.{ModulePair, module_of, other_side, is_from_other, Space, Funcs, Tables, Memories, Globals, is_in, imports_in, space_of, exported_index}
 use Rattle.pair_spec.specs.Chains.{ChainEnd, Defined, HostImport, end_by, end_after, end_of}
 use Rattle.pair_spec.specs.PairRuns.{init_at}
 use Rattle.pair_spec.specs.Faults.{fault_unless, does_match, is_one_const, has_constant, fault_by_end, import_index, import_fault, first_import_fault, first_pair_fault}
@@ -25,10 +27,15 @@ abbrev pub IsHost : ModulePair → Space → Side → ℕ → Type 0
 IsHost pair space side y =
     (i : Import) × (slice_get (imports_in space (module_of pair side)) y ≡ Some i) × (is_from_other side i ≡ false)
 
--- an end is what it is said to be: a definition, or an import of the host
+-- an end is an import of the host if it is said to be one, and else no import
 abbrev pub IsEnd : ModulePair → Space → ChainEnd → Type 0
 IsEnd pair space (Defined side y) = slice_get (imports_in space (module_of pair side)) y ≡ None
 IsEnd pair space (HostImport side y) = IsHost pair space side y
+
+-- the side of an end
+abbrev pub end_side : ChainEnd → Side
+end_side (Defined side y) = side
+end_side (HostImport side y) = side
 
 same_end : (a b : ChainEnd) → Some a ≡ Some b → a ≡ b
 same_end a b e = cc
@@ -62,14 +69,10 @@ module _ (pair : ModulePair) (space : Space) where
       end_from (end_after k pair space) (ends_are k) side x e (slice_get (imports_in space (module_of pair side)) x)
       refl is
 
-  -- a definition and an import of the host are the ends of their own chains
-  pub defined_end : (k : ℕ) (side : Side) (x : ℕ) → slice_get (imports_in space (module_of pair side)) x ≡ None
-      → end_after (suc k) pair space side x ≡ Some (Defined side x)
-  defined_end k side x none = ap (end_by (end_after k pair space) pair space side x) none
-
-  pub host_end : (k : ℕ) (side : Side) (x : ℕ) (i : Import) → slice_get (imports_in space (module_of pair side)) x ≡ Some i
+  -- an import of the host is the end of its own chain
+  pub own_end : (k : ℕ) (side : Side) (x : ℕ) (i : Import) → slice_get (imports_in space (module_of pair side)) x ≡ Some i
       → is_from_other side i ≡ false → end_after (suc k) pair space side x ≡ Some (HostImport side x)
-  host_end k side x i there own =
+  own_end k side x i there own =
       let later = end_after k pair space in
       ap (end_by later pair space side x) there
       ∙ ap
@@ -78,17 +81,6 @@ module _ (pair : ModulePair) (space : Space) where
       (Some (HostImport side x)))
       own
 
--- the number of imports of both modules
-abbrev pub imports_of_both : ModulePair → ℕ
-imports_of_both pair = length pair.left.imports + length pair.right.imports
-
--- the end of a chain, with one index taken off
-pub end_is : (pair : ModulePair) (space : Space) (side : Side) (x : ℕ)
-    → end_of pair space side x ≡ end_after (suc (imports_of_both pair)) pair space side x
-end_is pair space side x =
-    let more : imports_of_both pair + 1 ≡ suc (imports_of_both pair) = omega arith in
-    ap (λ k. end_after k pair space side x) more
-
 -- an end of a chain of globals has a value that is known before the run: the host's, or one constant
 abbrev pub HasValue : ModulePair → ChainEnd → Type 0
 HasValue pair (Defined side y) = is_one_const (init_at pair side y) ≡ true
@@ -96,11 +88,11 @@ HasValue pair (HostImport side y) = IsHost pair Globals side y
 
 -- ---- imports without a fault
 
-or_none : {X : Type 0} (a b : Option X) → option_or a b ≡ None → (a ≡ None) × (b ≡ None)
+pub or_none : {X : Type 0} (a b : Option X) → option_or a b ≡ None → (a ≡ None) × (b ≡ None)
 or_none None b h = (refl, h)
 or_none (Some x) b h = cc
 
-passes : (b : Bool) (fault : PairFault) → fault_unless b fault ≡ None → b ≡ true
+pub passes : (b : Bool) (fault : PairFault) → fault_unless b fault ≡ None → b ≡ true
 passes true fault h = refl
 passes false fault h = cc
 
@@ -114,6 +106,13 @@ no_import_fault pair none Left = (or_none (first_import_fault pair Left 0 pair.l
 no_import_fault pair none Right =
     (or_none (first_import_fault pair Right 0 pair.right.imports) _
     (or_none (first_import_fault pair Left 0 pair.left.imports) _ none).1).0
+
+space_is : (space : Space) (kind : ImportKind) → is_in space kind ≡ true → space_of kind ≡ space
+space_is Funcs (import.Func ty) h = refl
+space_is Tables (import.Table limits) h = refl
+space_is Memories (import.Memory limits) h = refl
+space_is Globals (import.Global ty) h = refl
+space_is space kind h = cc
 
 module _ (pair : ModulePair) (side : Side) where
   abbrev m : Module
@@ -132,7 +131,7 @@ module _ (pair : ModulePair) (side : Side) where
       let place : at + suc k ≡ at + 1 + k = omega arith in
       ap (λ n. import_fault pair side n i) place ∙ no_fault_at imports (at + 1) k i parts.1 there
 
-  -- an end that has no fault, for an import of a kind
+  -- an end that has no fault
   pub record IsFaultless (kind : ImportKind) (o : Option ChainEnd) : Type 0 where
     pub found : ChainEnd
     pub is : o ≡ Some found
@@ -145,8 +144,7 @@ module _ (pair : ModulePair) (side : Side) where
   faultless place kind (Some e) h =
       let constant = has_constant pair kind e in
       let matches = does_match pair side kind e in
-      let parts = or_none (fault_unless constant (Unresolved side place))
-      (fault_unless matches (Mismatch side place)) h in
+      let parts = or_none (fault_unless constant (Unresolved side place)) (fault_unless matches (Mismatch side place)) h in
       record {
         found = e;
         is = refl;
@@ -154,23 +152,26 @@ module _ (pair : ModulePair) (side : Side) where
         matches = passes matches (Mismatch side place) parts.1;
       }
 
-  -- an import from the other side, by its index among the imports of its kind
-  pub import_end : first_import_fault pair side 0 m.imports ≡ None → (kind : ImportKind) (x : ℕ) (i : Import)
-      → slice_get (imports_in (space_of kind) m) x ≡ Some i → i.kind ≡ kind → is_from_other side i ≡ true
-      → IsFaultless kind (end_of pair (space_of kind) side x)
-  import_end none kind x i there kind_is from =
-      let space = space_of kind in
+  -- an import from the other side, by its index
+  pub import_end : first_import_fault pair side 0 m.imports ≡ None → (space : Space) (x : ℕ) (i : Import)
+      → slice_get (imports_in space m) x ≡ Some i → is_from_other side i ≡ true
+      → IsFaultless i.kind (end_of pair space side x)
+  import_end none space x i there from =
       let own = place_of (λ (i : Import). is_in space i.kind) m.imports x i there in
       let zero : 0 + own.place ≡ own.place = omega arith in
       let fault = ap (λ n. import_fault pair side n i) (sym zero) ∙ no_fault_at m.imports 0 own.place i none own.there in
-      let yes = sym from in
-      let kinds = sym kind_is in
-      let by_kind : fault_by_end pair side own.place kind (end_of pair space side (import_index m own.place kind)) ≡ None =
-      (λ j. cond (yes j) (fault_by_end pair side own.place (kinds j)
-      (end_of pair (space_of (kinds j)) side (import_index m own.place (kinds j)))) None)
+      let by_kind : fault_by_end pair side own.place i.kind
+      (end_of pair (space_of i.kind) side (import_index m own.place i.kind)) ≡ None =
+      ap (λ b. cond b (fault_by_end pair side own.place i.kind
+      (end_of pair (space_of i.kind) side (import_index m own.place i.kind))) None) (sym from)
       ∙ fault in
-      faultless own.place kind (end_of pair space side x)
-      (ap (λ n. fault_by_end pair side own.place kind (end_of pair space side n)) (sym own.before) ∙ by_kind)
+      let passed = all_at (λ (i : Import). is_in space i.kind ≡ true) (imports_in space m) x i
+      (filter_passes (λ (i : Import). is_in space i.kind) m.imports) there in
+      let by_space = ap (λ (s : Space). fault_by_end pair side own.place i.kind
+      (end_of pair s side (length (filter (λ (i : Import). is_in s i.kind) (take own.place m.imports)))))
+      (sym (space_is space i.kind passed)) ∙ by_kind in
+      faultless own.place i.kind (end_of pair space side x)
+      (ap (λ n. fault_by_end pair side own.place i.kind (end_of pair space side n)) (sym own.before) ∙ by_space)
 
   -- ---- immutable imports of globals
 
@@ -193,15 +194,23 @@ module _ (pair : ModulePair) (side : Side) where
       by : (i : Import) → slice_get (imports_in Globals m) x ≡ Some i → i.kind ≡ import.Global ty
           → (b : Bool) → is_from_other side i ≡ b → IsKnown x
       by i there kind_is true from =
-          let own = import_end none (import.Global ty) x i there kind_is from in
-          let host = ends_are pair Globals (imports_of_both pair + 1) side x own.found
+          let own = import_end none Globals x i there from in
+          let host = ends_are pair Globals (length pair.left.imports + length pair.right.imports + 1) side x own.found
           own.is in
-          record { found = own.found; is = own.is; value = value_by ty fixed own.found own.constant host }
-      by i there kind_is false own = record {
-        found = HostImport side x;
-        is = end_is pair Globals side x ∙ host_end pair Globals (imports_of_both pair) side x i there own;
-        value = (i, there, own);
-      }
+          record {
+            found = own.found;
+            is = own.is;
+            value = value_by ty fixed own.found
+                (subst (λ kind. has_constant pair kind own.found ≡ true) kind_is own.constant) host;
+          }
+      by i there kind_is false own =
+          let all = length pair.left.imports + length pair.right.imports in
+          let more : all + 1 ≡ suc all = omega arith in
+          record {
+            found = HostImport side x;
+            is = ap (λ k. end_after k pair Globals side x) more ∙ own_end pair Globals all side x i there own;
+            value = (i, there, own);
+          }
 
 -- so each immutable global that a valid side imports has a known value
 pub globals_known : (pair : ModulePair) → first_pair_fault pair ≡ None → (side : Side) (x : ℕ) (ty : GlobalType)

@@ -100,7 +100,7 @@ no_link_fault (Some fault) made supply h = cc
 
 -- ---- constant expressions
 
-single_is : (body : List Instr) (i : Instr) → single body ≡ Some i → body ≡ i ∷ End ∷ []
+pub single_is : (body : List Instr) (i : Instr) → single body ≡ Some i → body ≡ i ∷ End ∷ []
 single_is (j ∷ End ∷ []) i h = let same : j ≡ i = cc in ap (λ k. k ∷ End ∷ []) same
 single_is body i h = cc
 
@@ -109,8 +109,13 @@ const_alike : (imported : List Val) (z : Val) (body : List Instr) → is_one_con
 const_alike imported z (Const value ∷ End ∷ []) h = refl
 const_alike imported z body h = cc
 
-module _ (pair : ModulePair) (script : Script) (supply : Supply) (is : pair_supply pair script ≡ Ok supply) where
-  hosts_whole : length (of_kind global_import (pair_hosts pair)) ≡ all_hosts pair Globals
+-- both modules are valid
+pub valid_side : (pair : ModulePair) → AreLinkable pair → (side : Side) → IsValid (module_of pair side)
+valid_side pair linkable Left = linkable.left
+valid_side pair linkable Right = linkable.right
+
+module _ (pair : ModulePair) where
+  pub hosts_whole : length (of_kind global_import (pair_hosts pair)) ≡ all_hosts pair Globals
   hosts_whole =
       let left = host_imports Left pair.left.imports in
       let right = host_imports Right pair.right.imports in
@@ -118,18 +123,6 @@ module _ (pair : ModulePair) (script : Script) (supply : Supply) (is : pair_supp
       ∙ length-append (of_kind global_import left) (of_kind global_import right)
       ∙ (λ j. hosts_counted global_import Globals is_global Left pair.left.imports j
       + hosts_counted global_import Globals is_global Right pair.right.imports j)
-
-  -- the host's value of each number
-  host_given : (k : ℕ) → k < all_hosts pair Globals → (value : Val) × (slice_get supply.globals k ≡ Some value)
-  host_given k low =
-      let parts = no_link_fault (first_fault script (pair_hosts pair) 0 0) _ supply is in
-      let each : (j : ℕ) → j ≤ k → IsGiven script.globals j =
-      λ j below.
-      let zero : 0 + j ≡ j = omega arith in
-      subst (IsGiven script.globals) zero
-      (values_given script (pair_hosts pair) 0 0 parts.0 j (omega (arith, below, low, hosts_whole))) in
-      let own = given_at script.globals k each in
-      (own.0, ap (λ (s : Supply). slice_get s.globals k) (sym parts.1) ∙ own.1)
 
   -- the number of an import of the host is one of theirs
   host_low : (side : Side) (y : ℕ) → IsHost pair Globals side y
@@ -139,17 +132,30 @@ module _ (pair : ModulePair) (script : Script) (supply : Supply) (is : pair_supp
       slice_get_within (host_imports side imports) (length (host_imports side (take y imports))) i
       (passed_at (λ i. not (is_from_other side i)) imports y i there (ap not own))
 
-  number_low : (side : Side) (y : ℕ) → IsHost pair Globals side y
+  pub number_low : (side : Side) (y : ℕ) → IsHost pair Globals side y
       → number_of pair Globals (HostImport side y) < all_hosts pair Globals
   number_low Left y host = let low = host_low Left y host in omega (arith, low)
   number_low Right y host = let low = host_low Right y host in omega (arith, low)
+
+module _ (pair : ModulePair) (script : Script) (supply : Supply) (is : pair_supply pair script ≡ Ok supply) where
+  -- the host's value of each number
+  host_given : (k : ℕ) → k < all_hosts pair Globals → (value : Val) × (slice_get supply.globals k ≡ Some value)
+  host_given k low =
+      let parts = no_link_fault (first_fault script (pair_hosts pair) 0 0) _ supply is in
+      let each : (j : ℕ) → j ≤ k → IsGiven script.globals j =
+      λ j below.
+      let zero : 0 + j ≡ j = omega arith in
+      subst (IsGiven script.globals) zero
+      (values_given script (pair_hosts pair) 0 0 parts.0 j (omega (arith, below, low, hosts_whole pair))) in
+      let own = given_at script.globals k each in
+      (own.0, ap (λ (s : Supply). slice_get s.globals k) (sym parts.1) ∙ own.1)
 
   host_alike : (side : Side) (y : ℕ) → IsHost pair Globals side y → (z : Val)
       → unwrap_or (slice_get supply.globals (number_of pair Globals (HostImport side y))) z
       ≡ slice_index_or supply.globals (number_of pair Globals (HostImport side y)) (zero_of I32)
   host_alike side y host z =
       let number = number_of pair Globals (HostImport side y) in
-      let own = host_given number (number_low side y host) in
+      let own = host_given number (number_low pair side y host) in
       ap (λ o. unwrap_or o z) own.1 ∙ sym (index_there supply.globals number (zero_of I32) own.0 own.1)
 
   end_alike : (body : List Instr) (e : ChainEnd) → HasValue pair e → (z : Val)
@@ -209,13 +215,6 @@ module _ (pair : ModulePair) (script : Script) (supply : Supply) (is : pair_supp
       elem_alike (Active table offset funcs) h = body_alike I32 offset h.1
       elem_alike (Declared funcs) h = tt
 
-    valid : AreLinkable pair → IsValid m
-    valid linkable = by side
-      where
-        by : (side : Side) → IsValid (module_of pair side)
-        by Left = linkable.left
-        by Right = linkable.right
-
     -- all constant expressions of a side have the values that they have in the pair
     pub record AreAlike : Type 0 where
       pub globals : AllByRecursion (λ (g : Global). IsAlike g.init) m.globals
@@ -224,7 +223,7 @@ module _ (pair : ModulePair) (script : Script) (supply : Supply) (is : pair_supp
 
     pub are_alike : AreLinkable pair → AreAlike
     are_alike linkable =
-        let outside = (valid linkable).outside in
+        let outside = (valid_side pair linkable side).outside in
         record {
           globals =
               one_by_one (IsGlobal m) (λ (g : Global). IsAlike g.init)

@@ -8,7 +8,7 @@ use Rattle.wasm_syntax.specs.declared.modules.ImportKind.TheVariants as import
 use Rattle.wasm_syntax.specs.Index.{of_kind, func_import, table_import, memory_import, global_import}
 use Rattle.instance_spec.specs.declared.sides.Side.{Side}
 use Rattle.instance_spec.specs.Instances.{Instance}
-use Rattle.pair_spec.specs.Pairs.{is_from_other, host_imports, Space, Funcs, Globals, is_in}
+use Rattle.pair_spec.specs.Pairs.{is_from_other, host_imports, Space, Funcs, Tables, Memories, Globals, is_in}
 use Rattle.pair_spec.specs.Linked.{linked_import}
 use Rattle.pair_laws.proofs.Lists.{of_choice}
 
@@ -71,6 +71,17 @@ module _ (i : Instance) where
       by (import.Memory limits) = refl
       by (import.Global ty) = refl
 
+  pub globals_kept : (imports : List Import)
+      → of_kind global_import (map (linked_import i) imports) ≡ of_kind global_import imports
+  globals_kept [] = refl
+  globals_kept (first ∷ imports) = kept_one global_import first imports (by first.kind) (globals_kept imports)
+    where
+      by : (kind : ImportKind) → global_import (linked_import i (record first { kind = kind })).kind ≡ global_import kind
+      by (import.Func ty) = refl
+      by (import.Table limits) = refl
+      by (import.Memory limits) = refl
+      by (import.Global ty) = refl
+
 -- ---- how many of the host's imports have their indices in a space
 
 counted_one : {K : Type 0} (o : Option K) (b : Bool) (first : Import) (kinds : List K) (imports : List Import)
@@ -97,6 +108,18 @@ is_global (import.Table limits) = refl
 is_global (import.Memory limits) = refl
 is_global (import.Global ty) = refl
 
+pub is_table : IsKindOf table_import Tables
+is_table (import.Func ty) = refl
+is_table (import.Table limits) = refl
+is_table (import.Memory limits) = refl
+is_table (import.Global ty) = refl
+
+pub is_memory : IsKindOf memory_import Memories
+is_memory (import.Func ty) = refl
+is_memory (import.Table limits) = refl
+is_memory (import.Memory limits) = refl
+is_memory (import.Global ty) = refl
+
 pub hosts_counted : {K : Type 0} (pick : ImportKind → Option K) (space : Space) → IsKindOf pick space → (side : Side)
     (imports : List Import)
     → length (of_kind pick (host_imports side imports)) ≡ length (host_imports side (filter (λ i. is_in space i.kind) imports))
@@ -111,67 +134,48 @@ hosts_counted pick space same side (first ∷ imports) =
     ∙ ap (λ c. length (cond c (cond b (first ∷ own) own) own)) (sym (same first.kind))
     ∙ sym (ap length (of_choice (host_imports side) (is_in space first.kind) (first ∷ others) others))
 
--- ---- imports by their indices
+-- ---- imports of globals
 
--- the import of an index in a space, with its kind
-pub record IsImportAt (space : Space) (imports : List Import) (x : ℕ) (kind : ImportKind) : Type 0 where
+abbrev globals_among : List Import → List Import
+globals_among imports = filter (λ i. is_in Globals i.kind) imports
+
+-- the import of a global, by its index
+pub record IsGlobalImport (imports : List Import) (x : ℕ) (ty : GlobalType) : Type 0 where
   pub imported : Import
-  pub there : slice_get (filter (λ i. is_in space i.kind) imports) x ≡ Some imported
-  pub kind_is : imported.kind ≡ kind
-
-module _ {K : Type 0} (pick : ImportKind → Option K) (space : Space) (make : K → ImportKind) (same : IsKindOf pick space)
-    (makes : (kind : ImportKind) (k : K) → pick kind ≡ Some k → kind ≡ make k) where
-  abbrev among : List Import → List Import
-  among imports = filter (λ i. is_in space i.kind) imports
-
-  import_at : (imports : List Import) (x : ℕ) (k : K) → slice_get (of_kind pick imports) x ≡ Some k
-      → IsImportAt space imports x (make k)
-  import_at [] x k h = cc
-  import_at (first ∷ imports) x k h = by (pick first.kind) refl x h (λ y h. import_at imports y k h)
-    where
-      is_there : (o : Option K) → pick first.kind ≡ o → is_in space first.kind ≡ is_some o
-      is_there o e = same first.kind ∙ ap is_some e
-
-      by : (o : Option K) → pick first.kind ≡ o → (x : ℕ) → slice_get (cons_option o (of_kind pick imports)) x ≡ Some k
-          → ((y : ℕ) → slice_get (of_kind pick imports) y ≡ Some k → IsImportAt space imports y (make k))
-          → IsImportAt space (first ∷ imports) x (make k)
-      by None e x h later =
-          let own = later x h in
-          record {
-            imported = own.imported;
-            there =
-                ap (λ b. slice_get (cond b (first ∷ among imports) (among imports)) x) (is_there None e) ∙ own.there;
-            kind_is = own.kind_is;
-          }
-      by (Some j) e zero h later =
-          let alike : j ≡ k = cc in
-          record {
-            imported = first;
-            there = ap (λ b. slice_get (cond b (first ∷ among imports) (among imports)) 0) (is_there (Some j) e);
-            kind_is = makes first.kind k (e ∙ ap (λ k. Some k) alike);
-          }
-      by (Some j) e (suc x) h later =
-          let own = later x h in
-          record {
-            imported = own.imported;
-            there =
-                ap (λ b. slice_get (cond b (first ∷ among imports) (among imports)) (suc x)) (is_there (Some j) e)
-                ∙ own.there;
-            kind_is = own.kind_is;
-          }
-
-func_kind : (kind : ImportKind) (ty : ℕ) → func_import kind ≡ Some ty → kind ≡ import.Func ty
-func_kind (import.Func t) ty h = let same : t ≡ ty = cc in ap import.Func same
-func_kind kind ty h = cc
-
-global_kind : (kind : ImportKind) (ty : GlobalType) → global_import kind ≡ Some ty → kind ≡ import.Global ty
-global_kind (import.Global t) ty h = let same : t ≡ ty = cc in ap import.Global same
-global_kind kind ty h = cc
-
-pub func_at : (imports : List Import) (x ty : ℕ) → slice_get (of_kind func_import imports) x ≡ Some ty
-    → IsImportAt Funcs imports x (import.Func ty)
-func_at = import_at func_import Funcs import.Func is_func func_kind
+  pub there : slice_get (filter (λ i. is_in Globals i.kind) imports) x ≡ Some imported
+  pub kind_is : imported.kind ≡ import.Global ty
 
 pub global_at : (imports : List Import) (x : ℕ) (ty : GlobalType) → slice_get (of_kind global_import imports) x ≡ Some ty
-    → IsImportAt Globals imports x (import.Global ty)
-global_at = import_at global_import Globals import.Global is_global global_kind
+    → IsGlobalImport imports x ty
+global_at [] x ty h = cc
+global_at (first ∷ imports) x ty h = by first.kind refl x h (λ y h. global_at imports y ty h)
+  where
+    on_by : (kind : ImportKind) → first.kind ≡ kind → is_in Globals kind ≡ false → (x : ℕ) → IsGlobalImport imports x ty
+        → IsGlobalImport (first ∷ imports) x ty
+    on_by kind e other x own = record {
+      imported = own.imported;
+      there = ap (λ b. slice_get (cond b (first ∷ globals_among imports) (globals_among imports)) x) (ap (is_in Globals) e ∙ other) ∙ own.there;
+      kind_is = own.kind_is;
+    }
+
+    by : (kind : ImportKind) → first.kind ≡ kind → (x : ℕ)
+        → slice_get (cons_option (global_import kind) (of_kind global_import imports)) x ≡ Some ty
+        → ((y : ℕ) → slice_get (of_kind global_import imports) y ≡ Some ty → IsGlobalImport imports y ty)
+        → IsGlobalImport (first ∷ imports) x ty
+    by (import.Func t) e x h later = on_by (import.Func t) e refl x (later x h)
+    by (import.Table limits) e x h later = on_by (import.Table limits) e refl x (later x h)
+    by (import.Memory limits) e x h later = on_by (import.Memory limits) e refl x (later x h)
+    by (import.Global t) e zero h later =
+        let same : t ≡ ty = cc in
+        record {
+          imported = first;
+          there = ap (λ kind. slice_get (cond (is_in Globals kind) (first ∷ globals_among imports) (globals_among imports)) 0) e;
+          kind_is = e ∙ ap import.Global same;
+        }
+    by (import.Global t) e (suc x) h later =
+        let own = later x h in
+        record {
+          imported = own.imported;
+          there = ap (λ kind. slice_get (cond (is_in Globals kind) (first ∷ globals_among imports) (globals_among imports)) (suc x)) e ∙ own.there;
+          kind_is = own.kind_is;
+        }

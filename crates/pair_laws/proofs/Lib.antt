@@ -2,6 +2,15 @@ pub mod Lists
 pub mod Imports
 pub mod LinkedCode
 pub mod Chains
-pub mod FuncTypes
 pub mod Constants
 pub mod LinkedStarts
+pub mod LinkedCore
+pub mod LinkedItems
+pub mod LinkedSpaces
+pub mod FuncTypes
+pub mod LinkedConstants
+pub mod LinkedExports
+pub mod LinkedValid
+pub mod LinkedEncodable
+pub mod LinkedAccepted
+pub mod LinkedSizes

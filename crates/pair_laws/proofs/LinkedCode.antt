@@ -8,7 +8,7 @@ use Rattle.wasm_syntax.specs.declared.modules.Module.{Module}
 use Rattle.wasm_syntax.specs.declared.modules.Func.{Func}
 use Rattle.wasm_syntax.specs.Nest.{Nest, nest_of}
 use Rattle.wasm_syntax.specs.Validity.{each_local}
-use Rattle.wasm_syntax.specs.Index.{of_kind, func_import, imported_funcs}
+use Rattle.wasm_syntax.specs.Index.{of_kind, func_import, func_indices, imported_funcs}
 use Rattle.host_script.specs.declared.scripts.Script.{Script}
 use Rattle.history_spec.specs.Code.{Definition, definition, definition_of}
 use Rattle.history_spec.specs.Run.{program_of}
@@ -20,7 +20,7 @@ use Rattle.instance_laws.specs.Typings.{BodiesAreRenamed}
 use Rattle.instance_laws.proofs.Numbers.{is_below}
 use Rattle.pair_spec.specs.Pairs.{ModulePair, host_imports, Funcs}
 use Rattle.pair_spec.specs.Numbers.{all_hosts, side_instance}
-use Rattle.pair_spec.specs.PairRuns.{host_types, pair_world}
+use Rattle.pair_spec.specs.PairRuns.{host_types, pair_code, pair_world}
 use Rattle.pair_spec.specs.Linked.{linked_import, linked_func, linked}
 use Rattle.pair_laws.proofs.Imports.{kinds_joined, funcs_linked, is_func, hosts_counted}
 
@@ -97,23 +97,17 @@ types_linked : (i : Instance) (funcs : List Func)
 types_linked i [] = refl
 types_linked i (f ∷ funcs) = ap (λ types. i.types f.ty ∷ types) (types_linked i funcs)
 
-module _ (pair : ModulePair) (script : Script) where
+module _ (pair : ModulePair) where
   abbrev left : Instance
   left = side_instance pair Left
 
   abbrev right : Instance
   right = side_instance pair Right
 
-  abbrev w : World
-  w = pair_world pair script
-
   abbrev whole : Module
   whole = linked pair
 
-  abbrev p : Program
-  p = program_of whole script
-
-  types_are : of_kind func_import whole.imports ≡ host_types pair Left ++ host_types pair Right
+  pub types_are : of_kind func_import whole.imports ≡ host_types pair Left ++ host_types pair Right
   types_are =
       kinds_joined func_import (map (linked_import left) (host_imports Left pair.left.imports))
       (map (linked_import right) (host_imports Right pair.right.imports))
@@ -129,7 +123,7 @@ module _ (pair : ModulePair) (script : Script) where
       ∙ (λ j. hosts_counted func_import Funcs is_func Left pair.left.imports j
       + hosts_counted func_import Funcs is_func Right pair.right.imports j)
 
-  indices_are : p.code.indices ≡ w.program.code.indices
+  pub indices_are : func_indices whole ≡ (pair_code pair).indices
   indices_are =
       (λ j. types_are j
       ++ map-append (λ (f : Func). f.ty) (map (linked_func left) pair.left.funcs)
@@ -137,12 +131,19 @@ module _ (pair : ModulePair) (script : Script) where
       ∙ (λ j. (host_types pair Left ++ host_types pair Right)
       ++ (types_linked left pair.left.funcs j ++ types_linked right pair.right.funcs j))
 
+module _ (pair : ModulePair) (script : Script) where
+  abbrev w : World
+  w = pair_world pair script
+
+  abbrev p : Program
+  p = program_of (linked pair) script
+
   code_is : p ≡ record w.program { code = record w.program.code { defined = p.code.defined } }
   code_is = (λ j. record {
     code = record {
       types = w.program.code.types;
-      imported = imported_is j;
-      indices = indices_are j;
+      imported = imported_is pair j;
+      indices = indices_are pair j;
       defined = p.code.defined;
     };
     answers = script.imports;
@@ -154,7 +155,7 @@ module _ (pair : ModulePair) (script : Script) where
   abbrev found : ℕ → Option Definition
   found k = option_and_then (λ d. d) (slice_get w.program.code.defined k)
 
-  chosen : (b : Bool) → side_instance pair (cond b Left Right) ≡ cond b left right
+  chosen : (b : Bool) → side_instance pair (cond b Left Right) ≡ cond b (left pair) (right pair)
   chosen true = refl
   chosen false = refl
 
@@ -164,15 +165,15 @@ module _ (pair : ModulePair) (script : Script) where
         ≡ option_map (renamed_definition (w.instance_of func)) (cond b None (found (func - hosts)))
     at_number func true past = refl
     at_number func false past =
-        definition_at renamed left right pair.left.funcs pair.right.funcs (func - hosts)
+        definition_at renamed (left pair) (right pair) pair.left.funcs pair.right.funcs (func - hosts)
         ∙ ap (λ i. option_map (renamed_definition i) (found (func - hosts)))
-        (ap (λ b. cond b left right) (sym (placed func hosts (length pair.left.funcs) past))
+        (ap (λ b. cond b (left pair) (right pair)) (sym (placed func hosts (length pair.left.funcs) past))
         ∙ sym (chosen (nat_lt func (hosts + length pair.left.funcs))))
 
     bodies_are : (func : ℕ)
         → definition p.code func ≡ option_map (renamed_definition (w.instance_of func)) (definition w.program.code func)
     bodies_are func =
-        ap (λ n. cond (nat_lt func n) None (option_and_then (λ d. d) (slice_get p.code.defined (func - n)))) imported_is
+        ap (λ n. cond (nat_lt func n) None (option_and_then (λ d. d) (slice_get p.code.defined (func - n)))) (imported_is pair)
         ∙ at_number func (nat_lt func hosts) refl
 
     pub does_realise : Realises w p

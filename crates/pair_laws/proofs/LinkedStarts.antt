@@ -268,7 +268,7 @@ module _ (pair : ModulePair) (script : Script) where
   module _ (renamed : BodiesAreRenamed) (follow : RunsFollow) where
     begun : (r : Result Store LinkFault) → start_or_fault whole script r ≡ renamed_start w (pair_start_or_fault pair script r)
     begun (Ok store) =
-        ap (λ n. Ok (start p (pair_start_func pair) store (replicate n 0) script.main)) (imported_is pair script)
+        ap (λ n. Ok (start p (pair_start_func pair) store (replicate n 0) script.main)) (imported_is pair)
         ∙ ap (λ s. Ok s)
         ((follow w p (does_realise pair script renamed)).begins (pair_start_func pair) store
         (replicate w.program.code.imported 0) script.main)

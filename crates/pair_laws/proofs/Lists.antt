@@ -1,5 +1,5 @@
 -- Items of a list that pass a test, and items by their places.
-use Rattle.std.proofs.Common.{◌≡◌, ℕ, zero, suc, List, [], ◌∷◌, length, filter, take, Some, Bool, true, false, cond, slice_get, refl, ap, ◌∙◌}
+use Rattle.std.proofs.Common.{◌≡◌, ℕ, zero, suc, List, [], ◌∷◌, length, map, filter, take, Some, Bool, true, false, cond, slice_get, refl, ap, ◌∙◌}
 use Rattle.std.specs.List.{All, AllByRecursion, slice_index_or}
 use Rattle.std.proofs.lemmas.List.Elements.{All-head, All-tail}
 
@@ -69,3 +69,18 @@ index_there (y ∷ xs) (suc k) d x h = index_there xs k d x h
 pub one_by_one : {X : Type 0} (P Q : X → Type 0) → ((x : X) → P x → Q x) → (xs : List X) → All P xs → AllByRecursion Q xs
 one_by_one P Q each [] h = tt
 one_by_one P Q each (x ∷ xs) h = (each x (All-head P x xs h), one_by_one P Q each xs (All-tail P x xs h))
+
+pub mapped_all : {A B : Type 0} (P : A → Type 0) (Q : B → Type 0) (f : A → B) → ((x : A) → P x → Q (f x))
+    → (xs : List A) → AllByRecursion P xs → AllByRecursion Q (map f xs)
+mapped_all P Q f each [] all = tt
+mapped_all P Q f each (x ∷ xs) all = (each x all.0, mapped_all P Q f each xs all.1)
+
+pub filtered_all : {X : Type 0} (P : X → Type 0) (test : X → Bool) (xs : List X) → AllByRecursion P xs
+    → AllByRecursion P (filter test xs)
+filtered_all P test [] all = tt
+filtered_all P test (x ∷ xs) all = by (test x) (filtered_all P test xs all.1)
+  where
+    by : (b : Bool) → AllByRecursion P (filter test xs)
+        → AllByRecursion P (cond b (x ∷ filter test xs) (filter test xs))
+    by true later = (all.0, later)
+    by false later = later

@@ -1,0 +1,28 @@
+-- Laws of the sizes of linked modules.
+use Rattle.std.specs.Prelude.{ℕ, ◌+◌, ◌<◌, ◌≤◌, length}
+use Rattle.wasm_syntax.specs.ListsWithin.{HasListsWithin}
+use Rattle.wasm_flat.specs.Sizes.{IsShort, list_limit}
+use Rattle.pair_spec.specs.Pairs.{ModulePair, Space, Funcs, defined_in}
+use Rattle.pair_spec.specs.Numbers.{count_in}
+use Rattle.pair_spec.specs.Linked.{linked}
+
+-- the run of a pair has no more of a space than both modules import and define
+abbrev pub CountsAreWithin : Type 0
+CountsAreWithin =
+    (pair : ModulePair) (space : Space)
+    → count_in pair space
+    ≤ length pair.left.imports + length pair.right.imports + defined_in space pair.left + defined_in space pair.right
+
+-- no list of a linked module has more items than those of both modules
+abbrev pub LinkedHaveListsWithin : Type 0
+LinkedHaveListsWithin =
+    (pair : ModulePair) (left right : ℕ) → HasListsWithin left pair.left → HasListsWithin right pair.right
+    → HasListsWithin (left + right) (linked pair)
+
+-- a linked module is short enough to be made flat, if both modules are, and if their types and functions are not too
+-- many together
+abbrev pub LinkedAreShort : Type 0
+LinkedAreShort =
+    (pair : ModulePair) → IsShort pair.left → IsShort pair.right
+    → length pair.left.types + length pair.right.types < list_limit → count_in pair Funcs < list_limit
+    → IsShort (linked pair)
