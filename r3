@@ -20,6 +20,8 @@ r3 records one run of a WebAssembly module together with what its host did, and 
   history MODULE SCRIPT TURNS                prints the run: a line for each entry, and how it ends
   foreign MODULE DECLS SCRIPT TURNS          as make, for a host with functions that are not imports
   foreign-history MODULE DECLS SCRIPT TURNS  as history, for such a host
+  pair LEFT RIGHT SCRIPT TURNS               as make, for two modules, each of which may import what the other exports
+  pair-history LEFT RIGHT SCRIPT TURNS       as history, for two such modules
   replay REPLAY_MODULE TURNS                 runs a replay module and prints what it shows, as history does
   instrument MODULE                          prints the module with calls of hooks
   record INSTRUMENTED SCRIPT TURNS           runs an instrumented module and prints the log of its run
@@ -29,8 +31,10 @@ r3 records one run of a WebAssembly module together with what its host did, and 
   load NUMBER                                makes a large run of NUMBER calls (1 to 60000) and prints its sizes
   --help, --version                          print this text; the version and the digest of the sources
 
-TURNS is the most steps: 1 to 1000000000 for make and foreign, to 2000000 for history and foreign-history, to 20000000
+TURNS is the most steps: 1 to 1000000000 for make, foreign and pair, to 2000000 for the three histories, to 20000000
 for record and replay. DECLS declares the functions of the host that are not imports, as a JSON list.
+LEFT imports what RIGHT exports from the module name right, and RIGHT what LEFT exports from left. The script is that of
+both together: it names LEFT's export x as left.x, and RIGHT's as right.x.
 All is printed to standard output. A call that fails prints one line to standard error: README.md lists the statuses.
 END
     echo "Pages, in $(unset CDPATH && cd -- "$top" && pwd):"
@@ -48,8 +52,8 @@ are_words_taken() {
     case ${1-}:$# in
         make:4) is_number "$4" 1000000000 ;;
         history:4) is_number "$4" 2000000 ;;
-        foreign:5) is_number "$5" 1000000000 ;;
-        foreign-history:5) is_number "$5" 2000000 ;;
+        foreign:5 | pair:5) is_number "$5" 1000000000 ;;
+        foreign-history:5 | pair-history:5) is_number "$5" 2000000 ;;
         record:4) is_number "$4" 20000000 ;;
         replay:3) is_number "$3" 20000000 ;;
         load:2) is_number "$2" 60000 ;;

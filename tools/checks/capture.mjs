@@ -29,11 +29,12 @@ function moduleOf(example) {
   throw new Error(`${example} has no module`);
 }
 
-/** For each example with a history, without declarations: the captured host that plays its script has this history. */
+/** For each example of one module alone with a history: the captured host that plays its script has this history. */
 function examples(runner) {
   const folder = path.join(root, 'examples');
   const all = fs.readdirSync(folder).filter(file => file.endsWith(ENDING)).map(file => file.slice(0, -ENDING.length));
-  const names = all.filter(name => !fs.existsSync(path.join(folder, `${name}.decls.json`)));
+  const besides = name => ['decls.json', 'left.wasm'].map(ending => path.join(folder, `${name}.${ending}`));
+  const names = all.filter(name => !besides(name).some(file => fs.existsSync(file)));
   return names.map(name => [name, () => {
     const module = moduleOf(name);
     const captured = runner.capture([module, scriptHost, path.join(folder, `${name}.json`)]);

@@ -21,20 +21,22 @@ def names(ending):
 
 
 def files_of(script, module):
-    """The files of a run: the module, its declarations of host functions if it has some, and the script."""
-    declared = os.path.join(EXAMPLES, module + ".decls.json")
-    between = [declared] if os.path.isfile(declared) else []
-    return [os.path.join(EXAMPLES, module + ".wasm"), *between, os.path.join(EXAMPLES, script + ".json")]
+    """The files of a run: the module and its declarations of host functions, or the two modules, and the script."""
+    endings = [".left.wasm", ".right.wasm"] if module in names(".left.wasm") else [".wasm", ".decls.json"]
+    paths = [os.path.join(EXAMPLES, module + ending) for ending in endings]
+    return [*filter(os.path.isfile, paths), os.path.join(EXAMPLES, script + ".json")]
 
 
 def commands_of(files):
     """The commands that make the replay module and print the history of the run of these files."""
-    return ("make", "history") if len(files) == 2 else ("foreign", "foreign-history")
+    if len(files) == 2:
+        return ("make", "history")
+    return ("pair", "pair-history") if files[1].endswith(".wasm") else ("foreign", "foreign-history")
 
 
 def runs():
-    """Each script's name, with the name of its module: the longest one with which it begins."""
-    modules = names(".wasm")
+    """Each script's name, with the name of its module or modules: the longest one with which it begins."""
+    modules = names(".wasm") + names(".left.wasm")
     for script in names(".json"):
         fitting = [name for name in modules if script == name or script.startswith(name + "_")]
         if fitting:
@@ -95,7 +97,7 @@ def check_run(group, script, module):
     group.expect(group.done(makes, *files, TURNS) == replay, f"{script}: `{makes}` prints the same again")
     path = group.put(script + ".replay.wasm", replay)
     group.expect(group.done("replay", path, TURNS) == history, f"{script}: `replay` prints the lines of `{shows}`")
-    if makes == "foreign":
+    if makes != "make":
         return {script + ".replay.wasm": replay}
     printed, built = in_parts(group, script, files)
     group.expect(built == replay, f"{script}: `build` prints what `make` prints")

@@ -11,10 +11,12 @@ HOOKED_LIMIT = 134217728
 
 def calls(group):
     """One call of each command that prints something, on files of the group's folder."""
-    files, declared = ["m.wasm", "s.json"], ["m.wasm", "d.json", "s.json"]
+    files, declared, pair = ["m.wasm", "s.json"], ["m.wasm", "d.json", "s.json"], ["m.wasm", "other.wasm", "p.json"]
     for file, source in zip(files, ("two_answers.wasm", "two_answers.json")):
         group.put(file, example(source))
     group.put("d.json", b'[{"name":"own","params":["i32"],"results":["f64"]}]')
+    group.put("other.wasm", example("empty.wasm"))
+    group.put("p.json", example("two_answers.json").replace(b'"g"', b'"left.g"'))
     group.put("r.wasm", example("replay_two_answers.wasm"))
     group.put("hooked.wasm", group.done("instrument", "m.wasm"))
     group.put("log", group.done("record", "hooked.wasm", "s.json", "99"))
@@ -22,6 +24,7 @@ def calls(group):
     return [
         ["make", *files, "99"], ["history", *files, "99"], ["replay", "r.wasm", "99"], ["instrument", "m.wasm"],
         ["foreign", *declared, "99"], ["foreign-history", *declared, "99"],
+        ["pair", *pair, "99"], ["pair-history", *pair, "99"],
         ["record", "hooked.wasm", "s.json", "99"], ["reduce", "log"], ["build", *files, "tape"], ["show", "log"],
         ["load", "1"],
     ]
@@ -69,6 +72,7 @@ def check_too_long(group):
     group.refused(["make", "long.module", "s.json", "1"], 4, line)
     group.refused(["make", "m.wasm", "long.module", "1"], 4, line)
     group.refused(["foreign", "m.wasm", "long.module", "s.json", "1"], 4, line)
+    group.refused(["pair", "m.wasm", "long.module", "s.json", "1"], 4, line)
     group.refused(["instrument", "long.module"], 4, line)
     group.refused(["record", "long.hooked", "s.json", "1"], 4, f"too long: long.hooked {HOOKED_LIMIT}")
     with open(group.path("long.module"), "wb") as file:

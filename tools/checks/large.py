@@ -1,4 +1,5 @@
-"""Larger inputs: a load, a large module, a deep recursion, many declarations. Each call has the usual time limit."""
+"""Larger inputs: a load, a large module, a deep recursion, many declarations, a long chain of imports. Each call has the
+usual time limit."""
 import json
 
 import modules
@@ -9,6 +10,7 @@ ADDITIONS = 100000
 DEPTH = 20000
 LOAD = 1000
 DECLARATIONS = 60000
+CHAIN = 20000
 NINE = {"return": {"i32": 9}}
 
 
@@ -115,6 +117,36 @@ def check_large_declarations(group):
             group.refused([command, module, path, script, "5"], 20, line)
 
 
+def chained(last):
+    """Two modules: import k of the left one is import k of the right one, which is import k + 1 of the left one, and so
+    on to the last, which is the left module's function of this index. The function behind that calls import 0."""
+    types = [([], [I32])]
+    left_imports = [("right", f"f{place}", b"\0\0") for place in range(CHAIN)]
+    right_imports = [("left", f"f{place + 1}", b"\0\0") for place in range(CHAIN)]
+    left_exports = [(f"f{place}", FUNC, place) for place in range(1, CHAIN)]
+    left_exports += [(f"f{CHAIN}", FUNC, last), ("g", FUNC, CHAIN + 1)]
+    right_exports = [(f"f{place}", FUNC, place) for place in range(CHAIN)]
+    bodies = [b"\x41\x09", b"\x10\0"]
+    left = modules.module(types, left_imports, [0, 0], exports=left_exports, bodies=bodies)
+    return left, modules.module(types, right_imports, exports=right_exports)
+
+
+def check_long_chain(group):
+    """A chain of 40,000 imports, back and forth between two modules, to a function or back to its begin."""
+    script = group.put("chain.json", b'{"main":[{"call":"left.g"}]}')
+    for last in (CHAIN, 0):
+        files = [group.put(f"chain{last}.{side}.wasm", it) for side, it in zip(("left", "right"), chained(last))]
+        files.append(script)
+        if last:
+            nine = "i32:00000009"
+            lines = f"host-call 1\nstep 1 0 ->\nenter 0\nstep 0 0 -> {nine}\nexit 0 {nine}\nhost-return 1 {nine}\nended\n"
+            group.expect(group.done("pair-history", *files, "3") == lines.encode(), "a long chain ends at a function")
+            replay = group.put("chain.replay.wasm", group.done("pair", *files, "3"))
+            group.expect(group.done("replay", replay, "9") == lines.encode(), "a long chain: `replay` prints the history")
+        else:
+            group.refused(["pair", *files, "3"], 21, "pair: unresolved left 0")
+
+
 def checks(group):
     answer = group.done("load", str(LOAD))
     group.expect(answer.decode() == load_lines(LOAD), f"`load {LOAD}` prints its four sizes")
@@ -123,3 +155,4 @@ def checks(group):
     check_large_answer(group)
     check_many_declarations(group)
     check_large_declarations(group)
+    check_long_chain(group)

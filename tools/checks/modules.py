@@ -51,10 +51,18 @@ def code(body, locals_of_i32=0):
     return u32(len(data)) + data
 
 
-def module(types=(), imports=(), funcs=(), tables=(), memories=(), exports=(), elements=(), bodies=(), customs=()):
+def global_of(value_type, is_mutable, init):
+    """A global with a constant expression, without its `end`."""
+    return bytes([value_type, is_mutable]) + init + b"\x0b"
+
+
+def module(
+    types=(), imports=(), funcs=(), tables=(), memories=(), globals_=(), exports=(), start=None, elements=(), bodies=(),
+    datas=(), customs=(),
+):
     """A module: types of pairs of lists, imports of two names and the rest, types of functions by index, limits of
-    tables and memories, exports of a name, a kind and an index, lists of functions at 0 in the table, bodies, custom
-    sections."""
+    tables and memories, globals, exports of a name, a kind and an index, the start function, lists of functions at 0 in
+    the table, bodies, bytes at 0 in the memory, custom sections."""
     return b"".join(
         [
             MAGIC,
@@ -63,9 +71,12 @@ def module(types=(), imports=(), funcs=(), tables=(), memories=(), exports=(), e
             section(3, [u32(it) for it in funcs]),
             section(4, [b"\x70" + it for it in tables]),
             section(5, list(memories)),
+            section(6, list(globals_)),
             section(7, [name(text) + bytes([kind]) + u32(index) for text, kind, index in exports]),
+            b"" if start is None else b"\x08" + u32(len(u32(start))) + u32(start),
             section(9, [b"\0\x41\0\x0b" + vector([u32(it) for it in funcs_at_0]) for funcs_at_0 in elements]),
             section(10, [code(it) if isinstance(it, bytes) else code(*it) for it in bodies]),
+            section(11, [b"\0\x41\0\x0b" + u32(len(it)) + it for it in datas]),
             *(custom(*it) for it in customs),
         ]
     )

@@ -6,6 +6,7 @@ with its bracket. A prefix of a log or of a tape is never whole, since both end 
 """
 import re
 
+import pairs
 from modules import example, section_ends
 
 TURNS = "1000"
@@ -61,6 +62,24 @@ def cut_module(group, module, script):
                 group.expect(is_well, f"the first {length} bytes of the module are refused", answer)
 
 
+def cut_pair(group):
+    """The first sections of a module of a pair. Those of the left one export nothing that the script names, and those of
+    the right one nothing that the left one imports."""
+    files = pairs.put_pair(group, "whole", pairs.LEFT, pairs.RIGHT, pairs.SCRIPT)
+    answers = [(pairs.LEFT, 9, b"script: unknown left.g\n"), (pairs.RIGHT, 21, b"pair: unresolved left 0\n")]
+    for place, (binary, status, line) in enumerate(answers):
+        whole = well_formed(binary)
+        words = [*files[:place], "cut.wasm", *files[place + 1 :], TURNS]
+        for length in each_prefix(group, "cut.wasm", binary):
+            for command in ("pair", "pair-history"):
+                answer = group.call(command, *words)
+                if length in whole:
+                    is_well = answer == (status, b"", line)
+                else:
+                    is_well = answer.status == 5 and not answer.out and is_place(answer.err, "malformed: at ", length)
+                group.expect(is_well, f"`{command}` refuses the first {length} bytes of its module {place}", answer)
+
+
 def cut_replay(group, replay):
     """A prefix of a replay module that is a module has no layout yet, which comes last."""
     whole = well_formed(replay)
@@ -95,6 +114,7 @@ def checks(group):
     cut_module(group, module, script)
     cut_script(group, module, script)
     cut_declarations(group, files)
+    cut_pair(group)
     hooked = group.put("hooked.wasm", group.done("instrument", files[0]))
     log = group.done("record", hooked, files[1], TURNS)
     tape = group.done("reduce", group.put("whole.log", log))

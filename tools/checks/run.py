@@ -16,6 +16,7 @@ import examples
 import files
 import large
 import memory
+import pairs
 import prefixes
 import statuses
 import wrapper
@@ -26,6 +27,7 @@ CHAINS = [
     [("examples", examples.checks), ("examples in other engines", engines.checks)],
     [("captured hosts", captures.checks)],
     [("files that are cut", prefixes.checks)],
+    [("two modules", pairs.checks)],
     [("the script ./r3", wrapper.checks)],
     [("words and numbers", statuses.words), ("statuses and lines", statuses.checks)],
     [("files and outputs that fail", files.checks)],

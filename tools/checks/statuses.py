@@ -104,12 +104,16 @@ TRACES = [
 
 def check_modules(group):
     played = group.put("s.json", GO)
+    well = group.put("well.wasm", TWO_ANSWERS)
     for number, (binary, status, line) in enumerate(MODULES):
         path = group.put(f"module{number}.wasm", binary)
         for words in (["instrument", path], ["make", path, played, "9"], ["history", path, played, "9"]):
             group.refused(words, status, line)
         for command in ("foreign", "foreign-history"):
             group.refused([command, path, played, played, "9"], status, line)
+        for command in ("pair", "pair-history"):
+            group.refused([command, path, played, played, "9"], status, line)
+            group.refused([command, well, path, played, "9"], status, line)
         group.refused(["replay", path, "9"], status, line)
 
 
@@ -219,6 +223,8 @@ COMMANDS = {
     "history": (2, 2000000),
     "foreign": (3, 1000000000),
     "foreign-history": (3, 2000000),
+    "pair": (3, 1000000000),
+    "pair-history": (3, 2000000),
     "record": (2, 20000000),
     "replay": (1, 20000000),
     "load": (0, 60000),

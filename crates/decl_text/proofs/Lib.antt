@@ -1,3 +1,8 @@
+pub mod Weights
+pub mod Contents
+pub mod Lexemes
+pub mod Grammar
+pub mod Values
 pub mod Meanings
 pub mod Loops
 pub mod Counts

@@ -5,7 +5,7 @@ use Rattle.std.specs.Cmp.Lexicographic.{slice_cmp}
 use Rattle.std.proofs.lemmas.Map.Lookups.{exact_bytes}
 use Rattle.serde_json.specs.Data.{Data, Members, no_members, member}
 use Rattle.serde_json.specs.Find.{get_member}
-use Rattle.json_laws.specs.DataSizes.{data_size, members_size}
+use Rattle.decl_text.specs.DataSizes.{data_size, members_size}
 
 -- the size of what is found under a key, with the key
 abbrev pub found_size : List ℕ → Option Data → ℕ

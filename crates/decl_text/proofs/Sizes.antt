@@ -9,7 +9,7 @@ use Rattle.instance_spec.specs.declared.decls.Decl.{Decl}
 use Rattle.instance_spec.specs.DeclSizes.{decl_size, decls_size}
 use Rattle.serde_json.specs.Data.{Data, null, boolean, number, string, array, object, Items, no_items, item}
 use Rattle.serde_json.specs.Find.{get}
-use Rattle.json_laws.specs.DataSizes.{data_size, items_size, ValuesAreWithinTexts}
+use Rattle.decl_text.specs.DataSizes.{data_size, items_size, ValuesAreWithinTexts}
 use Rattle.decl_text.specs.Texts.{type_named, type_of, types_of, text_of, decl_of, decls_of_text}
 use Rattle.decl_text.proofs.Parts.{Rows, read_under, read_items, read_text, read_type, read_types, read_decl, read_whole}
 use Rattle.decl_text.proofs.Members.{found_size, three_found}

@@ -2,3 +2,4 @@ pub mod Walk
 pub mod Texts
 pub mod Names
 pub mod Laws
+pub mod DataSizes

@@ -2,7 +2,7 @@
 
 ghost use Rattle.decl_text.specs.Laws.{DeclarationsAreWithinTexts, DeclarationsFit};
 
-use json_laws::values_are_within_texts;
+use crate::json_laws::values_are_within_texts;
 
 /// A text that declares functions has at least as many bytes as its declarations have size.
 pub fn declarations_are_within_texts()

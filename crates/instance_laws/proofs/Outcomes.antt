@@ -1,18 +1,19 @@
 -- A program that realises a world has the outcomes of the world.
-use Rattle.std.proofs.Common.{◌≡◌, ℕ, ◌<◌, List, [], ◌∷◌, Result, Ok, Err, refl, sym, ap, ◌∙◌, subst}
+use Rattle.std.proofs.Common.{◌≡◌, ℕ, ◌<◌, Result, Ok, Err, refl, sym, ap, ◌∙◌, subst}
 use Rattle.base.specs.declared.outcomes.Outcome.{Outcome}
 use Rattle.host_script.specs.declared.scripts.LinkFault.{LinkFault}
 use Rattle.history_spec.specs.declared.entries.FaultKind.{FaultKind}
-use Rattle.history_spec.specs.Configuration.{Activation, Config, InModule, InMain, InImport}
+use Rattle.history_spec.specs.Configuration.{Config}
 use Rattle.history_spec.specs.Step.{Faulted, Finished, Program, Progress, Running, StepResult, Stuck}
-use Rattle.history_spec.specs.Run.{Meter, Run, program_of, run_after, run_from, weight, weight_of}
+use Rattle.history_spec.specs.Run.{Meter, Run, program_of, run_after, run_from, weight}
 use Rattle.history_spec.specs.Budget.{IsOver, IsOverWithin, IsSpent}
 use Rattle.instance_spec.specs.Instances.{World, run_in}
-use Rattle.instance_spec.specs.Renamed.{renamed_config, renamed_progress, renamed_result, renamed_run, renamed_stack}
+use Rattle.instance_spec.specs.Renamed.{renamed_config, renamed_progress, renamed_result, renamed_run}
 use Rattle.instance_spec.specs.ForeignRuns.{foreign_start, foreign_world}
 use Rattle.instance_spec.specs.Widened.{widened}
 use Rattle.instance_spec.specs.Laws.{DoesFollow, RunsFollow, WidenedRunsFollow, renamed_start}
 use Rattle.instance_spec.specs.Outcomes.{DoOutcomesFollow, HasOutcomeIn, IsFaultyIn, IsSpentIn, OutcomesFollow, WidenedOutcomesFollow}
+use Rattle.instance_laws.proofs.Steps.{stack_weighed}
 
 module _ (w : World) where
   -- ---- what is renamed
@@ -38,12 +39,6 @@ module _ (w : World) where
   running_before (Finished outcome) config e = cc
   running_before (Faulted kind) config e = cc
   running_before Stuck config e = cc
-
-  weighed : (meter : Meter) (stack : List Activation) → weight_of meter (renamed_stack w stack) ≡ weight_of meter stack
-  weighed meter [] = refl
-  weighed meter (InModule frame ∷ below) = refl
-  weighed meter (InMain actions ∷ below) = refl
-  weighed meter (InImport import args actions end ∷ below) = refl
 
   start_before : (begun : Result StepResult LinkFault) (other : StepResult) → renamed_start w begun ≡ Ok other
       → (initial : StepResult) × (begun ≡ Ok initial) × (renamed_result w initial ≡ other)
@@ -96,7 +91,7 @@ module _ (w : World) where
           config = renamed_config w h.config;
           standing = ap (λ (r : Run). r.at) (run_is initial h.count) ∙ ap (renamed_progress w) h.standing;
           used = ap (λ (r : Run). r.turns) (run_is initial h.count) ∙ h.used;
-          wants = subst (λ k. 0 < k) (sym (weighed meter h.config.stack)) h.wants;
+          wants = subst (λ k. 0 < k) (sym (stack_weighed w meter h.config.stack)) h.wants;
         }
 
     spent_back : (initial : StepResult) (turns : ℕ) → IsSpent (run_from p meter (renamed_result w initial)) meter turns
@@ -108,7 +103,7 @@ module _ (w : World) where
         running_before own.at h.config (sym (ap (λ (r : Run). r.at) same) ∙ h.standing)
         in
         let weight_is : weight meter h.config ≡ weight meter found.0 =
-        sym (ap (weight meter) found.2) ∙ weighed meter found.0.stack
+        sym (ap (weight meter) found.2) ∙ stack_weighed w meter found.0.stack
         in
         record {
           count = h.count;

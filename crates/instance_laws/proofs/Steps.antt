@@ -42,6 +42,14 @@ size_alike i (InIfElse ty body other rest) =
     ∙ ap (λ k. 1 + size body + k + size (renamed_nest i rest)) (size_alike i other)
     ∙ ap (λ k. 1 + size body + size other + k) (size_alike i rest)
 
+-- renaming changes no weight
+pub stack_weighed : (w : World) (meter : Meter) (stack : List Activation)
+    → weight_of meter (renamed_stack w stack) ≡ weight_of meter stack
+stack_weighed w meter [] = refl
+stack_weighed w meter (InModule frame ∷ below) = refl
+stack_weighed w meter (InMain actions ∷ below) = refl
+stack_weighed w meter (InImport import args actions end ∷ below) = refl
+
 module _ (w : World) (code : Code) (defined : List (Option Definition)) (store : Store) (frame : Frame) where
   abbrev i : Instance
   i = w.instance_of frame.func
@@ -253,12 +261,6 @@ module _ (w : World) (d : List (Option Definition)) where
     stepped : (config : Config) → step program (renamed_config w config) ≡ renamed_result w (step_in w config)
     stepped config = by_stack config config.stack
 
-    weighed : (meter : Meter) (stack : List Activation) → weight_of meter (renamed_stack w stack) ≡ weight_of meter stack
-    weighed meter [] = refl
-    weighed meter (InModule frame ∷ below) = refl
-    weighed meter (InMain actions ∷ below) = refl
-    weighed meter (InImport import args actions end ∷ below) = refl
-
     -- ---- runs
 
     gone_on : (meter : Meter) (k : ℕ) (at : Progress)
@@ -271,7 +273,7 @@ module _ (w : World) (d : List (Option Definition)) where
         ∙ ap
         (λ turns. run_after (step_in w config).entries turns
         (steps program meter k (renamed_progress w (step_in w config).next)))
-        (weighed meter config.stack)
+        (stack_weighed w meter config.stack)
         ∙ ap (run_after (step_in w config).entries (weight meter config)) (gone_on meter k (step_in w config).next)
     gone_on meter (suc k) (Finished outcome) = refl
     gone_on meter (suc k) (Faulted kind) = refl

@@ -25,11 +25,11 @@ use Rattle.instance_spec.specs.WidenedLaws.{HaveFewParameters, WidenedAreAccepte
 use Rattle.instance_laws.proofs.WidenedParts.{memories_are, tables_are}
 
 -- an optional item and the rest of a list that has no item
-nil_option : {X : Type 0} (o : Option X) (rest : List X) → cons_option o rest ≡ [] → (o ≡ None) × (rest ≡ [])
+pub nil_option : {X : Type 0} (o : Option X) (rest : List X) → cons_option o rest ≡ [] → (o ≡ None) × (rest ≡ [])
 nil_option None rest h = (refl, h)
 nil_option (Some x) rest h = cc
 
-nil_option_of : {X Y : Type 0} (f : X → Y) (o : Option X) (rest : List Y) → cons_option (option_map f o) rest ≡ []
+pub nil_option_of : {X Y : Type 0} (f : X → Y) (o : Option X) (rest : List Y) → cons_option (option_map f o) rest ≡ []
     → (o ≡ None) × (rest ≡ [])
 nil_option_of f None rest h = (refl, h)
 nil_option_of f (Some x) rest h = cc
@@ -53,7 +53,7 @@ numbered_kept i (RefFunc func) = refl
 numbered_kept i instr = refl
 
 -- the refusals of numbered instructions
-abbrev named : ℕ → List (ℕ × Instr) → List Refusal
+abbrev pub named : ℕ → List (ℕ × Instr) → List Refusal
 named func instrs =
     filter_map (λ (i : ℕ × Instr). option_map (Unsupported func i.0) (refused_feature i.1)) instrs
 
@@ -103,16 +103,16 @@ module _ (i : Instance) where
 
 -- ---- quantities
 
-abbrev types_past : List FuncType → List Refusal
+abbrev pub types_past : List FuncType → List Refusal
 types_past types = filter_map (λ (ty : FuncType). past MAX_PARAMETERS Parameters (length ty.params)) types
 
-abbrev tables_past : List Limits → List Refusal
+abbrev pub tables_past : List Limits → List Refusal
 tables_past limits = filter_map (λ (l : Limits). past MAX_ENTRIES Table l.min) limits
 
-abbrev memories_past : List Limits → List Refusal
+abbrev pub memories_past : List Limits → List Refusal
 memories_past limits = filter_map (λ (l : Limits). past MAX_PAGES Memory l.min) limits
 
-abbrev locals_past : ℕ → List Func → List Refusal
+abbrev pub locals_past : ℕ → List Func → List Refusal
 locals_past most funcs = filter_map (λ (f : Func). past most Locals (count_of_locals f)) funcs
 
 few_parameters : (count : ℕ) → count ≤ MAX_PARAMETERS → past MAX_PARAMETERS Parameters count ≡ None

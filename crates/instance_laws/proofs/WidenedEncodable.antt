@@ -26,7 +26,7 @@ use Rattle.wasm_syntax.specs.Encoding.Forms.{AreCoreInstrs, IsCoreInstr, IsCoreS
 use Rattle.wasm_syntax.specs.Encoding.Laws.{CoreIsInReplay}
 use Rattle.wasm_syntax.specs.Index.{all_tables, imported_funcs}
 use Rattle.wasm_syntax.specs.Typing.{is_number}
-use Rattle.wasm_syntax.specs.Validity.{AreNumbers, IsElem, IsFuncType}
+use Rattle.wasm_syntax.specs.Validity.{IsValid, AreNumbers, IsElem, IsFuncType}
 use Rattle.instance_spec.specs.declared.decls.Decl.{Decl}
 use Rattle.instance_spec.specs.Instances.{Instance, moved_up, resolved_instr}
 use Rattle.instance_spec.specs.Renamed.{renamed_nest}
@@ -35,14 +35,14 @@ use Rattle.instance_spec.specs.Widened.{foreign_exports, foreign_imports, rename
 use Rattle.instance_spec.specs.WidenedLaws.{AreWritable, WidenedAreCore, WidenedAreEncodable}
 use Rattle.instance_laws.proofs.RenamedTrees.{body_kept}
 
-mapped_all : {A B : Type 0} (P : A → Type 0) (Q : B → Type 0) (f : A → B) → ((x : A) → P x → Q (f x))
+pub mapped_all : {A B : Type 0} (P : A → Type 0) (Q : B → Type 0) (f : A → B) → ((x : A) → P x → Q (f x))
     → (xs : List A) → AllByRecursion P xs → AllByRecursion Q (map f xs)
 mapped_all P Q f each [] all = tt
 mapped_all P Q f each (x ∷ xs) all = (each x all.0, mapped_all P Q f each xs all.1)
 
 -- ---- the form Core
 
-core_kept : (i : Instance) (instr : Instr) → IsCoreInstr instr → IsCoreInstr (resolved_instr i instr)
+pub core_kept : (i : Instance) (instr : Instr) → IsCoreInstr instr → IsCoreInstr (resolved_instr i instr)
 core_kept i (Call func) is = tt
 core_kept i (CallIndirect ty) is = tt
 core_kept i (GlobalGet global) is = tt
@@ -68,10 +68,10 @@ widened_are_core m decls core =
 
 -- ---- names
 
-abbrev is_ascii : ℕ → Bool
+abbrev pub is_ascii : ℕ → Bool
 is_ascii byte = nat_lt byte 128
 
-each_ascii : (bytes : List ℕ) → list_all is_ascii bytes ≡ true → IsAscii bytes
+pub each_ascii : (bytes : List ℕ) → list_all is_ascii bytes ≡ true → IsAscii bytes
 each_ascii [] all i = omega arith
 each_ascii (byte ∷ bytes) all zero =
     let first = and_left (is_ascii byte) (list_all is_ascii bytes) all in grind (arith, nat_tests, first)
@@ -193,14 +193,17 @@ elem_of_zero : (m : Module) → length (all_tables m) ≤ 1 → (elem : ElemSeg)
 elem_of_zero m one (Active table offset funcs) is = let there = is.0 in omega (arith, there, one)
 elem_of_zero m one (Declared funcs) is = tt
 
+-- a valid module that has an encoding in the form Core has one in the form Replay
+pub replay_form : CoreIsInReplay → (m : Module) → IsValid m → IsEncodable forms.Core m → IsEncodable Replay m
+replay_form in_replay m valid fits =
+    in_replay m fits
+    (recursion_from_All IsOfTableZero m.elems
+    (All-weaker (IsElem m) IsOfTableZero (elem_of_zero m valid.outside.one_table) m.elems valid.outside.elems))
+
 pub widened_are_encodable : CoreIsInReplay → WidenedAreEncodable
 widened_are_encodable in_replay =
     record {
       same_form = same_form;
       core_form = λ m decls fits valid writable.
-          same_form Replay m decls
-          (in_replay m fits
-          (recursion_from_All IsOfTableZero m.elems
-          (All-weaker (IsElem m) IsOfTableZero (elem_of_zero m valid.outside.one_table) m.elems valid.outside.elems)))
-          writable;
+          same_form Replay m decls (replay_form in_replay m valid fits) writable;
     }

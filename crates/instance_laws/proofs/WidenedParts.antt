@@ -15,11 +15,11 @@ pub counted : (first count : ℕ) → length (count_from first count) ≡ count
 counted first zero = refl
 counted first (suc count) = ap suc (counted (first + 1) count)
 
-cons_front : {K : Type 0} (o : Option K) (xs ys : List K) → cons_option o (xs ++ ys) ≡ cons_option o xs ++ ys
+pub cons_front : {K : Type 0} (o : Option K) (xs ys : List K) → cons_option o (xs ++ ys) ≡ cons_option o xs ++ ys
 cons_front None xs ys = refl
 cons_front (Some k) xs ys = refl
 
-kinds_append : {K : Type 0} (pick : ImportKind → Option K) (imports more : List Import)
+pub kinds_append : {K : Type 0} (pick : ImportKind → Option K) (imports more : List Import)
     → of_kind pick (imports ++ more) ≡ of_kind pick imports ++ of_kind pick more
 kinds_append pick [] more = refl
 kinds_append pick (i ∷ imports) more =

@@ -38,17 +38,18 @@ faults_more script (i ∷ imports) ty decls at globals =
 
 -- ---- functions
 
+-- the definition that a function has with a body, renamed
+pub nest_renamed : (i : Instance) (func : Func) (o : Option Nest)
+    → option_map (λ nest. record { locals = each_local func.locals; body = nest }) (option_map (renamed_nest i) o)
+    ≡ option_map (renamed_definition i) (option_map (λ nest. record { locals = each_local func.locals; body = nest }) o)
+nest_renamed i func None = refl
+nest_renamed i func (Some nest) = refl
+
 definition_renamed : (i : Instance) (func : Func)
     → definition_of (renamed_func i func) ≡ option_map (renamed_definition i) (definition_of func)
 definition_renamed i func =
     ap (option_map (λ nest. record { locals = each_local func.locals; body = nest })) (bodies_are_renamed i func.body)
-    ∙ by (nest_of func.body)
-  where
-    by : (o : Option Nest)
-        → option_map (λ nest. record { locals = each_local func.locals; body = nest }) (option_map (renamed_nest i) o)
-        ≡ option_map (renamed_definition i) (option_map (λ nest. record { locals = each_local func.locals; body = nest }) o)
-    by None = refl
-    by (Some nest) = refl
+    ∙ nest_renamed i func (nest_of func.body)
 
 definition_at : (i : Instance) (funcs : List Func) (k : ℕ)
     → option_and_then (λ d. d) (slice_get (map definition_of (map (renamed_func i) funcs)) k)

@@ -59,42 +59,6 @@ counted (import.Memory limits) sp seen = omega arith
 counted (import.Global ty) Globals seen = refl
 counted (import.Global ty) sp seen = omega arith
 
-pub seen_low : (n : ℕ) (seen : Seen) → AreWithin n seen → (sp : IndexSpace) → seen_on seen sp ≤ n
-seen_low n seen h Funcs = h.funcs
-seen_low n seen h Tables = h.tables
-seen_low n seen h Memories = h.memories
-seen_low n seen h Globals = h.globals
-
-pub within_more : (n : ℕ) (seen : Seen) → AreWithin n seen → (sp : IndexSpace) → AreWithin (n + 1) (with_seen seen sp)
-within_more n seen h Funcs =
-    record {
-      funcs = omega (arith, h.funcs);
-      tables = omega (arith, h.tables);
-      memories = omega (arith, h.memories);
-      globals = omega (arith, h.globals);
-    }
-within_more n seen h Tables =
-    record {
-      funcs = omega (arith, h.funcs);
-      tables = omega (arith, h.tables);
-      memories = omega (arith, h.memories);
-      globals = omega (arith, h.globals);
-    }
-within_more n seen h Memories =
-    record {
-      funcs = omega (arith, h.funcs);
-      tables = omega (arith, h.tables);
-      memories = omega (arith, h.memories);
-      globals = omega (arith, h.globals);
-    }
-within_more n seen h Globals =
-    record {
-      funcs = omega (arith, h.funcs);
-      tables = omega (arith, h.tables);
-      memories = omega (arith, h.memories);
-      globals = omega (arith, h.globals);
-    }
-
 -- what is seen is how many imports of each space there were
 pub record HasSeen (seen : Seen) (before : List Import) : Type 0 where
   pub on : (sp : IndexSpace) → seen_on seen sp ≡ length (filter (λ i. is_in (space sp) i.kind) before)

@@ -12,7 +12,6 @@ use crate::spaces::IndexSpace;
 use base::NoMemory;
 use instance_spec::Side;
 use std::alloc::Global;
-use std::marker::Model;
 
 /// The end of the chain from each index of a space, on both sides.
 #[derive(Drop)]

@@ -17,6 +17,6 @@ pub use base::NoMemory;
 pub use ends::{Ends, PairEnds, ends_in};
 pub use faults::first_fault;
 pub use jumps::End;
-pub use modules::LinkedModules;
+pub use modules::{LinkedModules, is_from_other};
 pub use numbers::{Numbers, numbers_in};
 pub use spaces::IndexSpace;

@@ -44,7 +44,7 @@ pub(crate) fn other_side(side: Side) -> Side
 }
 
 /// Whether an import of a side is one from the other side.
-pub(crate) fn is_from_other(side: Side, import: &Import) -> bool
+pub fn is_from_other(side: Side, import: &Import) -> bool
     ensures { result ≡ is_from_other side import.now }
 {
     match side {

@@ -37,16 +37,15 @@ abbrev pub end_side : ChainEnd → Side
 end_side (Defined side y) = side
 end_side (HostImport side y) = side
 
-same_end : (a b : ChainEnd) → Some a ≡ Some b → a ≡ b
-same_end a b e = cc
-
 module _ (pair : ModulePair) (space : Space) where
   end_from : (later : Side → ℕ → Option ChainEnd)
       → ((side : Side) (x : ℕ) (e : ChainEnd) → later side x ≡ Some e → IsEnd pair space e)
       → (side : Side) (x : ℕ) (e : ChainEnd) (o : Option Import)
       → slice_get (imports_in space (module_of pair side)) x ≡ o → end_by later pair space side x o ≡ Some e
       → IsEnd pair space e
-  end_from later known side x e None there is = subst (IsEnd pair space) (same_end (Defined side x) e is) there
+  end_from later known side x e None there is =
+      let same : Defined side x ≡ e = cc in
+      subst (IsEnd pair space) same there
   end_from later known side x e (Some i) there is = by (is_from_other side i) refl is
     where
       on : (o : Option ℕ) → option_and_then (later (other_side side)) o ≡ Some e → IsEnd pair space e
@@ -60,7 +59,9 @@ module _ (pair : ModulePair) (space : Space) where
           ≡ Some e
           → IsEnd pair space e
       by true from is = on (exported_index space (module_of pair (other_side side)) i.name) is
-      by false own is = subst (IsEnd pair space) (same_end (HostImport side x) e is) (i, there, own)
+      by false own is =
+          let same : HostImport side x ≡ e = cc in
+          subst (IsEnd pair space) same (i, there, own)
 
   pub ends_are : (k : ℕ) (side : Side) (x : ℕ) (e : ChainEnd) → end_after k pair space side x ≡ Some e
       → IsEnd pair space e

@@ -38,7 +38,8 @@ use Rattle.pair_spec.specs.Linked.{constant_by, linked_constant}
 use Rattle.pair_spec.specs.Faults.{is_one_const}
 use Rattle.pair_laws.specs.Laws.{AreLinkable}
 use Rattle.pair_laws.proofs.Lists.{index_there, one_by_one, passed_at}
-use Rattle.pair_laws.proofs.Imports.{kinds_joined, is_global, hosts_counted, global_at}
+use Rattle.instance_laws.proofs.WidenedParts.{kinds_append}
+use Rattle.pair_laws.proofs.Imports.{is_global, hosts_counted, global_at}
 use Rattle.pair_laws.proofs.Chains.{IsHost, HasValue, IsKnown, globals_known}
 
 -- ---- values of the host
@@ -114,12 +115,44 @@ pub valid_side : (pair : ModulePair) → AreLinkable pair → (side : Side) → 
 valid_side pair linkable Left = linkable.left
 valid_side pair linkable Right = linkable.right
 
+-- What holds of each constant expression of a side and of what it becomes, if it holds of one constant, which stays, and
+-- of a global's, which becomes that of the end of the global's chain.
+module _ (pair : ModulePair) (linkable : AreLinkable pair) (side : Side)
+    (Holds : (before after : List Instr) → Type 0)
+    (stays : (value : Val) → Holds (Const value ∷ End ∷ []) (Const value ∷ End ∷ []))
+    (becomes : (x : ℕ) (e : ChainEnd) → HasValue pair e
+    → Holds (GlobalGet x ∷ End ∷ []) (constant_by pair (GlobalGet x ∷ End ∷ []) (Some e))) where
+  abbrev own_module : Module
+  own_module = module_of pair side
+
+  global_becomes : (x : ℕ) (ty : ValType) → constant_type own_module (GlobalGet x) ≡ Some ty
+      → Holds (GlobalGet x ∷ End ∷ []) (linked_constant pair side (GlobalGet x ∷ End ∷ []))
+  global_becomes x ty h =
+      let body = GlobalGet x ∷ End ∷ [] in
+      let own = and_then_some (slice_get (imported_globals own_module) x) immutable_type ty h in
+      let fixed = cond_none_some own.0.mutable (Some own.0.ty) ty own.2 in
+      let known = globals_known pair linkable.no_fault side x own.0 own.1 fixed.0 in
+      subst (λ o. Holds body (constant_by pair body o)) (sym known.is) (becomes x known.found known.value)
+
+  instr_becomes : (instr : Instr) (ty : ValType) → constant_type own_module instr ≡ Some ty
+      → Holds (instr ∷ End ∷ []) (linked_constant pair side (instr ∷ End ∷ []))
+  instr_becomes (Const value) ty h = stays value
+  instr_becomes (GlobalGet x) ty h = global_becomes x ty h
+  instr_becomes instr ty h = cc
+
+  pub constant_becomes : (ty : ValType) (body : List Instr) → IsConstant own_module ty body
+      → Holds body (linked_constant pair side body)
+  constant_becomes ty body h =
+      let own = and_then_some (single body) (constant_type own_module) ty h in
+      subst (λ body. Holds body (linked_constant pair side body)) (sym (single_is body own.0 own.1))
+      (instr_becomes own.0 ty own.2)
+
 module _ (pair : ModulePair) where
   pub hosts_whole : length (of_kind global_import (pair_hosts pair)) ≡ all_hosts pair Globals
   hosts_whole =
       let left = host_imports Left pair.left.imports in
       let right = host_imports Right pair.right.imports in
-      ap length (kinds_joined global_import left right)
+      ap length (kinds_append global_import left right)
       ∙ length-append (of_kind global_import left) (of_kind global_import right)
       ∙ (λ j. hosts_counted global_import Globals is_global Left pair.left.imports j
       + hosts_counted global_import Globals is_global Right pair.right.imports j)

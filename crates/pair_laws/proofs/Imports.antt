@@ -1,5 +1,5 @@
 -- Imports by their kinds: those of a linked module, and those of a side.
-use Rattle.std.proofs.Common.{◌≡◌, ℕ, zero, suc, List, [], ◌∷◌, ◌++◌, length, map, filter, Option, Some, None, Bool, true, false, cond, not, is_some, slice_get, refl, sym, ap, ◌∙◌}
+use Rattle.std.proofs.Common.{◌≡◌, ℕ, zero, suc, List, [], ◌∷◌, length, map, filter, Option, Some, None, Bool, true, false, cond, not, is_some, slice_get, refl, sym, ap, ◌∙◌}
 use Rattle.std.specs.List.{cons_option}
 use Rattle.wasm_syntax.specs.declared.signatures.GlobalType.{GlobalType}
 use Rattle.wasm_syntax.specs.declared.modules.Import.{Import}
@@ -9,21 +9,8 @@ use Rattle.wasm_syntax.specs.Index.{of_kind, func_import, table_import, memory_i
 use Rattle.instance_spec.specs.declared.sides.Side.{Side}
 use Rattle.instance_spec.specs.Instances.{Instance}
 use Rattle.pair_spec.specs.Pairs.{is_from_other, host_imports, Space, Funcs, Tables, Memories, Globals, is_in}
-use Rattle.pair_spec.specs.Linked.{linked_import}
+use Rattle.pair_spec.specs.Linked.{linked_import, linked_import_kind}
 use Rattle.pair_laws.proofs.Lists.{of_choice}
-
--- ---- imports of one kind
-
-cons_front : {K : Type 0} (o : Option K) (xs ys : List K) → cons_option o (xs ++ ys) ≡ cons_option o xs ++ ys
-cons_front None xs ys = refl
-cons_front (Some k) xs ys = refl
-
-pub kinds_joined : {K : Type 0} (pick : ImportKind → Option K) (imports more : List Import)
-    → of_kind pick (imports ++ more) ≡ of_kind pick imports ++ of_kind pick more
-kinds_joined pick [] more = refl
-kinds_joined pick (i ∷ imports) more =
-    ap (cons_option (pick i.kind)) (kinds_joined pick imports more)
-    ∙ cons_front (pick i.kind) (of_kind pick imports) (of_kind pick more)
 
 -- ---- linked imports
 
@@ -42,45 +29,31 @@ module _ (i : Instance) where
       by (import.Memory limits) e = e
       by (import.Global ty) e = e
 
-  -- imports whose kind stays
-  kept_one : {K : Type 0} (pick : ImportKind → Option K) (first : Import) (imports : List Import)
-      → pick (linked_import i first).kind ≡ pick first.kind
-      → of_kind pick (map (linked_import i) imports) ≡ of_kind pick imports
-      → of_kind pick (map (linked_import i) (first ∷ imports)) ≡ of_kind pick (first ∷ imports)
-  kept_one pick first imports same later = (λ j. cons_option (same j) (later j))
+  -- what is no function stays as it is
+  kind_kept : {K : Type 0} (pick : ImportKind → Option K) → ((ty : ℕ) → pick (import.Func ty) ≡ None)
+      → (kind : ImportKind) → pick (linked_import_kind i kind) ≡ pick kind
+  kind_kept pick none (import.Func ty) = none (i.types ty) ∙ sym (none ty)
+  kind_kept pick none (import.Table limits) = refl
+  kind_kept pick none (import.Memory limits) = refl
+  kind_kept pick none (import.Global ty) = refl
+
+  kept : {K : Type 0} (pick : ImportKind → Option K) → ((ty : ℕ) → pick (import.Func ty) ≡ None)
+      → (imports : List Import) → of_kind pick (map (linked_import i) imports) ≡ of_kind pick imports
+  kept pick none [] = refl
+  kept pick none (first ∷ imports) =
+      (λ j. cons_option (kind_kept pick none first.kind j) (kept pick none imports j))
 
   pub memories_kept : (imports : List Import)
       → of_kind memory_import (map (linked_import i) imports) ≡ of_kind memory_import imports
-  memories_kept [] = refl
-  memories_kept (first ∷ imports) = kept_one memory_import first imports (by first.kind) (memories_kept imports)
-    where
-      by : (kind : ImportKind) → memory_import (linked_import i (record first { kind = kind })).kind ≡ memory_import kind
-      by (import.Func ty) = refl
-      by (import.Table limits) = refl
-      by (import.Memory limits) = refl
-      by (import.Global ty) = refl
+  memories_kept = kept memory_import (λ ty. refl)
 
   pub tables_kept : (imports : List Import)
       → of_kind table_import (map (linked_import i) imports) ≡ of_kind table_import imports
-  tables_kept [] = refl
-  tables_kept (first ∷ imports) = kept_one table_import first imports (by first.kind) (tables_kept imports)
-    where
-      by : (kind : ImportKind) → table_import (linked_import i (record first { kind = kind })).kind ≡ table_import kind
-      by (import.Func ty) = refl
-      by (import.Table limits) = refl
-      by (import.Memory limits) = refl
-      by (import.Global ty) = refl
+  tables_kept = kept table_import (λ ty. refl)
 
   pub globals_kept : (imports : List Import)
       → of_kind global_import (map (linked_import i) imports) ≡ of_kind global_import imports
-  globals_kept [] = refl
-  globals_kept (first ∷ imports) = kept_one global_import first imports (by first.kind) (globals_kept imports)
-    where
-      by : (kind : ImportKind) → global_import (linked_import i (record first { kind = kind })).kind ≡ global_import kind
-      by (import.Func ty) = refl
-      by (import.Table limits) = refl
-      by (import.Memory limits) = refl
-      by (import.Global ty) = refl
+  globals_kept = kept global_import (λ ty. refl)
 
 -- ---- how many of the host's imports have their indices in a space
 

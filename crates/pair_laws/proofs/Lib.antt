@@ -1,4 +1,5 @@
 pub mod Lists
+pub mod GrownLists
 pub mod Imports
 pub mod LinkedCode
 pub mod Chains
@@ -14,3 +15,5 @@ pub mod LinkedValid
 pub mod LinkedEncodable
 pub mod LinkedAccepted
 pub mod LinkedSizes
+pub mod LinkedLengths
+pub mod LinkedWithin

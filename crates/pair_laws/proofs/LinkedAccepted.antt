@@ -22,19 +22,12 @@ use Rattle.pair_spec.specs.Pairs.{ModulePair, module_of, is_from_other, host_imp
 use Rattle.pair_spec.specs.Numbers.{side_instance}
 use Rattle.pair_spec.specs.Linked.{linked, linked_func, linked_import}
 use Rattle.pair_laws.specs.LinkedLaws.{LinkedAreAccepted, LinkedAreSupported, LinkedAreValid}
-use Rattle.pair_laws.proofs.Lists.{filtered_all, mapped_all}
+use Rattle.instance_laws.proofs.WidenedAccepted.{locals_past, memories_past, named, nil_option, nil_option_of, tables_past, types_past}
+use Rattle.instance_laws.proofs.WidenedEncodable.{mapped_all}
+use Rattle.pair_laws.proofs.Lists.{filtered_all}
 use Rattle.pair_laws.proofs.LinkedSpaces.{kept, memories_whole, tables_whole}
 
 -- ---- lists in which nothing is refused
-
-nil_option : {X : Type 0} (o : Option X) (rest : List X) → cons_option o rest ≡ [] → (o ≡ None) × (rest ≡ [])
-nil_option None rest h = (refl, h)
-nil_option (Some x) rest h = cc
-
-nil_option_of : {X Y : Type 0} (f : X → Y) (o : Option X) (rest : List Y) → cons_option (option_map f o) rest ≡ []
-    → (o ≡ None) × (rest ≡ [])
-nil_option_of f None rest h = (refl, h)
-nil_option_of f (Some x) rest h = cc
 
 none_of : {X Y : Type 0} (f : X → Option Y) (xs : List X) → filter_map f xs ≡ []
     → AllByRecursion (λ x. f x ≡ None) xs
@@ -66,10 +59,6 @@ unnumbered : (instr : Instr) → is_numbered instr ≡ false → IsUnrefused ins
 unnumbered Else h = refl
 unnumbered End h = refl
 unnumbered instr h = cc
-
--- the refusals of numbered instructions
-abbrev named : ℕ → List (ℕ × Instr) → List Refusal
-named func instrs = filter_map (λ (i : ℕ × Instr). option_map (Unsupported func i.0) (refused_feature i.1)) instrs
 
 body_unrefused : (func start : ℕ) (body : List Instr) → named func (enumerate_from start (filter is_numbered body)) ≡ []
     → AllByRecursion IsUnrefused body
@@ -138,24 +127,12 @@ record AreWithin (hooked : Bool) (m : Module) : Type 0 where
   memories : AllByRecursion FitsPages (all_memories m)
   locals : AllByRecursion (HasFewLocals hooked) m.funcs
 
-abbrev types_past : List FuncType → List Refusal
-types_past types = filter_map (λ (ty : FuncType). past MAX_PARAMETERS Parameters (length ty.params)) types
-
-abbrev tables_past : List Limits → List Refusal
-tables_past limits = filter_map (λ (l : Limits). past MAX_ENTRIES Table l.min) limits
-
-abbrev memories_past : List Limits → List Refusal
-memories_past limits = filter_map (λ (l : Limits). past MAX_PAGES Memory l.min) limits
-
-abbrev locals_past : Bool → List Func → List Refusal
-locals_past hooked funcs = filter_map (λ (f : Func). past (max_locals hooked) Locals (count_of_locals f)) funcs
-
 are_within : (hooked : Bool) (m : Module) → quantities_past hooked m ≡ [] → AreWithin hooked m
 are_within hooked m h =
     let types = types_past m.types in
     let tables = tables_past (all_tables m) in
     let memories = memories_past (all_memories m) in
-    let a = nil_parts ((types ++ tables) ++ memories) (locals_past hooked m.funcs) h in
+    let a = nil_parts ((types ++ tables) ++ memories) (locals_past (max_locals hooked) m.funcs) h in
     let b = nil_parts (types ++ tables) memories a.0 in
     let c = nil_parts types tables b.0 in
     record {

@@ -1,12 +1,12 @@
 -- The program of a linked module is that of the pair with all indices resolved beforehand.
-use Rattle.std.proofs.Common.{◌≡◌, ℕ, zero, suc, ◌+◌, ◌-◌, ◌<◌, ◌≤◌, List, [], ◌∷◌, ◌++◌, length, map, Option, Some, None, Bool, true, false, cond, nat_lt, slice_get, option_map, option_and_then, refl, sym, ap, ◌∙◌, length-append, arith}
+use Rattle.std.proofs.Common.{◌≡◌, ℕ, zero, suc, ◌+◌, ◌-◌, ◌<◌, ◌≤◌, List, [], ◌∷◌, ◌++◌, length, map, Option, None, Bool, true, false, cond, nat_lt, slice_get, option_map, option_and_then, refl, sym, ap, ◌∙◌, length-append, arith}
 use Rattle.std.proofs.lemmas.Bool.{ltb-true}
 use Rattle.std.proofs.lemmas.Bool.Decides.{nat_tests}
 use Rattle.std.proofs.lemmas.List.{length-map, map-append}
 use Rattle.base.proofs.Booleans.{same_tests}
 use Rattle.wasm_syntax.specs.declared.modules.Module.{Module}
 use Rattle.wasm_syntax.specs.declared.modules.Func.{Func}
-use Rattle.wasm_syntax.specs.Nest.{Nest, nest_of}
+use Rattle.wasm_syntax.specs.Nest.{nest_of}
 use Rattle.wasm_syntax.specs.Validity.{each_local}
 use Rattle.wasm_syntax.specs.Index.{of_kind, func_import, func_indices, imported_funcs}
 use Rattle.host_script.specs.declared.scripts.Script.{Script}
@@ -15,14 +15,16 @@ use Rattle.history_spec.specs.Run.{program_of}
 use Rattle.history_spec.specs.Step.{Program}
 use Rattle.instance_spec.specs.declared.sides.Side.TheVariants.{Left, Right}
 use Rattle.instance_spec.specs.Instances.{Instance, World}
-use Rattle.instance_spec.specs.Renamed.{Realises, renamed_nest, renamed_definition}
+use Rattle.instance_spec.specs.Renamed.{Realises, renamed_definition}
 use Rattle.instance_laws.specs.Typings.{BodiesAreRenamed}
 use Rattle.instance_laws.proofs.Numbers.{is_below}
 use Rattle.pair_spec.specs.Pairs.{ModulePair, host_imports, Funcs}
 use Rattle.pair_spec.specs.Numbers.{all_hosts, side_instance}
 use Rattle.pair_spec.specs.PairRuns.{host_types, pair_code, pair_world}
 use Rattle.pair_spec.specs.Linked.{linked_import, linked_func, linked}
-use Rattle.pair_laws.proofs.Imports.{kinds_joined, funcs_linked, is_func, hosts_counted}
+use Rattle.instance_laws.proofs.WidenedParts.{kinds_append}
+use Rattle.instance_laws.proofs.WidenedRuns.{nest_renamed}
+use Rattle.pair_laws.proofs.Imports.{funcs_linked, is_func, hosts_counted}
 
 -- ---- numbers
 
@@ -51,13 +53,7 @@ module _ (renamed : BodiesAreRenamed) where
       → definition_of (linked_func i func) ≡ option_map (renamed_definition i) (definition_of func)
   definition_linked i func =
       ap (option_map (λ nest. record { locals = each_local func.locals; body = nest })) (renamed i func.body)
-      ∙ by (nest_of func.body)
-    where
-      by : (o : Option Nest)
-          → option_map (λ nest. record { locals = each_local func.locals; body = nest }) (option_map (renamed_nest i) o)
-          ≡ option_map (renamed_definition i) (option_map (λ nest. record { locals = each_local func.locals; body = nest }) o)
-      by None = refl
-      by (Some nest) = refl
+      ∙ nest_renamed i func (nest_of func.body)
 
   -- by the place among the functions of both sides
   module _ (left right : Instance) where
@@ -109,7 +105,7 @@ module _ (pair : ModulePair) where
 
   pub types_are : of_kind func_import whole.imports ≡ host_types pair Left ++ host_types pair Right
   types_are =
-      kinds_joined func_import (map (linked_import left) (host_imports Left pair.left.imports))
+      kinds_append func_import (map (linked_import left) (host_imports Left pair.left.imports))
       (map (linked_import right) (host_imports Right pair.right.imports))
       ∙ (λ j. funcs_linked left (host_imports Left pair.left.imports) j
       ++ funcs_linked right (host_imports Right pair.right.imports) j)

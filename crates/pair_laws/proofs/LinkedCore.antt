@@ -4,7 +4,7 @@ use Rattle.std.specs.List.{AllByRecursion}
 use Rattle.std.specs.Option.{option_map_or}
 use Rattle.base.proofs.Lists.{joined_all}
 use Rattle.wasm_syntax.specs.declared.instructions.Instr.{Instr}
-use Rattle.wasm_syntax.specs.declared.instructions.Instr.TheVariants.{Call, CallIndirect, End, GlobalGet, GlobalSet, RefFunc}
+use Rattle.wasm_syntax.specs.declared.instructions.Instr.TheVariants.{End, GlobalGet}
 use Rattle.wasm_syntax.specs.declared.modules.Func.{Func}
 use Rattle.wasm_syntax.specs.declared.modules.Global.{Global}
 use Rattle.wasm_syntax.specs.declared.modules.ElemSeg.{ElemSeg}
@@ -13,21 +13,13 @@ use Rattle.wasm_syntax.specs.declared.modules.DataSeg.{DataSeg}
 use Rattle.wasm_syntax.specs.Encoding.Forms.{AreCoreInstrs, IsCoreInstr, IsCoreModule, IsCoreSeg}
 use Rattle.instance_spec.specs.declared.sides.Side.{Side}
 use Rattle.instance_spec.specs.declared.sides.Side.TheVariants.{Left, Right}
-use Rattle.instance_spec.specs.Instances.{Instance, resolved_instr}
+use Rattle.instance_spec.specs.Instances.{resolved_instr}
 use Rattle.pair_spec.specs.Pairs.{ModulePair, module_of, Globals, imports_in}
 use Rattle.pair_spec.specs.Chains.{ChainEnd, Defined, HostImport, end_of}
 use Rattle.pair_spec.specs.Numbers.{side_instance}
 use Rattle.pair_spec.specs.Linked.{constant_by, linked_constant, linked_data, linked_elem, linked_func, linked_global}
 use Rattle.pair_laws.specs.LinkedLaws.{LinkedAreCore}
-use Rattle.pair_laws.proofs.Lists.{mapped_all}
-
-core_kept : (i : Instance) (instr : Instr) → IsCoreInstr instr → IsCoreInstr (resolved_instr i instr)
-core_kept i (Call func) is = tt
-core_kept i (CallIndirect ty) is = tt
-core_kept i (GlobalGet global) is = tt
-core_kept i (GlobalSet global) is = tt
-core_kept i (RefFunc func) is = is
-core_kept i instr is = is
+use Rattle.instance_laws.proofs.WidenedEncodable.{core_kept, mapped_all}
 
 init_core : (globals : List Global) (k : ℕ) → AllByRecursion (λ (g : Global). AreCoreInstrs g.init) globals
     → AreCoreInstrs (option_map_or (λ (g : Global). g.init) (slice_get globals k) [])

@@ -1,24 +1,20 @@
 -- The linked module of two that have an encoding has one.
-use Rattle.std.proofs.Common.{◌≡◌, ℕ, suc, zero, ◌+◌, ◌-◌, ◌<◌, ◌≤◌, ◌^◌, List, [], ◌∷◌, map, length, Option, Some, None, Bool, true, nat_lt, slice_get, option_map, not, codes, refl, sym, ap, subst, arith, inl, inr}
+use Rattle.std.proofs.Common.{◌≡◌, ℕ, suc, zero, ◌+◌, ◌-◌, ◌<◌, ◌≤◌, ◌^◌, List, [], ◌∷◌, map, length, Option, Some, None, true, slice_get, option_map, not, codes, refl, sym, ap, subst, arith, inl, inr}
 use Rattle.std.specs.Prelude.{IfSome, IsUtf8}
-use Rattle.std.specs.List.{AllByRecursion, list_all, slice_index_or}
+use Rattle.std.specs.List.{AllByRecursion, slice_index_or}
 use Rattle.std.specs.Option.{option_map_or, option_or}
-use Rattle.std.specs.Str.{IsAscii}
 use Rattle.std.proofs.lemmas.Bool.{cases_lt}
-use Rattle.std.proofs.lemmas.Bool.Decides.{nat_tests}
 use Rattle.std.proofs.lemmas.List.{length-map}
-use Rattle.std.proofs.lemmas.List.Elements.{All-weaker, recursion_from_All}
+use Rattle.std.proofs.lemmas.List.Elements.{recursion_from_All}
 use Rattle.std.proofs.lemmas.Option.{slice_get_within}
 use Rattle.std.proofs.lemmas.Str.{IsUtf8-append, IsUtf8-from_ascii}
-use Rattle.base.proofs.Booleans.{and_left, and_right}
 use Rattle.base.proofs.Lists.{item_there, joined_all}
-use Rattle.base.proofs.Options.{and_then_some, cond_none_some}
 use Rattle.wasm_syntax.specs.declared.forms.Form.{Form}
 use Rattle.wasm_syntax.specs.declared.forms.Form.TheVariants as forms
 use Rattle.wasm_syntax.specs.declared.values.ValType.{ValType}
 use Rattle.wasm_syntax.specs.declared.values.ValType.TheVariants.{I32}
 use Rattle.wasm_syntax.specs.declared.instructions.Instr.{Instr}
-use Rattle.wasm_syntax.specs.declared.instructions.Instr.TheVariants.{Call, CallIndirect, Const, End, GlobalGet, GlobalSet, RefFunc}
+use Rattle.wasm_syntax.specs.declared.instructions.Instr.TheVariants.{Call, CallIndirect, End, GlobalGet, GlobalSet, RefFunc}
 use Rattle.wasm_syntax.specs.declared.signatures.GlobalType.{GlobalType}
 use Rattle.wasm_syntax.specs.declared.modules.Module.{Module}
 use Rattle.wasm_syntax.specs.declared.modules.Func.{Func}
@@ -31,11 +27,10 @@ use Rattle.wasm_syntax.specs.declared.modules.ElemSeg.{ElemSeg}
 use Rattle.wasm_syntax.specs.declared.modules.ElemSeg.TheVariants.{Active, Declared}
 use Rattle.wasm_syntax.specs.declared.modules.DataSeg.{DataSeg}
 use Rattle.wasm_syntax.specs.Encoding.Encodable.{FitsBody, FitsDataSeg, FitsElemSeg, FitsExport, FitsExportKind, FitsFunc, FitsFuncType, FitsGlobal, FitsImport, FitsImportKind, FitsInstr, FitsLimits, FitsU32, IsEncodable}
-use Rattle.wasm_syntax.specs.Encoding.Forms.{IsOfTableZero}
 use Rattle.wasm_syntax.specs.Encoding.Laws.{CoreIsInReplay}
-use Rattle.wasm_syntax.specs.Index.{func_indices, all_tables, imported_globals, all_globals}
+use Rattle.wasm_syntax.specs.Index.{func_indices, all_globals}
 use Rattle.wasm_syntax.specs.Nest.{Plain, Empty}
-use Rattle.wasm_syntax.specs.Validity.{IsConstant, IsData, IsElem, IsGlobal, IsValid, constant_type, immutable_type, single}
+use Rattle.wasm_syntax.specs.Validity.{IsConstant, IsData, IsElem, IsGlobal, IsValid}
 use Rattle.instance_spec.specs.declared.sides.Side.{Side}
 use Rattle.instance_spec.specs.declared.sides.Side.TheVariants.{Left, Right}
 use Rattle.instance_spec.specs.Instances.{Instance, moved_up, resolved_instr}
@@ -45,14 +40,15 @@ use Rattle.instance_laws.proofs.RenamedTrees.{body_kept}
 use Rattle.instance_laws.proofs.WidenedParts.{counted}
 use Rattle.pair_spec.specs.Pairs.{ModulePair, module_of, is_from_other, host_imports, Space, Funcs, Globals, imports_in, defined_in}
 use Rattle.pair_spec.specs.Chains.{ChainEnd, Defined, HostImport, end_of}
-use Rattle.pair_spec.specs.Numbers.{no_number, number_at, number_of, numbers_in, side_instance, types_before}
+use Rattle.pair_spec.specs.Numbers.{count_in, no_number, number_at, number_of, numbers_in, side_instance, types_before}
 use Rattle.pair_spec.specs.Linked.{constant_by, linked, linked_constant, linked_data, linked_elem, linked_export, linked_export_kind, linked_func, linked_global, linked_import, linked_import_kind, side_prefix}
 use Rattle.pair_spec.specs.Faults.{is_one_const}
 use Rattle.pair_laws.specs.Laws.{AreLinkable}
 use Rattle.pair_laws.specs.LinkedLaws.{HaveFewItems, LinkedAreEncodable}
-use Rattle.pair_laws.proofs.Lists.{filtered_all, mapped_all}
-use Rattle.pair_laws.proofs.Chains.{HasValue, globals_known}
-use Rattle.pair_laws.proofs.Constants.{number_low, single_is, valid_side}
+use Rattle.instance_laws.proofs.WidenedEncodable.{each_ascii, mapped_all, replay_form}
+use Rattle.pair_laws.proofs.Lists.{filtered_all}
+use Rattle.pair_laws.proofs.Chains.{HasValue}
+use Rattle.pair_laws.proofs.Constants.{constant_becomes, number_low, valid_side}
 use Rattle.pair_laws.proofs.LinkedItems.{items_counted, linked_counted}
 use Rattle.pair_laws.proofs.LinkedSpaces.{func_space, global_space, funcs_whole, globals_whole, index_linked, global_linked, kept, types_of_side}
 
@@ -63,15 +59,6 @@ both_ways P Q [] first second = tt
 both_ways P Q (x ∷ xs) first second = ((first.0, second.0), both_ways P Q xs first.1 second.1)
 
 -- ---- names
-
-abbrev is_ascii : ℕ → Bool
-is_ascii byte = nat_lt byte 128
-
-each_ascii : (bytes : List ℕ) → list_all is_ascii bytes ≡ true → IsAscii bytes
-each_ascii [] all i = omega arith
-each_ascii (byte ∷ bytes) all zero =
-    let first = and_left (is_ascii byte) (list_all is_ascii bytes) all in grind (arith, nat_tests, first)
-each_ascii (byte ∷ bytes) all (suc i) = each_ascii bytes (and_right (is_ascii byte) (list_all is_ascii bytes) all) i
 
 prefix_text : (side : Side) → IsUtf8 (side_prefix side)
 prefix_text Left = IsUtf8-from_ascii (codes "left.") (each_ascii (codes "left.") refl)
@@ -94,6 +81,27 @@ number_past pair space side x past =
     let counts = counted 0 count in
     past_index (numbers_in pair space side) x no_number (omega (arith, past, long, counts))
 
+-- the number of an index is below the count of its space
+module _ (pair : ModulePair) (linkable : AreLinkable pair) (side : Side) where
+  pub func_low : (x : ℕ) → x < length (func_indices (module_of pair side))
+      → (side_instance pair side).funcs x < count_in pair Funcs
+  func_low x low =
+      let found = item_there (func_indices (module_of pair side)) x low in
+      let own = index_linked pair linkable.no_fault side x found.0 found.1 in
+      let within =
+      slice_get_within (func_indices (linked pair)) ((side_instance pair side).funcs x) (types_of_side pair own.0 own.1) own.2 in
+      let same = ap length (funcs_whole pair) in
+      let long = linked_counted ℕ Funcs func_space pair (types_of_side pair) in omega (arith, within, same, long)
+
+  pub global_low : (x : ℕ) → x < length (all_globals (module_of pair side))
+      → (side_instance pair side).globals x < count_in pair Globals
+  global_low x low =
+      let found = item_there (all_globals (module_of pair side)) x low in
+      let own = global_linked pair linkable.no_fault side x found.0 found.1 in
+      let within = slice_get_within (all_globals (linked pair)) ((side_instance pair side).globals x) found.0 own in
+      let same = ap length (globals_whole pair) in
+      let long = linked_counted GlobalType Globals global_space pair kept in omega (arith, within, same, long)
+
 module _ (pair : ModulePair) (linkable : AreLinkable pair) (few : HaveFewItems pair) where
   abbrev whole : Module
   whole = linked pair
@@ -102,37 +110,20 @@ module _ (pair : ModulePair) (linkable : AreLinkable pair) (few : HaveFewItems p
   no_number_fits n is = omega (arith, is)
 
   func_fits : (side : Side) (x : ℕ) → FitsU32 ((side_instance pair side).funcs x)
-  func_fits side x =
-      let m = module_of pair side in
-      elim (cases_lt x (length (func_indices m))) [
-        | inl low ↦
-            let found = item_there (func_indices m) x low in
-            let own = index_linked pair linkable.no_fault side x found.0 found.1 in
-            let within =
-            slice_get_within (func_indices whole) ((side_instance pair side).funcs x) (types_of_side pair own.0 own.1) own.2 in
-            let same = ap length (funcs_whole pair) in
-            let long = linked_counted ℕ Funcs func_space pair (types_of_side pair) in
-            let most = few.funcs in omega (arith, within, same, long, most)
-        | inr past ↦
-            let long = items_counted ℕ Funcs func_space m in
-            no_number_fits ((side_instance pair side).funcs x) (number_past pair Funcs side x (omega (arith, past, long)))
-      ]
+  func_fits side x = elim (cases_lt x (length (func_indices (module_of pair side)))) [
+    | inl low ↦ let below = func_low pair linkable side x low in let most = few.funcs in omega (arith, below, most)
+    | inr past ↦
+        let long = items_counted ℕ Funcs func_space (module_of pair side) in
+        no_number_fits ((side_instance pair side).funcs x) (number_past pair Funcs side x (omega (arith, past, long)))
+  ]
 
   global_fits : (side : Side) (x : ℕ) → FitsU32 ((side_instance pair side).globals x)
-  global_fits side x =
-      let m = module_of pair side in
-      elim (cases_lt x (length (all_globals m))) [
-        | inl low ↦
-            let found = item_there (all_globals m) x low in
-            let own = global_linked pair linkable.no_fault side x found.0 found.1 in
-            let within = slice_get_within (all_globals whole) ((side_instance pair side).globals x) found.0 own in
-            let same = ap length (globals_whole pair) in
-            let long = linked_counted GlobalType Globals global_space pair kept in
-            let most = few.globals in omega (arith, within, same, long, most)
-        | inr past ↦
-            let long = items_counted GlobalType Globals global_space m in
-            no_number_fits ((side_instance pair side).globals x) (number_past pair Globals side x (omega (arith, past, long)))
-      ]
+  global_fits side x = elim (cases_lt x (length (all_globals (module_of pair side)))) [
+    | inl low ↦ let below = global_low pair linkable side x low in let most = few.globals in omega (arith, below, most)
+    | inr past ↦
+        let long = items_counted GlobalType Globals global_space (module_of pair side) in
+        no_number_fits ((side_instance pair side).globals x) (number_past pair Globals side x (omega (arith, past, long)))
+  ]
 
   type_fits : (side : Side) (t : ℕ) → FitsU32 ((side_instance pair side).types t)
   type_fits side t = let capped : moved_up (types_before pair side) t < 2 ^ 32 = omega arith in capped
@@ -181,28 +172,11 @@ module _ (pair : ModulePair) (linkable : AreLinkable pair) (few : HaveFewItems p
 
       -- ---- constant expressions
 
-      global_constant : (x : ℕ) (ty : ValType) → constant_type m (GlobalGet x) ≡ Some ty
-          → FitsBody form (linked_constant pair side (GlobalGet x ∷ End ∷ []))
-      global_constant x ty h =
-          let body = GlobalGet x ∷ End ∷ [] in
-          let own = and_then_some (slice_get (imported_globals m) x) immutable_type ty h in
-          let fixed = cond_none_some own.0.mutable (Some own.0.ty) ty own.2 in
-          let known = globals_known pair linkable.no_fault side x own.0 own.1 fixed.0 in
-          subst (λ o. FitsBody form (constant_by pair body o)) (sym known.is) (end_fits body known.found known.value)
-
-      instr_constant : (instr : Instr) (ty : ValType) → constant_type m instr ≡ Some ty
-          → FitsBody form (instr ∷ End ∷ []) → FitsBody form (linked_constant pair side (instr ∷ End ∷ []))
-      instr_constant (Const value) ty h fits = fits
-      instr_constant (GlobalGet x) ty h fits = global_constant x ty h
-      instr_constant instr ty h fits = cc
-
       constant_fits : (ty : ValType) (body : List Instr) → IsConstant m ty body → FitsBody form body
           → FitsBody form (linked_constant pair side body)
-      constant_fits ty body h fits =
-          let own = and_then_some (single body) (constant_type m) ty h in
-          let is = single_is body own.0 own.1 in
-          subst (λ body. FitsBody form (linked_constant pair side body)) (sym is)
-          (instr_constant own.0 ty own.2 (subst (FitsBody form) is fits))
+      constant_fits =
+          constant_becomes pair linkable side (λ before after. FitsBody form before → FitsBody form after)
+          (λ value fits. fits) (λ x e value fits. end_fits (GlobalGet x ∷ End ∷ []) e value)
 
       -- ---- parts
 
@@ -316,16 +290,6 @@ module _ (pair : ModulePair) (linkable : AreLinkable pair) (few : HaveFewItems p
         }
 
 -- ---- both forms
-
-elem_of_zero : (m : Module) → length (all_tables m) ≤ 1 → (elem : ElemSeg) → IsElem m elem → IsOfTableZero elem
-elem_of_zero m one (Active table offset funcs) is = let there = is.0 in omega (arith, there, one)
-elem_of_zero m one (Declared funcs) is = tt
-
-replay_form : CoreIsInReplay → (m : Module) → IsValid m → IsEncodable forms.Core m → IsEncodable forms.Replay m
-replay_form in_replay m valid fits =
-    in_replay m fits
-    (recursion_from_All IsOfTableZero m.elems
-    (All-weaker (IsElem m) IsOfTableZero (elem_of_zero m valid.outside.one_table) m.elems valid.outside.elems))
 
 pub linked_are_encodable : CoreIsInReplay → LinkedAreEncodable
 linked_are_encodable in_replay =

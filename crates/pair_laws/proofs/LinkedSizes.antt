@@ -1,5 +1,5 @@
 -- The lists of linked modules.
-use Rattle.std.proofs.Common.{◌≡◌, ℕ, suc, ◌+◌, ◌≤◌, ◌<◌, List, [], ◌∷◌, map, length, filter, Bool, true, false, cond, not, All, sym, ap, subst, arith, length-append}
+use Rattle.std.proofs.Common.{◌≡◌, ℕ, ◌+◌, ◌≤◌, ◌<◌, List, map, length, true, not, All, sym, ap, subst, arith, length-append}
 use Rattle.std.proofs.lemmas.List.{length-map}
 use Rattle.std.proofs.lemmas.List.Elements.{All-append, All-map, All-weaker}
 use Rattle.wasm_syntax.specs.declared.signatures.FuncType.{FuncType}
@@ -15,18 +15,10 @@ use Rattle.pair_spec.specs.Pairs.{ModulePair, module_of, is_from_other, host_imp
 use Rattle.pair_spec.specs.Numbers.{count_in, host_count, side_instance}
 use Rattle.pair_spec.specs.Linked.{linked, linked_func, linked_import}
 use Rattle.pair_laws.specs.SizeLaws.{CountsAreWithin, LinkedAreShort, LinkedHaveListsWithin}
+use Rattle.pair_laws.proofs.Lists.{filter_fewer}
 use Rattle.pair_laws.proofs.LinkedAccepted.{quantities}
 use Rattle.pair_laws.proofs.LinkedItems.{items_counted, linked_counted}
 use Rattle.pair_laws.proofs.LinkedSpaces.{func_space, funcs_whole, types_of_side}
-
-filter_fewer : {X : Type 0} (test : X → Bool) (xs : List X) → length (filter test xs) ≤ length xs
-filter_fewer test [] = omega arith
-filter_fewer test (x ∷ xs) = by (test x) (filter_fewer test xs)
-  where
-    by : (b : Bool) → length (filter test xs) ≤ length xs
-        → length (cond b (x ∷ filter test xs) (filter test xs)) ≤ suc (length xs)
-    by true later = omega (arith, later)
-    by false later = omega (arith, later)
 
 module _ (pair : ModulePair) where
   abbrev whole : Module

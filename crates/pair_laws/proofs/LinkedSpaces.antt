@@ -27,7 +27,8 @@ use Rattle.pair_spec.specs.Numbers.{number_of, no_number, numbers_in, number_at,
 use Rattle.pair_spec.specs.PairRuns.{pair_hosts}
 use Rattle.pair_spec.specs.Linked.{linked_import, linked_func, linked_global, linked}
 use Rattle.pair_spec.specs.Faults.{same_global_type, declared_match, is_signature, does_match, first_pair_fault}
-use Rattle.pair_laws.proofs.Imports.{is_func, is_table, is_memory, is_global, kinds_joined, tables_kept, memories_kept, globals_kept}
+use Rattle.instance_laws.proofs.WidenedParts.{kinds_append}
+use Rattle.pair_laws.proofs.Imports.{is_func, is_table, is_memory, is_global, tables_kept, memories_kept, globals_kept}
 use Rattle.pair_laws.proofs.LinkedCode.{types_are}
 use Rattle.pair_laws.proofs.Chains.{IsEnd, end_side, ends_are, own_end, import_end, no_import_fault}
 use Rattle.pair_laws.proofs.LinkedItems.{ItemSpace, items_of, items_counted, import_item, linked_items, at_end, mapped_at}
@@ -196,9 +197,6 @@ signed o None h = cc
 signed None (Some wanted) h = cc
 signed (Some given) (Some wanted) h = (given, refl, ap (λ t. Some t) (sym (signature_same given wanted h)))
 
-some_equal : {X : Type 0} (a b : X) → Some a ≡ Some b → a ≡ b
-some_equal a b e = cc
-
 module _ (pair : ModulePair) (side : Side) (e : ChainEnd) where
   abbrev given : Module
   given = end_module pair e
@@ -247,7 +245,8 @@ module _ (pair : ModulePair) (side : Side) (e : ChainEnd) where
   global_matched (import.Memory limits) k is h = cc
   global_matched (import.Global ty) k is h =
       let own = passed_there (λ given. same_global_type given ty) (slice_get (all_globals given) (end_index e)) h in
-      (own.0, own.1, global_equal own.0 ty own.2 ∙ some_equal ty k is)
+      let same : ty ≡ k = cc in
+      (own.0, own.1, global_equal own.0 ty own.2 ∙ same)
 
 module _ (pair : ModulePair) where
   pub funcs_match : (side : Side) (i : Import) (e : ChainEnd) (k : ℕ) → func_import i.kind ≡ Some k
@@ -307,7 +306,7 @@ module _ (pair : ModulePair) where
 
   pub tables_whole : all_tables whole ≡ linked_items Limits Tables table_space pair kept
   tables_whole =
-      (λ j. kinds_joined table_import (map (linked_import (side_instance pair Left)) hosts_left)
+      (λ j. kinds_append table_import (map (linked_import (side_instance pair Left)) hosts_left)
       (map (linked_import (side_instance pair Right)) hosts_right) j
       ++ (pair.left.tables ++ pair.right.tables))
       ∙ (λ j. (tables_kept (side_instance pair Left) hosts_left j ++ tables_kept (side_instance pair Right) hosts_right j)
@@ -316,7 +315,7 @@ module _ (pair : ModulePair) where
 
   pub memories_whole : all_memories whole ≡ linked_items Limits Memories memory_space pair kept
   memories_whole =
-      (λ j. kinds_joined memory_import (map (linked_import (side_instance pair Left)) hosts_left)
+      (λ j. kinds_append memory_import (map (linked_import (side_instance pair Left)) hosts_left)
       (map (linked_import (side_instance pair Right)) hosts_right) j
       ++ (pair.left.memories ++ pair.right.memories))
       ∙ (λ j. (memories_kept (side_instance pair Left) hosts_left j
@@ -332,14 +331,14 @@ module _ (pair : ModulePair) where
 
   pub imported_globals_whole : imported_globals whole ≡ of_kind global_import (pair_hosts pair)
   imported_globals_whole =
-      kinds_joined global_import (map (linked_import (side_instance pair Left)) hosts_left)
+      kinds_append global_import (map (linked_import (side_instance pair Left)) hosts_left)
       (map (linked_import (side_instance pair Right)) hosts_right)
       ∙ (λ j. globals_kept (side_instance pair Left) hosts_left j ++ globals_kept (side_instance pair Right) hosts_right j)
-      ∙ sym (kinds_joined global_import hosts_left hosts_right)
+      ∙ sym (kinds_append global_import hosts_left hosts_right)
 
   pub globals_whole : all_globals whole ≡ linked_items GlobalType Globals global_space pair kept
   globals_whole =
-      (λ j. kinds_joined global_import (map (linked_import (side_instance pair Left)) hosts_left)
+      (λ j. kinds_append global_import (map (linked_import (side_instance pair Left)) hosts_left)
       (map (linked_import (side_instance pair Right)) hosts_right) j
       ++ map-append (λ (g : Global). g.ty) (map (linked_global pair Left) pair.left.globals)
       (map (linked_global pair Right) pair.right.globals) j)

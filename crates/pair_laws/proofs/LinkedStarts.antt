@@ -36,7 +36,8 @@ use Rattle.pair_spec.specs.Numbers.{side_instance}
 use Rattle.pair_spec.specs.PairRuns.{pair_world, pair_hosts, pair_supply, values_of, pair_new_store, pair_unfit, pair_written, pair_instantiate, pair_start_func, pair_start_or_fault, pair_start_with_supply, pair_start}
 use Rattle.pair_spec.specs.Linked.{linked_import, linked_global, linked_elem, linked_data, linked}
 use Rattle.pair_laws.specs.Laws.{AreLinkable, LinkedOutcomesFollow, LinkedRunsFollow}
-use Rattle.pair_laws.proofs.Imports.{kinds_joined, memories_kept, tables_kept}
+use Rattle.instance_laws.proofs.WidenedParts.{kinds_append}
+use Rattle.pair_laws.proofs.Imports.{memories_kept, tables_kept}
 use Rattle.pair_laws.proofs.LinkedCode.{imported_is, does_realise}
 use Rattle.pair_laws.proofs.Constants.{IsAlike, IsAlikeElem, AreAlike, are_alike}
 
@@ -149,15 +150,15 @@ module _ (pair : ModulePair) (script : Script) where
 
   memories_are : of_kind memory_import whole.imports ≡ of_kind memory_import (pair_hosts pair)
   memories_are =
-      kinds_joined memory_import (map (linked_import left) hosts_left) (map (linked_import right) hosts_right)
+      kinds_append memory_import (map (linked_import left) hosts_left) (map (linked_import right) hosts_right)
       ∙ (λ j. memories_kept left hosts_left j ++ memories_kept right hosts_right j)
-      ∙ sym (kinds_joined memory_import hosts_left hosts_right)
+      ∙ sym (kinds_append memory_import hosts_left hosts_right)
 
   tables_are : of_kind table_import whole.imports ≡ of_kind table_import (pair_hosts pair)
   tables_are =
-      kinds_joined table_import (map (linked_import left) hosts_left) (map (linked_import right) hosts_right)
+      kinds_append table_import (map (linked_import left) hosts_left) (map (linked_import right) hosts_right)
       ∙ (λ j. tables_kept left hosts_left j ++ tables_kept right hosts_right j)
-      ∙ sym (kinds_joined table_import hosts_left hosts_right)
+      ∙ sym (kinds_append table_import hosts_left hosts_right)
 
   right_faults : (at globals : ℕ)
       → first_fault script (map (linked_import right) hosts_right) at globals ≡ first_fault script hosts_right at globals

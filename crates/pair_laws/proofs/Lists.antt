@@ -1,5 +1,5 @@
 -- Items of a list that pass a test, and items by their places.
-use Rattle.std.proofs.Common.{◌≡◌, ℕ, zero, suc, List, [], ◌∷◌, length, map, filter, take, Some, Bool, true, false, cond, slice_get, refl, ap, ◌∙◌}
+use Rattle.std.proofs.Common.{◌≡◌, ℕ, zero, suc, ◌≤◌, List, [], ◌∷◌, length, filter, take, Some, Bool, true, false, cond, slice_get, refl, ap, ◌∙◌, arith}
 use Rattle.std.specs.List.{All, AllByRecursion, slice_index_or}
 use Rattle.std.proofs.lemmas.List.Elements.{All-head, All-tail}
 
@@ -24,6 +24,16 @@ passed_at test (first ∷ xs) (suc y) x there passes = by (test first) (passed_a
         ≡ Some x
     by true later = later
     by false later = later
+
+-- no more items pass than there are
+pub filter_fewer : {X : Type 0} (test : X → Bool) (xs : List X) → length (filter test xs) ≤ length xs
+filter_fewer test [] = omega arith
+filter_fewer test (x ∷ xs) = by (test x) (filter_fewer test xs)
+  where
+    by : (b : Bool) → length (filter test xs) ≤ length xs
+        → length (cond b (x ∷ filter test xs) (filter test xs)) ≤ suc (length xs)
+    by true later = omega (arith, later)
+    by false later = omega (arith, later)
 
 -- the place in a list of an item that passes
 pub record IsPlace {X : Type 0} (test : X → Bool) (xs : List X) (y : ℕ) (x : X) : Type 0 where
@@ -69,11 +79,6 @@ index_there (y ∷ xs) (suc k) d x h = index_there xs k d x h
 pub one_by_one : {X : Type 0} (P Q : X → Type 0) → ((x : X) → P x → Q x) → (xs : List X) → All P xs → AllByRecursion Q xs
 one_by_one P Q each [] h = tt
 one_by_one P Q each (x ∷ xs) h = (each x (All-head P x xs h), one_by_one P Q each xs (All-tail P x xs h))
-
-pub mapped_all : {A B : Type 0} (P : A → Type 0) (Q : B → Type 0) (f : A → B) → ((x : A) → P x → Q (f x))
-    → (xs : List A) → AllByRecursion P xs → AllByRecursion Q (map f xs)
-mapped_all P Q f each [] all = tt
-mapped_all P Q f each (x ∷ xs) all = (each x all.0, mapped_all P Q f each xs all.1)
 
 pub filtered_all : {X : Type 0} (P : X → Type 0) (test : X → Bool) (xs : List X) → AllByRecursion P xs
     → AllByRecursion P (filter test xs)

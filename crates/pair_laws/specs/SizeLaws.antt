@@ -1,10 +1,13 @@
 -- Laws of the sizes of linked modules.
 use Rattle.std.specs.Prelude.{ℕ, ◌+◌, ◌<◌, ◌≤◌, length}
+use Rattle.wasm_syntax.specs.declared.limits.TheConstants.{MAX_FILE_BYTES, MAX_ORIGINAL_BYTES}
+use Rattle.wasm_syntax.specs.Encoding.Shortest.{encoding_of}
 use Rattle.wasm_syntax.specs.ListsWithin.{HasListsWithin}
 use Rattle.wasm_flat.specs.Sizes.{IsShort, list_limit}
 use Rattle.pair_spec.specs.Pairs.{ModulePair, Space, Funcs, defined_in}
 use Rattle.pair_spec.specs.Numbers.{count_in}
 use Rattle.pair_spec.specs.Linked.{linked}
+use Rattle.pair_laws.specs.Laws.{AreLinkable}
 
 -- the run of a pair has no more of a space than both modules import and define
 abbrev pub CountsAreWithin : Type 0
@@ -26,3 +29,10 @@ LinkedAreShort =
     (pair : ModulePair) → IsShort pair.left → IsShort pair.right
     → length pair.left.types + length pair.right.types < list_limit → count_in pair Funcs < list_limit
     → IsShort (linked pair)
+
+-- the shortest encoding of the linked module of two valid modules whose pair has no fault has at most
+-- `MAX_ORIGINAL_BYTES`, if those of both modules have no more bytes than a file may have
+abbrev pub LinkedAreWithin : Type 0
+LinkedAreWithin =
+    (pair : ModulePair) → AreLinkable pair → length (encoding_of pair.left) ≤ MAX_FILE_BYTES
+    → length (encoding_of pair.right) ≤ MAX_FILE_BYTES → length (encoding_of (linked pair)) ≤ MAX_ORIGINAL_BYTES

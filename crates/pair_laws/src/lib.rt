@@ -9,5 +9,6 @@ pub mod linked_laws;
 pub use laws::{functions_keep_their_types, linked_outcomes_follow, linked_runs_follow};
 pub use linked_laws::{
     counts_are_within, linked_are_accepted, linked_are_core, linked_are_encodable,
-    linked_are_short, linked_are_supported, linked_are_valid, linked_have_lists_within,
+    linked_are_short, linked_are_supported, linked_are_valid, linked_are_within,
+    linked_have_lists_within,
 };

@@ -2,7 +2,7 @@
 // function; the statements are in `specs/LinkedLaws.antt`, and those of sizes in `specs/SizeLaws.antt`.
 
 ghost use Rattle.pair_laws.specs.LinkedLaws.{LinkedAreAccepted, LinkedAreCore, LinkedAreEncodable, LinkedAreSupported, LinkedAreValid};
-ghost use Rattle.pair_laws.specs.SizeLaws.{CountsAreWithin, LinkedAreShort, LinkedHaveListsWithin};
+ghost use Rattle.pair_laws.specs.SizeLaws.{CountsAreWithin, LinkedAreShort, LinkedAreWithin, LinkedHaveListsWithin};
 
 use instance_laws::typings_are_kept;
 use wasm_syntax::encoding_forms;
@@ -56,4 +56,10 @@ pub fn linked_have_lists_within()
 /// together.
 pub fn linked_are_short()
     ensures { LinkedAreShort }
+{}
+
+/// The shortest encoding of the linked module of two valid modules whose pair has no fault has at most
+/// `MAX_ORIGINAL_BYTES`, if those of both modules have at most `MAX_FILE_BYTES`.
+pub fn linked_are_within()
+    ensures { LinkedAreWithin }
 {}

@@ -1,12 +1,17 @@
--- The stages in which files are read: the module, the declarations for it, and the script for the widened module.
-use Rattle.std.proofs.Common.{◌≡◌, ◌⊎◌, inl, inr, ℕ, List, Ok, refl, sym, subst}
+-- The stages in which files are read: the modules or the declarations, the module that is made of them, and the script
+-- for that.
+use Rattle.std.proofs.Common.{◌≡◌, ◌⊎◌, inl, inr, ℕ, List, Ok, refl, sym, ◌∙◌, subst}
 use Rattle.wasm_syntax.specs.declared.modules.Module.{Module}
+use Rattle.script_text.specs.Texts.{script_of_text}
 use Rattle.decl_text.specs.Texts.{decls_of_text}
+use Rattle.pair_spec.specs.Pairs.{ModulePair}
 use Rattle.r3_faults.specs.declared.faults.Fault.{Fault}
 use Rattle.r3_inputs.specs.Inputs.{IsModuleOf, IsRefusedModule, IsRefusedScript}
 use Rattle.r3_inputs.proofs.Stages.{AreStaged}
-use Rattle.r3_core.specs.ForeignInputs.{foreign_files, AreForeignRefused, ByDecls, ByModule, ByScript, AreUndeclared, NoDecls, NoModule, IsRefusedDecls}
-use Rattle.r3_core.specs.WidenedInputs.{widened_of, AreWidened, IsDeclared, IsWidenedScript}
+use Rattle.r3_core.specs.ForeignInputs.{AreUndeclared, IsDeclared, IsRefusedDecls, NoDecls, NoModule}
+use Rattle.r3_core.specs.PairInputs.{pair_source, AreRefusedPairBytes, IsPairFault, NoLeft, NoLink, NoRight}
+use Rattle.r3_core.specs.RecordedModules.{AreRunInputs, IsLinkedOf, IsRecordedFor, IsScriptFor}
+use Rattle.r3_core.specs.Sources.{Source, AreRefusedWithScript, ByFiles, ByScript}
 use Rattle.r3_core.specs.declared.declared_modules.DeclaredModule.{DeclaredModule}
 
 -- declarations of a module, as a value
@@ -33,41 +38,101 @@ module _ (module_bytes decl_bytes : List ℕ) where
       parts_of fault (NoModule refused) = inl refused
       parts_of fault (NoDecls m is_module refused) = inr (m, is_module, refused)
 
-  pub whole_stages : (script_bytes : List ℕ)
-      → AreStaged (IsDeclared module_bytes decl_bytes) (AreUndeclared module_bytes decl_bytes)
-      (λ declared inputs. IsWidenedScript declared script_bytes inputs)
-      (λ declared fault. IsRefusedScript (widened_of declared) script_bytes fault)
-      (AreWidened (foreign_files module_bytes decl_bytes script_bytes))
-      (AreForeignRefused (foreign_files module_bytes decl_bytes script_bytes))
-  whole_stages script_bytes = record {
-    whole = λ declared inputs is next. record {
-      declared = declared;
-      inputs_are = record { is_module = is.is_module; are_decls = is.are_decls; is_script = next.is_script };
-      wide_is = next.wide_is;
+-- ---- the recorded module, and a script for it
+
+module _ {X : Type 0} (source : Source X) where
+  pub recorded_stages : AreStaged source.IsRead source.IsUnread (λ x m. m ≡ source.recorded x) (λ x fault. ⊥)
+      (IsRecordedFor source) source.IsUnread
+  recorded_stages = record {
+    whole = λ x m read is. record { x = x; read = read; is = is };
+    parts = λ m is. (is.x, is.read, is.is);
+    first_refused = λ fault refused. refused;
+    next_refused = λ x fault read none. absurd none;
+    refused_parts = λ fault refusal. inl refusal;
+  }
+
+  pub script_stages : (script_bytes : List ℕ)
+      → AreStaged (IsRecordedFor source) source.IsUnread (λ m inputs. IsScriptFor m script_bytes inputs)
+      (λ m fault. IsRefusedScript m script_bytes fault) (AreRunInputs source script_bytes)
+      (λ fault. AreRefusedWithScript source script_bytes fault)
+  script_stages script_bytes = record {
+    whole = λ m inputs first next. record {
+      x = first.x;
+      read = record {
+        read = first.read;
+        is_script = subst (λ m. script_of_text m script_bytes ≡ Ok inputs.script) first.is next.is_script;
+      };
+      is = next.same ∙ first.is;
     };
     parts = λ inputs is. (
-      is.declared,
-      record { is_module = is.inputs_are.is_module; are_decls = is.inputs_are.are_decls },
-      record { wide_is = is.wide_is; is_script = is.inputs_are.is_script },
+      source.recorded is.x,
+      record { x = is.x; read = is.read.read; is = refl },
+      record { same = is.is; is_script = is.read.is_script },
     );
-    first_refused = λ fault refusal. early fault refusal;
-    next_refused = λ declared fault is refused. ByScript declared.checked declared.decls is.is_module is.are_decls refused;
+    first_refused = λ fault unread. ByFiles unread;
+    next_refused = λ m fault first refused.
+        ByScript first.x first.read (subst (λ m. IsRefusedScript m script_bytes fault) first.is refused);
     refused_parts = λ fault refusal. parts_of fault refusal;
   }
     where
-      early : (fault : Fault) → AreUndeclared module_bytes decl_bytes fault
-          → AreForeignRefused (foreign_files module_bytes decl_bytes script_bytes) fault
-      early fault (NoModule refused) = ByModule refused
-      early fault (NoDecls m is_module refused) = ByDecls m is_module refused
+      parts_of : (fault : Fault) → AreRefusedWithScript source script_bytes fault
+          → source.IsUnread fault ⊎ ((m : Module) × IsRecordedFor source m × IsRefusedScript m script_bytes fault)
+      parts_of fault (ByFiles unread) = inl unread
+      parts_of fault (ByScript x read refused) = inr (source.recorded x, record { x = x; read = read; is = refl }, refused)
 
-      parts_of : (fault : Fault) → AreForeignRefused (foreign_files module_bytes decl_bytes script_bytes) fault
-          → AreUndeclared module_bytes decl_bytes fault
-          ⊎ ((declared : DeclaredModule) × IsDeclared module_bytes decl_bytes declared
-          × IsRefusedScript (widened_of declared) script_bytes fault)
-      parts_of fault (ByModule refused) = inl (NoModule refused)
-      parts_of fault (ByDecls m is_module refused) = inl (NoDecls m is_module refused)
-      parts_of fault (ByScript m decls is_module are_decls refused) = inr (
-        record { checked = m; decls = decls },
-        record { is_module = is_module; are_decls = are_decls },
-        refused,
-      )
+-- ---- pairs
+
+module _ (left_bytes right_bytes : List ℕ) where
+  abbrev pair_of : (left right : Module) → ModulePair
+  pair_of left right = record { left = left; right = right }
+
+  -- the right module, and the linked module of it and of this left one; or why there is none
+  abbrev pub IsLinkedBehind : (left : Module) → Module → Type 0
+  IsLinkedBehind left m = (right : Module) × IsModuleOf right_bytes right × IsLinkedOf (pair_of left right) m
+
+  abbrev pub IsUnlinkedBehind : (left : Module) → Fault → Type 0
+  IsUnlinkedBehind left fault =
+      IsRefusedModule right_bytes fault
+      ⊎ ((right : Module) × IsModuleOf right_bytes right × IsPairFault (pair_of left right) fault)
+
+  pub right_stages : (left : Module)
+      → AreStaged (IsModuleOf right_bytes) (IsRefusedModule right_bytes) (λ right m. IsLinkedOf (pair_of left right) m)
+      (λ right fault. IsPairFault (pair_of left right) fault) (IsLinkedBehind left) (IsUnlinkedBehind left)
+  right_stages left = record {
+    whole = λ right m is next. (right, is, next);
+    parts = λ m is. is;
+    first_refused = λ fault refused. inl refused;
+    next_refused = λ right fault is refused. inr (right, is, refused);
+    refused_parts = λ fault refusal. refusal;
+  }
+
+  pub left_stages : AreStaged (IsModuleOf left_bytes) (IsRefusedModule left_bytes) IsLinkedBehind IsUnlinkedBehind
+      (IsRecordedFor (pair_source left_bytes right_bytes)) (AreRefusedPairBytes left_bytes right_bytes)
+  left_stages = record {
+    whole = λ left m is next. record {
+      x = pair_of left next.0;
+      read = record { is_left = is; is_right = next.1; no_fault = next.2.no_fault };
+      is = next.2.is;
+    };
+    parts = λ m is. (
+      is.x.left,
+      is.read.is_left,
+      (is.x.right, is.read.is_right, record { no_fault = is.read.no_fault; is = is.is }),
+    );
+    first_refused = λ fault refused. NoLeft refused;
+    next_refused = λ left fault is refused. behind left fault is refused;
+    refused_parts = λ fault refusal. parts_of fault refusal;
+  }
+    where
+      behind : (left : Module) (fault : Fault) → IsModuleOf left_bytes left → IsUnlinkedBehind left fault
+          → AreRefusedPairBytes left_bytes right_bytes fault
+      behind left fault is (inl refused) = NoRight left is refused
+      behind left fault is (inr later) = NoLink (pair_of left later.0) is later.1 later.2
+
+      parts_of : (fault : Fault) → AreRefusedPairBytes left_bytes right_bytes fault
+          → IsRefusedModule left_bytes fault
+          ⊎ ((left : Module) × IsModuleOf left_bytes left × IsUnlinkedBehind left fault)
+      parts_of fault (NoLeft refused) = inl refused
+      parts_of fault (NoRight left is refused) = inr (left, is, inl refused)
+      parts_of fault (NoLink modules is_left is_right refused) =
+          inr (modules.left, is_left, inr (modules.right, is_right, refused))

@@ -3,9 +3,11 @@ pub mod RefusalLemmas
 pub mod ResultLemmas
 pub mod StatusLemmas
 pub mod WordLemmas
-pub mod ForeignCommands
-pub mod ForeignOutcomes
-pub mod WidenedFacts
+pub mod WorldOutcomes
+pub mod ReplayFunctions
+pub mod SourceCommands
+pub mod FileFacts
+pub mod PairFacts
 pub mod FileStages
 pub mod ReadDecls
 pub mod CommandLimits

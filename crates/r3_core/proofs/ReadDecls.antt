@@ -13,11 +13,6 @@ use Rattle.r3_core.specs.ForeignInputs.{decl_fault, IsRefusedDecls}
 use Rattle.r3_core.specs.declared.declared_modules.DeclaredModule.{DeclaredModule}
 use Rattle.r3_core.proofs.FileStages.{IsDeclaredBy}
 
--- a call without memory is exact
-pub no_memory : {V : Type 0} (IsValue : V → Type 0) (Refusal : Fault → Type 0) → IsExactValue IsValue Refusal (Err Memory)
-no_memory IsValue Refusal =
-    record { taken = tt; cause = inl refl; refused = λ fault refusal. inr refl; accepted = λ value is. inr refl }
-
 module _ (m : Module) (bytes : List ℕ) where
   -- the declarations that the bytes are
   abbrev pub AreRead : List Decl → Type 0

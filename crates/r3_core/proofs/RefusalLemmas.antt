@@ -41,18 +41,22 @@ use Rattle.r3_make.specs.BuildRefusals as tapes
 use Rattle.r3_make.specs.BuildRefusals.{IsBuildRefusal, IsUntaken}
 use Rattle.decl_text.specs.declared.faults.DeclFault.{DeclFault}
 use Rattle.decl_text.specs.declared.faults.DeclFault.TheVariants as decl
-use Rattle.instance_spec.specs.declared.decls.Decl.{Decl}
+use Rattle.pair_spec.specs.declared.faults.PairFault.{PairFault}
+use Rattle.pair_spec.specs.declared.faults.PairFault.TheVariants as pair
 use Rattle.r3_core.specs.ForeignInputs as foreign
-use Rattle.r3_core.specs.ForeignInputs.{foreign_files, AreForeignRefused, ForeignFiles}
-use Rattle.r3_core.specs.ForeignOutcomes as outcomes
-use Rattle.r3_core.specs.ForeignHistories as foreign_histories
-use Rattle.r3_core.specs.ForeignHistories.{IsForeignHistoryRefusal, IsForeignUnprinted}
-use Rattle.r3_core.specs.ForeignReplays as foreign_replays
-use Rattle.r3_core.specs.ForeignReplays.{IsForeignRefusal, IsForeignUnmade}
+use Rattle.r3_core.specs.ForeignInputs.{foreign_source, AreUndeclared}
+use Rattle.r3_core.specs.PairInputs as pairs
+use Rattle.r3_core.specs.PairInputs.{pair_source, AreRefusedPairBytes}
+use Rattle.r3_core.specs.Sources as sources
+use Rattle.r3_core.specs.Sources.{Source, AreRefusedWithScript, HasNoHistory, HasNoReplay}
+use Rattle.r3_core.specs.WorldReplays as world_replays
+use Rattle.r3_core.specs.WorldReplays.{IsWorldUnmade}
+use Rattle.r3_core.specs.WorldRuns as worlds
+use Rattle.r3_core.specs.WorldRuns.{WorldRun}
 use Rattle.load_maker.specs.Loads.{load_script}
 use Rattle.load_maker.specs.declared.load_module.TheConstants.{LOAD_MODULE}
 use Rattle.r3_core.specs.declared.words.Command.{Command}
-use Rattle.r3_core.specs.declared.words.Command.TheVariants.{Make, Instrument, Record, Reduce, Build, History, Replay, Show, Load, Foreign, ForeignHistory}
+use Rattle.r3_core.specs.declared.words.Command.TheVariants.{Make, Instrument, Record, Reduce, Build, History, Replay, Show, Load, Foreign, ForeignHistory, Pair, PairHistory}
 use Rattle.r3_core.specs.Words.{form}
 use Rattle.r3_core.specs.Causes.{IsRefusal}
 
@@ -200,42 +204,60 @@ decl-other (decl.Reserved import) differs = refl
 decl-other (decl.Taken name) differs = refl
 decl-other decl.Memory differs = absurd (differs refl)
 
-foreign_inputs-other : (files : ForeignFiles) (fault : Fault) → AreForeignRefused files fault → IsOther (status_of fault)
-foreign_inputs-other files fault (foreign.ByModule refused) = module-other Original files.original fault refused
-foreign_inputs-other files fault (foreign.ByDecls m is_module refused) =
+undeclared-other : (m d : List ℕ) (fault : Fault) → AreUndeclared m d fault → IsOther (status_of fault)
+undeclared-other m d fault (foreign.NoModule refused) = module-other Original m fault refused
+undeclared-other m d fault (foreign.NoDecls n is_module refused) =
     named-other fault (foreign.decl_fault refused.found) refused.named (decl-other refused.found refused.differs)
-foreign_inputs-other files fault (foreign.ByScript m decls is_module are_decls refused) =
-    named-other fault (script_fault refused.found) refused.named (script-other refused.found refused.differs)
 
-module _ (m : Module) (decls : List Decl) (played : Script) (turns : ℕ) (fault : Fault) where
-  foreign_link-status : outcomes.IsForeignUnlinked m decls played fault → IsOther (status_of fault)
-  foreign_link-status u = named-other fault (unlinked.link_fault u.found) u.named (link-other u.found u.differs)
+pair-other : (found : PairFault) → (found ≡ pair.Memory → ⊥) → is_other (status_of (pairs.pair_fault found)) ≡ true
+pair-other (pair.Unresolved side import) differs = refl
+pair-other (pair.Mismatch side import) differs = refl
+pair-other pair.TwoMemories differs = refl
+pair-other pair.TwoTables differs = refl
+pair-other pair.TwoStarts differs = refl
+pair-other pair.Memory differs = absurd (differs refl)
 
-  foreign_none-status : outcomes.HasNoForeignOutcome m decls played turns fault → IsOther (status_of fault)
-  foreign_none-status (outcomes.OfScript u) = named-other fault (faults.Script u.turn u.kind) u.named refl
-  foreign_none-status (outcomes.OfTurns u) = named-other fault (faults.Spent turns) u.named refl
+unlinked-other : (l r : List ℕ) (fault : Fault) → AreRefusedPairBytes l r fault → IsOther (status_of fault)
+unlinked-other l r fault (pairs.NoLeft refused) = module-other Original l fault refused
+unlinked-other l r fault (pairs.NoRight m is_left refused) = module-other Original r fault refused
+unlinked-other l r fault (pairs.NoLink modules is_left is_right refused) =
+    named-other fault (pairs.pair_fault refused.found) refused.named (pair-other refused.found refused.differs)
 
-  foreign_unmade-status : IsForeignUnmade m decls played turns fault → IsOther (status_of fault)
-  foreign_unmade-status (foreign_replays.OfLink u) = foreign_link-status u
-  foreign_unmade-status (foreign_replays.OfOutcome u) = foreign_none-status u
-  foreign_unmade-status (foreign_replays.OfWeight u) =
-      named-other fault (faults.TapeLimit (min (tape_weight u.tape) (2 ^ 64 - 1))) u.named refl
+-- the run of what files are read as
+module _ {X : Type 0} (source : Source X) (script_bytes : List ℕ) (turns : ℕ) (fault : Fault)
+    (unread-other : source.IsUnread fault → IsOther (status_of fault)) where
+  script_inputs-other : AreRefusedWithScript source script_bytes fault → IsOther (status_of fault)
+  script_inputs-other (sources.ByFiles unread) = unread-other unread
+  script_inputs-other (sources.ByScript x read refused) =
+      named-other fault (script_fault refused.found) refused.named (script-other refused.found refused.differs)
 
-  foreign_unprinted-status : IsForeignUnprinted m decls played turns fault → IsOther (status_of fault)
-  foreign_unprinted-status (foreign_histories.OfLink u) = foreign_link-status u
-  foreign_unprinted-status (foreign_histories.OfOutcome u) = foreign_none-status u
+  module _ (run : WorldRun) where
+    world_link-status : worlds.IsWorldUnlinked run fault → IsOther (status_of fault)
+    world_link-status u = named-other fault (unlinked.link_fault u.found) u.named (link-other u.found u.differs)
 
-foreign-status : (files : ForeignFiles) (turns : ℕ) (fault : Fault) → IsForeignRefusal files turns fault
-    → IsOther (status_of fault)
-foreign-status files turns fault (foreign_replays.OfInputs refused) = foreign_inputs-other files fault refused
-foreign-status files turns fault (foreign_replays.OfModule m decls played inputs unmade) =
-    foreign_unmade-status m decls played turns fault unmade
+    world_none-status : worlds.HasNoWorldOutcome run turns fault → IsOther (status_of fault)
+    world_none-status (worlds.OfScript u) = named-other fault (faults.Script u.turn u.kind) u.named refl
+    world_none-status (worlds.OfTurns u) = named-other fault (faults.Spent turns) u.named refl
 
-foreign_history-status : (files : ForeignFiles) (turns : ℕ) (fault : Fault) → IsForeignHistoryRefusal files turns fault
-    → IsOther (status_of fault)
-foreign_history-status files turns fault (foreign_histories.OfInputs refused) = foreign_inputs-other files fault refused
-foreign_history-status files turns fault (foreign_histories.OfRun m decls played inputs unprinted) =
-    foreign_unprinted-status m decls played turns fault unprinted
+    world_unmade-status : (m : Module) (played : Script) → IsWorldUnmade m played run turns fault
+        → IsOther (status_of fault)
+    world_unmade-status m played (world_replays.OfLink u) = world_link-status u
+    world_unmade-status m played (world_replays.OfOutcome u) = world_none-status u
+    world_unmade-status m played (world_replays.OfWeight u) =
+        named-other fault (faults.TapeLimit (min (tape_weight u.tape) (2 ^ 64 - 1))) u.named refl
+
+    world_unprinted-status : worlds.IsWorldUnprinted run turns fault → IsOther (status_of fault)
+    world_unprinted-status (worlds.OfLink u) = world_link-status u
+    world_unprinted-status (worlds.OfOutcome u) = world_none-status u
+
+  no_replay-status : HasNoReplay source script_bytes turns fault → IsOther (status_of fault)
+  no_replay-status (sources.OfBytes refused) = script_inputs-other refused
+  no_replay-status (sources.OfModule x played inputs unmade) =
+      world_unmade-status (source.run x played) (source.recorded x) played unmade
+
+  no_history-status : HasNoHistory source script_bytes turns fault → IsOther (status_of fault)
+  no_history-status (sources.OfInputs refused) = script_inputs-other refused
+  no_history-status (sources.OfRun x played inputs unprinted) = world_unprinted-status (source.run x played) unprinted
 
 pub refusal-status : (command : Command) (loaded : List (List ℕ)) (number : Option ℕ) (fault : Fault)
     → IsRefusal command loaded number fault → IsOther (status_of fault)
@@ -283,12 +305,27 @@ refusal-status Foreign [] number fault c = absurd c
 refusal-status Foreign (m ∷ []) number fault c = absurd c
 refusal-status Foreign (m ∷ d ∷ []) number fault c = absurd c
 refusal-status Foreign (m ∷ d ∷ s ∷ []) None fault c = absurd c
-refusal-status Foreign (m ∷ d ∷ s ∷ []) (Some turns) fault c = foreign-status (foreign_files m d s) turns fault c
+refusal-status Foreign (m ∷ d ∷ s ∷ []) (Some turns) fault c =
+    no_replay-status (foreign_source m d) s turns fault (undeclared-other m d fault) c
 refusal-status Foreign (m ∷ d ∷ s ∷ x ∷ more) number fault c = absurd c
 refusal-status ForeignHistory [] number fault c = absurd c
 refusal-status ForeignHistory (m ∷ []) number fault c = absurd c
 refusal-status ForeignHistory (m ∷ d ∷ []) number fault c = absurd c
 refusal-status ForeignHistory (m ∷ d ∷ s ∷ []) None fault c = absurd c
 refusal-status ForeignHistory (m ∷ d ∷ s ∷ []) (Some turns) fault c =
-    foreign_history-status (foreign_files m d s) turns fault c
+    no_history-status (foreign_source m d) s turns fault (undeclared-other m d fault) c
 refusal-status ForeignHistory (m ∷ d ∷ s ∷ x ∷ more) number fault c = absurd c
+refusal-status Pair [] number fault c = absurd c
+refusal-status Pair (l ∷ []) number fault c = absurd c
+refusal-status Pair (l ∷ r ∷ []) number fault c = absurd c
+refusal-status Pair (l ∷ r ∷ s ∷ []) None fault c = absurd c
+refusal-status Pair (l ∷ r ∷ s ∷ []) (Some turns) fault c =
+    no_replay-status (pair_source l r) s turns fault (unlinked-other l r fault) c
+refusal-status Pair (l ∷ r ∷ s ∷ x ∷ more) number fault c = absurd c
+refusal-status PairHistory [] number fault c = absurd c
+refusal-status PairHistory (l ∷ []) number fault c = absurd c
+refusal-status PairHistory (l ∷ r ∷ []) number fault c = absurd c
+refusal-status PairHistory (l ∷ r ∷ s ∷ []) None fault c = absurd c
+refusal-status PairHistory (l ∷ r ∷ s ∷ []) (Some turns) fault c =
+    no_history-status (pair_source l r) s turns fault (unlinked-other l r fault) c
+refusal-status PairHistory (l ∷ r ∷ s ∷ x ∷ more) number fault c = absurd c

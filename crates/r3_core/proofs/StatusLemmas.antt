@@ -12,7 +12,7 @@ use Rattle.r3_faults.specs.Lines.{status_of}
 use Rattle.r3_faults.specs.declared.faults.Fault.{Fault}
 use Rattle.r3_faults.specs.declared.faults.Fault.TheVariants as faults
 use Rattle.r3_core.specs.declared.words.Command.{Command}
-use Rattle.r3_core.specs.declared.words.Command.TheVariants.{Make, Instrument, Record, Reduce, Build, History, Replay, Show, Load, Foreign, ForeignHistory}
+use Rattle.r3_core.specs.declared.words.Command.TheVariants.{Make, Instrument, Record, Reduce, Build, History, Replay, Show, Load, Foreign, ForeignHistory, Pair, PairHistory}
 use Rattle.r3_core.specs.Words.{form, IsAfterFiles, Says, IsListed, files_of}
 use Rattle.r3_core.specs.Causes.{Reading, first_longer, IsLoadCause, AreBytesOf, IsRefusal, IsDoable, IsRefused, IsCause, Unlisted, Unloaded, Refused, Unwritten, OutOfMemory, IsPrintCause, UnloadedFile, RefusedBytes, NoMemoryLeft}
 use Rattle.r3_core.proofs.WordLemmas.{files_of-Says, Says-same}
@@ -209,6 +209,8 @@ most-IsSmall Show = tt
 most-IsSmall Load = omega arith
 most-IsSmall Foreign = omega arith
 most-IsSmall ForeignHistory = omega arith
+most-IsSmall Pair = omega arith
+most-IsSmall PairHistory = omega arith
 
 -- one number after the files
 IsAfterFiles-one : (most : Option ℕ) (after : List (List ℕ)) (a b : Option ℕ) → IsSmall most → IsAfterFiles most after a

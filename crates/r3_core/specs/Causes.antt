@@ -14,8 +14,9 @@ use Rattle.r3_make.specs.BuildRefusals.{IsBuildRefusal}
 use Rattle.r3_make.specs.BuiltReplays as built
 use Rattle.r3_history.specs.Histories.{IsHistory, IsHistoryRefusal}
 use Rattle.r3_core.specs.ForeignHistories.{IsForeignHistory, IsForeignHistoryRefusal}
-use Rattle.r3_core.specs.ForeignInputs.{foreign_files}
 use Rattle.r3_core.specs.ForeignReplays.{AreForeignReplayable, IsForeignPrinted, IsForeignRefusal}
+use Rattle.r3_core.specs.PairHistories.{IsPairHistory, IsPairHistoryRefusal}
+use Rattle.r3_core.specs.PairReplays.{ArePairReplayable, IsPairPrinted, IsPairRefusal}
 use Rattle.r3_replay.specs.ReplayTexts.{IsReplayText, IsReplayRefusal}
 use Rattle.r3_show.specs.FileLines.{IsShown, IsShowRefusal}
 use Rattle.load_maker.specs.Loads.{load_script}
@@ -23,7 +24,7 @@ use Rattle.load_maker.specs.declared.load_module.TheConstants.{LOAD_MODULE}
 use Rattle.wasm_syntax.specs.declared.limits.TheConstants.{LOAD_TURNS}
 use Rattle.r3_make.specs.Summaries.{IsSummary}
 use Rattle.r3_core.specs.declared.words.Command.{Command}
-use Rattle.r3_core.specs.declared.words.Command.TheVariants.{Make, Instrument, Record, Reduce, Build, History, Replay, Show, Load, Foreign, ForeignHistory}
+use Rattle.r3_core.specs.declared.words.Command.TheVariants.{Make, Instrument, Record, Reduce, Build, History, Replay, Show, Load, Foreign, ForeignHistory, Pair, PairHistory}
 use Rattle.r3_core.specs.Words.{form, IsListed, Says, files_of}
 
 -- ---- the files of a call
@@ -91,9 +92,13 @@ IsRefusal Replay (binary ∷ []) (Some turns) fault = IsReplayRefusal binary tur
 IsRefusal Show (trace ∷ []) None fault = IsShowRefusal trace fault
 IsRefusal Load [] (Some number) fault = IsMakeRefusal LOAD_MODULE (load_script number) LOAD_TURNS fault
 IsRefusal Foreign (module_bytes ∷ decl_bytes ∷ script_bytes ∷ []) (Some turns) fault =
-    IsForeignRefusal (foreign_files module_bytes decl_bytes script_bytes) turns fault
+    IsForeignRefusal module_bytes decl_bytes script_bytes turns fault
 IsRefusal ForeignHistory (module_bytes ∷ decl_bytes ∷ script_bytes ∷ []) (Some turns) fault =
-    IsForeignHistoryRefusal (foreign_files module_bytes decl_bytes script_bytes) turns fault
+    IsForeignHistoryRefusal module_bytes decl_bytes script_bytes turns fault
+IsRefusal Pair (left_bytes ∷ right_bytes ∷ script_bytes ∷ []) (Some turns) fault =
+    IsPairRefusal left_bytes right_bytes script_bytes turns fault
+IsRefusal PairHistory (left_bytes ∷ right_bytes ∷ script_bytes ∷ []) (Some turns) fault =
+    IsPairHistoryRefusal left_bytes right_bytes script_bytes turns fault
 IsRefusal command loaded number fault = ⊥
 
 -- a command can do its job for the bytes of its files
@@ -111,9 +116,13 @@ IsDoable Replay (binary ∷ []) (Some turns) = (text : List ℕ) × IsReplayText
 IsDoable Show (trace ∷ []) None = (text : List ℕ) × IsShown trace text
 IsDoable Load [] (Some number) = AreReplayable LOAD_MODULE (load_script number) LOAD_TURNS
 IsDoable Foreign (module_bytes ∷ decl_bytes ∷ script_bytes ∷ []) (Some turns) =
-    AreForeignReplayable (foreign_files module_bytes decl_bytes script_bytes) turns
+    AreForeignReplayable module_bytes decl_bytes script_bytes turns
 IsDoable ForeignHistory (module_bytes ∷ decl_bytes ∷ script_bytes ∷ []) (Some turns) =
-    (text : List ℕ) × IsForeignHistory (foreign_files module_bytes decl_bytes script_bytes) turns text
+    (text : List ℕ) × IsForeignHistory module_bytes decl_bytes script_bytes turns text
+IsDoable Pair (left_bytes ∷ right_bytes ∷ script_bytes ∷ []) (Some turns) =
+    ArePairReplayable left_bytes right_bytes script_bytes turns
+IsDoable PairHistory (left_bytes ∷ right_bytes ∷ script_bytes ∷ []) (Some turns) =
+    (text : List ℕ) × IsPairHistory left_bytes right_bytes script_bytes turns text
 IsDoable command loaded number = ⊥
 
 -- a command prints these bytes for the bytes of its files
@@ -132,9 +141,13 @@ Prints Replay (binary ∷ []) (Some turns) printed = IsReplayText binary turns p
 Prints Show (trace ∷ []) None printed = IsShown trace printed
 Prints Load [] (Some number) printed = IsSummary number printed
 Prints Foreign (module_bytes ∷ decl_bytes ∷ script_bytes ∷ []) (Some turns) printed =
-    IsForeignPrinted (foreign_files module_bytes decl_bytes script_bytes) turns printed
+    IsForeignPrinted module_bytes decl_bytes script_bytes turns printed
 Prints ForeignHistory (module_bytes ∷ decl_bytes ∷ script_bytes ∷ []) (Some turns) printed =
-    IsForeignHistory (foreign_files module_bytes decl_bytes script_bytes) turns printed
+    IsForeignHistory module_bytes decl_bytes script_bytes turns printed
+Prints Pair (left_bytes ∷ right_bytes ∷ script_bytes ∷ []) (Some turns) printed =
+    IsPairPrinted left_bytes right_bytes script_bytes turns printed
+Prints PairHistory (left_bytes ∷ right_bytes ∷ script_bytes ∷ []) (Some turns) printed =
+    IsPairHistory left_bytes right_bytes script_bytes turns printed
 Prints command loaded number printed = ⊥
 
 -- ---- calls

@@ -1,27 +1,19 @@
--- The module, the declarations and the script that the bytes of files are, or why they are refused, by the first cause
--- that applies.
+-- The module and the declarations that the bytes of files are, or why they are refused, by the first cause that
+-- applies; and the run of the module with the declared functions as foreign functions.
 use Rattle.std.specs.Prelude.{◌≡◌, ◌≢◌, ℕ, List, Ok, Err}
 use Rattle.wasm_syntax.specs.declared.modules.Module.{Module}
 use Rattle.host_script.specs.declared.scripts.Script.{Script}
-use Rattle.script_text.specs.Texts.{script_of_text}
-use Rattle.instance_spec.specs.declared.decls.Decl.{Decl}
+use Rattle.instance_spec.specs.ForeignRuns.{foreign_start, foreign_world}
 use Rattle.instance_spec.specs.Widened.{widened}
 use Rattle.decl_text.specs.declared.faults.DeclFault.{DeclFault}
 use Rattle.decl_text.specs.declared.faults.DeclFault.TheVariants as decl
 use Rattle.decl_text.specs.Texts.{decls_of_text}
 use Rattle.r3_faults.specs.declared.faults.Fault.{Fault}
 use Rattle.r3_faults.specs.declared.faults.Fault.TheVariants.{DeclNotJson, DeclShape, DeclReserved, DeclTaken, Memory}
-use Rattle.r3_inputs.specs.Inputs.{IsModuleOf, IsRefusedModule, IsRefusedScript}
-
--- the bytes of a module, of declarations and of a script
-pub record ForeignFiles : Type 0 where
-  pub original : List ℕ
-  pub declared : List ℕ
-  pub played : List ℕ
-
--- the record of these bytes
-abbrev pub foreign_files : (original declared played : List ℕ) → ForeignFiles
-foreign_files original declared played = record { original = original; declared = declared; played = played }
+use Rattle.r3_inputs.specs.Inputs.{IsModuleOf, IsRefusedModule}
+use Rattle.r3_core.specs.Sources.{Source}
+use Rattle.r3_core.specs.WorldRuns.{WorldRun}
+use Rattle.r3_core.specs.declared.declared_modules.DeclaredModule.{DeclaredModule}
 
 -- ---- declarations
 
@@ -43,9 +35,9 @@ pub record IsRefusedDecls (m : Module) (bytes : List ℕ) (fault : Fault) : Type
 -- ---- a module and declarations
 
 -- the bytes are a module, and declarations for it
-pub record AreDeclared (module_bytes decl_bytes : List ℕ) (m : Module) (decls : List Decl) : Type 0 where
-  pub is_module : IsModuleOf module_bytes m
-  pub are_decls : decls_of_text m decl_bytes ≡ Ok decls
+pub record IsDeclared (module_bytes decl_bytes : List ℕ) (declared : DeclaredModule) : Type 0 where
+  pub is_module : IsModuleOf module_bytes declared.checked
+  pub are_decls : decls_of_text declared.checked decl_bytes ≡ Ok declared.decls
 
 -- the module is refused, or else the declarations for it
 pub data AreUndeclared (module_bytes decl_bytes : List ℕ) (fault : Fault) : Type 0 where
@@ -53,19 +45,24 @@ pub data AreUndeclared (module_bytes decl_bytes : List ℕ) (fault : Fault) : Ty
   NoDecls : (m : Module) (is_module : IsModuleOf module_bytes m) (refused : IsRefusedDecls m decl_bytes fault)
       → AreUndeclared module_bytes decl_bytes fault
 
--- ---- all three
+-- the module in which the declared functions are imports
+abbrev pub widened_of : DeclaredModule → Module
+widened_of declared = widened declared.checked declared.decls
 
--- the bytes are a module, declarations for it, and a script for the module in which the declared functions are imports
-pub record AreForeignInputs (files : ForeignFiles) (m : Module) (decls : List Decl) (script : Script) : Type 0 where
-  pub is_module : IsModuleOf files.original m
-  pub are_decls : decls_of_text m files.declared ≡ Ok decls
-  pub is_script : script_of_text (widened m decls) files.played ≡ Ok script
+-- the run with the declared functions as foreign functions
+abbrev pub foreign_run : DeclaredModule → Script → WorldRun
+foreign_run declared script =
+    record {
+      begun = foreign_start declared.checked declared.decls script;
+      world = foreign_world declared.checked declared.decls script;
+    }
 
--- the module is refused, or else the declarations for it, or else the script
-pub data AreForeignRefused (files : ForeignFiles) (fault : Fault) : Type 0 where
-  ByModule : (refused : IsRefusedModule files.original fault) → AreForeignRefused files fault
-  ByDecls : (m : Module) (is_module : IsModuleOf files.original m) (refused : IsRefusedDecls m files.declared fault)
-      → AreForeignRefused files fault
-  ByScript : (m : Module) (decls : List Decl) (is_module : IsModuleOf files.original m)
-      (are_decls : decls_of_text m files.declared ≡ Ok decls)
-      (refused : IsRefusedScript (widened m decls) files.played fault) → AreForeignRefused files fault
+-- a module and declarations are read, or refused; the widened module is recorded for the run with foreign functions
+abbrev pub foreign_source : (module_bytes decl_bytes : List ℕ) → Source DeclaredModule
+foreign_source module_bytes decl_bytes =
+    record {
+      IsRead = IsDeclared module_bytes decl_bytes;
+      IsUnread = AreUndeclared module_bytes decl_bytes;
+      recorded = widened_of;
+      run = foreign_run;
+    }

@@ -5,7 +5,7 @@ use Rattle.std.specs.Option.{option_map_or}
 use Rattle.std.specs.Str.{bytes_eq}
 use Rattle.wasm_syntax.specs.declared.limits.TheConstants.{MAX_LOAD_CALLS, MAX_TRACE_BYTES, MAX_RECORD_TURNS, MAX_FILE_BYTES, MAX_INSTRUMENTED_BYTES, MAX_REPLAY_BYTES, MAX_TURNS, MAX_HISTORY_TURNS}
 use Rattle.r3_core.specs.declared.words.Command.{Command}
-use Rattle.r3_core.specs.declared.words.Command.TheVariants.{Make, Instrument, Record, Reduce, Build, History, Replay, Show, Load, Foreign, ForeignHistory}
+use Rattle.r3_core.specs.declared.words.Command.TheVariants.{Make, Instrument, Record, Reduce, Build, History, Replay, Show, Load, Foreign, ForeignHistory, Pair, PairHistory}
 
 -- a command's name, the limit of each of its files, and the greatest number if the command takes one
 pub record Form : Type 0 where
@@ -47,6 +47,18 @@ form ForeignHistory =
       limits = MAX_FILE_BYTES ∷ MAX_FILE_BYTES ∷ MAX_FILE_BYTES ∷ [];
       most = Some MAX_HISTORY_TURNS;
     }
+form Pair =
+    record {
+      name = codes "pair";
+      limits = MAX_FILE_BYTES ∷ MAX_FILE_BYTES ∷ MAX_FILE_BYTES ∷ [];
+      most = Some MAX_TURNS;
+    }
+form PairHistory =
+    record {
+      name = codes "pair-history";
+      limits = MAX_FILE_BYTES ∷ MAX_FILE_BYTES ∷ MAX_FILE_BYTES ∷ [];
+      most = Some MAX_HISTORY_TURNS;
+    }
 
 -- the bytes of each word
 abbrev pub texts : {Y : Type 0} → List (String Y) → List (List ℕ)
@@ -54,7 +66,8 @@ texts words = map string_bytes words
 
 abbrev pub commands : List Command
 commands =
-    Make ∷ Instrument ∷ Record ∷ Reduce ∷ Build ∷ History ∷ Replay ∷ Show ∷ Load ∷ Foreign ∷ ForeignHistory ∷ []
+    Make ∷ Instrument ∷ Record ∷ Reduce ∷ Build ∷ History ∷ Replay ∷ Show ∷ Load ∷ Foreign ∷ ForeignHistory ∷ Pair
+    ∷ PairHistory ∷ []
 
 abbrev pub command_of_name : List ℕ → Option Command
 command_of_name name = find (λ command. bytes_eq (form command).name name) commands

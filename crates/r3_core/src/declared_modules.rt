@@ -5,17 +5,17 @@ ghost use Rattle.std.specs.Str.{IsUtf8};
 ghost use Rattle.wasm_syntax.specs.declared.limits.TheConstants.{MAX_FILE_BYTES};
 ghost use Rattle.decl_text.specs.Texts.{decls_of_text};
 ghost use Rattle.r3_faults.specs.Answers.{IsExactValue};
-ghost use Rattle.r3_core.specs.ForeignInputs.{AreUndeclared, IsRefusedDecls};
-ghost use Rattle.r3_core.specs.WidenedInputs.{CanBeWidened, IsDeclared};
+ghost use Rattle.r3_core.specs.ForeignInputs.{AreUndeclared, IsDeclared, IsRefusedDecls};
+ghost use Rattle.r3_core.specs.RecordedModules.{CanBeWidened};
 
+use crate::file_modules::file_module;
 use decl_text::{
     DeclFault, declarations_are_within_texts, declarations_that_are_read_fit, read_decls,
 };
 use instance_spec::Decls;
 use r3_faults::Fault;
-use r3_inputs::module_of;
 use std::alloc::Global;
-use wasm_syntax::{Module, lists_of_encoding, shortest_encoding};
+use wasm_syntax::Module;
 use wasm_validate::Checked;
 
 /// A module, and declarations for it.
@@ -36,15 +36,13 @@ pub(crate) fn declared_module(
     decls: &[u8],
 ) -> Result<DeclaredModule, Fault>
     requires small { length «module».now ≤ MAX_FILE_BYTES }
-    requires few { length decls.now ≤ MAX_FILE_BYTES }
+    requires declared { length decls.now ≤ MAX_FILE_BYTES }
     ensures exact { IsExactValue (IsDeclared «module».now decls.now) (AreUndeclared «module».now decls.now) result }
     ensures fit { IfOk result (λ declared. CanBeWidened declared) }
 {
     declarations_are_within_texts();
     declarations_that_are_read_fit();
-    lists_of_encoding();
-    shortest_encoding();
-    match module_of(alloc, module) {
+    match file_module(alloc, module) {
         Ok(checked) => match decls_of(alloc, decls, checked.module()) {
             Ok(decls) => Ok(DeclaredModule { checked, decls }),
             Err(fault) => Err(fault),

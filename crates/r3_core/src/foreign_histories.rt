@@ -3,10 +3,9 @@
 ghost use Rattle.std.specs.Prelude.{◌≤◌, length};
 ghost use Rattle.wasm_syntax.specs.declared.limits.TheConstants.{MAX_FILE_BYTES};
 ghost use Rattle.r3_faults.specs.Answers.{IsExact};
-ghost use Rattle.r3_core.specs.ForeignInputs.{foreign_files};
 ghost use Rattle.r3_core.specs.ForeignHistories.{IsForeignHistory, IsForeignHistoryRefusal};
 
-use crate::widened_inputs::foreign_inputs;
+use crate::foreign_inputs::foreign_inputs;
 use instance_laws::widened_outcomes_follow;
 use r3_faults::Fault;
 use r3_history::history_of;
@@ -31,10 +30,10 @@ pub fn foreign_history(
 ) -> Result<Vec<u8>, Fault>
     requires small { length «module».now ≤ MAX_FILE_BYTES }
     requires declared { length decls.now ≤ MAX_FILE_BYTES }
-    ensures { IsExact (IsForeignHistory (foreign_files «module».now decls.now script.now) turns)
-        (IsForeignHistoryRefusal (foreign_files «module».now decls.now script.now) turns) result }
+    ensures { IsExact (IsForeignHistory «module».now decls.now script.now turns)
+        (IsForeignHistoryRefusal «module».now decls.now script.now turns) result }
 {
     widened_outcomes_follow();
     let inputs = foreign_inputs(alloc, module, decls, script)?;
-    history_of(alloc, &inputs.wide, &inputs.script, turns)
+    history_of(alloc, &inputs.checked, &inputs.script, turns)
 }

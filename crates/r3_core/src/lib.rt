@@ -19,15 +19,21 @@ use words::{Call, Command, call_of};
 
 mod command_files;
 mod declared_modules;
+mod file_modules;
 mod foreign_command;
 mod foreign_histories;
+mod foreign_inputs;
+mod pair_command;
+mod pair_histories;
+mod pair_inputs;
+mod run_inputs;
 mod sure;
-mod widened_bytes;
-mod widened_inputs;
 mod words;
 
 pub use foreign_command::foreign;
 pub use foreign_histories::foreign_history;
+pub use pair_command::pair;
+pub use pair_histories::pair_history;
 pub use r3_faults::Fault;
 pub use r3_history::history;
 pub use r3_instrument::instrument_bytes;
@@ -223,6 +229,12 @@ fn output_of_command(
         ),
         (Command::ForeignHistory, [shown, shown_decls, shown_answers], Some(turns)) => {
             foreign_history(alloc, shown, shown_decls, shown_answers, turns)
+        }
+        (Command::Pair, [left, right, linked_script], Some(turns)) => {
+            pair(alloc, left, right, linked_script, turns)
+        }
+        (Command::PairHistory, [shown_left, shown_right, shown_script], Some(turns)) => {
+            pair_history(alloc, shown_left, shown_right, shown_script, turns)
         }
         _ => unreachable!(),
     }

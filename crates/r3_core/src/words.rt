@@ -24,6 +24,8 @@ pub(crate) enum Command {
     Load,
     Foreign,
     ForeignHistory,
+    Pair,
+    PairHistory,
 }
 
 impl Command {
@@ -43,6 +45,8 @@ impl Command {
             "load" => Some(Command::Load),
             "foreign" => Some(Command::Foreign),
             "foreign-history" => Some(Command::ForeignHistory),
+            "pair" => Some(Command::Pair),
+            "pair-history" => Some(Command::PairHistory),
             _ => None,
         }
     }
@@ -59,7 +63,7 @@ impl Command {
             Command::Build => &[MAX_FILE_BYTES, MAX_FILE_BYTES, MAX_TRACE_BYTES],
             Command::Replay => &[MAX_REPLAY_BYTES],
             Command::Load => &[],
-            Command::Foreign | Command::ForeignHistory => {
+            Command::Foreign | Command::ForeignHistory | Command::Pair | Command::PairHistory => {
                 &[MAX_FILE_BYTES, MAX_FILE_BYTES, MAX_FILE_BYTES]
             }
         }
@@ -70,8 +74,10 @@ impl Command {
         ensures { result ≡ (form self).most }
     {
         match self {
-            Command::Make | Command::Foreign => Some(MAX_TURNS),
-            Command::History | Command::ForeignHistory => Some(MAX_HISTORY_TURNS),
+            Command::Make | Command::Foreign | Command::Pair => Some(MAX_TURNS),
+            Command::History | Command::ForeignHistory | Command::PairHistory => {
+                Some(MAX_HISTORY_TURNS)
+            }
             Command::Record | Command::Replay => Some(MAX_RECORD_TURNS),
             Command::Load => Some(u64::from(MAX_LOAD_CALLS)),
             Command::Instrument | Command::Reduce | Command::Build | Command::Show => None,

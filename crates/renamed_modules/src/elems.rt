@@ -57,7 +57,11 @@ fn renamed_elem<N: Numbering>(
 }
 
 /// The numbers of functions.
-fn numbers_of<N: Numbering>(
+///
+/// # Errors
+///
+/// `NoMemory` if an allocation failed.
+pub fn numbers_of<N: Numbering>(
     alloc: Global,
     numbering: &N,
     funcs: &[u32],

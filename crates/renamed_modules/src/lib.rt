@@ -8,7 +8,7 @@ pub mod funcs;
 pub mod numbering;
 
 pub use base::NoMemory;
-pub use elems::renamed_elems;
+pub use elems::{numbers_of, renamed_elems};
 pub use exports::renamed_exports;
 pub use funcs::{renamed_body, renamed_funcs};
 pub use numbering::{Numbering, renamed_start};

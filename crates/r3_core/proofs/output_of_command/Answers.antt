@@ -7,15 +7,16 @@ use Rattle.r3_make.specs.BuildRefusals.{IsBuildRefusal}
 use Rattle.r3_make.specs.BuiltReplays as built
 use Rattle.r3_history.specs.Histories.{IsHistory, IsHistoryRefusal}
 use Rattle.r3_core.specs.ForeignHistories.{IsForeignHistory, IsForeignHistoryRefusal}
-use Rattle.r3_core.specs.ForeignInputs.{foreign_files}
 use Rattle.r3_core.specs.ForeignReplays.{AreForeignReplayable, IsForeignRefusal}
+use Rattle.r3_core.specs.PairHistories.{IsPairHistory, IsPairHistoryRefusal}
+use Rattle.r3_core.specs.PairReplays.{ArePairReplayable, IsPairRefusal}
 use Rattle.r3_replay.specs.ReplayTexts.{IsReplayText, IsReplayRefusal}
 use Rattle.r3_show.specs.FileLines.{IsShown, IsShowRefusal}
 use Rattle.load_maker.specs.Loads.{load_script}
 use Rattle.load_maker.specs.declared.load_module.TheConstants.{LOAD_MODULE}
 use Rattle.wasm_syntax.specs.declared.limits.TheConstants.{LOAD_TURNS}
 use Rattle.r3_core.specs.declared.words.Command.{Command}
-use Rattle.r3_core.specs.declared.words.Command.TheVariants.{Make, Instrument, Record, Reduce, Build, History, Replay, Show, Load, Foreign, ForeignHistory}
+use Rattle.r3_core.specs.declared.words.Command.TheVariants.{Make, Instrument, Record, Reduce, Build, History, Replay, Show, Load, Foreign, ForeignHistory, Pair, PairHistory}
 use Rattle.r3_core.specs.Causes.{IsRefusal, IsDoable, all_bytes}
 use Rattle.r3_core.proofs.output_of_command.Goals as goal
 
@@ -217,56 +218,134 @@ returns-in-Build-len3-None-clause-done c = λ doable.
     in
     (c.build.ensures.accepted bytes.0 bytes.1).1
 
+-- a fact on the bytes of three files, which are read through references
+three-read : (P : List ℕ → List ℕ → List ℕ → Type 0) (a b d x y z : List ℕ) → x ≡ a → y ≡ b → z ≡ d → P a b d → P x y z
+three-read P a b d x y z e f g p =
+    subst (λ x. P x y z) (sym e) (subst (λ y. P a y z) (sym f) (subst (λ z. P a b z) (sym g) p))
+
 -- ---- runs with foreign functions
 
 pub returns-in-Foreign-len3-Some-clause-refused : goal.returns-in-Foreign-len3-Some-clause-refused
 returns-in-Foreign-len3-Some-clause-refused c = λ fault sure.
     let here = c.in-Foreign-len3-Some in
-    let found = three-files c.args.command Foreign (Some here.turns) (λ a b d. IsForeignRefusal (foreign_files a b d) here.turns fault) (λ command loaded number. IsRefusal command loaded number fault)
-    c.args.loaded.now c.args.number c.hosted-item.result c.decls-item.result c.answers-item.result (λ a b d sure. sure) here.is-0 here.is-2
-    c.hosted-item.is c.decls-item.is c.answers-item.is (omega (arith, here.len_at_least)) (omega (arith, here.len_below)) sure in
-    c.foreign.ensures.refused fault
-    (subst (λ x. IsForeignRefusal (foreign_files x c.deref-in-Foreign-len3-Some-2.result.now c.deref-in-Foreign-len3-Some-3.result.now) here.turns fault) (sym c.deref-in-Foreign-len3-Some.ensures.value)
-    (subst (λ y. IsForeignRefusal (foreign_files c.hosted-item.result.items y c.deref-in-Foreign-len3-Some-3.result.now) here.turns fault) (sym c.deref-in-Foreign-len3-Some-2.ensures.value)
-    (subst (λ z. IsForeignRefusal (foreign_files c.hosted-item.result.items c.decls-item.result.items z) here.turns fault) (sym c.deref-in-Foreign-len3-Some-3.ensures.value) found)))
+    let found = three-files c.args.command Foreign (Some here.turns) (λ a b d. IsForeignRefusal a b d here.turns fault)
+    (λ command loaded number. IsRefusal command loaded number fault) c.args.loaded.now c.args.number c.hosted-item.result
+    c.decls-item.result c.answers-item.result (λ a b d sure. sure) here.is-0 here.is-2 c.hosted-item.is c.decls-item.is c.answers-item.is
+    (omega (arith, here.len_at_least)) (omega (arith, here.len_below)) sure
+    in
+    let read = three-read (λ a b d. IsForeignRefusal a b d here.turns fault) c.hosted-item.result.items c.decls-item.result.items c.answers-item.result.items
+    c.deref-in-Foreign-len3-Some.result.now c.deref-in-Foreign-len3-Some-2.result.now c.deref-in-Foreign-len3-Some-3.result.now
+    c.deref-in-Foreign-len3-Some.ensures.value c.deref-in-Foreign-len3-Some-2.ensures.value c.deref-in-Foreign-len3-Some-3.ensures.value found
+    in
+    c.foreign.ensures.refused fault read
 
 pub returns-in-Foreign-len3-Some-clause-done : goal.returns-in-Foreign-len3-Some-clause-done
-returns-in-Foreign-len3-Some-clause-done c = λ doable.
+returns-in-Foreign-len3-Some-clause-done c = λ sure.
     let here = c.in-Foreign-len3-Some in
-    let found = three-files c.args.command Foreign (Some here.turns) (λ a b d. AreForeignReplayable (foreign_files a b d) here.turns) (λ command loaded number. IsDoable command loaded number)
-    c.args.loaded.now c.args.number c.hosted-item.result c.decls-item.result c.answers-item.result (λ a b d doable. doable) here.is-0 here.is-2
-    c.hosted-item.is c.decls-item.is c.answers-item.is (omega (arith, here.len_at_least)) (omega (arith, here.len_below)) doable in
-    c.foreign.ensures.accepted
-    (subst (λ x. AreForeignReplayable (foreign_files x c.deref-in-Foreign-len3-Some-2.result.now c.deref-in-Foreign-len3-Some-3.result.now) here.turns) (sym c.deref-in-Foreign-len3-Some.ensures.value)
-    (subst (λ y. AreForeignReplayable (foreign_files c.hosted-item.result.items y c.deref-in-Foreign-len3-Some-3.result.now) here.turns) (sym c.deref-in-Foreign-len3-Some-2.ensures.value)
-    (subst (λ z. AreForeignReplayable (foreign_files c.hosted-item.result.items c.decls-item.result.items z) here.turns) (sym c.deref-in-Foreign-len3-Some-3.ensures.value) found)))
+    let found = three-files c.args.command Foreign (Some here.turns) (λ a b d. AreForeignReplayable a b d here.turns)
+    (λ command loaded number. IsDoable command loaded number) c.args.loaded.now c.args.number c.hosted-item.result
+    c.decls-item.result c.answers-item.result (λ a b d sure. sure) here.is-0 here.is-2 c.hosted-item.is c.decls-item.is c.answers-item.is
+    (omega (arith, here.len_at_least)) (omega (arith, here.len_below)) sure
+    in
+    let read = three-read (λ a b d. AreForeignReplayable a b d here.turns) c.hosted-item.result.items c.decls-item.result.items c.answers-item.result.items
+    c.deref-in-Foreign-len3-Some.result.now c.deref-in-Foreign-len3-Some-2.result.now c.deref-in-Foreign-len3-Some-3.result.now
+    c.deref-in-Foreign-len3-Some.ensures.value c.deref-in-Foreign-len3-Some-2.ensures.value c.deref-in-Foreign-len3-Some-3.ensures.value found
+    in
+    c.foreign.ensures.accepted read
 
 pub returns-in-ForeignHistory-len3-Some-clause-refused : goal.returns-in-ForeignHistory-len3-Some-clause-refused
 returns-in-ForeignHistory-len3-Some-clause-refused c = λ fault sure.
     let here = c.in-ForeignHistory-len3-Some in
-    let found = three-files c.args.command ForeignHistory (Some here.turns) (λ a b d. IsForeignHistoryRefusal (foreign_files a b d) here.turns fault) (λ command loaded number. IsRefusal command loaded number fault)
-    c.args.loaded.now c.args.number c.shown-item.result c.shown_decls-item.result c.shown_answers-item.result (λ a b d sure. sure) here.is-0 here.is-2
-    c.shown-item.is c.shown_decls-item.is c.shown_answers-item.is (omega (arith, here.len_at_least)) (omega (arith, here.len_below)) sure in
-    c.foreign_history.ensures.refused fault
-    (subst (λ x. IsForeignHistoryRefusal (foreign_files x c.deref-in-ForeignHistory-len3-Some-2.result.now c.deref-in-ForeignHistory-len3-Some-3.result.now) here.turns fault) (sym c.deref-in-ForeignHistory-len3-Some.ensures.value)
-    (subst (λ y. IsForeignHistoryRefusal (foreign_files c.shown-item.result.items y c.deref-in-ForeignHistory-len3-Some-3.result.now) here.turns fault) (sym c.deref-in-ForeignHistory-len3-Some-2.ensures.value)
-    (subst (λ z. IsForeignHistoryRefusal (foreign_files c.shown-item.result.items c.shown_decls-item.result.items z) here.turns fault) (sym c.deref-in-ForeignHistory-len3-Some-3.ensures.value) found)))
+    let found = three-files c.args.command ForeignHistory (Some here.turns) (λ a b d. IsForeignHistoryRefusal a b d here.turns fault)
+    (λ command loaded number. IsRefusal command loaded number fault) c.args.loaded.now c.args.number c.shown-item.result
+    c.shown_decls-item.result c.shown_answers-item.result (λ a b d sure. sure) here.is-0 here.is-2 c.shown-item.is c.shown_decls-item.is c.shown_answers-item.is
+    (omega (arith, here.len_at_least)) (omega (arith, here.len_below)) sure
+    in
+    let read = three-read (λ a b d. IsForeignHistoryRefusal a b d here.turns fault) c.shown-item.result.items c.shown_decls-item.result.items c.shown_answers-item.result.items
+    c.deref-in-ForeignHistory-len3-Some.result.now c.deref-in-ForeignHistory-len3-Some-2.result.now c.deref-in-ForeignHistory-len3-Some-3.result.now
+    c.deref-in-ForeignHistory-len3-Some.ensures.value c.deref-in-ForeignHistory-len3-Some-2.ensures.value c.deref-in-ForeignHistory-len3-Some-3.ensures.value found
+    in
+    c.foreign_history.ensures.refused fault read
 
 -- the files have a history with foreign functions
-abbrev HasForeignHistory : (module_bytes decl_bytes script_bytes : List ℕ) → (turns : ℕ) → Type 0
-HasForeignHistory module_bytes decl_bytes script_bytes turns =
-    (text : List ℕ) × IsForeignHistory (foreign_files module_bytes decl_bytes script_bytes) turns text
+abbrev HasForeignHistory : (a b d : List ℕ) → (turns : ℕ) → Type 0
+HasForeignHistory a b d turns = (text : List ℕ) × IsForeignHistory a b d turns text
 
 pub returns-in-ForeignHistory-len3-Some-clause-done : goal.returns-in-ForeignHistory-len3-Some-clause-done
-returns-in-ForeignHistory-len3-Some-clause-done c = λ doable.
+returns-in-ForeignHistory-len3-Some-clause-done c = λ sure.
     let here = c.in-ForeignHistory-len3-Some in
-    let found = three-files c.args.command ForeignHistory (Some here.turns) (λ a b d. HasForeignHistory a b d here.turns) (λ command loaded number. IsDoable command loaded number)
-    c.args.loaded.now c.args.number c.shown-item.result c.shown_decls-item.result c.shown_answers-item.result (λ a b d doable. doable) here.is-0 here.is-2
-    c.shown-item.is c.shown_decls-item.is c.shown_answers-item.is (omega (arith, here.len_at_least)) (omega (arith, here.len_below)) doable in
-    let history = subst (λ x. HasForeignHistory x c.deref-in-ForeignHistory-len3-Some-2.result.now c.deref-in-ForeignHistory-len3-Some-3.result.now here.turns) (sym c.deref-in-ForeignHistory-len3-Some.ensures.value)
-    (subst (λ y. HasForeignHistory c.shown-item.result.items y c.deref-in-ForeignHistory-len3-Some-3.result.now here.turns) (sym c.deref-in-ForeignHistory-len3-Some-2.ensures.value)
-    (subst (λ z. HasForeignHistory c.shown-item.result.items c.shown_decls-item.result.items z here.turns) (sym c.deref-in-ForeignHistory-len3-Some-3.ensures.value) found)) in
-    (c.foreign_history.ensures.accepted history.0 history.1).1
+    let found = three-files c.args.command ForeignHistory (Some here.turns) (λ a b d. HasForeignHistory a b d here.turns)
+    (λ command loaded number. IsDoable command loaded number) c.args.loaded.now c.args.number c.shown-item.result
+    c.shown_decls-item.result c.shown_answers-item.result (λ a b d sure. sure) here.is-0 here.is-2 c.shown-item.is c.shown_decls-item.is c.shown_answers-item.is
+    (omega (arith, here.len_at_least)) (omega (arith, here.len_below)) sure
+    in
+    let read = three-read (λ a b d. HasForeignHistory a b d here.turns) c.shown-item.result.items c.shown_decls-item.result.items c.shown_answers-item.result.items
+    c.deref-in-ForeignHistory-len3-Some.result.now c.deref-in-ForeignHistory-len3-Some-2.result.now c.deref-in-ForeignHistory-len3-Some-3.result.now
+    c.deref-in-ForeignHistory-len3-Some.ensures.value c.deref-in-ForeignHistory-len3-Some-2.ensures.value c.deref-in-ForeignHistory-len3-Some-3.ensures.value found
+    in
+    (c.foreign_history.ensures.accepted read.0 read.1).1
+
+-- ---- pairs
+
+pub returns-in-Pair-len3-Some-clause-refused : goal.returns-in-Pair-len3-Some-clause-refused
+returns-in-Pair-len3-Some-clause-refused c = λ fault sure.
+    let here = c.in-Pair-len3-Some in
+    let found = three-files c.args.command Pair (Some here.turns) (λ a b d. IsPairRefusal a b d here.turns fault)
+    (λ command loaded number. IsRefusal command loaded number fault) c.args.loaded.now c.args.number c.left-item.result
+    c.right-item.result c.linked_script-item.result (λ a b d sure. sure) here.is-0 here.is-2 c.left-item.is c.right-item.is c.linked_script-item.is
+    (omega (arith, here.len_at_least)) (omega (arith, here.len_below)) sure
+    in
+    let read = three-read (λ a b d. IsPairRefusal a b d here.turns fault) c.left-item.result.items c.right-item.result.items c.linked_script-item.result.items
+    c.deref-in-Pair-len3-Some.result.now c.deref-in-Pair-len3-Some-2.result.now c.deref-in-Pair-len3-Some-3.result.now
+    c.deref-in-Pair-len3-Some.ensures.value c.deref-in-Pair-len3-Some-2.ensures.value c.deref-in-Pair-len3-Some-3.ensures.value found
+    in
+    c.pair.ensures.refused fault read
+
+pub returns-in-Pair-len3-Some-clause-done : goal.returns-in-Pair-len3-Some-clause-done
+returns-in-Pair-len3-Some-clause-done c = λ sure.
+    let here = c.in-Pair-len3-Some in
+    let found = three-files c.args.command Pair (Some here.turns) (λ a b d. ArePairReplayable a b d here.turns)
+    (λ command loaded number. IsDoable command loaded number) c.args.loaded.now c.args.number c.left-item.result
+    c.right-item.result c.linked_script-item.result (λ a b d sure. sure) here.is-0 here.is-2 c.left-item.is c.right-item.is c.linked_script-item.is
+    (omega (arith, here.len_at_least)) (omega (arith, here.len_below)) sure
+    in
+    let read = three-read (λ a b d. ArePairReplayable a b d here.turns) c.left-item.result.items c.right-item.result.items c.linked_script-item.result.items
+    c.deref-in-Pair-len3-Some.result.now c.deref-in-Pair-len3-Some-2.result.now c.deref-in-Pair-len3-Some-3.result.now
+    c.deref-in-Pair-len3-Some.ensures.value c.deref-in-Pair-len3-Some-2.ensures.value c.deref-in-Pair-len3-Some-3.ensures.value found
+    in
+    c.pair.ensures.accepted read
+
+pub returns-in-PairHistory-len3-Some-clause-refused : goal.returns-in-PairHistory-len3-Some-clause-refused
+returns-in-PairHistory-len3-Some-clause-refused c = λ fault sure.
+    let here = c.in-PairHistory-len3-Some in
+    let found = three-files c.args.command PairHistory (Some here.turns) (λ a b d. IsPairHistoryRefusal a b d here.turns fault)
+    (λ command loaded number. IsRefusal command loaded number fault) c.args.loaded.now c.args.number c.shown_left-item.result
+    c.shown_right-item.result c.shown_script-item.result (λ a b d sure. sure) here.is-0 here.is-2 c.shown_left-item.is c.shown_right-item.is c.shown_script-item.is
+    (omega (arith, here.len_at_least)) (omega (arith, here.len_below)) sure
+    in
+    let read = three-read (λ a b d. IsPairHistoryRefusal a b d here.turns fault) c.shown_left-item.result.items c.shown_right-item.result.items c.shown_script-item.result.items
+    c.deref-in-PairHistory-len3-Some.result.now c.deref-in-PairHistory-len3-Some-2.result.now c.deref-in-PairHistory-len3-Some-3.result.now
+    c.deref-in-PairHistory-len3-Some.ensures.value c.deref-in-PairHistory-len3-Some-2.ensures.value c.deref-in-PairHistory-len3-Some-3.ensures.value found
+    in
+    c.pair_history.ensures.refused fault read
+
+-- the files have a history of a pair
+abbrev HasPairHistory : (a b d : List ℕ) → (turns : ℕ) → Type 0
+HasPairHistory a b d turns = (text : List ℕ) × IsPairHistory a b d turns text
+
+pub returns-in-PairHistory-len3-Some-clause-done : goal.returns-in-PairHistory-len3-Some-clause-done
+returns-in-PairHistory-len3-Some-clause-done c = λ sure.
+    let here = c.in-PairHistory-len3-Some in
+    let found = three-files c.args.command PairHistory (Some here.turns) (λ a b d. HasPairHistory a b d here.turns)
+    (λ command loaded number. IsDoable command loaded number) c.args.loaded.now c.args.number c.shown_left-item.result
+    c.shown_right-item.result c.shown_script-item.result (λ a b d sure. sure) here.is-0 here.is-2 c.shown_left-item.is c.shown_right-item.is c.shown_script-item.is
+    (omega (arith, here.len_at_least)) (omega (arith, here.len_below)) sure
+    in
+    let read = three-read (λ a b d. HasPairHistory a b d here.turns) c.shown_left-item.result.items c.shown_right-item.result.items c.shown_script-item.result.items
+    c.deref-in-PairHistory-len3-Some.result.now c.deref-in-PairHistory-len3-Some-2.result.now c.deref-in-PairHistory-len3-Some-3.result.now
+    c.deref-in-PairHistory-len3-Some.ensures.value c.deref-in-PairHistory-len3-Some-2.ensures.value c.deref-in-PairHistory-len3-Some-3.ensures.value found
+    in
+    (c.pair_history.ensures.accepted read.0 read.1).1
 
 -- ---- loads
 

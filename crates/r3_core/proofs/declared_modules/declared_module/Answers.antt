@@ -4,10 +4,9 @@ use Rattle.instance_spec.specs.declared.decls.Decl.{Decl}
 use Rattle.decl_text.specs.Texts.{decls_of_text}
 use Rattle.r3_faults.specs.Answers.{IsExactValue}
 use Rattle.r3_faults.specs.declared.faults.Fault.{Fault}
-use Rattle.r3_inputs.specs.Inputs.{IsModuleOf, IsRefusedModule}
 use Rattle.r3_inputs.proofs.Stages.{goes_on, stopped}
 use Rattle.r3_core.specs.ForeignInputs.{IsRefusedDecls}
-use Rattle.r3_core.proofs.WidenedFacts.{can_be_widened}
+use Rattle.r3_core.proofs.FileFacts.{can_be_widened}
 use Rattle.r3_core.proofs.FileStages.{declared_stages}
 use Rattle.r3_core.proofs.ReadDecls.{AreRead, module_refused, module_taken}
 use Rattle.r3_core.proofs.declared_modules.declared_module.Goals as goal
@@ -21,15 +20,7 @@ pub returns-in-Ok-decls_of-clause-exact : goal.returns-in-Ok-decls_of-clause-exa
 returns-in-Ok-decls_of-clause-exact c =
     let bytes = c.args.decls.now in
     let m = c.in-Ok.checked in
-    let first : IsExactValue (IsModuleOf c.args.module.now) (IsRefusedModule c.args.module.now) c.module_of.result =
-    record {
-      taken = c.module_of.ensures.taken;
-      cause = c.module_of.ensures.cause;
-      refused = c.module_of.ensures.refused;
-      accepted = c.module_of.ensures.accepted;
-    }
-    in
-    goes_on (declared_stages c.args.module.now bytes) c.module_of.result first m c.in-Ok.is
+    goes_on (declared_stages c.args.module.now bytes) c.file_module.result c.file_module.ensures.exact m c.in-Ok.is
     (Ok (record { checked = m; decls = c.in-Ok-decls_of.decls }))
     (module_taken m bytes c.decls_of.result c.in-Ok-decls_of.decls c.in-Ok-decls_of.is
     (same_module c.module.result.now m bytes c.decls_of.result c.module.ensures.same c.decls_of.ensures.exact))
@@ -39,37 +30,19 @@ returns-in-Ok-decls_of-clause-fit c =
     let bytes = c.args.decls.now in
     let m = c.in-Ok.checked in
     let decls = c.in-Ok-decls_of.decls in
-    can_be_widened c.args.module.now bytes m decls c.in-Ok.ensures.taken c.requires.small c.requires.few
+    can_be_widened bytes m decls c.in-Ok.ensures.file c.requires.declared
     (subst (λ m. decls_of_text m bytes ≡ Ok decls) c.module.ensures.same c.in-Ok-decls_of.ensures.exact.taken)
-    c.in-Ok-decls_of.ensures.names c.in-Ok.ensures.within c.declarations_are_within_texts.ensures
-    c.declarations_that_are_read_fit.ensures c.shortest_encoding.ensures.encodable c.shortest_encoding.ensures.least
-    c.in-Ok.ensures.supported c.in-Ok.ensures.short c.in-Ok.ensures.bytes
+    c.in-Ok-decls_of.ensures.names c.declarations_are_within_texts.ensures c.declarations_that_are_read_fit.ensures
 
 pub returns-in-Err-decls_of-clause-exact : goal.returns-in-Err-decls_of-clause-exact
 returns-in-Err-decls_of-clause-exact c =
     let bytes = c.args.decls.now in
     let m = c.in-Ok.checked in
-    let first : IsExactValue (IsModuleOf c.args.module.now) (IsRefusedModule c.args.module.now) c.module_of.result =
-    record {
-      taken = c.module_of.ensures.taken;
-      cause = c.module_of.ensures.cause;
-      refused = c.module_of.ensures.refused;
-      accepted = c.module_of.ensures.accepted;
-    }
-    in
-    goes_on (declared_stages c.args.module.now bytes) c.module_of.result first m c.in-Ok.is (Err c.in-Err-decls_of.fault)
+    goes_on (declared_stages c.args.module.now bytes) c.file_module.result c.file_module.ensures.exact m c.in-Ok.is (Err c.in-Err-decls_of.fault)
     (module_refused m bytes c.decls_of.result c.in-Err-decls_of.fault c.in-Err-decls_of.is
     (same_module c.module.result.now m bytes c.decls_of.result c.module.ensures.same c.decls_of.ensures.exact))
 
 pub returns-in-Err-clause-exact : goal.returns-in-Err-clause-exact
 returns-in-Err-clause-exact c =
-    let first : IsExactValue (IsModuleOf c.args.module.now) (IsRefusedModule c.args.module.now) c.module_of.result =
-    record {
-      taken = c.module_of.ensures.taken;
-      cause = c.module_of.ensures.cause;
-      refused = c.module_of.ensures.refused;
-      accepted = c.module_of.ensures.accepted;
-    }
-    in
-    stopped (declared_stages c.args.module.now c.args.decls.now) c.module_of.result first c.in-Err.fault c.in-Err.is
+    stopped (declared_stages c.args.module.now c.args.decls.now) c.file_module.result c.file_module.ensures.exact c.in-Err.fault c.in-Err.is
     (Err c.in-Err.fault) refl

@@ -16,4 +16,6 @@ returns-in_default c =
     let load = bytes_eq-false (codes "load") name c.in_default.not-load in
     let foreign = bytes_eq-false (codes "foreign") name c.in_default.not-foreign in
     let foreign_history = bytes_eq-false (codes "foreign-history") name c.in_default.not-text in
-    rw (make, instrument, record_, reduce, build, history, replay, show, load, foreign, foreign_history) refl
+    let pair = bytes_eq-false (codes "pair") name c.in_default.not-pair in
+    let pair_history = bytes_eq-false (codes "pair-history") name c.in_default.not-text-2 in
+    rw (make, instrument, record_, reduce, build, history, replay, show, load, foreign, foreign_history, pair, pair_history) refl

@@ -1,5 +1,0 @@
-pub mod Weights
-pub mod Contents
-pub mod Lexemes
-pub mod Grammar
-pub mod Values

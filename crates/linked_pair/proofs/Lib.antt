@@ -1,0 +1,3 @@
+pub mod Law
+mod NamedGlobals
+mod PairParts

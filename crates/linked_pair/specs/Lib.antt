@@ -1,0 +1,4 @@
+pub mod SideNumbers
+pub mod GlobalConstants
+pub mod Parts
+pub mod LinkedPairs

@@ -1,0 +1,5 @@
+mod calls;
+mod links;
+mod modules;
+mod refusals;
+mod runs;

@@ -1,0 +1,3 @@
+mod ForeignHistories
+mod PairHistories
+mod PairRuns

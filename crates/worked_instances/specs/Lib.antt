@@ -1,0 +1,9 @@
+pub mod ForeignLines
+pub mod ForeignModules
+pub mod ForeignHistories
+pub mod WidenedModules
+pub mod PairLines
+pub mod PairModules
+pub mod PairHistories
+pub mod LinkedModules
+pub mod RefusedPairs

@@ -1,5 +1,0 @@
-pub mod Lines
-pub mod Modules
-pub mod Histories
-pub mod LinkedModules
-pub mod RefusedPairs
