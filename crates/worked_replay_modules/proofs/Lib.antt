@@ -2,3 +2,4 @@ mod Replays
 mod Parts
 mod WrongReplays
 mod Fitting
+mod Rests

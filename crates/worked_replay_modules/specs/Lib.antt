@@ -4,5 +4,6 @@ pub mod Tests
 pub mod Replays
 pub mod Fitting
 pub mod Parts
+pub mod Rests
 pub mod WorkedReplays
 pub mod WrongReplays

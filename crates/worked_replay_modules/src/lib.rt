@@ -1,6 +1,7 @@
 //! Worked replay modules of small tapes, which the checker computes from the definitions.
 #![tactic(auto)]
 
+ghost use Rattle.worked_replay_modules.specs.Rests.{WorkedRests};
 ghost use Rattle.worked_replay_modules.specs.WorkedReplays.{WorkedReplays};
 
 use replay_run_spec::plain_tests_hold;
@@ -16,3 +17,10 @@ pub fn worked_replays_hold()
     validity_is_decided();
     plain_tests_hold();
 }
+
+/// Runs with two top-level calls have the rests that are stated for them, also if the first is the call of the start
+/// function. Their tapes have the stated cuts, and what is known before a call is as stated; the modules that begin in
+/// the known state have the stated segments, and the replay modules of the cuts show just the rests.
+pub fn worked_rests_hold()
+    ensures { WorkedRests }
+{}

@@ -1,0 +1,12 @@
+pub mod Calls
+pub mod Places
+pub mod StoreItems
+pub mod Walks
+pub mod Found
+pub mod Starts
+pub mod Ends
+pub mod Cuts
+pub mod KnownBefore
+pub mod Counts
+pub mod Maxima
+pub mod Restarts
