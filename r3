@@ -20,6 +20,7 @@ r3 records one run of a WebAssembly module together with what its host did, and 
   history MODULE SCRIPT TURNS                prints the run: a line for each entry, and how it ends
   foreign MODULE DECLS SCRIPT TURNS          as make, for a host with functions that are not imports
   foreign-history MODULE DECLS SCRIPT TURNS  as history, for such a host
+  from MODULE SCRIPT TURNS K                 as make, for what follows from the run's top-level call number K on
   pair LEFT RIGHT SCRIPT TURNS               as make, for two modules, each of which may import what the other exports
   pair-history LEFT RIGHT SCRIPT TURNS       as history, for two such modules
   replay REPLAY_MODULE TURNS                 runs a replay module and prints what it shows, as history does
@@ -31,8 +32,10 @@ r3 records one run of a WebAssembly module together with what its host did, and 
   load NUMBER                                makes a large run of NUMBER calls (1 to 60000) and prints its sizes
   --help, --version                          print this text; the version and the digest of the sources
 
-TURNS is the most steps: 1 to 1000000000 for make, foreign and pair, to 2000000 for the three histories, to 20000000
-for record and replay. DECLS declares the functions of the host that are not imports, as a JSON list.
+TURNS is the most steps: 1 to 1000000000 for make, foreign, pair and from, to 2000000 for the three histories, to
+20000000 for record and replay. DECLS declares the functions of the host that are not imports, as a JSON list.
+K is 0 to 1000000000. Top-level calls are those that the host makes while no call of an import is open, counted from 0;
+the call of a start function is one of them.
 LEFT imports what RIGHT exports from the module name right, and RIGHT what LEFT exports from left. The script is that of
 both together: it names LEFT's export x as left.x, and RIGHT's as right.x.
 All is printed to standard output. A call that fails prints one line to standard error: README.md lists the statuses.
@@ -46,12 +49,18 @@ is_number() {
     [[ $1 =~ ^[1-9][0-9]{0,9}$ ]] && [ "$1" -le "$2" ]
 }
 
+# Whether a word is a number of a call.
+is_call_number() {
+    [ "$1" = 0 ] || is_number "$1" 1000000000
+}
+
 # Whether the program takes these words: to all others it answers with status 2. Only the line on --help depends on
 # it.
 are_words_taken() {
     case ${1-}:$# in
         make:4) is_number "$4" 1000000000 ;;
         history:4) is_number "$4" 2000000 ;;
+        from:5) is_number "$4" 1000000000 && is_call_number "$5" ;;
         foreign:5 | pair:5) is_number "$5" 1000000000 ;;
         foreign-history:5 | pair-history:5) is_number "$5" 2000000 ;;
         record:4) is_number "$4" 20000000 ;;

@@ -18,6 +18,7 @@ import large
 import memory
 import pairs
 import prefixes
+import rests
 import statuses
 import wrapper
 from group import Group
@@ -28,6 +29,7 @@ CHAINS = [
     [("captured hosts", captures.checks)],
     [("files that are cut", prefixes.checks)],
     [("two modules", pairs.checks)],
+    [("a later call", rests.checks)],
     [("the script ./r3", wrapper.checks)],
     [("words and numbers", statuses.words), ("statuses and lines", statuses.checks)],
     [("files and outputs that fail", files.checks)],

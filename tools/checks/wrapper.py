@@ -152,8 +152,8 @@ def check_words(group, copy):
     """--help and --version, and the line on --help for a call that is refused in a terminal."""
     answer = copy.call("--help")
     lines = [line.split()[0] for line in answer.out.decode().splitlines() if line.startswith("  ")]
-    commands = ["make", "history", "foreign", "foreign-history", "pair", "pair-history", "replay", "instrument", "record"]
-    commands += ["reduce", "build", "show", "load", "--help,"]
+    commands = ["make", "history", "foreign", "foreign-history", "from", "pair", "pair-history", "replay", "instrument"]
+    commands += ["record", "reduce", "build", "show", "load", "--help,"]
     is_well = answer.status == 0 and not answer.err and lines == commands
     group.expect(is_well, "--help has a line for each command", answer)
     version = contents(copy.at("VERSION")).decode().strip()

@@ -1,6 +1,6 @@
 // The order of hook calls. Each call is checked first, which changes nothing, and then taken.
 
-ghost use Rattle.std.specs.Prelude.{◌≡◌, OnOk};
+ghost use Rattle.std.specs.Prelude.{◌≡◌, ◌↔◌, [], IsTrue, OnOk};
 ghost use Rattle.record_replay_spec.specs.Order.{may_report};
 ghost use Rattle.hook_order.specs.Frames.{frame_of};
 ghost use Rattle.hook_order.specs.Orders.{parts_at_start, parts_called, parts_closed, parts_entered, parts_pending, state_of};
@@ -50,6 +50,17 @@ impl Order {
         ensures { result.now ≡ self.now.shape }
     {
         &self.shape
+    }
+
+    /// Whether no function and no call is open.
+    #[inline]
+    pub fn is_outside(&self) -> bool
+        ensures { IsTrue result ↔ (self.now.frames ≡ []) }
+    {
+        match self.frames.top() {
+            Some(_) => false,
+            None => true,
+        }
     }
 
     /// The values that are pending.

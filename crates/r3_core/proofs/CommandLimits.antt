@@ -4,7 +4,7 @@ use Rattle.std.proofs.lemmas.List.Elements.{All-from_recursion}
 use Rattle.wasm_syntax.specs.declared.limits.TheConstants.{MAX_FILE_BYTES, MAX_INSTRUMENTED_BYTES, MAX_REPLAY_BYTES, MAX_TRACE_BYTES}
 use Rattle.r3_core.specs.Words.{form}
 use Rattle.r3_core.specs.declared.words.Command.{Command}
-use Rattle.r3_core.specs.declared.words.Command.TheVariants.{Make, Instrument, Record, Reduce, Build, History, Replay, Show, Load, Foreign, ForeignHistory, Pair, PairHistory}
+use Rattle.r3_core.specs.declared.words.Command.TheVariants.{Make, Instrument, Record, Reduce, Build, History, Replay, Show, Load, Foreign, ForeignHistory, Pair, PairHistory, From}
 
 abbrev IsAllowed : ℕ → Type 0
 IsAllowed limit = limit ≤ MAX_REPLAY_BYTES
@@ -40,3 +40,4 @@ limits_small Foreign = three_files
 limits_small ForeignHistory = three_files
 limits_small Pair = three_files
 limits_small PairHistory = three_files
+limits_small From = two_files

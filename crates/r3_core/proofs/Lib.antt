@@ -11,3 +11,4 @@ pub mod PairFacts
 pub mod FileStages
 pub mod ReadDecls
 pub mod CommandLimits
+pub mod Dispatch

@@ -11,6 +11,9 @@ use Rattle.script_text.specs.declared.faults.ScriptFault.TheVariants as script
 use Rattle.r3_inputs.specs.Inputs.{invalid_fault, refusal_fault, script_fault, IsRefusedIn, ByBytes, ByRules, ByProfile, AreRefused, ByModule, ByScript}
 use Rattle.accepted_runs.specs.Unlinked as unlinked
 use Rattle.accepted_runs.specs.Runs as runs
+use Rattle.rest_spec.specs.Rests.{calls_in}
+use Rattle.r3_from.specs.RestRefusals as rests
+use Rattle.r3_from.specs.RestRefusals.{HasNoRest, IsRestRefusal}
 use Rattle.r3_make.specs.Refusals as refusals
 use Rattle.r3_make.specs.Refusals.{IsMakeRefusal, IsUnmade, OfInputs, OfModule}
 use Rattle.wasm_syntax.specs.declared.modules.Module.{Module}
@@ -56,8 +59,10 @@ use Rattle.r3_core.specs.WorldRuns.{WorldRun}
 use Rattle.load_maker.specs.Loads.{load_script}
 use Rattle.load_maker.specs.declared.load_module.TheConstants.{LOAD_MODULE}
 use Rattle.r3_core.specs.declared.words.Command.{Command}
-use Rattle.r3_core.specs.declared.words.Command.TheVariants.{Make, Instrument, Record, Reduce, Build, History, Replay, Show, Load, Foreign, ForeignHistory, Pair, PairHistory}
+use Rattle.r3_core.specs.declared.words.Command.TheVariants.{Make, Instrument, Record, Reduce, Build, History, Replay, Show, Load, Foreign, ForeignHistory, Pair, PairHistory, From}
 use Rattle.r3_core.specs.Words.{form}
+use Rattle.r3_core.specs.declared.words.Numbers.{Numbers}
+use Rattle.r3_core.specs.declared.words.Numbers.TheVariants.{Empty, One, Two}
 use Rattle.r3_core.specs.Causes.{IsRefusal}
 
 -- ---- bytes that are refused
@@ -126,6 +131,19 @@ make-status : (module_bytes script_bytes : List ℕ) (turns : ℕ) (fault : Faul
     → IsMakeRefusal module_bytes script_bytes turns fault → IsOther (status_of fault)
 make-status m s turns fault (OfInputs refused) = inputs-other m s fault refused
 make-status m s turns fault (OfModule n played inputs unmade) = unmade-status n played turns fault unmade
+
+no_rest-status : (m : Module) (played : Script) (turns number : ℕ) (fault : Fault)
+    → HasNoRest m played turns number fault → IsOther (status_of fault)
+no_rest-status m played turns number fault (rests.OfLink u) = unmade-status m played turns fault (refusals.OfLink u)
+no_rest-status m played turns number fault (rests.OfRun u) = unmade-status m played turns fault (refusals.OfRun u)
+no_rest-status m played turns number fault (rests.OfCalls u) =
+    named-other fault (faults.NoCall number (min (calls_in u.run.history 0) (2 ^ 64 - 1))) u.named refl
+no_rest-status m played turns number fault (rests.OfWeight u) = unmade-status m played turns fault (refusals.OfWeight u.heavy)
+
+rest-status : (module_bytes script_bytes : List ℕ) (turns number : ℕ) (fault : Fault)
+    → IsRestRefusal module_bytes script_bytes turns number fault → IsOther (status_of fault)
+rest-status m s turns number fault (rests.OfInputs refused) = inputs-other m s fault refused
+rest-status m s turns number fault (rests.OfModule n played inputs none) = no_rest-status n played turns number fault none
 
 unreported-status : (m : Module) (played : Script) (turns : ℕ) (fault : Fault) → IsUnprinted m played turns fault
     → IsOther (status_of fault)
@@ -259,73 +277,92 @@ module _ {X : Type 0} (source : Source X) (script_bytes : List ℕ) (turns : ℕ
   no_history-status (sources.OfInputs refused) = script_inputs-other refused
   no_history-status (sources.OfRun x played inputs unprinted) = world_unprinted-status (source.run x played) unprinted
 
-pub refusal-status : (command : Command) (loaded : List (List ℕ)) (number : Option ℕ) (fault : Fault)
-    → IsRefusal command loaded number fault → IsOther (status_of fault)
-refusal-status Make [] number fault c = absurd c
-refusal-status Make (m ∷ []) number fault c = absurd c
-refusal-status Make (m ∷ s ∷ []) None fault c = absurd c
-refusal-status Make (m ∷ s ∷ []) (Some turns) fault c = make-status m s turns fault c
-refusal-status Make (m ∷ s ∷ t ∷ more) number fault c = absurd c
-refusal-status Instrument [] number fault c = absurd c
-refusal-status Instrument (m ∷ []) None fault c = hooked-status m fault c
-refusal-status Instrument (m ∷ []) (Some number) fault c = absurd c
-refusal-status Instrument (m ∷ t ∷ more) number fault c = absurd c
-refusal-status Record [] number fault c = absurd c
-refusal-status Record (h ∷ []) number fault c = absurd c
-refusal-status Record (h ∷ s ∷ []) None fault c = absurd c
-refusal-status Record (h ∷ s ∷ []) (Some turns) fault c = record-status h s turns fault c
-refusal-status Record (h ∷ s ∷ t ∷ more) number fault c = absurd c
-refusal-status Reduce [] number fault c = absurd c
-refusal-status Reduce (log ∷ []) None fault c = reduce-status log fault c
-refusal-status Reduce (log ∷ []) (Some number) fault c = absurd c
-refusal-status Reduce (log ∷ t ∷ more) number fault c = absurd c
-refusal-status Build [] number fault c = absurd c
-refusal-status Build (m ∷ []) number fault c = absurd c
-refusal-status Build (m ∷ s ∷ []) number fault c = absurd c
-refusal-status Build (m ∷ s ∷ t ∷ []) None fault c = build-status m s t fault c
-refusal-status Build (m ∷ s ∷ t ∷ []) (Some number) fault c = absurd c
-refusal-status Build (m ∷ s ∷ t ∷ x ∷ more) number fault c = absurd c
-refusal-status History [] number fault c = absurd c
-refusal-status History (m ∷ []) number fault c = absurd c
-refusal-status History (m ∷ s ∷ []) None fault c = absurd c
-refusal-status History (m ∷ s ∷ []) (Some turns) fault c = history-status m s turns fault c
-refusal-status History (m ∷ s ∷ t ∷ more) number fault c = absurd c
-refusal-status Replay [] number fault c = absurd c
-refusal-status Replay (binary ∷ []) None fault c = absurd c
-refusal-status Replay (binary ∷ []) (Some turns) fault c = replay-status binary turns fault c
-refusal-status Replay (binary ∷ t ∷ more) number fault c = absurd c
-refusal-status Show [] number fault c = absurd c
-refusal-status Show (trace ∷ []) None fault c = show-status trace fault c
-refusal-status Show (trace ∷ []) (Some number) fault c = absurd c
-refusal-status Show (trace ∷ t ∷ more) number fault c = absurd c
-refusal-status Load [] None fault c = absurd c
-refusal-status Load [] (Some number) fault c = make-status LOAD_MODULE (load_script number) LOAD_TURNS fault c
-refusal-status Load (m ∷ more) number fault c = absurd c
-refusal-status Foreign [] number fault c = absurd c
-refusal-status Foreign (m ∷ []) number fault c = absurd c
-refusal-status Foreign (m ∷ d ∷ []) number fault c = absurd c
-refusal-status Foreign (m ∷ d ∷ s ∷ []) None fault c = absurd c
-refusal-status Foreign (m ∷ d ∷ s ∷ []) (Some turns) fault c =
+pub refusal-status : (command : Command) (loaded : List (List ℕ)) (numbers : Numbers) (fault : Fault)
+    → IsRefusal command loaded numbers fault → IsOther (status_of fault)
+refusal-status Make [] numbers fault c = absurd c
+refusal-status Make (m ∷ []) numbers fault c = absurd c
+refusal-status Make (m ∷ s ∷ []) Empty fault c = absurd c
+refusal-status Make (m ∷ s ∷ []) (One turns) fault c = make-status m s turns fault c
+refusal-status Make (m ∷ s ∷ []) (Two turns second) fault c = absurd c
+refusal-status Make (m ∷ s ∷ t ∷ more) numbers fault c = absurd c
+refusal-status Instrument [] numbers fault c = absurd c
+refusal-status Instrument (m ∷ []) Empty fault c = hooked-status m fault c
+refusal-status Instrument (m ∷ []) (One number) fault c = absurd c
+refusal-status Instrument (m ∷ []) (Two number second) fault c = absurd c
+refusal-status Instrument (m ∷ t ∷ more) numbers fault c = absurd c
+refusal-status Record [] numbers fault c = absurd c
+refusal-status Record (h ∷ []) numbers fault c = absurd c
+refusal-status Record (h ∷ s ∷ []) Empty fault c = absurd c
+refusal-status Record (h ∷ s ∷ []) (One turns) fault c = record-status h s turns fault c
+refusal-status Record (h ∷ s ∷ []) (Two turns second) fault c = absurd c
+refusal-status Record (h ∷ s ∷ t ∷ more) numbers fault c = absurd c
+refusal-status Reduce [] numbers fault c = absurd c
+refusal-status Reduce (log ∷ []) Empty fault c = reduce-status log fault c
+refusal-status Reduce (log ∷ []) (One number) fault c = absurd c
+refusal-status Reduce (log ∷ []) (Two number second) fault c = absurd c
+refusal-status Reduce (log ∷ t ∷ more) numbers fault c = absurd c
+refusal-status Build [] numbers fault c = absurd c
+refusal-status Build (m ∷ []) numbers fault c = absurd c
+refusal-status Build (m ∷ s ∷ []) numbers fault c = absurd c
+refusal-status Build (m ∷ s ∷ t ∷ []) Empty fault c = build-status m s t fault c
+refusal-status Build (m ∷ s ∷ t ∷ []) (One number) fault c = absurd c
+refusal-status Build (m ∷ s ∷ t ∷ []) (Two number second) fault c = absurd c
+refusal-status Build (m ∷ s ∷ t ∷ x ∷ more) numbers fault c = absurd c
+refusal-status History [] numbers fault c = absurd c
+refusal-status History (m ∷ []) numbers fault c = absurd c
+refusal-status History (m ∷ s ∷ []) Empty fault c = absurd c
+refusal-status History (m ∷ s ∷ []) (One turns) fault c = history-status m s turns fault c
+refusal-status History (m ∷ s ∷ []) (Two turns second) fault c = absurd c
+refusal-status History (m ∷ s ∷ t ∷ more) numbers fault c = absurd c
+refusal-status Replay [] numbers fault c = absurd c
+refusal-status Replay (binary ∷ []) Empty fault c = absurd c
+refusal-status Replay (binary ∷ []) (One turns) fault c = replay-status binary turns fault c
+refusal-status Replay (binary ∷ []) (Two turns second) fault c = absurd c
+refusal-status Replay (binary ∷ t ∷ more) numbers fault c = absurd c
+refusal-status Show [] numbers fault c = absurd c
+refusal-status Show (trace ∷ []) Empty fault c = show-status trace fault c
+refusal-status Show (trace ∷ []) (One number) fault c = absurd c
+refusal-status Show (trace ∷ []) (Two number second) fault c = absurd c
+refusal-status Show (trace ∷ t ∷ more) numbers fault c = absurd c
+refusal-status Load [] Empty fault c = absurd c
+refusal-status Load [] (One number) fault c = make-status LOAD_MODULE (load_script number) LOAD_TURNS fault c
+refusal-status Load [] (Two number second) fault c = absurd c
+refusal-status Load (m ∷ more) numbers fault c = absurd c
+refusal-status Foreign [] numbers fault c = absurd c
+refusal-status Foreign (m ∷ []) numbers fault c = absurd c
+refusal-status Foreign (m ∷ d ∷ []) numbers fault c = absurd c
+refusal-status Foreign (m ∷ d ∷ s ∷ []) Empty fault c = absurd c
+refusal-status Foreign (m ∷ d ∷ s ∷ []) (One turns) fault c =
     no_replay-status (foreign_source m d) s turns fault (undeclared-other m d fault) c
-refusal-status Foreign (m ∷ d ∷ s ∷ x ∷ more) number fault c = absurd c
-refusal-status ForeignHistory [] number fault c = absurd c
-refusal-status ForeignHistory (m ∷ []) number fault c = absurd c
-refusal-status ForeignHistory (m ∷ d ∷ []) number fault c = absurd c
-refusal-status ForeignHistory (m ∷ d ∷ s ∷ []) None fault c = absurd c
-refusal-status ForeignHistory (m ∷ d ∷ s ∷ []) (Some turns) fault c =
+refusal-status Foreign (m ∷ d ∷ s ∷ []) (Two turns second) fault c = absurd c
+refusal-status Foreign (m ∷ d ∷ s ∷ x ∷ more) numbers fault c = absurd c
+refusal-status ForeignHistory [] numbers fault c = absurd c
+refusal-status ForeignHistory (m ∷ []) numbers fault c = absurd c
+refusal-status ForeignHistory (m ∷ d ∷ []) numbers fault c = absurd c
+refusal-status ForeignHistory (m ∷ d ∷ s ∷ []) Empty fault c = absurd c
+refusal-status ForeignHistory (m ∷ d ∷ s ∷ []) (One turns) fault c =
     no_history-status (foreign_source m d) s turns fault (undeclared-other m d fault) c
-refusal-status ForeignHistory (m ∷ d ∷ s ∷ x ∷ more) number fault c = absurd c
-refusal-status Pair [] number fault c = absurd c
-refusal-status Pair (l ∷ []) number fault c = absurd c
-refusal-status Pair (l ∷ r ∷ []) number fault c = absurd c
-refusal-status Pair (l ∷ r ∷ s ∷ []) None fault c = absurd c
-refusal-status Pair (l ∷ r ∷ s ∷ []) (Some turns) fault c =
+refusal-status ForeignHistory (m ∷ d ∷ s ∷ []) (Two turns second) fault c = absurd c
+refusal-status ForeignHistory (m ∷ d ∷ s ∷ x ∷ more) numbers fault c = absurd c
+refusal-status Pair [] numbers fault c = absurd c
+refusal-status Pair (l ∷ []) numbers fault c = absurd c
+refusal-status Pair (l ∷ r ∷ []) numbers fault c = absurd c
+refusal-status Pair (l ∷ r ∷ s ∷ []) Empty fault c = absurd c
+refusal-status Pair (l ∷ r ∷ s ∷ []) (One turns) fault c =
     no_replay-status (pair_source l r) s turns fault (unlinked-other l r fault) c
-refusal-status Pair (l ∷ r ∷ s ∷ x ∷ more) number fault c = absurd c
-refusal-status PairHistory [] number fault c = absurd c
-refusal-status PairHistory (l ∷ []) number fault c = absurd c
-refusal-status PairHistory (l ∷ r ∷ []) number fault c = absurd c
-refusal-status PairHistory (l ∷ r ∷ s ∷ []) None fault c = absurd c
-refusal-status PairHistory (l ∷ r ∷ s ∷ []) (Some turns) fault c =
+refusal-status Pair (l ∷ r ∷ s ∷ []) (Two turns second) fault c = absurd c
+refusal-status Pair (l ∷ r ∷ s ∷ x ∷ more) numbers fault c = absurd c
+refusal-status PairHistory [] numbers fault c = absurd c
+refusal-status PairHistory (l ∷ []) numbers fault c = absurd c
+refusal-status PairHistory (l ∷ r ∷ []) numbers fault c = absurd c
+refusal-status PairHistory (l ∷ r ∷ s ∷ []) Empty fault c = absurd c
+refusal-status PairHistory (l ∷ r ∷ s ∷ []) (One turns) fault c =
     no_history-status (pair_source l r) s turns fault (unlinked-other l r fault) c
-refusal-status PairHistory (l ∷ r ∷ s ∷ x ∷ more) number fault c = absurd c
+refusal-status PairHistory (l ∷ r ∷ s ∷ []) (Two turns second) fault c = absurd c
+refusal-status PairHistory (l ∷ r ∷ s ∷ x ∷ more) numbers fault c = absurd c
+refusal-status From [] numbers fault c = absurd c
+refusal-status From (m ∷ []) numbers fault c = absurd c
+refusal-status From (m ∷ s ∷ []) Empty fault c = absurd c
+refusal-status From (m ∷ s ∷ []) (One turns) fault c = absurd c
+refusal-status From (m ∷ s ∷ []) (Two turns number) fault c = rest-status m s turns number fault c
+refusal-status From (m ∷ s ∷ t ∷ more) numbers fault c = absurd c

@@ -12,8 +12,11 @@ use Rattle.r3_faults.specs.Lines.{status_of}
 use Rattle.r3_faults.specs.declared.faults.Fault.{Fault}
 use Rattle.r3_faults.specs.declared.faults.Fault.TheVariants as faults
 use Rattle.r3_core.specs.declared.words.Command.{Command}
-use Rattle.r3_core.specs.declared.words.Command.TheVariants.{Make, Instrument, Record, Reduce, Build, History, Replay, Show, Load, Foreign, ForeignHistory, Pair, PairHistory}
-use Rattle.r3_core.specs.Words.{form, IsAfterFiles, Says, IsListed, files_of}
+use Rattle.r3_core.specs.declared.words.Command.TheVariants.{Make, Instrument, Record, Reduce, Build, History, Replay, Show, Load, Foreign, ForeignHistory, Pair, PairHistory, From}
+use Rattle.r3_core.specs.declared.words.NumberRange.{NumberRange}
+use Rattle.r3_core.specs.declared.words.Numbers.{Numbers}
+use Rattle.r3_core.specs.declared.words.Numbers.TheVariants.{Empty, One, Two}
+use Rattle.r3_core.specs.Words.{IsNumber, form, IsAfterFiles, Says, IsListed, files_of}
 use Rattle.r3_core.specs.Causes.{Reading, first_longer, IsLoadCause, AreBytesOf, IsRefusal, IsDoable, IsRefused, IsCause, Unlisted, Unloaded, Refused, Unwritten, OutOfMemory, IsPrintCause, UnloadedFile, RefusedBytes, NoMemoryLeft}
 use Rattle.r3_core.proofs.WordLemmas.{files_of-Says, Says-same}
 use Rattle.r3_core.proofs.CauseLemmas.{load-cases}
@@ -85,7 +88,7 @@ load-done reading files fault known e none (inr cause) =
 
 module _ (words : List (List ℕ)) (reading : Reading) (before now : ℕ) (fault : Fault) where
   listed-when_refused : IsRefused words reading.contents fault → IsListed words
-  listed-when_refused r = (r.command, r.call.names, r.number, r.call.says)
+  listed-when_refused r = (r.command, r.call.names, r.numbers, r.call.says)
 
   not-loaded : {P : Type 0} → IsLoadCause reading (files_of words) fault → (status_of fault ≡ 3 → P)
       → (status_of fault ≡ 4 → P) → P
@@ -96,7 +99,7 @@ module _ (words : List (List ℕ)) (reading : Reading) (before now : ℕ) (fault
   status-usage (Unlisted is unlisted) e = (is, unlisted)
   status-usage (Unloaded listed cause) e =
       not-loaded cause (λ three. absurd (omega (arith, e, three))) (λ four. absurd (omega (arith, e, four)))
-  status-usage (Refused r) e = absurd ((refusal-status r.command r.loaded r.number fault r.refusal).0 e)
+  status-usage (Refused r) e = absurd ((refusal-status r.command r.loaded r.numbers fault r.refusal).0 e)
   status-usage (Unwritten is listed rose) e = absurd (omega (arith, e, ap status_of is))
   status-usage (OutOfMemory is listed) e = absurd (omega (arith, e, ap status_of is))
 
@@ -111,7 +114,7 @@ module _ (words : List (List ℕ)) (reading : Reading) (before now : ℕ) (fault
       → HasFailedRead reading (files_of words)
   status-read (Unlisted is unlisted) e = absurd (omega (arith, e, ap status_of is))
   status-read (Unloaded listed cause) e = load-status_read reading (files_of words) fault cause e
-  status-read (Refused r) e = absurd ((refusal-status r.command r.loaded r.number fault r.refusal).1 e)
+  status-read (Refused r) e = absurd ((refusal-status r.command r.loaded r.numbers fault r.refusal).1 e)
   status-read (Unwritten is listed rose) e = absurd (omega (arith, e, ap status_of is))
   status-read (OutOfMemory is listed) e = absurd (omega (arith, e, ap status_of is))
 
@@ -119,7 +122,7 @@ module _ (words : List (List ℕ)) (reading : Reading) (before now : ℕ) (fault
       → HasLongFile reading (files_of words)
   status-too_long (Unlisted is unlisted) e = absurd (omega (arith, e, ap status_of is))
   status-too_long (Unloaded listed cause) e = load-status_too_long reading (files_of words) fault cause e
-  status-too_long (Refused r) e = absurd ((refusal-status r.command r.loaded r.number fault r.refusal).2 e)
+  status-too_long (Refused r) e = absurd ((refusal-status r.command r.loaded r.numbers fault r.refusal).2 e)
   status-too_long (Unwritten is listed rose) e = absurd (omega (arith, e, ap status_of is))
   status-too_long (OutOfMemory is listed) e = absurd (omega (arith, e, ap status_of is))
 
@@ -128,18 +131,18 @@ module _ (words : List (List ℕ)) (reading : Reading) (before now : ℕ) (fault
   status-write (Unlisted is unlisted) e = absurd (omega (arith, e, ap status_of is))
   status-write (Unloaded listed cause) e =
       not-loaded cause (λ three. absurd (omega (arith, e, three))) (λ four. absurd (omega (arith, e, four)))
-  status-write (Refused r) e = absurd ((refusal-status r.command r.loaded r.number fault r.refusal).3 e)
+  status-write (Refused r) e = absurd ((refusal-status r.command r.loaded r.numbers fault r.refusal).3 e)
   status-write (Unwritten is listed rose) e = (is, rose)
   status-write (OutOfMemory is listed) e = absurd (omega (arith, e, ap status_of is))
 
 -- why a command prints nothing, in the words of the call
-pub IsCause-printing : (words : List (List ℕ)) (command : Command) (names : List (List ℕ)) (given : Option ℕ)
+pub IsCause-printing : (words : List (List ℕ)) (command : Command) (names : List (List ℕ)) (given : Numbers)
     → Says words command names given → (reading : Reading) (before now : ℕ) (fault : Fault)
     → IsPrintCause reading command names given fault → IsCause words reading before now fault
 IsCause-printing words command names given says reading before now fault (UnloadedFile cause) =
     Unloaded (command, names, given, says) (subst (λ files. IsLoadCause reading files fault) (sym (files_of-Says words command names given says)) cause)
 IsCause-printing words command names given says reading before now fault (RefusedBytes loaded bytes refusal) =
-    Refused (record { command = command; loaded = loaded; number = given; call = record { names = names; says = says; bytes = bytes }; refusal = refusal })
+    Refused (record { command = command; loaded = loaded; numbers = given; call = record { names = names; says = says; bytes = bytes }; refusal = refusal })
 IsCause-printing words command names given says reading before now fault (NoMemoryLeft is) = OutOfMemory is (command, names, given, says)
 
 -- the result for a refusal, unless memory is out
@@ -161,7 +164,7 @@ done-after status (suc (suc zero), h, e) = (3, omega arith, e)
 done-after status (suc (suc (suc k)), h, e) = absurd (omega (arith, h))
 
 -- the cause of the result for the bytes of files
-pub IfErr-bytes : {T : Type 0} (r : Result T Fault) (reading : Reading) (command : Command) (names loaded : List (List ℕ)) (number : Option ℕ)
+pub IfErr-bytes : {T : Type 0} (r : Result T Fault) (reading : Reading) (command : Command) (names loaded : List (List ℕ)) (number : Numbers)
     → AreBytesOf reading.contents names loaded
     → IfErr r (λ fault. (fault ≡ faults.Memory) ⊎ IsRefusal command loaded number fault)
     → IfErr r (λ fault. IsPrintCause reading command names number fault)
@@ -192,43 +195,63 @@ decimal-one a b low high e = stable a b (λ differ.
     in err-no_ok a none refl unread)
 
 -- each number that a command takes is small
-IsSmall : Option ℕ → Type 0
-IsSmall None = Unit {0}
-IsSmall (Some most) = most < 2 ^ 64
+AreSmall : List NumberRange → Type 0
+AreSmall [] = Unit {0}
+AreSmall (range ∷ ranges) = (range.most < 2 ^ 64) × AreSmall ranges
 
-most-IsSmall : (command : Command) → IsSmall (form command).most
-unfolding IsSmall
-most-IsSmall Make = omega arith
-most-IsSmall Instrument = tt
-most-IsSmall Record = omega arith
-most-IsSmall Reduce = tt
-most-IsSmall Build = tt
-most-IsSmall History = omega arith
-most-IsSmall Replay = omega arith
-most-IsSmall Show = tt
-most-IsSmall Load = omega arith
-most-IsSmall Foreign = omega arith
-most-IsSmall ForeignHistory = omega arith
-most-IsSmall Pair = omega arith
-most-IsSmall PairHistory = omega arith
+ranges-AreSmall : (command : Command) → AreSmall (form command).ranges
+unfolding AreSmall
+ranges-AreSmall Make = (omega arith, tt)
+ranges-AreSmall Instrument = tt
+ranges-AreSmall Record = (omega arith, tt)
+ranges-AreSmall Reduce = tt
+ranges-AreSmall Build = tt
+ranges-AreSmall History = (omega arith, tt)
+ranges-AreSmall Replay = (omega arith, tt)
+ranges-AreSmall Show = tt
+ranges-AreSmall Load = (omega arith, tt)
+ranges-AreSmall Foreign = (omega arith, tt)
+ranges-AreSmall ForeignHistory = (omega arith, tt)
+ranges-AreSmall Pair = (omega arith, tt)
+ranges-AreSmall PairHistory = (omega arith, tt)
+ranges-AreSmall From = (omega arith, (omega arith, tt))
 
--- one number after the files
-IsAfterFiles-one : (most : Option ℕ) (after : List (List ℕ)) (a b : Option ℕ) → IsSmall most → IsAfterFiles most after a
-    → IsAfterFiles most after b → b ≡ a
-unfolding IsSmall
-IsAfterFiles-one None [] None None h p q = refl
-IsAfterFiles-one (Some most) (word ∷ []) (Some a) (Some b) h p q = ap Some (decimal-one b a (omega (arith, h, q.high)) (omega (arith, h, p.high)) (sym q.digits ∙ p.digits))
-IsAfterFiles-one None [] None (Some b) h p q = absurd q
-IsAfterFiles-one None [] (Some a) b h p q = absurd p
-IsAfterFiles-one None (w ∷ ws) a b h p q = absurd p
-IsAfterFiles-one (Some most) [] a b h p q = absurd p
-IsAfterFiles-one (Some most) (w ∷ []) None b h p q = absurd p
-IsAfterFiles-one (Some most) (w ∷ []) (Some a) None h p q = absurd q
-IsAfterFiles-one (Some most) (w ∷ v ∷ ws) a b h p q = absurd p
+-- a word is one number
+number-one : (range : NumberRange) (word : List ℕ) (a b : ℕ) → range.most < 2 ^ 64 → IsNumber range word a → IsNumber range word b → b ≡ a
+number-one range word a b small p q =
+    decimal-one b a (omega (arith, small, q.high)) (omega (arith, small, p.high)) (sym q.digits ∙ p.digits)
+
+-- the words after the files are one list of numbers
+IsAfterFiles-one : (ranges : List NumberRange) (after : List (List ℕ)) (a b : Numbers) → AreSmall ranges
+    → IsAfterFiles ranges after a → IsAfterFiles ranges after b → b ≡ a
+unfolding AreSmall
+IsAfterFiles-one [] [] Empty Empty h p q = refl
+IsAfterFiles-one (r ∷ []) (w ∷ []) (One a) (One b) h p q = ap One (number-one r w a b h.0 p q)
+IsAfterFiles-one (r ∷ s ∷ []) (w ∷ v ∷ []) (Two a c) (Two b d) h p q =
+    ap (λ n. Two n d) (number-one r w a b h.0 p.0 q.0) ∙ ap (Two a) (number-one s v c d h.1.0 p.1 q.1)
+IsAfterFiles-one [] [] Empty (One b) h p q = absurd q
+IsAfterFiles-one [] [] Empty (Two b d) h p q = absurd q
+IsAfterFiles-one [] [] (One a) b h p q = absurd p
+IsAfterFiles-one [] [] (Two a c) b h p q = absurd p
+IsAfterFiles-one [] (w ∷ ws) a b h p q = absurd p
+IsAfterFiles-one (r ∷ []) [] a b h p q = absurd p
+IsAfterFiles-one (r ∷ []) (w ∷ []) Empty b h p q = absurd p
+IsAfterFiles-one (r ∷ []) (w ∷ []) (One a) Empty h p q = absurd q
+IsAfterFiles-one (r ∷ []) (w ∷ []) (One a) (Two b d) h p q = absurd q
+IsAfterFiles-one (r ∷ []) (w ∷ []) (Two a c) b h p q = absurd p
+IsAfterFiles-one (r ∷ []) (w ∷ v ∷ ws) a b h p q = absurd p
+IsAfterFiles-one (r ∷ s ∷ []) [] a b h p q = absurd p
+IsAfterFiles-one (r ∷ s ∷ []) (w ∷ []) a b h p q = absurd p
+IsAfterFiles-one (r ∷ s ∷ []) (w ∷ v ∷ []) Empty b h p q = absurd p
+IsAfterFiles-one (r ∷ s ∷ []) (w ∷ v ∷ []) (One a) b h p q = absurd p
+IsAfterFiles-one (r ∷ s ∷ []) (w ∷ v ∷ []) (Two a c) Empty h p q = absurd q
+IsAfterFiles-one (r ∷ s ∷ []) (w ∷ v ∷ []) (Two a c) (One b) h p q = absurd q
+IsAfterFiles-one (r ∷ s ∷ []) (w ∷ v ∷ u ∷ ws) a b h p q = absurd p
+IsAfterFiles-one (r ∷ s ∷ t ∷ rs) after a b h p q = absurd p
 
 -- the names of the files, of one reading and of another
-module _ (words : List (List ℕ)) (command : Command) (names : List (List ℕ)) (number : Option ℕ) (command' : Command)
-    (names' : List (List ℕ)) (number' : Option ℕ) (says : Says words command names number)
+module _ (words : List (List ℕ)) (command : Command) (names : List (List ℕ)) (number : Numbers) (command' : Command)
+    (names' : List (List ℕ)) (number' : Numbers) (says : Says words command names number)
     (again : Says words command' names' number') where
   same-command : command' ≡ command
   same-command = Says-same words command names number says command' names' number' again
@@ -251,9 +274,9 @@ module _ (words : List (List ℕ)) (command : Command) (names : List (List ℕ))
 
   same-number : number' ≡ number
   same-number =
-      IsAfterFiles-one (form command).most says.after number number' (most-IsSmall command) says.number
-      (subst (λ after. IsAfterFiles (form command).most after number') (sym same-after)
-      (subst (λ c. IsAfterFiles (form c).most again.after number') same-command again.number))
+      IsAfterFiles-one (form command).ranges says.after number number' (ranges-AreSmall command) says.numbers
+      (subst (λ after. IsAfterFiles (form command).ranges after number') (sym same-after)
+      (subst (λ c. IsAfterFiles (form c).ranges again.after number') same-command again.numbers))
 
   -- a refusal for one reading of the words is one for another
   pub IsRefusal-said : (known : FileMap) (fault : Fault)
@@ -273,7 +296,7 @@ module _ (words : List (List ℕ)) (command : Command) (names : List (List ℕ))
       (subst (λ k. IsDoable command' (map (file_bytes known) names') k) same-number done))
 
 -- a file is too long by one reading of the words, and by another
-pub longer-said : (words : List (List ℕ)) (command : Command) (names : List (List ℕ)) (number : Option ℕ)
+pub longer-said : (words : List (List ℕ)) (command : Command) (names : List (List ℕ)) (number : Numbers)
     → Says words command names number → (known : FileMap) → IsSome (first_longer known (files_of words))
     → IsSome (first_longer known (zip names (form command).limits))
 longer-said words command names number says known longer =
@@ -285,14 +308,14 @@ zip-none [] limits same none = refl
 zip-none (n ∷ ns) [] same none = absurd (omega (arith, same))
 zip-none (n ∷ ns) (l ∷ ls) same none = cc none
 
-pub names-none : (words : List (List ℕ)) (command : Command) (names : List (List ℕ)) (number : Option ℕ)
+pub names-none : (words : List (List ℕ)) (command : Command) (names : List (List ℕ)) (number : Numbers)
     → Says words command names number → files_of words ≡ [] → names ≡ []
 names-none words command names number says none =
     zip-none names (form command).limits says.all_files
     (sym (files_of-Says words command names number says) ∙ none)
 
 -- the fault of a command over files that prints nothing is neither `Usage` nor `Write`
-pub print-other : (reading : Reading) (command : Command) (names : List (List ℕ)) (number : Option ℕ) (fault : Fault)
+pub print-other : (reading : Reading) (command : Command) (names : List (List ℕ)) (number : Numbers) (fault : Fault)
     → IsPrintCause reading command names number fault → (fault ≡ faults.Usage → ⊥) × (fault ≡ faults.Write → ⊥)
 print-other reading command names number fault (UnloadedFile cause) =
     let either = load-statuses reading (zip names (form command).limits) fault cause in (

@@ -1,10 +1,11 @@
 -- How words are read.
-use Rattle.std.proofs.Common.{◌≡◌, ℕ, ◌<◌, ◌≤◌, true, false, List, [], ◌∷◌, ◌++◌, length, drop, refl, sym, ◌∙◌, ap, subst, arith, Option, Some, Result, Ok, Err, IfErr, String, string_bytes, zip}
+use Rattle.std.proofs.Common.{◌≡◌, ℕ, ◌<◌, ◌≤◌, true, false, List, [], ◌∷◌, ◌++◌, length, drop, refl, sym, ◌∙◌, ap, subst, arith, Some, Result, Ok, Err, IfErr, String, string_bytes, zip}
 use Rattle.std.specs.Option.{option_map_or}
 use Rattle.std.proofs.Math.Seq.{drop-append_seam}
 use Rattle.std.proofs.lemmas.List.{length-append, length-map, drop-map}
 use Rattle.std.proofs.lemmas.Slice.Eq.{bytes_eq-Decides}
 use Rattle.std.specs.Str.{bytes_eq}
+use Rattle.r3_core.specs.declared.words.Numbers.{Numbers}
 use Rattle.r3_core.specs.Words.{form, texts, command_of_name, IsAfterFiles, Says, IsListed, files_of}
 use Rattle.r3_core.specs.declared.words.Command.{Command}
 
@@ -19,7 +20,7 @@ pub bytes_eq-same : (xs ys : List ℕ) → xs ≡ ys → bytes_eq xs ys ≡ true
 bytes_eq-same xs ys e = (bytes_eq-Decides xs ys).1 e
 
 module _ (name : List ℕ) (rest : List (List ℕ)) (command : Command) (named : command_of_name name ≡ Some command)
-    (other : Command) (files : List (List ℕ)) (given : Option ℕ) (says : Says (name ∷ rest) other files given) where
+    (other : Command) (files : List (List ℕ)) (given : Numbers) (says : Says (name ∷ rest) other files given) where
   -- the command is the one that is named
   pub Says-command : other ≡ command
   Says-command =
@@ -38,7 +39,7 @@ module _ (name : List ℕ) (rest : List (List ℕ)) (command : Command) (named :
       in
       omega (arith, count, ap length Says-rest, length-append files says.after)
 
-  pub Says-after : IsAfterFiles (form command).most (drop (length (form command).limits) rest) given
+  pub Says-after : IsAfterFiles (form command).ranges (drop (length (form command).limits) rest) given
   Says-after =
       let count : length files ≡ length (form command).limits =
       says.all_files ∙ ap (λ c. length (form c).limits) Says-command
@@ -46,8 +47,8 @@ module _ (name : List ℕ) (rest : List (List ℕ)) (command : Command) (named :
       let after : drop (length (form command).limits) rest ≡ says.after =
       ap (λ n. drop n rest) (sym count) ∙ ap (drop (length files)) Says-rest ∙ drop-append_seam files says.after
       in
-      subst (λ words. IsAfterFiles (form command).most words given) (sym after)
-      (subst (λ c. IsAfterFiles (form c).most says.after given) Says-command says.number)
+      subst (λ words. IsAfterFiles (form command).ranges words given) (sym after)
+      (subst (λ c. IsAfterFiles (form c).ranges says.after given) Says-command says.numbers)
 
 module _ {Y : Type 0} (words : List (String Y)) (name : String Y) (rest : List (String Y)) (command : Command)
     (split : words ≡ name ∷ rest) (named : command_of_name (string_bytes name) ≡ Some command) where
@@ -61,14 +62,14 @@ module _ {Y : Type 0} (words : List (String Y)) (name : String Y) (rest : List (
 
   -- other words after the files than the command takes
   pub unlisted-after : (after : List (String Y)) → after ≡ drop (length (form command).limits) rest
-      → ((number : Option ℕ) → ¬ (IsAfterFiles (form command).most (texts after) number)) → ¬ (IsListed (texts words))
+      → ((number : Numbers) → ¬ (IsAfterFiles (form command).ranges (texts after) number)) → ¬ (IsListed (texts words))
   unlisted-after after cut unfit = λ listed.
       let says : Says (string_bytes name ∷ texts rest) listed.0 listed.1 listed.2 =
       subst (λ words. Says (texts words) listed.0 listed.1 listed.2) split listed.3
       in
       let count = length (form command).limits in
       let same : drop count (texts rest) ≡ texts after = drop-map string_bytes count rest ∙ ap texts (sym cut) in
-      unfit listed.2 (subst (λ words. IsAfterFiles (form command).most words listed.2) same (Says-after _ _ command named _ _ _ says))
+      unfit listed.2 (subst (λ words. IsAfterFiles (form command).ranges words listed.2) same (Says-after _ _ command named _ _ _ says))
 
 -- a property of any error
 pub IfErr-always : {T E P : Type 0} (r : Result T E) → P → IfErr r (λ _. P)
@@ -76,10 +77,10 @@ IfErr-always (Ok x) p = tt
 IfErr-always (Err e) p = p
 
 -- one reading of words, compared with others
-module _ (words : List (List ℕ)) (command : Command) (files : List (List ℕ)) (given : Option ℕ)
+module _ (words : List (List ℕ)) (command : Command) (files : List (List ℕ)) (given : Numbers)
     (says : Says words command files given) where
   -- another reading has the same command
-  pub Says-same : (other : Command) (others : List (List ℕ)) (number : Option ℕ) → Says words other others number
+  pub Says-same : (other : Command) (others : List (List ℕ)) (number : Numbers) → Says words other others number
       → other ≡ command
   Says-same other others number again =
       Says-command says.name (files ++ says.after) command says.is_command other others number

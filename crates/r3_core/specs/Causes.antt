@@ -1,5 +1,5 @@
 -- Why a call ends with a fault, and what it prints if it ends without one.
-use Rattle.std.specs.Prelude.{◌≡◌, ℕ, ◌+◌, ◌≤◌, nat_lt, List, [], ◌∷◌, length, map, find, zip, Contains, Option, Some, None, Vec}
+use Rattle.std.specs.Prelude.{◌≡◌, ℕ, ◌+◌, ◌≤◌, nat_lt, List, [], ◌∷◌, length, map, find, zip, Contains, Option, Some, Vec}
 use Rattle.std.specs.Option.{ForSome}
 use Rattle.r3_outside.specs.Count.{Rose, Took}
 use Rattle.r3_outside.specs.Contents.{FileMap, file_bytes}
@@ -24,7 +24,11 @@ use Rattle.load_maker.specs.declared.load_module.TheConstants.{LOAD_MODULE}
 use Rattle.wasm_syntax.specs.declared.limits.TheConstants.{LOAD_TURNS}
 use Rattle.r3_make.specs.Summaries.{IsSummary}
 use Rattle.r3_core.specs.declared.words.Command.{Command}
-use Rattle.r3_core.specs.declared.words.Command.TheVariants.{Make, Instrument, Record, Reduce, Build, History, Replay, Show, Load, Foreign, ForeignHistory, Pair, PairHistory}
+use Rattle.r3_core.specs.declared.words.Command.TheVariants.{Make, Instrument, Record, Reduce, Build, History, Replay, Show, Load, Foreign, ForeignHistory, Pair, PairHistory, From}
+use Rattle.r3_from.specs.RestRefusals.{HaveRest, IsRestRefusal}
+use Rattle.r3_from.specs.RestReplays.{IsRestPrinted}
+use Rattle.r3_core.specs.declared.words.Numbers.{Numbers}
+use Rattle.r3_core.specs.declared.words.Numbers.TheVariants.{Empty, One, Two}
 use Rattle.r3_core.specs.Words.{form, IsListed, Says, files_of}
 
 -- ---- the files of a call
@@ -77,103 +81,108 @@ AreWithin (bytes ∷ lists) (limit ∷ limits) = (length bytes ≤ limit) × Are
 -- ---- commands over the bytes of their files
 
 -- a command refuses the bytes of its files
-abbrev pub IsRefusal : Command → (loaded : List (List ℕ)) → (number : Option ℕ) → Fault → Type 0
-IsRefusal Make (module_bytes ∷ script_bytes ∷ []) (Some turns) fault =
+abbrev pub IsRefusal : Command → (loaded : List (List ℕ)) → (numbers : Numbers) → Fault → Type 0
+IsRefusal Make (module_bytes ∷ script_bytes ∷ []) (One turns) fault =
     IsMakeRefusal module_bytes script_bytes turns fault
-IsRefusal Instrument (module_bytes ∷ []) None fault = IsHookedRefusal module_bytes fault
-IsRefusal Record (hooked_bytes ∷ script_bytes ∷ []) (Some turns) fault =
+IsRefusal Instrument (module_bytes ∷ []) Empty fault = IsHookedRefusal module_bytes fault
+IsRefusal Record (hooked_bytes ∷ script_bytes ∷ []) (One turns) fault =
     IsLogRefusal hooked_bytes script_bytes turns fault
-IsRefusal Reduce (log ∷ []) None fault = IsReduceRefusal log fault
-IsRefusal Build (module_bytes ∷ script_bytes ∷ tape_bytes ∷ []) None fault =
+IsRefusal Reduce (log ∷ []) Empty fault = IsReduceRefusal log fault
+IsRefusal Build (module_bytes ∷ script_bytes ∷ tape_bytes ∷ []) Empty fault =
     IsBuildRefusal module_bytes script_bytes tape_bytes fault
-IsRefusal History (module_bytes ∷ script_bytes ∷ []) (Some turns) fault =
+IsRefusal History (module_bytes ∷ script_bytes ∷ []) (One turns) fault =
     IsHistoryRefusal module_bytes script_bytes turns fault
-IsRefusal Replay (binary ∷ []) (Some turns) fault = IsReplayRefusal binary turns fault
-IsRefusal Show (trace ∷ []) None fault = IsShowRefusal trace fault
-IsRefusal Load [] (Some number) fault = IsMakeRefusal LOAD_MODULE (load_script number) LOAD_TURNS fault
-IsRefusal Foreign (module_bytes ∷ decl_bytes ∷ script_bytes ∷ []) (Some turns) fault =
+IsRefusal Replay (binary ∷ []) (One turns) fault = IsReplayRefusal binary turns fault
+IsRefusal Show (trace ∷ []) Empty fault = IsShowRefusal trace fault
+IsRefusal Load [] (One number) fault = IsMakeRefusal LOAD_MODULE (load_script number) LOAD_TURNS fault
+IsRefusal Foreign (module_bytes ∷ decl_bytes ∷ script_bytes ∷ []) (One turns) fault =
     IsForeignRefusal module_bytes decl_bytes script_bytes turns fault
-IsRefusal ForeignHistory (module_bytes ∷ decl_bytes ∷ script_bytes ∷ []) (Some turns) fault =
+IsRefusal ForeignHistory (module_bytes ∷ decl_bytes ∷ script_bytes ∷ []) (One turns) fault =
     IsForeignHistoryRefusal module_bytes decl_bytes script_bytes turns fault
-IsRefusal Pair (left_bytes ∷ right_bytes ∷ script_bytes ∷ []) (Some turns) fault =
+IsRefusal Pair (left_bytes ∷ right_bytes ∷ script_bytes ∷ []) (One turns) fault =
     IsPairRefusal left_bytes right_bytes script_bytes turns fault
-IsRefusal PairHistory (left_bytes ∷ right_bytes ∷ script_bytes ∷ []) (Some turns) fault =
+IsRefusal PairHistory (left_bytes ∷ right_bytes ∷ script_bytes ∷ []) (One turns) fault =
     IsPairHistoryRefusal left_bytes right_bytes script_bytes turns fault
-IsRefusal command loaded number fault = ⊥
+IsRefusal From (module_bytes ∷ script_bytes ∷ []) (Two turns number) fault =
+    IsRestRefusal module_bytes script_bytes turns number fault
+IsRefusal command loaded numbers fault = ⊥
 
 -- a command can do its job for the bytes of its files
-abbrev pub IsDoable : Command → (loaded : List (List ℕ)) → (number : Option ℕ) → Type 0
-IsDoable Make (module_bytes ∷ script_bytes ∷ []) (Some turns) = AreReplayable module_bytes script_bytes turns
-IsDoable Instrument (module_bytes ∷ []) None = (hooked : List ℕ) × IsHookedOf module_bytes hooked
-IsDoable Record (hooked_bytes ∷ script_bytes ∷ []) (Some turns) =
+abbrev pub IsDoable : Command → (loaded : List (List ℕ)) → (numbers : Numbers) → Type 0
+IsDoable Make (module_bytes ∷ script_bytes ∷ []) (One turns) = AreReplayable module_bytes script_bytes turns
+IsDoable Instrument (module_bytes ∷ []) Empty = (hooked : List ℕ) × IsHookedOf module_bytes hooked
+IsDoable Record (hooked_bytes ∷ script_bytes ∷ []) (One turns) =
     (file : List ℕ) × IsLogFile hooked_bytes script_bytes turns file
-IsDoable Reduce (log ∷ []) None = (file : List ℕ) × IsReduced log file
-IsDoable Build (module_bytes ∷ script_bytes ∷ tape_bytes ∷ []) None =
+IsDoable Reduce (log ∷ []) Empty = (file : List ℕ) × IsReduced log file
+IsDoable Build (module_bytes ∷ script_bytes ∷ tape_bytes ∷ []) Empty =
     (bytes : List ℕ) × built.IsPrinted module_bytes script_bytes tape_bytes bytes
-IsDoable History (module_bytes ∷ script_bytes ∷ []) (Some turns) =
+IsDoable History (module_bytes ∷ script_bytes ∷ []) (One turns) =
     (text : List ℕ) × IsHistory module_bytes script_bytes turns text
-IsDoable Replay (binary ∷ []) (Some turns) = (text : List ℕ) × IsReplayText binary turns text
-IsDoable Show (trace ∷ []) None = (text : List ℕ) × IsShown trace text
-IsDoable Load [] (Some number) = AreReplayable LOAD_MODULE (load_script number) LOAD_TURNS
-IsDoable Foreign (module_bytes ∷ decl_bytes ∷ script_bytes ∷ []) (Some turns) =
+IsDoable Replay (binary ∷ []) (One turns) = (text : List ℕ) × IsReplayText binary turns text
+IsDoable Show (trace ∷ []) Empty = (text : List ℕ) × IsShown trace text
+IsDoable Load [] (One number) = AreReplayable LOAD_MODULE (load_script number) LOAD_TURNS
+IsDoable Foreign (module_bytes ∷ decl_bytes ∷ script_bytes ∷ []) (One turns) =
     AreForeignReplayable module_bytes decl_bytes script_bytes turns
-IsDoable ForeignHistory (module_bytes ∷ decl_bytes ∷ script_bytes ∷ []) (Some turns) =
+IsDoable ForeignHistory (module_bytes ∷ decl_bytes ∷ script_bytes ∷ []) (One turns) =
     (text : List ℕ) × IsForeignHistory module_bytes decl_bytes script_bytes turns text
-IsDoable Pair (left_bytes ∷ right_bytes ∷ script_bytes ∷ []) (Some turns) =
+IsDoable Pair (left_bytes ∷ right_bytes ∷ script_bytes ∷ []) (One turns) =
     ArePairReplayable left_bytes right_bytes script_bytes turns
-IsDoable PairHistory (left_bytes ∷ right_bytes ∷ script_bytes ∷ []) (Some turns) =
+IsDoable PairHistory (left_bytes ∷ right_bytes ∷ script_bytes ∷ []) (One turns) =
     (text : List ℕ) × IsPairHistory left_bytes right_bytes script_bytes turns text
-IsDoable command loaded number = ⊥
+IsDoable From (module_bytes ∷ script_bytes ∷ []) (Two turns number) = HaveRest module_bytes script_bytes turns number
+IsDoable command loaded numbers = ⊥
 
 -- a command prints these bytes for the bytes of its files
-abbrev pub Prints : Command → (loaded : List (List ℕ)) → (number : Option ℕ) → (printed : List ℕ) → Type 0
-Prints Make (module_bytes ∷ script_bytes ∷ []) (Some turns) printed =
+abbrev pub Prints : Command → (loaded : List (List ℕ)) → (numbers : Numbers) → (printed : List ℕ) → Type 0
+Prints Make (module_bytes ∷ script_bytes ∷ []) (One turns) printed =
     IsPrinted module_bytes script_bytes turns printed
-Prints Instrument (module_bytes ∷ []) None printed = IsHookedOf module_bytes printed
-Prints Record (hooked_bytes ∷ script_bytes ∷ []) (Some turns) printed =
+Prints Instrument (module_bytes ∷ []) Empty printed = IsHookedOf module_bytes printed
+Prints Record (hooked_bytes ∷ script_bytes ∷ []) (One turns) printed =
     IsLogFile hooked_bytes script_bytes turns printed
-Prints Reduce (log ∷ []) None printed = IsReduced log printed
-Prints Build (module_bytes ∷ script_bytes ∷ tape_bytes ∷ []) None printed =
+Prints Reduce (log ∷ []) Empty printed = IsReduced log printed
+Prints Build (module_bytes ∷ script_bytes ∷ tape_bytes ∷ []) Empty printed =
     built.IsPrinted module_bytes script_bytes tape_bytes printed
-Prints History (module_bytes ∷ script_bytes ∷ []) (Some turns) printed =
+Prints History (module_bytes ∷ script_bytes ∷ []) (One turns) printed =
     IsHistory module_bytes script_bytes turns printed
-Prints Replay (binary ∷ []) (Some turns) printed = IsReplayText binary turns printed
-Prints Show (trace ∷ []) None printed = IsShown trace printed
-Prints Load [] (Some number) printed = IsSummary number printed
-Prints Foreign (module_bytes ∷ decl_bytes ∷ script_bytes ∷ []) (Some turns) printed =
+Prints Replay (binary ∷ []) (One turns) printed = IsReplayText binary turns printed
+Prints Show (trace ∷ []) Empty printed = IsShown trace printed
+Prints Load [] (One number) printed = IsSummary number printed
+Prints Foreign (module_bytes ∷ decl_bytes ∷ script_bytes ∷ []) (One turns) printed =
     IsForeignPrinted module_bytes decl_bytes script_bytes turns printed
-Prints ForeignHistory (module_bytes ∷ decl_bytes ∷ script_bytes ∷ []) (Some turns) printed =
+Prints ForeignHistory (module_bytes ∷ decl_bytes ∷ script_bytes ∷ []) (One turns) printed =
     IsForeignHistory module_bytes decl_bytes script_bytes turns printed
-Prints Pair (left_bytes ∷ right_bytes ∷ script_bytes ∷ []) (Some turns) printed =
+Prints Pair (left_bytes ∷ right_bytes ∷ script_bytes ∷ []) (One turns) printed =
     IsPairPrinted left_bytes right_bytes script_bytes turns printed
-Prints PairHistory (left_bytes ∷ right_bytes ∷ script_bytes ∷ []) (Some turns) printed =
+Prints PairHistory (left_bytes ∷ right_bytes ∷ script_bytes ∷ []) (One turns) printed =
     IsPairHistory left_bytes right_bytes script_bytes turns printed
-Prints command loaded number printed = ⊥
+Prints From (module_bytes ∷ script_bytes ∷ []) (Two turns number) printed =
+    IsRestPrinted module_bytes script_bytes turns number printed
+Prints command loaded numbers printed = ⊥
 
 -- ---- calls
 
 -- what a call's words say, and the bytes of its files
 pub record IsCall (words : List (List ℕ)) (contents : Option FileMap) (command : Command) (loaded : List (List ℕ))
-    (number : Option ℕ) : Type 0 where
+    (numbers : Numbers) : Type 0 where
   pub names : List (List ℕ)
-  pub says : Says words command names number
+  pub says : Says words command names numbers
   pub bytes : AreBytesOf contents names loaded
 
 -- the command of the words refuses the bytes of its files
 pub record IsRefused (words : List (List ℕ)) (contents : Option FileMap) (fault : Fault) : Type 0 where
   pub command : Command
   pub loaded : List (List ℕ)
-  pub number : Option ℕ
-  pub call : IsCall words contents command loaded number
-  pub refusal : IsRefusal command loaded number fault
+  pub numbers : Numbers
+  pub call : IsCall words contents command loaded numbers
+  pub refusal : IsRefusal command loaded numbers fault
 
 -- the command of the words prints these bytes for the bytes of its files
 pub record IsPrintedFor (words : List (List ℕ)) (contents : Option FileMap) (printed : List ℕ) : Type 0 where
   pub command : Command
   pub loaded : List (List ℕ)
-  pub number : Option ℕ
-  pub call : IsCall words contents command loaded number
-  pub prints : Prints command loaded number printed
+  pub numbers : Numbers
+  pub call : IsCall words contents command loaded numbers
+  pub prints : Prints command loaded numbers printed
 
 -- why a call with these words ends with this fault
 pub data IsCause (words : List (List ℕ)) (reading : Reading) (writes_before writes_now : ℕ) (fault : Fault)
@@ -189,10 +198,10 @@ pub data IsCause (words : List (List ℕ)) (reading : Reading) (writes_before wr
       → IsCause words reading writes_before writes_now fault
 
 -- why a command over files prints nothing
-pub data IsPrintCause (reading : Reading) (command : Command) (names : List (List ℕ)) (number : Option ℕ)
+pub data IsPrintCause (reading : Reading) (command : Command) (names : List (List ℕ)) (numbers : Numbers)
     (fault : Fault) : Type 0 where
   UnloadedFile : (cause : IsLoadCause reading (zip names (form command).limits) fault)
-      → IsPrintCause reading command names number fault
+      → IsPrintCause reading command names numbers fault
   RefusedBytes : (loaded : List (List ℕ)) (bytes : AreBytesOf reading.contents names loaded)
-      (refusal : IsRefusal command loaded number fault) → IsPrintCause reading command names number fault
-  NoMemoryLeft : (is_memory : fault ≡ Memory) → IsPrintCause reading command names number fault
+      (refusal : IsRefusal command loaded numbers fault) → IsPrintCause reading command names numbers fault
+  NoMemoryLeft : (is_memory : fault ≡ Memory) → IsPrintCause reading command names numbers fault

@@ -9,13 +9,16 @@ ghost use Rattle.r3_outside.specs.Growth.{Grew, GrewByPrefix};
 ghost use Rattle.r3_faults.specs.Lines.{status_of, line_of, IsReported};
 ghost use Rattle.r3_faults.specs.declared.faults.Fault.{Fault};
 ghost use Rattle.r3_faults.specs.declared.faults.Fault.TheVariants.{Memory, Write as WriteFault};
-ghost use Rattle.r3_core.specs.Words.{form, texts, files_of, IsAfterFiles, IsListed, Says};
+ghost use Rattle.r3_core.specs.declared.words.Command.{Command};
+ghost use Rattle.r3_core.specs.declared.words.Numbers.{Numbers};
+ghost use Rattle.r3_core.specs.Words.{form, texts, files_of, IsListed, Says};
 ghost use Rattle.r3_core.specs.Causes.{reading_of, first_longer, AreBytesOf, Prints, IsRefusal, IsDoable, IsPrintedFor, IsPrintCause, IsCause, AreWithin, all_bytes};
 
 use command_files::load_files;
+use output::output_of_command;
 use r3_outside::{Files, Sink, put_all};
 use std::alloc::Global;
-use words::{Call, Command, call_of};
+use words::{Call, call_of};
 
 mod command_files;
 mod declared_modules;
@@ -23,6 +26,7 @@ mod file_modules;
 mod foreign_command;
 mod foreign_histories;
 mod foreign_inputs;
+mod output;
 mod pair_command;
 mod pair_histories;
 mod pair_inputs;
@@ -35,6 +39,7 @@ pub use foreign_histories::foreign_history;
 pub use pair_command::pair;
 pub use pair_histories::pair_history;
 pub use r3_faults::Fault;
+pub use r3_from::from_call;
 pub use r3_history::history;
 pub use r3_instrument::instrument_bytes;
 pub use r3_make::{build, load_summary, log_run, make};
@@ -73,17 +78,17 @@ pub fn r3<F: Files, O: Sink, E: Sink>(
         → Contains (3 ∷ 4 ∷ 14 ∷ []) result) }
 
     // The bytes of the files are refused, by the first cause that applies.
-    ensures refused { (command : Command) (names : List (List ℕ)) (number : Option ℕ) (fault : Fault)
-        → Says (texts words.now) command names number
+    ensures refused { (command : Command) (names : List (List ℕ)) (numbers : Numbers) (fault : Fault)
+        → Says (texts words.now) command names numbers
         → ForSome (F.contents files.old) (λ known. first_longer known (files_of (texts words.now)) ≡ None
-        → IsRefusal command (map (file_bytes known) names) number fault
+        → IsRefusal command (map (file_bytes known) names) numbers fault
         → Contains (status_of fault ∷ 3 ∷ 14 ∷ []) result) }
 
     // The job can be done for the bytes of the files.
-    ensures done { (command : Command) (names : List (List ℕ)) (number : Option ℕ)
-        → Says (texts words.now) command names number
+    ensures done { (command : Command) (names : List (List ℕ)) (numbers : Numbers)
+        → Says (texts words.now) command names numbers
         → ForSome (F.contents files.old) (λ known. first_longer known (files_of (texts words.now)) ≡ None
-        → IsDoable command (map (file_bytes known) names) number
+        → IsDoable command (map (file_bytes known) names) numbers
         → Contains (0 ∷ 3 ∷ 13 ∷ 14 ∷ []) result) }
 
     // What is printed.
@@ -129,15 +134,15 @@ fn run<F: Files, O: Sink>(
     ensures longer { IsListed (texts words.now) → ForSome (F.contents files.old)
         (λ known. IsSome (first_longer known (files_of (texts words.now)))
         → IsErrAnd result (λ fault. Contains (3 ∷ 4 ∷ 14 ∷ []) (status_of fault))) }
-    ensures refused { (command : Command) (names : List (List ℕ)) (number : Option ℕ) (fault : Fault)
-        → Says (texts words.now) command names number
+    ensures refused { (command : Command) (names : List (List ℕ)) (numbers : Numbers) (fault : Fault)
+        → Says (texts words.now) command names numbers
         → ForSome (F.contents files.old) (λ known. first_longer known (files_of (texts words.now)) ≡ None
-        → IsRefusal command (map (file_bytes known) names) number fault
+        → IsRefusal command (map (file_bytes known) names) numbers fault
         → IsErrAnd result (λ other. Contains (status_of fault ∷ 3 ∷ 14 ∷ []) (status_of other))) }
-    ensures done { (command : Command) (names : List (List ℕ)) (number : Option ℕ)
-        → Says (texts words.now) command names number
+    ensures done { (command : Command) (names : List (List ℕ)) (numbers : Numbers)
+        → Says (texts words.now) command names numbers
         → ForSome (F.contents files.old) (λ known. first_longer known (files_of (texts words.now)) ≡ None
-        → IsDoable command (map (file_bytes known) names) number
+        → IsDoable command (map (file_bytes known) names) numbers
         → IfErr result (λ other. Contains (3 ∷ 13 ∷ 14 ∷ []) (status_of other))) }
     ensures printed { OnOk result ((bytes : List ℕ)
         × IsPrintedFor (texts words.now) (F.contents files.old) bytes
@@ -159,7 +164,7 @@ fn run<F: Files, O: Sink>(
 
 /// The bytes that a command prints.
 fn output_of_call<F: Files>(alloc: Global, call: &Call<'_>, files: &mut F) -> Result<Vec<u8>, Fault>
-    requires { (words : List (List ℕ)) × Says words call.now.command (texts call.now.names.now) call.now.number }
+    requires { (words : List (List ℕ)) × Says words call.now.command (texts call.now.names.now) call.now.numbers }
 
     ensures contents_unchanged { F.contents files.new ≡ F.contents files.old }
     ensures unread { texts call.now.names.now ≡ [] → files.new ≡ files.old }
@@ -168,74 +173,20 @@ fn output_of_call<F: Files>(alloc: Global, call: &Call<'_>, files: &mut F) -> Re
         → IsErrAnd result (λ fault. Contains (3 ∷ 4 ∷ 14 ∷ []) (status_of fault))) }
     ensures refused { (fault : Fault) → ForSome (F.contents files.old)
         (λ known. first_longer known (zip (texts call.now.names.now) (form call.now.command).limits) ≡ None
-        → IsRefusal call.now.command (map (file_bytes known) (texts call.now.names.now)) call.now.number fault
+        → IsRefusal call.now.command (map (file_bytes known) (texts call.now.names.now)) call.now.numbers fault
         → IsErrAnd result (λ other. Contains (status_of fault ∷ 3 ∷ 14 ∷ []) (status_of other))) }
     ensures done { ForSome (F.contents files.old)
         (λ known. first_longer known (zip (texts call.now.names.now) (form call.now.command).limits) ≡ None
-        → IsDoable call.now.command (map (file_bytes known) (texts call.now.names.now)) call.now.number
+        → IsDoable call.now.command (map (file_bytes known) (texts call.now.names.now)) call.now.numbers
         → IfErr result (λ other. Contains (3 ∷ 13 ∷ 14 ∷ []) (status_of other))) }
     ensures printed { IfOk result (λ bytes. (loaded : List (List ℕ))
         × AreBytesOf (F.contents files.old) (texts call.now.names.now) loaded
-        × Prints call.now.command loaded call.now.number bytes.items) }
+        × Prints call.now.command loaded call.now.numbers bytes.items) }
     ensures cause { IfErr result (λ fault. IsPrintCause
         (reading_of (F.contents files.old)
         (F.faults files.old) (F.faults files.new) (F.taken files.old) (F.taken files.new))
-        call.now.command (texts call.now.names.now) call.now.number fault) }
+        call.now.command (texts call.now.names.now) call.now.numbers fault) }
 {
     let loaded = load_files(alloc, files, call.names, call.command.limits())?;
-    output_of_command(alloc, call.command, &loaded, call.number)
-}
-
-/// The bytes that a command prints for the bytes of its files.
-fn output_of_command(
-    alloc: Global,
-    command: Command,
-    loaded: &[Vec<u8>],
-    number: Option<u64>,
-) -> Result<Vec<u8>, Fault>
-    requires files { length loaded.now ≡ length (form command).limits }
-    requires within { AreWithin (all_bytes loaded.now) (form command).limits }
-    requires after { (after : List (List ℕ)) × IsAfterFiles (form command).most after number }
-
-    ensures printed { IfOk result (λ bytes. Prints command (all_bytes loaded.now) number bytes.items) }
-    ensures cause { IfErr result (λ fault.
-        (fault ≡ Memory) ⊎ IsRefusal command (all_bytes loaded.now) number fault) }
-    ensures refused { (fault : Fault) → IsRefusal command (all_bytes loaded.now) number fault
-        → (result ≡ Err fault) ⊎ (result ≡ Err Memory) }
-    ensures done { IsDoable command (all_bytes loaded.now) number → IfErr result (λ fault. fault ≡ Memory) }
-{
-    match (command, loaded, number) {
-        (Command::Make, [module, script], Some(turns)) => make(alloc, module, script, turns),
-        (Command::Instrument, [original], None) => instrument_bytes(alloc, original),
-        (Command::Record, [instrumented, played], Some(turns)) => log_run(
-            alloc,
-            instrumented,
-            played,
-            turns,
-        ),
-        (Command::Reduce, [log], None) => reduce_log(alloc, log),
-        (Command::Build, [kept, supplied, tape], None) => build(alloc, kept, supplied, tape),
-        (Command::History, [known, known_script], Some(turns)) => history(
-            alloc,
-            known,
-            known_script,
-            turns,
-        ),
-        (Command::Replay, [binary], Some(turns)) => replay_text(alloc, binary, turns),
-        (Command::Show, [trace], None) => show(alloc, trace),
-        (Command::Load, [], Some(number)) => load_summary(alloc, number as u32),
-        (Command::Foreign, [hosted, decls, answers], Some(turns)) => foreign(
-            alloc, hosted, decls, answers, turns,
-        ),
-        (Command::ForeignHistory, [shown, shown_decls, shown_answers], Some(turns)) => {
-            foreign_history(alloc, shown, shown_decls, shown_answers, turns)
-        }
-        (Command::Pair, [left, right, linked_script], Some(turns)) => {
-            pair(alloc, left, right, linked_script, turns)
-        }
-        (Command::PairHistory, [shown_left, shown_right, shown_script], Some(turns)) => {
-            pair_history(alloc, shown_left, shown_right, shown_script, turns)
-        }
-        _ => unreachable!(),
-    }
+    output_of_command(alloc, call.command, &loaded, call.numbers)
 }

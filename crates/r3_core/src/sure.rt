@@ -5,6 +5,7 @@ ghost use Rattle.r3_outside.specs.Contents.{file_bytes};
 ghost use Rattle.r3_outside.specs.Growth.{Grew};
 ghost use Rattle.r3_faults.specs.declared.faults.Fault.{Fault};
 ghost use Rattle.r3_faults.specs.Lines.{status_of};
+ghost use Rattle.r3_core.specs.declared.words.Numbers.{Numbers};
 ghost use Rattle.r3_core.specs.Words.{texts, files_of, IsListed, Says};
 ghost use Rattle.r3_core.specs.declared.words.Command.{Command};
 ghost use Rattle.r3_core.specs.Causes.{first_longer, IsDoable, IsPrintedFor, IsRefusal};
@@ -28,15 +29,15 @@ pub fn r3_in_memory(
     ensures longer { IsListed (texts words.now)
         → IsSome (first_longer files.old.files (files_of (texts words.now)))
         → (result ≡ 4) ⊎ (result ≡ 14) }
-    ensures refused { (command : Command) (names : List (List ℕ)) (number : Option ℕ) (fault : Fault)
-        → Says (texts words.now) command names number
+    ensures refused { (command : Command) (names : List (List ℕ)) (numbers : Numbers) (fault : Fault)
+        → Says (texts words.now) command names numbers
         → first_longer files.old.files (files_of (texts words.now)) ≡ None
-        → IsRefusal command (map (file_bytes files.old.files) names) number fault
+        → IsRefusal command (map (file_bytes files.old.files) names) numbers fault
         → (result ≡ status_of fault) ⊎ (result ≡ 14) }
-    ensures done { (command : Command) (names : List (List ℕ)) (number : Option ℕ)
-        → Says (texts words.now) command names number
+    ensures done { (command : Command) (names : List (List ℕ)) (numbers : Numbers)
+        → Says (texts words.now) command names numbers
         → first_longer files.old.files (files_of (texts words.now)) ≡ None
-        → IsDoable command (map (file_bytes files.old.files) names) number
+        → IsDoable command (map (file_bytes files.old.files) names) numbers
         → (result ≡ 0) ⊎ (result ≡ 14) }
     ensures printed { result ≡ 0 → (bytes : List ℕ)
         × IsPrintedFor (texts words.now) (Some files.old.files) bytes

@@ -1,7 +1,7 @@
 pub mod OneAnswer
-mod Originals
-mod Recordings
-mod LogTapes
+pub mod Originals
+pub mod Recordings
+pub mod LogTapes
 mod ShownRun
 mod OneSummary
 mod OneTape

@@ -4,6 +4,7 @@ ghost use Rattle.std.specs.Prelude.{◌≡◌, ◌<◌, ◌≤◌, ◌^◌, Ok, 
 ghost use Rattle.sha2.specs.Sha256.{sha256};
 ghost use Rattle.wasm_syntax.specs.declared.limits.TheConstants.{MAX_TAPE_WEIGHT, MAX_ORIGINAL_BYTES};
 ghost use Rattle.wasm_syntax.specs.declared.forms.Form.TheVariants.{Core};
+ghost use Rattle.wasm_syntax.specs.Encoding.Forms.{IsCoreModule};
 ghost use Rattle.wasm_syntax.specs.Encoding.Modules.{Encodes};
 ghost use Rattle.history_spec.specs.Instantiation.{instantiate};
 ghost use Rattle.history_spec.specs.Store.{Store};
@@ -11,6 +12,7 @@ ghost use Rattle.trace_model.specs.Fitting.{IsFitting};
 ghost use Rattle.trace_model.specs.Weight.{tape_weight};
 ghost use Rattle.type_safety.specs.Supplies.{HasBytes, IsRunnable, IsSupply};
 ghost use Rattle.replay_module_laws.specs.Written.{IsConstantTape};
+ghost use Rattle.replay_encoding_laws.specs.Premises.{CanBeReplayed};
 ghost use Rattle.accepted_runs.specs.Runnable.{CanRun};
 ghost use Rattle.r3_faults.specs.Answers.{IsCaused, IsExact};
 ghost use Rattle.r3_faults.specs.declared.faults.Fault.TheVariants.{Memory};
@@ -106,12 +108,34 @@ pub fn replay_bytes(
         → IsReplayOf checked supply.now store tape printed.items) }
 {
     encoding_forms();
+    shortest_encoding();
     plans_fit_indices();
     replay_modules_are_encodable();
     replay_modules_are_short();
-    replay_modules_of_tapes_stand();
-    shortest_encoding();
     know_maximum(supply.table);
+    encoded_replay(alloc, checked, supply, tape)
+}
+
+/// The encoding of the replay module of a tape, for a module that can be replayed with it and a supply for its imports.
+///
+/// # Errors
+///
+/// `Memory` if memory is out.
+pub fn encoded_replay(
+    alloc: Global,
+    checked: Checked,
+    supply: &Supply,
+    tape: Tape,
+) -> Result<Vec<u8>, Fault>
+    requires runnable { IsRunnable checked }
+    requires core { IsCoreModule checked }
+    requires can { CanBeReplayed checked supply.now tape }
+    ensures cause { IfErr result (λ fault. fault ≡ Memory) }
+    ensures printed { IfOk result (λ printed. (store : Store) → instantiate checked supply.now ≡ Ok store
+        → IsReplayOf checked supply.now store tape printed.items) }
+{
+    replay_modules_are_short();
+    replay_modules_of_tapes_stand();
     let replay = build_binary(alloc, checked, supply, tape)?;
     match encode(alloc, replay.module(), u32::MAX) {
         Ok(printed) => Ok(printed),
@@ -121,7 +145,7 @@ pub fn replay_bytes(
 }
 
 /// A maximum of a table has 32 bits.
-fn know_maximum(limits: Option<Limits>)
+pub fn know_maximum(limits: Option<Limits>)
     ensures { IfSome limits (λ table. IfSome table.max (λ max. max < 2 ^ 32)) }
 {
     if let Some(limits) = limits {

@@ -16,10 +16,11 @@ mod summaries;
 mod tapes;
 
 pub use build_command::build;
-pub use built_replays::replay_bytes;
+pub use built_replays::{encoded_replay, know_maximum, replay_bytes};
 pub use log_files::log_run;
 pub use make_command::make;
 pub use r3_faults::Fault;
+pub use recorded_runs::{HookedInputs, hooked_inputs, hooked_play};
 pub use replay_binary::replay_of;
 pub use summaries::load_summary;
-pub use tapes::needed_tape;
+pub use tapes::{needed_tape, tape_of};

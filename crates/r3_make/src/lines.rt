@@ -5,6 +5,7 @@ ghost use Rattle.wasm_syntax.specs.declared.limits.TheConstants.{MAX_TAPE_WEIGHT
 ghost use Rattle.wasm_syntax.specs.ListsWithin.{HasListsWithin};
 ghost use Rattle.type_safety.specs.Supplies.{HasBytes};
 ghost use Rattle.trace_model.specs.Weight.{tape_weight};
+ghost use Rattle.accepted_runs.specs.Linked.{IsLinked};
 ghost use Rattle.accepted_runs.specs.Runnable.{CanRun, StartsWith};
 ghost use Rattle.accepted_runs.specs.Runs.{HasNoOutcome};
 ghost use Rattle.r3_inputs.specs.Inputs.{IsModuleOf};
@@ -19,7 +20,7 @@ use crate::needed_tape;
 use accepted_runs::{printed_run, supply_and_store};
 use base::NoMemory;
 use history_spec::runs_have_one_result_at_most;
-use host_script::Script;
+use host_script::{Script, Supply};
 use itoa::Buffer;
 use r3_faults::Fault;
 use std::alloc::Global;
@@ -73,10 +74,33 @@ fn printed_lines(
     ensures cause { IfErr result (λ fault. (fault ≡ Memory) ⊎ IsUnmade checked.now script turns fault) }
     ensures printed { IfOk result (λ printed. IsSummaryOf checked.now script turns printed.items) }
 {
-    runs_have_one_result_at_most();
     let (supply, store) = supply_and_store(alloc, checked, &script)?;
+    lines_from(alloc, bytes, checked, &supply, script, store, turns)
+}
+
+/// The lines on a run that starts with this store, or a fault with its cause.
+fn lines_from(
+    alloc: Global,
+    bytes: &[u8],
+    checked: &Checked,
+    supply: &Supply,
+    script: Script,
+    store: Store,
+    turns: u64,
+) -> Result<Vec<u8>, Fault>
+    requires is_module { IsModuleOf bytes.now checked.now }
+    requires small { length bytes.now ≤ MAX_ORIGINAL_BYTES }
+    requires within { HasListsWithin (length bytes.now) checked.now }
+    requires runnable { CanRun checked.now script }
+    requires bytes { HasBytes checked.now }
+    requires linked { IsLinked checked.now script supply.now store }
+    requires start { StartsWith checked.now script store }
+    ensures cause { IfErr result (λ fault. (fault ≡ Memory) ⊎ IsUnmade checked.now script turns fault) }
+    ensures printed { IfOk result (λ printed. IsSummaryOf checked.now script turns printed.items) }
+{
+    runs_have_one_result_at_most();
     let counts = counts_of_run(alloc, checked, &script, store, turns)?;
-    let tape = needed_tape(alloc, bytes, checked, &supply, script, turns)?;
+    let tape = needed_tape(alloc, bytes, checked, supply, script, turns)?;
     Ok(summary_text(alloc, counts, &tape)?)
 }
 

@@ -1,17 +1,17 @@
 // The record of a run: the instrumented module is run, and its hook calls are passed to a reducer.
 
-ghost use Rattle.std.specs.Prelude.{◌≡◌, ◌≤◌, ◌⊎◌, IfErr, IfOk, length};
+ghost use Rattle.std.specs.Prelude.{◌≡◌, ◌<◌, ◌≤◌, ◌⊎◌, IfErr, IfOk, length};
 ghost use Rattle.sha2.specs.Sha256.{sha256};
 ghost use Rattle.wasm_syntax.specs.declared.limits.TheConstants.{MAX_ORIGINAL_BYTES};
 ghost use Rattle.wasm_syntax.specs.ListsWithin.{HasListsWithin};
 ghost use Rattle.host_script.specs.Fits.{Fits};
 ghost use Rattle.wasm_flat.specs.Bounds.{IsBound};
 ghost use Rattle.wasm_flat.specs.FlatCode.{flat_of};
-ghost use Rattle.wasm_flat.specs.Sizes.{IsShort};
+ghost use Rattle.wasm_flat.specs.Sizes.{IsShort, list_limit};
 ghost use Rattle.history_spec.specs.Store.{Store};
 ghost use Rattle.tape_laws.specs.CallLaws.{OriginalRun};
 ghost use Rattle.record_replay_spec.specs.Hooks.{renumbered_view};
-ghost use Rattle.wasm_syntax.specs.Index.{imported_funcs};
+ghost use Rattle.wasm_syntax.specs.Index.{func_indices, imported_funcs};
 ghost use Rattle.trace_reduce.specs.Reducer.{HasTaken};
 ghost use Rattle.run_recorder.specs.Records.{IsRecordedInto};
 ghost use Rattle.replay_theorem.specs.RecordedOriginalLaws.{record_of};
@@ -21,7 +21,7 @@ ghost use Rattle.r3_make.specs.Records.{AreHooked, IsRecordable};
 
 use base::NoMemory;
 use history_spec::Outcome;
-use hook_insert::{instrument, instrumented_meters_fit};
+use hook_insert::{InstrumentedModule, instrument, instrumented_meters_fit};
 use hooked_scripts::script_with_hooks;
 use host_link::{LinkFault, link};
 use host_play::{Play, PlayFault, RunSettings};
@@ -40,6 +40,7 @@ use type_safety::typed_store;
 use wasm_flat::Meter;
 use wasm_flatten::flatten;
 use wasm_store::Store;
+use wasm_syntax::Module;
 use wasm_syntax::limits::MAX_TAPE_WEIGHT;
 use wasm_validate::Checked;
 
@@ -47,14 +48,14 @@ use wasm_validate::Checked;
 /// and the number of functions that the original imports.
 #[derive(Drop)]
 pub struct HookedInputs {
-    pub(crate) hooked: Checked,
-    pub(crate) meter: Meter,
-    pub(crate) script: Script,
-    pub(crate) imports: u32,
+    pub hooked: Checked,
+    pub meter: Meter,
+    pub script: Script,
+    pub imports: u32,
 }
 
 /// The instrumented module of a module that `bytes` encode, and what its run needs besides.
-pub(crate) fn hooked_inputs(
+pub fn hooked_inputs(
     alloc: Global,
     bytes: &[u8],
     checked: &Checked,
@@ -72,13 +73,34 @@ pub(crate) fn hooked_inputs(
     let digest = Sha256::digest(bytes);
     let hooked = instrument(alloc, checked, &digest)?;
     let script = script_with_hooks(alloc, checked.module(), script)?;
-    let imports = Scope::of(alloc, checked.module())?.imported_funcs() as u32;
-    Ok(HookedInputs {
-        hooked: hooked.module,
-        meter: hooked.meter,
+    let imports = count_of_imports(alloc, checked.module())?;
+    Ok(with_script(hooked, script, imports))
+}
+
+/// The number of functions that a module imports.
+fn count_of_imports(alloc: Global, module: &Module) -> Result<u32, NoMemory>
+    requires { length (func_indices «module».now) < list_limit }
+    ensures { IfOk result (λ count. count ≡ imported_funcs «module».now) }
+{
+    let scope = Scope::of(alloc, module)?;
+    Ok(scope.imported_funcs() as u32)
+}
+
+/// An instrumented module with the script for it and the number of functions that the original imports.
+fn with_script(instrumented: InstrumentedModule, script: Script, imports: u32) -> HookedInputs
+    ensures { result ≡ record {
+      hooked = instrumented.«module»;
+      meter = instrumented.meter;
+      script = script;
+      imports = imports;
+    } }
+{
+    HookedInputs {
+        hooked: instrumented.module,
+        meter: instrumented.meter,
         script,
         imports,
-    })
+    }
 }
 
 /// The store that the run of the instrumented module starts with, which links as the original does.
@@ -101,6 +123,30 @@ fn hooked_store(alloc: Global, inputs: &HookedInputs, _supply: &Supply) -> Resul
     }
 }
 
+/// The instantiation of the instrumented module, which links as the original does.
+pub fn hooked_play<'a>(
+    alloc: Global,
+    inputs: &'a HookedInputs,
+    supply: &Supply,
+) -> Result<Play<'a>, NoMemory>
+    requires { (run : OriginalRun) × IsRecordable run inputs.now supply.now }
+    ensures code { IfOk result (λ play. play.code.now ≡ inputs.now.hooked) }
+    ensures script { IfOk result (λ play. play.script.now ≡ inputs.now.script) }
+    ensures flat { IfOk result (λ play. (play.flat ≡ flat_of inputs.now.hooked) × IsBound play.flat) }
+    ensures store { IfOk result (λ play. (run : OriginalRun) → IsRecordable run inputs.now supply.now
+        → play.store ≡ renumbered_view (imported_funcs run.m) run.store) }
+{
+    instrumented_are_short();
+    let store = hooked_store(alloc, inputs, supply)?;
+    let flat = flatten(alloc, &inputs.hooked)?;
+    Ok(Play {
+        code: inputs.hooked.module(),
+        flat,
+        script: &inputs.script,
+        store,
+    })
+}
+
 /// Records the run within a number of turns, into a reducer.
 pub(crate) fn recorded_run(
     alloc: Global,
@@ -112,15 +158,7 @@ pub(crate) fn recorded_run(
     ensures { (run : OriginalRun) → IsRecordable run inputs.now supply.now
         → IsRecordedInto HasTaken (record_of run turns) result }
 {
-    instrumented_are_short();
-    let store = hooked_store(alloc, inputs, supply)?;
-    let flat = flatten(alloc, &inputs.hooked)?;
-    let play = Play {
-        code: inputs.hooked.module(),
-        flat,
-        script: &inputs.script,
-        store,
-    };
+    let play = hooked_play(alloc, inputs, supply)?;
     record_play(alloc, inputs, supply, play, turns)
 }
 

@@ -8,6 +8,8 @@ ghost use Rattle.trace_bytes.specs.declared.tags.TheConstants.{VERSION_2};
 ghost use Rattle.trace_bytes.specs.Spelling.{log_bytes};
 ghost use Rattle.trace_bytes.specs.Spelled.{FitEvents};
 ghost use Rattle.hook_insert.specs.Forms.{form_of};
+ghost use Rattle.wasm_flat.specs.Bounds.{IsBound};
+ghost use Rattle.wasm_flat.specs.FlatCode.{flat_of};
 ghost use Rattle.host_play.specs.HookedResults.{HasHooksAfter};
 ghost use Rattle.run_recorder.specs.Records.{IsLog};
 ghost use Rattle.r3_faults.specs.declared.faults.Fault.TheVariants.{Memory};
@@ -88,27 +90,40 @@ fn recorded_log(
         IsLog (run_of run.entry.checked.now (form_of run.entry.form) run.entry.script.now store run.entry.turns)
         log.outcome log) }
 {
-    let HookedRun {
-        checked,
-        form,
-        script,
-        turns,
-    } = run;
-    let meter = Meter::all_one();
     let play = Play {
-        code: checked.module(),
-        flat: flatten(alloc, checked)?,
-        script,
+        code: run.checked.module(),
+        flat: flatten(alloc, run.checked)?,
+        script: run.script,
         store,
     };
+    log_of_play(alloc, run, supply, play)
+}
+
+/// The log of the run from the instantiation on.
+fn log_of_play(alloc: Global, run: HookedRun<'_>, supply: &Supply, play: Play) -> Result<Log, Fault>
+    requires hooked { HasHooksAfter run.checked.now run.form.imports }
+    requires run { CanBeRecorded run.checked.now (form_of run.form) play.script.now }
+    requires typed { IsStore run.checked.now play.store }
+    requires opens { instantiate run.checked.now supply.now ≡ Ok play.store }
+    requires code { play.code.now ≡ run.checked.now }
+    requires flat { play.flat ≡ flat_of run.checked.now }
+    requires bound { IsBound play.flat }
+    ensures cause { IfErr result (λ fault. (fault ≡ Memory)
+        ⊎ IsRefusal (run_of run.entry.checked.now (form_of run.entry.form) play.entry.script.now play.entry.store
+        run.entry.turns) run.entry.turns fault) }
+    ensures logged { IfOk result (λ log.
+        IsLog (run_of run.entry.checked.now (form_of run.entry.form) play.entry.script.now play.entry.store
+        run.entry.turns) log.outcome log) }
+{
+    let meter = Meter::all_one();
     let settings = RunSettings {
-        imports: form.imports,
+        imports: run.form.imports,
         meter: &meter,
-        turns,
+        turns: run.turns,
     };
-    match record_log(alloc, checked, supply, play, &settings) {
+    match record_log(alloc, run.checked, supply, play, &settings) {
         Ok(log) => Ok(log),
-        Err(fault) => Err(record_fault(fault, turns)),
+        Err(fault) => Err(record_fault(fault, run.turns)),
     }
 }
 

@@ -7,17 +7,18 @@ ghost use Rattle.trace_model.specs.declared.events.Event.{Event};
 ghost use Rattle.trace_model.specs.Weight.{tape_weight};
 ghost use Rattle.history_spec.specs.Store.{Store};
 ghost use Rattle.type_safety.specs.Supplies.{HasBytes};
-ghost use Rattle.trace_model.specs.Balance.{IsBalanced};
+ghost use Rattle.tape_laws.specs.CallLaws.{OriginalRun};
 ghost use Rattle.trace_reduce.specs.Reducer.{HasTaken};
 ghost use Rattle.accepted_runs.specs.Runnable.{CanRun};
 ghost use Rattle.r3_inputs.specs.Inputs.{IsModuleOf};
 ghost use Rattle.accepted_runs.specs.Linked.{IsLinked};
 ghost use Rattle.r3_faults.specs.declared.faults.Fault.TheVariants.{Memory};
-ghost use Rattle.r3_make.specs.Answers.{IsLightTape};
+ghost use Rattle.r3_make.specs.Answers.{HasTakenBalanced, IsLightTape};
+ghost use Rattle.r3_make.specs.Records.{IsRecordable};
 ghost use Rattle.r3_make.specs.Refusals.{IsUnmade};
 ghost use Rattle.r3_make.specs.Tapes.{NeedsTape};
 
-use crate::recorded_runs::{hooked_inputs, recorded_run};
+use crate::recorded_runs::{HookedInputs, hooked_inputs, recorded_run};
 use history_spec::Outcome;
 use host_play::PlayFault;
 use host_script::{Script, Supply};
@@ -57,11 +58,31 @@ pub fn needed_tape(
     ensures light { IfOk result (λ tape. tape_weight tape ≤ MAX_TAPE_WEIGHT) }
     ensures cause { IfErr result (λ fault. (fault ≡ Memory) ⊎ IsUnmade checked.now script turns fault) }
 {
-    records_report_originals();
     encoded_have_words();
-    logs_are_balanced();
     let inputs = hooked_inputs(alloc, bytes, checked, script)?;
-    match recorded_run(alloc, &inputs, supply, turns) {
+    tape_of_record(alloc, &inputs, supply, turns)
+}
+
+/// The tape that a recorded run needs, if the run has an outcome within the turns.
+fn tape_of_record(
+    alloc: Global,
+    inputs: &HookedInputs,
+    supply: &Supply,
+    turns: u64,
+) -> Result<Tape, Fault>
+    requires { (run : OriginalRun) × IsRecordable run inputs.now supply.now
+        × IsLinked run.m run.script run.supply run.store }
+    ensures needed { (run : OriginalRun) → IsRecordable run inputs.now supply.now
+        → IsLinked run.m run.script run.supply run.store
+        → IfOk result (λ tape. (store : Store) × NeedsTape run.m run.script turns run.supply store tape) }
+    ensures light { IfOk result (λ tape. tape_weight tape ≤ MAX_TAPE_WEIGHT) }
+    ensures cause { (run : OriginalRun) → IsRecordable run inputs.now supply.now
+        → IsLinked run.m run.script run.supply run.store
+        → IfErr result (λ fault. (fault ≡ Memory) ⊎ IsUnmade run.m run.script turns fault) }
+{
+    records_report_originals();
+    logs_are_balanced();
+    match recorded_run(alloc, inputs, supply, turns) {
         Ok((reducer, outcome)) => tape_of(reducer, inputs.imports, outcome),
         Err(PlayFault::Fault { turn, kind }) => Err(Fault::Script { turn, kind }),
         Err(PlayFault::Spent) => Err(Fault::Spent { turns }),
@@ -71,9 +92,8 @@ pub fn needed_tape(
 }
 
 /// The tape of the log whose events a reducer has taken, of a module that imports this number of functions.
-fn tape_of(reducer: Reducer, imports: u32, outcome: Outcome) -> Result<Tape, Fault>
-    requires { (taken : List Event) × HasTaken reducer taken
-        × IsBalanced (record { imports = imports; events = taken; outcome = outcome }) }
+pub fn tape_of(reducer: Reducer, imports: u32, outcome: Outcome) -> Result<Tape, Fault>
+    requires { HasTakenBalanced reducer imports outcome }
     ensures { (taken : List Event) → HasTaken reducer taken
         → IsLightTape (record { imports = imports; events = taken; outcome = outcome }) result }
 {

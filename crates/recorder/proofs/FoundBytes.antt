@@ -186,6 +186,7 @@ taken_both before address first later middle after place at_end one two =
           (slice_index before.bytes at);
       known = two.known ∙ one.known;
       noticed = two.noticed ∙ one.noticed;
+      frozen = two.frozen ∙ one.frozen;
     }
 
 pub taken_same : (before : Shadow) (address done more byte : ℕ) (middle after : Shadow) (part : List ℕ)
@@ -200,7 +201,7 @@ taken_same before address done more byte middle after part is one two =
 
 pub taken_none : (shadow : Shadow) (address byte : ℕ) → HasTaken shadow address (replicate 0 byte) shadow
 taken_none shadow address byte =
-    record { byte = λ at. nothing at (nat_le address at); known = refl; noticed = refl }
+    record { byte = λ at. nothing at (nat_le address at); known = refl; noticed = refl; frozen = refl }
   where
     nothing : (at : ℕ) (b : Bool) → slice_index shadow.bytes at ≡ unwrap_or (cond b None None) (slice_index shadow.bytes at)
     nothing at true = refl

@@ -48,7 +48,7 @@ module _ {S : Type 0} (has_taken : S → List Event → Type 0) where
         )
 
 -- shadows show a state by its parts
-show_by : {memory : Shadow} {tables : Tables} {state : LogState}
+pub show_by : {memory : Shadow} {tables : Tables} {state : LogState}
     → ((at : ℕ) → state.known.byte at ≡ slice_index memory.bytes at)
     → ((at : ℕ) → state.known.entry at ≡ slice_index_or tables.entries at None)
     → ((at : ℕ) → state.known.global at ≡ slice_get tables.globals at) → state.known.pages ≡ memory.known

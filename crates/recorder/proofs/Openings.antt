@@ -60,6 +60,7 @@ module _ (store : Store) (memory : Shadow) (tables : Tables) (knows : memories.I
       (record {
         recording =
             record { order = parts_at_start shape; memory = memory; tables = tables; sink = sink };
+        frozen = None;
         calls = 0;
         broken = false;
       })

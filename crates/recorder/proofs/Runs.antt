@@ -12,9 +12,23 @@ use Rattle.hook_order.specs.Orders.{state_of}
 use Rattle.hook_order.specs.Shapes.{shape_from}
 use Rattle.recorder.specs.Known.{Show}
 use Rattle.recorder.specs.Recordings.{order_after}
-use Rattle.recorder.specs.Recorders.{Recorded, IsAnswer, IsRecorderStep, StandsAt}
-use Rattle.recorder.specs.Laws.{RunsAreRecorded, LogsAreRecorded}
-use Rattle.recorder.proofs.Kit.{took_none, took_both}
+use Rattle.recorder.specs.Recorders.{Recorded, after_freeze, IsAnswer, IsRecorderStep, StandsAt}
+use Rattle.recorder.specs.Laws.{IsNext, StepsAreRecorded, RunsAreRecorded, LogsAreRecorded}
+use Rattle.recorder.proofs.Kit.{show_by, took_none, took_both}
+
+-- a recorder that is frozen stays where it is
+frozen_stands : {S : Type 0} (before : Recorded S) (shape : HookedShape) (order : OrderState) (log : LogState)
+    (number : ℕ) → StandsAt before shape order log number → StandsAt (after_freeze before) shape order log number
+frozen_stands before shape order log number stands =
+    record {
+      whole = stands.whole;
+      counted = stands.counted;
+      shaped = stands.shaped;
+      ordered = stands.ordered;
+      shows =
+          show_by stands.shows.byte stands.shows.entry stands.shows.global stands.shows.pages stands.shows.entries
+          stands.shows.noticed;
+    }
 
 module _ {S : Type 0} (has_taken : S → List Event → Type 0) (shape : HookedShape) where
   -- the order after a call, in terms of the recorder's parts
@@ -25,17 +39,9 @@ module _ {S : Type 0} (has_taken : S → List Event → Type 0) (shape : HookedS
       ap (λ s. ordered_step s order call) (sym stands.shaped)
       ∙ ap (λ o. ordered_step (shape_from before.recording.order.shape) o call) (sym stands.ordered)
 
-  -- if a call is taken, the recorder is at the next state, and its sink took the call's events
-  record IsNext (before : Recorded S) (order : OrderState) (log : LogState) (number : ℕ) (call : HookCall)
-      (after : Recorded S) : Type 0 where
-    next : OrderState
-    ordered : ordered_step shape order call ≡ Some next
-    stands : StandsAt after shape next (log_after_call shape log call) (number + 1)
-    reported : TookAlso has_taken before.recording.sink after.recording.sink (call_events shape log order.pending call)
-
   is_next : (before : Recorded S) (order : OrderState) (log : LogState) (number : ℕ) (call : HookCall)
       (after : Recorded S) → StandsAt before shape order log number → IsAnswer has_taken before call (Ok tt) after
-      → IsNext before order log number call after
+      → IsNext has_taken before shape order log number call after
   is_next before order log number call after stands answer =
       let takes = answer.0 in
       let logged = takes.logged log stands.shows in
@@ -62,6 +68,7 @@ module _ {S : Type 0} (has_taken : S → List Event → Type 0) (shape : HookedS
             (λ pending. TookAlso has_taken before.recording.sink after.recording.sink
             (call_events (shape_from before.recording.order.shape) log pending call))
             (ap (λ o. o.pending) stands.ordered) logged.1);
+        frozen = answer.3;
       }
 
   accepted : (calls : List HookCall) (before : Recorded S) (order : OrderState) (log : LogState) (number : ℕ)
@@ -110,6 +117,30 @@ module _ {S : Type 0} (has_taken : S → List Event → Type 0) (shape : HookedS
       ap (λ o. number_or number o (λ next. first_disorder shape next (number + 1) calls))
       (same_order before order log number call stands ∙ answer.0)
       ∙ ap Some (sym (answer.1 ∙ stands.counted))
+
+pub steps_are_recorded : {S : Type 0} (has_taken : S → List Event → Type 0) → StepsAreRecorded has_taken
+steps_are_recorded has_taken before shape order log number stands =
+    record {
+      accepted = λ call after step.
+          is_next has_taken shape before order log number call after stands (step.0 stands.whole);
+      refused = λ call at after step.
+          let answer = step.0 stands.whole in (
+            same_order has_taken shape before order log number call stands ∙ answer.0,
+            answer.1 ∙ stands.counted,
+            answer.2,
+          );
+      frozen = frozen_stands before shape order log number stands;
+      shows =
+          record {
+            byte = stands.shows.byte;
+            entry = stands.shows.entry;
+            global = stands.shows.global;
+            pages = stands.shows.pages;
+            entries = stands.shows.entries;
+          };
+      imports = ap (λ s. s.imports) stands.shaped;
+      top = ap (λ o. o.frames) stands.ordered;
+    }
 
 pub runs_are_recorded : {S : Type 0} (has_taken : S → List Event → Type 0) → RunsAreRecorded has_taken
 runs_are_recorded has_taken before shape order log number stands =

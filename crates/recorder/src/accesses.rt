@@ -1,6 +1,6 @@
 // Hook calls that report how the memory and globals are read and written.
 
-ghost use Rattle.std.specs.Prelude.{IfOk, IsSome, OnErr};
+ghost use Rattle.std.specs.Prelude.{◌≡◌, IfOk, IsSome, OnErr};
 ghost use Rattle.record_replay_spec.specs.declared.hooks.Hook.TheVariants as hooks;
 ghost use Rattle.recorder.specs.Recordings.{order_after, recording_of, IsTaken};
 
@@ -20,6 +20,7 @@ impl<S: EventSink> Recording<S> {
             (record { kind = hooks.Load; args = args.now; view = view.now }) may (recording_of self.new)) }
         ensures err { OnErr result (IsSome (order_after (recording_of self.old)
             (record { kind = hooks.Load; args = args.now; view = view.now }))) }
+        ensures frozen { self.new.memory.frozen ≡ self.old.memory.frozen }
     {
         let Some(access) = self.order.load_access(args) else {
             return Ok(false);
@@ -35,6 +36,7 @@ impl<S: EventSink> Recording<S> {
             (record { kind = hooks.Store; args = args.now; view = view.now }) may (recording_of self.new)) }
         ensures err { OnErr result (IsSome (order_after (recording_of self.old)
             (record { kind = hooks.Store; args = args.now; view = view.now }))) }
+        ensures frozen { self.new.memory.frozen ≡ self.old.memory.frozen }
     {
         let Some((access, bits)) = self.order.store_access(args) else {
             return Ok(false);
@@ -50,6 +52,7 @@ impl<S: EventSink> Recording<S> {
             (record { kind = hooks.Size; args = args.now; view = view.now }) may (recording_of self.new)) }
         ensures err { OnErr result (IsSome (order_after (recording_of self.old)
             (record { kind = hooks.Size; args = args.now; view = view.now }))) }
+        ensures frozen { self.new.memory.frozen ≡ self.old.memory.frozen }
     {
         if !self.order.sees_size(args) {
             return Ok(false);
@@ -65,6 +68,7 @@ impl<S: EventSink> Recording<S> {
             (record { kind = hooks.Grow; args = args.now; view = view.now }) may (recording_of self.new)) }
         ensures err { OnErr result (IsSome (order_after (recording_of self.old)
             (record { kind = hooks.Grow; args = args.now; view = view.now }))) }
+        ensures frozen { self.new.memory.frozen ≡ self.old.memory.frozen }
     {
         if !self.order.grows(args) {
             return Ok(false);
@@ -80,6 +84,7 @@ impl<S: EventSink> Recording<S> {
             (record { kind = hooks.Gget; args = args.now; view = _view.now }) may (recording_of self.new)) }
         ensures err { OnErr result (IsSome (order_after (recording_of self.old)
             (record { kind = hooks.Gget; args = args.now; view = _view.now }))) }
+        ensures frozen { self.new.memory.frozen ≡ self.old.memory.frozen }
     {
         let Some(reported) = self.order.read_global(args) else {
             return Ok(false);
@@ -100,6 +105,7 @@ impl<S: EventSink> Recording<S> {
             (record { kind = hooks.Gset; args = args.now; view = _view.now }) may (recording_of self.new)) }
         ensures err { OnErr result (IsSome (order_after (recording_of self.old)
             (record { kind = hooks.Gset; args = args.now; view = _view.now }))) }
+        ensures frozen { self.new.memory.frozen ≡ self.old.memory.frozen }
     {
         let Some(reported) = self.order.set_global(args) else {
             return Ok(false);
@@ -115,6 +121,7 @@ impl<S: EventSink> Recording<S> {
             (record { kind = hooks.Copy; args = args.now; view = view.now }) may (recording_of self.new)) }
         ensures err { OnErr result (IsSome (order_after (recording_of self.old)
             (record { kind = hooks.Copy; args = args.now; view = view.now }))) }
+        ensures frozen { self.new.memory.frozen ≡ self.old.memory.frozen }
     {
         let Some(reported) = self.order.copy_args(args) else {
             return Ok(false);
@@ -130,6 +137,7 @@ impl<S: EventSink> Recording<S> {
             (record { kind = hooks.Fill; args = args.now; view = view.now }) may (recording_of self.new)) }
         ensures err { OnErr result (IsSome (order_after (recording_of self.old)
             (record { kind = hooks.Fill; args = args.now; view = view.now }))) }
+        ensures frozen { self.new.memory.frozen ≡ self.old.memory.frozen }
     {
         let Some(reported) = self.order.fill_args(args) else {
             return Ok(false);

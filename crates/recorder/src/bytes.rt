@@ -1,6 +1,6 @@
 // Bytes that the module finds, and bytes that it writes.
 
-ghost use Rattle.std.specs.Prelude.{◌+◌, ◌≤◌, ◌∷◌, [], length, replicate, IfOk, OnOk, IfNone, IfSome, IsTrue};
+ghost use Rattle.std.specs.Prelude.{◌≡◌, ◌+◌, ◌≤◌, ◌∷◌, [], length, replicate, IfOk, OnOk, IfNone, IfSome, IsTrue};
 ghost use Rattle.history_spec.specs.Store.{bytes_of};
 ghost use Rattle.record_replay_spec.specs.Order.{is_width};
 ghost use Rattle.record_replay_spec.specs.Observations.{Reads};
@@ -51,6 +51,7 @@ fn find_run<S: EventSink>(
         FindsRun S.has_taken memory.old sink.old addr bytes.now run memory.new sink.new)) }
     ensures none { IfOk result (λ found. IfNone found
         (FindsNothing S.has_taken memory.old sink.old addr bytes.now memory.new sink.new)) }
+    ensures frozen { memory.new.frozen ≡ memory.old.frozen }
 {
     let Some(run) = memory.take_difference(addr, bytes)? else {
         return Ok(None);
@@ -74,8 +75,9 @@ pub(crate) fn find_bytes<S: EventSink>(
     bytes: &[u8],
 ) -> Result<(), NoMemory>
     requires { addr + length bytes.now ≤ u32.MAX }
-    ensures { OnOk result
+    ensures reports { OnOk result
         (ReportsMemory S.has_taken memory.old sink.old (Reads addr bytes.now ∷ []) memory.new sink.new) }
+    ensures frozen { memory.new.frozen ≡ memory.old.frozen }
 {
     let mut done = 0;
     'runs: while done < bytes.len() {
@@ -91,6 +93,7 @@ pub(crate) fn find_bytes<S: EventSink>(
 ///
 /// # Errors
 /// `NoMemory` if an allocation failed.
+#[tactic(auto, using(crate::proofs::Sizes::frozen_stays))]
 #[inline]
 pub(crate) fn take_number(
     memory: &mut ShadowMemory,
@@ -100,7 +103,8 @@ pub(crate) fn take_number(
 ) -> Result<(), NoMemory>
     requires width { IsTrue (is_width width) }
     requires end { addr + width ≤ u32.MAX }
-    ensures { OnOk result (HasTaken memory.old addr (bytes_of width bits) memory.new) }
+    ensures taken { OnOk result (HasTaken memory.old addr (bytes_of width bits) memory.new) }
+    ensures frozen { memory.new.frozen ≡ memory.old.frozen }
 {
     let [a, b, c, d, e, f, g, h] = bits.to_le_bytes();
     match width {
@@ -123,7 +127,8 @@ pub(crate) fn take_same(
     byte: u8,
 ) -> Result<(), NoMemory>
     requires { addr + count ≤ u32.MAX }
-    ensures { OnOk result (HasTaken memory.old addr (replicate count byte) memory.new) }
+    ensures taken { OnOk result (HasTaken memory.old addr (replicate count byte) memory.new) }
+    ensures frozen { memory.new.frozen ≡ memory.old.frozen }
 {
     let part = [byte; 256];
     let mut done = 0;

@@ -52,6 +52,7 @@ impl<S: EventSink> Recording<S> {
             (record { kind = hooks.Arg; args = args.now; view = _view.now }) may (recording_of self.new)) }
         ensures err { OnErr result (IsSome (order_after (recording_of self.old)
             (record { kind = hooks.Arg; args = args.now; view = _view.now }))) }
+        ensures frozen { self.new.memory.frozen ≡ self.old.memory.frozen }
     {
         let Some(value) = self.order.value(args) else {
             return Ok(false);
@@ -67,6 +68,7 @@ impl<S: EventSink> Recording<S> {
             (record { kind = hooks.Enter; args = args.now; view = view.now }) may (recording_of self.new)) }
         ensures err { OnErr result (IsSome (order_after (recording_of self.old)
             (record { kind = hooks.Enter; args = args.now; view = view.now }))) }
+        ensures frozen { self.new.memory.frozen ≡ self.old.memory.frozen }
     {
         let Some(func) = self.order.entered_function(args) else {
             return Ok(false);
@@ -84,6 +86,7 @@ impl<S: EventSink> Recording<S> {
             (record { kind = hooks.Leave; args = args.now; view = _view.now }) may (recording_of self.new)) }
         ensures err { OnErr result (IsSome (order_after (recording_of self.old)
             (record { kind = hooks.Leave; args = args.now; view = _view.now }))) }
+        ensures frozen { self.new.memory.frozen ≡ self.old.memory.frozen }
     {
         let Some(func) = self.order.left_function(args) else {
             return Ok(false);
@@ -100,6 +103,7 @@ impl<S: EventSink> Recording<S> {
             (record { kind = hooks.Pre; args = args.now; view = _view.now }) may (recording_of self.new)) }
         ensures err { OnErr result (IsSome (order_after (recording_of self.old)
             (record { kind = hooks.Pre; args = args.now; view = _view.now }))) }
+        ensures frozen { self.new.memory.frozen ≡ self.old.memory.frozen }
     {
         let Some(func) = self.order.called_function(args) else {
             return Ok(false);
@@ -116,6 +120,7 @@ impl<S: EventSink> Recording<S> {
             (record { kind = hooks.Post; args = args.now; view = view.now }) may (recording_of self.new)) }
         ensures err { OnErr result (IsSome (order_after (recording_of self.old)
             (record { kind = hooks.Post; args = args.now; view = view.now }))) }
+        ensures frozen { self.new.memory.frozen ≡ self.old.memory.frozen }
     {
         if !self.order.ends(args) {
             return Ok(false);
@@ -133,6 +138,7 @@ impl<S: EventSink> Recording<S> {
             (record { kind = hooks.Ipre; args = args.now; view = view.now }) may (recording_of self.new)) }
         ensures err { OnErr result (IsSome (order_after (recording_of self.old)
             (record { kind = hooks.Ipre; args = args.now; view = view.now }))) }
+        ensures frozen { self.new.memory.frozen ≡ self.old.memory.frozen }
     {
         let Some(call) = self
             .order
@@ -155,6 +161,7 @@ impl<S: EventSink> Recording<S> {
             (record { kind = hooks.Ipost; args = args.now; view = view.now }) may (recording_of self.new)) }
         ensures err { OnErr result (IsSome (order_after (recording_of self.old)
             (record { kind = hooks.Ipost; args = args.now; view = view.now }))) }
+        ensures frozen { self.new.memory.frozen ≡ self.old.memory.frozen }
     {
         if !self.order.ends_by_table(args) {
             return Ok(false);

@@ -4,6 +4,7 @@
 mod accesses;
 mod bytes;
 mod calls;
+mod frozen;
 mod laws;
 mod memory;
 mod recorder;
@@ -11,5 +12,6 @@ mod recording;
 mod tables;
 
 pub use base::NoMemory;
-pub use laws::{logs_are_recorded, runs_are_recorded};
+pub use frozen::Frozen;
+pub use laws::{logs_are_recorded, runs_are_recorded, steps_are_recorded};
 pub use recorder::Recorder;

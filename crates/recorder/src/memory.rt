@@ -29,6 +29,7 @@ fn see<S: EventSink>(memory: &mut ShadowMemory, sink: &mut S, found: u32) -> Res
     ensures known { OnOk result (memory.new ≡ record memory.old { known = found; noticed = found }) }
     ensures reported { OnOk result (TookAlso S.has_taken sink.old sink.new
         (unless (nat_eq memory.old.known memory.old.noticed) Seen)) }
+    ensures frozen { memory.new.frozen ≡ memory.old.frozen }
 {
     if memory.known_pages() != memory.noticed_pages() {
         sink.event(Event::Seen)?;
@@ -49,8 +50,9 @@ fn reach<S: EventSink>(
     end: u128,
     found: u32,
 ) -> Result<(), NoMemory>
-    ensures { OnOk result
+    ensures reports { OnOk result
         (ReportsMemory S.has_taken memory.old sink.old (Reaches «end» found ∷ []) memory.new sink.new) }
+    ensures frozen { memory.new.frozen ≡ memory.old.frozen }
 {
     if end > u128::from(memory.known_pages()) * u128::from(PAGE_SIZE) {
         see(memory, sink, found)?;
@@ -71,6 +73,7 @@ pub(crate) fn notice<S: EventSink>(
     ensures noticed { OnOk result (memory.new ≡ record memory.old { noticed = pages_in view.now }) }
     ensures reported { OnOk result (TookAlso S.has_taken sink.old sink.new
         (unless (nat_eq (pages_in view.now) memory.old.noticed) (Grew (pages_in view.now)))) }
+    ensures frozen { memory.new.frozen ≡ memory.old.frozen }
 {
     let pages = view.pages();
     if pages != memory.noticed_pages() {
@@ -126,8 +129,9 @@ pub(crate) fn load<S: EventSink>(
     view: &View,
 ) -> Result<(), NoMemory>
     requires { IsTrue (is_width access.width) }
-    ensures { OnOk result (ReportsMemory S.has_taken memory.old sink.old
+    ensures reports { OnOk result (ReportsMemory S.has_taken memory.old sink.old
         (on view.now.memory (load_observations (access.base + access.offset) access.width)) memory.new sink.new) }
+    ensures frozen { memory.new.frozen ≡ memory.old.frozen }
 {
     if !view.has_memory() {
         return Ok(());
@@ -155,10 +159,11 @@ pub(crate) fn store<S: EventSink>(
     view: &View,
 ) -> Result<(), NoMemory>
     requires { IsTrue (is_width access.width) }
-    ensures { OnOk result (ReportsMemory S.has_taken memory.old sink.old
+    ensures reports { OnOk result (ReportsMemory S.has_taken memory.old sink.old
         (on view.now.memory
         (store_observations (access.base + access.offset) access.width (bytes_of access.width bits)))
         memory.new sink.new) }
+    ensures frozen { memory.new.frozen ≡ memory.old.frozen }
 {
     if !view.has_memory() {
         return Ok(());
@@ -180,8 +185,9 @@ pub(crate) fn resize<S: EventSink>(
     sink: &mut S,
     view: &View,
 ) -> Result<(), NoMemory>
-    ensures { OnOk result ((found : Memory → ℕ) → ReportsMemory S.has_taken memory.old sink.old
+    ensures reports { OnOk result ((found : Memory → ℕ) → ReportsMemory S.has_taken memory.old sink.old
         (on view.now.memory (λ there. Resizes (found there) (pages there) ∷ [])) memory.new sink.new) }
+    ensures frozen { memory.new.frozen ≡ memory.old.frozen }
 {
     if !view.has_memory() {
         return Ok(());
@@ -201,8 +207,9 @@ pub(crate) fn copy<S: EventSink>(
     reported: (u64, u64, u64),
     view: &View,
 ) -> Result<(), NoMemory>
-    ensures { OnOk result (ReportsMemory S.has_taken memory.old sink.old
+    ensures reports { OnOk result (ReportsMemory S.has_taken memory.old sink.old
         (on view.now.memory (copy_observations reported.0 reported.1 reported.2)) memory.new sink.new) }
+    ensures frozen { memory.new.frozen ≡ memory.old.frozen }
 {
     if !view.has_memory() {
         return Ok(());
@@ -217,7 +224,7 @@ pub(crate) fn copy<S: EventSink>(
 ///
 /// # Errors
 /// `NoMemory` if an allocation failed.
-#[tactic(auto, using(crate::proofs::Within::copies_nothing, crate::proofs::Within::copies_nowhere))]
+#[tactic(auto, using(crate::proofs::Sizes::frozen_stays, crate::proofs::Within::copies_nothing, crate::proofs::Within::copies_nowhere))]
 fn copy_bytes<S: EventSink>(
     alloc: Global,
     memory: &mut ShadowMemory,
@@ -226,11 +233,12 @@ fn copy_bytes<S: EventSink>(
     bytes: &[u8],
 ) -> Result<(), NoMemory>
     requires { length bytes.now ≤ u32.MAX }
-    ensures { OnOk result (ReportsMemory S.has_taken memory.old sink.old
+    ensures reports { OnOk result (ReportsMemory S.has_taken memory.old sink.old
         (observed.on (bytes_at bytes.now reported.1 reported.2) (λ part.
         observed.on (with_bytes_at bytes.now reported.0 part)
         (λ all. Copies reported.1 part ∷ Writes reported.0 part ∷ [])))
         memory.new sink.new) }
+    ensures frozen { memory.new.frozen ≡ memory.old.frozen }
 {
     let (to, from, count) = reported;
     let Some(part) = range(bytes, u128::from(from), count) else {
@@ -254,9 +262,10 @@ pub(crate) fn fill<S: EventSink>(
     reported: (u64, u64, u64),
     view: &View,
 ) -> Result<(), NoMemory>
-    ensures { OnOk result (ReportsMemory S.has_taken memory.old sink.old
+    ensures reports { OnOk result (ReportsMemory S.has_taken memory.old sink.old
         (on view.now.memory (store_observations reported.0 reported.2 (replicate reported.2 (reported.1 % 256))))
         memory.new sink.new) }
+    ensures frozen { memory.new.frozen ≡ memory.old.frozen }
 {
     if !view.has_memory() {
         return Ok(());

@@ -1,6 +1,6 @@
 // The recorder.
 
-ghost use Rattle.std.specs.Prelude.{◌≡◌, ◌+◌, [], true, Ok, IfOk, IfErr, IsOk, OnOk, OnErr};
+ghost use Rattle.std.specs.Prelude.{◌≡◌, ◌↔◌, ◌+◌, [], true, Ok, IfOk, IfErr, IsOk, IsTrue, OnOk, OnErr, None};
 ghost use Rattle.hook_names.specs.declared.hooks.HookFault.TheVariants.{Memory};
 ghost use Rattle.history_spec.specs.Store.{Store};
 ghost use Rattle.history_spec.specs.Instantiation.{instantiate, table_length};
@@ -8,8 +8,9 @@ ghost use Rattle.type_safety.specs.Stores.{func_count, global_types};
 ghost use Rattle.type_safety.specs.Values.{AreValues};
 ghost use Rattle.record_replay_spec.specs.Order.{order_start, shape_of};
 ghost use Rattle.record_replay_spec.specs.Logs.{log_start};
-ghost use Rattle.recorder.specs.Recorders.{StandsAt};
+ghost use Rattle.recorder.specs.Recorders.{after_freeze, StandsAt};
 
+use crate::frozen::{Frozen, FrozenTables};
 use crate::recording::Recording;
 use base::{NoMemory, Outcome};
 use hook_names::{Hook, HookFault, Hooks, View};
@@ -23,15 +24,18 @@ use trace_model::{EventSink, Events, Log};
 use wasm_syntax::Val;
 use wasm_validate::Checked;
 
-/// Takes the hook calls of a module in the hooked form, and passes the events of their log to a sink.
+/// Takes the hook calls of a module in the hooked form, and passes the events of their log to a sink. What it knows
+/// can be frozen between calls.
 #[derive(Drop)]
 pub struct Recorder<S> {
     recording: Recording<S>,
+    frozen: Option<FrozenTables>,
     calls: u64,
     broken: bool,
 }
 
 impl<S> Model for Recorder<S> {
+    ghost use Rattle.recorder.specs.FrozenViews.{frozen_of};
     ghost use Rattle.recorder.specs.Recorders as recorders;
     ghost use Rattle.recorder.specs.Recordings as recordings;
 
@@ -39,6 +43,7 @@ impl<S> Model for Recorder<S> {
 
     ghost view = { λ r. record {
       recording = recordings.recording_of r.recording;
+      frozen = frozen_of r.recording.memory.frozen r.frozen;
       calls = r.calls;
       broken = r.broken;
     } };
@@ -61,6 +66,7 @@ impl<S: EventSink + Drop> Recorder<S> {
         requires typed { (store : Store) → instantiate checked.now supply.now ≡ Ok store
             → AreValues (func_count checked.now) (global_types checked.now) store.globals }
         ensures sink { IfOk result (λ recorder. recorder.recording.sink ≡ sink) }
+        ensures frozen { IfOk result (λ recorder. recorder.frozen ≡ None) }
         ensures stands { IfOk result (λ recorder. (store : Store) → instantiate checked.now supply.now ≡ Ok store
             → StandsAt recorder (shape_of imports checked.now) (order_start (table_length store.table))
             (log_start store) 0) }
@@ -76,6 +82,7 @@ impl<S: EventSink + Drop> Recorder<S> {
                 sink,
                 alloc,
             },
+            frozen: None,
             calls: 0,
             broken: false,
         })
@@ -88,6 +95,24 @@ impl<S: EventSink + Drop> Recorder<S> {
         let Recorder { recording, .. } = self;
         let Recording { sink, .. } = recording;
         sink
+    }
+
+    /// The sink, which has taken the events of the calls so far, and what was known when the recorder was frozen
+    /// last; `None` if it never was. Takes no memory.
+    pub fn close_frozen(self) -> (S, Option<Frozen>)
+        ensures { (result.0 ≡ self.recording.sink) × (result.1 ≡ self.frozen) }
+    {
+        let Recorder {
+            recording,
+            frozen,
+            ..
+        } = self;
+        let Recording { sink, memory, .. } = recording;
+        let frozen = match frozen {
+            Some(tables) => Some(Frozen { memory, tables }),
+            None => None,
+        };
+        (sink, frozen)
     }
 }
 
@@ -106,6 +131,7 @@ impl Recorder<Events> {
         requires typed { (store : Store) → instantiate checked.now supply.now ≡ Ok store
             → AreValues (func_count checked.now) (global_types checked.now) store.globals }
         ensures sink { IfOk result (λ recorder. recorder.recording.sink ≡ []) }
+        ensures frozen { IfOk result (λ recorder. recorder.frozen ≡ None) }
         ensures stands { IfOk result (λ recorder. (store : Store) → instantiate checked.now supply.now ≡ Ok store
             → StandsAt recorder (shape_of imports checked.now) (order_start (table_length store.table))
             (log_start store) 0) }
@@ -131,6 +157,28 @@ impl Recorder<Events> {
 }
 
 impl<S> Recorder<S> {
+    /// Whether no function and no call is open. Takes no memory.
+    pub fn at_top(&self) -> bool
+        ensures { IsTrue result ↔ (self.now.recording.order.frames ≡ []) }
+    {
+        self.recording.order.is_outside()
+    }
+
+    /// Freezes what is known: a copy of it replaces what was frozen before, and later calls do not change it.
+    ///
+    /// # Errors
+    /// `NoMemory` if an allocation failed; nothing has changed then.
+    pub fn freeze(&mut self) -> Result<(), NoMemory>
+        ensures ok { OnOk result (self.new ≡ after_freeze self.old) }
+        ensures err { OnErr result (self.new ≡ self.old) }
+    {
+        let tables = self.recording.tables.copy()?;
+        self.recording.memory.freeze()?;
+        let imports = self.recording.order.shape().imports();
+        self.frozen = Some(FrozenTables { tables, imports });
+        Ok(())
+    }
+
     /// Counts one more call.
     ///
     /// # Errors

@@ -24,7 +24,7 @@ pub(crate) struct Recording<S> {
 }
 
 impl<S: EventSink> Recording<S> {
-    ghost use Rattle.std.specs.Prelude.{IfOk, IsSome, OnErr};
+    ghost use Rattle.std.specs.Prelude.{◌≡◌, IfOk, IsSome, OnErr};
     ghost use Rattle.recorder.specs.Recordings.{order_after, recording_of, IsTaken};
 
     /// Takes a call. Returns whether it is in order; if it is not, nothing changes.
@@ -36,6 +36,7 @@ impl<S: EventSink> Recording<S> {
             (record { kind = kind; args = args.now; view = view.now }) may (recording_of self.new)) }
         ensures err { OnErr result (IsSome (order_after (recording_of self.old)
             (record { kind = kind; args = args.now; view = view.now }))) }
+        ensures frozen { self.new.memory.frozen ≡ self.old.memory.frozen }
     {
         match kind {
             Hook::Arg => self.arg(args, view),

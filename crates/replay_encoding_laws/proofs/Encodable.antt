@@ -10,7 +10,7 @@ use Rattle.std.proofs.lemmas.Str.{IsUtf8-from_ascii}
 use Rattle.base.proofs.Booleans.{and_right}
 use Rattle.base.proofs.Lists.{joined_all}
 use Rattle.base.proofs.Options.{cond_some}
-use Rattle.wasm_syntax.specs.declared.forms.Form.TheVariants.{Replay}
+use Rattle.wasm_syntax.specs.declared.forms.Form.TheVariants.{Core, Replay}
 use Rattle.wasm_syntax.specs.declared.limits.TheConstants.{MAX_ENTRIES}
 use Rattle.wasm_syntax.specs.declared.values.Val.{Val}
 use Rattle.wasm_syntax.specs.declared.values.ValType.{ValType}
@@ -29,6 +29,8 @@ use Rattle.wasm_syntax.specs.Index.{all_globals, all_memories, all_tables, func_
 use Rattle.wasm_syntax.specs.Nest.{Plain, Empty}
 use Rattle.wasm_syntax.specs.Typing.{is_constant, is_number}
 use Rattle.wasm_syntax.specs.Validity.{AreFuncs, IsConstant, IsData, IsDeclaredFunc, IsElem, IsGlobal, IsMemory, IsTypedFunc, IsValid}
+use Rattle.wasm_syntax.specs.Encoding.Forms.{IsOfTableZero}
+use Rattle.wasm_syntax.specs.Encoding.Laws.{CoreIsInReplay}
 use Rattle.wasm_syntax.specs.Encoding.Encodable.{FitsBody, FitsBounds, FitsDataSeg, FitsElemSeg, FitsFunc, FitsFuncType, FitsGlobal, FitsLimits, FitsU32, FitsValType, IsEncodable}
 use Rattle.host_script.specs.declared.scripts.Supply.{Supply}
 use Rattle.host_script.specs.Supply.{is_within, keeps_max}
@@ -40,7 +42,11 @@ use Rattle.replay_module_spec.specs.Functions.{appended_types, group_funcs}
 use Rattle.replay_module_spec.specs.Fragments.{counter, fragment_of, helper_funcs, import_bodies, import_types, referred_once, start_index}
 use Rattle.replay_gen.specs.Bounds.{FitsIndices}
 use Rattle.replay_module_spec.specs.Merge.{constant_body, constant_data, constant_elem, constant_global, declaration, replay_module, supplied_global}
+use Rattle.replay_module_spec.specs.Plans.{plan_of}
+use Rattle.trace_model.specs.declared.tapes.Tape.{Tape}
+use Rattle.replay_module_laws.specs.Laws.{PlansFit, ReplayModulesOfTapesAreValid, StatesMaximum}
 use Rattle.replay_module_laws.specs.Plans.{PlanFits}
+use Rattle.replay_encoding_laws.specs.Premises.{IsTakenSupply, IsTakenTape}
 use Rattle.replay_encoding_laws.proofs.FittingCode.{value_fits}
 use Rattle.replay_encoding_laws.proofs.FittingFuncs.{HasFittingCode, bodies_fit, groups_length, helpers_fit, imports_length}
 
@@ -251,6 +257,20 @@ layout_text =
 
 -- ---- the whole module
 
+-- a module has at most one table, so each active segment is of table 0
+of_table_zero : (m : Module) → length (all_tables m) ≤ 1 → (elems : List ElemSeg)
+    → AllByRecursion (IsElem m) elems → AllByRecursion IsOfTableZero elems
+of_table_zero m one [] valid = tt
+of_table_zero m one (Active table offset funcs ∷ elems) valid =
+    let there = valid.0.0 in (omega (arith, there, one), of_table_zero m one elems valid.1)
+of_table_zero m one (Declared funcs ∷ elems) valid = (tt, of_table_zero m one elems valid.1)
+
+-- the parts that the replay module keeps have encodings
+pub record KeptPartsFit (m : Module) : Type 0 where
+  pub types : AllByRecursion FitsFuncType m.types
+  pub funcs : AllByRecursion (FitsFunc Replay) m.funcs
+  pub tables : AllByRecursion FitsLimits m.tables
+
 replay_funcs : (m : Module) (supply : Supply) (plan : Plan)
     → length (func_indices (replay_module m supply (fragment_of m plan)))
     ≤ length (func_indices m) + 1 + length (group_funcs m (import_types m) plan.imports)
@@ -269,7 +289,7 @@ replay_funcs m supply plan =
       length-map m.funcs (λ (f : Func). f.ty),
     )
 
-pub replay_encodable : (m : Module) (supply : Supply) (plan : Plan) → IsEncodable Replay m
+replay_encodable : (m : Module) (supply : Supply) (plan : Plan) → KeptPartsFit m
     → IsValid (replay_module m supply (fragment_of m plan)) → FitsIndices m plan → PlanFits m plan
     → Match MAX_ENTRIES (of_kind table_import m.imports) supply.table
     → IfSome supply.table (λ limits. IfSome limits.max (λ max. max < 2 ^ 32))
@@ -313,3 +333,30 @@ replay_encodable m supply plan own valid small fits matches stated =
           (recursion_from_All (IsData r) r.datas outside.datas);
       customs = (layout_text, tt);
     }
+
+-- ---- a module, its supply and its tape
+
+-- the parts have encodings in the form Replay, if the module has one in the form Core
+pub kept_parts : CoreIsInReplay → (m : Module) → IsValid m → IsEncodable Core m → KeptPartsFit m
+kept_parts in_replay m valid own =
+    let whole =
+    in_replay m own
+    (of_table_zero m valid.outside.one_table m.elems (recursion_from_All (IsElem m) m.elems valid.outside.elems)) in
+    record { types = whole.types; funcs = whole.funcs; tables = whole.tables }
+
+stated_max : (max : Option ℕ) → IfSome max (λ max. max < 2 ^ 32) → IfSome max (λ max. max ≤ 2 ^ 32)
+stated_max None h = tt
+stated_max (Some max) h = omega (arith, h)
+
+stated : (table : Option Limits) → IfSome table (λ limits. IfSome limits.max (λ max. max < 2 ^ 32))
+    → StatesMaximum table
+stated None h = tt
+stated (Some limits) h = stated_max limits.max h
+
+pub taken_encodable : PlansFit → ReplayModulesOfTapesAreValid → (m : Module) (supply : Supply) (tape : Tape) → IsValid m
+    → KeptPartsFit m → IsTakenSupply m supply → IsTakenTape m tape → FitsIndices m (plan_of (imported_funcs m) tape)
+    → IsEncodable Replay (replay_module m supply (fragment_of m (plan_of (imported_funcs m) tape)))
+taken_encodable plans_fit are_valid m supply tape valid own supplied taken small =
+    replay_encodable m supply (plan_of (imported_funcs m) tape) own
+    (are_valid m supply tape valid supplied.matches (stated supply.table supplied.table) taken.fits taken.constants)
+    small (plans_fit m tape valid taken.fits taken.constants) supplied.matches.table supplied.table

@@ -85,7 +85,7 @@ import_some i = omega (
   kind_some i.kind,
 )
 
-imports_some : (imports : List Import) → 4 * length imports ≤ items import_bytes imports
+pub imports_some : (imports : List Import) → 4 * length imports ≤ items import_bytes imports
 imports_some [] = omega (arith, items_nil import_bytes)
 imports_some (i ∷ imports) =
     omega (arith, items_cons import_bytes i imports, import_some i, imports_some imports)

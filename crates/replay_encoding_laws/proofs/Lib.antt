@@ -1,15 +1,15 @@
 mod Plans
-mod Instructions
+pub mod Instructions
 mod Segments
 mod Bodies
 mod References
-mod Modules
-mod Sizes
+pub mod Modules
+pub mod Sizes
 pub mod Arms
 pub mod FittingCode
 mod FittingFuncs
-mod Encodable
-mod Indices
+pub mod Encodable
+pub mod Indices
 mod FragmentReferences
 mod Declared
 mod FittingFragments

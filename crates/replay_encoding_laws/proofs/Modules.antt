@@ -53,7 +53,7 @@ bounds_most least None = omega (arith, u32_most least)
 bounds_most least (Some most) =
     omega (arith, length-append (u32_bytes least) (u32_bytes most), u32_most least, u32_most most)
 
-limits_most : (limits : Limits) → length (limits_bytes limits) ≤ 11
+pub limits_most : (limits : Limits) → length (limits_bytes limits) ≤ 11
 unfolding limits_bytes
 limits_most limits = bounds_most limits.min limits.max
 
@@ -73,7 +73,7 @@ memories_most (Some limits) =
 
 -- ---- constants
 
-constant_most : (value : Val) → length (body_bytes (constant_body value)) ≤ 12
+pub constant_most : (value : Val) → length (body_bytes (constant_body value)) ≤ 12
 constant_most value = omega (
   arith,
   items_as instr_bytes (constant_body value),
@@ -90,7 +90,7 @@ type_length : (ty : GlobalType) → length (global_type_bytes ty) ≡ 2
 unfolding global_type_bytes
 type_length ty = refl
 
-global_length : (g : Global) → length (global_bytes g) ≡ 2 + length (body_bytes g.init)
+pub global_length : (g : Global) → length (global_bytes g) ≡ 2 + length (body_bytes g.init)
 unfolding global_bytes
 global_length g = omega (arith, length-append (global_type_bytes g.ty) (body_bytes g.init), type_length g.ty)
 
@@ -146,7 +146,7 @@ counters_most (suc count) = omega (
 
 -- ---- segments
 
-active_length : (table : ℕ) (offset : List Instr) (funcs : List ℕ)
+pub active_length : (table : ℕ) (offset : List Instr) (funcs : List ℕ)
     → length (elem_bytes (Active table offset funcs))
     ≡ length (u32_bytes table) + length (body_bytes offset) + length (vector_bytes u32_bytes funcs)
 unfolding elem_bytes
@@ -190,7 +190,7 @@ declaration_most (func ∷ funcs) = omega (
   declared_most (func ∷ funcs),
 )
 
-data_length : (segment : DataSeg)
+pub data_length : (segment : DataSeg)
     → length (data_bytes segment)
     ≡ length (u32_bytes segment.memory) + length (body_bytes segment.offset) + length (sized_bytes segment.bytes)
 unfolding data_bytes

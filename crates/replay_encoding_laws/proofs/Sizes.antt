@@ -10,7 +10,7 @@ use Rattle.wasm_syntax.specs.Index.{all_globals, imported_funcs, imported_global
 use Rattle.wasm_syntax.specs.Validity.{IsValid}
 use Rattle.wasm_syntax.specs.Encoding.Forms.{IsCoreModule}
 use Rattle.wasm_syntax.specs.Encoding.Modules.{code_of}
-use Rattle.wasm_syntax.specs.Encoding.Sections.{CodeSection, CustomSection, DataSection, ElementSection, ExportSection, FunctionSection, GlobalSection, ImportSection, MemorySection, StartSection, TableSection, TypeSection, Section}
+use Rattle.wasm_syntax.specs.Encoding.Sections.{CodeSection, CustomSection, DataSection, ElementSection, ExportSection, FunctionSection, GlobalSection, ImportSection, MemorySection, StartSection, TableSection, TypeSection}
 use Rattle.wasm_syntax.specs.Encoding.Shortest.{code_bytes, data_bytes, elem_bytes, encoding_of, export_bytes, func_type_bytes, global_bytes, import_bytes, limits_bytes, section_bytes, table_type_bytes, unless_empty}
 use Rattle.wasm_syntax.proofs.ItemLists.{items, items_append, items_cons, items_nil, section_most}
 use Rattle.wasm_syntax.proofs.SectionLists.{encoding_least, encoding_parts, part, part_is, part_most, vectors}

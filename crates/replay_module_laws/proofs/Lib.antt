@@ -2,8 +2,8 @@ mod Standing
 pub mod Outside
 mod ValidOutside
 pub mod Declarations
-mod Originals
-mod TypedOriginals
+pub mod Originals
+pub mod TypedOriginals
 mod Serving
 pub mod TypedEffects
 pub mod TypedSegments

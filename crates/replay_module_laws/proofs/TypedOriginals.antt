@@ -39,7 +39,7 @@ use Rattle.replay_module_laws.proofs.Outside.{mapped_length}
 
 -- ---- what the replay module contains
 
-there_alike : {X : Type 0} (xs ys : List X) (place : ℕ) → length xs ≡ length ys
+pub there_alike : {X : Type 0} (xs ys : List X) (place : ℕ) → length xs ≡ length ys
     → is_some (slice_get xs place) ≡ is_some (slice_get ys place)
 there_alike [] [] place e = refl
 there_alike [] (y ∷ ys) place e = absurd (omega (arith, e))

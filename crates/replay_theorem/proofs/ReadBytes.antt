@@ -1,16 +1,14 @@
 -- The bytes that a run reads of its memory are bytes.
-use Rattle.std.proofs.Common.{◌≡◌, ℕ, zero, suc, ◌<◌, List, [], ◌∷◌, ◌++◌, Option, Some, None, slice_index, subst, arith}
-use Rattle.std.specs.List.{All, AllByRecursion}
-use Rattle.std.proofs.lemmas.List.Elements.{All-head, All-tail}
+use Rattle.std.proofs.Common.{◌≡◌, ℕ, zero, suc, ◌<◌, List, [], ◌∷◌, ◌++◌, Some, subst}
+use Rattle.std.specs.List.{AllByRecursion}
 use Rattle.base.proofs.Lists.{joined_all}
-use Rattle.wasm_syntax.specs.declared.signatures.Limits.{Limits}
 use Rattle.wasm_syntax.specs.declared.modules.Module.{Module}
 use Rattle.wasm_syntax.specs.Index.{all_memories}
 use Rattle.wasm_syntax.specs.Validity.{IsValid}
 use Rattle.base.specs.declared.outcomes.Outcome.TheVariants.{Ended}
 use Rattle.history_spec.specs.declared.entries.Entry.{Entry}
 use Rattle.history_spec.specs.declared.entries.Entry.TheVariants.{HostCall, HostReturn, ImportCall, ImportReturn, HostTrap}
-use Rattle.history_spec.specs.Store.{Store, Memory}
+use Rattle.history_spec.specs.Store.{Store}
 use Rattle.history_spec.specs.Configuration.{Activation, InModule, Config}
 use Rattle.history_spec.specs.Step.{Program, Progress, Running, Finished, Faulted, Stuck, StepResult, step}
 use Rattle.record_replay_spec.specs.Observations.{Observation, Reads, Copies, stack_observations, activity_observations, end_observations, observations, run_observations}
@@ -20,8 +18,9 @@ use Rattle.record_replay_spec.specs.ObservedStepLaws.{StoresAnswerThemselves}
 use Rattle.type_safety.specs.Configurations.{IsProgram, IsSafe, IsTypedCode}
 use Rattle.type_safety.specs.Heights.{Heights}
 use Rattle.type_safety.specs.Laws.{StepsAreSafe}
-use Rattle.type_safety.specs.Stores.{IsStore, MayBeMemory}
+use Rattle.type_safety.specs.Stores.{IsStore}
 use Rattle.tape_laws.proofs.HostStores.{sizes_of, whole_pages_of}
+use Rattle.tape_laws.proofs.TypedStores.{byte_there}
 
 -- the values that an observation reads are bytes
 abbrev pub ReadsBytes : Observation → Type 0
@@ -29,18 +28,6 @@ ReadsBytes o = (at x : ℕ) → read_byte at o ≡ Some x → x < 256
 
 abbrev pub AllReadBytes : List Observation → Type 0
 AllReadBytes seen = AllByRecursion ReadsBytes seen
-
--- ---- a well-typed store holds bytes
-
-byte_at : (bytes : List ℕ) (at : ℕ) → All (λ byte. byte < 256) bytes → slice_index bytes at < 256
-byte_at [] at all = omega arith
-byte_at (byte ∷ bytes) zero all = All-head (λ byte. byte < 256) byte bytes all
-byte_at (byte ∷ bytes) (suc at) all = byte_at bytes at (All-tail (λ byte. byte < 256) byte bytes all)
-
-memory_byte : (limits : List Limits) (o : Option Memory) (at : ℕ) → MayBeMemory limits o → byte_of o at < 256
-memory_byte limits None at is = omega arith
-memory_byte [] (Some memory) at is = absurd is
-memory_byte (first ∷ more) (Some memory) at is = byte_at memory.bytes at is.bytes
 
 -- ---- observations
 
@@ -100,7 +87,7 @@ module _ (own : StoresAnswerThemselves) (safe_steps : StepsAreSafe) (m : Module)
       → AllReadBytes (stack_observations store stack)
   stack_bytes store (InModule frame ∷ below) is =
       all_answered store (stack_observations store (InModule frame ∷ below))
-      (λ at. memory_byte (all_memories m) store.memory at is.memory)
+      (λ at. byte_there (all_memories m) store.memory at is.memory)
       (own store frame.values frame.at.rest (whole_pages_of store (sizes_of m store is)))
   stack_bytes store stack is = tt
 

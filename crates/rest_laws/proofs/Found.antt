@@ -18,7 +18,8 @@ use Rattle.record_replay_spec.specs.Observations.{Observation, nest_observations
 use Rattle.record_replay_spec.specs.Known.{Known, known_after_all}
 use Rattle.tape_laws.specs.RealReads.{AreNested}
 use Rattle.rest_spec.specs.Rests.{rest_of}
-use Rattle.rest_laws.proofs.Places.{opens, with_host, call_after, call_from, call_at, passed, known_after_both, known_after_activities}
+use Rattle.tape_laws.proofs.KeptInRuns.{known_after_both, known_after_activities}
+use Rattle.rest_laws.proofs.Places.{opens, with_host, call_after, call_from, call_at, passed}
 use Rattle.rest_laws.proofs.StoreItems.{of_store}
 use Rattle.rest_laws.proofs.Walks.{StepWalks, IsAfter, nested_after, rest_walked, call_walked, delivered, entered, instructed, acted_inside}
 

@@ -7,7 +7,7 @@ use Rattle.rest_spec.specs.KnownBefore.{open_after, known_before}
 use Rattle.rest_spec.specs.AtCalls.{at_call}
 use Rattle.rest_laws.specs.Laws.{IsSameKnown, KnownBeforeIsKept}
 use Rattle.rest_laws.proofs.Ends.{both_by_end}
-use Rattle.rest_laws.proofs.Places.{known_after_both}
+use Rattle.tape_laws.proofs.KeptInRuns.{known_after_both}
 
 module _ (kept : KnownIsKept) (opening : Known) where
   found : (seen : List Observation) → known_from opening seen ≡ known_after_all opening seen

@@ -10,3 +10,11 @@ pub mod KnownBefore
 pub mod Counts
 pub mod Maxima
 pub mod Restarts
+pub mod KnownStores
+pub mod LastSegments
+pub mod FittingCuts
+pub mod PassedCalls
+pub mod TopSearch
+pub mod TopEntries
+pub mod TopTrails
+pub mod TopRuns

@@ -1,14 +1,14 @@
 -- Where control is in a run, and the search for a top-level call from there on.
 use Rattle.std.proofs.Common.{◌≡◌, ℕ, suc, List, [], ◌∷◌, ◌++◌, Option, Some, None, Bool, true, false, refl}
+use Rattle.std.specs.List.{AllByRecursion}
 use Rattle.trace_model.specs.declared.tapes.Origin.{Origin}
-use Rattle.history_spec.specs.declared.entries.Entry.{Entry}
-use Rattle.history_spec.specs.declared.entries.Entry.TheVariants.{HostCall, HostReturn, ImportCall, ImportReturn, HostTrap}
 use Rattle.history_spec.specs.Configuration.{Activation, InModule, InMain, InImport}
 use Rattle.history_spec.specs.Step.{Progress, Running}
-use Rattle.record_replay_spec.specs.Observations.{Observation, Begins, Ends, activity_observations}
+use Rattle.record_replay_spec.specs.Observations.{Observation, Begins, Ends}
 use Rattle.record_replay_spec.specs.Known.{Known, known_after, known_after_all}
 use Rattle.rest_spec.specs.KnownBefore.{open_after, by_end}
 use Rattle.rest_spec.specs.AtCalls.{AtCall, at_call}
+use Rattle.tape_laws.proofs.Agrees.{IsOfStore}
 
 -- the number of open calls of imports
 abbrev pub opens : List Activation → ℕ
@@ -48,35 +48,10 @@ begun number opened known origin [] = refl
 begun number opened known origin (Ends next ∷ later) = refl
 begun number opened known origin (o ∷ later) = refl
 
--- observations of a store, which are of no activity
-abbrev pub AreOfStore : List Observation → Type 0
-AreOfStore [] = Unit {0}
-AreOfStore (Begins origin ∷ items) = ⊥
-AreOfStore (Ends next ∷ items) = ⊥
-AreOfStore (o ∷ items) = AreOfStore items
-
-pub passed : (number opened : ℕ) (known : Known) (items later : List Observation) → AreOfStore items
+pub passed : (number opened : ℕ) (known : Known) (items later : List Observation)
+    → AllByRecursion IsOfStore items
     → at_call number opened known (items ++ later) ≡ at_call number opened (known_after_all known items) later
 passed number opened known [] later are = refl
-passed number opened known (Begins origin ∷ items) later are = absurd are
-passed number opened known (Ends next ∷ items) later are = absurd are
-passed number opened known (o ∷ items) later are = passed number opened (known_after known o) items later are
-
--- ---- what is known after observations
-
-pub known_after_both : (known : Known) (seen later : List Observation)
-    → known_after_all known (seen ++ later) ≡ known_after_all (known_after_all known seen) later
-known_after_both known [] later = refl
-known_after_both known (o ∷ seen) later = known_after_both (known_after known o) seen later
-
--- activities of the host leave what is known
-pub known_after_activities : (known : Known) (entries : List Entry) (later : List Observation)
-    → known_after_all known (activity_observations entries ++ later) ≡ known_after_all known later
-known_after_activities known [] later = refl
-known_after_activities known (HostCall func args ∷ entries) later = known_after_activities known entries later
-known_after_activities known (HostReturn func results ∷ entries) later = known_after_activities known entries later
-known_after_activities known (ImportCall import args ∷ entries) later = known_after_activities known entries later
-known_after_activities known (ImportReturn import results ∷ entries) later =
-    known_after_activities known entries later
-known_after_activities known (HostTrap ∷ entries) later = known_after_activities known entries later
-known_after_activities known (entry ∷ entries) later = known_after_activities known entries later
+passed number opened known (Begins origin ∷ items) later are = absurd are.0
+passed number opened known (Ends next ∷ items) later are = absurd are.0
+passed number opened known (o ∷ items) later are = passed number opened (known_after known o) items later are.1

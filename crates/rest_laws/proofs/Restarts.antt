@@ -42,7 +42,7 @@ use Rattle.rest_laws.specs.Laws.{IsCut, IsSameKnown, KnownBeforeIsKept}
 use Rattle.rest_laws.specs.Replays.{IsRestReplayed, CutTapesReplayRests}
 use Rattle.rest_laws.proofs.Counts.{counts_do_not_matter}
 use Rattle.rest_laws.proofs.Cuts.{cuts_are_needed}
-use Rattle.rest_laws.proofs.Maxima.{started, reached_safely}
+use Rattle.rest_laws.proofs.Maxima.{reached_safely}
 use Rattle.rest_laws.proofs.Starts.{calls_are_of_runs}
 
 -- so many steps are those up to a configuration, and those from there on
@@ -199,15 +199,13 @@ module _ (laws : LawsOfSteps) (safety : LawsOfRuns) (reads : RunsReadWhatIsThere
     by_call rest (InRun before later config action actions all reached alone is seen) =
         let known = known_so_far m script store before in
         let at : AtCall = record { known = known; later = observations program later (Running config) } in
-        let fine = reached_safely laws m run.heights runnable.valid run.typed script.imports fits.imports (maxima store)
-        before initial.next config run.safe
-        (started (maxima store) program m.start store (replicate (imported_funcs m) 0) script.main refl) reached in
+        let found = reached_safely laws m script store runnable fits run before config reached in
         let of = (reads m script supply store before config runnable fits links opens reached).0 in
         replays_rest at rest seen
         (subst (λ l. Replays at l outcome) (sym is)
         (by_action known config.store config.counts action actions later outcome config
-        (ap (λ stack. record { store = config.store; stack = stack; counts = config.counts }) (sym alone)) fine.0 of
-        fine.1 (sym (steps_from program before later count initial.next config all reached) ∙ ends)))
+        (ap (λ stack. record { store = config.store; stack = stack; counts = config.counts }) (sym alone)) found.fine
+        of found.kept (sym (steps_from program before later count initial.next config all reached) ∙ ends)))
 
 pub cut_tapes_replay_rests : LawsOfSteps → LawsOfRuns → RunsReadWhatIsThere → KnownBeforeIsKept → CutTapesReplayRests
 cut_tapes_replay_rests laws safety reads kept m script supply store segments count outcome number rest runnable fits

@@ -14,7 +14,8 @@ use Rattle.record_replay_spec.specs.Observations.{activity_observations, observa
 use Rattle.record_replay_spec.specs.Known.{Known, opening_known}
 use Rattle.rest_spec.specs.Rests.{rest_of}
 use Rattle.rest_laws.specs.Calls.{IsCallOfRun, AtStart, InRun, CallsAreOfRuns}
-use Rattle.rest_laws.proofs.Places.{call_after, call_from, begun, known_after_activities}
+use Rattle.tape_laws.proofs.KeptInRuns.{known_after_activities}
+use Rattle.rest_laws.proofs.Places.{call_after, call_from, begun}
 use Rattle.rest_laws.proofs.Walks.{delivered, entered}
 use Rattle.rest_laws.proofs.Found.{IsFoundAfter, goes_on, find}
 

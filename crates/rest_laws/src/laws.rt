@@ -1,11 +1,13 @@
 // The laws, each the contract of a function; the statements are in `specs/`.
 
 ghost use Rattle.rest_laws.specs.Calls.{CallsAreOfRuns};
+ghost use Rattle.rest_laws.specs.FittingCuts.{CutsAreLast, CutsAreLight, CutsFit};
+ghost use Rattle.rest_laws.specs.KnownStores.{KnownStoresAreTyped};
 ghost use Rattle.rest_laws.specs.Laws.{CountsDoNotMatter, CutsAreNeeded, CutsAreThere, KnownBeforeIsKept, RestsAreThere};
 ghost use Rattle.rest_laws.specs.Replays.{CutTapesReplayRests};
 
 use record_replay_spec::known_is_kept;
-use tape_laws::{laws_of_runs, laws_of_steps, runs_read_what_is_there};
+use tape_laws::{known_values_are_typed, laws_of_runs, laws_of_steps, runs_read_what_is_there};
 
 /// A history has a rest from a top-level call on exactly where the call's number is below the number of such calls.
 pub fn rests_are_there()
@@ -51,3 +53,30 @@ pub fn cut_tapes_replay_rests()
     laws_of_runs();
     runs_read_what_is_there();
 }
+
+/// What is known before a top-level call makes a store that is well typed for the module, holds just what is known, and
+/// has the maxima and the immutable globals of the store in which the run begins.
+pub fn known_stores_are_typed()
+    ensures { KnownStoresAreTyped }
+{
+    known_before_is_kept();
+    laws_of_steps();
+    laws_of_runs();
+    runs_read_what_is_there();
+    known_values_are_typed();
+}
+
+/// A cut fits each module that its tape fits.
+pub fn cuts_fit()
+    ensures { CutsFit }
+{}
+
+/// A cut has the last segments of its tape, the first of them as one that begins a run.
+pub fn cuts_are_last()
+    ensures { CutsAreLast }
+{}
+
+/// A cut weighs at most what its tape does.
+pub fn cuts_are_light()
+    ensures { CutsAreLight }
+{}

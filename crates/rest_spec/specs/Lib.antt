@@ -5,3 +5,4 @@ pub mod KnownStates
 pub mod StateSegments
 pub mod StateModules
 pub mod AtCalls
+pub mod TopEnters

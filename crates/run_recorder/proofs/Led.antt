@@ -26,7 +26,7 @@ later_events first (Ok rest) reported is = (rest, refl)
 later_events first (Err number) reported is = absurd (subst IsNumber is tt)
 
 -- if calls have events, each of the calls is in order
-in_order : (shape : HookedShape) (order : OrderState) (log : LogState) (at : ℕ) (calls : List HookCall) (reported : List Event)
+pub in_order : (shape : HookedShape) (order : OrderState) (log : LogState) (at : ℕ) (calls : List HookCall) (reported : List Event)
     → events_from shape order log at calls ≡ Ok reported → first_disorder shape order at calls ≡ None
 in_order shape order log at [] reported is = refl
 in_order shape order log at (call ∷ calls) reported is =

@@ -7,38 +7,57 @@ use Rattle.base.proofs.Lists.{mapped_item}
 use Rattle.page_arena.specs.declared.TheConstants.{PAGE_LENGTH}
 use Rattle.page_arena.specs.declared.PageId.{PageId}
 use Rattle.page_arena.specs.Pages.{page_at}
-use Rattle.shadow_memory.specs.Shadow.{byte_among, AreSame, AreWritten}
-use Rattle.shadow_memory.specs.KnownBytes.{AreExtended, AreKept, AreBytesOf, bytes_of_place, is_touched, kept_of, page_of}
+use Rattle.shadow_memory.specs.Shadow.{byte_among, AreSame, AreWritten, IsBlock}
+use Rattle.shadow_memory.specs.KnownBytes.{AreExtended, AreKept, AreBytesOf, bytes_of_place, bytes_of_places, is_touched, kept_of, page_of}
 use Rattle.shadow_memory.proofs.Flat.{flat_item}
 use Rattle.shadow_memory.proofs.WrittenBytes.{among_below, among_past, among_moved, replaced_part}
 
-module _ (places : List (Option PageId)) (pages : List (List ℕ)) (kept : AreKept places pages) where
+module _ (places : List (Option PageId)) (pages : List (List ℕ))
+    (whole : (number : ℕ) → number < length pages → length (page_at pages number) ≡ PAGE_LENGTH)
+    (there : (place : ℕ) (id : PageId) → page_of places place ≡ Some id → id.number < length pages) where
   whole_place : (place : ℕ) → length (bytes_of_place pages (page_of places place)) ≡ PAGE_LENGTH
   whole_place place = go (page_of places place) refl
     where
       go : (id : Option PageId) → page_of places place ≡ id → length (bytes_of_place pages id) ≡ PAGE_LENGTH
       go None is = length-replicate {A = ℕ} PAGE_LENGTH 0
-      go (Some id) is = kept.whole id.number (kept.there place id is)
+      go (Some id) is = whole id.number (there place id is)
 
   pub kept_byte : (place k : ℕ) → k < PAGE_LENGTH
-      → slice_index (kept_of places pages).bytes (place * PAGE_LENGTH + k)
+      → slice_index (bytes_of_places pages places) (place * PAGE_LENGTH + k)
       ≡ slice_index (bytes_of_place pages (page_of places place)) k
   kept_byte place k below =
       flat_item (bytes_of_place pages) PAGE_LENGTH None places place k (λ j h. whole_place j)
       (get_or-replicate PAGE_LENGTH k 0 0 below) below
 
   -- the page of a place, or zeros without a page, has the bytes of the place
-  pub bytes_there : (place : ℕ) → AreBytesOf (kept_of places pages) place (bytes_of_place pages (page_of places place))
+  pub bytes_there : (place : ℕ) → AreBytesOf (bytes_of_places pages places) place (bytes_of_place pages (page_of places place))
   bytes_there place = record { size = whole_place place; byte = λ k below. sym (kept_byte place k below) }
 
   pub bytes_are : (place : ℕ) (id : Option PageId) (bytes : List ℕ) → id ≡ page_of places place
-      → bytes ≡ bytes_of_place pages id → AreBytesOf (kept_of places pages) place bytes
+      → bytes ≡ bytes_of_place pages id → AreBytesOf (bytes_of_places pages places) place bytes
   bytes_are place id bytes is here =
-      subst (AreBytesOf (kept_of places pages) place) (sym (here ∙ ap (bytes_of_place pages) is)) (bytes_there place)
+      subst (AreBytesOf (bytes_of_places pages places) place) (sym (here ∙ ap (bytes_of_place pages) is)) (bytes_there place)
 
-pub touched_is : (places : List (Option PageId)) (pages : List (List ℕ)) (place : ℕ)
-    → is_touched (kept_of places pages) place ≡ is_some (page_of places place)
-touched_is places pages place = mapped_item is_some places place None
+  -- the page of a place is a block of its bytes; without a page, no bytes are
+  pub block_is : (place : ℕ) (id : PageId) (bytes : List ℕ) → Some id ≡ page_of places place
+      → bytes ≡ page_at pages id.number → IsBlock (bytes_of_places pages places) place bytes
+  block_is place id bytes is here =
+      let are = bytes_are place (Some id) bytes is here in record { size = inr are.size; byte = are.byte }
+
+  pub no_block : (place : ℕ) → None ≡ page_of places place → IsBlock (bytes_of_places pages places) place []
+  no_block place is =
+      record {
+        size = inl refl;
+        byte = λ k below.
+            sym
+            (kept_byte place k below
+            ∙ ap (λ o. slice_index (bytes_of_place pages o) k) (sym is)
+            ∙ get_or-replicate PAGE_LENGTH k 0 0 below);
+      }
+
+pub touched_is : (places frozen : List (Option PageId)) (pages : List (List ℕ)) (place : ℕ)
+    → is_touched (kept_of places frozen pages) place ≡ is_some (page_of places place)
+touched_is places frozen pages place = mapped_item is_some places place None
 
 -- ---- a write to a page
 
@@ -147,36 +166,38 @@ module _ (places : List (Option PageId)) (pages : List (List ℕ)) (kept : AreKe
 
   pub page_written : (place from : ℕ) (bytes : List ℕ) → page_of places place ≡ Some id
       → AreWritten (page_at pages id.number) from bytes page → from + length bytes ≤ PAGE_LENGTH
-      → AreWritten (kept_of places pages).bytes (place * PAGE_LENGTH + from) bytes (kept_of places written_pages).bytes
+      → AreWritten (bytes_of_places pages places) (place * PAGE_LENGTH + from) bytes (bytes_of_places written_pages places)
   page_written place from bytes is written fits at =
       let k : ℕ = at % PAGE_LENGTH in
       let other : ℕ = at / PAGE_LENGTH in
       let below : k < PAGE_LENGTH = omega arith in
       let e : other * PAGE_LENGTH + k ≡ at = omega arith in
-      subst (λ at. slice_index (kept_of places written_pages).bytes at
-      ≡ unwrap_or (byte_among (place * PAGE_LENGTH + from) bytes at) (slice_index (kept_of places pages).bytes at)) e
-      (kept_byte places written_pages written_kept other k below
+      subst (λ at. slice_index (bytes_of_places written_pages places) at
+      ≡ unwrap_or (byte_among (place * PAGE_LENGTH + from) bytes at) (slice_index (bytes_of_places pages places) at)) e
+      (kept_byte places written_pages written_kept.whole written_kept.there other k below
       ∙ written_byte place from bytes is written fits other k below
       ∙ ap (unwrap_or (byte_among (place * PAGE_LENGTH + from) bytes (other * PAGE_LENGTH + k)))
-      (sym (kept_byte places pages kept other k below)))
+      (sym (kept_byte places pages kept.whole kept.there other k below)))
 
 -- ---- more pages
 
 pub same_bytes : (places : List (Option PageId)) (pages : List (List ℕ)) (more_places : List (Option PageId))
     (more_pages : List (List ℕ)) → AreKept places pages → AreExtended places pages more_places more_pages
-    → AreSame (kept_of places pages).bytes (kept_of more_places more_pages).bytes
+    → AreSame (bytes_of_places pages places) (bytes_of_places more_pages more_places)
 same_bytes places pages more_places more_pages kept extended at =
     let k : ℕ = at % PAGE_LENGTH in
     let place : ℕ = at / PAGE_LENGTH in
     let below : k < PAGE_LENGTH = omega arith in
     let e : place * PAGE_LENGTH + k ≡ at = omega arith in
-    subst (λ at. slice_index (kept_of more_places more_pages).bytes at ≡ slice_index (kept_of places pages).bytes at) e
-    (kept_byte more_places more_pages extended.kept place k below
+    subst (λ at. slice_index (bytes_of_places more_pages more_places) at ≡ slice_index (bytes_of_places pages places) at) e
+    (kept_byte more_places more_pages extended.kept.whole extended.kept.there place k below
     ∙ ap (λ bytes. slice_index bytes k) (extended.same place)
-    ∙ sym (kept_byte places pages kept place k below))
+    ∙ sym (kept_byte places pages kept.whole kept.there place k below))
 
-pub still_touched : (places : List (Option PageId)) (pages : List (List ℕ)) (more_places : List (Option PageId))
+pub still_touched : (places frozen : List (Option PageId)) (pages : List (List ℕ)) (more_places : List (Option PageId))
     (more_pages : List (List ℕ)) → AreExtended places pages more_places more_pages → (place : ℕ)
-    → is_touched (kept_of places pages) place ≡ true → is_touched (kept_of more_places more_pages) place ≡ true
-still_touched places pages more_places more_pages extended place is =
-    touched_is more_places more_pages place ∙ extended.touched place (sym (touched_is places pages place) ∙ is)
+    → is_touched (kept_of places frozen pages) place ≡ true
+    → is_touched (kept_of more_places frozen more_pages) place ≡ true
+still_touched places frozen pages more_places more_pages extended place is =
+    touched_is more_places frozen more_pages place
+    ∙ extended.touched place (sym (touched_is places frozen pages place) ∙ is)

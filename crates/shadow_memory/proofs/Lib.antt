@@ -4,3 +4,4 @@ pub mod Keeping
 pub mod Counting
 pub mod Datas
 pub mod Takings
+pub mod Frozen

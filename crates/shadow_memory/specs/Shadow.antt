@@ -1,12 +1,28 @@
--- What is known of a memory: its bytes and its size.
-use Rattle.std.specs.Prelude.{◌≡◌, ℕ, ◌-◌, List, Option, None, cond, nat_le, slice_get, slice_index, unwrap_or}
+-- What is known of a memory: its bytes and its size; and what was known when it was frozen.
+use Rattle.std.specs.Prelude.{◌≡◌, ℕ, ◌+◌, ◌-◌, ◌*◌, ◌<◌, ◌⊎◌, List, [], length, Option, None, cond, nat_le, slice_get, slice_index, unwrap_or}
+use Rattle.page_arena.specs.declared.TheConstants.{PAGE_LENGTH}
+
+-- the bytes from address 0 on, with zeros after them, and the number of pages, that were known at some moment
+pub record FrozenBytes : Type 0 where
+  pub bytes : List ℕ
+  pub pages : ℕ
 
 -- the known bytes from address 0 on, with zeros after them; the number of known pages; the number of noticed
--- pages
+-- pages; what was frozen last, which is nothing before the first time
 pub record Shadow : Type 0 where
   pub bytes : List ℕ
   pub known : ℕ
   pub noticed : ℕ
+  pub frozen : FrozenBytes
+
+-- the known bytes and the number of known pages
+abbrev pub to_freeze : Shadow → FrozenBytes
+to_freeze shadow = record { bytes = shadow.bytes; pages = shadow.known }
+
+-- a block has all bytes of a place, which is as long as a page; it may be empty if they are all zeros
+pub record IsBlock (bytes : List ℕ) (place : ℕ) (block : List ℕ) : Type 0 where
+  pub size : (block ≡ []) ⊎ (length block ≡ PAGE_LENGTH)
+  pub byte : (k : ℕ) → k < PAGE_LENGTH → slice_index block k ≡ slice_index bytes (place * PAGE_LENGTH + k)
 
 -- the byte that is known at an address
 abbrev pub known_byte : Shadow → ℕ → ℕ
@@ -30,9 +46,11 @@ pub record HasTaken (before : Shadow) (address : ℕ) (bytes : List ℕ) (after 
   pub byte : AreWritten before.bytes address bytes after.bytes
   pub known : after.known ≡ before.known
   pub noticed : after.noticed ≡ before.noticed
+  pub frozen : after.frozen ≡ before.frozen
 
--- neither the known bytes nor the numbers of pages have changed
+-- neither the known bytes nor the numbers of pages nor what was frozen have changed
 pub record IsUnchanged (before after : Shadow) : Type 0 where
   pub byte : AreSame before.bytes after.bytes
   pub known : after.known ≡ before.known
   pub noticed : after.noticed ≡ before.noticed
+  pub frozen : after.frozen ≡ before.frozen

@@ -53,6 +53,17 @@ pub(crate) fn byte_at(kept: &KeptBytes, addr: usize) -> u8
     kept.page(addr / PAGE_LENGTH)[addr % PAGE_LENGTH]
 }
 
+/// The frozen byte at an address.
+pub(crate) fn frozen_byte_at(kept: &KeptBytes, addr: usize) -> u8
+    ensures { result ≡ slice_index kept.now.frozen addr }
+{
+    let block = kept.frozen_block(addr / PAGE_LENGTH);
+    match block.get(addr % PAGE_LENGTH) {
+        Some(byte) => *byte,
+        None => 0,
+    }
+}
+
 /// The number of bytes of a run, from the first on, that are all the known ones, or all different.
 pub(crate) fn known_count(kept: &KeptBytes, addr: usize, bytes: &[u8], known: bool) -> usize
     requires { addr + length bytes.now ≤ usize.MAX }
@@ -81,6 +92,7 @@ pub(crate) fn known_count(kept: &KeptBytes, addr: usize, bytes: &[u8], known: bo
 pub(crate) fn take_byte(kept: &mut KeptBytes, addr: usize, byte: u8) -> Result<(), NoMemory>
     ensures ok { OnOk result (AreWritten kept.old.bytes addr (byte ∷ []) kept.new.bytes) }
     ensures err { OnErr result (AreSame kept.old.bytes kept.new.bytes) }
+    ensures frozen { kept.new.frozen ≡ kept.old.frozen }
 {
     let place = addr / PAGE_LENGTH;
     kept.touch(place)?;
@@ -97,6 +109,7 @@ pub(crate) fn take_run(kept: &mut KeptBytes, addr: usize, bytes: &[u8]) -> Resul
     requires { addr + length bytes.now ≤ usize.MAX }
     ensures ok { OnOk result (AreWritten kept.old.bytes addr bytes.now kept.new.bytes) }
     ensures err { OnErr result (AreSame kept.old.bytes kept.new.bytes) }
+    ensures frozen { kept.new.frozen ≡ kept.old.frozen }
 {
     let offset = addr % PAGE_LENGTH;
     if bytes.len() > PAGE_LENGTH - offset {
@@ -113,6 +126,7 @@ fn take_pages(kept: &mut KeptBytes, addr: usize, bytes: &[u8]) -> Result<(), NoM
     requires { addr + length bytes.now ≤ usize.MAX }
     ensures ok { OnOk result (AreWritten kept.old.bytes addr bytes.now kept.new.bytes) }
     ensures err { OnErr result (AreSame kept.old.bytes kept.new.bytes) }
+    ensures frozen { kept.new.frozen ≡ kept.old.frozen }
 {
     let first = addr / PAGE_LENGTH;
     let last = (addr + bytes.len()) / PAGE_LENGTH;
@@ -129,6 +143,7 @@ fn touch_all(kept: &mut KeptBytes, first: usize, end: usize) -> Result<(), NoMem
     requires { first ≤ «end» }
     ensures ok { OnOk result ((place : ℕ) → first ≤ place → place < «end» → is_touched kept.new place ≡ true) }
     ensures same { AreSame kept.old.bytes kept.new.bytes }
+    ensures frozen { kept.new.frozen ≡ kept.old.frozen }
 {
     'places: for place in first..end {
         kept.touch(place)?;
@@ -141,7 +156,8 @@ fn put_all(kept: &mut KeptBytes, addr: usize, bytes: &[u8])
     requires fits { addr + length bytes.now ≤ usize.MAX }
     requires touched { (at : ℕ) → addr ≤ at → at < addr + length bytes.now
         → is_touched kept.old (at / PAGE_LENGTH) ≡ true }
-    ensures { AreWritten kept.old.bytes addr bytes.now kept.new.bytes }
+    ensures written { AreWritten kept.old.bytes addr bytes.now kept.new.bytes }
+    ensures frozen { kept.new.frozen ≡ kept.old.frozen }
 {
     let mut done = 0;
     'pages: while done < bytes.len() {
@@ -171,6 +187,7 @@ pub(crate) fn take_difference(
     ensures taken { IfOk result (λ found.
         AreWritten kept.old.bytes addr (take (compared bytes.now found) bytes.now) kept.new.bytes) }
     ensures err { OnErr result (AreSame kept.old.bytes kept.new.bytes) }
+    ensures frozen { kept.new.frozen ≡ kept.old.frozen }
 {
     let start = known_count(kept, addr, bytes, true);
     if start == bytes.len() {

@@ -1,15 +1,15 @@
 // What is known of a memory.
 
-ghost use Rattle.std.specs.Prelude.{◌≡◌, ◌≢◌, ◌↔◌, ◌+◌, ◌≤◌, [], ◌∷◌, length, take, Ok, IsTrue, IsOk, IfOk, OnOk, OnErr};
+ghost use Rattle.std.specs.Prelude.{◌≡◌, ◌≢◌, ◌↔◌, ◌+◌, ◌≤◌, [], ◌∷◌, length, slice_index, take, Ok, IsTrue, IsOk, IfOk, OnOk, OnErr};
 ghost use Rattle.history_spec.specs.Store.{Store};
 ghost use Rattle.history_spec.specs.Instantiation as history;
 ghost use Rattle.shadow_memory.specs.Opening.{IsOpening};
-ghost use Rattle.shadow_memory.specs.Shadow.{known_byte, HasTaken, IsUnchanged};
+ghost use Rattle.shadow_memory.specs.Shadow.{known_byte, to_freeze, HasTaken, IsBlock, IsUnchanged};
 ghost use Rattle.shadow_memory.specs.Runs.{compared, IsComparison};
 
 use crate::known_bytes::KeptBytes;
 use crate::opening::opening;
-use crate::runs::{Difference, byte_at, take_byte, take_difference, take_run};
+use crate::runs::{Difference, byte_at, frozen_byte_at, take_byte, take_difference, take_run};
 use base::NoMemory;
 use host_script::Supply;
 use std::alloc::Global;
@@ -17,12 +17,13 @@ use std::marker::Model;
 use wasm_validate::Checked;
 
 /// What is known of a memory: the byte at each address, and the number of pages. In addition, the number of
-/// pages noticed.
+/// pages noticed, and what was known when the memory was frozen.
 #[derive(Drop)]
 pub struct ShadowMemory {
     bytes: KeptBytes,
     known: u32,
     noticed: u32,
+    frozen_pages: u32,
 }
 
 impl Model for ShadowMemory {
@@ -34,6 +35,7 @@ impl Model for ShadowMemory {
       bytes = shadow.bytes.bytes;
       known = shadow.known;
       noticed = shadow.noticed;
+      frozen = record { bytes = shadow.bytes.frozen; pages = shadow.frozen_pages };
     } };
 }
 
@@ -57,6 +59,7 @@ impl ShadowMemory {
             bytes,
             known: pages,
             noticed: pages,
+            frozen_pages: 0,
         })
     }
 
@@ -139,5 +142,40 @@ impl ShadowMemory {
         ensures { self.new ≡ record self.old { noticed = pages } }
     {
         self.noticed = pages;
+    }
+
+    /// Freezes what is known: later changes do not show in what is frozen, which replaces what was frozen before.
+    ///
+    /// # Errors
+    /// `NoMemory` if an allocation failed; nothing has changed then.
+    pub fn freeze(&mut self) -> Result<(), NoMemory>
+        ensures ok { OnOk result (self.new ≡ record self.old { frozen = to_freeze self.old }) }
+        ensures err { OnErr result (self.new ≡ self.old) }
+    {
+        self.bytes.freeze()?;
+        self.frozen_pages = self.known;
+        Ok(())
+    }
+
+    /// The number of frozen pages.
+    pub fn frozen_pages(&self) -> u32
+        ensures { result ≡ self.now.frozen.pages }
+    {
+        self.frozen_pages
+    }
+
+    /// The frozen byte at an address.
+    pub fn frozen_byte(&self, addr: u64) -> u8
+        ensures { result ≡ slice_index self.now.frozen.bytes addr }
+    {
+        frozen_byte_at(&self.bytes, addr as usize)
+    }
+
+    /// The frozen bytes of a place, that is 4,096 bytes from an address on that is a multiple of 4,096; or no bytes
+    /// if no byte of the place was ever taken, so that all are zeros.
+    pub fn frozen_block(&self, place: usize) -> &[u8]
+        ensures { IsBlock self.now.frozen.bytes place result.now }
+    {
+        self.bytes.frozen_block(place)
     }
 }

@@ -57,6 +57,36 @@ impl ShadowTables {
         Ok(ShadowTables { entries, globals })
     }
 
+    /// A copy of what is known. Later changes do not show in it.
+    ///
+    /// # Errors
+    /// `NoMemory` if an allocation failed.
+    pub fn copy(&self) -> Result<ShadowTables, NoMemory>
+        ensures { IfOk result (λ copy. copy ≡ self.now) }
+    {
+        let alloc = *self.entries.allocator();
+        let entries = Vec::from_slice(alloc, self.entries.as_slice())?;
+        let globals = Vec::from_slice(alloc, self.globals.as_slice())?;
+        Ok(ShadowTables { entries, globals })
+    }
+
+    /// The function that is known of an entry, `None` if the entry is known as empty. The index is below the known
+    /// size.
+    pub fn entry(&self, index: u32) -> Option<u32>
+        requires { index < length self.now.entries }
+        ensures { slice_get self.now.entries index ≡ Some result }
+    {
+        self.entries[index as usize]
+    }
+
+    /// The known value of a global, which exists.
+    pub fn global(&self, global: u32) -> Val
+        requires { global < length self.now.globals }
+        ensures { slice_get self.now.globals global ≡ Some result }
+    {
+        self.globals[global as usize]
+    }
+
     /// Whether a function, or an empty entry, is not what is known of an entry. The index is below the known
     /// size.
     #[inline]

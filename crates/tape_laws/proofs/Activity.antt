@@ -29,6 +29,7 @@ use Rattle.tape_laws.proofs.Held.{whole_pages}
 use Rattle.tape_laws.proofs.StepItems.{there_too}
 use Rattle.tape_laws.proofs.Effects.{AreDone, more_done, grow_done, grow_table_done, AreChanges, changes_done}
 use Rattle.record_replay_spec.proofs.OneList.{pages_after, ordered_rest}
+use Rattle.tape_laws.proofs.TypedStores.{less_within}
 use Rattle.tape_laws.proofs.Activities.{HasSizes, changes_after, no_growth, no_table_growth, size_between, byte_there, entry_there, global_there, holds_needed}
 
 -- ---- sizes that are allowed
@@ -36,12 +37,9 @@ use Rattle.tape_laws.proofs.Activities.{HasSizes, changes_after, no_growth, no_t
 less_allowed : (max : Option ℕ) (most size less : ℕ) → (is_within size max && nat_le size most) ≡ true → less ≤ size
     → (is_within less max && nat_le less most) ≡ true
 less_allowed max most size less h low =
-    and_true (is_within less max) (nat_le less most) (within max (and_left (is_within size max) (nat_le size most) h))
+    and_true (is_within less max) (nat_le less most)
+    (less_within max less size (and_left (is_within size max) (nat_le size most) h) low)
     (let t = and_right (is_within size max) (nat_le size most) h in grind (arith, nat_tests, t, low))
-  where
-    within : (max : Option ℕ) → is_within size max ≡ true → is_within less max ≡ true
-    within None t = refl
-    within (Some m) t = grind (arith, nat_tests, t, low)
 
 pages_allowed : (o : Option Memory) → IfSome o (λ m. allows_pages m (pages m) ≡ true) → (memory : Memory)
     → Some memory.max ≡ option_map (λ m. m.max) o → (size : ℕ) → size ≤ pages_of o → allows_pages memory size ≡ true

@@ -24,7 +24,7 @@ use Rattle.history_spec.specs.Instantiation.{memory_length, table_length}
 use Rattle.history_spec.specs.Instruction.{execute, Execution, Did, Traps, NoRule}
 use Rattle.history_spec.specs.Settle.{deliver}
 use Rattle.history_spec.specs.Action.{perform}
-use Rattle.history_spec.specs.Step.{Program, StepResult, after_entries, after_settling, enter_function, step, start, start_with_call, Finished, step_result, after_control, after_instruction}
+use Rattle.history_spec.specs.Step.{Program, StepResult, after_entries, after_settling, enter_function, start, start_with_call, Finished, step_result, after_control, after_instruction}
 use Rattle.history_spec.specs.declared.entries.Entry.{Entry}
 use Rattle.history_spec.specs.Run.{all_one, steps}
 use Rattle.record_replay_spec.specs.Observations.{Begins, Observation}

@@ -8,7 +8,7 @@ use Rattle.std.proofs.lemmas.Option.{slice_get-get_or, slice_get_past, none-some
 use Rattle.base.proofs.Lists.{get_front, get_after, set_there}
 use Rattle.wasm_syntax.specs.declared.limits.TheConstants.{PAGE_SIZE}
 use Rattle.wasm_syntax.specs.declared.values.Val.{Val}
-use Rattle.history_spec.specs.Store.{Store, Memory, Table, pages, zeros, with_items_at}
+use Rattle.history_spec.specs.Store.{Store, Memory, Table, zeros, with_items_at}
 use Rattle.history_spec.specs.Instantiation.{memory_length, table_length}
 use Rattle.record_replay_spec.specs.Observations.{Observation, Writes, Resizes, WritesEntry, ResizesTable, WritesGlobal}
 use Rattle.record_replay_spec.specs.Known.{byte_among, byte_of, entry_of, pages_of, written_byte, written_entry, written_global}

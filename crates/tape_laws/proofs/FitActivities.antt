@@ -39,7 +39,7 @@ use Rattle.record_replay_spec.specs.ObservedStepLaws.{observed}
 use Rattle.type_safety.specs.Configurations.{Accept, IsConfig, IsSafe, IsTypedCode, scope}
 use Rattle.type_safety.specs.Heights.{Heights}
 use Rattle.type_safety.specs.Results.{HasRule, IsControl, IsActionResult}
-use Rattle.type_safety.specs.Stores.{func_count, IsStore}
+use Rattle.type_safety.specs.Stores.{func_count}
 use Rattle.type_safety.proofs.Responses.{response_fits}
 use Rattle.type_safety.proofs.Values.{types_values}
 use Rattle.tape_laws.proofs.SafeSteps.{safe_step}
@@ -50,7 +50,7 @@ use Rattle.tape_laws.proofs.StepItems.{nothing_read}
 use Rattle.tape_laws.proofs.Parts.{finished_observations}
 use Rattle.tape_laws.proofs.KeptStores.{IsKept}
 use Rattle.tape_laws.proofs.KeptActions.{host_keeps}
-use Rattle.tape_laws.proofs.KeptSteps.{trap_seen, done_seen, done_keeps}
+use Rattle.tape_laws.proofs.KeptSteps.{left_is_store, trap_seen, done_seen, done_keeps}
 use Rattle.tape_laws.proofs.FitSegments.{open_imports, Comes, Leaves, IsWindow, AreActivities, AreFromEnd, AreFrom, from_begin, after_seen}
 use Rattle.tape_laws.proofs.Follows.{AtEachStep}
 
@@ -361,12 +361,6 @@ module _ (laws : LawsOfSteps) (reads : ReadsAreRealAfterSettling) (m : Module) (
       from_return k frame.func results below known store counts
       (delivers below results store counts known nested ends kept safe within)
 
-  left_is_store : (frame : Frame) (ty : FuncType) (body : Definition) (store : Store) (control : Control)
-      → IsStore m store → IsControl (scope m heights frame.func ty body) control → IsStore m (left_store store control)
-  left_is_store frame ty body store (Goes after next) is fine = fine.0
-  left_is_store frame ty body store (Calls waiting func args) is fine = is
-  left_is_store frame ty body store (Returns results) is fine = is
-
   from_instruction : (k : ℕ) → Delivers k → (frame : Frame) (below : List Activation) (store : Store) (counts : List ℕ)
       (known : Known) (ty : FuncType) (body : Definition) → AreNested below → FitEnds m below → IsKept m known store
       → (e : Execution) → execute code store frame ≡ e → HasRule (scope m heights frame.func ty body) e
@@ -389,7 +383,7 @@ module _ (laws : LawsOfSteps) (reads : ReadsAreRealAfterSettling) (m : Module) (
       (from_control k delivers frame below store counts (known_after_all known (observed store frame)) ty body control
       nested ends rule
       (done_keeps laws.own laws.answers m code store kept.is frame known operands results found control e kept
-      (left_is_store frame ty body store control kept.is rule))
+      (left_is_store (scope m heights frame.func ty body) store control kept.is rule))
       safe within)
 
   -- ---- all steps

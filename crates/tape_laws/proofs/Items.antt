@@ -108,7 +108,7 @@ pub if_entries : (o : Option Table) (n : ℕ) → table_length o ≡ n → IfSom
 if_entries None n h = tt
 if_entries (Some t) n h = h
 
-record Between (low middle high : ℕ) : Type 0 where
+pub record Between (low middle high : ℕ) : Type 0 where
   pub more : low ≤ middle
   pub fits : middle ≤ high
 
@@ -122,7 +122,7 @@ resized known real found left more is grows =
     record { more = omega (arith, more, is, grows); fits = omega (arith, is, grows) }
 
 module _ (known : Known) (store : Store) where
-  pages_between : (o : Observation) → IsHere store o → IsFound store o → Answers store o → CanChange store o
+  pub pages_between : (o : Observation) → IsHere store o → IsFound store o → Answers store o → CanChange store o
       → known.pages ≤ pages_of store.memory
       → Between known.pages (pages_after known.pages o) (left_pages (pages_of store.memory) o)
   pages_between (Reaches end found) here is answers possible more =
@@ -133,7 +133,7 @@ module _ (known : Known) (store : Store) where
       resized known.pages (pages_of store.memory) found left more (pages_there store.memory found here answers) possible
   pages_between o here is answers possible more = record { more = omega arith; fits = more }
 
-  entries_between : (o : Observation) → IsHere store o → IsFound store o → Answers store o → CanChange store o
+  pub entries_between : (o : Observation) → IsHere store o → IsFound store o → Answers store o → CanChange store o
       → known.entries ≤ table_length store.table
       → Between known.entries (entries_after known.entries o) (left_entries (table_length store.table) o)
   entries_between (ReachesEntry index found) here is answers possible more =

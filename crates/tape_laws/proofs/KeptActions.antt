@@ -1,8 +1,7 @@
 -- An action of the host that fits changes no immutable global, and keeps all that each step keeps.
-use Rattle.std.proofs.Common.{◌≡◌, ℕ, List, Some, None, Bool, true, false, cond, nat_eq, slice_get, refl, sym, ap, ◌∙◌, subst, arith}
+use Rattle.std.proofs.Common.{◌≡◌, ℕ, List, Some, None, false, cond, slice_get, sym, ap, ◌∙◌, subst}
 use Rattle.std.specs.Prelude.{unwrap_or}
-use Rattle.std.proofs.lemmas.Bool.Decides.{nat_tests}
-use Rattle.std.proofs.lemmas.Option.{same_Some, slice_get_within}
+use Rattle.std.proofs.lemmas.Option.{slice_get_within}
 use Rattle.wasm_syntax.specs.declared.values.ValType.{ValType}
 use Rattle.wasm_syntax.specs.declared.values.Val.{Val}
 use Rattle.wasm_syntax.specs.declared.signatures.GlobalType.{GlobalType}
@@ -19,6 +18,7 @@ use Rattle.type_safety.specs.Stores.{IsStore}
 use Rattle.tape_laws.proofs.Changes.{gives_global}
 use Rattle.tape_laws.proofs.HostStores.{on_changes, fault_changes, same_changes, no_call, host_change, known_of_change}
 use Rattle.tape_laws.proofs.KeptStores.{AreDeclared, IsKept}
+use Rattle.tape_laws.proofs.MutableGlobals.{other_global}
 
 -- an immutable global is unchanged by the action
 host_immutable : (m : Module) (code : Code) (store : Store) (params : List ValType) (args : List Val) (action : Action)
@@ -46,16 +46,8 @@ host_immutable m code store params args (SetGlobal global value) after fits h at
     let below = slice_get_within store.globals global g.0 g.1 in
     ap (λ (s : Store). slice_get s.globals at) (sym (same_changes (with_global store global value) after g.2))
     ∙ (gives_global store global value below).global at
-    ∙ ap (λ b. unwrap_or (cond b (Some (Some value)) None) (slice_get store.globals at)) (other (nat_eq global at) refl)
-  where
-    other : (b : Bool) → nat_eq global at ≡ b → b ≡ false
-    other false p = refl
-    other true p =
-        let same : global ≡ at = grind (arith, nat_tests, p) in
-        let one = same_Some ty fits.ty (sym there ∙ ap (slice_get (all_globals m)) (sym same) ∙ fits.there) in
-        let yes : ty.mutable ≡ true = ap (λ (t : GlobalType). t.mutable) one ∙ fits.mutable in
-        let no = fixed in
-        cc
+    ∙ ap (λ b. unwrap_or (cond b (Some (Some value)) None) (slice_get store.globals at))
+    (other_global m global at ty (fits.ty, fits.there, fits.mutable) there fixed)
 host_immutable m code store params args (Grow by) after fits h at ty there fixed =
     let p = on_changes store.memory _ after h in
     let w = fault_changes _ (grown_memory p.0 by) _ after p.2 in

@@ -9,13 +9,15 @@ use Rattle.history_spec.specs.declared.entries.TrapKind.{TrapKind}
 use Rattle.history_spec.specs.Store.{Store, with_global}
 use Rattle.history_spec.specs.Code.{Code}
 use Rattle.history_spec.specs.Configuration.{Place, place, Frame}
-use Rattle.history_spec.specs.Instruction.{Control, Did, Traps, Operands, on, pop, gives, execute, execute_at}
+use Rattle.history_spec.specs.Instruction.{Control, Goes, Calls, Returns, Did, Traps, Operands, on, pop, gives, execute, execute_at}
 use Rattle.record_replay_spec.specs.Observations.{nest_observations, plain_observations}
 use Rattle.record_replay_spec.specs.Known.{Known, known_after_all}
 use Rattle.record_replay_spec.specs.Changes.{CanChangeAll, with_changes}
 use Rattle.record_replay_spec.specs.Executions.{left_store, IsDoneAlike, IsExecutedAlike}
 use Rattle.record_replay_spec.specs.ObservedStepLaws.{StoresAnswerThemselves, StepsChangeAsObserved, observed}
 use Rattle.record_replay_spec.specs.StoreAnswers.{HasWholePages}
+use Rattle.type_safety.specs.Frames.{Scope}
+use Rattle.type_safety.specs.Results.{IsControl}
 use Rattle.type_safety.specs.Stores.{IsStore}
 use Rattle.tape_laws.specs.RealReads.{IsKnownOf}
 use Rattle.tape_laws.proofs.Relation.{AreSeen}
@@ -23,6 +25,13 @@ use Rattle.tape_laws.proofs.StepItems.{same_maxima_all, known_of_all}
 use Rattle.tape_laws.proofs.Seen.{step_seen}
 use Rattle.tape_laws.proofs.HostStores.{sizes_of, whole_pages_of}
 use Rattle.tape_laws.proofs.KeptStores.{AreDeclared, immutable_after, IsKept}
+
+-- the store that control leaves is well typed
+pub left_is_store : (s : Scope) (store : Store) (control : Control) → IsStore s.m store → IsControl s control
+    → IsStore s.m (left_store store control)
+left_is_store s store (Goes after next) is fine = fine.0
+left_is_store s store (Calls waiting func args) is fine = is
+left_is_store s store (Returns results) is fine = is
 
 -- setting a global never traps
 pub global_never_traps : (code : Code) (store : Store) (frame : Frame) (x : ℕ) (rest : Nest) (kind : TrapKind)

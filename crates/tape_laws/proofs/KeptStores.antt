@@ -1,25 +1,25 @@
 -- What each step of a run keeps of its store and of what is known: maxima are within those declared, and immutable
 -- globals are known.
-use Rattle.std.proofs.Common.{◌≡◌, ℕ, ◌++◌, List, [], ◌∷◌, Option, Some, None, Bool, true, false, ◌&&◌, nat_le, slice_get, refl, sym, subst, arith}
+use Rattle.std.proofs.Common.{◌≡◌, ℕ, ◌++◌, List, [], ◌∷◌, Option, Some, None, Bool, true, ◌&&◌, nat_le, slice_get, refl, sym, ap, ◌∙◌, subst}
 use Rattle.std.specs.Prelude.{option_map, Ok}
 use Rattle.std.proofs.lemmas.Option.{same_Some}
 use Rattle.base.proofs.Booleans.{and_left, and_right}
 use Rattle.wasm_syntax.specs.declared.limits.TheConstants.{MAX_ENTRIES, MAX_PAGES}
 use Rattle.wasm_syntax.specs.declared.values.Val.{Val}
 use Rattle.wasm_syntax.specs.declared.signatures.Limits.{Limits}
-use Rattle.wasm_syntax.specs.declared.signatures.GlobalType.{GlobalType}
 use Rattle.wasm_syntax.specs.declared.modules.Module.{Module}
-use Rattle.wasm_syntax.specs.Index.{of_kind, memory_import, table_import, all_tables, all_memories, all_globals}
+use Rattle.wasm_syntax.specs.Index.{of_kind, memory_import, table_import, all_tables, all_memories}
 use Rattle.host_script.specs.declared.scripts.Supply.{Supply}
 use Rattle.host_script.specs.Supply.{keeps_max, is_within, limits_match}
 use Rattle.history_spec.specs.Store.{Store, Memory, Table}
-use Rattle.history_spec.specs.Instantiation.{limits_of, new_memory, new_table, new_store, with_datas, with_elems, with_segments, first_unfit, store_unless, instantiate}
+use Rattle.history_spec.specs.Instantiation.{limits_of, memory_limits, table_limits, new_memory, new_table, new_store, with_datas, with_elems, with_segments, first_unfit, store_unless, instantiate}
 use Rattle.record_replay_spec.specs.Observations.{Observation}
 use Rattle.record_replay_spec.specs.Known.{Known, known_after, known_after_all, read_global, written_global}
 use Rattle.record_replay_spec.specs.Changes.{with_change, with_changes}
 use Rattle.type_safety.specs.Stores.{IsStore}
 use Rattle.type_safety.specs.Supplies.{Match, IsSupply}
 use Rattle.type_safety.proofs.Supplies.{max_kept}
+use Rattle.tape_laws.specs.KnownValues.{KnowsImmutable}
 use Rattle.tape_laws.specs.RealReads.{IsKnownOf}
 use Rattle.tape_laws.proofs.Stores.{Maxima, maxima}
 use Rattle.tape_laws.proofs.Relation.{AreSeen}
@@ -75,34 +75,38 @@ written_table : (m : Module) (imported : List Val) (o : Option Limits)
 written_table m imported None = refl
 written_table m imported (Some limits) = refl
 
--- the store of a newly instantiated module
-pub new_declared : (m : Module) (supply : Supply) (store : Store) → IsSupply m supply
-    → instantiate m supply ≡ Ok store → AreDeclared m (maxima store)
-new_declared m supply store matches opens =
-    subst (λ (s : Store). AreDeclared m (maxima s)) (is (first_unfit m supply.globals (new_store m supply)) opens)
-    (record {
-      pages =
-          subst (IsDeclared (all_memories m))
-          (sym (written_memory m supply.globals (limits_of (of_kind memory_import m.imports) supply.memory m.memories)))
-          (limits_declared MAX_PAGES (of_kind memory_import m.imports) m.memories supply.memory matches.memory);
-      entries =
-          subst (IsDeclared (all_tables m))
-          (sym (written_table m supply.globals (limits_of (of_kind table_import m.imports) supply.table m.tables)))
-          (limits_declared MAX_ENTRIES (of_kind table_import m.imports) m.tables supply.table matches.table);
-    })
+-- the store of a newly instantiated module is the one in which the segments are written
+pub store_made : (m : Module) (supply : Supply) (store : Store) → instantiate m supply ≡ Ok store
+    → with_segments m supply.globals (new_store m supply) ≡ store
+store_made m supply store opens = is (first_unfit m supply.globals (new_store m supply)) opens
   where
     is : (o : Option ℕ) → store_unless o (with_segments m supply.globals (new_store m supply)) ≡ Ok store
         → with_segments m supply.globals (new_store m supply) ≡ store
     is None h = cc
     is (Some n) h = cc
 
--- ---- immutable globals
+-- the maxima of the store of a newly instantiated module are those of its limits
+pub new_maxima : (m : Module) (supply : Supply) (store : Store) → instantiate m supply ≡ Ok store
+    → maxima store
+    ≡ record {
+      pages = option_map (λ limits. limits.max) (memory_limits m supply);
+      entries = option_map (λ limits. limits.max) (table_limits m supply);
+    }
+new_maxima m supply store opens =
+    let pages = written_memory m supply.globals (memory_limits m supply) in
+    let entries = written_table m supply.globals (table_limits m supply) in
+    sym (ap maxima (store_made m supply store opens)) ∙ (λ j. record { pages = pages j; entries = entries j })
 
--- an immutable global is known
-abbrev pub KnowsImmutable : Module → Known → Store → Type 0
-KnowsImmutable m known store =
-    (at : ℕ) (ty : GlobalType) → slice_get (all_globals m) at ≡ Some ty → ty.mutable ≡ false
-    → known.global at ≡ slice_get store.globals at
+pub new_declared : (m : Module) (supply : Supply) (store : Store) → IsSupply m supply
+    → instantiate m supply ≡ Ok store → AreDeclared m (maxima store)
+new_declared m supply store matches opens =
+    subst (AreDeclared m) (sym (new_maxima m supply store opens))
+    (record {
+      pages = limits_declared MAX_PAGES (of_kind memory_import m.imports) m.memories supply.memory matches.memory;
+      entries = limits_declared MAX_ENTRIES (of_kind table_import m.imports) m.tables supply.table matches.table;
+    })
+
+-- ---- immutable globals
 
 -- a known global is known after what the module observes
 known_after_seen : (known : Known) (store : Store) (seen : List Observation) (at : ℕ) → AreSeen known store seen

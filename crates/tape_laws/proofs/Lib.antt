@@ -12,9 +12,13 @@ pub mod Same
 pub mod Activities
 pub mod Activity
 pub mod HostStores
+pub mod TypedStores
+pub mod ObservedKinds
+pub mod MutableGlobals
 pub mod KeptStores
 pub mod KeptSteps
 pub mod SafeRuns
+pub mod KeptInRuns
 pub mod Claims
 pub mod Closed
 pub mod Follows
@@ -36,6 +40,7 @@ pub mod DroppedRuns
 pub mod DroppedTapes
 pub mod RealReads
 pub mod RunReads
+pub mod NewStores
 pub mod FitEffects
 pub mod Placed
 pub mod NeededEffects
@@ -52,6 +57,7 @@ pub mod Trails
 pub mod EachMoment
 pub mod Reportable
 pub mod ModuleFacts
+pub mod KnownValues
 pub mod NextInstructions
 pub mod Mirrors
 pub mod TrailsOfRuns

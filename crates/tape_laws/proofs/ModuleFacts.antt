@@ -1,36 +1,31 @@
 -- What an instruction of a well-typed activation observes, and what hooks report of it, as the order of hook calls
 -- needs.
-use Rattle.std.proofs.Common.{◌≡◌, ℕ, ◌+◌, ◌<◌, List, [], ◌∷◌, ◌++◌, length, Option, Some, None, Bool, true, false, slice_get, refl, sym, ap, ◌∙◌, subst, map, reverse}
-use Rattle.std.specs.Prelude.{IfSome, option_and_then}
+use Rattle.std.proofs.Common.{◌≡◌, ℕ, ◌+◌, ◌<◌, List, [], ◌∷◌, ◌++◌, length, Option, Some, None, true, slice_get, refl, sym, ap, ◌∙◌, subst, map, reverse}
 use Rattle.std.specs.List.{AllByRecursion}
-use Rattle.std.specs.Option.{option_flatten}
 use Rattle.std.proofs.lemmas.Option.{slice_get_within}
 use Rattle.base.proofs.Options.{and_then_some}
-use Rattle.base.proofs.Lists.{all_at}
 use Rattle.wasm_syntax.specs.declared.values.ValType.{ValType}
 use Rattle.wasm_syntax.specs.declared.values.Val.{Val}
 use Rattle.wasm_syntax.specs.declared.signatures.FuncType.{FuncType}
 use Rattle.wasm_syntax.specs.declared.signatures.GlobalType.{GlobalType}
-use Rattle.wasm_syntax.specs.declared.signatures.Limits.{Limits}
 use Rattle.wasm_syntax.specs.declared.instructions.Instr.{Instr}
 use Rattle.wasm_syntax.specs.declared.instructions.Instr.TheVariants as instrs
 use Rattle.wasm_syntax.specs.declared.modules.Module.{Module}
 use Rattle.wasm_syntax.specs.Encoding.Forms.{IsCoreInstr}
 use Rattle.wasm_syntax.specs.Index.{func_indices, all_globals, all_memories}
 use Rattle.wasm_syntax.specs.Nest.{Nest, Plain}
-use Rattle.wasm_syntax.specs.Opcodes.{load_of, store_of}
-use Rattle.wasm_syntax.specs.Typing.{Moves, if_true, is_number, instr_type, set_of, Leads, IsTyped}
+use Rattle.wasm_syntax.specs.Typing.{is_number, IsTyped}
 use Rattle.history_spec.specs.Code.{Code, code_of, signature, Definition, definition, zero_of}
 use Rattle.history_spec.specs.Configuration.{place, Frame}
 use Rattle.history_spec.specs.Instantiation.{table_length}
 use Rattle.history_spec.specs.Instruction.{Execution, Did, Traps, NoRule, execute, execute_at}
-use Rattle.history_spec.specs.Store.{Store, Memory, Table, with_bytes_at, bytes_at, bytes_of}
+use Rattle.history_spec.specs.Store.{Store, Memory, Table}
 use Rattle.history_spec.specs.Step.{frame_of}
 use Rattle.record_replay_spec.specs.Observations as replay
-use Rattle.record_replay_spec.specs.Observations.{Observation, Reaches, ReachesEntry, ReadsEntry, WritesEntry, ResizesTable, bits_from_top, entry_observations, plain_observations, nest_observations}
-use Rattle.record_replay_spec.specs.Known.{Known, entry_of, entries_after, known_after, known_after_all}
+use Rattle.record_replay_spec.specs.Observations.{Observation, ReachesEntry, ReadsEntry, WritesEntry, ResizesTable, bits_from_top, entry_observations, nest_observations}
+use Rattle.record_replay_spec.specs.Known.{Known, entries_after, known_after, known_after_all}
 use Rattle.type_safety.specs.Frames.{Scope, context, IsFrame, IsAround, IsCode}
-use Rattle.type_safety.specs.Stores.{func_count, MayBeTable, IsStore}
+use Rattle.type_safety.specs.Stores.{func_count, IsStore}
 use Rattle.type_safety.specs.Values.{count_of, AreValues}
 use Rattle.type_safety.specs.Configurations.{scope}
 use Rattle.type_safety.specs.Heights.{Heights}
@@ -40,8 +35,10 @@ use Rattle.record_replay_spec.specs.Order.{HookedShape, bits_fit}
 use Rattle.record_replay_spec.specs.ReportedCalls.{reported_before, reported_after, store_executed, next_of_nest, WaitingCall, waiting_after_step}
 use Rattle.tape_laws.proofs.CoreFrames.{CoreNest, IsNoCall}
 use Rattle.tape_laws.proofs.Trails.{IsOfCore, AreReportable}
-use Rattle.tape_laws.proofs.Reportable.{IsShapeOf, AreReportedWell, IsFine, SetsMutable, plain_well, fits_number, in_range, memory_there}
+use Rattle.tape_laws.proofs.Reportable.{IsShapeOf, AreReportedWell, IsFine, plain_well, fits_number, in_range, memory_there}
 use Rattle.tape_laws.proofs.RunCalls.{global_at}
+use Rattle.tape_laws.proofs.MutableGlobals.{sets_mutable}
+use Rattle.tape_laws.proofs.ObservedKinds.{UsesTable, ChangesTable, CanObserve, all_observed}
 
 -- ---- the known number of entries
 
@@ -61,107 +58,41 @@ entries_stay known (o ∷ items) h = entries_stay (known_after known o) items h.
     one (ResizesTable found left func) h = absurd h
     one o h = refl
 
--- an observation is of the memory or of a global
-abbrev IsOrdinary : Observation → Type 0
-IsOrdinary (ReadsEntry index func) = ⊥
-IsOrdinary (WritesEntry index func) = ⊥
-IsOrdinary (ReachesEntry index found) = ⊥
-IsOrdinary (ResizesTable found left func) = ⊥
-IsOrdinary o = Unit {0}
+-- an instruction of a module of the form Core has no size of the table and does not change it
+no_change : (i : Instr) → IsCoreInstr i → ChangesTable i → ⊥
+no_change (instrs.TableSet t) core changes = absurd core
+no_change (instrs.TableSize t) core changes = absurd core
+no_change (instrs.TableGrow t) core changes = absurd core
+no_change i core changes = absurd changes
 
-module _ (P : Observation → Type 0) (ordinary : (o : Observation) → IsOrdinary o → P o) where
-  all_on : {X : Type 0} (o : Option X) (observe : X → List Observation)
-      → ((x : X) → AllByRecursion P (observe x)) → AllByRecursion P (replay.on o observe)
-  all_on None observe each = tt
-  all_on (Some x) observe each = each x
-
-  -- what an instruction other than a call by the table observes
-  all_plain : (store : Store) (values : List Val) (i : Instr) → IsCoreInstr i
-      → ((t : ℕ) → i ≡ instrs.CallIndirect t → AllByRecursion P (plain_observations store values i))
-      → AllByRecursion P (plain_observations store values i)
-  all_plain store values (instrs.Load at) core calls =
-      all_on (load_of at.op) _ (λ access.
-      all_on store.memory _ (λ memory. (
-        ordinary (Reaches _ _) tt,
-        all_on (bytes_at memory.bytes (bits_from_top values 0 + at.offset) access.width) _ (λ bytes.
-            (ordinary (replay.Reads _ bytes) tt, tt)),
-      )))
-  all_plain store values (instrs.Store at) core calls =
-      all_on (store_of at.op) _ (λ access.
-      all_on store.memory _ (λ memory. (
-        ordinary (Reaches _ _) tt,
-        all_on
-            (with_bytes_at memory.bytes (bits_from_top values 1 + at.offset)
-            (bytes_of access.width (bits_from_top values 0))) _ (λ all. (ordinary (replay.Writes _ _) tt, tt)),
-      )))
-  all_plain store values instrs.MemorySize core calls =
-      all_on store.memory _ (λ memory. (ordinary (replay.Resizes _ _) tt, tt))
-  all_plain store values instrs.MemoryGrow core calls =
-      all_on store.memory _ (λ memory. (ordinary (replay.Resizes _ _) tt, tt))
-  all_plain store values instrs.MemoryCopy core calls =
-      all_on store.memory _ (λ memory. (
-        ordinary (Reaches _ _) tt,
-        (
-          ordinary (Reaches _ _) tt,
-          all_on (bytes_at memory.bytes (bits_from_top values 1) (bits_from_top values 0)) _ (λ bytes.
-              all_on (with_bytes_at memory.bytes (bits_from_top values 2) bytes) _ (λ all.
-              (ordinary (replay.Copies _ bytes) tt, (ordinary (replay.Writes _ bytes) tt, tt)))),
-        ),
-      ))
-  all_plain store values instrs.MemoryFill core calls =
-      all_on store.memory _ (λ memory. (
-        ordinary (Reaches _ _) tt,
-        all_on (with_bytes_at memory.bytes (bits_from_top values 2) _) _ (λ all.
-            (ordinary (replay.Writes _ _) tt, tt)),
-      ))
-  all_plain store values (instrs.GlobalGet x) core calls =
-      all_on (slice_get store.globals x) _ (λ value. (ordinary (replay.ReadsGlobal x value) tt, tt))
-  all_plain store values (instrs.GlobalSet x) core calls =
-      all_on (slice_get values 0) _ (λ value. (ordinary (replay.WritesGlobal x value) tt, tt))
-  all_plain store values (instrs.CallIndirect t) core calls = calls t refl
-  all_plain store values (instrs.TableSet t) core calls = absurd core
-  all_plain store values (instrs.TableGrow t) core calls = absurd core
-  all_plain store values (instrs.TableSize t) core calls = absurd core
-  all_plain store values i core calls = tt
-
-not_of_table : (o : Observation) → IsOrdinary o → IsNotOfTable o
-not_of_table (ReachesEntry index found) h = absurd h
-not_of_table (ResizesTable found left func) h = absurd h
-not_of_table o h = tt
-
-of_core : (o : Observation) → IsOrdinary o → IsOfCore o
-of_core (WritesEntry index func) h = absurd h
-of_core (ResizesTable found left func) h = absurd h
-of_core o h = tt
+-- an instruction of a module of the form Core that calls nothing uses no entries
+no_use : (i : Instr) → IsCoreInstr i → IsNoCall (Some i) → UsesTable i → ⊥
+no_use (instrs.TableSet t) core none uses = absurd core
+no_use (instrs.CallIndirect t) core none uses = absurd none
+no_use i core none uses = absurd uses
 
 -- an instruction of a module of the form Core does not change the table
 pub nest_of_core : (store : Store) (values : List Val) (nest : Nest) → CoreNest nest
     → AllByRecursion IsOfCore (nest_observations store values nest)
-nest_of_core store values (Plain i rest) core =
-    all_plain IsOfCore of_core store values i core.0
-    (λ t is. subst (λ j. AllByRecursion IsOfCore (plain_observations store values j)) (sym is) (calls store.table))
+nest_of_core store values nest core =
+    all_observed IsOfCore store values nest (λ i rest is. each i (subst CoreNest is core).0)
   where
-    calls : (o : Option Table) → AllByRecursion IsOfCore (replay.on o (entry_observations (bits_from_top values 0)))
-    calls None = tt
-    calls (Some table) = go (slice_get table.entries (bits_from_top values 0))
-      where
-        go : (o : Option (Option ℕ))
-            → AllByRecursion IsOfCore
-            (ReachesEntry (bits_from_top values 0) (length table.entries)
-            ∷ replay.on o (λ func. ReadsEntry (bits_from_top values 0) func ∷ []))
-        go None = (tt, tt)
-        go (Some func) = (tt, (tt, tt))
-nest_of_core store values nest core = tt
-
-no_call : (i : Instr) → IsNoCall (Some i) → (t : ℕ) → i ≡ instrs.CallIndirect t → ⊥
-no_call i none t is = subst (λ j. IsNoCall (Some j)) is none
+    each : (i : Instr) → IsCoreInstr i → (o : Observation) → CanObserve i o → IsOfCore o
+    each i core (WritesEntry index func) can = no_change i core can
+    each i core (ResizesTable found left func) can = no_change i core can
+    each i core o can = tt
 
 pub nest_stays : (known : Known) (store : Store) (values : List Val) (nest : Nest) → CoreNest nest
     → IsNoCall (next_of_nest nest) → (known_after_all known (nest_observations store values nest)).entries ≡ known.entries
-nest_stays known store values (Plain i rest) core none =
-    entries_stay known (plain_observations store values i)
-    (all_plain IsNotOfTable not_of_table store values i core.0 (λ t is. absurd (no_call i none t is)))
-nest_stays known store values nest core none = refl
+nest_stays known store values nest core none =
+    entries_stay known (nest_observations store values nest)
+    (all_observed IsNotOfTable store values nest (λ i rest is.
+    each i (subst CoreNest is core).0 (subst (λ n. IsNoCall (next_of_nest n)) is none)))
+  where
+    each : (i : Instr) → IsCoreInstr i → IsNoCall (Some i) → (o : Observation) → CanObserve i o → IsNotOfTable o
+    each i core none (ReachesEntry index found) can = no_use i core none can
+    each i core none (ResizesTable found left func) can = no_change i core can
+    each i core none o can = tt
 
 -- a call by the table sees the table's size
 pub call_sees : (known : Known) (store : Store) (values : List Val) (t : ℕ) (rest nest : Nest) (table : Table)
@@ -185,20 +116,6 @@ call_sees known store values t rest nest table is here =
     one None = refl
     one (Some func) = refl
 
--- an entry that holds a function holds one of the module
-pub entry_there : (funcs : ℕ) (limits : List Limits) (o : Option Table) (index : ℕ) → MayBeTable funcs limits o
-    → IfSome (entry_of o index) (λ callee. callee < funcs)
-entry_there funcs limits None index h = tt
-entry_there funcs [] (Some table) index h = absurd h
-entry_there funcs (l ∷ limits) (Some table) index h = go (slice_get table.entries index) refl
-  where
-    go : (o : Option (Option ℕ)) → slice_get table.entries index ≡ o
-        → IfSome (option_flatten o) (λ callee. callee < funcs)
-    go None e = tt
-    go (Some None) e = tt
-    go (Some (Some callee)) e =
-        all_at (λ entry. IfSome entry (λ func. func < funcs)) table.entries index (Some callee) h.entries e
-
 -- a function that has a type exists
 pub func_there : (m : Module) (func : ℕ) (ty : FuncType) → signature (code_of m) func ≡ Some ty → func < func_count m
 func_there m func ty h =
@@ -216,28 +133,6 @@ no_call_waits (Some i) operands none waiting = refl
 
 module _ (m : Module) (shape : HookedShape) (is : IsShapeOf m shape)
     (number : (x : ℕ) (g : GlobalType) → slice_get (all_globals m) x ≡ Some g → is_number g.ty ≡ true) where
-  -- a global that a well-typed instruction sets is mutable
-  sets_mutable : (store : Store) (values : List Val) (s : Scope) → s.m ≡ m → (labels : List (List ValType))
-      (i : Instr) (before middle : List ValType)
-      → Leads (context s labels) (instr_type (context s labels) i) before middle
-      → SetsMutable m shape is store values i
-  sets_mutable store values s same labels (instrs.GlobalSet x) before middle leads =
-      go (slice_get (all_globals m) x) refl
-      (subst (λ own. Leads (context s labels) (option_and_then set_of (slice_get (all_globals own) x)) before middle)
-      same leads)
-    where
-      go : (o : Option GlobalType) → slice_get (all_globals m) x ≡ o
-          → Leads (context s labels) (option_and_then set_of o) before middle
-          → (g : GlobalType) × (slice_get (all_globals m) x ≡ Some g) × (g.mutable ≡ true)
-      go None e h = absurd h
-      go (Some g) e h = (g, e, by g.mutable refl h)
-        where
-          by : (b : Bool) → g.mutable ≡ b
-              → Leads (context s labels) (if_true b (Moves (g.ty ∷ []) [])) before middle → g.mutable ≡ true
-          by true e h = e
-          by false e h = absurd h
-  sets_mutable store values s same labels i before middle leads = tt
-
   -- the hook calls of the next instruction of a body can be made in order
   abbrev pub AreNestReportedWell : Store → Nest → Execution → Type 0
   AreNestReportedWell store nest (Did operands results found control) =
@@ -305,7 +200,7 @@ module _ (m : Module) (shape : HookedShape) (is : IsShapeOf m shape)
       go (Plain i rest) n c none before after typed =
           plain_nest store frame.values i rest (execute_at code store frame (Plain i rest) n)
           (plain_well m shape is store frame.values code frame (place rest (n + 1)) memory_here global_fine top number
-          i c.0 none (sets_mutable store frame.values s same f.labels i before typed.0 typed.1)).reports
+          i c.0 none (sets_mutable m s same f.labels i before typed.0 typed.1)).reports
       go nest n c none before after typed =
           silent_nest store nest refl (execute_at code store frame nest n)
 

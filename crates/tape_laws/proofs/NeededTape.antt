@@ -1,5 +1,5 @@
 -- A run with an outcome has exactly one needed tape, which fits the module and replays the run.
-use Rattle.std.proofs.Common.{◌≡◌, ℕ, [], Ok, refl}
+use Rattle.std.proofs.Common.{◌≡◌, ℕ, [], Ok}
 use Rattle.wasm_syntax.specs.declared.modules.Module.{Module}
 use Rattle.host_script.specs.declared.scripts.Script.{Script}
 use Rattle.host_script.specs.declared.scripts.Supply.{Supply}
@@ -18,11 +18,9 @@ use Rattle.type_safety.specs.Supplies.{IsRunnable}
 use Rattle.tape_laws.specs.Below.{LawsOfSteps, LawsOfRuns}
 use Rattle.tape_laws.specs.RealReads.{observed_from}
 use Rattle.tape_laws.specs.NeededTape.{NeededTapesFit, RunsHaveOneNeededTape}
-use Rattle.tape_laws.proofs.HostStores.{sizes_of}
-use Rattle.tape_laws.proofs.AllSteps.{opening_is_known}
 use Rattle.tape_laws.proofs.Whole.{needed_tape_replays}
 use Rattle.tape_laws.proofs.RealReads.{reads_are_real_after_settling}
-use Rattle.tape_laws.proofs.KeptStores.{new_declared, IsKept}
+use Rattle.tape_laws.proofs.NewStores.{new_kept}
 use Rattle.tape_laws.proofs.FitSegments.{AreFromEnd, first_needed, first_fits}
 use Rattle.tape_laws.proofs.FitActivities.{from_start}
 use Rattle.tape_laws.proofs.SafeRuns.{safe_run}
@@ -41,12 +39,7 @@ module _ (laws : LawsOfSteps) (safety : LawsOfRuns) (m : Module) (script : Scrip
       → AreFromEnd m (opening_known store) [] (observed_from program count initial)
   run_fits count outcome ends =
       let run = safe_run safety m script supply store runnable fits links opens in
-      let kept : IsKept m (opening_known store) store = record {
-        is = run.is;
-        of = opening_is_known store (sizes_of m store run.is);
-        declared = new_declared m supply store (safety.supplied m script supply fits links) opens;
-        immutable = λ at ty there fixed. refl;
-      } in
+      let kept = new_kept m supply store run.is (safety.supplied m script supply fits links) opens in
       from_start laws (reads_are_real_after_settling laws) m run.heights runnable.valid run.typed script.imports
       fits.imports count script.main store (opening_known store) kept m.start runnable.valid.outside.start run.safe
       (outcome, ends)

@@ -37,6 +37,7 @@ use Rattle.record_replay_spec.specs.ReportedCalls.{i64_value, reported, reported
 use Rattle.record_replay_spec.specs.Order.{HookedShape, OrderState, is_some_there, may_report, bits_fit, is_width, fits_global, stays, ordered_kind, when}
 use Rattle.record_replay_spec.specs.Logs.{notices_size, own_events}
 use Rattle.tape_laws.proofs.CoreFrames.{IsNoCall}
+use Rattle.tape_laws.proofs.MutableGlobals.{SetsMutable}
 use Rattle.tape_laws.proofs.Trails.{IsReportable, AreReportable}
 
 -- the facts about a module on which the order of its hook calls depends, as the instrumented module has them
@@ -256,12 +257,6 @@ module _ (m : Module) (shape : HookedShape) (is : IsShapeOf m shape) where
 
     -- ---- any instruction but calls
 
-    -- a global that an instruction sets is mutable
-    abbrev pub SetsMutable : Instr → Type 0
-    SetsMutable (instrs.GlobalSet x) =
-        (g : GlobalType) × (slice_get (all_globals m) x ≡ Some g) × (g.mutable ≡ true)
-    SetsMutable i = Unit {0}
-
     -- a global of the store: its type, and that its bits fit
     pub record IsFine (x : ℕ) (value : Val) : Type 0 where
       pub ty : GlobalType
@@ -328,7 +323,7 @@ module _ (m : Module) (shape : HookedShape) (is : IsShapeOf m shape) where
           (before memory here p.operands (popped (I32 ∷ I32 ∷ I32 ∷ []) frame.values p e).typed) after
           (written memory p)))
 
-      pub plain_well : (i : Instr) → IsCoreInstr i → IsNoCall (Some i) → SetsMutable i
+      pub plain_well : (i : Instr) → IsCoreInstr i → IsNoCall (Some i) → SetsMutable m i
           → ReportsWell i (execute_plain code store frame next i)
       plain_well (instrs.Call func) h none sets = absurd none
       plain_well (instrs.CallIndirect t) h none sets = absurd none

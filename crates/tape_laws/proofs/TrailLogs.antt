@@ -1,5 +1,5 @@
 -- The hook calls of a trail have events, and the marks of these events agree with the trail's observations.
-use Rattle.std.proofs.Common.{◌≡◌, ℕ, ◌+◌, List, [], ◌∷◌, ◌++◌, Option, Some, None, true, false, cond, nat_lt, slice_get, refl, sym, ap, ◌∙◌, subst}
+use Rattle.std.proofs.Common.{◌≡◌, ℕ, List, [], ◌∷◌, ◌++◌, Option, Some, None, true, false, cond, nat_lt, slice_get, refl, sym, ap, ◌∙◌, subst}
 use Rattle.std.specs.Prelude.{◌||◌, Ok}
 use Rattle.std.proofs.Math.Bool.{or-true}
 use Rattle.wasm_syntax.specs.declared.values.Val.{Val}

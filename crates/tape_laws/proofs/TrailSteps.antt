@@ -42,7 +42,8 @@ use Rattle.record_replay_spec.specs.Order.{HookedShape}
 use Rattle.record_replay_spec.specs.ReportedCalls.{reported_by_step, reported_by_trap, Moment, moments, next_of_nest, store_executed}
 use Rattle.tape_laws.proofs.CoreFrames.{CoreFrame, CoreStack, IsNoCall, CallsAs, KeepsCore, Keeps, execute_keeps}
 use Rattle.tape_laws.proofs.Mirrors.{OpenFunction, Mirrors}
-use Rattle.tape_laws.proofs.ModuleFacts.{AreNestReportedWell, nest_of_core, func_there, nest_stays, call_sees, entry_there, no_call_waits, nest_well}
+use Rattle.tape_laws.proofs.TypedStores.{entry_there}
+use Rattle.tape_laws.proofs.ModuleFacts.{AreNestReportedWell, nest_of_core, func_there, nest_stays, call_sees, no_call_waits, nest_well}
 use Rattle.tape_laws.proofs.RunCalls.{moments_at, RuleHolds, IsReportedOfNest, nest_reported, global_at, few_pages}
 use Rattle.tape_laws.proofs.CallObservations.{seen_by, as_reported}
 use Rattle.tape_laws.proofs.Reportable.{IsShapeOf}

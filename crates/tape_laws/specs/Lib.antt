@@ -6,3 +6,4 @@ pub mod NeededTape
 pub mod ReportedObservations
 pub mod CallLaws
 pub mod LogLaws
+pub mod KnownValues

@@ -2,6 +2,7 @@
 
 ghost use Rattle.tape_laws.specs.Below.{LawsOfRuns, LawsOfSteps};
 ghost use Rattle.tape_laws.specs.Dropped.{NothingCanBeDropped, OtherRunsNeverHaveTheHistory};
+ghost use Rattle.tape_laws.specs.KnownValues.{KnownValuesAreTyped};
 ghost use Rattle.tape_laws.specs.Laws.{NeededTapesReplayRuns};
 ghost use Rattle.tape_laws.specs.NeededTape.{NeededTapesFit, RunsHaveOneNeededTape};
 ghost use Rattle.tape_laws.specs.RealReads.{ReadsAreReal, ReadsAreRealAfterSettling, RunsReadWhatIsThere};
@@ -54,6 +55,15 @@ pub fn reads_are_real()
 /// rest of a window reads first what the store holds.
 pub fn runs_read_what_is_there()
     ensures { RunsReadWhatIsThere }
+{
+    laws_of_steps();
+    laws_of_runs();
+}
+
+/// At each step at which a scripted run goes on, what is known from the observations so far is typed, and immutable
+/// globals are known with the values that they have where the run begins.
+pub fn known_values_are_typed()
+    ensures { KnownValuesAreTyped }
 {
     laws_of_steps();
     laws_of_runs();

@@ -9,7 +9,8 @@ pub mod log_laws;
 
 pub use call_laws::{hook_calls_are_in_order, hook_calls_observe_runs};
 pub use laws::{
-    laws_of_runs, laws_of_steps, needed_tape_fits, needed_tape_replays, nothing_can_be_dropped,
-    other_runs_differ, reads_are_real, run_has_one_needed_tape, runs_read_what_is_there,
+    known_values_are_typed, laws_of_runs, laws_of_steps, needed_tape_fits, needed_tape_replays,
+    nothing_can_be_dropped, other_runs_differ, reads_are_real, run_has_one_needed_tape,
+    runs_read_what_is_there,
 };
 pub use log_laws::{logs_are_balanced, logs_give_needed_tapes};

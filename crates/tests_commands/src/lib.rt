@@ -1,5 +1,6 @@
 //! Tests alone: calls of the commands with their statuses and lines of error, over files and sinks that can
-//! fail, for modules and scripts that are refused, and for large ones. All was worked out by hand.
+//! fail, for modules and scripts that are refused, and for large ones; and these files and sinks, of the system and in
+//! memory, if no contract says what a file contained or what was written. All was worked out by hand.
 #![tactic(auto)]
 
 #[cfg(test)]

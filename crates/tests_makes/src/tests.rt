@@ -1,4 +1,5 @@
-//! What `make` prints.
+//! What `make` and `from` print.
 
 mod make_rows;
 mod replay_files;
+mod rests;

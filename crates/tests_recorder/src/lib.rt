@@ -4,6 +4,8 @@
 #[cfg(test)]
 mod calls;
 #[cfg(test)]
+mod freezes;
+#[cfg(test)]
 mod modules;
 #[cfg(test)]
 mod rows;

@@ -1,4 +1,4 @@
-//! Steps one after another: hook calls, and what the host does between them.
+//! Steps one after another: hook calls, what the host does between them, and when the recorder is frozen.
 
 ghost use Rattle.std.specs.Prelude.{◌≡◌};
 ghost use Rattle.tests_recorder.specs.Modules.{nothing};
@@ -18,13 +18,14 @@ use wasm_validate::validate;
 const MAX_FUNCS: usize = 1_000;
 
 /// A hook call with the bits of its arguments; or the host writes bytes from an address on, grows the memory by
-/// a page, or sets the first entry of the table to the last function.
+/// a page, or sets the first entry of the table to the last function; or the recorder is frozen.
 #[derive(Clone, Copy)]
 pub(crate) enum Step {
     Call(Hook, &'static [u64]),
     Write(u64, &'static [u8]),
     Grow,
     SetEntry,
+    Freeze,
 }
 
 /// A supply without parts.
@@ -96,6 +97,7 @@ fn take(recorder: &mut Recorder<Events>, store: &mut Store, step: Step) -> Resul
         Step::Write(addr, bytes) => store.put_bytes(addr, bytes).is_ok(),
         Step::Grow => store.has_memory() && store.grow(1).is_ok(),
         Step::SetEntry => store.set_entry(0, Some(16)).is_ok(),
+        Step::Freeze => recorder.freeze().is_ok(),
     };
     if done {
         Ok(())

@@ -69,3 +69,50 @@ fn a_run_is_taken_over_several_pages(rt: HostRuntime) -> Result<(), Fail> {
     assert!(rt; !shadow.differs(13_000, 0));
     Ok(())
 }
+
+#[test]
+fn frozen_bytes_stay_while_others_are_taken(rt: HostRuntime) -> Result<(), Fail> {
+    let mut shadow = shadow_of(rt.alloc(), 4_092, &BYTES)?;
+    shadow.freeze()?;
+    shadow.take(4_095, 0xaa)?;
+    shadow.take(9_000, 0xbb)?;
+    shadow.set_known(3);
+    assert!(rt; shadow.frozen_byte(4_094) == 3);
+    assert!(rt; shadow.frozen_byte(4_095) == 4);
+    assert!(rt; shadow.frozen_byte(4_096) == 5);
+    assert!(rt; shadow.frozen_byte(9_000) == 0);
+    assert!(rt; shadow.frozen_pages() == 1);
+    assert!(rt; !shadow.differs(4_095, 0xaa));
+    assert!(rt; !shadow.differs(4_096, 5));
+    assert!(rt; shadow.known_pages() == 3);
+    Ok(())
+}
+
+#[test]
+fn a_second_freeze_replaces_the_first(rt: HostRuntime) -> Result<(), Fail> {
+    let mut shadow = shadow_of(rt.alloc(), 4_092, &BYTES)?;
+    shadow.freeze()?;
+    shadow.take(4_095, 0xaa)?;
+    shadow.set_known(2);
+    shadow.freeze()?;
+    shadow.take(4_095, 0xbb)?;
+    assert!(rt; shadow.frozen_byte(4_095) == 0xaa);
+    assert!(rt; shadow.frozen_byte(4_096) == 5);
+    assert!(rt; shadow.frozen_pages() == 2);
+    assert!(rt; !shadow.differs(4_095, 0xbb));
+    Ok(())
+}
+
+#[test]
+fn frozen_blocks_are_those_of_touched_places(rt: HostRuntime) -> Result<(), Fail> {
+    let mut shadow = shadow_of(rt.alloc(), 4_092, &BYTES)?;
+    assert!(rt; shadow.frozen_block(0).is_empty());
+    shadow.take(9_000, 0xbb)?;
+    shadow.freeze()?;
+    assert!(rt; shadow.frozen_block(0).len() == 4_096);
+    assert!(rt; shadow.frozen_block(0).last().copied() == Some(4));
+    assert!(rt; shadow.frozen_block(1).first().copied() == Some(5));
+    assert!(rt; shadow.frozen_block(2).get(808).copied() == Some(0xbb));
+    assert!(rt; shadow.frozen_block(3).is_empty());
+    Ok(())
+}

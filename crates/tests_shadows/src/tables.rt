@@ -27,3 +27,20 @@ fn new_entries_are_known_as_empty(rt: HostRuntime) -> Result<(), Fail> {
     assert!(rt; tables.entry_differs(3, Some(0)));
     Ok(())
 }
+
+#[test]
+fn changes_do_not_show_in_a_copy(rt: HostRuntime) -> Result<(), Fail> {
+    let mut tables = tables_of(rt.alloc())?;
+    assert!(rt; tables.known_size() == 2);
+    tables.take_entry(1, Some(5));
+    let copy = tables.copy()?;
+    tables.set_known_size(4)?;
+    assert!(rt; tables.known_size() == 4);
+    tables.take_entry(1, Some(6));
+    assert!(rt; copy.known_size() == 2);
+    assert!(rt; copy.entry(0) == None);
+    assert!(rt; copy.entry(1) == Some(5));
+    assert!(rt; tables.known_size() == 4);
+    assert!(rt; tables.entry(1) == Some(6));
+    Ok(())
+}

@@ -7,4 +7,6 @@ mod fits;
 mod lines;
 mod plans;
 mod prefixes;
+mod reduced_files;
+mod reductions;
 mod rewritten_files;

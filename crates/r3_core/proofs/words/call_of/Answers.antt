@@ -1,4 +1,5 @@
-use Rattle.std.proofs.Common.{◌≡◌, sym, ◌∙◌, ap, subst, Some, string_bytes, length, arith, drop, ℕ, Option}
+use Rattle.std.proofs.Common.{◌≡◌, sym, ◌∙◌, ap, subst, Some, string_bytes, length, arith, drop}
+use Rattle.r3_core.specs.declared.words.Numbers.{Numbers}
 use Rattle.r3_core.specs.Words.{form, texts, command_of_name, IsAfterFiles}
 use Rattle.r3_core.proofs.WordLemmas.{unlisted-short, unlisted-after, IfErr-always}
 use Rattle.r3_core.proofs.words.call_of.Goals as goal
@@ -11,8 +12,8 @@ returns-then-arguments-count-clause-unlisted c =
     unlisted-short _ _ c.in-Some.arguments.now c.in-Some-of_name.command c.in-Some.ensures.cases.0 named
     (omega (arith, c.if-arguments-count.true, ap length c.limits-count.ensures))
 
-pub returns-in_err-number-clause-unlisted : goal.returns-in_err-number-clause-unlisted
-returns-in_err-number-clause-unlisted c =
+pub returns-in_err-numbers-clause-unlisted : goal.returns-in_err-numbers-clause-unlisted
+returns-in_err-numbers-clause-unlisted c =
     let command = c.in-Some-of_name.command in
     let named : command_of_name (string_bytes c.in-Some.name.now) ≡ Some command =
     ap command_of_name (sym c.as_str.ensures.value) ∙ sym c.of_name.ensures ∙ c.in-Some-of_name.is
@@ -21,6 +22,6 @@ returns-in_err-number-clause-unlisted c =
     let cut : after ≡ drop (length (form command).limits) c.in-Some.arguments.now =
     c.split_at.ensures.back ∙ ap (λ limits. drop (length limits) c.in-Some.arguments.now) c.limits-count.ensures
     in
-    let unfit = subst (λ most. (number : Option ℕ) → ¬ (IsAfterFiles most (texts after) number)) c.most.ensures c.in_err-number.ensures.unfit in
+    let unfit = subst (λ ranges. (numbers : Numbers) → ¬ (IsAfterFiles ranges (texts after) numbers)) c.ranges-2.ensures c.in_err-numbers.ensures.unfit in
     IfErr-always c.from_residual.result
     (unlisted-after _ _ c.in-Some.arguments.now command c.in-Some.ensures.cases.0 named after cut unfit)

@@ -1,55 +1,15 @@
-use Rattle.std.proofs.Common.{ℕ, ◌≤◌, List, length, sym, ◌∙◌, ap, subst, arith}
-use Rattle.wasm_syntax.specs.declared.forms.Form.TheVariants.{Replay}
-use Rattle.wasm_syntax.specs.declared.modules.Module.{Module}
-use Rattle.wasm_syntax.specs.Encoding.Encodable.{IsEncodable}
-use Rattle.wasm_syntax.specs.Encoding.Modules.{Encodes}
-use Rattle.wasm_syntax.specs.Encoding.Shortest.{encoding_of}
-use Rattle.wasm_syntax.specs.Validity.{IsValid}
-use Rattle.trace_model.specs.Weight.{tape_weight}
-use Rattle.replay_module_spec.specs.Size.{max_bytes}
-use Rattle.r3_make.proofs.Playable.{playable}
-use Rattle.r3_make.proofs.Sized.{fits_indices, is_encodable, is_short, is_within}
+use Rattle.r3_make.proofs.Sized.{can_be_replayed, is_core}
 use Rattle.r3_make.proofs.built_replays.replay_bytes.Goals as goal
 
-pub build_binary-requires-clause-indices : goal.build_binary-requires-clause-indices
-build_binary-requires-clause-indices c =
-    fits_indices c.args.bytes.now c.args.checked c.args.tape c.requires.encoded c.requires.small
-    c.requires.runnable.valid c.requires.fits c.requires.constants c.requires.light c.plans_fit_indices.ensures
+pub encoded_replay-requires-clause-core : goal.encoded_replay-requires-clause-core
+encoded_replay-requires-clause-core c =
+    is_core c.args.bytes.now c.args.checked c.requires.encoded c.encoding_forms.ensures.core
+    c.shortest_encoding.ensures.encodable
 
-pub encode-requires : goal.encode-requires
-encode-requires c =
-    subst (IsEncodable Replay) (sym (c.module.ensures.same ∙ c.in_ok-replay.ensures.replay))
-    (is_encodable c.args.bytes.now c.args.checked c.args.tape c.requires.encoded c.requires.small
-    c.requires.runnable.valid c.requires.fits c.requires.constants c.requires.light c.args.supply.now
-    c.replay_modules_are_encodable.ensures c.requires.supplied c.know_maximum.ensures)
-
-pub returns-in-Ok-clause-printed : goal.returns-in-Ok-clause-printed
-returns-in-Ok-clause-printed c = λ store begins.
-    let m = c.args.checked in
-    let supply = c.args.supply.now in
-    let tape = c.args.tape in
-    let same = c.module.ensures.same ∙ c.in_ok-replay.ensures.replay in
-    let shortest = c.in-Ok.ensures.shortest ∙ ap encoding_of same in
-    record {
-      shortest = shortest;
-      encoded = subst (λ (r : Module). Encodes Replay c.in-Ok.printed.items r) same c.in-Ok.ensures.encodes;
-      valid = subst IsValid same c.module.ensures.valid;
-      stands = c.replay_modules_of_tapes_stand.ensures m supply tape c.requires.runnable.valid;
-      follows = c.in_ok-replay.ensures.follows store
-          (playable m supply store tape c.requires.runnable c.requires.supplied begins c.requires.fits
-          c.requires.constants c.requires.light);
-      most = subst (λ (bytes : List ℕ). length bytes ≤ max_bytes m (tape_weight tape)) (sym shortest)
-          (is_within c.args.bytes.now m tape c.requires.encoded c.requires.small c.requires.runnable.valid
-          c.requires.fits c.requires.constants c.requires.light supply c.replay_modules_are_short.ensures.short
-          c.encoding_forms.ensures.core c.shortest_encoding.ensures.encodable);
-    }
-
-pub unreachable-requires : goal.unreachable-requires
-unreachable-requires c =
-    let same = ap (λ (r : Module). length (encoding_of r)) (c.module.ensures.same ∙ c.in_ok-replay.ensures.replay) in
-    let long = c.in-Err-TooLong.ensures.too_long c.in-Err-TooLong.field-0-is in
-    let short = is_short c.args.bytes.now c.args.checked c.args.tape c.requires.encoded c.requires.small
-    c.requires.runnable.valid c.requires.fits c.requires.constants c.requires.light c.args.supply.now
-    c.replay_modules_are_short.ensures.short c.replay_modules_are_short.ensures.bounds
-    c.encoding_forms.ensures.core c.shortest_encoding.ensures.encodable in
-    omega (arith, same, long, short)
+pub encoded_replay-requires-clause-can : goal.encoded_replay-requires-clause-can
+encoded_replay-requires-clause-can c =
+    can_be_replayed c.args.bytes.now c.args.checked c.args.supply.now c.args.tape
+    (record { encoded = c.requires.encoded; valid = c.requires.runnable.valid; few = c.requires.small })
+    (record { matches = c.requires.supplied; table = c.know_maximum.ensures })
+    (record { fits = c.requires.fits; constants = c.requires.constants; weight = c.requires.light })
+    c.plans_fit_indices.ensures c.replay_modules_are_encodable.ensures c.replay_modules_are_short.ensures.bounds

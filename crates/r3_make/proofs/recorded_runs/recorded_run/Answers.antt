@@ -1,12 +1,5 @@
-use Rattle.std.proofs.Common.{sym, subst}
-use Rattle.wasm_flat.specs.Sizes.{IsShort}
-use Rattle.r3_make.proofs.Recordings.{hooked_short}
 use Rattle.r3_make.proofs.recorded_runs.recorded_run.Goals as goal
 
-pub flatten-requires : goal.flatten-requires
-flatten-requires c =
-    let run = c.requires.0 in
-    let is = c.requires.1 in
-    record {
-      short = subst IsShort (sym is.inputs_are.hooked) (hooked_short run is.original c.instrumented_are_short.ensures);
-    }
+pub record_play-requires-clause-recordable : goal.record_play-requires-clause-recordable
+record_play-requires-clause-recordable c =
+    (c.requires.0, c.requires.1, c.in_ok-play.ensures.store c.requires.0 c.requires.1)

@@ -1,4 +1,4 @@
-use Rattle.std.proofs.Common.{◌≡◌, ℕ, ◌+◌, ◌-◌, ◌≤◌, [], ◌∷◌, List, length, take, drop, subst, sym, arith}
+use Rattle.std.proofs.Common.{◌≡◌, ℕ, ◌+◌, ◌-◌, ◌≤◌, [], ◌∷◌, List, length, take, drop, refl, subst, sym, ◌∙◌, arith}
 use Rattle.std.proofs.Math.Seq.{take-length}
 use Rattle.std.proofs.lemmas.List.{drop-drop, drop_all, length-drop}
 use Rattle.record_replay_spec.specs.Observations.{Reads}
@@ -21,6 +21,7 @@ runs-init g c =
           subst
           (λ at. ReportsMemory g.S.EventSink.has_taken c.args.memory.now c.args.sink.now (Reads at c.args.bytes.now ∷ []) after sink)
           e h;
+      frozen = refl;
     }
 
 pub runs-preserved : goal.runs-preserved
@@ -49,10 +50,11 @@ runs-preserved g c =
           (λ place. ReportsMemory g.S.EventSink.has_taken c.find_run.new.memory c.find_run.new.sink
           (Reads place (drop (c.runs.done + c.in-Some.run'.«end») c.args.bytes.now) ∷ []) after sink)
           e h)));
+      frozen = c.in_ok-run.ensures.frozen ∙ c.runs.invariant.frozen;
     }
 
-pub returns-in-None : goal.returns-in-None
-returns-in-None g c =
+pub returns-in-None-clause-reports : goal.returns-in-None-clause-reports
+returns-in-None-clause-reports g c =
     c.runs.invariant.goes_on c.find_run.new.memory c.find_run.new.sink
     (finds_nothing g.S.EventSink.has_taken c.runs.memory c.runs.sink (c.args.addr + c.runs.done) (drop c.runs.done c.args.bytes.now)
     c.find_run.new.memory c.find_run.new.sink
@@ -62,8 +64,8 @@ returns-in-None g c =
     (rest_is c.args.bytes.now c.runs.done)
     (if_none c.in_ok-run.field-0 c.in-None.is c.in_ok-run.ensures.none)))
 
-pub returns : goal.returns
-returns g c =
+pub returns-clause-reports : goal.returns-clause-reports
+returns-clause-reports g c =
     c.runs.invariant.goes_on c.runs.memory c.runs.sink
     (finds_end g.S.EventSink.has_taken c.runs.memory c.runs.sink (c.args.addr + c.runs.done) (drop c.runs.done c.args.bytes.now)
     (drop_all c.runs.done c.args.bytes.now c.runs-test.false))

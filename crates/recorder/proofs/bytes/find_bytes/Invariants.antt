@@ -1,4 +1,4 @@
-use Rattle.std.proofs.Common.{◌+◌, ◌-◌, ◌≤◌, [], ◌∷◌, length, drop}
+use Rattle.std.proofs.Common.{◌≡◌, ◌+◌, ◌-◌, ◌≤◌, [], ◌∷◌, length, drop}
 use Rattle.record_replay_spec.specs.Observations.{Reads}
 use Rattle.shadow_memory.specs.Shadow.{Shadow}
 use Rattle.recorder.specs.Known.{ReportsMemory}
@@ -12,6 +12,7 @@ invariant-runs g l = record {
       → ReportsMemory g.S.EventSink.has_taken l.memory l.sink (Reads (l.addr + l.done) (drop l.done l.bytes) ∷ []) after
       sink
       → ReportsMemory g.S.EventSink.has_taken l.initial.memory l.initial.sink (Reads l.addr l.bytes ∷ []) after sink;
+  frozen : l.memory.frozen ≡ l.initial.memory.frozen;
 }
 
 abbrev pub decreases-runs : goal.decreases-runs

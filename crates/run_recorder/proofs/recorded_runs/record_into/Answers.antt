@@ -1,6 +1,6 @@
 use Rattle.std.proofs.Common.{[], subst, sym}
 use Rattle.record_replay_spec.specs.Order.{shape_of}
-use Rattle.host_play.specs.HookedResults.{HookedRun, IsPlayedWithHooks, hooked_run}
+use Rattle.host_play.specs.HookedResults.{HasHooksAfter, HookedRun, IsPlayedWithHooks, hooked_run}
 use Rattle.wasm_syntax.specs.declared.modules.Module.{Module}
 use Rattle.recorder.specs.Recorders.{IsRecorderStep}
 use Rattle.run_recorder.specs.Records.{RecordedRun}
@@ -21,3 +21,7 @@ returns g c =
     let played = subst (λ m. IsPlayedWithHooks (IsRecorderStep taken) (run m) c.play-answer.result c.in_ok-recorder.recorder c.play-answer.new.hooks) c.requires.code c.play-answer.ensures in
     c.recorded_sink.ensures r
     (led taken c.runs_are_recorded.ensures r c.in_ok-recorder.recorder c.play-answer.new.hooks stands fresh c.play-answer.result played)
+
+pub play-answer-requires-clause-hooked : goal.play-answer-requires-clause-hooked
+play-answer-requires-clause-hooked g c =
+    subst (λ m. HasHooksAfter m c.args.settings.now.imports) (sym c.requires.code) c.requires.hooked

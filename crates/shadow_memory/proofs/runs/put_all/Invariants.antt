@@ -7,6 +7,7 @@ invariant-pages l = record {
   within : l.done ≤ length l.bytes;
   written : AreWritten l.initial.kept.bytes l.addr (take l.done l.bytes) l.kept.bytes;
   touched : l.kept.touched ≡ l.initial.kept.touched;
+  frozen : l.kept.frozen ≡ l.initial.kept.frozen;
 }
 
 abbrev pub decreases-pages : goal.decreases-pages

@@ -7,4 +7,5 @@ abbrev pub invariant-places : goal.invariant-places
 invariant-places l = record {
   touched : (place : ℕ) → l.first ≤ place → place < l.place → is_touched l.kept place ≡ true;
   same : AreSame l.initial.kept.bytes l.kept.bytes;
+  frozen : l.kept.frozen ≡ l.initial.kept.frozen;
 }

@@ -18,4 +18,5 @@ returns-in_default c =
     let foreign_history = bytes_eq-false (codes "foreign-history") name c.in_default.not-text in
     let pair = bytes_eq-false (codes "pair") name c.in_default.not-pair in
     let pair_history = bytes_eq-false (codes "pair-history") name c.in_default.not-text-2 in
-    rw (make, instrument, record_, reduce, build, history, replay, show, load, foreign, foreign_history, pair, pair_history) refl
+    let from_ = bytes_eq-false (codes "from") name c.in_default.not-from in
+    rw (make, instrument, record_, reduce, build, history, replay, show, load, foreign, foreign_history, pair, pair_history, from_) refl

@@ -1,4 +1,4 @@
-use Rattle.std.proofs.Common.{false, sym, ap, ◌∙◌, subst}
+use Rattle.std.proofs.Common.{None, false, sym, ap, ◌∙◌, subst}
 use Rattle.history_spec.specs.Instantiation.{instantiate, table_length}
 use Rattle.record_replay_spec.specs.Order.{order_start, shape_of}
 use Rattle.record_replay_spec.specs.Logs.{log_start}
@@ -28,6 +28,7 @@ returns-clause-stands g c store is =
     (record {
       recording =
           record { order = order; memory = c.in_ok-memory.memory; tables = c.in_ok-tables.tables; sink = c.args.sink };
+      frozen = None;
       calls = 0;
       broken = false;
     })

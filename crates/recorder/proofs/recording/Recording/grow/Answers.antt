@@ -15,4 +15,4 @@ returns-in_err-resize-clause-err g c = err_led c.from_residual.result (c.if-not-
 pub returns-clause-ok : goal.returns-clause-ok
 returns-clause-ok g c =
     take_memory (c.if-not-grows.ensures.may refl) refl refl refl
-    (c.in_ok-resize.ensures (λ there. found_by_growth (bits_at c.args.args.now 0) (pages there)))
+    (c.in_ok-resize.ensures.reports (λ there. found_by_growth (bits_at c.args.args.now 0) (pages there)))

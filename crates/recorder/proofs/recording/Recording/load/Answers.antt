@@ -9,4 +9,4 @@ returns-in_err-load-clause-err g c = err_led c.from_residual.result (c.in-Some.e
 
 pub returns-clause-ok : goal.returns-clause-ok
 returns-clause-ok g c =
-    take_memory c.in-Some.ensures.1 (load_is c.args.view.now c.in-Some.ensures.0) refl refl c.in_ok-load.ensures
+    take_memory c.in-Some.ensures.1 (load_is c.args.view.now c.in-Some.ensures.0) refl refl c.in_ok-load.ensures.reports

@@ -12,4 +12,4 @@ returns-in_err-resize-clause-err g c = err_led c.from_residual.result (c.if-not-
 
 pub returns-clause-ok : goal.returns-clause-ok
 returns-clause-ok g c =
-    take_memory (c.if-not-sees_size.ensures.may refl) refl refl refl (c.in_ok-resize.ensures pages)
+    take_memory (c.if-not-sees_size.ensures.may refl) refl refl refl (c.in_ok-resize.ensures.reports pages)

@@ -13,4 +13,4 @@ returns-in_err-store-clause-err g c = err_led c.from_residual.result (c.in-Some.
 pub returns-clause-ok : goal.returns-clause-ok
 returns-clause-ok g c =
     take_memory c.in-Some.ensures.2 (store_is c.args.view.now c.in-Some.ensures.0 c.in-Some.ensures.1)
-    refl refl c.in_ok-store.ensures
+    refl refl c.in_ok-store.ensures.reports

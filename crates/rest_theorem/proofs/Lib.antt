@@ -1,0 +1,3 @@
+pub mod PlayableCuts
+pub mod Rests
+pub mod States

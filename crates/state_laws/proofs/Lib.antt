@@ -1,0 +1,14 @@
+pub mod WrittenItems
+pub mod Bytes
+pub mod Entries
+pub mod Globals
+pub mod Opening
+pub mod StatesOfKnown
+pub mod ValidSizes
+pub mod ValidSegments
+pub mod CodeParts
+pub mod ValidParts
+pub mod ValidModules
+pub mod ValidStates
+pub mod SizesLengths
+pub mod SizesModules

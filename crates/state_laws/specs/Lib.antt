@@ -1,0 +1,4 @@
+pub mod Opens
+pub mod Valid
+pub mod Code
+pub mod Sizes

@@ -1,6 +1,0 @@
-//! Tests alone: runs of modules under scripts: what `history` prints of them, and the turns that they take; runs
-//! that are refused. Lines and turns were worked out by hand.
-#![tactic(auto)]
-
-#[cfg(test)]
-mod tests;
