@@ -20,7 +20,8 @@ err-answer r fault wanted e (inl same) = inl (e ∙ ap Err same)
 err-answer r fault wanted e (inr memory) = inr (e ∙ ap Err memory)
 
 module _ (module_bytes script_bytes : List ℕ) (q : Result Module Fault)
-    (refused : (f : Fault) → IsRefusedModule module_bytes f → IsAnswer q f) (accepted : (m : Module) → IsModuleOf module_bytes m → (q ≡ Ok m) ⊎ (q ≡ Err Memory)) where
+    (refused : (f : Fault) → IsRefusedModule module_bytes f → IsAnswer q f)
+    (accepted : (m : Module) → IsModuleOf module_bytes m → (q ≡ Ok m) ⊎ (q ≡ Err Memory)) where
   -- a module that is not taken
   module _ (err : Fault) (is : q ≡ Err err) where
     pub module-refused : {T : Type 0} (r : Result T Fault) → r ≡ Err err → (fault : Fault) → AreRefused module_bytes script_bytes fault → IsAnswer r fault
@@ -32,7 +33,9 @@ module _ (module_bytes script_bytes : List ℕ) (q : Result Module Fault)
 
   -- a module that is taken
   module _ (checked : Module) (is : q ≡ Ok checked) (s : Result Script Fault)
-      (script-refused : (f : Fault) → IsRefusedScript checked script_bytes f → IsAnswer s f) (script-accepted : (script : Script) → script_of_text checked script_bytes ≡ Ok script → (s ≡ Ok script) ⊎ (s ≡ Err Memory)) where
+      (script-refused : (f : Fault) → IsRefusedScript checked script_bytes f → IsAnswer s f)
+      (script-accepted : (script : Script) → script_of_text checked script_bytes ≡ Ok script
+      → (s ≡ Ok script) ⊎ (s ≡ Err Memory)) where
     same : (m : Module) → IsModuleOf module_bytes m → m ≡ checked
     same m taken = value-one q checked m is (accepted m taken)
 
@@ -49,7 +52,8 @@ module _ (module_bytes script_bytes : List ℕ) (q : Result Module Fault)
       script-not-taken r e fault (ByModule x) = absurd (value-no q checked fault is (refused fault x))
       script-not-taken r e fault (ByScript m taken x) = err-answer r err fault e (answer-err s err fault at (refused-for m fault taken x))
 
-      pub script-wanted : {T : Type 0} (r : Result T Fault) (x : T) → r ≡ Err err → (m : Module) (script : Script) → AreInputs module_bytes script_bytes m script → (r ≡ Ok x) ⊎ (r ≡ Err Memory)
+      pub script-wanted : {T : Type 0} (r : Result T Fault) (x : T) → r ≡ Err err → (m : Module) (script : Script)
+          → AreInputs module_bytes script_bytes m script → (r ≡ Ok x) ⊎ (r ≡ Err Memory)
       script-wanted r x e m script inputs = inr (e ∙ ap Err (memory-err s script err at (for-module m script inputs)))
 
     -- a script that is taken
@@ -74,11 +78,14 @@ module _ (module_bytes script_bytes : List ℕ) (q : Result (Module × Script) F
     (accepted : (m : Module) (script : Script) → AreInputs module_bytes script_bytes m script → (q ≡ Ok (m, script)) ⊎ (q ≡ Err Memory)) where
   -- the module and the script are not accepted, and the call passes the fault on
   module _ (err : Fault) (is : q ≡ Err err) where
-    pub inputs-memory : {T : Type 0} (r : Result T Fault) → IsErrAnd r (λ other. other ≡ err) → (m : Module) (script : Script) → AreInputs module_bytes script_bytes m script → IfErr r (λ other. other ≡ Memory)
+    pub inputs-memory : {T : Type 0} (r : Result T Fault) → IsErrAnd r (λ other. other ≡ err) → (m : Module)
+        (script : Script) → AreInputs module_bytes script_bytes m script → IfErr r (λ other. other ≡ Memory)
     inputs-memory r passes m script inputs =
         passed r err (λ other. other ≡ Memory) passes (memory-err q (m, script) err is (accepted m script inputs))
 
-    pub inputs-answer : {T : Type 0} (r : Result T Fault) → IsErrAnd r (λ other. other ≡ err) → (Why : Module → Script → Fault → Type 0) (fault : Fault) → IsWhy module_bytes script_bytes Why fault → IsAnswer r fault
+    pub inputs-answer : {T : Type 0} (r : Result T Fault) → IsErrAnd r (λ other. other ≡ err)
+        → (Why : Module → Script → Fault → Type 0) (fault : Fault) → IsWhy module_bytes script_bytes Why fault
+        → IsAnswer r fault
     inputs-answer r passes Why fault (inl x) = answer-passed r err fault passes (answer-err q err fault is (refused fault x))
     inputs-answer r passes Why fault (inr why) = answer-passed r err fault passes (inr (memory-err q (why.0, why.1) err is (accepted why.0 why.1 why.2)))
 

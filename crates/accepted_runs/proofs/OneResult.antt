@@ -81,19 +81,23 @@ module _ (m : Module) (script : Script) where
 
     pub outcome-none : (r : Run) (a : Outcome) (fault : Fault) → HasOutcome m script turns r a → HasNoOutcome m script turns fault → ⊥
     outcome-none r a fault x (OfScript u) =
-        let same : r ≡ u.faulty.run = same_run r u.faulty.run (result-one x.initial u.initial (budget.Over r) (budget.Over u.faulty.run) x.starts u.starts x.within u.faulty.within) in
+        let same : r ≡ u.faulty.run = same_run r u.faulty.run (result-one x.initial u.initial (budget.Over r)
+        (budget.Over u.faulty.run) x.starts u.starts x.within u.faulty.within) in
         ended_faulted r.at a u.kind x.ends (ap (λ (r : Run). r.at) same ∙ u.faulty.kind_is)
     outcome-none r a fault x (OfTurns u) = over_spent r (result-one x.initial u.initial (budget.Over r) budget.Spent x.starts u.starts x.within u.spent)
 
     faulty-one : (f g : Fault) → IsFaultyFor m script turns f → IsFaultyFor m script turns g → f ≡ g
     faulty-one f g u v =
-        let same : u.faulty.run ≡ v.faulty.run = same_run u.faulty.run v.faulty.run (result-one u.initial v.initial (budget.Over u.faulty.run) (budget.Over v.faulty.run) u.starts v.starts u.faulty.within v.faulty.within) in
+        let same : u.faulty.run ≡ v.faulty.run = same_run u.faulty.run v.faulty.run (result-one u.initial v.initial
+        (budget.Over u.faulty.run) (budget.Over v.faulty.run) u.starts v.starts u.faulty.within v.faulty.within) in
         let turn : u.turn ≡ v.turn = sym u.faulty.turn_is ∙ ap (λ (r : Run). r.turns) same ∙ v.faulty.turn_is in
         let kind : u.kind ≡ v.kind = same_kind u.faulty.run.at u.kind v.kind u.faulty.kind_is (ap (λ (r : Run). r.at) same ∙ v.faulty.kind_is) in
         u.named ∙ ap (λ turn. ScriptFault turn u.kind) turn ∙ ap (ScriptFault v.turn) kind ∙ sym v.named
 
     faulty-spent : (f g : Fault) → IsFaultyFor m script turns f → IsSpentFor m script turns g → ⊥
-    faulty-spent f g u v = over_spent u.faulty.run (result-one u.initial v.initial (budget.Over u.faulty.run) budget.Spent u.starts v.starts u.faulty.within v.spent)
+    faulty-spent f g u v =
+        over_spent u.faulty.run (result-one u.initial v.initial
+        (budget.Over u.faulty.run) budget.Spent u.starts v.starts u.faulty.within v.spent)
 
     pub none-one : (f g : Fault) → HasNoOutcome m script turns f → HasNoOutcome m script turns g → f ≡ g
     none-one f g (OfScript u) (OfScript v) = faulty-one f g u v

@@ -55,13 +55,17 @@ of_types_are (t ∷ ts) (v ∷ vs) h =
     let same : v.ty ≡ t = head_is v.ty t (map (λ value. value.ty) vs) ts h.typed in
     and_true (is_of t v) (are_of ts vs)
     (and_true (same_type t v.ty) (is_constant v) (ap (same_type t) same ∙ type_own t) (All-head (λ value. IsTrue (is_constant value)) v vs h.in_range))
-    (of_types_are ts vs (record { in_range = All-tail (λ value. IsTrue (is_constant value)) v vs h.in_range; typed = tail_is v.ty t (map (λ value. value.ty) vs) ts h.typed }))
+    (of_types_are ts vs (record {
+      in_range = All-tail (λ value. IsTrue (is_constant value)) v vs h.in_range;
+      typed = tail_is v.ty t (map (λ value. value.ty) vs) ts h.typed;
+    }))
 
 one_type : (found : Option FuncType) (a b : FuncType) → Some a ≡ found → found ≡ Some b → b ≡ a
 one_type found a b e f = let same : Some a ≡ Some b = e ∙ f in cc
 
 -- a defined function of a type is callable if its arguments pass the test
-pub callable : (m : Module) (func : ℕ) (args : List Val) (ty : FuncType) (passes : Bool) → imported_funcs m ≤ func → Some ty ≡ func_type m func → passes ≡ are_of ty.params args
+pub callable : (m : Module) (func : ℕ) (args : List Val) (ty : FuncType) (passes : Bool) → imported_funcs m ≤ func
+    → Some ty ≡ func_type m func → passes ≡ are_of ty.params args
     → (IsTrue passes → IsCallable m func args) × (IsCallable m func args → IsTrue passes)
 callable m func args ty passes defined has_type is = (
   λ t. record { defined = defined; ty = ty; has_type = sym has_type; fit = are_of_types ty.params args (sym is ∙ t) },

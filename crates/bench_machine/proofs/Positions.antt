@@ -48,7 +48,8 @@ some_run m script heights valid code fits = record {
 pub no_actions : (m : Module) → FitActions m [] []
 no_actions m = All-nil (FitsAction m [])
 
-pub idle : (m : Module) (script : Script) (heights : Heights) (machine : State) → IsValid m → IsTypedCode m heights → Fits m script → StandsFor m heights host machine → IsIdle m machine
+pub idle : (m : Module) (script : Script) (heights : Heights) (machine : State) → IsValid m → IsTypedCode m heights
+    → Fits m script → StandsFor m heights host machine → IsIdle m machine
 idle m script heights machine valid code fits stands = record { run = some_run m script heights valid code fits; stands = stands }
 
 pub on_ok : {T E : Type 0} (r : Result T E) (P Q : T → Type 0) → ((x : T) → P x → Q x) → IfOk r P → IfOk r Q
@@ -66,22 +67,38 @@ call_place m func args ty old new i defined has_type values invokes =
 -- the position of a machine after a part of the run
 module _ (m : Module) (r : SomeRun m) (outside : List Activation) (is_host : outside ≡ host) (entries : List Entry) (new : State) (s : StepResult) where
   pub part_place : (end : Option Pause) → Comes m r.heights r.program outside r.counts end entries new s → ComesBy m end new
-  part_place None e = record { running = record { run = r; frame = e.frame; below = e.below; stands = e.stands; called = e.same_outside ∙ is_host }; going = e.going }
+  part_place None e = record {
+    running =
+        record { run = r; frame = e.frame; below = e.below; stands = e.stands; called = e.same_outside ∙ is_host };
+    going = e.going;
+  }
   part_place (Some (pause.Import index)) e =
-      record { run = r; frame = e.frame; below = e.below; ty = e.ty; args = e.args; has_type = e.has_type; values = e.values; stands = e.stands; called = e.same_outside ∙ is_host }
+      record {
+        run = r;
+        frame = e.frame;
+        below = e.below;
+        ty = e.ty;
+        args = e.args;
+        has_type = e.has_type;
+        values = e.values;
+        stands = e.stands;
+        called = e.same_outside ∙ is_host;
+      }
   part_place (Some pause.Returned) e = record { run = r; stands = subst (λ o. StandsFor m r.heights o new) is_host e.stands }
   part_place (Some pause.Trapped) e = tt
   part_place (Some pause.Spent) e = absurd e
 
 -- a pause
-module _ (m : Module) (r : SomeRun m) (meter : Meter) (outside : List Activation) (is_host : outside ≡ host) (left : ℕ) (entries : List Entry) (new : State) (s : StepResult) where
+module _ (m : Module) (r : SomeRun m) (meter : Meter) (outside : List Activation) (is_host : outside ≡ host) (left : ℕ)
+    (entries : List Entry) (new : State) (s : StepResult) where
   pub pause_place : (end : Pause) → EndsRun m r.heights r.program meter outside r.counts end left entries new s → IsPaused m end new
   pause_place (pause.Import index) e = part_place m r outside is_host entries new s (Some (pause.Import index)) e
   pause_place pause.Returned e = part_place m r outside is_host entries new s (Some pause.Returned) e
   pause_place pause.Trapped e = tt
   pause_place pause.Spent e = record { run = r; frame = e.comes.frame; below = e.comes.below; stands = e.comes.stands; called = e.comes.same_outside ∙ is_host }
 
-pub advance_place : (m : Module) (old new : State) (weighing : Weighing) (turns left : ℕ) (end : Pause) → IsRunning m old → AdvancesRun old weighing turns end left new → IsPaused m end new
+pub advance_place : (m : Module) (old new : State) (weighing : Weighing) (turns left : ℕ) (end : Pause)
+    → IsRunning m old → AdvancesRun old weighing turns end left new → IsPaused m end new
 advance_place m old new weighing turns left end i advances =
     let a = advances m i.run.heights i.run.program i.run.counts i.frame i.below i.run.is_run i.stands in
     pause_place m i.run (meter_of m weighing) (outside_of i.below) i.called left a.entries new a.last end a.ends

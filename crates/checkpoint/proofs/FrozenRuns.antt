@@ -1,10 +1,10 @@
 -- Runs of a freezer, call by call.
 use Rattle.std.proofs.Common.{◌≡◌, ℕ, zero, suc, ◌+◌, ◌-◌, ◌^◌, ◌≤◌, ◌<◌, List, [], ◌∷◌, ◌++◌, Option, Some, None, Ok, Err, Bool, true, false, ◌&&◌, cond, min, nat_eq, inl, inr, refl, sym, ap, ◌∙◌, subst, arith}
 use Rattle.std.proofs.lemmas.Bool.Decides.{nat_tests}
-use Rattle.std.proofs.lemmas.List.{append_assoc, append-nil}
 use Rattle.std.specs.Prelude.{option_and_then, option_map, unwrap_or}
 use Rattle.trace_model.specs.declared.events.Event.{Event}
 use Rattle.trace_model.specs.Sink.{TookAlso}
+use Rattle.trace_model.proofs.SinkLemmas.{took_none, took_both}
 use Rattle.hook_names.specs.declared.hooks.HookFault.TheVariants.{Order}
 use Rattle.hook_names.specs.Steps.{IsRun}
 use Rattle.record_replay_spec.specs.Hooks.{HookCall}
@@ -16,17 +16,6 @@ use Rattle.recorder.specs.Laws.{StepsAreRecorded}
 use Rattle.rest_spec.specs.TopEnters.{is_enter, none_open, enters_at_top, by_enter, log_before, top_enters}
 use Rattle.checkpoint.specs.Freezers.{Freezing, IsFreezerStep, IsPassed, enters_top, one_more, recorder_at}
 use Rattle.checkpoint.specs.FrozenRuns.{IsFrozenAt, RunsAreFrozen}
-
--- ---- what sinks take
-
-module _ {S : Type 0} (has_taken : S → List Event → Type 0) where
-  nothing_also : (sink : S) → TookAlso has_taken sink sink []
-  nothing_also sink events h = subst (has_taken sink) (sym (append-nil events)) h
-
-  both_also : (a b c : S) (first later : List Event) → TookAlso has_taken a b first → TookAlso has_taken b c later
-      → TookAlso has_taken a c (first ++ later)
-  both_also a b c first later f g events h =
-      subst (has_taken c) (append_assoc events first later) (g (events ++ first) (f events h))
 
 -- ---- what is frozen
 
@@ -92,7 +81,7 @@ module _ (shape : HookedShape) (log : LogState) (view : FrozenView) (shows : Sho
 
 -- ---- one call
 
-module _ {S : Type 0} (has_taken : S → List Event → Type 0) (law : StepsAreRecorded has_taken) (shape : HookedShape) where
+module _ {S : Type 0} (has_taken : S → S → List Event → Type 0) (law : StepsAreRecorded has_taken) (shape : HookedShape) where
   stands_by : (here : Bool) (recorder : Recorded S) (order : OrderState) (log : LogState) (at : ℕ)
       → StandsAt recorder shape order log at → StandsAt (cond here (after_freeze recorder) recorder) shape order log at
   stands_by true recorder order log at stands = (law recorder shape order log at stands).frozen
@@ -164,7 +153,7 @@ module _ {S : Type 0} (has_taken : S → List Event → Type 0) (law : StepsAreR
       record {
         reported = [];
         events = refl;
-        took = nothing_also has_taken before.recorder.recording.sink;
+        took = took_none has_taken before.recorder.recording.sink;
         counted = grind (arith, few);
         looked = λ left is. refl;
         passed = λ past. refl;
@@ -184,7 +173,7 @@ module _ {S : Type 0} (has_taken : S → List Event → Type 0) (law : StepsAreR
         reported = events ++ rest.reported;
         events = ap (λ o. events_or at o (λ next. after_events events (events_from shape next now (at + 1) calls)))
             one.ordered ∙ ap (after_events events) rest.events;
-        took = both_also has_taken before.recorder.recording.sink between.recorder.recording.sink
+        took = took_both has_taken before.recorder.recording.sink between.recorder.recording.sink
             after.recorder.recording.sink events rest.reported one.took rest.took;
         counted = rest.counted
             ∙ counts (enters_at_top order call) before.calls between.calls (top_enters shape one.next calls) one.counted
@@ -249,7 +238,7 @@ frozen_at : (shape : HookedShape) (first : Option FrozenView) (found : Option Lo
 frozen_at shape first None last none is = is ∙ none
 frozen_at shape first (Some log) last none is = is
 
-pub runs_are_frozen : {S : Type 0} (has_taken : S → List Event → Type 0) → StepsAreRecorded has_taken
+pub runs_are_frozen : {S : Type 0} (has_taken : S → S → List Event → Type 0) → StepsAreRecorded has_taken
     → RunsAreFrozen has_taken
 runs_are_frozen has_taken law before shape order log at stands new small none =
     record {

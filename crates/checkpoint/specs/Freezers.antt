@@ -35,14 +35,14 @@ calls_after before call (Err fault) = before.calls
 
 -- a hook call is passed on to the recorder, which is frozen first if the call reports the top-level call that is looked
 -- for
-pub record IsPassed {S : Type 0} (has_taken : S → List Event → Type 0) (before : Freezing S) (call : HookCall)
+pub record IsPassed {S : Type 0} (has_taken : S → S → List Event → Type 0) (before : Freezing S) (call : HookCall)
     (answer : Result ⊤ HookFault) (after : Freezing S) : Type 0 where
   pub step : IsRecorderStep has_taken (recorder_at before call) call answer after.recorder
   pub number : after.number ≡ before.number
   pub calls : after.calls ≡ calls_after before call answer
 
 -- a step of a freezer: the hook call is passed on; or there was no memory to freeze the recorder, and nothing changes
-abbrev pub IsFreezerStep : {S : Type 0} → (has_taken : S → List Event → Type 0) → Freezing S → HookCall
+abbrev pub IsFreezerStep : {S : Type 0} → (has_taken : S → S → List Event → Type 0) → Freezing S → HookCall
     → Result ⊤ HookFault → Freezing S → Type 0
 IsFreezerStep has_taken before call answer after =
     IsPassed has_taken before call answer after ⊎ ((answer ≡ Err Memory) × (after ≡ before))

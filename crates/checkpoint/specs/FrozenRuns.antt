@@ -21,8 +21,9 @@ IsFrozenAt shape (Some log) frozen =
 
 -- A run of hook calls that are all accepted, from a new freezer: the sink took exactly the events of their log, the
 -- top-level calls that they report are counted, and the recorder was frozen before the one that is looked for.
-pub record IsFrozenRun {S : Type 0} (has_taken : S → List Event → Type 0) (before : Freezing S) (shape : HookedShape)
-    (order : OrderState) (log : LogState) (at : ℕ) (calls : List HookCall) (after : Freezing S) : Type 0 where
+pub record IsFrozenRun {S : Type 0} (has_taken : S → S → List Event → Type 0) (before : Freezing S)
+    (shape : HookedShape) (order : OrderState) (log : LogState) (at : ℕ) (calls : List HookCall) (after : Freezing S)
+    : Type 0 where
   pub reported : List Event
   pub events : events_from shape order log at calls ≡ Ok reported
   pub took : TookAlso has_taken before.recorder.recording.sink after.recorder.recording.sink reported
@@ -32,7 +33,7 @@ pub record IsFrozenRun {S : Type 0} (has_taken : S → List Event → Type 0) (b
 -- from a new freezer, whose recorder is at these states of the order and of the log, and has frozen nothing: a run of
 -- hook calls that are all accepted is recorded, counted and frozen; if a hook call is refused as out of order, it is
 -- the first such call
-pub record RunsFreeze {S : Type 0} (has_taken : S → List Event → Type 0) (before : Freezing S) (shape : HookedShape)
+pub record RunsFreeze {S : Type 0} (has_taken : S → S → List Event → Type 0) (before : Freezing S) (shape : HookedShape)
     (order : OrderState) (log : LogState) (at : ℕ) : Type 0 where
   pub accepted : (calls : List HookCall) (after : Freezing S)
       → IsRun (IsFreezerStep has_taken) before calls (Ok tt) after
@@ -42,7 +43,7 @@ pub record RunsFreeze {S : Type 0} (has_taken : S → List Event → Type 0) (be
       → first_disorder shape order at calls ≡ Some number
 
 -- the runs of each new freezer
-abbrev pub RunsAreFrozen : {S : Type 0} → (has_taken : S → List Event → Type 0) → Type 0
+abbrev pub RunsAreFrozen : {S : Type 0} → (has_taken : S → S → List Event → Type 0) → Type 0
 RunsAreFrozen {S} has_taken =
     (before : Freezing S) (shape : HookedShape) (order : OrderState) (log : LogState) (at : ℕ)
     → StandsAt before.recorder shape order log at → before.calls ≡ 0 → before.number < 2 ^ 32

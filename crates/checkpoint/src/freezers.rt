@@ -72,16 +72,16 @@ impl<S: EventSink> Hooks for Freezer<S> {
     ghost is_step = { IsFreezerStep S.has_taken };
 
     fn hook(&mut self, kind: Hook, args: &[Val], view: &View) -> Result<(), HookFault> {
-        if !self.enters_top(kind) {
-            return self.recorder.hook(kind, args, view);
-        }
-        if self.calls == u64::from(self.number) {
+        let top = self.enters_top(kind);
+        if top && self.calls == u64::from(self.number) {
             if self.recorder.freeze().is_err() {
                 return Err(HookFault::Memory);
             }
         }
         self.recorder.hook(kind, args, view)?;
-        self.calls = self.calls.saturating_add(1);
+        if top {
+            self.calls = self.calls.saturating_add(1);
+        }
         Ok(())
     }
 }

@@ -1,11 +1,12 @@
 -- Reading the items of a list one after the other, as a loop does.
-use Rattle.std.proofs.Common.{◌≡◌, ℕ, ◌+◌, ◌≤◌, ◌<◌, List, [], ◌∷◌, ◌++◌, length, drop, get_or, Result, Ok, Err, refl, sym, ap, ◌∙◌, append_assoc, drop-cons, add-one, suc}
+use Rattle.std.proofs.Common.{◌≡◌, ℕ, ◌+◌, ◌≤◌, ◌<◌, List, [], ◌∷◌, ◌++◌, length, drop, get_or, Result, Ok, Err, refl, sym, ap, ◌∙◌, append_assoc}
 use Rattle.std.proofs.lemmas.List.{append-nil, drop_all}
-use Rattle.serde_json.specs.Data.{Data, item}
+use Rattle.serde_json.specs.Data.{Data}
 use Rattle.serde_json.specs.declared.value.Value.{Value}
 use Rattle.serde_json.specs.View.{view, items_view}
 use Rattle.decl_text.specs.declared.faults.DeclFault.{DeclFault}
 use Rattle.decl_text.specs.Walk.{◌>>=◌, Fails, at_index, items_from}
+use Rattle.script_text.proofs.Loops.{at}
 
 -- what was read before, and what is still read
 abbrev pub with_front : {A : Type 0} → List A → Result (List A) DeclFault → Result (List A) DeclFault
@@ -15,14 +16,6 @@ regroup : {A : Type 0} (front : List A) (a : A) (read : Result (List A) DeclFaul
     → with_front front (read >>= λ others. Ok (a ∷ others)) ≡ with_front (front ++ a ∷ []) read
 regroup front a (Ok others) = ap Ok (simp append_assoc)
 regroup front a (Err fault) = refl
-
--- the item at an index, and those after it
-pub at : (vs : List Value) (i : ℕ) (v : Value) → i < length vs → v ≡ get_or vs i v
-    → items_view (drop i vs) ≡ item (view v) (items_view (drop (i + 1) vs))
-at vs i v lt is =
-    let e : drop i vs ≡ get_or vs i v ∷ drop (suc i) vs = drop-cons vs i v lt in
-    let f : drop i vs ≡ v ∷ drop (suc i) vs = rw (sym is) at e in
-    rw (f, add-one) refl
 
 pub goes_on : {A : Type 0} (read : Data → Result A DeclFault) (front : List A) (vs : List Value) (i : ℕ) (v : Value) (a : A) (total : Result (List A) DeclFault)
     → i < length vs → v ≡ get_or vs i v → at_index i read (view v) ≡ Ok a

@@ -1,19 +1,14 @@
 -- An index of names, filled by loops, and the first name that is taken.
-use Rattle.std.proofs.Common.{◌≡◌, ℕ, ◌+◌, ◌<◌, List, [], ◌∷◌, ◌++◌, map, take, drop, length, get_or, Option, Some, Bor, Bool, true, false, ◌||◌, cond, sym, ap, refl, ◌∙◌, append_assoc}
+use Rattle.std.proofs.Common.{◌≡◌, ℕ, ◌+◌, ◌<◌, List, [], ◌∷◌, ◌++◌, map, take, drop, length, get_or, Option, Some, Bor, Bool, true, false, cond, sym, ap, refl, ◌∙◌, append_assoc}
 use Rattle.std.specs.List.{list_any}
 use Rattle.std.specs.Str.{bytes_eq}
 use Rattle.std.proofs.lemmas.List.{take_more, map-append}
 use Rattle.std.proofs.lemmas.List.Folds.{list_any-append}
 use Rattle.module_names.proofs.Lists.{front_or}
+use Rattle.module_names.proofs.ImportLoops.{with_module}
 use Rattle.instance_spec.specs.declared.decls.Decl.{Decl}
 use Rattle.decl_text.specs.Texts.{first_taken}
 use Rattle.decl_text.specs.Names.{HoldsNames}
-
-with_name : (b l : Bool) → cond b true l ≡ (l || (b || false))
-with_name true true = refl
-with_name true false = refl
-with_name false true = refl
-with_name false false = refl
 
 -- an index with one name more
 pub name_added : (keys more : List (Bor (List ℕ))) (names : List (List ℕ)) (key name : List ℕ) → key ≡ name
@@ -25,7 +20,7 @@ name_added keys more names key name named held new = record {
       new (record { ref_ptr = (0, 0); now = q })
       ∙ ap (λ k. cond (bytes_eq k q) true (list_any (λ k. bytes_eq q k.now) keys)) named
       ∙ ap (cond (bytes_eq name q) true) (held.holds q)
-      ∙ with_name (bytes_eq name q) (list_any (λ other. bytes_eq other q) names)
+      ∙ with_module (bytes_eq name q) (list_any (λ other. bytes_eq other q) names)
       ∙ sym (list_any-append (λ other. bytes_eq other q) names (name ∷ []));
 }
 

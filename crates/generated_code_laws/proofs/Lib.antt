@@ -40,3 +40,4 @@ pub mod Items
 mod Same
 mod Each
 mod All
+mod PlayedCalls

@@ -89,7 +89,8 @@ module _ (w : Watched) (s : Standing) (outside : IsOutside w.layout s.frame.func
         count = 1;
         comes = λ meter. ap (λ (r : StepResult). r.next) stepped;
         shown = λ args.
-            ap (shown_items w.layout s.inside args) items ∙ ap (λ shown. Steps (is_block rest) ∷ shown) (shows w.layout s.frame.func outside number operands results found s.inside args changes);
+            ap (shown_items w.layout s.inside args) items ∙ ap (λ shown. Steps (is_block rest) ∷ shown)
+            (shows w.layout s.frame.func outside number operands results found s.inside args changes);
         inside =
             ap (λ all. inside_after_all s.inside (entries_in all)) items
             ∙ stays w.layout s.frame.func outside number operands results found s.inside changes;

@@ -9,3 +9,4 @@ pub mod SingleStepLaws
 pub mod Bytes
 pub mod Counts
 pub mod EffectLaws
+pub mod PlayedCalls

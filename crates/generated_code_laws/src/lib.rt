@@ -9,7 +9,7 @@ pub mod numbers;
 pub mod single_steps;
 
 pub use effect_code::effects_are_made;
-pub use generated_steps::{dispatches_reach_arms, leads_run_along};
+pub use generated_steps::{calls_are_played, dispatches_reach_arms, leads_run_along};
 pub use laws::{replays_are_within_bound, replays_begin, replays_show_runs};
 pub use numbers::bytes_are_numbers;
 pub use single_steps::{leads_go_on, steps_lead_on};

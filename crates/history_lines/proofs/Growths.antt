@@ -1,9 +1,10 @@
 -- How growths by parts of a text compose.
-use Rattle.std.proofs.Common.{◌≡◌, ℕ, List, ◌++◌, Result, Ok, Err, OnErr, sym, ◌∙◌, ap, append_assoc}
+use Rattle.std.proofs.Common.{◌≡◌, ℕ, List, [], ◌++◌, Result, Ok, Err, OnErr, refl, sym, ◌∙◌, ap, append_assoc, append-nil}
 use Rattle.history_lines.specs.Growth.{GrewByFirstPart}
 
 -- a growth by a text, then by a first part of what follows
-pub grew-after : (old between new first second : List ℕ) → between ≡ old ++ first → GrewByFirstPart between new second → GrewByFirstPart old new (first ++ second)
+pub grew-after : (old between new first second : List ℕ) → between ≡ old ++ first → GrewByFirstPart between new second
+    → GrewByFirstPart old new (first ++ second)
 grew-after old between new first second p q = record {
   part = first ++ q.part;
   rest = q.rest;
@@ -29,3 +30,12 @@ at-exit (Err e) p = p
 pub at-refusal : {T E P Q : Type 0} (r : Result T E) → (P → Q) → OnErr r P → OnErr r Q
 at-refusal (Ok x) f p = tt
 at-refusal (Err e) f p = f p
+
+-- a growth by nothing
+pub grew-nothing : (old new text : List ℕ) → new ≡ old → GrewByFirstPart old new text
+grew-nothing old new text same = record {
+  part = [];
+  rest = text;
+  whole = refl;
+  grew = same ∙ sym (append-nil old);
+}

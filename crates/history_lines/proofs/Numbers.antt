@@ -1,7 +1,10 @@
 -- The text of a number by its digits.
-use Rattle.std.proofs.Common.{◌≡◌, ℕ, ◌+◌, ◌/◌, ◌%◌, ◌<◌, ◌≤◌, ◌∷◌, [], ◌++◌, sym, ◌∙◌, ap, ap₂, arith}
+use Rattle.std.proofs.Common.{◌≡◌, ℕ, ◌+◌, ◌*◌, ◌/◌, ◌%◌, ◌<◌, ◌≤◌, List, [], ◌∷◌, ◌++◌, refl, sym, ◌∙◌, ap, ap₂, append_assoc, arith}
 use Rattle.std.specs.Fmt.{decimal}
 use Rattle.std.proofs.lemmas.Fmt.{decimal_digit, decimal_step}
+use Rattle.std.specs.Prelude.{slice_index}
+use Rattle.history_lines.specs.declared.pieces.TheConstants.{TENS}
+use Rattle.history_lines.proofs.Pairs.{pair_at}
 use Rattle.history_spec.specs.Line.{number_text}
 
 pub one-digit : (n a : ℕ) → n < 10 → a ≡ 48 + n → 32 ∷ a ∷ [] ≡ number_text n
@@ -10,12 +13,32 @@ one-digit n a most first = ap (λ d. 32 ∷ d ∷ []) first ∙ ap (λ ds. 32 �
 decimal-two : (n : ℕ) → 10 ≤ n → n < 100 → decimal n ≡ (48 + n / 10) ∷ (48 + n % 10) ∷ []
 decimal-two n least most = decimal_step n least (omega (arith, most)) ∙ ap (λ ds. ds ++ (48 + n % 10) ∷ []) (decimal_digit (n / 10) (omega (arith, most)))
 
-pub two-digits : (n a b : ℕ) → 10 ≤ n → n < 100 → a ≡ 48 + n / 10 → b ≡ 48 + n % 10 → 32 ∷ a ∷ b ∷ [] ≡ number_text n
-two-digits n a b least most first second = ap₂ (λ d e. 32 ∷ d ∷ e ∷ []) first second ∙ ap (λ ds. 32 ∷ ds) (sym (decimal-two n least most))
+-- the two digits of a number below 100, after other bytes
+pub two-pushed : (old : List ℕ) (n : ℕ) → n < 100
+    → (old ++ slice_index TENS (n * 2) ∷ []) ++ slice_index TENS (n * 2 + 1) ∷ []
+    ≡ old ++ (48 + n / 10) ∷ (48 + n % 10) ∷ []
+two-pushed [] n within =
+    let pair = pair_at TENS (λ k. 48 + k / 10) (λ k. 48 + k % 10) 100 n refl within in
+    ap₂ (λ high low. high ∷ low ∷ []) pair.0 pair.1
+two-pushed (first ∷ old) n within = ap (λ l. first ∷ l) (two-pushed old n within)
 
-pub three-digits : (n a b d : ℕ) → 100 ≤ n → n < 1000 → a ≡ 48 + n / 100 → b ≡ 48 + n / 10 % 10 → d ≡ 48 + n % 10 → 32 ∷ a ∷ b ∷ d ∷ [] ≡ number_text n
-three-digits n a b d least most first second third =
-    let upper : n / 10 / 10 ≡ n / 100 = omega arith in
+-- a number of two digits, after other bytes
+pub tens-pushed : (old : List ℕ) (n : ℕ) → 10 ≤ n → n < 100 → (old ++ 32 ∷ []) ++ (48 + n / 10) ∷ (48 + n % 10) ∷ [] ≡ old ++ number_text n
+tens-pushed old n least most =
+    append_assoc old (32 ∷ []) ((48 + n / 10) ∷ (48 + n % 10) ∷ [])
+    ∙ ap (λ ds. old ++ 32 ∷ ds) (sym (decimal-two n least most))
+
+-- a number of three digits, after other bytes
+pub hundreds-pushed : (old : List ℕ) (n : ℕ) → 100 ≤ n → n < 1000
+    → (old ++ 32 ∷ (48 + n / 100) ∷ []) ++ (48 + n % 100 / 10) ∷ (48 + n % 100 % 10) ∷ [] ≡ old ++ number_text n
+hundreds-pushed old n least most =
+    let high : n / 100 ≡ n / 10 / 10 = omega arith in
+    let middle : n % 100 / 10 ≡ n / 10 % 10 = omega arith in
+    let low : n % 100 % 10 ≡ n % 10 = omega arith in
     let digits : decimal n ≡ (48 + n / 10 / 10) ∷ (48 + n / 10 % 10) ∷ (48 + n % 10) ∷ [] =
-    decimal_step n (omega (arith, least)) (omega (arith, most)) ∙ ap (λ ds. ds ++ (48 + n % 10) ∷ []) (decimal-two (n / 10) (omega (arith, least)) (omega (arith, most))) in
-    ap₂ (λ e f. 32 ∷ e ∷ f ∷ d ∷ []) first second ∙ ap₂ (λ e f. 32 ∷ (48 + e) ∷ (48 + n / 10 % 10) ∷ f ∷ []) (sym upper) third ∙ ap (λ ds. 32 ∷ ds) (sym digits)
+    decimal_step n (omega (arith, least)) (omega (arith, most))
+    ∙ ap (λ ds. ds ++ (48 + n % 10) ∷ []) (decimal-two (n / 10) (omega (arith, least)) (omega (arith, most))) in
+    append_assoc old (32 ∷ (48 + n / 100) ∷ []) ((48 + n % 100 / 10) ∷ (48 + n % 100 % 10) ∷ [])
+    ∙ ap (λ a. old ++ 32 ∷ (48 + a) ∷ (48 + n % 100 / 10) ∷ (48 + n % 100 % 10) ∷ []) high
+    ∙ ap₂ (λ a b. old ++ 32 ∷ (48 + n / 10 / 10) ∷ (48 + a) ∷ (48 + b) ∷ []) middle low
+    ∙ ap (λ ds. old ++ 32 ∷ ds) (sym digits)

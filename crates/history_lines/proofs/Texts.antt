@@ -2,7 +2,7 @@
 use Rattle.std.proofs.Common.{◌≡◌, ℕ, List, ◌++◌, Option, sym, ap, ◌∙◌, append_assoc, codes}
 use Rattle.wasm_syntax.specs.declared.values.Val.{Val}
 use Rattle.history_spec.specs.declared.entries.TrapKind.{TrapKind}
-use Rattle.history_spec.specs.declared.entries.Entry.TheVariants.{Step, Trap}
+use Rattle.history_spec.specs.declared.entries.Entry.TheVariants.{Trap}
 use Rattle.history_spec.specs.Line.{entry_text, found_text, kind_text, number_text, with_space, values_text}
 
 six-joined : (a b c d e f : List ℕ) → (a ++ (b ++ c)) ++ (d ++ (e ++ f)) ≡ ((((a ++ b) ++ c) ++ d) ++ e) ++ f
@@ -10,16 +10,6 @@ six-joined a b c d e f =
     ap (λ x. x ++ (d ++ (e ++ f))) (sym (append_assoc a b c))
     ∙ sym (append_assoc ((a ++ b) ++ c) d (e ++ f))
     ∙ sym (append_assoc (((a ++ b) ++ c) ++ d) e f)
-
-pub step-text : (func number : ℕ) (operands results : List Val) (found : Option ℕ)
-    → (codes "step" ++ (number_text func ++ number_text number))
-    ++ (values_text operands ++ (codes " ->" ++ (values_text results ++ found_text found)))
-    ≡ entry_text (Step func number operands results found)
-step-text func number operands results found =
-    six-joined (codes "step") (number_text func) (number_text number) (values_text operands) (codes " ->")
-    (values_text results ++ found_text found)
-    ∙ sym (append_assoc (codes "step" ++ number_text func ++ number_text number ++ values_text operands ++ codes " ->")
-    (values_text results) (found_text found))
 
 pub trap-text : (func number : ℕ) (kind : TrapKind) (operands : List Val) (found : Option ℕ)
     → (codes "trap" ++ (number_text func ++ number_text number))

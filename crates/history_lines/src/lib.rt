@@ -2,6 +2,7 @@
 #![tactic(auto)]
 
 mod lines;
+mod pieces;
 mod words;
 
 pub use base::NoMemory;

@@ -1,13 +1,15 @@
 // Whole lines.
 
-ghost use Rattle.std.specs.Prelude.{◌≡◌, ◌++◌, OnOk, OnErr, codes};
+ghost use Rattle.std.specs.Prelude.{◌≡◌, ◌+◌, ◌*◌, ◌≤◌, ◌++◌, length, IfSome, OnOk, OnErr, codes, vec_len, vec_capacity};
 ghost use Rattle.history_spec.specs.Line.{entry_text, found_text, kind_text, line, number_text, outcome_text, with_space, values_text};
 ghost use Rattle.history_spec.specs.declared.entries.Entry.TheVariants.{Step, Trap};
 ghost use Rattle.history_lines.specs.Growth.{GrewByFirstPart};
 
+use crate::pieces::{push_bytes, push_found, push_number, push_values};
 use crate::words::{put, put_found, put_number, put_values};
 use base::NoMemory;
 use history_spec::{Entry, Outcome, TrapKind};
+use std::mem;
 use wasm_syntax::Val;
 
 /// Appends the line of an entry, with its line feed.
@@ -170,18 +172,6 @@ fn put_instr(out: &mut Vec<u8>, name: &[u8], func: u32, number: u32) -> Result<(
     put_number(out, number)
 }
 
-/// Appends what an instruction gave and found.
-fn put_results(out: &mut Vec<u8>, results: &[Val], found: Option<u32>) -> Result<(), NoMemory>
-    ensures ok { OnOk result (out.new.items
-        ≡ out.old.items ++ (codes " ->" ++ (values_text results.now ++ found_text found))) }
-    ensures refused { OnErr result (GrewByFirstPart out.old.items out.new.items
-        (codes " ->" ++ (values_text results.now ++ found_text found))) }
-{
-    put(out, b" ->")?;
-    put_values(out, results)?;
-    put_found(out, found)
-}
-
 /// Appends the text of an instruction.
 fn put_step(
     out: &mut Vec<u8>,
@@ -196,9 +186,49 @@ fn put_step(
     ensures refused { OnErr result (GrewByFirstPart out.old.items out.new.items
         (entry_text (Step func number operands.now results.now found))) }
 {
-    put_instr(out, b"step", func, number)?;
-    put_values(out, operands)?;
-    put_results(out, results, found)
+    let Some(room) = step_room(operands, results) else {
+        return Err(NoMemory);
+    };
+    out.reserve(room)?;
+    let alloc = *out.allocator();
+    let mut line = mem::replace(out, Vec::new(alloc));
+    push_step(&mut line, func, number, operands, results, found);
+    mem::swap(out, &mut line);
+    Ok(())
+}
+
+/// Room for the text of an instruction, if it is a number of bytes that a memory may have: 46 bytes for words and
+/// numbers, and 25 for each value.
+#[inline(always)]
+fn step_room(operands: &[Val], results: &[Val]) -> Option<usize>
+    ensures { IfSome result (λ room. 46 + (25 * length operands.now + 25 * length results.now) ≤ room) }
+{
+    let values = operands.len().checked_add(results.len())?;
+    values.checked_mul(25)?.checked_add(46)
+}
+
+/// Pushes the text of an instruction. The compiler keeps the length of the local list that `put_step` passes in a
+/// register, which it does for no list behind a reference: the bytes that are pushed might be those of that length.
+#[inline(always)]
+fn push_step(
+    out: &mut Vec<u8>,
+    func: u32,
+    number: u32,
+    operands: &[Val],
+    results: &[Val],
+    found: Option<u32>,
+)
+    requires room { vec_len out.old + (46 + (25 * length operands.now + 25 * length results.now))
+        ≤ vec_capacity out.old }
+    ensures { out.new.items ≡ out.old.items ++ entry_text (Step func number operands.now results.now found) }
+{
+    push_bytes(out, b"step");
+    push_number(out, func);
+    push_number(out, number);
+    push_values(out, operands);
+    push_bytes(out, b" ->");
+    push_values(out, results);
+    push_found(out, found);
 }
 
 /// Appends why an instruction traps, with its operands and what it found.

@@ -2,8 +2,8 @@
 use Rattle.std.proofs.Common.{◌≡◌, ℕ, zero, suc, ◌+◌, ◌<◌, ◌≤◌, refl, sym, ◌∙◌, ap, subst, arith, List, [], ◌∷◌}
 use Rattle.history_spec.specs.Configuration.{Config, Activation, InModule, InMain, InImport}
 use Rattle.history_spec.specs.Step.{Program, Progress, Running, Finished, Faulted, Stuck, StepResult, step}
-use Rattle.history_spec.specs.Run.{Meter, Run, run_at, run_after, steps, run_from, weight, weight_of, all_one}
-use Rattle.history_spec.specs.Budget.{IsOver, RunResult, Over, Spent, IsOverWithin, IsSpent, HasSomeResult, RunsHaveOneResultAtMost, RunsHaveSomeResult}
+use Rattle.history_spec.specs.Run.{Meter, Run, run_after, steps, run_from, weight, weight_of, all_one}
+use Rattle.history_spec.specs.Budget.{IsOver, Over, Spent, IsOverWithin, IsSpent, HasSomeResult, RunsHaveOneResultAtMost, RunsHaveSomeResult}
 
 -- a run that is over is the same after each number of steps
 pub same_end : (program : Program) (meter : Meter) (k l : ℕ) (at : Progress) → IsOver (steps program meter k at).at

@@ -1,2 +1,4 @@
 pub mod Budgets
 pub mod ByteNumbers
+pub mod PlacedBytes
+pub mod RenumberedEntries

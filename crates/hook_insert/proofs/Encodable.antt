@@ -1,22 +1,21 @@
 -- The instrumented module of a module that has an encoding has an encoding.
-use Rattle.std.proofs.Common.{◌≡◌, ℕ, ◌+◌, ◌<◌, ◌≤◌, List, length, map, arith}
+use Rattle.std.proofs.Common.{◌≡◌, ℕ, ◌+◌, ◌<◌, List, map, arith}
 use Rattle.std.specs.List.{AllByRecursion}
 use Rattle.std.proofs.lemmas.List.{length-append, length-map}
 use Rattle.std.proofs.lemmas.List.Elements.{All-weaker, recursion_from_All}
 use Rattle.base.proofs.Lists.{joined_all}
 use Rattle.wasm_syntax.specs.declared.forms.Form.{Form}
 use Rattle.wasm_syntax.specs.declared.forms.Form.TheVariants.{Replay}
-use Rattle.wasm_syntax.specs.declared.modules.ElemSeg.{ElemSeg}
-use Rattle.wasm_syntax.specs.declared.modules.ElemSeg.TheVariants.{Active, Declared}
 use Rattle.wasm_syntax.specs.declared.modules.Export.{Export}
 use Rattle.wasm_syntax.specs.declared.modules.Func.{Func}
 use Rattle.wasm_syntax.specs.declared.modules.Module.{Module}
 use Rattle.wasm_syntax.specs.Encoding.Encodable.{FitsFuncType, FitsImport, IsEncodable}
 use Rattle.wasm_syntax.specs.Encoding.Forms.{IsOfTableZero}
 use Rattle.wasm_syntax.specs.Encoding.Laws.{CoreIsInReplay}
-use Rattle.wasm_syntax.specs.Index.{all_tables, func_import, imported_funcs, of_kind}
+use Rattle.wasm_syntax.specs.Index.{func_import, imported_funcs, of_kind}
 use Rattle.wasm_syntax.specs.Laws.{BodiesAreRead}
 use Rattle.wasm_syntax.specs.Validity.{IsElem, IsValid}
+use Rattle.wasm_syntax.proofs.ValidParts.{elem_of_zero}
 use Rattle.wasm_flat.specs.Sizes.{IsShort, list_limit}
 use Rattle.record_replay_spec.specs.Hooks.{hooks}
 use Rattle.record_replay_spec.specs.Instrumented.{hook_import, hook_types, instrumented_module}
@@ -55,10 +54,6 @@ module _ (read : BodiesAreRead) (bodies : BodiesAreInstrumented) where
         datas = fits.datas;
         customs = (section_text, tt);
       }
-
-  elem_of_zero : (m : Module) → length (all_tables m) ≤ 1 → (elem : ElemSeg) → IsElem m elem → IsOfTableZero elem
-  elem_of_zero m one (Active table offset funcs) is = let there = is.0 in omega (arith, there, one)
-  elem_of_zero m one (Declared funcs) is = tt
 
   pub instrumented_are_encodable : CoreIsInReplay → InstrumentedAreEncodable
   instrumented_are_encodable in_replay = record {

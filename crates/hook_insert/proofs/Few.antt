@@ -1,7 +1,6 @@
 -- A module whose quantities are within their limits has few locals and parameters.
-use Rattle.std.proofs.Common.{◌≡◌, ℕ, ◌≤◌, List, [], ◌∷◌, ◌++◌, length, Option, Some, None, Bool, true, false, All, refl}
+use Rattle.std.proofs.Common.{◌≡◌, ℕ, ◌≤◌, List, [], ◌∷◌, ◌++◌, length, None, Bool, true, false, All, refl}
 use Rattle.std.specs.Prelude.{filter_map, nat_lt}
-use Rattle.std.specs.List.{cons_option}
 use Rattle.std.proofs.lemmas.Bool.{ltb-false}
 use Rattle.std.proofs.lemmas.List.Elements.{All-nil, All-cons}
 use Rattle.base.proofs.Lists.{nil_parts}
@@ -14,11 +13,7 @@ use Rattle.wasm_syntax.specs.declared.modules.Func.{Func}
 use Rattle.wasm_syntax.specs.declared.modules.Module.{Module}
 use Rattle.wasm_syntax.specs.Index.{all_tables, all_memories}
 use Rattle.wasm_syntax.specs.Profile.{Refusal, past, count_of_locals, quantities_past}
-
--- a list with an optional front is empty only if both are
-cons_none : {X : Type 0} (front : Option X) (xs : List X) → cons_option front xs ≡ [] → (front ≡ None) × (xs ≡ [])
-cons_none None xs none = (refl, none)
-cons_none (Some x) xs none = cc
+use Rattle.wasm_syntax.proofs.JoinedLists.{nil_option}
 
 -- a quantity that is not past its limit is within
 within : (most : ℕ) (which : Which) (value : ℕ) (past_it : Bool) → nat_lt most value ≡ past_it
@@ -34,7 +29,7 @@ all_within : {X : Type 0} (most : ℕ) (which : Which) (quantity : X → ℕ) (x
     → filter_map (λ x. past most which (quantity x)) xs ≡ [] → All (λ x. quantity x ≤ most) xs
 all_within most which quantity [] none = All-nil (λ x. quantity x ≤ most)
 all_within most which quantity (x ∷ xs) none =
-    let parts = cons_none (past most which (quantity x)) (filter_map (λ y. past most which (quantity y)) xs) none in
+    let parts = nil_option (past most which (quantity x)) (filter_map (λ y. past most which (quantity y)) xs) none in
     All-cons (λ y. quantity y ≤ most) x xs
     (within most which (quantity x) (nat_lt most (quantity x)) refl parts.0)
     (all_within most which quantity xs parts.1)

@@ -1,12 +1,10 @@
 -- In a valid module with few functions, all indices of functions are low, and its functions leave room for the
 -- insertions.
-use Rattle.std.proofs.Common.{◌≡◌, ℕ, ◌+◌, ◌^◌, ◌<◌, ◌≤◌, List, [], ◌∷◌, length, Option, Some, None, IsTrue, All, refl, arith, subst}
-use Rattle.std.specs.Prelude.{slice_get, slice_index_or, option_and_then, sum_by, IfSome}
+use Rattle.std.proofs.Common.{ℕ, ◌+◌, ◌^◌, ◌<◌, ◌≤◌, List, [], ◌∷◌, length, Option, Some, None, IsTrue, All, refl, arith, subst}
+use Rattle.std.specs.Prelude.{slice_index_or, sum_by, IfSome}
 use Rattle.std.proofs.lemmas.List.Elements.{All-nil, All-cons, All-weaker, All-append}
 use Rattle.std.proofs.lemmas.List.Sums.{sum_by-cons}
-use Rattle.std.proofs.lemmas.Option.{slice_get_within}
 use Rattle.wasm_syntax.specs.declared.limits.TheConstants.{MAX_LOCALS_HOOKED}
-use Rattle.wasm_syntax.specs.declared.signatures.FuncType.{FuncType}
 use Rattle.wasm_syntax.specs.declared.instructions.Instr.TheVariants.{End}
 use Rattle.wasm_syntax.specs.declared.modules.Run.{Run}
 use Rattle.wasm_syntax.specs.declared.modules.Func.{Func}
@@ -16,10 +14,11 @@ use Rattle.wasm_syntax.specs.declared.modules.ExportKind.TheVariants as exports
 use Rattle.wasm_syntax.specs.declared.modules.ElemSeg.{ElemSeg}
 use Rattle.wasm_syntax.specs.declared.modules.ElemSeg.TheVariants.{Active, Declared}
 use Rattle.wasm_syntax.specs.declared.modules.Module.{Module}
-use Rattle.wasm_syntax.specs.Index.{func_indices, type_at}
+use Rattle.wasm_syntax.specs.Index.{func_indices}
 use Rattle.wasm_syntax.specs.Nest.{flat}
 use Rattle.wasm_syntax.specs.Profile.{count_of_locals}
 use Rattle.wasm_syntax.specs.Validity.{IsElem, IsStart, IsThere, IsTypedFunc, IsValid, body_context}
+use Rattle.wasm_syntax.proofs.FuncTypes.{func_within}
 use Rattle.wasm_flat.specs.Sizes.{IsShort}
 use Rattle.hook_insert.specs.Sites.{AreLow, IsLowElem, IsLowKind}
 use Rattle.wasm_flat.specs.Sizes.{list_limit}
@@ -51,16 +50,9 @@ module _ (m : Module) (few : length (func_indices m) < list_limit) where
   low_elems : All (IsElem m) m.elems → All IsLowElem m.elems
   low_elems are = All-weaker (IsElem m) IsLowElem low_elem m.elems are
 
-  -- a function that has a type exists
-  typed_there : (func : ℕ) (index : Option ℕ) (ty : FuncType) → slice_get (func_indices m) func ≡ index
-      → option_and_then (type_at m) index ≡ Some ty → func < list_limit
-  typed_there func None ty is found = cc
-  typed_there func (Some at) ty is found =
-      let there : func < length (func_indices m) = slice_get_within (func_indices m) func at is in omega (arith, there, few)
-
   low_start : (start : Option ℕ) → IfSome start (IsStart m) → IfSome start (λ func. func < list_limit)
   low_start None is = is
-  low_start (Some func) is = typed_there func (slice_get (func_indices m) func) is.ty refl is.has_type
+  low_start (Some func) is = let there = func_within m func is.ty is.has_type in omega (arith, there, few)
 
   -- ---- functions
 

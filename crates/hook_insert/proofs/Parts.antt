@@ -1,12 +1,10 @@
 -- Parts of an instrumented module have encodings.
-use Rattle.std.proofs.Common.{◌≡◌, ℕ, zero, suc, ◌+◌, ◌<◌, ◌≤◌, ◌^◌, List, [], ◌∷◌, map, length, Option, Some, None, Bool, true, false, cond, ◌&&◌, refl, codes, arith}
+use Rattle.std.proofs.Common.{◌≡◌, ℕ, ◌+◌, ◌<◌, ◌≤◌, ◌^◌, List, [], ◌∷◌, map, length, Option, Some, None, Bool, true, false, cond, ◌&&◌, refl, codes, arith}
 use Rattle.std.specs.Prelude.{IfSome, IsUtf8, nat_lt, option_map}
 use Rattle.std.specs.List.{AllByRecursion, list_all}
-use Rattle.std.specs.Str.{IsAscii}
 use Rattle.std.proofs.lemmas.Bool.Decides.{nat_tests}
 use Rattle.std.proofs.lemmas.List.Elements.{recursion_from_All}
 use Rattle.std.proofs.lemmas.Str.{IsUtf8-from_ascii}
-use Rattle.base.proofs.Booleans.{and_left, and_right}
 use Rattle.wasm_syntax.specs.declared.forms.Form.{Form}
 use Rattle.wasm_syntax.specs.declared.forms.Form.TheVariants as forms
 use Rattle.wasm_syntax.specs.declared.modules.Export.{Export}
@@ -16,6 +14,7 @@ use Rattle.wasm_syntax.specs.declared.modules.ElemSeg.{ElemSeg}
 use Rattle.wasm_syntax.specs.declared.modules.ElemSeg.TheVariants.{Active, Declared}
 use Rattle.wasm_syntax.specs.declared.modules.Module.{Module}
 use Rattle.wasm_syntax.specs.Encoding.Encodable.{FitsElemSeg, FitsExport, FitsExportKind, FitsFuncType, FitsImport, FitsU32}
+use Rattle.wasm_syntax.proofs.ValidParts.{is_ascii, each_ascii}
 use Rattle.wasm_flat.specs.Sizes.{list_limit}
 use Rattle.record_replay_spec.specs.declared.hooks.Hook.{Hook}
 use Rattle.record_replay_spec.specs.declared.hooks.Hook.TheVariants.{Arg}
@@ -24,17 +23,6 @@ use Rattle.record_replay_spec.specs.Instrumented.{hook_import, hook_types, place
 use Rattle.hook_insert.specs.Sites.{AreLow, IsLowElem, IsLowKind}
 
 -- ---- names
-
-abbrev is_ascii : ℕ → Bool
-is_ascii byte = nat_lt byte 128
-
-ascii_byte : (byte : ℕ) → is_ascii byte ≡ true → byte < 128
-ascii_byte byte h = grind (arith, nat_tests, h)
-
-each_ascii : (bytes : List ℕ) → list_all is_ascii bytes ≡ true → IsAscii bytes
-each_ascii [] all i = omega arith
-each_ascii (byte ∷ bytes) all zero = ascii_byte byte (and_left (is_ascii byte) (list_all is_ascii bytes) all)
-each_ascii (byte ∷ bytes) all (suc i) = each_ascii bytes (and_right (is_ascii byte) (list_all is_ascii bytes) all) i
 
 is_text : (bytes : List ℕ) → list_all is_ascii bytes ≡ true → IsUtf8 bytes
 is_text bytes all = IsUtf8-from_ascii bytes (each_ascii bytes all)

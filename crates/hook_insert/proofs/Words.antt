@@ -8,13 +8,11 @@ use Rattle.wasm_syntax.specs.declared.modules.Import.{Import}
 use Rattle.wasm_syntax.specs.declared.modules.Module.{Module}
 use Rattle.wasm_syntax.specs.Encoding.Laws.{EncodedIsEncodable, NoneIsShorter}
 use Rattle.wasm_syntax.specs.Encoding.Modules.{code_of}
-use Rattle.wasm_syntax.specs.Encoding.Sections.{GlobalSection}
-use Rattle.wasm_syntax.specs.Encoding.Shortest.{encoding_of, global_bytes, unless_empty}
+use Rattle.wasm_syntax.specs.Encoding.Shortest.{encoding_of}
 use Rattle.wasm_syntax.specs.Index.{all_globals, global_import, imported_globals, of_kind}
-use Rattle.wasm_syntax.proofs.Encoding.NotEmpty.{global_bytes_some}
 use Rattle.wasm_syntax.specs.ListsWithin.{ListsAreWithinEncoding}
-use Rattle.wasm_syntax.proofs.ItemLists.{items_some, list_least}
-use Rattle.wasm_syntax.proofs.SectionLists.{encoding_parts, part, part_is, vectors}
+use Rattle.wasm_syntax.proofs.SectionLists.{part}
+use Rattle.wasm_syntax.proofs.VectorLists.{globals_few}
 use Rattle.instrumented_module_laws.specs.Laws.{EncodableHaveWords}
 use Rattle.hook_insert.specs.EncodingLaws.{FilesAreOfWords}
 
@@ -28,33 +26,24 @@ imported_most [] = omega arith
 imported_most (i ∷ imports) =
     omega (arith, imported_most imports, kind_most (global_import i.kind) (of_kind global_import imports))
 
-own_most : (m : Module) → length m.globals ≤ length (encoding_of m)
-own_most m = omega (
-  arith,
-  encoding_parts m,
-  part_is (unless_empty GlobalSection m.globals),
-  list_least GlobalSection global_bytes vectors.globals m.globals,
-  items_some global_bytes global_bytes_some m.globals,
-)
-
 module _ (encodable : EncodedIsEncodable) (least : NoneIsShorter) (within : ListsAreWithinEncoding)
     (words : EncodableHaveWords) where
   pub files_are_of_words : FilesAreOfWords
   files_are_of_words bytes m h few =
       let lists = within Core bytes m h in
       let short : length (encoding_of m) ≤ length bytes = least Core bytes m h in
-      let own = own_most m in
+      let own = globals_few m in
       let imported = imported_most m.imports in
       let all = length-append (of_kind global_import m.imports) (map (λ (g : Global). g.ty) m.globals) in
       let count = length-map m.globals (λ (g : Global). g.ty) in
       let parts = lists.parts in
       let funcs = lists.funcs in
-      words m (encodable Core bytes m h) (omega (arith, funcs, few)) (globals_few m bytes few short own imported all count parts)
+      words m (encodable Core bytes m h) (omega (arith, funcs, few)) (all_few m bytes few short own imported all count parts)
     where
-      globals_few : (m : Module) (bytes : List ℕ) → length bytes ≤ 2 ^ 31 → length (encoding_of m) ≤ length bytes
+      all_few : (m : Module) (bytes : List ℕ) → length bytes ≤ 2 ^ 31 → length (encoding_of m) ≤ length bytes
           → length m.globals ≤ length (encoding_of m) → length (of_kind global_import m.imports) ≤ length m.imports
           → length (all_globals m) ≡ length (of_kind global_import m.imports) + length (map (λ (g : Global). g.ty) m.globals)
           → length (map (λ (g : Global). g.ty) m.globals) ≡ length m.globals
           → length m.types + length m.imports + length m.funcs ≤ length bytes
           → length (all_globals m) ≤ 2 ^ 32
-      globals_few m bytes few short own imported all count parts = omega (arith, few, short, own, imported, all, count, parts)
+      all_few m bytes few short own imported all count parts = omega (arith, few, short, own, imported, all, count, parts)

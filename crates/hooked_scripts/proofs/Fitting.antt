@@ -1,16 +1,16 @@
 -- A script that fits a module has an answer for each imported function; if the module has few functions, the
 -- indices of those that the script names leave room for the hooks.
 use Rattle.std.proofs.Common.{◌≡◌, ℕ, ◌<◌, List, [], ◌∷◌, ◌++◌, length, map, Option, Some, None, replicate, refl, ap, arith}
-use Rattle.std.specs.Prelude.{IfSome, option_and_then, slice_get}
+use Rattle.std.specs.Prelude.{IfSome}
 use Rattle.std.specs.List.{AllZip}
 use Rattle.std.proofs.lemmas.List.{length-map}
 use Rattle.std.proofs.lemmas.List.Elements.{All-cons, All-nil, All-weaker}
-use Rattle.std.proofs.lemmas.Option.{slice_get_within}
 use Rattle.std.proofs.lemmas.Slice.Zip.{AllZip-long}
 use Rattle.wasm_syntax.specs.declared.values.ValType.{ValType}
 use Rattle.wasm_syntax.specs.declared.signatures.FuncType.{FuncType}
 use Rattle.wasm_syntax.specs.declared.modules.Module.{Module}
-use Rattle.wasm_syntax.specs.Index.{func_import, func_indices, imported_funcs, of_kind, type_at}
+use Rattle.wasm_syntax.specs.Index.{func_import, func_indices, imported_funcs, of_kind}
+use Rattle.wasm_syntax.proofs.FuncTypes.{func_within}
 use Rattle.wasm_flat.specs.Sizes.{list_limit}
 use Rattle.host_script.specs.declared.scripts.Action.{Action}
 use Rattle.host_script.specs.declared.scripts.Action.TheVariants.{Call, SetTable}
@@ -41,19 +41,13 @@ pub imports_counted : (m : Module) (script : Script) → Fits m script → lengt
 imports_counted m script fits = AllZip-long (FitsImport m) (of_kind func_import m.imports) script.imports fits.imports
 
 module _ (m : Module) (few : length (func_indices m) < list_limit) where
-  -- a function that has a type has a low index
-  typed_low : (func : ℕ) (index : Option ℕ) (ty : FuncType) → slice_get (func_indices m) func ≡ index
-      → option_and_then (type_at m) index ≡ Some ty → func < list_limit
-  typed_low func None ty is found = cc
-  typed_low func (Some at) ty is found =
-      let there : func < length (func_indices m) = slice_get_within (func_indices m) func at is in omega (arith, there, few)
-
   entry_low : (func : Option ℕ) → IfSome func (λ f. f < length (func_indices m)) → IfSome func (λ f. f < list_limit)
   entry_low None h = h
   entry_low (Some f) h = omega (arith, h, few)
 
   action_low : (params : List ValType) (action : Action) → FitsAction m params action → IsLowAction action
-  action_low params (Call func args) fits = typed_low func (slice_get (func_indices m) func) fits.ty refl fits.has_type
+  action_low params (Call func args) fits =
+      let there = func_within m func fits.ty fits.has_type in omega (arith, there, few)
   action_low params (SetTable index func) fits = entry_low func fits.1
   action_low params action fits = tt
 

@@ -1,7 +1,6 @@
 -- An action's text for a module and for its instrumented module.
-use Rattle.std.proofs.Common.{◌≡◌, ℕ, ◌+◌, List, [], ◌∷◌, map, codes, Option, Some, None, option_map, slice_get, Result, Ok, Err, Bool, true, false, cond, nat_lt, ◌||◌, refl, sym, ap, ◌∙◌, arith}
+use Rattle.std.proofs.Common.{◌≡◌, ℕ, ◌+◌, List, [], ◌∷◌, map, codes, Option, Some, None, option_map, slice_get, Result, Ok, Err, Bool, cond, nat_lt, ◌||◌, refl, sym, ap, ◌∙◌}
 use Rattle.std.specs.Prelude.{⊤}
-use Rattle.std.proofs.lemmas.Bool.Decides.{nat_tests}
 use Rattle.wasm_syntax.specs.declared.values.Val.{Val}
 use Rattle.wasm_syntax.specs.declared.signatures.FuncType.{FuncType}
 use Rattle.wasm_syntax.specs.declared.signatures.GlobalType.{GlobalType}
@@ -25,6 +24,7 @@ use Rattle.record_replay_spec.specs.Hooks.{renumber}
 use Rattle.record_replay_spec.specs.HookedRuns.{renumbered_action}
 use Rattle.record_replay_spec.specs.Instrumented.{instrumented_module}
 use Rattle.record_replay_spec.specs.HookLaws.{InstrumentedKeepIndices}
+use Rattle.record_replay_spec.proofs.Indices.{below_renumbered}
 use Rattle.hooked_texts.proofs.Names.{exports_kept, func_renumbered, func_there, global_kept, globals_imported, imports_kept}
 use Rattle.hooked_texts.proofs.Steps.{bind_alike, bind_own, bind_same, list_alike, mapped, under_or_alike}
 
@@ -97,18 +97,14 @@ module _ (keep : InstrumentedKeepIndices) (m : Module) (digest : List ℕ) (vali
   settable_same global name value =
       ap (λ (list : List GlobalType). is_set_by (slice_get list global) name value) (keep m digest).globals
 
-  below_renumbered : (func : ℕ) → nat_lt (renumber n func) (imported_funcs hooked) ≡ nat_lt func n
-  below_renumbered func =
+  below_hooked : (func : ℕ) → nat_lt (renumber n func) (imported_funcs hooked) ≡ nat_lt func n
+  below_hooked func =
       let more : imported_funcs hooked ≡ n + 15 = (keep m digest).imports in
-      ap (nat_lt (renumber n func)) more ∙ go (nat_lt func n) refl
-    where
-      go : (b : Bool) → nat_lt func n ≡ b → nat_lt (cond b func (func + 15)) (n + 15) ≡ b
-      go true e = grind (arith, nat_tests, e)
-      go false e = grind (arith, nat_tests, e)
+      ap (nat_lt (renumber n func)) more ∙ below_renumbered n func
 
   defined_same : (func : ℕ) (name : List ℕ) → is_defined hooked (renumber n func) name ≡ is_defined m func name
   unfolding is_defined
-  defined_same func name = ap (λ b. defined_or b name) (below_renumbered func)
+  defined_same func name = ap (λ b. defined_or b name) (below_hooked func)
 
   params_same : (func : ℕ) (name : List ℕ) (args : List Val) → (ty : FuncType) × (func_type m func ≡ Some ty)
       → fits_params hooked (renumber n func) name args ≡ fits_params m func name args

@@ -8,12 +8,8 @@ use Rattle.wasm_syntax.specs.declared.modules.Module.{Module}
 use Rattle.host_script.specs.declared.scripts.Supply.{Supply}
 use Rattle.history_spec.specs.Instantiation.{memory_length, memory_limits, new_memory, new_store, new_table, table_length, table_limits}
 use Rattle.wasm_store.specs.Parts.{minimum_of}
+use Rattle.wasm_store.proofs.FirstSizes.{new_memory_length}
 use Rattle.host_link.specs.Link.{HasLimits, first_of}
-
-new_memory_length : (limits : Option Limits)
-    → memory_length (option_map new_memory limits) ≡ minimum_of limits * PAGE_SIZE
-new_memory_length None = refl
-new_memory_length (Some limits) = length-replicate (limits.min * PAGE_SIZE) 0
 
 new_table_length : (limits : Option Limits) → table_length (option_map new_table limits) ≡ minimum_of limits
 new_table_length None = refl

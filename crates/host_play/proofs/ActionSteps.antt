@@ -41,7 +41,9 @@ use Rattle.host_play.proofs.NextActions.{IsNext}
 
 -- ---- addresses
 
-module _ (machine : State) (args : List Val) (each : (number : ℕ) (value : Val) → slice_get args number ≡ Some value → IsWaiting machine.flat machine.frames × (argument_of machine.flat machine.frames machine.slots number ≡ Some value)) where
+module _ (machine : State) (args : List Val)
+    (each : (number : ℕ) (value : Val) → slice_get args number ≡ Some value → IsWaiting machine.flat machine.frames
+    × (argument_of machine.flat machine.frames machine.slots number ≡ Some value)) where
   known : (address : Address) → IsThere args address → IsKnown machine address
   known (Fixed address) there = tt
   known (Arg number plus) there =
@@ -81,7 +83,9 @@ module _ (m : Module) (script : Script) (s : StepResult) (playing : PlayState) (
   pub does_change : (store : Store) (new_playing : PlayState)
       → perform (code_of m) playing.machine.store o.args action ≡ Changes store → IsStore m store
       → StandsFor m standing.heights o.left (with_store playing.machine store)
-      → new_playing.machine ≡ with_store playing.machine store → new_playing.functions ≡ playing.functions → new_playing.counts.items ≡ playing.counts.items → new_playing.hosts ≡ after_next_action top ∷ below_of playing.hosts
+      → new_playing.machine ≡ with_store playing.machine store → new_playing.functions ≡ playing.functions
+      → new_playing.counts.items ≡ playing.counts.items
+      → new_playing.hosts ≡ after_next_action top ∷ below_of playing.hosts
       → MakesStep m script s (Ok (play_step_of host_step.Stays)) new_playing
   does_change store new_playing is is_store stands same_machine same_functions same_counts same_hosts = record {
     config = config_of playing.machine o.whole standing.counts;
@@ -89,15 +93,17 @@ module _ (m : Module) (script : Script) (s : StepResult) (playing : PlayState) (
     leads = record {
       next = after_settling store standing.counts (settle o.left);
       same = o.is_step ∙ ap (after_action (program_of m script) (config_of playing.machine o.whole standing.counts) o.left) is;
-      standing = stands_then m script at.Host playing s standing at.Host new_playing (after_settling store standing.counts (settle o.left)) same_functions same_counts (record {
-        activations = o.left;
-        stack = record {
-          machine = subst (StandsFor m standing.heights o.left) (sym same_machine) stands;
-          hosts = subst (Plays script o.left) (sym same_hosts) o.hosts;
-        };
-        awaits = o.awaits;
-        same = ap (λ (st : State). after_settling st.store standing.counts (settle o.left)) (sym same_machine);
-      });
+      standing =
+          stands_then m script at.Host playing s standing at.Host new_playing
+          (after_settling store standing.counts (settle o.left)) same_functions same_counts (record {
+            activations = o.left;
+            stack = record {
+              machine = subst (StandsFor m standing.heights o.left) (sym same_machine) stands;
+              hosts = subst (Plays script o.left) (sym same_hosts) o.hosts;
+            };
+            awaits = o.awaits;
+            same = ap (λ (st : State). after_settling st.store standing.counts (settle o.left)) (sym same_machine);
+          });
     };
   }
 
@@ -105,7 +111,8 @@ module _ (m : Module) (script : Script) (s : StepResult) (playing : PlayState) (
       → perform (code_of m) playing.machine.store o.args action ≡ Enters func given
       → signature (code_of m) func ≡ Some ty → imported_funcs m ≤ func → AreValues (func_count m) ty.params given
       → InvokesRun playing.machine func given new_playing.machine → args ≡ given
-      → new_playing.functions ≡ playing.functions → new_playing.counts.items ≡ playing.counts.items → new_playing.hosts ≡ after_next_action top ∷ below_of playing.hosts
+      → new_playing.functions ≡ playing.functions → new_playing.counts.items ≡ playing.counts.items
+      → new_playing.hosts ≡ after_next_action top ∷ below_of playing.hosts
       → MakesStep m script s (Ok (play_step_of (host_step.Calls func args))) new_playing
   does_call func given args ty new_playing is has_type defined values invokes same_args same_functions same_counts same_hosts =
       let enters = invokes m standing.heights standing.counts o.left ty standing.is_run.code o.awaits o.stands defined has_type values in

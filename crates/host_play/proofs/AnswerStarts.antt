@@ -32,8 +32,11 @@ use Rattle.host_play.proofs.Arrivals.{after_both}
 use Rattle.host_play.proofs.Counts.{kept_at, kept_more, kept_there}
 use Rattle.host_play.proofs.Outside.{plays_same}
 
-module _ (m : Module) (heights : Heights) (script : Script) (counts : List ℕ) (is_run : IsRun m heights (program_of m script) counts) (below : List Activation) (playing : PlayState) (functions : AreOf (code_of m) playing.functions) (counted : playing.counts.items ≡ map kept counts)
-    (hosts : Plays script below playing.hosts) (entries : List Entry) (machine : State) (s : StepResult) (index : ℕ) (comes : ComesToImport m heights (program_of m script) (outside_of below) counts index entries machine s) where
+module _ (m : Module) (heights : Heights) (script : Script) (counts : List ℕ)
+    (is_run : IsRun m heights (program_of m script) counts) (below : List Activation) (playing : PlayState)
+    (functions : AreOf (code_of m) playing.functions) (counted : playing.counts.items ≡ map kept counts)
+    (hosts : Plays script below playing.hosts) (entries : List Entry) (machine : State) (s : StepResult) (index : ℕ)
+    (comes : ComesToImport m heights (program_of m script) (outside_of below) counts index entries machine s) where
   pub counted_import : index < length playing.counts.items
   counted_import =
       let stands = comes.stands [] Trap (λ k d below. absurd (omega arith)) tt in
@@ -46,16 +49,19 @@ module _ (m : Module) (heights : Heights) (script : Script) (counts : List ℕ) 
 
   pub no_response : (refused : Refusal) → HasNoResponse script playing.counts.items index refused → Stops refused s
   no_response (refusal.Fault kind) none =
-      ap (λ s'. s'.next) (comes.same ∙ ap (λ r. after_entries comes.before (answer_call r machine.store counts index comes.args (InModule comes.frame ∷ comes.below))) (none.1 (slice_index counts index) number))
+      ap (λ s'. s'.next) (comes.same ∙ ap (λ r. after_entries comes.before (answer_call r machine.store counts index
+      comes.args (InModule comes.frame ∷ comes.below))) (none.1 (slice_index counts index) number))
       ∙ ap Faulted (sym none.0)
   no_response refusal.Memory none = tt
 
-  pub import_begins : (new_hosts : List Host) (new_playing : PlayState) → new_playing.machine ≡ machine → new_playing.functions ≡ playing.functions → new_playing.hosts ≡ new_hosts
+  pub import_begins : (new_hosts : List Host) (new_playing : PlayState) → new_playing.machine ≡ machine
+      → new_playing.functions ≡ playing.functions → new_playing.hosts ≡ new_hosts
       → BeginsAnswer script playing.hosts playing.counts.items index new_hosts new_playing.counts.items → Leads m script s entries at.Host new_playing
   import_begins new_hosts new_playing same_machine same_functions same_hosts begins =
       let response : Response = begins.response in
       let chosen : response_to script.imports index (slice_index counts index) ≡ Some response = begins.chosen (slice_index counts index) number in
-      let fits : FitsResponse m comes.ty response = response_fits m script.imports index (slice_index counts index) comes.ty response is_run.fits.answers comes.has_type chosen in
+      let fits : FitsResponse m comes.ty response = response_fits m script.imports index
+      (slice_index counts index) comes.ty response is_run.fits.answers comes.has_type chosen in
       let stack : List Activation = InImport index comes.args response.actions response.«end» ∷ InModule comes.frame ∷ comes.below in
       let new_counts : List ℕ = slice_set counts index (slice_index counts index + 1) in
       let next : StepResult = after_settling machine.store new_counts (settle stack) in
@@ -82,7 +88,15 @@ module _ (m : Module) (heights : Heights) (script : Script) (counts : List ℕ) 
             stack = record {
               machine = subst (StandsFor m heights stack) (sym same_machine) (comes.stands response.actions response.«end» fits.actions fits.«end»);
               hosts = subst (Plays script stack) (sym (same_hosts ∙ begins.pushed)) (
-                record { same = refl; response = response; chosen = begins.chosen (slice_index playing.counts.items index) (kept_there counts playing.counts.items index counted); left = refl; ends = refl },
+                record {
+                  same = refl;
+                  response = response;
+                  chosen =
+                      begins.chosen (slice_index playing.counts.items index)
+                      (kept_there counts playing.counts.items index counted);
+                  left = refl;
+                  ends = refl;
+                },
                 tt,
                 plays_same script below comes.below playing.hosts comes.same_outside hosts,
               );

@@ -31,7 +31,8 @@ after_both first second s = ap (λ es. step_result es s.next) (append_assoc firs
 
 -- a run that is at one place comes to another place, with the same functions and counts
 pub stands_then : (m : Module) (script : Script) (stand : Stand) (playing : PlayState) (s : StepResult) (standing : StandsAt m script stand playing s)
-    (next_stand : Stand) (new_playing : PlayState) (next : StepResult) → new_playing.functions ≡ playing.functions → new_playing.counts.items ≡ playing.counts.items
+    (next_stand : Stand) (new_playing : PlayState) (next : StepResult) → new_playing.functions ≡ playing.functions
+    → new_playing.counts.items ≡ playing.counts.items
     → GoesOn m standing.heights script standing.counts next_stand new_playing next → StandsAt m script next_stand new_playing next
 stands_then m script stand playing s standing next_stand new_playing next same_functions same_counts goes_on = record {
   heights = standing.heights;
@@ -42,12 +43,16 @@ stands_then m script stand playing s standing next_stand new_playing next same_f
   goes_on = goes_on;
 }
 
-module _ (m : Module) (heights : Heights) (script : Script) (counts : List ℕ) (is_run : IsRun m heights (program_of m script) counts) (below : List Activation) (playing : PlayState) (functions : AreOf (code_of m) playing.functions) (counted : playing.counts.items ≡ map kept counts)
+module _ (m : Module) (heights : Heights) (script : Script) (counts : List ℕ)
+    (is_run : IsRun m heights (program_of m script) counts) (below : List Activation) (playing : PlayState)
+    (functions : AreOf (code_of m) playing.functions) (counted : playing.counts.items ≡ map kept counts)
     (entries : List Entry) (s : StepResult) where
   standing_at : (stand : Stand) (next : StepResult) → GoesOn m heights script counts stand playing next → StandsAt m script stand playing next
   standing_at stand next goes_on = record { heights = heights; counts = counts; is_run = is_run; functions = functions; counted = counted; goes_on = goes_on }
 
-  pub at_instruction : Plays script below playing.hosts → ComesToInstruction m heights (outside_of below) counts entries playing.machine s → Leads m script s entries at.Instruction playing
+  pub at_instruction : Plays script below playing.hosts
+      → ComesToInstruction m heights (outside_of below) counts entries playing.machine s
+      → Leads m script s entries at.Instruction playing
   at_instruction hosts c =
       let next : StepResult = step_result [] (Running (config_of playing.machine (InModule c.frame ∷ c.below) counts)) in
       record {
@@ -62,7 +67,9 @@ module _ (m : Module) (heights : Heights) (script : Script) (counts : List ℕ) 
         });
       }
 
-  pub at_host : Plays script below playing.hosts → ComesToHost m heights (outside_of below) counts entries playing.machine s → Leads m script s entries at.Host playing
+  pub at_host : Plays script below playing.hosts
+      → ComesToHost m heights (outside_of below) counts entries playing.machine s
+      → Leads m script s entries at.Host playing
   at_host hosts c =
       let next : StepResult = after_settling playing.machine.store counts (settle (outside_of below)) in
       record {

@@ -29,7 +29,8 @@ all_calls entries = length (filter is_call entries)
 
 -- ---- what follows without a turn calls nothing
 
-pub returns_none : (func : ℕ) (results : List Val) (below : List Activation) (rest : List Entry) → all_calls (return_entry func results below ∷ rest) ≡ all_calls rest
+pub returns_none : (func : ℕ) (results : List Val) (below : List Activation) (rest : List Entry)
+    → all_calls (return_entry func results below ∷ rest) ≡ all_calls rest
 returns_none func results [] rest = refl
 returns_none func results (InModule frame ∷ below) rest = refl
 returns_none func results (InMain actions ∷ below) rest = refl
@@ -39,7 +40,8 @@ pub delivers_none : (stack : List Activation) (results : List Val) → all_calls
 delivers_none [] results = refl
 delivers_none (InModule frame ∷ below) results = go (delivers_none below) (at_end (with_results frame results))
   where
-    go : ((rs : List Val) → all_calls (deliver below rs).entries ≡ 0) → (e : AtEnd) → all_calls (return_from e (with_results frame results) below (deliver below)).entries ≡ 0
+    go : ((rs : List Val) → all_calls (deliver below rs).entries ≡ 0) → (e : AtEnd)
+        → all_calls (return_from e (with_results frame results) below (deliver below)).entries ≡ 0
     go later Within = refl
     go later (Gives rs) = returns_none frame.func rs below (deliver below rs).entries ∙ later rs
     go later TooFew = refl
@@ -50,7 +52,8 @@ delivers_none (InImport import args [] (Return (Some value)) ∷ below) results 
 delivers_none (InImport import args [] Trap ∷ below) results = refl
 delivers_none (InImport import args (action ∷ actions) end ∷ below) results = refl
 
-pub enters_none : (program : Program) (store : Store) (counts : List ℕ) (func : ℕ) (args : List Val) (stack : List Activation) → all_calls (enter_function program.code store counts func args stack).entries ≡ 0
+pub enters_none : (program : Program) (store : Store) (counts : List ℕ) (func : ℕ) (args : List Val)
+    (stack : List Activation) → all_calls (enter_function program.code store counts func args stack).entries ≡ 0
 enters_none program store counts func args stack = go (signature program.code func) (definition program.code func)
   where
     go : (ty : Option FuncType) (d : Option Definition) → all_calls (enter_defined ty d store counts func args stack).entries ≡ 0

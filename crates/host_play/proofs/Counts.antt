@@ -11,7 +11,8 @@ kept_next count = omega arith
 pub kept_at : (counts : List ℕ) (i : ℕ) → slice_index (map kept counts) i ≡ kept (slice_index counts i)
 kept_at counts i = get_or-map kept counts i 0
 
-pub kept_more : (counts : List ℕ) (i : ℕ) → slice_set (map kept counts) i (kept (slice_index (map kept counts) i + 1)) ≡ map kept (slice_set counts i (slice_index counts i + 1))
+pub kept_more : (counts : List ℕ) (i : ℕ) → slice_set (map kept counts) i (kept (slice_index (map kept counts) i + 1))
+    ≡ map kept (slice_set counts i (slice_index counts i + 1))
 kept_more counts i =
     ap (λ n. slice_set (map kept counts) i (kept (n + 1))) (kept_at counts i)
     ∙ ap (slice_set (map kept counts) i) (kept_next (slice_index counts i))

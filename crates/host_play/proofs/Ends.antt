@@ -56,7 +56,8 @@ pub record Done (m : Module) (heights : Heights) (script : Script) (counts : Lis
   pub same : s ≡ after_settling playing.machine.store counts (settle (InImport import args [] response.«end» ∷ InModule frame ∷ below))
 
 module _ (m : Module) (heights : Heights) (script : Script) (counts : List ℕ) (playing : PlayState) (s : StepResult) where
-  pub main_done : (stack : List Activation) (hosts : List Host) (next : ℕ) → AwaitsHost stack → Plays script stack hosts → s ≡ after_settling playing.machine.store counts (settle stack)
+  pub main_done : (stack : List Activation) (hosts : List Host) (next : ℕ) → AwaitsHost stack → Plays script stack hosts
+      → s ≡ after_settling playing.machine.store counts (settle stack)
       → top_of hosts ≡ Some (host.Main next) → action_at script (host.Main next) ≡ None → s ≡ step_result [] (Finished Ended)
   main_done [] hosts next awaits plays same is none = absurd awaits
   main_done (InModule frame ∷ below) hosts next awaits plays same is none = absurd awaits
@@ -72,7 +73,8 @@ module _ (m : Module) (heights : Heights) (script : Script) (counts : List ℕ) 
 
   done_called : (stack : List Activation) (i : ℕ) (args : List Val) (actions : List Action) («end» : ResponseEnd) (called number next : ℕ)
       → IsCaller stack → Plays script (InImport i args actions «end» ∷ stack) (host.Answer called number next ∷ below_of playing.hosts)
-      → StandsFor m heights (InImport i args actions «end» ∷ stack) playing.machine → s ≡ after_settling playing.machine.store counts (settle (InImport i args actions «end» ∷ stack))
+      → StandsFor m heights (InImport i args actions «end» ∷ stack) playing.machine
+      → s ≡ after_settling playing.machine.store counts (settle (InImport i args actions «end» ∷ stack))
       → action_at script (host.Answer called number next) ≡ None → Done m heights script counts playing (host.Answer called number next) s
   done_called [] i args actions «end» called number next caller plays stands same none = absurd caller
   done_called (InMain others ∷ below) i args actions «end» called number next caller plays stands same none = absurd caller
@@ -105,12 +107,15 @@ module _ (m : Module) (heights : Heights) (script : Script) (counts : List ℕ) 
             same
             ∙ ap (λ a. after_settling playing.machine.store counts (settle (InImport i args a «end» ∷ InModule frame ∷ below))) nothing
             ∙ ap (λ e. after_settling playing.machine.store counts (settle (InImport i args [] e ∷ InModule frame ∷ below))) chosen.ends
-            ∙ ap (λ x. after_settling playing.machine.store counts (settle (InImport x args [] chosen.response.«end» ∷ InModule frame ∷ below))) (sym chosen.same);
+            ∙ ap (λ x. after_settling playing.machine.store counts
+            (settle (InImport x args [] chosen.response.«end» ∷ InModule frame ∷ below))) (sym chosen.same);
       }
 
-  pub answer_done : (stack : List Activation) (hosts : List Host) (import number next : ℕ) → playing.hosts ≡ hosts → AwaitsHost stack → StandsFor m heights stack playing.machine → Plays script stack hosts
+  pub answer_done : (stack : List Activation) (hosts : List Host) (import number next : ℕ) → playing.hosts ≡ hosts
+      → AwaitsHost stack → StandsFor m heights stack playing.machine → Plays script stack hosts
       → s ≡ after_settling playing.machine.store counts (settle stack)
-      → top_of hosts ≡ Some (host.Answer import number next) → action_at script (host.Answer import number next) ≡ None → Done m heights script counts playing (host.Answer import number next) s
+      → top_of hosts ≡ Some (host.Answer import number next) → action_at script (host.Answer import number next) ≡ None
+      → Done m heights script counts playing (host.Answer import number next) s
   answer_done [] hosts import number next are awaits stands plays same is none = absurd awaits
   answer_done (InModule frame ∷ below) hosts import number next are awaits stands plays same is none = absurd awaits
   answer_done (InMain actions ∷ below) [] import number next are awaits stands plays same is none = absurd plays
@@ -121,37 +126,51 @@ module _ (m : Module) (heights : Heights) (script : Script) (counts : List ℕ) 
   answer_done (InImport i args actions «end» ∷ below) (host.Answer called n nx ∷ hosts) import number next are awaits stands plays same is none =
       let top_is : host.Answer called n nx ≡ host.Answer import number next = cc in
       subst (λ t. Done m heights script counts playing t s) top_is
-      (done_called below i args actions «end» called n nx plays.1 (subst (λ hs. Plays script (InImport i args actions «end» ∷ below) (host.Answer called n nx ∷ hs)) (sym (ap below_of are)) plays) stands same (ap (action_at script) top_is ∙ none))
+      (done_called below i args actions «end» called n nx plays.1
+      (subst (λ hs. Plays script (InImport i args actions «end» ∷ below) (host.Answer called n nx ∷ hs))
+      (sym (ap below_of are)) plays) stands same (ap (action_at script) top_is ∙ none))
 
 -- the host is at the end of what it does by this response
-pub record Answered (m : Module) (script : Script) (s : StepResult) (playing : PlayState) (import : ℕ) (top : Host) («end» : ResponseEnd) (standing : StandsAt m script at.Host playing s) : Type 0 where
+pub record Answered (m : Module) (script : Script) (s : StepResult) (playing : PlayState) (import : ℕ) (top : Host)
+    («end» : ResponseEnd) (standing : StandsAt m script at.Host playing s) : Type 0 where
   pub done : Done m standing.heights script standing.counts playing top s
   pub same_import : import ≡ done.import
   pub same_end : done.response.«end» ≡ «end»
 
-pub answered : (m : Module) (script : Script) (s : StepResult) (playing : PlayState) (top : Host) (import number next : ℕ) (response : Response) (standing : StandsAt m script at.Host playing s)
-    → top ≡ host.Answer import number next → top_of playing.hosts ≡ Some top → action_at script top ≡ None → response_to script.imports import number ≡ Some response
+pub answered : (m : Module) (script : Script) (s : StepResult) (playing : PlayState) (top : Host)
+    (import number next : ℕ) (response : Response) (standing : StandsAt m script at.Host playing s)
+    → top ≡ host.Answer import number next → top_of playing.hosts ≡ Some top → action_at script top ≡ None
+    → response_to script.imports import number ≡ Some response
     → Answered m script s playing import (host.Answer import number next) response.«end» standing
 answered m script s playing top import number next response standing is top_is none chosen =
     let d : Done m standing.heights script standing.counts playing (host.Answer import number next) s =
-    answer_done m standing.heights script standing.counts playing s standing.goes_on.activations playing.hosts import number next refl standing.goes_on.awaits standing.goes_on.stack.machine standing.goes_on.stack.hosts standing.goes_on.same (top_is ∙ ap (λ t. Some t) is) (ap (action_at script) (sym is) ∙ none) in
+    answer_done m standing.heights script standing.counts playing s standing.goes_on.activations playing.hosts import
+    number next refl standing.goes_on.awaits standing.goes_on.stack.machine standing.goes_on.stack.hosts
+    standing.goes_on.same (top_is ∙ ap (λ t. Some t) is) (ap (action_at script) (sym is) ∙ none) in
     let same : import ≡ d.import = let all : host.Answer import number next ≡ host.Answer d.import d.number d.next = d.is_top in cc in
     let numbers : number ≡ d.number = let all : host.Answer import number next ≡ host.Answer d.import d.number d.next = d.is_top in cc in
-    let found : Some response ≡ Some d.response = sym chosen ∙ ap (λ i. response_to script.imports i number) same ∙ ap (response_to script.imports d.import) numbers ∙ d.chosen in
+    let found : Some response ≡ Some d.response = sym chosen ∙ ap (λ i. response_to script.imports i number) same
+    ∙ ap (response_to script.imports d.import) numbers ∙ d.chosen in
     let responses : response ≡ d.response = cc in
     record { done = d; same_import = same; same_end = ap (λ (r : Response). r.«end») (sym responses) }
 
 -- ---- what the run goes on with
 
-pub main_leads : (m : Module) (script : Script) (s : StepResult) (next : ℕ) (playing : PlayState) → StandsAt m script at.Host playing s → top_of playing.hosts ≡ Some (host.Main next) → action_at script (host.Main next) ≡ None
+pub main_leads : (m : Module) (script : Script) (s : StepResult) (next : ℕ) (playing : PlayState)
+    → StandsAt m script at.Host playing s → top_of playing.hosts ≡ Some (host.Main next)
+    → action_at script (host.Main next) ≡ None
     → Leads m script s [] (at.Over Ended) playing
 main_leads m script s next playing standing is none = record {
   next = step_result [] (Finished Ended);
-  same = main_done m standing.heights script standing.counts playing s standing.goes_on.activations playing.hosts next standing.goes_on.awaits standing.goes_on.stack.hosts standing.goes_on.same is none;
+  same =
+      main_done m standing.heights script standing.counts playing s standing.goes_on.activations playing.hosts next
+      standing.goes_on.awaits standing.goes_on.stack.hosts standing.goes_on.same is none;
   standing = stands_then m script at.Host playing s standing (at.Over Ended) playing (step_result [] (Finished Ended)) refl refl refl;
 }
 
-module _ (m : Module) (script : Script) (s : StepResult) (playing : PlayState) (top : Host) (standing : StandsAt m script at.Host playing s) (d : Done m standing.heights script standing.counts playing top s) where
+module _ (m : Module) (script : Script) (s : StepResult) (playing : PlayState) (top : Host)
+    (standing : StandsAt m script at.Host playing s)
+    (d : Done m standing.heights script standing.counts playing top s) where
   pub trap_leads : d.response.«end» ≡ Trap → Leads m script s (HostTrap ∷ []) (at.Over HostTrapped) playing
   trap_leads is = record {
     next = step_result [] (Finished HostTrapped);
@@ -165,7 +184,8 @@ module _ (m : Module) (script : Script) (s : StepResult) (playing : PlayState) (
       → new_playing.functions ≡ playing.functions → new_playing.counts.items ≡ playing.counts.items → new_playing.hosts ≡ below_of playing.hosts
       → Leads m script s (ImportReturn import (option_to_list value) ∷ []) at.Module new_playing
   return_leads import value new_playing same_import results_law is resumes same_functions same_counts same_hosts =
-      let r = resumes m standing.heights d.import d.args [] d.response.«end» d.frame d.below d.ty d.stands d.has_type (results_law m d.ty.results (option_to_list value) (d.fits value is)) in
+      let r = resumes m standing.heights d.import d.args [] d.response.«end» d.frame d.below d.ty d.stands d.has_type
+      (results_law m d.ty.results (option_to_list value) (d.fits value is)) in
       let next : StepResult = after_settling playing.machine.store standing.counts (settle (InModule r.next ∷ d.below)) in
       subst (λ i. Leads m script s (ImportReturn i (option_to_list value) ∷ []) at.Module new_playing) (sym same_import)
       (record {

@@ -24,9 +24,12 @@ pub past_own : (n : ℕ) (answers : List (Option Answer)) (import : ℕ) → n �
     → slice_get (with_hook_answers n answers) import ≡ slice_get (replicate hook_count (Some hook_answer)) (import - n)
 past_own zero answers import past = let same : import - 0 ≡ import = omega arith in ap (slice_get (replicate hook_count (Some hook_answer))) (sym same)
 past_own (suc n) answers zero past = absurd (omega (arith, past))
-past_own (suc n) [] (suc i) past = let same : suc i - suc n ≡ i - n = omega arith in past_own n [] i (omega (arith, past)) ∙ ap (slice_get (replicate hook_count (Some hook_answer))) (sym same)
+past_own (suc n) [] (suc i) past =
+    let same : suc i - suc n ≡ i - n = omega arith in
+    past_own n [] i (omega (arith, past)) ∙ ap (slice_get (replicate hook_count (Some hook_answer))) (sym same)
 past_own (suc n) (answer ∷ answers) (suc i) past =
-    let same : suc i - suc n ≡ i - n = omega arith in past_own n answers i (omega (arith, past)) ∙ ap (slice_get (replicate hook_count (Some hook_answer))) (sym same)
+    let same : suc i - suc n ≡ i - n = omega arith in
+    past_own n answers i (omega (arith, past)) ∙ ap (slice_get (replicate hook_count (Some hook_answer))) (sym same)
 
 pub hook_answered : (n import number : ℕ) (answers : List (Option Answer)) → n ≤ import → import - n < hook_count
     → response_to (with_hook_answers n answers) import number ≡ Some nothing_done
@@ -43,11 +46,14 @@ unanswered n import number answers past above =
 -- what the host does at a call of a hook is what the script with hooks has for it
 module _ (n import number : ℕ) (script : Script) (past : n ≤ import) where
   pub replies : (found : Option Reply) → MatchOption found (hook_count ≤ import - n) (λ reply. (import - n < hook_count) × (response_in reply ≡ nothing_done))
-      → MatchOption found (response_to (hooked_script n script).imports import number ≡ None) (λ reply. response_to (hooked_script n script).imports import number ≡ Some (response_in reply))
+      → MatchOption found (response_to (hooked_script n script).imports import number ≡ None)
+      (λ reply. response_to (hooked_script n script).imports import number ≡ Some (response_in reply))
   replies None above = unanswered n import number script.imports past above
   replies (Some reply) is = hook_answered n import number script.imports past is.0 ∙ ap (λ r. Some r) (sym is.1)
 
-  pub replies_kept : (found : Option Reply) → MatchOption found (hook_count ≤ import - n) (λ reply. (import - n < hook_count) × (response_in reply ≡ nothing_done))
-      → MatchOption found (IsResponse (hooked_script n script) import number None) (λ reply. IsResponse (hooked_script n script) import number (Some (response_in reply)))
+  pub replies_kept : (found : Option Reply) → MatchOption found (hook_count ≤ import - n)
+      (λ reply. (import - n < hook_count) × (response_in reply ≡ nothing_done))
+      → MatchOption found (IsResponse (hooked_script n script) import number None)
+      (λ reply. IsResponse (hooked_script n script) import number (Some (response_in reply)))
   replies_kept None above = λ count is. unanswered n import count script.imports past above
   replies_kept (Some reply) is = λ count same. hook_answered n import count script.imports past is.0 ∙ ap (λ r. Some r) (sym is.1)

@@ -10,7 +10,8 @@ set_later (y ∷ xs) (suc i) zero x before = refl
 set_later (y ∷ xs) (suc i) (suc j) x before = set_later xs i j x (omega (arith, before))
 
 -- one more item is the wanted one
-pub one_more_read : {A : Type 0} (want : ℕ → Option A) (xs : List A) (i : ℕ) (x : A) → i < length xs → want i ≡ Some x → ((j : ℕ) → j < i → want j ≡ slice_get xs j)
+pub one_more_read : {A : Type 0} (want : ℕ → Option A) (xs : List A) (i : ℕ) (x : A) → i < length xs → want i ≡ Some x
+    → ((j : ℕ) → j < i → want j ≡ slice_get xs j)
     → (j : ℕ) → j < i + 1 → want j ≡ slice_get (slice_set xs i x) j
 one_more_read want xs i x there is so_far j below = go (below_cases j i (omega (arith, below)))
   where
@@ -19,7 +20,8 @@ one_more_read want xs i x there is so_far j below = go (below_cases j i (omega (
     go (inr here) = ap want here ∙ is ∙ sym (set_there xs i x there) ∙ ap (slice_get (slice_set xs i x)) (sym here)
 
 -- items that are the first ones of a list
-pub first_items : {A : Type 0} (xs ys : List A) (count : ℕ) → length ys ≡ count → count ≤ length xs → ((i : ℕ) → i < count → slice_get xs i ≡ slice_get ys i) → take count xs ≡ ys
+pub first_items : {A : Type 0} (xs ys : List A) (count : ℕ) → length ys ≡ count → count ≤ length xs
+    → ((i : ℕ) → i < count → slice_get xs i ≡ slice_get ys i) → take count xs ≡ ys
 first_items xs [] zero len within same = refl
 first_items xs [] (suc count) len within same = absurd (omega (arith, len))
 first_items xs (y ∷ ys) zero len within same = absurd (omega (arith, len))

@@ -41,18 +41,25 @@ none_called test only [] none = refl
 none_called test only (e ∷ es) none = go (none_called test only es) (is_call e) refl
   where
     go : (all_calls es ≡ 0 → filter test es ≡ []) → (b : Bool) → is_call e ≡ b → filter test (e ∷ es) ≡ []
-    go later true is = let some : length (cond true (e ∷ filter is_call es) (filter is_call es)) ≡ 0 = subst (λ b. length (cond b (e ∷ filter is_call es) (filter is_call es)) ≡ 0) is none in cc
+    go later true is =
+        let some : length (cond true (e ∷ filter is_call es) (filter is_call es)) ≡ 0 =
+        subst (λ b. length (cond b (e ∷ filter is_call es) (filter is_call es)) ≡ 0) is none in
+        cc
     go later false is =
         ap (λ b. cond b (e ∷ filter test es) (filter test es)) (only e is)
         ∙ later (subst (λ b. length (cond b (e ∷ filter is_call es) (filter is_call es)) ≡ 0) is none)
 
 -- if no entry passes a test, no entry passes a stricter one
-pub none_stricter : (test strict : Entry → Bool) → ((e : Entry) → test e ≡ false → strict e ≡ false) → (es : List Entry) → filter test es ≡ [] → filter strict es ≡ []
+pub none_stricter : (test strict : Entry → Bool) → ((e : Entry) → test e ≡ false → strict e ≡ false) → (es : List Entry)
+    → filter test es ≡ [] → filter strict es ≡ []
 none_stricter test strict only [] none = refl
 none_stricter test strict only (e ∷ es) none = go (none_stricter test strict only es) (test e) refl
   where
     go : (filter test es ≡ [] → filter strict es ≡ []) → (b : Bool) → test e ≡ b → filter strict (e ∷ es) ≡ []
-    go later true is = let some : cond true (e ∷ filter test es) (filter test es) ≡ [] = subst (λ b. cond b (e ∷ filter test es) (filter test es) ≡ []) is none in cc
+    go later true is =
+        let some : cond true (e ∷ filter test es) (filter test es) ≡ [] =
+        subst (λ b. cond b (e ∷ filter test es) (filter test es) ≡ []) is none in
+        cc
     go later false is =
         ap (λ b. cond b (e ∷ filter strict es) (filter strict es)) (only e is)
         ∙ later (subst (λ b. cond b (e ∷ filter test es) (filter test es) ≡ []) is none)
@@ -86,12 +93,15 @@ pub calls_none : (n : ℕ) (view : Store) (es : List Entry) → filter (is_hook_
 calls_none n view [] none = refl
 calls_none n view (ImportCall import args ∷ es) none = go (calls_none n view es) (nat_lt import n) refl
   where
-    go : (filter (is_hook_call n) es ≡ [] → calls_among n view es ≡ []) → (b : Bool) → nat_lt import n ≡ b → calls_among n view (ImportCall import args ∷ es) ≡ []
+    go : (filter (is_hook_call n) es ≡ [] → calls_among n view es ≡ []) → (b : Bool) → nat_lt import n ≡ b
+        → calls_among n view (ImportCall import args ∷ es) ≡ []
     go later true is =
         ap (λ b. cond b [] (on (slice_get hooks (import - n)) (λ kind. record { kind = kind; args = args; view = view } ∷ [])) ++ calls_among n view es) is
         ∙ later (subst (λ b. cond (not b) (ImportCall import args ∷ filter (is_hook_call n) es) (filter (is_hook_call n) es) ≡ []) is none)
     go later false is =
-        let some : ImportCall import args ∷ filter (is_hook_call n) es ≡ [] = subst (λ b. cond (not b) (ImportCall import args ∷ filter (is_hook_call n) es) (filter (is_hook_call n) es) ≡ []) is none in cc
+        let some : ImportCall import args ∷ filter (is_hook_call n) es ≡ [] = subst (λ b.
+        cond (not b) (ImportCall import args ∷ filter (is_hook_call n) es) (filter (is_hook_call n) es) ≡ []) is none in
+        cc
 calls_none n view (HostCall func args ∷ es) none = calls_none n view es none
 calls_none n view (HostReturn func results ∷ es) none = calls_none n view es none
 calls_none n view (ImportReturn import results ∷ es) none = calls_none n view es none
@@ -107,7 +117,8 @@ pub none_in_both : (test : Entry → Bool) (xs ys : List Entry) → filter test 
 none_in_both test xs ys none = nil_parts (filter test xs) (filter test ys) (sym (filter-append test xs ys) ∙ none)
 
 -- steps without calls of hooks
-pub quiet : (n : ℕ) (program : Program) (meter : Meter) (k : ℕ) (at : Progress) → filter (is_hook_call n) (steps program meter k at).history ≡ [] → hook_calls n program k at ≡ []
+pub quiet : (n : ℕ) (program : Program) (meter : Meter) (k : ℕ) (at : Progress)
+    → filter (is_hook_call n) (steps program meter k at).history ≡ [] → hook_calls n program k at ≡ []
 quiet n program meter zero at none = refl
 quiet n program meter (suc k) (Running config) none =
     let s : StepResult = step program config in

@@ -49,7 +49,8 @@ zip_length P (x ∷ xs) [] all = absurd all
 zip_length P (x ∷ xs) (y ∷ ys) all = ap suc (zip_length P xs ys all.1)
 
 -- the item beside another
-zip_at : {A B : Type 0} (P : A → B → Type 0) (xs : List A) (ys : List B) (i : ℕ) (x : A) → AllZip P xs ys → slice_get xs i ≡ Some x → (y : B) × (slice_get ys i ≡ Some y) × P x y
+zip_at : {A B : Type 0} (P : A → B → Type 0) (xs : List A) (ys : List B) (i : ℕ) (x : A) → AllZip P xs ys
+    → slice_get xs i ≡ Some x → (y : B) × (slice_get ys i ≡ Some y) × P x y
 zip_at P [] ys i x all is = cc
 zip_at P (z ∷ xs) [] i x all is = absurd all
 zip_at P (z ∷ xs) (y ∷ ys) zero x all is = let same : z ≡ x = cc in (y, refl, subst (λ z. P z y) same all.0)
@@ -70,7 +71,9 @@ kinds_align [] = tt
 kinds_align (import ∷ imports) = go (kinds_align imports) import.kind refl
   where
     go : AllZip IsOfType (filter (λ import. is_func_kind import.kind) imports) (of_kind func_import imports) → (kind : ImportKind) → import.kind ≡ kind
-        → AllZip IsOfType (cond (is_func_kind kind) (import ∷ filter (λ import. is_func_kind import.kind) imports) (filter (λ import. is_func_kind import.kind) imports)) (cons_option (func_import kind) (of_kind func_import imports))
+        → AllZip IsOfType (cond (is_func_kind kind) (import ∷ filter (λ import. is_func_kind import.kind) imports)
+        (filter (λ import. is_func_kind import.kind) imports))
+        (cons_option (func_import kind) (of_kind func_import imports))
     go later (Func t) is = (is, later)
     go later (Table limits) is = later
     go later (Memory limits) is = later
@@ -86,10 +89,12 @@ typed_as wanted (Some ty) is = ap (λ t. Some t) (signature_same ty wanted is)
 
 hook_typed : (m : Module) (kind : Hook) (import : Import) (t : ℕ) → is_hook m kind import ≡ true → import.kind ≡ Func t → HasHookType m kind t
 hook_typed m kind import t is func =
-    let brought : brings m (hook_type kind) import.kind ≡ true = and_right (is_from_hooks import && bytes_eq import.name (hook_name kind)) (brings m (hook_type kind) import.kind) is in
+    let brought : brings m (hook_type kind) import.kind ≡ true = and_right
+    (is_from_hooks import && bytes_eq import.name (hook_name kind)) (brings m (hook_type kind) import.kind) is in
     typed_as (hook_type kind) (type_at m t) (subst (λ k. brings m (hook_type kind) k ≡ true) func brought)
 
-hooks_typed : (m : Module) (kinds : List Hook) (imports : List Import) (types : List ℕ) → are_hooks m kinds imports ≡ true → AllZip IsOfType imports types → AllZip (HasHookType m) kinds types
+hooks_typed : (m : Module) (kinds : List Hook) (imports : List Import) (types : List ℕ)
+    → are_hooks m kinds imports ≡ true → AllZip IsOfType imports types → AllZip (HasHookType m) kinds types
 hooks_typed m [] [] [] are all = tt
 hooks_typed m [] [] (t ∷ types) are all = absurd all
 hooks_typed m [] (import ∷ imports) types are all = cc
@@ -115,13 +120,15 @@ hook_fits m kind t typed = (
   },
 )
 
-hooks_fit : (m : Module) (kinds : List Hook) (types : List ℕ) → AllZip (HasHookType m) kinds types → AllZip (FitsImport m) types (replicate (length kinds) (Some hook_answer))
+hooks_fit : (m : Module) (kinds : List Hook) (types : List ℕ) → AllZip (HasHookType m) kinds types
+    → AllZip (FitsImport m) types (replicate (length kinds) (Some hook_answer))
 hooks_fit m [] [] all = tt
 hooks_fit m [] (t ∷ types) all = absurd all
 hooks_fit m (kind ∷ kinds) [] all = absurd all
 hooks_fit m (kind ∷ kinds) (t ∷ types) all = (hook_fits m kind t all.0, hooks_fit m kinds types all.1)
 
-answers_fit : (m : Module) (n : ℕ) (types : List ℕ) (answers : List (Option Answer)) → AllZip (HasHookType m) hooks (drop n types) → AllZip (FitsImport m) types answers
+answers_fit : (m : Module) (n : ℕ) (types : List ℕ) (answers : List (Option Answer))
+    → AllZip (HasHookType m) hooks (drop n types) → AllZip (FitsImport m) types answers
     → AllZip (FitsImport m) types (first_answers n answers ++ replicate hook_count (Some hook_answer))
 answers_fit m zero types answers typed fit = hooks_fit m hooks types typed
 answers_fit m (suc n) [] answers typed fit = absurd typed
@@ -138,7 +145,9 @@ module _ (m : Module) (n : ℕ) (has : HasHooksAfter m n) where
   typed =
       subst (λ k. AllZip (HasHookType m) hooks (drop k types)) has.before
       (hooks_typed m hooks (drop (own_imports m) (func_imports m)) (drop (own_imports m) types)
-      (and_left (are_hooks m hooks (drop (own_imports m) (func_imports m))) (nat_eq (length (filter is_from_hooks m.imports)) hook_count) has.hooks) (zip_drop IsOfType (func_imports m) types (own_imports m) (kinds_align m.imports)))
+      (and_left (are_hooks m hooks (drop (own_imports m) (func_imports m)))
+      (nat_eq (length (filter is_from_hooks m.imports)) hook_count) has.hooks)
+      (zip_drop IsOfType (func_imports m) types (own_imports m) (kinds_align m.imports)))
 
   imported : imported_funcs m ≡ n + hook_count
   imported =
@@ -151,7 +160,9 @@ module _ (m : Module) (n : ℕ) (has : HasHooksAfter m n) where
   has_type place kind is =
       let there = zip_at (HasHookType m) hooks (drop n types) place kind typed is in
       let found : slice_get types (n + place) ≡ Some there.0 = sym (get_drop types n place) ∙ there.1 in
-      ap (λ index. option_and_then (λ ty. slice_get m.types ty) index) (get_front types (map (λ f. f.ty) m.funcs) (n + place) (slice_get_within types (n + place) there.0 found) ∙ found) ∙ there.2
+      ap (λ index. option_and_then (λ ty. slice_get m.types ty) index)
+      (get_front types (map (λ f. f.ty) m.funcs) (n + place) (slice_get_within types (n + place) there.0 found) ∙ found)
+      ∙ there.2
 
   pub has_hooks : (script : Script) → HasHooks m (hooked_script n script) n
   has_hooks script = record {
@@ -174,14 +185,21 @@ can_play m script settings has fits = record { fits = fits; hooks = has_hooks m 
 
 -- ---- modules in the hooked form
 
-form_imports : (imports defined : ℕ) (sections : List Custom) (form : HookedForm) → form_of_sections imports defined sections ≡ Some form → form.imports ≡ imports
+form_imports : (imports defined : ℕ) (sections : List Custom) (form : HookedForm)
+    → form_of_sections imports defined sections ≡ Some form → form.imports ≡ imports
 form_imports imports defined [] form is = cc
 form_imports imports defined (custom ∷ next ∷ later) form is = cc
 form_imports imports defined (custom ∷ []) form is =
-    go (nat_eq (length (take digest_length custom.bytes)) digest_length && bytes_eq custom.bytes (section_bytes (take digest_length custom.bytes) imports defined)) is
+    go (nat_eq (length (take digest_length custom.bytes)) digest_length
+    && bytes_eq custom.bytes (section_bytes (take digest_length custom.bytes) imports defined)) is
   where
-    go : (b : Bool) → cond b (Some (record { digest = take digest_length custom.bytes; imports = imports; defined = defined })) None ≡ Some form → form.imports ≡ imports
-    go true is = let same : record { digest = take digest_length custom.bytes; imports = imports; defined = defined } ≡ form = cc in ap (λ (f : HookedForm). f.imports) (sym same)
+    go : (b : Bool)
+        → cond b (Some (record { digest = take digest_length custom.bytes; imports = imports; defined = defined })) None
+        ≡ Some form → form.imports ≡ imports
+    go true is =
+        let same : record { digest = take digest_length custom.bytes; imports = imports; defined = defined } ≡ form =
+        cc in
+        ap (λ (f : HookedForm). f.imports) (sym same)
     go false is = cc
 
 pub forms_have_hooks : FormsHaveHooks
@@ -191,7 +209,12 @@ forms_have_hooks m form is = go (imports_hooks m) refl
     go true hooks =
         record {
           hooks = hooks;
-          before = sym (form_imports (own_imports m) (length m.funcs) (hooked_sections m) form (subst (λ b. cond b (form_of_sections (own_imports m) (length m.funcs) (hooked_sections m)) None ≡ Some form) hooks is));
+          before =
+              sym (form_imports (own_imports m) (length m.funcs) (hooked_sections m) form (subst (λ b. cond b
+              (form_of_sections (own_imports m) (length m.funcs) (hooked_sections m)) None ≡ Some form) hooks is));
         }
     go false hooks =
-        let none : None ≡ Some form = subst (λ b. cond b (form_of_sections (own_imports m) (length m.funcs) (hooked_sections m)) None ≡ Some form) hooks is in cc
+        let none : None ≡ Some form =
+        subst (λ b. cond b (form_of_sections (own_imports m) (length m.funcs) (hooked_sections m)) None ≡ Some form)
+        hooks is in
+        cc

@@ -35,10 +35,17 @@ use Rattle.host_play.specs.Stands.{StandsAt}
 use Rattle.host_play.proofs.HookShapes.{zip_length}
 use Rattle.host_play.proofs.ModuleParts.{comes, no_more_left}
 
-module _ (m : Module) (script : Script) (settings : RunSettings) (can_play : CanPlay m script settings) (s : StepResult) (playing : PlayState) (standing : StandsAt m script at.Module playing s)
-    (given : ℕ) (end : Pause) (new : State) (left : ℕ) (run : AdvancesRun playing.machine settings.meter.now given end left new) (index : ℕ) (is : end ≡ pause.Import index) where
-  abbrev part : RunPart m standing.heights (program_of m script) (meter_of m settings.meter.now) (outside_of standing.goes_on.below) standing.counts (after_settling playing.machine.store standing.counts (settle (InModule standing.goes_on.frame ∷ standing.goes_on.below))) given end left new
-  part = run m standing.heights (program_of m script) standing.counts standing.goes_on.frame standing.goes_on.below standing.is_run standing.goes_on.stack.machine
+module _ (m : Module) (script : Script) (settings : RunSettings) (can_play : CanPlay m script settings) (s : StepResult)
+    (playing : PlayState) (standing : StandsAt m script at.Module playing s)
+    (given : ℕ) (end : Pause) (new : State) (left : ℕ)
+    (run : AdvancesRun playing.machine settings.meter.now given end left new) (index : ℕ)
+    (is : end ≡ pause.Import index) where
+  abbrev part : RunPart m standing.heights (program_of m script) (meter_of m settings.meter.now)
+      (outside_of standing.goes_on.below) standing.counts (after_settling playing.machine.store standing.counts
+      (settle (InModule standing.goes_on.frame ∷ standing.goes_on.below))) given end left new
+  part =
+      run m standing.heights (program_of m script) standing.counts standing.goes_on.frame standing.goes_on.below
+      standing.is_run standing.goes_on.stack.machine
 
   abbrev pub to : ComesToImport m standing.heights (program_of m script) (outside_of standing.goes_on.below) standing.counts index part.entries new part.last
   to = comes m script settings.meter.now s playing standing given end new left run index is
@@ -69,7 +76,8 @@ module _ (m : Module) (script : Script) (settings : RunSettings) (can_play : Can
 
 -- ---- how much is left to do
 
-same_flat : (old new : State) (weighing : Weighing) (given left : ℕ) (end : Pause) → Advances old.flat old.store old.frames old.slots weighing given end left new → new.flat ≡ old.flat
+same_flat : (old new : State) (weighing : Weighing) (given left : ℕ) (end : Pause)
+    → Advances old.flat old.store old.frames old.slots weighing given end left new → new.flat ≡ old.flat
 same_flat old new weighing given left end advances = ap (λ (s : State). s.flat) advances.machine
 
 -- up to the call of an import
@@ -77,14 +85,19 @@ pub import_lessens : AdvancesLessen → (playing : PlayState) (weighing : Weighi
     → IsInModule playing.machine.flat playing.machine.frames → FitsWeights playing.machine.flat weighing
     → Advances playing.machine.flat playing.machine.store playing.machine.frames playing.machine.slots weighing given (pause.Import index) left new
     → new_playing.machine ≡ new → new_playing.hosts ≡ answer ∷ playing.hosts → IsLess given at.Module playing left at.Host new_playing
-import_lessens law playing weighing given index left new new_playing answer inside fits advances same_machine same_hosts = go (eq-or-lt_of_le (no_more_left advances))
+import_lessens law playing weighing given index left new new_playing answer inside fits advances same_machine
+    same_hosts = go (eq-or-lt_of_le (no_more_left advances))
   where
     less : left ≡ given → ahead new_playing.machine.flat new_playing.machine.frames < ahead playing.machine.flat playing.machine.frames
     less same =
         let lessened : ahead playing.machine.flat new.frames < ahead playing.machine.flat playing.machine.frames =
-        law playing.machine weighing given (pause.Import index) new inside fits (subst (λ l. Advances playing.machine.flat playing.machine.store playing.machine.frames playing.machine.slots weighing given (pause.Import index) l new) same advances) in
+        law playing.machine weighing given (pause.Import index) new inside fits
+        (subst (λ l. Advances playing.machine.flat playing.machine.store playing.machine.frames playing.machine.slots
+        weighing given (pause.Import index) l new) same advances) in
         subst (λ n. n < ahead playing.machine.flat playing.machine.frames)
-        (ap (λ flat. ahead flat new.frames) (sym (same_flat playing.machine new weighing given left (pause.Import index) advances)) ∙ ap (λ (s : State). ahead s.flat s.frames) (sym same_machine)) lessened
+        (ap (λ flat. ahead flat new.frames)
+        (sym (same_flat playing.machine new weighing given left (pause.Import index) advances))
+        ∙ ap (λ (s : State). ahead s.flat s.frames) (sym same_machine)) lessened
 
     go : (left ≡ given) ⊎ (left < given) → IsLess given at.Module playing left at.Host new_playing
     go (inr fewer) = inl fewer

@@ -38,8 +38,11 @@ host_is_call e none = refl
 
 -- ---- steps after a start that calls nothing
 
-module _ (program : Program) (meter : Meter) (start last : StepResult) (count taken : ℕ) (before : List Entry) (run : run_from program meter start count ≡ run_of (before ++ last.entries) taken last.next) (none : all_calls start.entries ≡ 0) where
-  pub same_calls : (test : Entry → Bool) → IsOfCalls test → filter test (steps program meter count start.next).history ≡ filter test before ++ filter test last.entries
+module _ (program : Program) (meter : Meter) (start last : StepResult) (count taken : ℕ) (before : List Entry)
+    (run : run_from program meter start count ≡ run_of (before ++ last.entries) taken last.next)
+    (none : all_calls start.entries ≡ 0) where
+  pub same_calls : (test : Entry → Bool) → IsOfCalls test
+      → filter test (steps program meter count start.next).history ≡ filter test before ++ filter test last.entries
   same_calls test only =
       let history : List Entry = (steps program meter count start.next).history in
       ap (λ front. front ++ filter test history) (sym (none_called test only start.entries none))
@@ -65,15 +68,20 @@ record BeforeCall (before entries : List Entry) : Type 0 where
   hosts : hosts_in before ≡ []
   more_hosts : hosts_in entries ≡ []
 
-before_call : (index : ℕ) (args : List Val) (before entries whole : List Entry) → whole ≡ entries ++ ImportCall index args ∷ [] → AreOwnUpTo (pause.Import index) (before ++ whole) → BeforeCall before entries
+before_call : (index : ℕ) (args : List Val) (before entries whole : List Entry)
+    → whole ≡ entries ++ ImportCall index args ∷ [] → AreOwnUpTo (pause.Import index) (before ++ whole)
+    → BeforeCall before entries
 before_call index args before entries whole printed own =
     let call : List Entry = ImportCall index args ∷ [] in
     let all : before ++ (entries ++ call) ≡ own.0 ++ ImportCall index own.1 ∷ [] = ap (λ es. before ++ es) (sym printed) ∙ own.2 in
     let imports : imports_in before ++ (imports_in entries ++ call) ≡ ImportCall index own.1 ∷ [] =
-    ap (λ es. imports_in before ++ es) (sym (filter-append is_import_call entries call)) ∙ sym (filter-append is_import_call before (entries ++ call)) ∙ ap imports_in all
-    ∙ filter-append is_import_call own.0 (ImportCall index own.1 ∷ []) ∙ ap (λ front. front ++ ImportCall index own.1 ∷ []) (none_own is_import_call import_is_call own.0 own.3) in
+    ap (λ es. imports_in before ++ es) (sym (filter-append is_import_call entries call))
+    ∙ sym (filter-append is_import_call before (entries ++ call)) ∙ ap imports_in all
+    ∙ filter-append is_import_call own.0 (ImportCall index own.1 ∷ [])
+    ∙ ap (λ front. front ++ ImportCall index own.1 ∷ []) (none_own is_import_call import_is_call own.0 own.3) in
     let hosts : hosts_in (before ++ (entries ++ call)) ≡ [] =
-    ap hosts_in all ∙ filter-append is_host_call own.0 (ImportCall index own.1 ∷ []) ∙ ap (λ front. front ++ []) (none_own is_host_call host_is_call own.0 own.3) in
+    ap hosts_in all ∙ filter-append is_host_call own.0 (ImportCall index own.1 ∷ [])
+    ∙ ap (λ front. front ++ []) (none_own is_host_call host_is_call own.0 own.3) in
     let alone = single (imports_in before) (imports_in entries) (ImportCall index args) (ImportCall index own.1) imports in
     let apart = none_in_both is_host_call before (entries ++ call) hosts in
     record {
@@ -85,7 +93,8 @@ before_call index args before entries whole printed own =
 
 -- ---- the module's part
 
-module _ (m : Module) (script : Script) (weighing : Weighing) (s : StepResult) (playing : PlayState) (standing : StandsAt m script at.Module playing s) (left : ℕ) (end : Pause) (new : State) (now : ℕ)
+module _ (m : Module) (script : Script) (weighing : Weighing) (s : StepResult) (playing : PlayState)
+    (standing : StandsAt m script at.Module playing s) (left : ℕ) (end : Pause) (new : State) (now : ℕ)
     (run : AdvancesRun playing.machine weighing left end now new) where
   abbrev stack : List Activation
   stack = InModule standing.goes_on.frame ∷ standing.goes_on.below
@@ -103,23 +112,28 @@ module _ (m : Module) (script : Script) (weighing : Weighing) (s : StepResult) (
   start_none = delivers_none stack []
 
   -- if the host is not called, no hook is called
-  no_calls : (n : ℕ) (entries : List Entry) → a.last.entries ≡ entries → filter (is_hook_call n) (a.before ++ entries) ≡ [] → hook_calls n (program_of m script) a.count start.next ≡ []
+  no_calls : (n : ℕ) (entries : List Entry) → a.last.entries ≡ entries
+      → filter (is_hook_call n) (a.before ++ entries) ≡ [] → hook_calls n (program_of m script) a.count start.next ≡ []
   no_calls n entries is none =
       quiet n (program_of m script) (meter_of m weighing) a.count start.next
       (same_calls (program_of m script) (meter_of m weighing) start a.last a.count a.taken a.before a.run start_none (is_hook_call n) (hook_is_call n)
       ∙ sym (filter-append (is_hook_call n) a.before a.last.entries) ∙ ap (λ es. filter (is_hook_call n) (a.before ++ es)) is ∙ none)
 
-  own_none : (n : ℕ) (tail : List Entry) → all_calls tail ≡ 0 → All IsOwn (a.before ++ a.entries) → filter (is_hook_call n) (a.before ++ (a.entries ++ tail)) ≡ []
+  own_none : (n : ℕ) (tail : List Entry) → all_calls tail ≡ 0 → All IsOwn (a.before ++ a.entries)
+      → filter (is_hook_call n) (a.before ++ (a.entries ++ tail)) ≡ []
   own_none n tail none own =
       ap (filter (is_hook_call n)) (sym (append_assoc a.before a.entries tail)) ∙ filter-append (is_hook_call n) (a.before ++ a.entries) tail
-      ∙ ap (λ front. front ++ filter (is_hook_call n) tail) (none_own (is_hook_call n) (hook_is_call n) (a.before ++ a.entries) own) ∙ none_called (is_hook_call n) (hook_is_call n) tail none
+      ∙ ap (λ front. front ++ filter (is_hook_call n) tail)
+      (none_own (is_hook_call n) (hook_is_call n) (a.before ++ a.entries) own)
+      ∙ none_called (is_hook_call n) (hook_is_call n) tail none
 
   pub none_to_host : (n : ℕ) → end ≡ pause.Returned → hook_calls n (program_of m script) a.count start.next ≡ []
   none_to_host n is =
       let ends = ends_as m script weighing s playing standing left end new now run pause.Returned is in
       let tail : List Entry = (settle (outside_of standing.goes_on.below)).entries in
       no_calls n (a.entries ++ tail) (ap (λ (t : StepResult). t.entries) ends.same)
-      (own_none n tail (delivers_none (outside_of standing.goes_on.below) []) (own_as m script weighing s playing standing left end new now run pause.Returned is))
+      (own_none n tail (delivers_none (outside_of standing.goes_on.below) [])
+      (own_as m script weighing s playing standing left end new now run pause.Returned is))
 
   pub none_to_trap : (n : ℕ) → end ≡ pause.Trapped → hook_calls n (program_of m script) a.count start.next ≡ []
   none_to_trap n is =
@@ -140,7 +154,9 @@ module _ (m : Module) (script : Script) (weighing : Weighing) (s : StepResult) (
     to = comes m script weighing s playing standing left end new now run index is
 
     before : BeforeCall a.before to.before
-    before = before_call index to.args a.before to.before a.entries to.recorded (own_as m script weighing s playing standing left end new now run (pause.Import index) is)
+    before =
+        before_call index to.args a.before to.before a.entries to.recorded
+        (own_as m script weighing s playing standing left end new now run (pause.Import index) is)
 
     abbrev response : Option Response
     response = response_to script.imports index (slice_index standing.counts index)
@@ -178,14 +194,20 @@ module _ (m : Module) (script : Script) (weighing : Weighing) (s : StepResult) (
 
       b : part instead
       b = run m standing.heights instead standing.counts standing.goes_on.frame standing.goes_on.below
-          (other_run m script.imports func given (active_callable m func standing.goes_on.stack.machine.holds.laid.0 standing.goes_on.stack.machine.holds.laid.1 standing.is_run.valid standing.goes_on.stack.machine.holds.laid.2.function) standing.heights standing.counts standing.is_run)
+          (other_run m script.imports func given (active_callable m func standing.goes_on.stack.machine.holds.laid.0
+          standing.goes_on.stack.machine.holds.laid.1 standing.is_run.valid
+          standing.goes_on.stack.machine.holds.laid.2.function) standing.heights standing.counts standing.is_run)
           standing.goes_on.stack.machine
 
       to_other : ComesToImport m standing.heights instead (outside_of standing.goes_on.below) standing.counts index b.entries new b.last
-      to_other = subst (λ e. EndsRun m standing.heights instead (meter_of m weighing) (outside_of standing.goes_on.below) standing.counts e now b.entries new b.last) is b.ends
+      to_other =
+          subst (λ e. EndsRun m standing.heights instead (meter_of m weighing)
+          (outside_of standing.goes_on.below) standing.counts e now b.entries new b.last) is b.ends
 
       other_before : BeforeCall b.before to_other.before
-      other_before = before_call index to_other.args b.before to_other.before b.entries to_other.recorded (subst (λ e. AreOwnUpTo e (b.before ++ b.entries)) is b.own)
+      other_before =
+          before_call index to_other.args b.before to_other.before b.entries to_other.recorded
+          (subst (λ e. AreOwnUpTo e (b.before ++ b.entries)) is b.own)
 
       abbrev waiting : Config
       waiting = record {
@@ -206,7 +228,8 @@ module _ (m : Module) (script : Script) (weighing : Weighing) (s : StepResult) (
       abbrev tail : List Entry
       tail = (settle (InImport index to.args r.actions r.«end» ∷ InModule to.frame ∷ to.below)).entries
 
-      calls_of : (test : Entry → Bool) (front entries call : List Entry) → filter test front ≡ [] → filter test entries ≡ [] → filter test front ++ filter test (entries ++ call) ≡ filter test call
+      calls_of : (test : Entry → Bool) (front entries call : List Entry) → filter test front ≡ []
+          → filter test entries ≡ [] → filter test front ++ filter test (entries ++ call) ≡ filter test call
       calls_of test front entries call none more =
           ap (λ es. es ++ filter test (entries ++ call)) none ∙ filter-append test entries call ∙ ap (λ es. es ++ filter test call) more
 
@@ -215,7 +238,8 @@ module _ (m : Module) (script : Script) (weighing : Weighing) (s : StepResult) (
           same_calls (program_of m script) (meter_of m weighing) start a.last a.count a.taken a.before a.run start_none is_import_call import_is_call
           ∙ ap (λ (t : StepResult). imports_in a.before ++ imports_in t.entries) last
           ∙ calls_of is_import_call a.before to.before (answer (Some r)).entries before.imports before.more_imports
-          ∙ ap (λ es. ImportCall index to.args ∷ es) (none_called is_import_call import_is_call tail (delivers_none (InImport index to.args r.actions r.«end» ∷ InModule to.frame ∷ to.below) []))
+          ∙ ap (λ es. ImportCall index to.args ∷ es) (none_called is_import_call import_is_call tail
+          (delivers_none (InImport index to.args r.actions r.«end» ∷ InModule to.frame ∷ to.below) []))
 
       other_calls : imports_in (steps instead (meter_of m weighing) b.count start.next).history ≡ ImportCall index to_other.args ∷ []
       other_calls =
@@ -231,5 +255,6 @@ module _ (m : Module) (script : Script) (weighing : Weighing) (s : StepResult) (
 
       pub call_to_hook : (n : ℕ) → hook_calls n (program_of m script) a.count start.next ≡ call_of_hook n index to.args new.store
       call_to_hook n =
-          hook_seen (code_of m) script.imports func given (meter_of m weighing) (meter_of m weighing) n a.count b.count start.next waiting index to.args to_other.args own_calls other_calls no_hosts
+          hook_seen (code_of m) script.imports func given (meter_of m weighing) (meter_of m weighing) n a.count b.count
+          start.next waiting index to.args to_other.args own_calls other_calls no_hosts
           (same_end instead (meter_of m weighing) start b.last b.count b.taken b.before b.run start_none ∙ ap (λ (t : StepResult). t.next) other_last)

@@ -29,17 +29,23 @@ same_config : (s : StepResult) (a b : Config) → s ≡ step_result [] (Running 
 same_config s a b first second = let same : Running a ≡ Running b = ap (λ (t : StepResult). t.next) (sym first ∙ second) in cc
 
 -- a step of the run before a step of the host
-pub made_by_host : (m : Module) (script : Script) (s : StepResult) (result : Result PlayStep Refusal) (playing : PlayState) → BeforeHostStep s → MakesStep m script s result playing → MakesHostStep m script s result playing
+pub made_by_host : (m : Module) (script : Script) (s : StepResult) (result : Result PlayStep Refusal)
+    (playing : PlayState) → BeforeHostStep s → MakesStep m script s result playing
+    → MakesHostStep m script s result playing
 made_by_host m script s result playing before made = record {
   before = before;
-  leads = subst (λ config. LeadsBy m script (step (program_of m script) config) result playing) (same_config s made.config before.config made.standing before.standing) made.leads;
+  leads =
+      subst (λ config. LeadsBy m script (step (program_of m script) config) result playing)
+      (same_config s made.config before.config made.standing before.standing) made.leads;
 }
 
-abbrev pub step_made : (m : Module) (script : Script) (s : StepResult) (result : Result PlayStep Refusal) (playing : PlayState) → MakesHostStep m script s result playing → MakesStep m script s result playing
+abbrev pub step_made : (m : Module) (script : Script) (s : StepResult) (result : Result PlayStep Refusal)
+    (playing : PlayState) → MakesHostStep m script s result playing → MakesStep m script s result playing
 step_made m script s result playing made = record { config = made.before.config; standing = made.before.standing; leads = made.leads }
 
 -- the action that cannot be done
-pub action_stops : (m : Module) (script : Script) (s : StepResult) (budget left now : ℕ) (unmade_by : Refusal) (playing : PlayState) → now + 1 ≡ left → BeforeHostStep s → MakesStep m script s (Err unmade_by) playing
+pub action_stops : (m : Module) (script : Script) (s : StepResult) (budget left now : ℕ) (unmade_by : Refusal)
+    (playing : PlayState) → now + 1 ≡ left → BeforeHostStep s → MakesStep m script s (Err unmade_by) playing
     → HostStops m script s budget left (play_fault unmade_by (budget - now)) playing now
 action_stops m script s budget left now (unmade.Fault kind) playing one before made =
     let same : budget - now ≡ budget - now = omega arith in
@@ -56,14 +62,17 @@ part_after host_step.Ends = tt
 
 -- ---- after the run's earlier steps
 
-pub host_comes : (m : Module) (script : Script) (weighing : Weighing) (initial : StepResult) (budget : ℕ) (history : List Entry) (playing : PlayState) (left : ℕ)
+pub host_comes : (m : Module) (script : Script) (weighing : Weighing) (initial : StepResult) (budget : ℕ)
+    (history : List Entry) (playing : PlayState) (left : ℕ)
     → (r : ComesTo m script weighing initial budget history at.Host playing left) → (did : HostStep) (new_playing : PlayState) (now : ℕ)
-    → HostDid m script r.pending left did new_playing now → ComesTo m script weighing initial budget (history ++ entries_of did) (stand_after did) new_playing now
+    → HostDid m script r.pending left did new_playing now
+    → ComesTo m script weighing initial budget (history ++ entries_of did) (stand_after did) new_playing now
 host_comes m script weighing initial budget history playing left r did new_playing now (inl free) =
     subst (ComesTo m script weighing initial budget (history ++ entries_of did) (stand_after did) new_playing) (sym free.0)
     (goes_free m script weighing initial budget history at.Host playing left r (play_step_of did) new_playing free.1)
 host_comes m script weighing initial budget history playing left r did new_playing now (inr made) =
-    goes_step m script weighing initial budget history at.Host playing left r (play_step_of did) new_playing now made.0 (step_made m script r.pending (Ok (play_step_of did)) new_playing made.1)
+    goes_step m script weighing initial budget history at.Host playing left r (play_step_of did) new_playing now made.0
+    (step_made m script r.pending (Ok (play_step_of did)) new_playing made.1)
     (host_weight m weighing made.1.before.config.stack made.1.before.awaits)
 
 pub host_refuses : (m : Module) (script : Script) (initial : StepResult) (budget : ℕ) (history : List Entry) (playing : PlayState) (left : ℕ)

@@ -55,13 +55,15 @@ module _ (code : Code) (answers : List (Option Answer)) (func : ℕ) (given : Li
 
   there_as : (items : List (Option Answer)) (import : ℕ) (number other_number : ℕ) (response : Response)
       → option_and_then (λ answer. response_of answer number) (option_and_then (λ a. a) (slice_get items import)) ≡ Some response
-      → option_and_then (λ answer. response_of answer other_number) (option_and_then (λ a. a) (slice_get (map (option_map calls_instead) items) import)) ≡ Some calling
+      → option_and_then (λ answer. response_of answer other_number)
+      (option_and_then (λ a. a) (slice_get (map (option_map calls_instead) items) import)) ≡ Some calling
   there_as [] import number other_number response is = cc
   there_as (None ∷ items) zero number other_number response is = cc
   there_as (Some a ∷ items) zero number other_number response is = refl
   there_as (a ∷ items) (suc i) number other_number response is = there_as items i number other_number response is
 
-  pub answered_instead : (import number other_number : ℕ) (response : Response) → response_to answers import number ≡ Some response → response_to others import other_number ≡ Some calling
+  pub answered_instead : (import number other_number : ℕ) (response : Response)
+      → response_to answers import number ≡ Some response → response_to others import other_number ≡ Some calling
   answered_instead import number other_number response is = there_as answers import number other_number response is
 
   -- ---- a step calls an import, or is the same under both
@@ -75,33 +77,63 @@ module _ (code : Code) (answers : List (Option Answer)) (func : ℕ) (given : Li
     import : ℕ
     args : List Val
     under : List Activation
-    is_own : by_own ≡ after_entries (Step from number operands results found ∷ []) (answer_call (response_to answers import (slice_index c.counts import)) c.store c.counts import args under)
-    is_other : by_other ≡ after_entries (Step from number operands results found ∷ []) (answer_call (response_to others import (slice_index c.counts import)) c.store c.counts import args under)
+    is_own : by_own ≡ after_entries (Step from number operands results found ∷ [])
+        (answer_call (response_to answers import (slice_index c.counts import)) c.store c.counts import args under)
+    is_other : by_other ≡ after_entries (Step from number operands results found ∷ [])
+        (answer_call (response_to others import (slice_index c.counts import)) c.store c.counts import args under)
 
   abbrev IsSplit : Config → (by_own by_other : StepResult) → Type 0
   IsSplit c by_own by_other = ((by_own ≡ by_other) × (imports_in by_own.entries ≡ [])) ⊎ CallsImport c by_own by_other
 
   by_control : (c : Config) (frame : Frame) (below : List Activation) (operands results : List Val) (found : Option ℕ) (effect : Control)
-      → IsSplit c (after_instruction own c frame below (Did operands results found effect)) (after_instruction other c frame below (Did operands results found effect))
-  by_control c frame below operands results found (Goes store next) = inl (refl, no_import (settle (InModule next ∷ below)).entries (delivers_none (InModule next ∷ below) []))
+      → IsSplit c (after_instruction own c frame below (Did operands results found effect))
+      (after_instruction other c frame below (Did operands results found effect))
+  by_control c frame below operands results found (Goes store next) =
+      inl (refl, no_import (settle (InModule next ∷ below)).entries (delivers_none (InModule next ∷ below) []))
   by_control c frame below operands results found (Returns values) =
-      inl (refl, no_import (return_entry frame.func values below ∷ (deliver below values).entries) (returns_none frame.func values below (deliver below values).entries ∙ delivers_none below values))
+      inl (
+        refl,
+        no_import (return_entry frame.func values below ∷ (deliver below values).entries)
+            (returns_none frame.func values below (deliver below values).entries ∙ delivers_none below values),
+      )
   by_control c frame below operands results found (Calls waiting callee args) = go (nat_lt callee code.imported)
     where
       go : (is_import : Bool)
-          → IsSplit c (after_entries (Step frame.func frame.at.number operands results found ∷ []) (call_function own is_import c.store c.counts callee args (InModule waiting ∷ below)))
-          (after_entries (Step frame.func frame.at.number operands results found ∷ []) (call_function other is_import c.store c.counts callee args (InModule waiting ∷ below)))
-      go true = inr (record { from = frame.func; number = frame.at.number; operands = operands; results = results; found = found; import = callee; args = args; under = InModule waiting ∷ below; is_own = refl; is_other = refl })
-      go false = inl (refl, no_import (enter_function code c.store c.counts callee args (InModule waiting ∷ below)).entries (enters_none own c.store c.counts callee args (InModule waiting ∷ below)))
+          → IsSplit c (after_entries (Step frame.func frame.at.number operands results found ∷ [])
+          (call_function own is_import c.store c.counts callee args (InModule waiting ∷ below)))
+          (after_entries (Step frame.func frame.at.number operands results found ∷ [])
+          (call_function other is_import c.store c.counts callee args (InModule waiting ∷ below)))
+      go true = inr (record {
+        from = frame.func;
+        number = frame.at.number;
+        operands = operands;
+        results = results;
+        found = found;
+        import = callee;
+        args = args;
+        under = InModule waiting ∷ below;
+        is_own = refl;
+        is_other = refl;
+      })
+      go false = inl (
+        refl,
+        no_import (enter_function code c.store c.counts callee args (InModule waiting ∷ below)).entries
+            (enters_none own c.store c.counts callee args (InModule waiting ∷ below)),
+      )
 
-  by_execution : (c : Config) (frame : Frame) (below : List Activation) (e : Execution) → IsSplit c (after_instruction own c frame below e) (after_instruction other c frame below e)
+  by_execution : (c : Config) (frame : Frame) (below : List Activation) (e : Execution)
+      → IsSplit c (after_instruction own c frame below e) (after_instruction other c frame below e)
   by_execution c frame below (Did operands results found effect) = by_control c frame below operands results found effect
   by_execution c frame below (Traps kind operands found) = inl (refl, refl)
   by_execution c frame below NoRule = inl (refl, refl)
 
   by_action : (c : Config) (left : List Activation) (acted : ActionResult) → IsSplit c (after_action own c left acted) (after_action other c left acted)
   by_action c left (Changes store) = inl (refl, no_import (settle left).entries (delivers_none left []))
-  by_action c left (Enters callee args) = inl (refl, no_import (enter_function code c.store c.counts callee args left).entries (enters_none own c.store c.counts callee args left))
+  by_action c left (Enters callee args) = inl (
+    refl,
+    no_import (enter_function code c.store c.counts callee args left).entries
+        (enters_none own c.store c.counts callee args left),
+  )
   by_action c left (Fails kind) = inl (refl, refl)
   by_action c left Unfit = inl (refl, refl)
 
@@ -116,13 +148,16 @@ module _ (code : Code) (answers : List (Option Answer)) (func : ℕ) (given : Li
   -- ---- after the call
 
   -- the other run is at the point where the host makes its call
-  stays : (meter : Meter) (l : ℕ) (c d : Config) (import : ℕ) (args : List Val) (below : List Activation) → c.stack ≡ InImport import args (Call func given ∷ []) Trap ∷ below
+  stays : (meter : Meter) (l : ℕ) (c d : Config) (import : ℕ) (args : List Val) (below : List Activation)
+      → c.stack ≡ InImport import args (Call func given ∷ []) Trap ∷ below
       → hosts_in (steps other meter l (Running c)).history ≡ [] → (steps other meter l (Running c)).at ≡ Running d → c.store ≡ d.store
   stays meter zero c d import args below is none at = let same : c ≡ d = cc in ap (λ (x : Config). x.store) same
   stays meter (suc l) c d import args below is none at =
       let s : StepResult = step_of other c (InImport import args (Call func given ∷ []) Trap ∷ below) in
-      let some : hosts_in (s.entries ++ (steps other meter l s.next).history) ≡ [] = subst (λ stack. hosts_in ((step_of other c stack).entries ++ (steps other meter l (step_of other c stack).next).history) ≡ []) is none in
-      let no : HostCall func given ∷ hosts_in ((enter_function code c.store c.counts func given (InImport import args [] Trap ∷ below)).entries ++ (steps other meter l s.next).history) ≡ [] = some in
+      let some : hosts_in (s.entries ++ (steps other meter l s.next).history) ≡ [] = subst (λ stack. hosts_in
+      ((step_of other c stack).entries ++ (steps other meter l (step_of other c stack).next).history) ≡ []) is none in
+      let no : HostCall func given ∷ hosts_in ((enter_function code c.store c.counts func given
+      (InImport import args [] Trap ∷ below)).entries ++ (steps other meter l s.next).history) ≡ [] = some in
       cc
 
   -- ---- the store of the call
@@ -138,7 +173,8 @@ module _ (code : Code) (answers : List (Option Answer)) (func : ℕ) (given : Li
     -- what is claimed of runs of both from there on
     abbrev Claim : ℕ → Type 0
     Claim k = (l : ℕ) (at : Progress) (d : Config) (import : ℕ) (args other_args : List Val)
-        → imports_in (steps own meter k at).history ≡ ImportCall import args ∷ [] → imports_in (steps other other_meter l at).history ≡ ImportCall import other_args ∷ []
+        → imports_in (steps own meter k at).history ≡ ImportCall import args ∷ []
+        → imports_in (steps other other_meter l at).history ≡ ImportCall import other_args ∷ []
         → hosts_in (steps other other_meter l at).history ≡ [] → (steps other other_meter l at).at ≡ Running d
         → hook_calls n own k at ≡ call_of_hook n import args d.store
 
@@ -157,7 +193,10 @@ module _ (code : Code) (answers : List (Option Answer)) (func : ℕ) (given : Li
           → calls_among n c.store by_own.entries ++ hook_calls n own k by_own.next ≡ call_of_hook n import args d.store
       later claim same none first second hosts at =
           let first' = back_of by_own.entries (steps own meter k by_own.next).history (ImportCall import args) none first in
-          let second' = back_of by_own.entries (steps other other_meter l by_own.next).history (ImportCall import other_args) none (subst (λ (s : StepResult). imports_in (s.entries ++ (steps other other_meter l s.next).history) ≡ ImportCall import other_args ∷ []) (sym same) second) in
+          let second' =
+          back_of by_own.entries (steps other other_meter l by_own.next).history (ImportCall import other_args) none
+          (subst (λ (s : StepResult). imports_in (s.entries ++ (steps other other_meter l s.next).history)
+          ≡ ImportCall import other_args ∷ []) (sym same) second) in
           let hosts' = (none_in_both is_host_call by_other.entries (steps other other_meter l by_other.next).history hosts).1 in
           ap (λ front. front ++ hook_calls n own k by_own.next) (calls_none n c.store by_own.entries (no_hooks n by_own.entries none))
           ∙ claim l by_own.next d import args other_args first' second'
@@ -182,19 +221,27 @@ module _ (code : Code) (answers : List (Option Answer)) (func : ℕ) (given : Li
         abbrev waiting : Config
         waiting = record { store = c.store; stack = InImport x.import x.args (Call func given ∷ []) Trap ∷ x.under; counts = counts }
 
-        same_store : by_other ≡ asked calling → hosts_in (by_other.entries ++ (steps other other_meter l by_other.next).history) ≡ [] → (steps other other_meter l by_other.next).at ≡ Running d → c.store ≡ d.store
+        same_store : by_other ≡ asked calling
+            → hosts_in (by_other.entries ++ (steps other other_meter l by_other.next).history) ≡ []
+            → (steps other other_meter l by_other.next).at ≡ Running d → c.store ≡ d.store
         same_store is hosts at =
-            let hosts' : hosts_in ((asked calling).entries ++ (steps other other_meter l (Running waiting)).history) ≡ [] = subst (λ (s : StepResult). hosts_in (s.entries ++ (steps other other_meter l s.next).history) ≡ []) is hosts in
+            let hosts' : hosts_in ((asked calling).entries ++ (steps other other_meter l (Running waiting)).history)
+            ≡ [] = subst (λ (s : StepResult). hosts_in (s.entries ++ (steps other other_meter l s.next).history) ≡ [])
+            is hosts in
             stays other_meter l waiting d x.import x.args x.under refl
             ((none_in_both is_host_call (asked calling).entries (steps other other_meter l (Running waiting)).history hosts').1)
             (subst (λ (s : StepResult). (steps other other_meter l s.next).at ≡ Running d) is at)
 
-        printed : (r : Response) → by_own ≡ asked r → imports_in (by_own.entries ++ (steps own meter k by_own.next).history) ≡ ImportCall import args ∷ [] → c.store ≡ d.store
+        printed : (r : Response) → by_own ≡ asked r
+            → imports_in (by_own.entries ++ (steps own meter k by_own.next).history) ≡ ImportCall import args ∷ []
+            → c.store ≡ d.store
             → calls_among n c.store by_own.entries ++ hook_calls n own k by_own.next ≡ call_of_hook n import args d.store
         printed r is first store =
             let after : List Entry = (answering r).entries in
             let rest : List Entry = (steps own meter k (answering r).next).history in
-            let first' : ImportCall x.import x.args ∷ imports_in (after ++ rest) ≡ ImportCall import args ∷ [] = subst (λ (s : StepResult). imports_in (s.entries ++ (steps own meter k s.next).history) ≡ ImportCall import args ∷ []) is first in
+            let first' : ImportCall x.import x.args ∷ imports_in (after ++ rest) ≡ ImportCall import args ∷ [] =
+            subst (λ (s : StepResult).
+            imports_in (s.entries ++ (steps own meter k s.next).history) ≡ ImportCall import args ∷ []) is first in
             let same_import : x.import ≡ import = cc in
             let same_args : x.args ≡ args = cc in
             let none : imports_in (after ++ rest) ≡ [] = cc in
@@ -204,26 +251,35 @@ module _ (code : Code) (answers : List (Option Answer)) (func : ℕ) (given : Li
             ∙ ap (λ calls. (made ++ calls) ++ hook_calls n own k (answering r).next) (calls_none n c.store after (no_hooks n after parts.0))
             ∙ ap (λ calls. (made ++ []) ++ calls) (quiet n own meter k (answering r).next (no_hooks n rest parts.1))
             ∙ append-nil (made ++ []) ∙ append-nil made
-            ∙ ap (λ i. call_of_hook n i x.args c.store) same_import ∙ ap (λ values. call_of_hook n import values c.store) same_args ∙ ap (call_of_hook n import args) store
+            ∙ ap (λ i. call_of_hook n i x.args c.store) same_import
+            ∙ ap (λ values. call_of_hook n import values c.store) same_args ∙ ap (call_of_hook n import args) store
 
         called : imports_in (by_own.entries ++ (steps own meter k by_own.next).history) ≡ ImportCall import args ∷ []
             → hosts_in (by_other.entries ++ (steps other other_meter l by_other.next).history) ≡ [] → (steps other other_meter l by_other.next).at ≡ Running d
             → calls_among n c.store by_own.entries ++ hook_calls n own k by_own.next ≡ call_of_hook n import args d.store
         called first hosts at = go (response_to answers x.import (slice_index c.counts x.import)) refl
           where
-            go : (r : Option Response) → response_to answers x.import (slice_index c.counts x.import) ≡ r → calls_among n c.store by_own.entries ++ hook_calls n own k by_own.next ≡ call_of_hook n import args d.store
+            go : (r : Option Response) → response_to answers x.import (slice_index c.counts x.import) ≡ r
+                → calls_among n c.store by_own.entries ++ hook_calls n own k by_own.next
+                ≡ call_of_hook n import args d.store
             go None is =
                 let fault : StepResult = after_entries (entry ∷ []) (answer_call None c.store c.counts x.import x.args x.under) in
                 let by : by_own ≡ fault = x.is_own ∙ ap (λ r. after_entries (entry ∷ []) (answer_call r c.store c.counts x.import x.args x.under)) is in
-                let some : imports_in (steps own meter k fault.next).history ≡ ImportCall import args ∷ [] = subst (λ (s : StepResult). imports_in (s.entries ++ (steps own meter k s.next).history) ≡ ImportCall import args ∷ []) by first in
+                let some : imports_in (steps own meter k fault.next).history ≡ ImportCall import args ∷ [] =
+                subst (λ (s : StepResult).
+                imports_in (s.entries ++ (steps own meter k s.next).history) ≡ ImportCall import args ∷ []) by first in
                 let no : [] ≡ ImportCall import args ∷ [] = sym (ap imports_in (over_none meter k fault.next (λ config running. cc))) ∙ some in
                 cc
             go (Some r) is =
                 printed r (x.is_own ∙ ap (λ r. after_entries (entry ∷ []) (answer_call r c.store c.counts x.import x.args x.under)) is) first
-                (same_store (x.is_other ∙ ap (λ r. after_entries (entry ∷ []) (answer_call r c.store c.counts x.import x.args x.under)) (answered_instead x.import (slice_index c.counts x.import) (slice_index c.counts x.import) r is)) hosts at)
+                (same_store (x.is_other
+                ∙ ap (λ r. after_entries (entry ∷ []) (answer_call r c.store c.counts x.import x.args x.under))
+                (answered_instead x.import (slice_index c.counts x.import) (slice_index c.counts x.import) r is))
+                hosts at)
 
     claims : (k l : ℕ) (at : Progress) (d : Config) (import : ℕ) (args other_args : List Val)
-        → imports_in (steps own meter k at).history ≡ ImportCall import args ∷ [] → imports_in (steps other other_meter l at).history ≡ ImportCall import other_args ∷ []
+        → imports_in (steps own meter k at).history ≡ ImportCall import args ∷ []
+        → imports_in (steps other other_meter l at).history ≡ ImportCall import other_args ∷ []
         → hosts_in (steps other other_meter l at).history ≡ [] → (steps other other_meter l at).at ≡ Running d
         → hook_calls n own k at ≡ call_of_hook n import args d.store
     claims zero l at d import args other_args first second hosts there = cc
@@ -239,7 +295,8 @@ module _ (code : Code) (answers : List (Option Answer)) (func : ℕ) (given : Li
 
   -- the call of a hook that a run makes sees the store in which another run awaits the host's call
   pub hook_seen : (meter other_meter : Meter) (n k l : ℕ) (at : Progress) (d : Config) (import : ℕ) (args other_args : List Val)
-      → imports_in (steps own meter k at).history ≡ ImportCall import args ∷ [] → imports_in (steps other other_meter l at).history ≡ ImportCall import other_args ∷ []
+      → imports_in (steps own meter k at).history ≡ ImportCall import args ∷ []
+      → imports_in (steps other other_meter l at).history ≡ ImportCall import other_args ∷ []
       → hosts_in (steps other other_meter l at).history ≡ [] → (steps other other_meter l at).at ≡ Running d
       → hook_calls n own k at ≡ call_of_hook n import args d.store
   hook_seen meter other_meter n k l at d import args other_args first second hosts there =

@@ -24,7 +24,8 @@ stuck program meter (suc n) = refl
 
 -- a number of steps, and then another number of steps
 joined : (program : Program) (meter : Meter) (k n : ℕ) (at : Progress)
-    → steps program meter (k + n) at ≡ run_after (steps program meter k at).history (steps program meter k at).turns (steps program meter n (steps program meter k at).at)
+    → steps program meter (k + n) at ≡ run_after (steps program meter k at).history (steps program meter k at).turns
+    (steps program meter n (steps program meter k at).at)
 joined program meter zero n at =
     ap (λ j. steps program meter j at) (zero-add n)
     ∙ ap (λ t. run_of (steps program meter n at).history t (steps program meter n at).at) (sym (zero-add (steps program meter n at).turns))
@@ -53,7 +54,9 @@ run_continued program meter initial k n history entries used taken next last fir
     let here : initial.entries ++ inner.history ≡ history = ap (λ (r : Run). r.history) first in
     let spent : 0 + inner.turns ≡ used = ap (λ (r : Run). r.turns) first in
     let at : inner.at ≡ next = ap (λ (r : Run). r.at) first in
-    ap (run_after initial.entries 0) (joined program meter k n initial.next ∙ ap (λ p. run_after inner.history inner.turns (steps program meter n p)) at ∙ ap (run_after inner.history inner.turns) second)
+    ap (run_after initial.entries 0)
+    (joined program meter k n initial.next ∙ ap (λ p. run_after inner.history inner.turns (steps program meter n p)) at
+    ∙ ap (run_after inner.history inner.turns) second)
     ∙ ap (λ es. run_of es (0 + (inner.turns + taken)) last) (sym (append_assoc initial.entries inner.history entries) ∙ ap (λ es. es ++ entries) here)
     ∙ ap (λ t. run_of (history ++ entries) t last) (let sum : 0 + (inner.turns + taken) ≡ used + taken = omega (arith, spent) in sum)
 

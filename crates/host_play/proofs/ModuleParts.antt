@@ -33,14 +33,17 @@ use Rattle.host_play.proofs.Arrivals.{at_host, at_trap}
 use Rattle.host_play.proofs.Joins.{run_joined, run_of}
 use Rattle.host_play.proofs.NextSteps.{led}
 
-pub no_more_left : {f : Flat} {store : Store} {frames : List FlatFrame} {slots : List ℕ} {weighing : Weighing} {given left : ℕ} {end : Pause} {new : State} → Advances f store frames slots weighing given end left new → left ≤ given
+pub no_more_left : {f : Flat} {store : Store} {frames : List FlatFrame} {slots : List ℕ} {weighing : Weighing}
+    {given left : ℕ} {end : Pause} {new : State} → Advances f store frames slots weighing given end left new
+    → left ≤ given
 no_more_left {f = f} {store = store} {frames = frames} {slots = slots} {weighing = weighing} {given = given} {left = left} a =
     let all : taken f (flat_meter f weighing) a.count (without_entries (flat.settle f store frames slots)) + left ≡ given = a.all in
     omega arith
 
 -- ---- where the module's part ends
 
-module _ (m : Module) (script : Script) (weighing : Weighing) (s : StepResult) (playing : PlayState) (standing : StandsAt m script at.Module playing s) (left : ℕ) (end : Pause) (new : State) (now : ℕ)
+module _ (m : Module) (script : Script) (weighing : Weighing) (s : StepResult) (playing : PlayState)
+    (standing : StandsAt m script at.Module playing s) (left : ℕ) (end : Pause) (new : State) (now : ℕ)
     (run : AdvancesRun playing.machine weighing left end now new) where
   abbrev meter : Meter
   meter = meter_of m weighing
@@ -48,11 +51,16 @@ module _ (m : Module) (script : Script) (weighing : Weighing) (s : StepResult) (
   abbrev pub after : PlayState
   after = record playing { machine = new }
 
-  abbrev pub a : RunPart m standing.heights (program_of m script) meter (outside_of standing.goes_on.below) standing.counts (after_settling playing.machine.store standing.counts (settle (InModule standing.goes_on.frame ∷ standing.goes_on.below))) left end now new
+  abbrev pub a : RunPart m standing.heights (program_of m script) meter
+      (outside_of standing.goes_on.below) standing.counts (after_settling playing.machine.store standing.counts
+      (settle (InModule standing.goes_on.frame ∷ standing.goes_on.below))) left end now new
   a = run m standing.heights (program_of m script) standing.counts standing.goes_on.frame standing.goes_on.below standing.is_run standing.goes_on.stack.machine
 
-  pub ends_as : (e : Pause) → end ≡ e → EndsRun m standing.heights (program_of m script) meter (outside_of standing.goes_on.below) standing.counts e now a.entries new a.last
-  ends_as e is = subst (λ e'. EndsRun m standing.heights (program_of m script) meter (outside_of standing.goes_on.below) standing.counts e' now a.entries new a.last) is a.ends
+  pub ends_as : (e : Pause) → end ≡ e → EndsRun m standing.heights (program_of m script) meter
+      (outside_of standing.goes_on.below) standing.counts e now a.entries new a.last
+  ends_as e is =
+      subst (λ e'. EndsRun m standing.heights (program_of m script) meter
+      (outside_of standing.goes_on.below) standing.counts e' now a.entries new a.last) is a.ends
 
   pub own_as : (e : Pause) → end ≡ e → AreOwnUpTo e (a.before ++ a.entries)
   own_as e is = subst (λ e'. AreOwnUpTo e' (a.before ++ a.entries)) is a.own
@@ -63,11 +71,16 @@ module _ (m : Module) (script : Script) (weighing : Weighing) (s : StepResult) (
 
     pub counted_import : index < length playing.counts.items
     counted_import =
-        answering.counted_import m standing.heights script standing.counts standing.is_run standing.goes_on.below playing standing.functions standing.counted standing.goes_on.stack.hosts a.entries new a.last index comes
+        answering.counted_import m standing.heights script standing.counts standing.is_run standing.goes_on.below
+        playing standing.functions standing.counted standing.goes_on.stack.hosts a.entries new a.last index comes
 
-  module _ (initial : StepResult) (budget steps used : ℕ) (history : List Entry) (so_far : run_from (program_of m script) meter initial steps ≡ run_of (history ++ s.entries) used s.next) (spent : used + left ≡ budget) where
+  module _ (initial : StepResult) (budget steps used : ℕ) (history : List Entry)
+      (so_far : run_from (program_of m script) meter initial steps ≡ run_of (history ++ s.entries) used s.next)
+      (spent : used + left ≡ budget) where
     pub whole : run_from (program_of m script) meter initial (steps + a.count) ≡ run_of ((history ++ a.before) ++ a.last.entries) (used + a.taken) a.last.next
-    whole = run_joined (program_of m script) meter initial s a.last steps a.count history a.before used a.taken so_far (ap (λ start. run_from (program_of m script) meter start a.count) standing.goes_on.same ∙ a.run)
+    whole =
+        run_joined (program_of m script) meter initial s a.last steps a.count history a.before used a.taken so_far
+        (ap (λ start. run_from (program_of m script) meter start a.count) standing.goes_on.same ∙ a.run)
 
     pub all : (used + a.taken) + now ≡ budget
     all = let some : a.taken + now ≡ left = a.all in omega arith
@@ -75,23 +88,31 @@ module _ (m : Module) (script : Script) (weighing : Weighing) (s : StepResult) (
     abbrev pub to_host : end ≡ pause.Returned → ComesTo m script weighing initial budget ((history ++ a.before) ++ a.entries) at.Host after now
     to_host is =
         led m script weighing initial budget at.Host after (steps + a.count) now (used + a.taken) (history ++ a.before) a.entries a.last whole all
-        (at_host m standing.heights script standing.counts standing.is_run standing.goes_on.below after standing.functions standing.counted a.entries a.last standing.goes_on.stack.hosts (ends_as pause.Returned is))
+        (at_host m standing.heights script standing.counts standing.is_run standing.goes_on.below after
+        standing.functions standing.counted a.entries a.last standing.goes_on.stack.hosts (ends_as pause.Returned is))
 
     abbrev pub to_trap : end ≡ pause.Trapped → ComesTo m script weighing initial budget ((history ++ a.before) ++ a.entries) (at.Over ByTrap) after now
     to_trap is =
         led m script weighing initial budget (at.Over ByTrap) after (steps + a.count) now (used + a.taken) (history ++ a.before) a.entries a.last whole all
-        (at_trap m standing.heights script standing.counts standing.is_run standing.goes_on.below after standing.functions standing.counted a.entries a.last (ends_as pause.Trapped is))
+        (at_trap m standing.heights script standing.counts standing.is_run standing.goes_on.below after
+        standing.functions standing.counted a.entries a.last (ends_as pause.Trapped is))
 
-    abbrev pub to_import : (index : ℕ) → end ≡ pause.Import index → (hosts : List Host) (new_playing : PlayState) → new_playing.machine ≡ new → new_playing.functions ≡ playing.functions → new_playing.hosts ≡ hosts
-        → BeginsAnswer script playing.hosts playing.counts.items index hosts new_playing.counts.items → ComesTo m script weighing initial budget ((history ++ a.before) ++ a.entries) at.Host new_playing now
+    abbrev pub to_import : (index : ℕ) → end ≡ pause.Import index → (hosts : List Host) (new_playing : PlayState)
+        → new_playing.machine ≡ new → new_playing.functions ≡ playing.functions → new_playing.hosts ≡ hosts
+        → BeginsAnswer script playing.hosts playing.counts.items index hosts new_playing.counts.items
+        → ComesTo m script weighing initial budget ((history ++ a.before) ++ a.entries) at.Host new_playing now
     to_import index is hosts new_playing same_machine same_functions same_hosts begins =
         led m script weighing initial budget at.Host new_playing (steps + a.count) now (used + a.taken) (history ++ a.before) a.entries a.last whole all
-        (answering.import_begins m standing.heights script standing.counts standing.is_run standing.goes_on.below playing standing.functions standing.counted standing.goes_on.stack.hosts a.entries new a.last index (comes index is)
-        hosts new_playing same_machine same_functions same_hosts begins)
+        (answering.import_begins m standing.heights script standing.counts standing.is_run standing.goes_on.below
+        playing standing.functions standing.counted standing.goes_on.stack.hosts a.entries new a.last index
+        (comes index is) hosts new_playing same_machine same_functions same_hosts begins)
 
-    pub without_response : (index : ℕ) → end ≡ pause.Import index → (refusal : Refusal) → HasNoResponse script playing.counts.items index refusal → Stops refusal a.last
+    pub without_response : (index : ℕ) → end ≡ pause.Import index → (refusal : Refusal)
+        → HasNoResponse script playing.counts.items index refusal → Stops refusal a.last
     without_response index is refusal none =
-        answering.no_response m standing.heights script standing.counts standing.is_run standing.goes_on.below playing standing.functions standing.counted standing.goes_on.stack.hosts a.entries new a.last index (comes index is) refusal none
+        answering.no_response m standing.heights script standing.counts standing.is_run standing.goes_on.below playing
+        standing.functions standing.counted standing.goes_on.stack.hosts a.entries new a.last index
+        (comes index is) refusal none
 
     abbrev pub to_spent : end ≡ pause.Spent → IsSpent (run_from (program_of m script) meter initial) meter budget
     to_spent is =

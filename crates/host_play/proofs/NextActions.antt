@@ -36,7 +36,8 @@ drop_at (a ∷ xs) (suc i) x is =
     drop_at xs i x is ∙ ap (λ n. x ∷ drop n (a ∷ xs)) (sym more)
 
 -- what holds if the host's next action is this one
-pub record IsNext (m : Module) (heights : Heights) (script : Script) (counts : List ℕ) (playing : PlayState) (top : Host) (action : Action) (s : StepResult) : Type 0 where
+pub record IsNext (m : Module) (heights : Heights) (script : Script) (counts : List ℕ) (playing : PlayState)
+    (top : Host) (action : Action) (s : StepResult) : Type 0 where
   pub whole : List Activation
   pub left : List Activation
   pub params : List ValType
@@ -44,18 +45,29 @@ pub record IsNext (m : Module) (heights : Heights) (script : Script) (counts : L
   pub values : AreValues (func_count m) params args
   pub fits : FitsAction m params action
   pub each : (number : ℕ) (value : Val) → slice_get args number ≡ Some value
-      → IsWaiting playing.machine.flat playing.machine.frames × (argument_of playing.machine.flat playing.machine.frames playing.machine.slots number ≡ Some value)
+      → IsWaiting playing.machine.flat playing.machine.frames
+      × (argument_of playing.machine.flat playing.machine.frames playing.machine.slots number ≡ Some value)
   pub same : s ≡ step_result [] (Running (config_of playing.machine whole counts))
-  pub is_step : step (program_of m script) (config_of playing.machine whole counts) ≡ after_action (program_of m script) (config_of playing.machine whole counts) left (perform (code_of m) playing.machine.store args action)
+  pub is_step : step (program_of m script) (config_of playing.machine whole counts) ≡ after_action (program_of m script)
+      (config_of playing.machine whole counts) left (perform (code_of m) playing.machine.store args action)
   pub stands : StandsFor m heights left playing.machine
   pub hosts : Plays script left (after_next_action top ∷ below_of playing.hosts)
   pub awaits : AwaitsHost left
 
 module _ (m : Module) (heights : Heights) (script : Script) (counts : List ℕ)
-    (main_law : (action : Action) (actions : List Action) (below : List Activation) (machine : State) → StandsFor m heights (InMain (action ∷ actions) ∷ below) machine → StandsFor m heights (InMain actions ∷ below) machine)
-    (response_law : (import : ℕ) (args : List Val) (action : Action) (actions : List Action) («end» : ResponseEnd) (below : List Activation) (machine : State) → StandsFor m heights (InImport import args (action ∷ actions) «end» ∷ below) machine → StandsFor m heights (InImport import args actions «end» ∷ below) machine)
-    (waits_law : (import : ℕ) (args : List Val) (actions : List Action) («end» : ResponseEnd) (below : List Activation) (machine : State) → StandsFor m heights (InImport import args actions «end» ∷ below) machine → IsWaiting machine.flat machine.frames)
-    (argument_law : (import : ℕ) (args : List Val) (actions : List Action) («end» : ResponseEnd) (below : List Activation) (machine : State) (number : ℕ) → StandsFor m heights (InImport import args actions «end» ∷ below) machine → argument_of machine.flat machine.frames machine.slots number ≡ slice_get args number)
+    (main_law : (action : Action) (actions : List Action) (below : List Activation) (machine : State) → StandsFor m
+    heights (InMain (action ∷ actions) ∷ below) machine → StandsFor m heights (InMain actions ∷ below) machine)
+    (response_law : (import : ℕ) (args : List Val) (action : Action) (actions : List Action) («end» : ResponseEnd)
+    (below : List Activation) (machine : State)
+    → StandsFor m heights (InImport import args (action ∷ actions) «end» ∷ below) machine
+    → StandsFor m heights (InImport import args actions «end» ∷ below) machine)
+    (waits_law : (import : ℕ) (args : List Val) (actions : List Action) («end» : ResponseEnd) (below : List Activation)
+    (machine : State) → StandsFor m heights (InImport import args actions «end» ∷ below) machine
+    → IsWaiting machine.flat machine.frames)
+    (argument_law : (import : ℕ) (args : List Val) (actions : List Action) («end» : ResponseEnd)
+    (below : List Activation) (machine : State) (number : ℕ)
+    → StandsFor m heights (InImport import args actions «end» ∷ below) machine
+    → argument_of machine.flat machine.frames machine.slots number ≡ slice_get args number)
     (playing : PlayState) (action : Action) (s : StepResult) where
   opened_main : (actions : List Action) (next : ℕ) (below : List Activation) → actions ≡ drop next script.main → slice_get script.main next ≡ Some action
       → below ≡ [] → below_of playing.hosts ≡ [] → StandsFor m heights (InMain actions ∷ below) playing.machine
@@ -63,7 +75,8 @@ module _ (m : Module) (heights : Heights) (script : Script) (counts : List ℕ)
   opened_main actions next below is there alone last stands same =
       let rest : List Action = drop (next + 1) script.main in
       let front : actions ≡ action ∷ rest = is ∙ drop_at script.main next action there in
-      let opened : StandsFor m heights (InMain (action ∷ rest) ∷ below) playing.machine = subst (λ a. StandsFor m heights (InMain a ∷ below) playing.machine) front stands in
+      let opened : StandsFor m heights (InMain (action ∷ rest) ∷ below) playing.machine =
+      subst (λ a. StandsFor m heights (InMain a ∷ below) playing.machine) front stands in
       record {
         whole = InMain (action ∷ rest) ∷ below;
         left = InMain rest ∷ below;
@@ -79,17 +92,20 @@ module _ (m : Module) (heights : Heights) (script : Script) (counts : List ℕ)
         awaits = tt;
       }
 
-  opened_answer : (import : ℕ) (args : List Val) (actions : List Action) («end» : ResponseEnd) (called number next : ℕ) (below : List Activation) → IsChosen script import actions «end» called number next
+  opened_answer : (import : ℕ) (args : List Val) (actions : List Action) («end» : ResponseEnd) (called number next : ℕ)
+      (below : List Activation) → IsChosen script import actions «end» called number next
       → slice_get (actions_in (response_to script.imports called number)) next ≡ Some action
       → Plays script (InImport import args actions «end» ∷ below) (host.Answer called number next ∷ below_of playing.hosts)
       → StandsFor m heights (InImport import args actions «end» ∷ below) playing.machine
-      → s ≡ after_settling playing.machine.store counts (settle (InImport import args actions «end» ∷ below)) → IsNext m heights script counts playing (host.Answer called number next) action s
+      → s ≡ after_settling playing.machine.store counts (settle (InImport import args actions «end» ∷ below))
+      → IsNext m heights script counts playing (host.Answer called number next) action s
   opened_answer import args actions «end» called number next below chosen there plays stands same =
       let found : response_to script.imports called number ≡ Some chosen.response = ap (λ i. response_to script.imports i number) chosen.same ∙ chosen.chosen in
       let at : slice_get chosen.response.actions next ≡ Some action = subst (λ r. slice_get (actions_in r) next ≡ Some action) found there in
       let rest : List Action = drop (next + 1) chosen.response.actions in
       let front : actions ≡ action ∷ rest = chosen.left ∙ drop_at chosen.response.actions next action at in
-      let opened : StandsFor m heights (InImport import args (action ∷ rest) «end» ∷ below) playing.machine = subst (λ a. StandsFor m heights (InImport import args a «end» ∷ below) playing.machine) front stands in
+      let opened : StandsFor m heights (InImport import args (action ∷ rest) «end» ∷ below) playing.machine =
+      subst (λ a. StandsFor m heights (InImport import args a «end» ∷ below) playing.machine) front stands in
       record {
         whole = InImport import args (action ∷ rest) «end» ∷ below;
         left = InImport import args rest «end» ∷ below;
@@ -108,8 +124,10 @@ module _ (m : Module) (heights : Heights) (script : Script) (counts : List ℕ)
         awaits = tt;
       }
 
-  pub opened : (stack : List Activation) (hosts : List Host) (top : Host) → playing.hosts ≡ hosts → AwaitsHost stack → StandsFor m heights stack playing.machine → Plays script stack hosts
-      → s ≡ after_settling playing.machine.store counts (settle stack) → top_of hosts ≡ Some top → action_at script top ≡ Some action → IsNext m heights script counts playing top action s
+  pub opened : (stack : List Activation) (hosts : List Host) (top : Host) → playing.hosts ≡ hosts → AwaitsHost stack
+      → StandsFor m heights stack playing.machine → Plays script stack hosts
+      → s ≡ after_settling playing.machine.store counts (settle stack) → top_of hosts ≡ Some top
+      → action_at script top ≡ Some action → IsNext m heights script counts playing top action s
   opened [] hosts top are awaits stands plays same is there = absurd awaits
   opened (InModule frame ∷ below) hosts top are awaits stands plays same is there = absurd awaits
   opened (InMain actions ∷ below) [] top are awaits stands plays same is there = absurd plays
@@ -123,7 +141,9 @@ module _ (m : Module) (heights : Heights) (script : Script) (counts : List ℕ)
   opened (InImport import args actions «end» ∷ below) (host.Answer called number next ∷ hosts) top are awaits stands plays same is there =
       let top_is : host.Answer called number next ≡ top = cc in
       subst (λ t. IsNext m heights script counts playing t action s) top_is
-      (opened_answer import args actions «end» called number next below plays.0 (ap (action_at script) top_is ∙ there) (subst (λ hs. Plays script (InImport import args actions «end» ∷ below) (host.Answer called number next ∷ hs)) (sym (ap below_of are)) plays) stands same)
+      (opened_answer import args actions «end» called number next below plays.0 (ap (action_at script) top_is ∙ there)
+      (subst (λ hs. Plays script (InImport import args actions «end» ∷ below) (host.Answer called number next ∷ hs))
+      (sym (ap below_of are)) plays) stands same)
 
 -- the run before that action
 module _ (script : Script) (counts : List ℕ) (store : Store) (action : Action) (s : StepResult) where
@@ -138,7 +158,8 @@ module _ (script : Script) (counts : List ℕ) (store : Store) (action : Action)
         awaits = tt;
       }
 
-  stands_answer : (import : ℕ) (args : List Val) (actions : List Action) («end» : ResponseEnd) (called number next : ℕ) (below : List Activation) → IsChosen script import actions «end» called number next
+  stands_answer : (import : ℕ) (args : List Val) (actions : List Action) («end» : ResponseEnd) (called number next : ℕ)
+      (below : List Activation) → IsChosen script import actions «end» called number next
       → slice_get (actions_in (response_to script.imports called number)) next ≡ Some action
       → s ≡ after_settling store counts (settle (InImport import args actions «end» ∷ below)) → BeforeHostStep s
   stands_answer import args actions «end» called number next below chosen there same =
@@ -152,7 +173,8 @@ module _ (script : Script) (counts : List ℕ) (store : Store) (action : Action)
         awaits = tt;
       }
 
-  pub action_stands : (stack : List Activation) (hosts : List Host) (top : Host) → AwaitsHost stack → Plays script stack hosts → s ≡ after_settling store counts (settle stack)
+  pub action_stands : (stack : List Activation) (hosts : List Host) (top : Host) → AwaitsHost stack
+      → Plays script stack hosts → s ≡ after_settling store counts (settle stack)
       → top_of hosts ≡ Some top → action_at script top ≡ Some action → BeforeHostStep s
   action_stands [] hosts top awaits plays same is there = absurd awaits
   action_stands (InModule frame ∷ below) hosts top awaits plays same is there = absurd awaits

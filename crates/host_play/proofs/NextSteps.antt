@@ -37,7 +37,8 @@ host_weight m (Some weights) (InImport import args actions «end» ∷ below) aw
 
 -- one more step after steps that go on
 more : (program : Program) (meter : Meter) (k : ℕ) (at : Progress) (config : Config) → (steps program meter k at).at ≡ Running config
-    → steps program meter (suc k) at ≡ run_of ((steps program meter k at).history ++ (step program config).entries) ((steps program meter k at).turns + weight meter config) (step program config).next
+    → steps program meter (suc k) at ≡ run_of ((steps program meter k at).history ++ (step program config).entries)
+    ((steps program meter k at).turns + weight meter config) (step program config).next
 more program meter zero (Running c) config is =
     let same : c ≡ config = cc in
     ap (λ x. run_of ((step program x).entries ++ []) (weight meter x + 0) (step program x).next) same
@@ -51,20 +52,23 @@ more program meter (suc k) (Running c) config is =
     let inner : Run = steps program meter k first.next in
     let w : ℕ = weight meter c in
     ap (run_after first.entries w) (more program meter k first.next config is)
-    ∙ ap (λ es. run_of es (w + (inner.turns + weight meter config)) (step program config).next) (sym (append_assoc first.entries inner.history (step program config).entries))
+    ∙ ap (λ es. run_of es (w + (inner.turns + weight meter config)) (step program config).next)
+    (sym (append_assoc first.entries inner.history (step program config).entries))
     ∙ ap (λ n. run_of ((first.entries ++ inner.history) ++ (step program config).entries) n (step program config).next) (omega arith)
 more program meter (suc k) (Finished outcome) config is = cc
 more program meter (suc k) (Faulted kind) config is = cc
 more program meter (suc k) Stuck config is = cc
 
-pub one_more : (program : Program) (meter : Meter) (initial : StepResult) (k : ℕ) (history : List Entry) (turns : ℕ) (config : Config) → run_from program meter initial k ≡ run_of history turns (Running config)
+pub one_more : (program : Program) (meter : Meter) (initial : StepResult) (k : ℕ) (history : List Entry) (turns : ℕ)
+    (config : Config) → run_from program meter initial k ≡ run_of history turns (Running config)
     → run_from program meter initial (suc k) ≡ run_of (history ++ (step program config).entries) (turns + weight meter config) (step program config).next
 one_more program meter initial k history turns config is =
     let inner : Run = steps program meter k initial.next in
     let here : initial.entries ++ inner.history ≡ history = ap (λ (r : Run). r.history) is in
     let spent : 0 + inner.turns ≡ turns = ap (λ (r : Run). r.turns) is in
     ap (run_after initial.entries 0) (more program meter k initial.next config (ap (λ (r : Run). r.at) is))
-    ∙ ap (λ es. run_of es (0 + (inner.turns + weight meter config)) (step program config).next) (sym (append_assoc initial.entries inner.history (step program config).entries))
+    ∙ ap (λ es. run_of es (0 + (inner.turns + weight meter config)) (step program config).next)
+    (sym (append_assoc initial.entries inner.history (step program config).entries))
     ∙ ap (λ es. run_of (es ++ (step program config).entries) (0 + (inner.turns + weight meter config)) (step program config).next) here
     ∙ ap (λ n. run_of (history ++ (step program config).entries) n (step program config).next) (omega arith)
 
@@ -91,15 +95,23 @@ module _ (m : Module) (script : Script) (weighing : Weighing) (initial : StepRes
   }
 
   -- what the run begins with
-  abbrev pub begins : (entries : List Entry) (stand : Stand) (playing : PlayState) → Leads m script initial entries stand playing → ComesTo m script weighing initial budget ([] ++ entries) stand playing budget
-  begins entries stand playing l = led stand playing 0 budget 0 [] entries initial (ap (λ es. run_of es 0 initial.next) (append-nil initial.entries)) (omega arith) l
+  abbrev pub begins : (entries : List Entry) (stand : Stand) (playing : PlayState)
+      → Leads m script initial entries stand playing
+      → ComesTo m script weighing initial budget ([] ++ entries) stand playing budget
+  begins entries stand playing l =
+      led stand playing 0 budget 0 [] entries initial (ap (λ es. run_of es 0 initial.next) (append-nil initial.entries))
+      (omega arith) l
 
-  module _ (history : List Entry) (stand : Stand) (playing : PlayState) (left : ℕ) (r : ComesTo m script weighing initial budget history stand playing left) where
-    abbrev pub goes_free : (moved : PlayStep) (new_playing : PlayState) → Leads m script r.pending moved.entries moved.stand new_playing → ComesTo m script weighing initial budget (history ++ moved.entries) moved.stand new_playing left
+  module _ (history : List Entry) (stand : Stand) (playing : PlayState) (left : ℕ)
+      (r : ComesTo m script weighing initial budget history stand playing left) where
+    abbrev pub goes_free : (moved : PlayStep) (new_playing : PlayState)
+        → Leads m script r.pending moved.entries moved.stand new_playing
+        → ComesTo m script weighing initial budget (history ++ moved.entries) moved.stand new_playing left
     goes_free moved new_playing l = led moved.stand new_playing r.steps left r.used history moved.entries r.pending r.run r.spent l
 
     -- a run that is before a step
-    pub standing_run : (config : Config) → r.pending ≡ step_result [] (Running config) → run_from (program_of m script) meter initial r.steps ≡ run_of history r.used (Running config)
+    pub standing_run : (config : Config) → r.pending ≡ step_result [] (Running config)
+        → run_from (program_of m script) meter initial r.steps ≡ run_of history r.used (Running config)
     standing_run config is =
         r.run
         ∙ ap (λ (t : StepResult). run_of (history ++ t.entries) r.used t.next) is
@@ -107,12 +119,15 @@ module _ (m : Module) (script : Script) (weighing : Weighing) (initial : StepRes
 
     -- the run after a step that takes a turn
     pub stepped : (config : Config) → r.pending ≡ step_result [] (Running config) → weight meter config ≡ 1
-        → run_from (program_of m script) meter initial (suc r.steps) ≡ run_of (history ++ (step (program_of m script) config).entries) (r.used + 1) (step (program_of m script) config).next
+        → run_from (program_of m script) meter initial (suc r.steps) ≡ run_of
+        (history ++ (step (program_of m script) config).entries) (r.used + 1) (step (program_of m script) config).next
     stepped config is one =
         one_more (program_of m script) meter initial r.steps history r.used config (standing_run config is)
         ∙ ap (λ n. run_of (history ++ (step (program_of m script) config).entries) (r.used + n) (step (program_of m script) config).next) one
 
-    abbrev pub spends : (config : Config) → left ≡ 0 → weight meter config ≡ 1 → r.pending ≡ step_result [] (Running config) → IsSpent (run_from (program_of m script) meter initial) meter budget
+    abbrev pub spends : (config : Config) → left ≡ 0 → weight meter config ≡ 1
+        → r.pending ≡ step_result [] (Running config)
+        → IsSpent (run_from (program_of m script) meter initial) meter budget
     spends config none one is =
         let spent : r.used + left ≡ budget = r.spent in
         record {
@@ -123,7 +138,8 @@ module _ (m : Module) (script : Script) (weighing : Weighing) (initial : StepRes
           wants = omega arith;
         }
 
-    abbrev pub goes_step : (moved : PlayStep) (new_playing : PlayState) (now : ℕ) → now + 1 ≡ left → (made : MakesStep m script r.pending (Ok moved) new_playing) → weight meter made.config ≡ 1
+    abbrev pub goes_step : (moved : PlayStep) (new_playing : PlayState) (now : ℕ) → now + 1 ≡ left
+        → (made : MakesStep m script r.pending (Ok moved) new_playing) → weight meter made.config ≡ 1
         → ComesTo m script weighing initial budget (history ++ moved.entries) moved.stand new_playing now
     goes_step moved new_playing now one made weighs =
         let spent : r.used + left ≡ budget = r.spent in
@@ -131,7 +147,8 @@ module _ (m : Module) (script : Script) (weighing : Weighing) (initial : StepRes
         (stepped made.config made.standing weighs) (omega arith) made.leads
 
   -- the run is over by an outcome
-  module _ (outcome : Outcome) (history : List Entry) (playing : PlayState) (left : ℕ) (r : ComesTo m script weighing initial budget history (at.Over outcome) playing left) where
+  module _ (outcome : Outcome) (history : List Entry) (playing : PlayState) (left : ℕ)
+      (r : ComesTo m script weighing initial budget history (at.Over outcome) playing left) where
     abbrev pub whole : Run
     whole = run_of history r.used (Finished outcome)
 

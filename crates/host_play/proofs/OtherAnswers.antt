@@ -41,7 +41,9 @@ zeros_fit [] numbers = record { in_range = All-nil (λ (value : Val). IsTrue (is
 zeros_fit (ty ∷ types) numbers =
     let later = zeros_fit types (All-tail (λ (t : ValType). IsTrue (is_number t)) ty types numbers) in
     record {
-      in_range = All-cons (λ (value : Val). IsTrue (is_constant value)) (record { ty = ty; bits = 0 }) (zeros types) (number_zero ty (All-head (λ (t : ValType). IsTrue (is_number t)) ty types numbers)) later.in_range;
+      in_range =
+          All-cons (λ (value : Val). IsTrue (is_constant value)) (record { ty = ty; bits = 0 }) (zeros types)
+          (number_zero ty (All-head (λ (t : ValType). IsTrue (is_number t)) ty types numbers)) later.in_range;
       typed = ap (λ ts. ty ∷ ts) later.typed;
     }
 
@@ -54,13 +56,16 @@ typed_at (first ∷ types) zero ty all is =
     subst (λ (t : FuncType). AreNumbers t.params) same (All-head IsFuncType first types all).params
 typed_at (first ∷ types) (suc i) ty all is = typed_at types i ty (All-tail IsFuncType first types all) is
 
-indexed_at : (types : List FuncType) (index : Option ℕ) (ty : FuncType) → All IsFuncType types → option_and_then (λ t. slice_get types t) index ≡ Some ty → AreNumbers ty.params
+indexed_at : (types : List FuncType) (index : Option ℕ) (ty : FuncType) → All IsFuncType types
+    → option_and_then (λ t. slice_get types t) index ≡ Some ty → AreNumbers ty.params
 indexed_at types None ty all is = cc
 indexed_at types (Some t) ty all is = typed_at types t ty all is
 
 pub active_callable : (m : Module) (func : ℕ) (ty : FuncType) (body : Definition) → IsValid m → IsFunction m func ty body → IsCallable m func (zeros ty.params)
 active_callable m func ty body valid f = record {
-  defined = ltb-false func (imported_funcs m) (cond_none_some (nat_lt func (imported_funcs m)) (option_and_then (λ (d : Option Definition). d) (slice_get (code_of m).defined (func - imported_funcs m))) body f.defined).0;
+  defined =
+      ltb-false func (imported_funcs m) (cond_none_some (nat_lt func (imported_funcs m)) (option_and_then
+      (λ (d : Option Definition). d) (slice_get (code_of m).defined (func - imported_funcs m))) body f.defined).0;
   ty = ty;
   has_type = f.has_type;
   fit = zeros_fit ty.params (indexed_at m.types (slice_get (func_indices m) func) ty valid.outside.types f.has_type);
@@ -80,13 +85,15 @@ module _ (m : Module) (answers : List (Option Answer)) (func : ℕ) (given : Lis
     },
   )
 
-  each_fits : (types : List ℕ) (items : List (Option Answer)) → AllZip (FitsImport m) types items → AllZip (FitsImport m) types (map (option_map (calls_instead (code_of m) answers func given)) items)
+  each_fits : (types : List ℕ) (items : List (Option Answer)) → AllZip (FitsImport m) types items
+      → AllZip (FitsImport m) types (map (option_map (calls_instead (code_of m) answers func given)) items)
   each_fits [] [] fit = fit
   each_fits [] (answer ∷ items) fit = absurd fit
   each_fits (t ∷ types) [] fit = absurd fit
   each_fits (t ∷ types) (answer ∷ items) fit = (import_fits t answer fit.0, each_fits types items fit.1)
 
-  pub other_run : (heights : Heights) (counts : List ℕ) → IsRun m heights (own (code_of m) answers func given) counts → IsRun m heights (other (code_of m) answers func given) counts
+  pub other_run : (heights : Heights) (counts : List ℕ) → IsRun m heights (own (code_of m) answers func given) counts
+      → IsRun m heights (other (code_of m) answers func given) counts
   other_run heights counts is_run = record {
     valid = is_run.valid;
     code = is_run.code;

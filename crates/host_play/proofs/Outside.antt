@@ -19,7 +19,8 @@ plays_whole script (InMain actions ∷ below) hosts p = p
 plays_whole script (InImport import args actions «end» ∷ below) hosts p = p
 
 -- two stacks with the same activations from the topmost of the host on
-pub plays_same : (script : Script) (stack other : List Activation) (hosts : List Host) → outside_of other ≡ outside_of stack → Plays script stack hosts → Plays script other hosts
+pub plays_same : (script : Script) (stack other : List Activation) (hosts : List Host)
+    → outside_of other ≡ outside_of stack → Plays script stack hosts → Plays script other hosts
 plays_same script stack other hosts same p =
     plays_whole script other hosts (subst (λ outside. Plays script outside hosts) (sym same) (plays_outside script stack hosts p))
 

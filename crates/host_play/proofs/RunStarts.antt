@@ -75,7 +75,8 @@ is_first m heights script store flat first begins is machine functions =
 
 -- the start function can be called
 pub can_start : (m : Module) (first : PlayState) → AreOf (code_of m) first.functions → IsAtHost first.machine.flat first.machine.frames
-    → ((func : ℕ) (ty : FuncType) (args : List Val) → imported_funcs m ≤ func → signature (code_of m) func ≡ Some ty → AreValues (func_count m) ty.params args → IsCallable first.machine.flat func args)
+    → ((func : ℕ) (ty : FuncType) (args : List Val) → imported_funcs m ≤ func → signature (code_of m) func ≡ Some ty
+    → AreValues (func_count m) ty.params args → IsCallable first.machine.flat func args)
     → (first_called : Option ℕ) → IfSome first_called (IsStart m) → CanStart first first_called
 can_start m first functions host callable None is = tt
 can_start m first functions host callable (Some func) is = λ le. (
@@ -84,13 +85,16 @@ can_start m first functions host callable (Some func) is = λ le. (
 )
 
 module _ (m : Module) (script : Script) (store : Store) (heights : Heights) (is_run : IsRun m heights (program_of m script) (replicate (imported_funcs m) 0))
-    (first : PlayState) (stands : StandsFor m heights (InMain script.main ∷ []) first.machine) (same_store : first.machine.store ≡ store) (functions : AreOf (code_of m) first.functions)
+    (first : PlayState) (stands : StandsFor m heights (InMain script.main ∷ []) first.machine)
+    (same_store : first.machine.store ≡ store) (functions : AreOf (code_of m) first.functions)
     (hosts : first.hosts ≡ host.Main 0 ∷ []) (counted : first.counts.items ≡ map kept (replicate (imported_funcs m) 0))
     (did : HostStep) (new : PlayState) where
   plays : Plays script (InMain script.main ∷ []) first.hosts
   plays = subst (Plays script (InMain script.main ∷ [])) (sym hosts) (refl, refl, refl)
 
-  work_leads : AtWork first did new → Leads m script (after_settling store (replicate (imported_funcs m) 0) (settle (InMain script.main ∷ []))) (entries_of did) (stand_after did) new
+  work_leads : AtWork first did new
+      → Leads m script (after_settling store (replicate (imported_funcs m) 0) (settle (InMain script.main ∷ [])))
+      (entries_of did) (stand_after did) new
   work_leads w =
       let next : StepResult = after_settling store (replicate (imported_funcs m) 0) (settle (InMain script.main ∷ [])) in
       let here : Leads m script next [] at.Host first = record {
@@ -114,7 +118,8 @@ module _ (m : Module) (script : Script) (store : Store) (heights : Heights) (is_
       (subst (λ p. Leads m script next [] at.Host p) (sym w.same_playing) here)
 
   call_leads : (func : ℕ) → IsStart m func → imported_funcs m ≤ func → CallsStart func first did new
-      → Leads m script (start_with_call (program_of m script) false store (replicate (imported_funcs m) 0) func (InMain script.main ∷ [])) (entries_of did) (stand_after did) new
+      → Leads m script (start_with_call (program_of m script) false store (replicate (imported_funcs m) 0) func
+      (InMain script.main ∷ [])) (entries_of did) (stand_after did) new
   call_leads func is defined calls =
       let counts : List ℕ = replicate (imported_funcs m) 0 in
       let values : AreValues (func_count m) is.ty.params [] = subst (λ ps. AreValues (func_count m) ps []) (sym is.params) tt in
@@ -123,7 +128,9 @@ module _ (m : Module) (script : Script) (store : Store) (heights : Heights) (is_
       let s : StepResult = start_with_call (program_of m script) false store counts func (InMain script.main ∷ []) in
       let here : Leads m script s (HostCall func [] ∷ []) at.Module new = record {
         next = next;
-        same = ap (λ st. start_with_call (program_of m script) false st counts func (InMain script.main ∷ [])) (sym same_store) ∙ ap (after_entries (HostCall func [] ∷ [])) enters.same;
+        same =
+            ap (λ st. start_with_call (program_of m script) false st counts func (InMain script.main ∷ []))
+            (sym same_store) ∙ ap (after_entries (HostCall func [] ∷ [])) enters.same;
         standing = record {
           heights = heights;
           counts = counts;
@@ -133,7 +140,10 @@ module _ (m : Module) (script : Script) (store : Store) (heights : Heights) (is_
           goes_on = record {
             frame = enters.frame;
             below = InMain script.main ∷ [];
-            stack = record { machine = enters.stands; hosts = subst (λ (p : PlayState). Plays script (InMain script.main ∷ []) p.hosts) (sym calls.rest) plays };
+            stack = record {
+              machine = enters.stands;
+              hosts = subst (λ (p : PlayState). Plays script (InMain script.main ∷ []) p.hosts) (sym calls.rest) plays;
+            };
             same = ap (λ st. after_settling st counts (settle (InModule enters.frame ∷ InMain script.main ∷ []))) (sym enters.store);
           };
         };
@@ -141,7 +151,8 @@ module _ (m : Module) (script : Script) (store : Store) (heights : Heights) (is_
       subst (λ d. Leads m script s (entries_of d) (stand_after d) new) (sym calls.calls) here
 
   by_test : (func : ℕ) (b : Bool) → IsStart m func → nat_lt func (imported_funcs m) ≡ b → StartsBy b func first did new
-      → Leads m script (start_with_call (program_of m script) b store (replicate (imported_funcs m) 0) func (InMain script.main ∷ [])) (entries_of did) (stand_after did) new
+      → Leads m script (start_with_call (program_of m script) b store (replicate (imported_funcs m) 0) func
+      (InMain script.main ∷ [])) (entries_of did) (stand_after did) new
   by_test func true is test begins = work_leads begins
   by_test func false is test begins = call_leads func is (ltb-false func (imported_funcs m) test) begins
 

@@ -24,19 +24,25 @@ use Rattle.host_play.specs.Stands.{LeadsBy, MakesStep, StandsAt}
 use Rattle.host_play.proofs.AnswerStarts as answering
 use Rattle.host_play.proofs.Arrivals.{at_instruction, at_host, at_trap}
 
-module _ (m : Module) (script : Script) (s : StepResult) (playing : PlayState) (machine : State) (turn : Turn) (standing : StandsAt m script at.Instruction playing s) (run : TurnIsStep playing.machine turn machine) where
+module _ (m : Module) (script : Script) (s : StepResult) (playing : PlayState) (machine : State) (turn : Turn)
+    (standing : StandsAt m script at.Instruction playing s) (run : TurnIsStep playing.machine turn machine) where
   abbrev pub config : Config
   config = config_of playing.machine (InModule standing.goes_on.frame ∷ standing.goes_on.below) standing.counts
 
   ComesAs : Option Pause → Type 0
-  ComesAs p = Comes m standing.heights (program_of m script) (outside_of standing.goes_on.below) standing.counts p turn.entries machine (step (program_of m script) config)
+  ComesAs p =
+      Comes m standing.heights (program_of m script)
+      (outside_of standing.goes_on.below) standing.counts p turn.entries machine (step (program_of m script) config)
 
   comes_as : (p : Option Pause) → turn.pause ≡ p → ComesAs p
   unfolding ComesAs
-  comes_as p is = subst ComesAs is (run m standing.heights (program_of m script) standing.counts standing.goes_on.frame standing.goes_on.below standing.is_run standing.goes_on.stack.machine standing.goes_on.going)
+  comes_as p is =
+      subst ComesAs is (run m standing.heights (program_of m script) standing.counts standing.goes_on.frame
+      standing.goes_on.below standing.is_run standing.goes_on.stack.machine standing.goes_on.going)
 
   -- the step is made, if the model's step leads to its result
-  pub turns : (result : Result PlayStep Refusal) (after : PlayState) → LeadsBy m script (step (program_of m script) config) result after → MakesStep m script s result after
+  pub turns : (result : Result PlayStep Refusal) (after : PlayState)
+      → LeadsBy m script (step (program_of m script) config) result after → MakesStep m script s result after
   turns result after leads = record {
     config = config;
     standing = standing.goes_on.same;
@@ -47,37 +53,53 @@ module _ (m : Module) (script : Script) (s : StepResult) (playing : PlayState) (
   unfolding ComesAs
   turn_at_instruction is =
       turns (Ok (play_step at.Instruction turn.entries)) (record playing { machine = machine })
-      (at_instruction m standing.heights script standing.counts standing.is_run standing.goes_on.below (record playing { machine = machine }) standing.functions standing.counted turn.entries (step (program_of m script) config) standing.goes_on.stack.hosts (comes_as None is))
+      (at_instruction m standing.heights script standing.counts standing.is_run standing.goes_on.below
+      (record playing { machine = machine }) standing.functions standing.counted turn.entries
+      (step (program_of m script) config) standing.goes_on.stack.hosts (comes_as None is))
 
   pub turn_at_host : turn.pause ≡ Some pause.Returned → MakesStep m script s (Ok (play_step at.Host turn.entries)) (record playing { machine = machine })
   unfolding ComesAs
   turn_at_host is =
       turns (Ok (play_step at.Host turn.entries)) (record playing { machine = machine })
-      (at_host m standing.heights script standing.counts standing.is_run standing.goes_on.below (record playing { machine = machine }) standing.functions standing.counted turn.entries (step (program_of m script) config) standing.goes_on.stack.hosts (comes_as (Some pause.Returned) is))
+      (at_host m standing.heights script standing.counts standing.is_run standing.goes_on.below
+      (record playing { machine = machine }) standing.functions standing.counted turn.entries
+      (step (program_of m script) config) standing.goes_on.stack.hosts (comes_as (Some pause.Returned) is))
 
-  pub turn_at_trap : turn.pause ≡ Some pause.Trapped → MakesStep m script s (Ok (play_step (at.Over ByTrap) turn.entries)) (record playing { machine = machine })
+  pub turn_at_trap : turn.pause ≡ Some pause.Trapped
+      → MakesStep m script s (Ok (play_step (at.Over ByTrap) turn.entries)) (record playing { machine = machine })
   unfolding ComesAs
   turn_at_trap is =
       turns (Ok (play_step (at.Over ByTrap) turn.entries)) (record playing { machine = machine })
-      (at_trap m standing.heights script standing.counts standing.is_run standing.goes_on.below (record playing { machine = machine }) standing.functions standing.counted turn.entries (step (program_of m script) config) (comes_as (Some pause.Trapped) is))
+      (at_trap m standing.heights script standing.counts standing.is_run standing.goes_on.below
+      (record playing { machine = machine }) standing.functions standing.counted turn.entries
+      (step (program_of m script) config) (comes_as (Some pause.Trapped) is))
 
   module _ (index : ℕ) (is : turn.pause ≡ Some (pause.Import index)) where
-    comes : ComesToImport m standing.heights (program_of m script) (outside_of standing.goes_on.below) standing.counts index turn.entries machine (step (program_of m script) config)
+    comes : ComesToImport m standing.heights (program_of m script) (outside_of standing.goes_on.below) standing.counts
+        index turn.entries machine (step (program_of m script) config)
     unfolding ComesAs
     comes = comes_as (Some (pause.Import index)) is
 
     pub counted_import : index < length playing.counts.items
     counted_import =
-        answering.counted_import m standing.heights script standing.counts standing.is_run standing.goes_on.below playing standing.functions standing.counted standing.goes_on.stack.hosts turn.entries machine (step (program_of m script) config) index comes
+        answering.counted_import m standing.heights script standing.counts standing.is_run standing.goes_on.below
+        playing standing.functions standing.counted standing.goes_on.stack.hosts turn.entries machine
+        (step (program_of m script) config) index comes
 
-    pub no_response : (refused : Refusal) (after : PlayState) → HasNoResponse script playing.counts.items index refused → MakesStep m script s (Err refused) after
+    pub no_response : (refused : Refusal) (after : PlayState) → HasNoResponse script playing.counts.items index refused
+        → MakesStep m script s (Err refused) after
     no_response refused after none =
         turns (Err refused) after
-        (answering.no_response m standing.heights script standing.counts standing.is_run standing.goes_on.below playing standing.functions standing.counted standing.goes_on.stack.hosts turn.entries machine (step (program_of m script) config) index comes refused none)
+        (answering.no_response m standing.heights script standing.counts standing.is_run standing.goes_on.below playing
+        standing.functions standing.counted standing.goes_on.stack.hosts turn.entries machine
+        (step (program_of m script) config) index comes refused none)
 
-    pub import_begins : (hosts : List Host) (new_playing : PlayState) → new_playing.machine ≡ machine → new_playing.functions ≡ playing.functions → new_playing.hosts ≡ hosts
-        → BeginsAnswer script playing.hosts playing.counts.items index hosts new_playing.counts.items → MakesStep m script s (Ok (play_step at.Host turn.entries)) new_playing
+    pub import_begins : (hosts : List Host) (new_playing : PlayState) → new_playing.machine ≡ machine
+        → new_playing.functions ≡ playing.functions → new_playing.hosts ≡ hosts
+        → BeginsAnswer script playing.hosts playing.counts.items index hosts new_playing.counts.items
+        → MakesStep m script s (Ok (play_step at.Host turn.entries)) new_playing
     import_begins hosts new_playing same_machine same_functions same_hosts begins =
         turns (Ok (play_step at.Host turn.entries)) new_playing
-        (answering.import_begins m standing.heights script standing.counts standing.is_run standing.goes_on.below playing standing.functions standing.counted standing.goes_on.stack.hosts turn.entries machine (step (program_of m script) config) index comes
-        hosts new_playing same_machine same_functions same_hosts begins)
+        (answering.import_begins m standing.heights script standing.counts standing.is_run standing.goes_on.below
+        playing standing.functions standing.counted standing.goes_on.stack.hosts turn.entries machine
+        (step (program_of m script) config) index comes hosts new_playing same_machine same_functions same_hosts begins)

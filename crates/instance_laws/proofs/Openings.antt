@@ -1,44 +1,26 @@
 -- The store that a module begins with, if its functions have other numbers.
-use Rattle.std.proofs.Common.{◌≡◌, ℕ, zero, suc, ◌+◌, List, [], ◌∷◌, ◌++◌, length, map, take, drop, Option, Some, None, nat_le, option_map, replicate, refl, sym, ap, ◌∙◌}
+use Rattle.std.proofs.Common.{◌≡◌, ℕ, ◌+◌, List, [], ◌∷◌, map, Option, Some, None, nat_le, option_map, replicate, refl, ap, ◌∙◌}
 use Rattle.std.specs.Prelude.{fold}
-use Rattle.std.proofs.lemmas.List.{length-map, map-append, take-map, drop-map}
+use Rattle.std.proofs.lemmas.List.{length-map}
 use Rattle.wasm_syntax.specs.declared.signatures.Limits.{Limits}
 use Rattle.wasm_syntax.specs.declared.modules.ElemSeg.{ElemSeg}
 use Rattle.wasm_syntax.specs.declared.modules.ElemSeg.TheVariants.{Active, Declared}
 use Rattle.wasm_syntax.specs.declared.values.Val.{Val}
 use Rattle.history_spec.specs.Instantiation.{offset_of, new_table, table_length, elem_fits, with_elem, with_elems}
 use Rattle.history_spec.specs.Store.{Store, with_items_at}
+use Rattle.history_spec.proofs.RenumberedEntries.{items_mapped, empty_kept, entries_of}
 use Rattle.instance_spec.specs.Instances.{Instance}
 use Rattle.instance_spec.specs.ForeignRuns.{numbered_table}
 use Rattle.instance_spec.specs.Widened.{renamed_elem}
-
-items_mapped : {X Y : Type 0} (f : X → Y) (xs : List X) (at : ℕ) (news : List X)
-    → with_items_at (map f xs) at (map f news) ≡ map f (with_items_at xs at news)
-items_mapped f xs at news =
-    let front = take-map f at xs in
-    let back : drop (at + length (map f news)) (map f xs) ≡ map f (drop (at + length news) xs) =
-    ap (λ n. drop (at + n) (map f xs)) (length-map news f) ∙ drop-map f (at + length news) xs in
-    (λ i. front i ++ (map f news ++ back i))
-    ∙ ap (λ ys. map f (take at xs) ++ ys) (sym (map-append f news (drop (at + length news) xs)))
-    ∙ sym (map-append f (take at xs) (news ++ drop (at + length news) xs))
 
 module _ (i : Instance) where
   abbrev entry : Option ℕ → Option ℕ
   entry func = option_map i.funcs func
 
-  empty_kept : (count : ℕ) → replicate count None ≡ map entry (replicate count None)
-  empty_kept zero = refl
-  empty_kept (suc count) = ap (λ entries. None ∷ entries) (empty_kept count)
-
-  entries_of : (funcs : List ℕ)
-      → map (λ func. Some func) (map i.funcs funcs) ≡ map entry (map (λ func. Some func) funcs)
-  entries_of [] = refl
-  entries_of (func ∷ funcs) = ap (λ entries. Some (i.funcs func) ∷ entries) (entries_of funcs)
-
   elem_written : (imported : List Val) (e : ElemSeg) (entries : List (Option ℕ))
       → with_elem imported (map entry entries) (renamed_elem i e) ≡ map entry (with_elem imported entries e)
   elem_written imported (Active table offset funcs) entries =
-      ap (with_items_at (map entry entries) (offset_of imported offset)) (entries_of funcs)
+      ap (with_items_at (map entry entries) (offset_of imported offset)) (entries_of i.funcs funcs)
       ∙ items_mapped entry entries (offset_of imported offset) (map (λ func. Some func) funcs)
   elem_written imported (Declared funcs) entries = refl
 
@@ -57,7 +39,7 @@ module _ (i : Instance) where
   table_written imported elems None = refl
   table_written imported elems (Some limits) =
       ap (λ entries. Some (record { entries = entries; max = limits.max }))
-      (elems_written imported elems (replicate limits.min None) (replicate limits.min None) (empty_kept limits.min))
+      (elems_written imported elems (replicate limits.min None) (replicate limits.min None) (empty_kept i.funcs limits.min))
 
   elem_fit : (imported : List Val) (store : Store) (e : ElemSeg)
       → elem_fits imported store (renamed_elem i e) ≡ elem_fits imported store e

@@ -1,5 +1,5 @@
 -- The widened module of an accepted one is accepted.
-use Rattle.std.proofs.Common.{◌≡◌, ℕ, ◌+◌, ◌≤◌, List, [], ◌∷◌, ◌++◌, map, length, Option, Some, None, Bool, true, false, cond, nat_lt, option_map, refl, ap, ◌∙◌, arith}
+use Rattle.std.proofs.Common.{◌≡◌, ℕ, ◌+◌, ◌≤◌, List, [], ◌∷◌, ◌++◌, map, length, Some, None, Bool, true, false, cond, nat_lt, option_map, refl, ap, ◌∙◌, arith}
 use Rattle.std.specs.Prelude.{filter, filter_map, flat_map}
 use Rattle.std.specs.List.{AllByRecursion, enumerate_from, cons_option}
 use Rattle.std.proofs.lemmas.Bool.Decides.{nat_tests}
@@ -16,6 +16,7 @@ use Rattle.wasm_syntax.specs.declared.modules.Func.{Func}
 use Rattle.wasm_syntax.specs.declared.modules.Import.{Import}
 use Rattle.wasm_syntax.specs.Index.{all_memories, all_tables, imported_funcs}
 use Rattle.wasm_syntax.specs.Profile.{Limit, Refusal, Unsupported, count_of_locals, is_numbered, max_locals, past, quantities_past, refusals, refused_feature, refused_in, refused_instructions, reserved_import, reserved_imports}
+use Rattle.wasm_syntax.proofs.JoinedLists.{nil_option, nil_option_of}
 use Rattle.instance_spec.specs.declared.decls.Decl.{Decl}
 use Rattle.instance_spec.specs.Instances.{Instance, resolved_instr}
 use Rattle.instance_spec.specs.ForeignRuns.{numbers}
@@ -23,16 +24,6 @@ use Rattle.instance_spec.specs.Widened.{foreign_imports, renamed_func, widened}
 use Rattle.instance_spec.specs.Laws.{WidenedAreValid}
 use Rattle.instance_spec.specs.WidenedLaws.{HaveFewParameters, WidenedAreAccepted, WidenedAreSupported}
 use Rattle.instance_laws.proofs.WidenedParts.{memories_are, tables_are}
-
--- an optional item and the rest of a list that has no item
-pub nil_option : {X : Type 0} (o : Option X) (rest : List X) → cons_option o rest ≡ [] → (o ≡ None) × (rest ≡ [])
-nil_option None rest h = (refl, h)
-nil_option (Some x) rest h = cc
-
-pub nil_option_of : {X Y : Type 0} (f : X → Y) (o : Option X) (rest : List Y) → cons_option (option_map f o) rest ≡ []
-    → (o ≡ None) × (rest ≡ [])
-nil_option_of f None rest h = (refl, h)
-nil_option_of f (Some x) rest h = cc
 
 -- ---- instructions
 

@@ -1,12 +1,9 @@
 -- The widened module of one that has an encoding has one.
-use Rattle.std.proofs.Common.{◌≡◌, ℕ, suc, zero, ◌+◌, ◌≤◌, ◌^◌, List, [], ◌∷◌, map, length, Option, Some, None, Bool, true, false, cond, nat_lt, IsTrue, option_map, codes, refl, arith}
+use Rattle.std.proofs.Common.{ℕ, ◌+◌, ◌≤◌, ◌^◌, List, [], ◌∷◌, map, length, Option, Some, None, Bool, true, false, cond, nat_lt, IsTrue, option_map, codes, refl, arith}
 use Rattle.std.specs.Prelude.{IfSome, IsUtf8}
-use Rattle.std.specs.List.{AllByRecursion, list_all}
-use Rattle.std.specs.Str.{IsAscii}
-use Rattle.std.proofs.lemmas.Bool.Decides.{nat_tests}
+use Rattle.std.specs.List.{AllByRecursion}
 use Rattle.std.proofs.lemmas.List.Elements.{All-weaker, recursion_from_All}
 use Rattle.std.proofs.lemmas.Str.{IsUtf8-from_ascii}
-use Rattle.base.proofs.Booleans.{and_left, and_right}
 use Rattle.base.proofs.Lists.{joined_all}
 use Rattle.wasm_syntax.specs.declared.forms.Form.{Form}
 use Rattle.wasm_syntax.specs.declared.forms.Form.TheVariants as forms
@@ -24,9 +21,10 @@ use Rattle.wasm_syntax.specs.declared.modules.ElemSeg.TheVariants.{Active, Decla
 use Rattle.wasm_syntax.specs.Encoding.Encodable.{FitsBody, FitsElemSeg, FitsExport, FitsExportKind, FitsFunc, FitsFuncType, FitsImport, FitsInstr, FitsU32, FitsValType, IsEncodable}
 use Rattle.wasm_syntax.specs.Encoding.Forms.{AreCoreInstrs, IsCoreInstr, IsCoreSeg, IsOfTableZero}
 use Rattle.wasm_syntax.specs.Encoding.Laws.{CoreIsInReplay}
-use Rattle.wasm_syntax.specs.Index.{all_tables, imported_funcs}
+use Rattle.wasm_syntax.specs.Index.{imported_funcs}
 use Rattle.wasm_syntax.specs.Typing.{is_number}
 use Rattle.wasm_syntax.specs.Validity.{IsValid, AreNumbers, IsElem, IsFuncType}
+use Rattle.wasm_syntax.proofs.ValidParts.{each_ascii, elem_of_zero}
 use Rattle.instance_spec.specs.declared.decls.Decl.{Decl}
 use Rattle.instance_spec.specs.Instances.{Instance, moved_up, resolved_instr}
 use Rattle.instance_spec.specs.Renamed.{renamed_nest}
@@ -67,15 +65,6 @@ widened_are_core m decls core =
     }
 
 -- ---- names
-
-abbrev pub is_ascii : ℕ → Bool
-is_ascii byte = nat_lt byte 128
-
-pub each_ascii : (bytes : List ℕ) → list_all is_ascii bytes ≡ true → IsAscii bytes
-each_ascii [] all i = omega arith
-each_ascii (byte ∷ bytes) all zero =
-    let first = and_left (is_ascii byte) (list_all is_ascii bytes) all in grind (arith, nat_tests, first)
-each_ascii (byte ∷ bytes) all (suc i) = each_ascii bytes (and_right (is_ascii byte) (list_all is_ascii bytes) all) i
 
 foreign_text : IsUtf8 (codes "foreign")
 foreign_text = IsUtf8-from_ascii (codes "foreign") (each_ascii (codes "foreign") refl)
@@ -188,10 +177,6 @@ same_form form m decls fits writable =
       datas = fits.datas;
       customs = fits.customs;
     }
-
-elem_of_zero : (m : Module) → length (all_tables m) ≤ 1 → (elem : ElemSeg) → IsElem m elem → IsOfTableZero elem
-elem_of_zero m one (Active table offset funcs) is = let there = is.0 in omega (arith, there, one)
-elem_of_zero m one (Declared funcs) is = tt
 
 -- a valid module that has an encoding in the form Core has one in the form Replay
 pub replay_form : CoreIsInReplay → (m : Module) → IsValid m → IsEncodable forms.Core m → IsEncodable Replay m

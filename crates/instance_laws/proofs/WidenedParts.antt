@@ -1,11 +1,10 @@
 -- The imports and functions of a widened module, by kind.
-use Rattle.std.proofs.Common.{◌≡◌, ℕ, zero, suc, ◌+◌, List, [], ◌∷◌, ◌++◌, length, map, Option, Some, None, refl, ap, ◌∙◌, length-append, append_assoc, append-nil}
-use Rattle.std.specs.List.{cons_option}
+use Rattle.std.proofs.Common.{◌≡◌, ℕ, zero, suc, ◌+◌, List, [], ◌∷◌, ◌++◌, length, map, refl, ap, ◌∙◌, length-append, append_assoc, append-nil}
 use Rattle.wasm_syntax.specs.declared.modules.Module.{Module}
 use Rattle.wasm_syntax.specs.declared.modules.Func.{Func}
 use Rattle.wasm_syntax.specs.declared.modules.Import.{Import}
-use Rattle.wasm_syntax.specs.declared.modules.ImportKind.{ImportKind}
 use Rattle.wasm_syntax.specs.Index.{of_kind, func_import, table_import, memory_import, global_import, func_indices, imported_funcs}
+use Rattle.wasm_syntax.proofs.JoinedLists.{kinds_append}
 use Rattle.instance_spec.specs.declared.decls.Decl.{Decl}
 use Rattle.instance_spec.specs.Instances.{Instance}
 use Rattle.instance_spec.specs.ForeignRuns.{count_from, numbers, foreign_code}
@@ -14,17 +13,6 @@ use Rattle.instance_spec.specs.Widened.{renamed_func, foreign_imports, widened}
 pub counted : (first count : ℕ) → length (count_from first count) ≡ count
 counted first zero = refl
 counted first (suc count) = ap suc (counted (first + 1) count)
-
-pub cons_front : {K : Type 0} (o : Option K) (xs ys : List K) → cons_option o (xs ++ ys) ≡ cons_option o xs ++ ys
-cons_front None xs ys = refl
-cons_front (Some k) xs ys = refl
-
-pub kinds_append : {K : Type 0} (pick : ImportKind → Option K) (imports more : List Import)
-    → of_kind pick (imports ++ more) ≡ of_kind pick imports ++ of_kind pick more
-kinds_append pick [] more = refl
-kinds_append pick (i ∷ imports) more =
-    ap (cons_option (pick i.kind)) (kinds_append pick imports more)
-    ∙ cons_front (pick i.kind) (of_kind pick imports) (of_kind pick more)
 
 -- ---- the imports of declared functions
 

@@ -1,7 +1,7 @@
 -- Instrumented modules link as their originals do.
-use Rattle.std.proofs.Common.{◌≡◌, ℕ, zero, suc, ◌+◌, List, [], ◌∷◌, ◌++◌, length, map, take, drop, Option, Some, None, true, nat_le, option_map, replicate, refl, sym, ap, ◌∙◌}
+use Rattle.std.proofs.Common.{◌≡◌, ℕ, ◌+◌, List, [], ◌∷◌, ◌++◌, map, Option, Some, None, true, nat_le, option_map, replicate, refl, ap, ◌∙◌}
 use Rattle.std.specs.Prelude.{fold}
-use Rattle.std.proofs.lemmas.List.{append_cancel_right, length-map, map-append, drop-map}
+use Rattle.std.proofs.lemmas.List.{append_cancel_right, length-map}
 use Rattle.base.proofs.Lists.{nil_parts}
 use Rattle.wasm_syntax.specs.declared.signatures.Limits.{Limits}
 use Rattle.wasm_syntax.specs.declared.modules.Import.{Import}
@@ -16,6 +16,7 @@ use Rattle.host_script.specs.declared.scripts.Supply.{Supply}
 use Rattle.host_script.specs.Supply.{import_match, fault_or, globals_in, first_fault, given_values, if_imported, supply_unless, supply_of}
 use Rattle.history_spec.specs.Instantiation.{offset_of, limits_of, memory_limits, table_limits, new_memory, new_table, global_value, new_store, table_length, elem_fits, data_fits, first_false, first_unfit, with_elem, with_elems, with_datas, with_segments, store_unless, instantiate}
 use Rattle.history_spec.specs.Store.{Store, with_items_at}
+use Rattle.history_spec.proofs.RenumberedEntries.{items_mapped, empty_kept, entries_of}
 use Rattle.record_replay_spec.specs.Hooks.{hooks, renumber, renumbered_table, renumbered_view}
 use Rattle.record_replay_spec.specs.Instrumented.{hook_import, renumbered_elem, instrumented_module}
 use Rattle.record_replay_spec.specs.HookLaws.{InstrumentedKeepsIndices, InstrumentedKeepIndices}
@@ -52,40 +53,14 @@ faults_more script (i ∷ imports) more at globals none =
 
 -- ---- entries
 
-take_map : {X Y : Type 0} (f : X → Y) (n : ℕ) (xs : List X) → take n (map f xs) ≡ map f (take n xs)
-take_map f zero xs = refl
-take_map f (suc n) [] = refl
-take_map f (suc n) (x ∷ xs) = ap (λ ys. f x ∷ ys) (take_map f n xs)
-
-items_mapped : {X Y : Type 0} (f : X → Y) (xs : List X) (at : ℕ) (news : List X)
-    → with_items_at (map f xs) at (map f news) ≡ map f (with_items_at xs at news)
-items_mapped f xs at news =
-    let front = take_map f at xs in
-    let long = length-map news f in
-    let back : drop (at + length (map f news)) (map f xs) ≡ map f (drop (at + length news) xs) =
-    ap (λ n. drop (at + n) (map f xs)) long ∙ drop-map f (at + length news) xs
-    in
-    (λ i. front i ++ (map f news ++ back i))
-    ∙ ap (λ ys. map f (take at xs) ++ ys) (sym (map-append f news (drop (at + length news) xs)))
-    ∙ sym (map-append f (take at xs) (news ++ drop (at + length news) xs))
-
 module _ (n : ℕ) where
   abbrev entry : Option ℕ → Option ℕ
   entry func = option_map (renumber n) func
 
-  empty_kept : (count : ℕ) → replicate count None ≡ map entry (replicate count None)
-  empty_kept zero = refl
-  empty_kept (suc count) = ap (λ entries. None ∷ entries) (empty_kept count)
-
-  entries_of : (funcs : List ℕ)
-      → map (λ func. Some func) (map (renumber n) funcs) ≡ map entry (map (λ func. Some func) funcs)
-  entries_of [] = refl
-  entries_of (func ∷ funcs) = ap (λ entries. Some (renumber n func) ∷ entries) (entries_of funcs)
-
   elem_written : (imported : List Val) (e : ElemSeg) (entries : List (Option ℕ))
       → with_elem imported (map entry entries) (renumbered_elem n e) ≡ map entry (with_elem imported entries e)
   elem_written imported (Active table offset funcs) entries =
-      ap (with_items_at (map entry entries) (offset_of imported offset)) (entries_of funcs)
+      ap (with_items_at (map entry entries) (offset_of imported offset)) (entries_of (renumber n) funcs)
       ∙ items_mapped entry entries (offset_of imported offset) (map (λ func. Some func) funcs)
   elem_written imported (Declared funcs) entries = refl
 
@@ -104,7 +79,7 @@ module _ (n : ℕ) where
   table_written imported elems None = refl
   table_written imported elems (Some limits) =
       ap (λ entries. Some (record { entries = entries; max = limits.max }))
-      (elems_written imported elems (replicate limits.min None) (replicate limits.min None) (empty_kept limits.min))
+      (elems_written imported elems (replicate limits.min None) (replicate limits.min None) (empty_kept (renumber n) limits.min))
 
   elem_fit : (imported : List Val) (store : Store) (e : ElemSeg)
       → elem_fits imported store (renumbered_elem n e) ≡ elem_fits imported store e

@@ -19,7 +19,8 @@ use Rattle.wasm_syntax.specs.Nest.{Nest, Empty, Plain, InBlock, InLoop, InIf, In
 use Rattle.wasm_syntax.specs.Opcodes.{Access, is_from, load_table, store_table, load_of, store_of}
 use Rattle.wasm_syntax.specs.Typing.{Context, InstrType, Moves, is_number, is_aligned, if_true, has_memory, has_table, call_of, indirect_of, set_of, load_type, store_type, func_at, instr_type, Leads, results_of, inside, IsTyped}
 use Rattle.wasm_syntax.specs.Validity.{IsFuncType}
-use Rattle.type_safety.proofs.Wider.{Widens, both_parts, calling, inside_wider, leads_wider as leads_in_wider}
+use Rattle.wasm_syntax.proofs.JoinedLists.{both_parts}
+use Rattle.type_safety.proofs.Wider.{Widens, calling, inside_wider, leads_wider as leads_in_wider}
 use Rattle.record_replay_spec.specs.declared.hooks.Hook.TheVariants as hook
 use Rattle.record_replay_spec.specs.Hooks.{renumber, on}
 use Rattle.record_replay_spec.specs.Insertions.{Site, imports_at, calls, reports_number, reports_index, reports_range, reports_global, before_load, before_store, after_call, inserted_before, inserted_after}

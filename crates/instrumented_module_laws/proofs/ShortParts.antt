@@ -1,18 +1,12 @@
 -- Parts of modules: the number of functions of an instrumented one, and the refusals that an accepted one lacks.
-use Rattle.std.proofs.Common.{◌≡◌, ℕ, ◌+◌, List, [], ◌++◌, length, map, Bool, ◌∙◌, ap, arith, length-append}
-use Rattle.std.proofs.lemmas.List.{length-map}
+use Rattle.std.proofs.Common.{◌≡◌, ℕ, ◌+◌, List, [], ◌++◌, length, Bool, arith}
 use Rattle.base.proofs.Lists.{nil_parts}
-use Rattle.wasm_syntax.specs.declared.modules.Func.{Func}
 use Rattle.wasm_syntax.specs.declared.modules.Module.{Module}
-use Rattle.wasm_syntax.specs.Index.{of_kind, func_import, func_indices, imported_funcs}
+use Rattle.wasm_syntax.specs.Index.{func_indices}
 use Rattle.wasm_syntax.specs.Profile.{quantities_past, refusals, refused_instructions, reserved_imports}
+use Rattle.wasm_syntax.proofs.FuncTypes.{func_count_is}
 use Rattle.record_replay_spec.specs.Instrumented.{instrumented_module}
 use Rattle.record_replay_spec.specs.HookLaws.{InstrumentedKeepIndices}
-
-func_count_is : (m : Module) → length (func_indices m) ≡ imported_funcs m + length m.funcs
-func_count_is m =
-    length-append (of_kind func_import m.imports) (map (λ (f : Func). f.ty) m.funcs)
-    ∙ ap (λ defined. imported_funcs m + defined) (length-map m.funcs (λ (f : Func). f.ty))
 
 -- an instrumented module has the original's functions and the hooks
 pub more_funcs : InstrumentedKeepIndices → (m : Module) (digest : List ℕ)

@@ -32,12 +32,12 @@ use Rattle.wasm_syntax.specs.Nest.{Nest, Empty, InBlock, flat, nest_of}
 use Rattle.wasm_syntax.specs.Typing.{Context, is_number, results_of, inside, IsTyped}
 use Rattle.wasm_syntax.specs.Validity.{IsFuncType, IsImport, IsDeclaredFunc, IsGlobal, IsConstant, IsStart, IsElem, IsData, IsThere, IsValidOutside, IsTypedFunc, IsValid, single, immutable_type, constant_type, each_local, body_context}
 use Rattle.wasm_syntax.proofs.Nests.{nest_of_body}
+use Rattle.wasm_syntax.proofs.JoinedLists.{both_parts}
 use Rattle.record_replay_spec.specs.declared.hooks.Hook.{Hook}
 use Rattle.record_replay_spec.specs.declared.hooks.Hook.TheVariants as hook
 use Rattle.record_replay_spec.specs.Hooks.{hooks, renumber}
 use Rattle.record_replay_spec.specs.Insertions.{Site, value_local, inserted_at_enter, inserted_at_end}
 use Rattle.record_replay_spec.specs.Instrumented.{before_nest, instrumented_nest, instrumented_body, with_added_locals, site_of, instrumented_func, each_func, hook_types, hook_import, renumbered_kind, renumbered_export, renumbered_elem, instrumented_module}
-use Rattle.type_safety.proofs.Wider.{both_parts}
 use Rattle.record_replay_spec.specs.HookLaws.{BodiesAreInstrumented, InstrumentedKeepsIndices, InstrumentedKeepIndices}
 use Rattle.instrumented_module_laws.specs.Laws.{HasWordOffset, HasWords, InstrumentedAreValid}
 use Rattle.instrumented_module_laws.proofs.Pieces.{HasHooks, typed_after, enter_runs, reports_number_runs}

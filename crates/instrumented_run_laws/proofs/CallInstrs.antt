@@ -3,7 +3,6 @@ use Rattle.std.proofs.Common.{◌≡◌, ℕ, ◌-◌, List, [], ◌∷◌, ◌+
 use Rattle.wasm_syntax.specs.declared.values.Val.{Val}
 use Rattle.wasm_syntax.specs.declared.values.ValType.TheVariants.{I32}
 use Rattle.wasm_syntax.specs.declared.signatures.FuncType.{FuncType}
-use Rattle.wasm_syntax.specs.declared.signatures.GlobalType.{GlobalType}
 use Rattle.wasm_syntax.specs.declared.instructions.Instr.{Instr}
 use Rattle.wasm_syntax.specs.declared.instructions.Instr.TheVariants as instrs
 use Rattle.wasm_syntax.specs.declared.modules.Module.{Module}
@@ -18,10 +17,11 @@ use Rattle.record_replay_spec.specs.Insertions.{Site, reports_number, inserted_a
 use Rattle.record_replay_spec.specs.declared.hooks.Hook.TheVariants.{Post, Ipost}
 use Rattle.record_replay_spec.specs.Hooks as hooks
 use Rattle.record_replay_spec.specs.Hooks.{HookCall}
-use Rattle.record_replay_spec.specs.ReportedCalls.{WaitingCall, reported_after, waiting_after}
+use Rattle.record_replay_spec.specs.ReportedCalls.{WaitingCall, waiting_after}
 use Rattle.tape_laws.proofs.CoreFrames.{CallsAs}
 use Rattle.instrumented_run_laws.proofs.Relation.{over_piece}
 use Rattle.instrumented_run_laws.proofs.PieceFacts.{IsCallInstr}
+use Rattle.instrumented_run_laws.proofs.InstrKinds.{ReportsNothingAfter}
 
 -- ---- the function of a call
 
@@ -86,7 +86,7 @@ pub record IsCallOf (m : Module) (s : Site) (i : Instr) (operands args : List Va
   pub waits : waiting_after i operands waiting ≡ call ∷ waiting
   pub args_are : call.args ≡ args
   pub piece : inserted_after s i ≡ after_call s (over_piece s call.callee) ty.results
-  pub quiet : (globals : List GlobalType) (results : List Val) (view : Store) → reported_after globals i results view ≡ []
+  pub quiet : ReportsNothingAfter i
 
 pub call_of : (m : Module) (s : Site) → s.m ≡ m → (store : Store) (frame : Frame) (next : Place) (i : Instr)
     → IsCallInstr i → (operands results : List Val) (found : Option ℕ) (wait : Frame) (func : ℕ) (args : List Val)

@@ -70,7 +70,9 @@ module _ (m : Module) (heights : Heights) (valid : IsValid m) (typed : IsTypedCo
     module _ (known : IsReady m heights meter store counts frame below waiting b bs second body) (is : IsCallInstr i)
         (core : IsCoreInstr i) (rule : IsRule exec) (long : length counts ≡ n) where
       -- the hook calls of the code before the instruction are made
-      open (reported_first.names m heights valid program other meter has pieces store counts f i rest number below waiting b bs second body known (call_no_return i is) core rule) use {t, at_instr, middle, next_there, hooked_exec, to_instr, weighs, trapped}
+      open (reported_first.names m heights valid program other meter has pieces store counts f i rest number below
+          waiting b bs second body known (call_no_return i is) core rule)
+          use {t, at_instr, middle, next_there, hooked_exec, to_instr, weighs, trapped}
 
       abbrev IsAlike : Execution → Type 0
       IsAlike x =

@@ -1,5 +1,5 @@
 -- The program of an instrumented module, under the script that the original runs under.
-use Rattle.std.proofs.Common.{◌≡◌, ℕ, ◌+◌, ◌-◌, ◌<◌, List, map, Option, Some, None, Bool, true, false, cond, nat_lt, slice_get, option_map, option_and_then, refl, ap, ◌∙◌, arith}
+use Rattle.std.proofs.Common.{◌≡◌, ℕ, ◌+◌, ◌-◌, ◌<◌, List, map, Option, Some, None, true, false, nat_lt, slice_get, option_map, option_and_then, refl, ap, ◌∙◌, arith}
 use Rattle.std.proofs.lemmas.Bool.Decides.{nat_tests}
 use Rattle.std.proofs.lemmas.Option.{slice_get_within, slice_get-map}
 use Rattle.wasm_syntax.specs.declared.signatures.FuncType.{FuncType}
@@ -16,6 +16,7 @@ use Rattle.record_replay_spec.specs.Hooks.{hooks, hook_count, hook_place, hook_f
 use Rattle.record_replay_spec.specs.HookedRuns.{renumbered_response, renumbered_answer}
 use Rattle.record_replay_spec.specs.Instrumented.{hook_types, instrumented_module}
 use Rattle.record_replay_spec.specs.HookLaws.{IndicesAreRenumbered, HooksAreAnswered, BodiesAreInstrumented, InstrumentedKeepsIndices, InstrumentedKeepIndices}
+use Rattle.record_replay_spec.proofs.Indices.{below_renumbered}
 use Rattle.instrumented_module_laws.specs.Links.{script_with_hooks}
 use Rattle.instrumented_run_laws.proofs.DefinedFunctions.{hooked_definition, hooked_defined}
 use Rattle.instrumented_run_laws.proofs.Leads as leads
@@ -89,13 +90,6 @@ renumbered_to n answers import number =
 
 -- ---- indices
 
-own_place : (n func : ℕ) → nat_lt (renumber n func) (n + 15) ≡ nat_lt func n
-own_place n func = go (nat_lt func n) refl
-  where
-    go : (b : Bool) → nat_lt func n ≡ b → nat_lt (cond b func (func + 15)) (n + 15) ≡ b
-    go true h = grind (arith, nat_tests, h)
-    go false h = grind (arith, nat_tests, h)
-
 imported_hook : (n place imported : ℕ) → place < 15 → imported ≡ n + 15 → nat_lt (n + place) imported ≡ true
 imported_hook n place imported within count = grind (arith, nat_tests, within, count)
 
@@ -125,7 +119,7 @@ module _ (renumbered : IndicesAreRenumbered) (answered : HooksAreAnswered) (m : 
       record {
         has = λ meter. record { answered = hook_answered meter; types = keeps.hook };
         imported = keeps.imports;
-        own = λ func. ap (nat_lt (renumber n func)) keeps.imports ∙ own_place n func;
+        own = λ func. ap (nat_lt (renumber n func)) keeps.imports ∙ below_renumbered n func;
         signed = λ func ty h. keeps.type_of func ty h;
         types = λ t ty h. get_more m.types hook_types t ty h;
         defined = λ func ty d signed defined. hooked_defined m func ty d signed defined digest keeps bodies;

@@ -72,18 +72,23 @@ straight_plainly n i is = record { no_call = tt; no_return = tt; same = refl }
 
 -- ---- branches, around which no code is inserted and which no hook reports
 
+-- no hook reports the results of the instruction
+abbrev pub ReportsNothingAfter : Instr → Type 0
+ReportsNothingAfter i =
+    (globals : List GlobalType) (results : List Val) (view : Store) → reported_after globals i results view ≡ []
+
 pub record IsBranchPlainly (s : Site) (i : Instr) : Type 0 where
   pub nest : (rest : Nest) → instrumented_nest s (Plain i rest) ≡ Plain i (instrumented_nest s rest)
   pub weights : (rest : Nest) → weights_of_nest s (Plain i rest) ≡ 1 ∷ weights_of_nest s rest
   pub before : (operands : List Val) (view : Store) → reported_before i operands view ≡ []
-  pub after : (globals : List GlobalType) (results : List Val) (view : Store) → reported_after globals i results view ≡ []
+  pub after : ReportsNothingAfter i
   pub waits : (operands : List Val) (waiting : List WaitingCall) → waiting_after i operands waiting ≡ waiting
 
 plainly : {s : Site} {i : Instr}
     → ((rest : Nest) → instrumented_nest s (Plain i rest) ≡ Plain i (instrumented_nest s rest))
     → ((rest : Nest) → weights_of_nest s (Plain i rest) ≡ 1 ∷ weights_of_nest s rest)
     → ((operands : List Val) (view : Store) → reported_before i operands view ≡ [])
-    → ((globals : List GlobalType) (results : List Val) (view : Store) → reported_after globals i results view ≡ [])
+    → ReportsNothingAfter i
     → ((operands : List Val) (waiting : List WaitingCall) → waiting_after i operands waiting ≡ waiting)
     → IsBranchPlainly s i
 plainly nest weights before after waits =

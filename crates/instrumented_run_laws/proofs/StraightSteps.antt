@@ -62,7 +62,9 @@ module _ (m : Module) (heights : Heights) (valid : IsValid m) (program other : P
       plainly = straight_plainly n i is
 
       -- the hook calls of the code before the instruction are made
-      open (reported_first.names m heights valid program other meter has pieces store counts f i rest number below waiting b bs second body known plainly.no_return core rule) use {t, at_instr, middle, next_there, hooked_exec, to_instr, weighs, trapped}
+      open (reported_first.names m heights valid program other meter has pieces store counts f i rest number below
+          waiting b bs second body known plainly.no_return core rule)
+          use {t, at_instr, middle, next_there, hooked_exec, to_instr, weighs, trapped}
 
       alike : straight.IsAlike n hooked (scratch_values t.scratch) next_there exec hooked_exec
       alike =

@@ -93,7 +93,9 @@ module _ (low shift left b m : ℕ) (z : ℤ) (bits : low < 2 ^ shift) (room : (
       let digit : b < 2 ^ (left - 1) = omega (arith, limit_left) in
       let next : b + 1 ≤ 2 ^ m = omega arith in
       let value : low + 2 ^ shift * b < 2 ^ 63 = omega (arith, within (b + 1) next) in
-      let is : z ≡ pos (low + 2 ^ shift * b) = e ∙ ap (to_z w64) (above low b (left - 1) shift 64 bits digit (omega arith)) ∙ to_z_pos w64 (low + 2 ^ shift * b) value in
+      let is : z ≡ pos (low + 2 ^ shift * b) =
+      e ∙ ap (to_z w64) (above low b (left - 1) shift 64 bits digit (omega arith))
+      ∙ to_z_pos w64 (low + 2 ^ shift * b) value in
       ap Some (to_z-of_z w64 z fits ∙ is)
       ∙ sym (ap (option_map (λ (high : ℤ × List ℕ). pos low +ℤ pos (2 ^ shift) *ℤ high.0)) (signed-plus left b [] (omega (arith, limit_six)) digit))
 

@@ -13,6 +13,7 @@ use Rattle.trace_model.specs.Weight.{effect_weight}
 use Rattle.record_replay_spec.specs.Known.{byte_among, last_some}
 use Rattle.record_replay_spec.specs.Needed.{effect_byte, effect_entry, effect_global, effect_pages, effect_entries}
 use Rattle.record_replay_spec.specs.LogTapes.{first_some, AreFirstFinds}
+use Rattle.record_replay_spec.proofs.OneList.{own_place}
 use Rattle.log_tape_laws.proofs.Among.{Among, AreInOrder, flat_among, flat_owner, no_more}
 use Rattle.log_tape_laws.proofs.Places.{effect_places, Precedes, in_run, run_there, one_owner, in_order, places_apart, places_count}
 
@@ -129,11 +130,6 @@ byte_place at (Bytes addr bytes) x h =
 byte_place at e x h = cc
 
 -- ---- each place that is changed is found
-
-own_place : {X : Type 0} (i : ℕ) (x : X) → cond (nat_eq i i) (Some x) None ≡ Some x
-own_place i x =
-    let p : nat_eq i i ≡ true = grind (arith, nat_tests) in
-    ap (λ b. cond b (Some x) None) p
 
 module _ (finds changes : List Effect) (are : AreFirstFinds finds changes) where
   pub ordered : AreInOrder Precedes changes

@@ -2,22 +2,19 @@
 use Rattle.std.proofs.Common.{◌≡◌, ℕ, ◌+◌, ◌<◌, List, [], ◌∷◌, ◌++◌, length, take, get_or, Option, Some, None, refl, sym, ap, ◌∙◌}
 use Rattle.std.specs.List.{cons_option}
 use Rattle.std.proofs.lemmas.List.{append-nil, take_more}
+use Rattle.wasm_syntax.proofs.JoinedLists.{cons_front}
 use Rattle.wasm_syntax.specs.declared.modules.Import.{Import}
 use Rattle.wasm_syntax.specs.declared.modules.ImportKind.{ImportKind}
 use Rattle.wasm_syntax.specs.declared.modules.ImportKind.TheVariants.{Func, Table, Memory, Global}
 use Rattle.wasm_syntax.specs.Index.{of_kind, func_import, table_import, memory_import, global_import}
 use Rattle.module_index.specs.IndexSpaces.{Spaces, spaces, imported_spaces, with_import}
 
-pub cons-append : {K : Type 0} (o : Option K) (ks ls : List K) → cons_option o (ks ++ ls) ≡ cons_option o ks ++ ls
-cons-append None ks ls = refl
-cons-append (Some k) ks ls = refl
-
 of_kind-push : {K : Type 0} (pick : ImportKind → Option K) (imports : List Import) (i : Import)
     → of_kind pick (imports ++ i ∷ []) ≡ of_kind pick imports ++ cons_option (pick i.kind) []
 of_kind-push pick [] i = refl
 of_kind-push pick (x ∷ imports) i =
     ap (cons_option (pick x.kind)) (of_kind-push pick imports i)
-    ∙ cons-append (pick x.kind) (of_kind pick imports) (cons_option (pick i.kind) [])
+    ∙ cons_front (pick x.kind) (of_kind pick imports) (cons_option (pick i.kind) [])
 
 -- nothing is added to a list
 abbrev added : {K : Type 0} → List K → Option K → List K
@@ -51,7 +48,11 @@ import-added imports n i h is =
     let here = take n imports in
     let next = take (n + 1) imports in
     sym (ap (λ l. spaces l (of_kind table_import next) (of_kind memory_import next) (of_kind global_import next)) (one-more func_import imports n i h is)
-    ∙ ap (λ l. spaces (added (of_kind func_import here) (func_import i.kind)) l (of_kind memory_import next) (of_kind global_import next)) (one-more table_import imports n i h is)
-    ∙ ap (λ l. spaces (added (of_kind func_import here) (func_import i.kind)) (added (of_kind table_import here) (table_import i.kind)) l (of_kind global_import next)) (one-more memory_import imports n i h is)
-    ∙ ap (spaces (added (of_kind func_import here) (func_import i.kind)) (added (of_kind table_import here) (table_import i.kind)) (added (of_kind memory_import here) (memory_import i.kind))) (one-more global_import imports n i h is)
+    ∙ ap (λ l. spaces (added (of_kind func_import here) (func_import i.kind)) l (of_kind memory_import next)
+    (of_kind global_import next)) (one-more table_import imports n i h is)
+    ∙ ap (λ l. spaces (added (of_kind func_import here) (func_import i.kind)) (added (of_kind table_import here)
+    (table_import i.kind)) l (of_kind global_import next)) (one-more memory_import imports n i h is)
+    ∙ ap (spaces (added (of_kind func_import here) (func_import i.kind))
+    (added (of_kind table_import here) (table_import i.kind))
+    (added (of_kind memory_import here) (memory_import i.kind))) (one-more global_import imports n i h is)
     ∙ import-split i.kind (imported_spaces here))

@@ -4,7 +4,7 @@ use Rattle.std.specs.Prelude.{filter_map, flat_map}
 use Rattle.std.specs.List.{cons_option}
 use Rattle.std.proofs.lemmas.List.{take_more, take_all, flat_map_more, length-replicate, get_or-replicate}
 use Rattle.module_index.specs.Marks.{AreMarks}
-use Rattle.module_index.proofs.IndexLemmas.{cons-append}
+use Rattle.wasm_syntax.proofs.JoinedLists.{cons_front}
 
 -- one more element
 pub done-more : {A : Type 0} (done xs : List A) (i : ℕ) (d : A) → i < length xs
@@ -22,7 +22,7 @@ flat-more f done xs i x h is =
 filter_map-push : {A B : Type 0} (f : A → Option B) (xs : List A) (x : A)
     → filter_map f (xs ++ x ∷ []) ≡ filter_map f xs ++ cons_option (f x) []
 filter_map-push f [] x = refl
-filter_map-push f (y ∷ xs) x = ap (cons_option (f y)) (filter_map-push f xs x) ∙ cons-append (f y) (filter_map f xs) (cons_option (f x) [])
+filter_map-push f (y ∷ xs) x = ap (cons_option (f y)) (filter_map-push f xs x) ∙ cons_front (f y) (filter_map f xs) (cons_option (f x) [])
 
 pub picked-more : {A B : Type 0} (f : A → Option B) (done : List B) (xs : List A) (i : ℕ) (x : A) → i < length xs
     → x ≡ get_or xs i x

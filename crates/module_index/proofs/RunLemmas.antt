@@ -16,7 +16,9 @@ use Rattle.module_index.specs.Runs.{locals_from, last_end, AreEnds, AreEndsOf, I
 pub locals_from-push : (start : ℕ) (ends : List RunEnd) (e : RunEnd)
     → locals_from start (ends ++ e ∷ []) ≡ locals_from start ends ++ replicate (e.end - last_end start ends) e.ty
 locals_from-push start [] e = append-nil (replicate (e.end - start) e.ty)
-locals_from-push start (x ∷ ends) e = ap (λ l. replicate (x.end - start) x.ty ++ l) (locals_from-push x.end ends e) ∙ sym (append_assoc (replicate (x.end - start) x.ty) (locals_from x.end ends) (replicate (e.end - last_end x.end ends) e.ty))
+locals_from-push start (x ∷ ends) e =
+    ap (λ l. replicate (x.end - start) x.ty ++ l) (locals_from-push x.end ends e) ∙ sym (append_assoc
+    (replicate (x.end - start) x.ty) (locals_from x.end ends) (replicate (e.end - last_end x.end ends) e.ty))
 
 pub last_end-push : (start : ℕ) (ends : List RunEnd) (e : RunEnd) → last_end start (ends ++ e ∷ []) ≡ e.end
 last_end-push start [] e = refl
@@ -87,7 +89,8 @@ run-over start (e ∷ ends) place zero h low before behind =
 run-over start (e ∷ ends) place (suc at) h low before behind =
     let passed : e.end ≤ place = before 0 e (omega arith) (omega arith) in
     let first : start ≤ e.end = h.0 in
-    run-over e.end ends place at h.1 passed (λ k d lt le. before (suc k) d (omega arith) (omega arith)) (λ k d le lt. behind (suc k) d (omega arith) (omega arith))
+    run-over e.end ends place at h.1 passed (λ k d lt le. before (suc k) d (omega arith) (omega arith))
+    (λ k d le lt. behind (suc k) d (omega arith) (omega arith))
     ∙ ap (slice_get (locals_from e.end ends)) (omega (arith, length-replicate (e.end - start) e.ty))
     ∙ sym (get_after (replicate (e.end - start) e.ty) (locals_from e.end ends) (place - start) (omega (arith, length-replicate (e.end - start) e.ty)))
 
@@ -102,10 +105,13 @@ pub kept-and_rest : (params : List ValType) (ends : List RunEnd) (count : ℕ) (
     → AreEndsOf ends count runs
     → params ++ (locals_from 0 ends ++ each_local (take (length runs - count) (drop count runs))) ≡ params ++ each_local runs
 kept-and_rest params ends count runs h =
-    let rest : take (length runs - count) (drop count runs) ≡ drop count runs = take_all (length runs - count) (drop count runs) (omega (arith, length-drop count runs)) in
+    let rest : take (length runs - count) (drop count runs) ≡ drop count runs =
+    take_all (length runs - count) (drop count runs) (omega (arith, length-drop count runs)) in
     ap (λ l. params ++ (locals_from 0 ends ++ each_local l)) rest
     ∙ ap (λ l. params ++ (l ++ each_local (drop count runs))) h.each
-    ∙ ap (λ l. params ++ l) (sym (flat_map-append (λ (run : Run). replicate run.count run.ty) (take count runs) (drop count runs)) ∙ ap each_local (take-append-drop count runs))
+    ∙ ap (λ l. params ++ l)
+    (sym (flat_map-append (λ (run : Run). replicate run.count run.ty) (take count runs) (drop count runs))
+    ∙ ap each_local (take-append-drop count runs))
 
 -- a local after the parameters
 pub local-after : (params : List ValType) (ends : List RunEnd) (rest : List Run) (index place : ℕ)

@@ -6,11 +6,11 @@ ghost use Rattle.wasm_syntax.specs.Index.{func_indices, imported_globals};
 ghost use Rattle.wasm_syntax.specs.Validity.{IsValid};
 ghost use Rattle.type_safety.specs.Supplies.{IsSupply};
 ghost use Rattle.history_spec.specs.Instantiation as history;
+ghost use Rattle.replay_module_spec.specs.Fits.{FitsModule};
 ghost use Rattle.replay_module_spec.specs.Merge.{layout_section, memory_written, replay_module};
 ghost use Rattle.module_merge.specs.Offsets.{HaveOffsets};
 ghost use Rattle.module_merge.specs.Parts.{kept_globals, module_of_parts, module_of_sections};
 ghost use Rattle.replay_module_laws.specs.Laws.{StatesMaximum};
-ghost use Rattle.module_merge.specs.Generated.{IsGenerated};
 
 use crate::globals::kept_globals;
 use crate::lists::concat;
@@ -20,7 +20,7 @@ use base::NoMemory;
 use host_script::Supply;
 use instantiation_parts::{memory_limits, table_limits};
 use module_index::scope::Scope;
-use replay_module_laws::replay_modules_of_tapes_are_valid;
+use replay_module_laws::replay_modules_of_fragments_are_valid;
 use replay_module_spec::Fragment;
 use std::alloc::Global;
 use wasm_syntax::{
@@ -52,8 +52,8 @@ pub(crate) struct Outline {
     customs: Customs,
 }
 
-/// The replay module of a module, of a supply for its imports and of the generated part of a tape that fits the
-/// module. It is valid. The parts of the original and the generated part are moved and not copied.
+/// The replay module of a module, of a supply for its imports and of a generated part that fits the module, from
+/// whatever it was generated. It is valid. The parts of the original and the generated part are moved and not copied.
 ///
 /// # Errors
 ///
@@ -65,11 +65,11 @@ pub fn merge(
     fragment: Fragment,
 ) -> Result<Checked, NoMemory>
     requires supplied { IsSupply «module» supply.now }
-    requires generated { IsGenerated «module» fragment }
+    requires fits { FitsModule «module» fragment }
     requires few { length (func_indices «module») < 2 ^ 32 }
     ensures { IfOk result (λ merged. merged ≡ replay_module «module» supply.now fragment) }
 {
-    replay_modules_of_tapes_are_valid();
+    replay_modules_of_fragments_are_valid();
     know_maximum(supply.table);
     let merged = merged_module(alloc, module.into_module(), supply, fragment)?;
     Ok(Checked::new(merged))

@@ -16,7 +16,8 @@ module _ {X V Q : Type 0} (value : X → V) (test : Q → X → Bool) where
   passed L xs i x lt is there q = rw (drop_at_item xs i x lt is) (by (test q x) (L q) (there q))
     where
       by : (b : Bool) (l : Option V) → (b ≡ true → is_some l ≡ true)
-          → option_or l (option_map value (cond b (Some x) (find (test q) (drop (i + 1) xs)))) ≡ option_or l (option_map value (find (test q) (drop (i + 1) xs)))
+          → option_or l (option_map value (cond b (Some x) (find (test q) (drop (i + 1) xs))))
+          ≡ option_or l (option_map value (find (test q) (drop (i + 1) xs)))
       by b (Some v) h = refl
       by true None h = cc (h refl)
       by false None h = refl
@@ -29,6 +30,7 @@ module _ {X V Q : Type 0} (value : X → V) (test : Q → X → Bool) where
   added L M xs i x lt is none new q = rw (drop_at_item xs i x lt is, new q) (by (test q x) (L q) (none q))
     where
       by : (b : Bool) (l : Option V) → (b ≡ true → l ≡ None)
-          → option_or (cond b (Some (value x)) l) (option_map value (find (test q) (drop (i + 1) xs))) ≡ option_or l (option_map value (cond b (Some x) (find (test q) (drop (i + 1) xs))))
+          → option_or (cond b (Some (value x)) l) (option_map value (find (test q) (drop (i + 1) xs)))
+          ≡ option_or l (option_map value (cond b (Some x) (find (test q) (drop (i + 1) xs))))
       by true l h = rw (h refl) refl
       by false l h = refl

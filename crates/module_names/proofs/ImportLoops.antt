@@ -26,7 +26,7 @@ grows imports i x lt is =
 
 -- ---- modules
 
-with_module : (b l : Bool) → cond b true l ≡ (l || (b || false))
+pub with_module : (b l : Bool) → cond b true l ≡ (l || (b || false))
 with_module true true = refl
 with_module true false = refl
 with_module false true = refl
@@ -36,7 +36,8 @@ pub module_added : (from key : List ℕ) (imports : List (Bor Import)) (i : ℕ)
     → i < length imports → x ≡ get_or imports i x → key ≡ x.now.«module»
     → was ≡ list_any (is_from from) (seen imports i) → now ≡ cond (bytes_eq key from) true was → now ≡ list_any (is_from from) (seen imports (i + 1))
 module_added from key imports i x was now lt is named so_far new =
-    rw (grows imports i x lt is, list_any-append (is_from from) (seen imports i) (x.now ∷ []), new, named, so_far) (with_module (bytes_eq x.now.«module» from) (list_any (is_from from) (seen imports i)))
+    rw (grows imports i x lt is, list_any-append (is_from from) (seen imports i) (x.now ∷ []), new, named, so_far)
+    (with_module (bytes_eq x.now.«module» from) (list_any (is_from from) (seen imports i)))
 
 -- ---- places
 
@@ -45,14 +46,19 @@ place_last : (place : ℕ) (imports : List Import) (import : Import)
 place_last place imports import = omega arith
 
 first_named-append : (from name : List ℕ) (place : ℕ) (imports : List Import) (x : Import)
-    → first_named from name place (imports ++ x ∷ []) ≡ option_or (first_named from name place imports) (cond (is_named from name x) (Some (place + length imports)) None)
+    → first_named from name place (imports ++ x ∷ [])
+    ≡ option_or (first_named from name place imports) (cond (is_named from name x) (Some (place + length imports)) None)
 first_named-append from name place [] x = rw (add-zero place) refl
-first_named-append from name place (import ∷ imports) x = by (is_named from name import) (rw (place_last place imports import) (first_named-append from name (place + 1) imports x))
+first_named-append from name place (import ∷ imports) x =
+    by (is_named from name import)
+    (rw (place_last place imports import) (first_named-append from name (place + 1) imports x))
   where
     by : (b : Bool)
-        → first_named from name (place + 1) (imports ++ x ∷ []) ≡ option_or (first_named from name (place + 1) imports) (cond (is_named from name x) (Some (place + length (import ∷ imports))) None)
+        → first_named from name (place + 1) (imports ++ x ∷ []) ≡ option_or (first_named from name (place + 1) imports)
+        (cond (is_named from name x) (Some (place + length (import ∷ imports))) None)
         → cond b (Some place) (first_named from name (place + 1) (imports ++ x ∷ []))
-        ≡ option_or (cond b (Some place) (first_named from name (place + 1) imports)) (cond (is_named from name x) (Some (place + length (import ∷ imports))) None)
+        ≡ option_or (cond b (Some place) (first_named from name (place + 1) imports))
+        (cond (is_named from name x) (Some (place + length (import ∷ imports))) None)
     by true h = refl
     by false h = h
 
@@ -74,7 +80,9 @@ next_place : (from name : List ℕ) (imports : List (Bor Import)) (i : ℕ) (x :
 next_place from name imports i x lt is =
     let le : i ≤ length imports = omega arith in
     let e = first_named-append from name 0 (seen imports i) x.now in
-    rw (grows imports i x lt is) (e ∙ ap (λ n. option_or (first_named from name 0 (seen imports i)) (cond (is_named from name x.now) (Some n) None)) (length-seen imports i le))
+    rw (grows imports i x lt is)
+    (e ∙ ap (λ n. option_or (first_named from name 0 (seen imports i)) (cond (is_named from name x.now) (Some n) None))
+    (length-seen imports i le))
 
 -- a place that is in the index already
 pub place_kept : (from name : List ℕ) (imports : List (Bor Import)) (i : ℕ) (x : Bor Import)
@@ -128,20 +136,31 @@ one_option (Some a) = refl
 
 type_next : (m : Module) (from name : List ℕ) (imports : List Import) (x : Import)
     → types_if_any m from name (imports ++ x ∷ [])
-    ≡ cond (is_named from name x) (Some (unwrap_or (types_if_any m from name imports) [] ++ option_to_list (import_type m x))) (types_if_any m from name imports)
+    ≡ cond (is_named from name x)
+    (Some (unwrap_or (types_if_any m from name imports) [] ++ option_to_list (import_type m x)))
+    (types_if_any m from name imports)
 type_next m from name imports x =
-    rw (list_any-append (is_named from name) imports (x ∷ []), filter-append (is_named from name) imports (x ∷ []), filter_map-append (import_type m) (filter (is_named from name) imports) (filter (is_named from name) (x ∷ [])))
+    rw (
+      list_any-append (is_named from name) imports (x ∷ []),
+      filter-append (is_named from name) imports (x ∷ []),
+      filter_map-append (import_type m) (filter (is_named from name) imports) (filter (is_named from name) (x ∷ [])),
+    )
     (by (is_named from name x) (list_any (is_named from name) imports) (import_type m x) (none_named (is_named from name) imports))
   where
     by : (b l : Bool) (ty : Option FuncType) → (l ≡ false → filter (is_named from name) imports ≡ [])
-        → cond (l || (b || false)) (Some (filter_map (import_type m) (filter (is_named from name) imports) ++ filter_map (import_type m) (cond b (x ∷ []) []))) None
-        ≡ cond b (Some (unwrap_or (cond l (Some (filter_map (import_type m) (filter (is_named from name) imports))) None) [] ++ option_to_list (import_type m x))) (cond l (Some (filter_map (import_type m) (filter (is_named from name) imports))) None)
+        → cond (l || (b || false)) (Some (filter_map (import_type m) (filter (is_named from name) imports)
+        ++ filter_map (import_type m) (cond b (x ∷ []) []))) None
+        ≡ cond b
+        (Some (unwrap_or (cond l (Some (filter_map (import_type m) (filter (is_named from name) imports))) None) []
+        ++ option_to_list (import_type m x)))
+        (cond l (Some (filter_map (import_type m) (filter (is_named from name) imports))) None)
     by true true ty h = rw (one_option (import_type m x)) refl
     by true false ty h = rw (h refl, one_option (import_type m x)) refl
     by false true ty h = ap Some (append-nil _)
     by false false ty h = refl
 
-pub type_added : (m : Module) (from name : List ℕ) (imports : List (Bor Import)) (i : ℕ) (x : Bor Import) (was now : Option (List FuncType)) (ty : Option FuncType)
+pub type_added : (m : Module) (from name : List ℕ) (imports : List (Bor Import)) (i : ℕ) (x : Bor Import)
+    (was now : Option (List FuncType)) (ty : Option FuncType)
     → i < length imports → x ≡ get_or imports i x → ty ≡ import_type m x.now
     → was ≡ types_if_any m from name (seen imports i)
     → now ≡ cond (is_named from name x.now) (Some (unwrap_or was [] ++ option_to_list ty)) was
@@ -158,7 +177,9 @@ pub type_put_back : (old middle new : Types) (x : Import) (found : Vec (Bor Func
 type_put_back old middle new x found ty took put grown = record {
   adds = λ from name.
       ap (option_map (λ types. map (λ t. t.now) types.items)) (put from name ∙ ap (cond (is_named from name x) (Some found)) (took from name))
-      ∙ by from name (is_named from name x) (λ h. let n = same_names from name x h in grown ∙ ap (λ f. unwrap_or (types_of f x.name old) [] ++ option_to_list ty) n.0 ∙ ap (λ k. unwrap_or (types_of from k old) [] ++ option_to_list ty) n.1);
+      ∙ by from name (is_named from name x) (λ h. let n = same_names from name x h in grown
+      ∙ ap (λ f. unwrap_or (types_of f x.name old) [] ++ option_to_list ty) n.0
+      ∙ ap (λ k. unwrap_or (types_of from k old) [] ++ option_to_list ty) n.1);
 }
   where
     by : (from name : List ℕ) (b : Bool)
@@ -190,6 +211,7 @@ pub types_or_none : (m : Module) (from name : List ℕ) (imports : List Import)
 types_or_none m from name imports = by (list_any (is_named from name) imports) (none_named (is_named from name) imports)
   where
     by : (b : Bool) → (b ≡ false → filter (is_named from name) imports ≡ [])
-        → unwrap_or (cond b (Some (filter_map (import_type m) (filter (is_named from name) imports))) None) [] ≡ filter_map (import_type m) (filter (is_named from name) imports)
+        → unwrap_or (cond b (Some (filter_map (import_type m) (filter (is_named from name) imports))) None) []
+        ≡ filter_map (import_type m) (filter (is_named from name) imports)
     by true h = refl
     by false h = rw (h refl) refl

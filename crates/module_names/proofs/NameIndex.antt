@@ -33,5 +33,6 @@ module _ {X V : Type 0} (value : X → V) (name : X → List ℕ) where
       → ((r : Bor (List ℕ)) → at more r.now ≡ cond (bytes_eq key r.now) (Some (value x)) (at es r.now))
       → (q : List ℕ) → so_far more (drop (i + 1) xs) q ≡ so_far es (drop i xs) q
   adds es more xs i x key named lt is none new q =
-      added value has_name (at es) (at more) xs i x lt is (λ r h. subst (λ n. at es n ≡ None) (named ∙ (bytes_eq-Decides (name x) r).0 h) (is_none (at es key) none))
+      added value has_name (at es) (at more) xs i x lt is
+      (λ r h. subst (λ n. at es n ≡ None) (named ∙ (bytes_eq-Decides (name x) r).0 h) (is_none (at es key) none))
       (λ r. subst (λ n. at more r ≡ cond (bytes_eq n r) (Some (value x)) (at es r)) named (new (record { ref_ptr = (0, 0); now = r }))) q

@@ -28,7 +28,8 @@ module _ {K : Type 0} (pick : ImportKind → Option K) where
       by : (i : ℕ) (k : Option K) → pick x.kind ≡ k
           →
           ((j : ℕ) → slice_get (of_kind pick xs) j ≡ option_and_then (λ y. pick y.kind) (slice_get (filter (is_kind pick) xs) j))
-          → slice_get (cons_option k (of_kind pick xs)) i ≡ option_and_then (λ y. pick y.kind) (slice_get (cond (is_some k) (x ∷ filter (is_kind pick) xs) (filter (is_kind pick) xs)) i)
+          → slice_get (cons_option k (of_kind pick xs)) i ≡ option_and_then (λ y. pick y.kind)
+          (slice_get (cond (is_some k) (x ∷ filter (is_kind pick) xs) (filter (is_kind pick) xs)) i)
       by i None e h = h i
       by zero (Some k) e h = sym e
       by (suc i) (Some k) e h = h i

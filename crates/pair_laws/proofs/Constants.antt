@@ -20,10 +20,12 @@ use Rattle.wasm_syntax.specs.declared.modules.ElemSeg.TheVariants.{Active, Decla
 use Rattle.wasm_syntax.specs.declared.modules.DataSeg.{DataSeg}
 use Rattle.wasm_syntax.specs.Index.{of_kind, global_import, imported_globals}
 use Rattle.wasm_syntax.specs.Validity.{IsConstant, IsData, IsElem, IsGlobal, IsValid, constant_type, immutable_type, single}
+use Rattle.wasm_syntax.proofs.JoinedLists.{kinds_append}
+use Rattle.wasm_syntax.proofs.ValidParts.{single_is}
 use Rattle.host_script.specs.declared.scripts.Script.{Script}
 use Rattle.host_script.specs.declared.scripts.Supply.{Supply}
-use Rattle.host_script.specs.declared.scripts.LinkFault.{LinkFault}
-use Rattle.host_script.specs.Supply.{ImportMatch, Nothing, Unlike, Alike, fault_or, first_fault, given_values, globals_in, import_match, match_of_value, supply_unless}
+use Rattle.host_script.specs.Supply.{Alike, first_fault, given_values, globals_in, import_match, match_of_value}
+use Rattle.host_script.proofs.Faults.{no_fault, no_link_fault}
 use Rattle.history_spec.specs.Code.{zero_of}
 use Rattle.history_spec.specs.Instantiation.{constant}
 use Rattle.instance_spec.specs.declared.sides.Side.{Side}
@@ -38,17 +40,10 @@ use Rattle.pair_spec.specs.Linked.{constant_by, linked_constant}
 use Rattle.pair_spec.specs.Faults.{is_one_const}
 use Rattle.pair_laws.specs.Laws.{AreLinkable}
 use Rattle.pair_laws.proofs.Lists.{index_there, one_by_one, passed_at}
-use Rattle.instance_laws.proofs.WidenedParts.{kinds_append}
 use Rattle.pair_laws.proofs.Imports.{is_global, hosts_counted, global_at}
 use Rattle.pair_laws.proofs.Chains.{IsHost, HasValue, IsKnown, globals_known}
 
 -- ---- values of the host
-
-no_fault : (s : ImportMatch) (at : ℕ) (later : Option LinkFault) → fault_or s at later ≡ None
-    → (s ≡ Alike) × (later ≡ None)
-no_fault Nothing at later h = cc
-no_fault Unlike at later h = cc
-no_fault Alike at later h = (refl, h)
 
 -- a value is given
 abbrev IsGiven : List (Option Val) → ℕ → Type 0
@@ -94,16 +89,7 @@ given_at (None ∷ given) k each = let none = (each 0 (omega arith)).1 in cc
 given_at (Some value ∷ given) zero each = (value, refl)
 given_at (Some value ∷ given) (suc k) each = given_at given k (λ j low. each (suc j) (omega (arith, low)))
 
-no_link_fault : (o : Option LinkFault) (made supply : Supply) → supply_unless o made ≡ Ok supply
-    → (o ≡ None) × (made ≡ supply)
-no_link_fault None made supply h = (refl, cc)
-no_link_fault (Some fault) made supply h = cc
-
 -- ---- constant expressions
-
-pub single_is : (body : List Instr) (i : Instr) → single body ≡ Some i → body ≡ i ∷ End ∷ []
-single_is (j ∷ End ∷ []) i h = let same : j ≡ i = cc in ap (λ k. k ∷ End ∷ []) same
-single_is body i h = cc
 
 const_alike : (imported : List Val) (z : Val) (body : List Instr) → is_one_const body ≡ true
     → constant imported z body ≡ constant [] (zero_of I32) body

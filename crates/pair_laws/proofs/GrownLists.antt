@@ -1,12 +1,11 @@
 -- How many bytes numbers take, and lists whose items take at most four times as many bytes as those of another.
-use Rattle.std.proofs.Common.{◌≡◌, ℕ, zero, suc, ◌+◌, ◌*◌, ◌/◌, ◌^◌, ◌<◌, ◌≤◌, List, [], ◌∷◌, ◌++◌, map, filter, length, Bool, true, false, cond, All, ap, inl, inr, arith, length-append, ℤ}
+use Rattle.std.proofs.Common.{◌≡◌, ℕ, suc, ◌+◌, ◌*◌, ◌/◌, ◌^◌, ◌<◌, ◌≤◌, List, [], ◌∷◌, ◌++◌, map, filter, length, Bool, true, false, cond, All, ap, inl, inr, arith, length-append}
 use Rattle.std.proofs.lemmas.Bool.{cases_lt}
 use Rattle.std.proofs.lemmas.Bool.Decides.{nat_tests}
 use Rattle.std.proofs.lemmas.List.{length-map}
 use Rattle.std.proofs.lemmas.List.Elements.{All-head, All-tail}
 use Rattle.std.proofs.lemmas.List.Folds.{flat_map-map}
 use Rattle.leb_bytes.specs.Unsigned.{unsigned_bytes, u32_bytes}
-use Rattle.leb_bytes.specs.Signed.{signed_bytes, fits_seven_bits, high_bits, low_bits}
 use Rattle.wasm_syntax.specs.Encoding.Sections.{Section}
 use Rattle.wasm_syntax.specs.Encoding.Shortest.{content_bytes, section_bytes, unless_empty, vector_bytes}
 use Rattle.wasm_syntax.proofs.ItemLists.{items, items_append, items_cons, items_nil, list_least, sized_length, vector_length, IsVectorOf}
@@ -32,16 +31,6 @@ pub u32_few : (n : ℕ) → n < 2 ^ 28 → length (u32_bytes n) ≤ 4
 unfolding u32_bytes
 u32_few n low =
     byte_more 3 (2 ^ 21) 3 (byte_more 2 (2 ^ 14) 2 (byte_more 1 (2 ^ 7) 1 one_byte)) n (omega (arith, low))
-
-pub signed_most : (more : ℕ) (z : ℤ) → length (signed_bytes more z) ≤ more + 1
-unfolding signed_bytes
-signed_most zero z = omega arith
-signed_most (suc more) z = by (fits_seven_bits z) (signed_most more (high_bits z))
-  where
-    by : (b : Bool) → length (signed_bytes more (high_bits z)) ≤ more + 1
-        → length (cond b (low_bits z ∷ []) ((low_bits z + 2 ^ 7) ∷ signed_bytes more (high_bits z))) ≤ suc more + 1
-    by true rest = omega arith
-    by false rest = omega (arith, rest)
 
 -- ---- lists
 

@@ -15,6 +15,7 @@ use Rattle.wasm_syntax.specs.declared.modules.Import.{Import}
 use Rattle.wasm_syntax.specs.declared.modules.ImportKind.{ImportKind}
 use Rattle.wasm_syntax.specs.Index.{of_kind, table_import, memory_import, all_memories, all_tables, imported_funcs}
 use Rattle.wasm_syntax.specs.Profile.{Refusal, Reserved, Unsupported, count_of_locals, is_numbered, max_locals, past, quantities_past, refusals, refused_feature, refused_in, refused_instructions, reserved_import, reserved_imports}
+use Rattle.wasm_syntax.proofs.JoinedLists.{nil_option, nil_option_of, both_parts}
 use Rattle.instance_spec.specs.declared.sides.Side.{Side}
 use Rattle.instance_spec.specs.declared.sides.Side.TheVariants.{Left, Right}
 use Rattle.instance_spec.specs.Instances.{Instance, resolved_instr}
@@ -22,7 +23,7 @@ use Rattle.pair_spec.specs.Pairs.{ModulePair, module_of, is_from_other, host_imp
 use Rattle.pair_spec.specs.Numbers.{side_instance}
 use Rattle.pair_spec.specs.Linked.{linked, linked_func, linked_import}
 use Rattle.pair_laws.specs.LinkedLaws.{LinkedAreAccepted, LinkedAreSupported, LinkedAreValid}
-use Rattle.instance_laws.proofs.WidenedAccepted.{locals_past, memories_past, named, nil_option, nil_option_of, tables_past, types_past}
+use Rattle.instance_laws.proofs.WidenedAccepted.{locals_past, memories_past, named, tables_past, types_past}
 use Rattle.instance_laws.proofs.WidenedEncodable.{mapped_all}
 use Rattle.pair_laws.proofs.Lists.{filtered_all}
 use Rattle.pair_laws.proofs.LinkedSpaces.{kept, memories_whole, tables_whole}
@@ -169,11 +170,6 @@ kinds_among {K = K} P pick test (first ∷ imports) all = by (pick first.kind) (
         (all.0, later all.1)
     by (Some k) false is all later = later all.1
 
-split_all : {A : Type 0} (P : A → Type 0) (xs ys : List A) → AllByRecursion P (xs ++ ys)
-    → AllByRecursion P xs × AllByRecursion P ys
-split_all P [] ys all = (tt, all)
-split_all P (x ∷ xs) ys all = let rest = split_all P xs ys all.1 in ((all.0, rest.0), rest.1)
-
 abbrev IsUnreserved : Import → Type 0
 IsUnreserved i = bytes_eq i.«module» (codes "r3") ≡ false
 
@@ -234,8 +230,8 @@ module _ (pair : ModulePair) where
       ++ map (kept Right) (of_kind pick (host_imports Right pair.right.imports)))
       ++ (map (kept Left) (own pair.left) ++ map (kept Right) (own pair.right)))
   limits_all P pick own left right =
-      let l = split_all P (of_kind pick pair.left.imports) (own pair.left) left in
-      let r = split_all P (of_kind pick pair.right.imports) (own pair.right) right in
+      let l = both_parts P (of_kind pick pair.left.imports) (own pair.left) left in
+      let r = both_parts P (of_kind pick pair.right.imports) (own pair.right) right in
       joined_all P _ _
       (joined_all P _ _
       (kept_all P Left _ (kinds_among P pick (λ i. not (is_from_other Left i)) pair.left.imports l.0))

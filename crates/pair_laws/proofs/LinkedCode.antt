@@ -9,6 +9,7 @@ use Rattle.wasm_syntax.specs.declared.modules.Func.{Func}
 use Rattle.wasm_syntax.specs.Nest.{nest_of}
 use Rattle.wasm_syntax.specs.Validity.{each_local}
 use Rattle.wasm_syntax.specs.Index.{of_kind, func_import, func_indices, imported_funcs}
+use Rattle.wasm_syntax.proofs.JoinedLists.{kinds_append}
 use Rattle.host_script.specs.declared.scripts.Script.{Script}
 use Rattle.history_spec.specs.Code.{Definition, definition, definition_of}
 use Rattle.history_spec.specs.Run.{program_of}
@@ -22,7 +23,6 @@ use Rattle.pair_spec.specs.Pairs.{ModulePair, host_imports, Funcs}
 use Rattle.pair_spec.specs.Numbers.{all_hosts, side_instance}
 use Rattle.pair_spec.specs.PairRuns.{host_types, pair_code, pair_world}
 use Rattle.pair_spec.specs.Linked.{linked_import, linked_func, linked}
-use Rattle.instance_laws.proofs.WidenedParts.{kinds_append}
 use Rattle.instance_laws.proofs.WidenedRuns.{nest_renamed}
 use Rattle.pair_laws.proofs.Imports.{funcs_linked, is_func, hosts_counted}
 

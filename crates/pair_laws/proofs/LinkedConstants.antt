@@ -12,6 +12,7 @@ use Rattle.wasm_syntax.specs.declared.modules.Module.{Module}
 use Rattle.wasm_syntax.specs.declared.modules.Global.{Global}
 use Rattle.wasm_syntax.specs.Index.{imported_globals, all_globals}
 use Rattle.wasm_syntax.specs.Validity.{IsConstant, IsGlobal, constant_type, immutable_type, single}
+use Rattle.wasm_syntax.proofs.ValidParts.{single_is}
 use Rattle.instance_spec.specs.declared.sides.Side.{Side}
 use Rattle.pair_spec.specs.Pairs.{ModulePair, module_of, Globals, imports_in}
 use Rattle.pair_spec.specs.Chains.{ChainEnd, Defined, HostImport, end_module, end_index, end_of}
@@ -21,7 +22,7 @@ use Rattle.pair_spec.specs.Linked.{constant_by, linked_constant, linked}
 use Rattle.pair_spec.specs.Faults.{is_one_const}
 use Rattle.pair_laws.specs.Laws.{AreLinkable}
 use Rattle.pair_laws.proofs.Chains.{IsEnd, HasValue, globals_known}
-use Rattle.pair_laws.proofs.Constants.{hosts_whole, number_low, single_is, valid_side}
+use Rattle.pair_laws.proofs.Constants.{hosts_whole, number_low, valid_side}
 use Rattle.pair_laws.proofs.LinkedItems.{at_end, own_item}
 use Rattle.pair_laws.proofs.LinkedSpaces.{global_space, global_found, globals_whole, imported_globals_whole, kept}
 

@@ -31,6 +31,7 @@ use Rattle.wasm_syntax.specs.Encoding.Laws.{CoreIsInReplay}
 use Rattle.wasm_syntax.specs.Index.{func_indices, all_globals}
 use Rattle.wasm_syntax.specs.Nest.{Plain, Empty}
 use Rattle.wasm_syntax.specs.Validity.{IsConstant, IsData, IsElem, IsGlobal, IsValid}
+use Rattle.wasm_syntax.proofs.ValidParts.{each_ascii}
 use Rattle.instance_spec.specs.declared.sides.Side.{Side}
 use Rattle.instance_spec.specs.declared.sides.Side.TheVariants.{Left, Right}
 use Rattle.instance_spec.specs.Instances.{Instance, moved_up, resolved_instr}
@@ -45,7 +46,7 @@ use Rattle.pair_spec.specs.Linked.{constant_by, linked, linked_constant, linked_
 use Rattle.pair_spec.specs.Faults.{is_one_const}
 use Rattle.pair_laws.specs.Laws.{AreLinkable}
 use Rattle.pair_laws.specs.LinkedLaws.{HaveFewItems, LinkedAreEncodable}
-use Rattle.instance_laws.proofs.WidenedEncodable.{each_ascii, mapped_all, replay_form}
+use Rattle.instance_laws.proofs.WidenedEncodable.{mapped_all, replay_form}
 use Rattle.pair_laws.proofs.Lists.{filtered_all}
 use Rattle.pair_laws.proofs.Chains.{HasValue}
 use Rattle.pair_laws.proofs.Constants.{constant_becomes, number_low, valid_side}

@@ -1,12 +1,10 @@
 -- How many bytes the parts of a linked module take in its shortest encoding: a part of a side takes at most four times
 -- as many as before. An index takes at most five, and at most four if it is that of one of few.
 use Rattle.std.proofs.Common.{◌≡◌, ℕ, ◌+◌, ◌*◌, ◌^◌, ◌<◌, ◌≤◌, List, [], ◌∷◌, ◌++◌, map, length, Some, true, not, refl, arith, length-append}
-use Rattle.std.specs.Int.{w32, w64, cast_signed}
 use Rattle.leb_bytes.specs.Unsigned.{unsigned_bytes, u32_bytes}
-use Rattle.leb_bytes.specs.Signed.{s64_bytes, i32_bytes, i64_bytes}
 use Rattle.base.specs.declared.marks.TheConstants.{ELEMENT_DECLARED, ELEMENT_FUNCS}
 use Rattle.wasm_syntax.specs.declared.values.ValType.{ValType}
-use Rattle.wasm_syntax.specs.declared.values.ValType.TheVariants.{I32, I64, F32, F64, FuncRef}
+use Rattle.wasm_syntax.specs.declared.values.ValType.TheVariants.{I32}
 use Rattle.wasm_syntax.specs.declared.instructions.Instr.{Instr}
 use Rattle.wasm_syntax.specs.declared.instructions.Instr.TheVariants.{Call, CallIndirect, Const, End, GlobalGet, GlobalSet, RefFunc}
 use Rattle.wasm_syntax.specs.declared.modules.Module.{Module}
@@ -23,9 +21,9 @@ use Rattle.wasm_syntax.specs.declared.modules.ElemSeg.TheVariants.{Active, Decla
 use Rattle.wasm_syntax.specs.declared.modules.DataSeg.{DataSeg}
 use Rattle.wasm_syntax.specs.Encoding.Modules.{code_of}
 use Rattle.wasm_syntax.specs.Encoding.Sections.{export_index}
-use Rattle.wasm_syntax.specs.Encoding.Shortest.{body_bytes, code_bytes, const_bytes, data_bytes, elem_bytes, export_bytes, export_kind_bytes, global_bytes, global_type_bytes, import_bytes, import_kind_bytes, instr_bytes, run_bytes, sized_bytes, vector_bytes}
+use Rattle.wasm_syntax.specs.Encoding.Shortest.{body_bytes, code_bytes, data_bytes, elem_bytes, export_bytes, export_kind_bytes, global_bytes, global_type_bytes, import_bytes, import_kind_bytes, instr_bytes, run_bytes, sized_bytes, vector_bytes}
 use Rattle.wasm_syntax.specs.Validity.{AreFuncs, IsConstant, IsData, IsDeclaredFunc, IsElem, IsGlobal, IsThere, IsValid}
-use Rattle.wasm_syntax.proofs.ItemLists.{items_as, sized_length, u32_most, vector_length}
+use Rattle.wasm_syntax.proofs.ItemLists.{items_as, sized_length, u32_most, vector_length, const_most}
 use Rattle.wasm_syntax.proofs.Encoding.Writing.{u32_rise, u32_some, u32_sum}
 use Rattle.instance_spec.specs.declared.sides.Side.{Side}
 use Rattle.instance_spec.specs.declared.sides.Side.TheVariants.{Left, Right}
@@ -41,7 +39,7 @@ use Rattle.pair_laws.proofs.Lists.{filter_fewer}
 use Rattle.pair_laws.proofs.Chains.{HasValue}
 use Rattle.pair_laws.proofs.Constants.{constant_becomes, valid_side}
 use Rattle.pair_laws.proofs.LinkedEncodable.{func_low, global_low}
-use Rattle.pair_laws.proofs.GrownLists.{HasGrown, items_filter, made_grown, map_grown, signed_most, u32_few, vector_grown}
+use Rattle.pair_laws.proofs.GrownLists.{HasGrown, items_filter, made_grown, map_grown, u32_few, vector_grown}
 
 four_times : (n : ℕ) → n ≤ 4 * n
 four_times n = omega arith
@@ -128,14 +126,6 @@ module _ (i : Instance) where
       }
 
 -- ---- constant expressions
-
-const_most : (ty : ValType) (bits : ℕ) → length (const_bytes ty bits) ≤ 11
-unfolding const_bytes i32_bytes i64_bytes s64_bytes
-const_most I32 bits = omega (arith, signed_most 9 (cast_signed w32 bits))
-const_most I64 bits = omega (arith, signed_most 9 (cast_signed w64 bits))
-const_most F32 bits = omega arith
-const_most F64 bits = omega arith
-const_most FuncRef bits = omega arith
 
 end_length : length (body_bytes (End ∷ [])) ≡ 1
 unfolding instr_bytes

@@ -18,6 +18,7 @@ use Rattle.wasm_syntax.specs.declared.modules.Import.{Import}
 use Rattle.wasm_syntax.specs.declared.modules.ImportKind.{ImportKind}
 use Rattle.wasm_syntax.specs.declared.modules.ImportKind.TheVariants as import
 use Rattle.wasm_syntax.specs.Index.{of_kind, func_import, table_import, memory_import, global_import, func_indices, type_at, func_type, all_tables, all_memories, imported_globals, all_globals}
+use Rattle.wasm_syntax.proofs.JoinedLists.{kinds_append}
 use Rattle.instance_spec.specs.declared.sides.Side.{Side}
 use Rattle.instance_spec.specs.declared.sides.Side.TheVariants.{Left, Right}
 use Rattle.instance_spec.specs.Instances.{moved_up}
@@ -27,7 +28,6 @@ use Rattle.pair_spec.specs.Numbers.{number_of, no_number, numbers_in, number_at,
 use Rattle.pair_spec.specs.PairRuns.{pair_hosts}
 use Rattle.pair_spec.specs.Linked.{linked_import, linked_func, linked_global, linked}
 use Rattle.pair_spec.specs.Faults.{same_global_type, declared_match, is_signature, does_match, first_pair_fault}
-use Rattle.instance_laws.proofs.WidenedParts.{kinds_append}
 use Rattle.pair_laws.proofs.Imports.{is_func, is_table, is_memory, is_global, tables_kept, memories_kept, globals_kept}
 use Rattle.pair_laws.proofs.LinkedCode.{types_are}
 use Rattle.pair_laws.proofs.Chains.{IsEnd, end_side, ends_are, own_end, import_end, no_import_fault}

@@ -15,6 +15,7 @@ use Rattle.wasm_syntax.specs.declared.modules.ElemSeg.{ElemSeg}
 use Rattle.wasm_syntax.specs.declared.modules.ElemSeg.TheVariants.{Active, Declared}
 use Rattle.wasm_syntax.specs.declared.modules.DataSeg.{DataSeg}
 use Rattle.wasm_syntax.specs.Index.{of_kind, memory_import, table_import}
+use Rattle.wasm_syntax.proofs.JoinedLists.{kinds_append}
 use Rattle.host_script.specs.declared.scripts.Script.{Script}
 use Rattle.host_script.specs.declared.scripts.Supply.{Supply}
 use Rattle.host_script.specs.declared.scripts.LinkFault.{LinkFault}
@@ -36,7 +37,6 @@ use Rattle.pair_spec.specs.Numbers.{side_instance}
 use Rattle.pair_spec.specs.PairRuns.{pair_world, pair_hosts, pair_supply, values_of, pair_new_store, pair_unfit, pair_written, pair_instantiate, pair_start_func, pair_start_or_fault, pair_start_with_supply, pair_start}
 use Rattle.pair_spec.specs.Linked.{linked_import, linked_global, linked_elem, linked_data, linked}
 use Rattle.pair_laws.specs.Laws.{AreLinkable, LinkedOutcomesFollow, LinkedRunsFollow}
-use Rattle.instance_laws.proofs.WidenedParts.{kinds_append}
 use Rattle.pair_laws.proofs.Imports.{memories_kept, tables_kept}
 use Rattle.pair_laws.proofs.LinkedCode.{imported_is, does_realise}
 use Rattle.pair_laws.proofs.Constants.{IsAlike, IsAlikeElem, AreAlike, are_alike}

@@ -57,7 +57,9 @@ module _ {X : Type 0} (p : X → Bool) where
 -- a file was not loaded: it could not be read, or it is too long
 module _ (reading : Reading) (files : List (List ℕ × ℕ)) (P : Fault → Type 0)
     (read : (name : List ℕ) → Contains (map (λ file. file.0) files) name → Rose (reading.faults_before name) (reading.faults_now name) → P (faults.Read name))
-    (too_long : (name : List ℕ) (limit : ℕ) → Contains files (name, limit) → Took (reading.taken_before name) (reading.taken_now name) (limit + 1) → ForSome reading.contents (λ known. first_longer known files ≡ Some (name, limit)) → P (faults.TooLong name limit)) where
+    (too_long : (name : List ℕ) (limit : ℕ) → Contains files (name, limit)
+    → Took (reading.taken_before name) (reading.taken_now name) (limit + 1) → ForSome reading.contents
+    (λ known. first_longer known files ≡ Some (name, limit)) → P (faults.TooLong name limit)) where
   pub load-cases : (fault : Fault) → IsLoadCause reading files fault → P fault
   load-cases (faults.Read name) c = read name c.0 c.1
   load-cases (faults.TooLong name limit) c = too_long name limit c.0 c.1 c.2
@@ -150,7 +152,8 @@ module _ {Y : Type 0} (names : List (String Y)) (limits : List ℕ) where
       let here' = subst (λ name. first_longer known ((name, get_or limits i 0) ∷ []) ≡ None) is_name here in
       ap (λ n. first_longer known (take n (zip (texts names) limits))) (add-one i)
       ∙ ap (first_longer known) (files-more names limits i d 0 h same)
-      ∙ find-more (λ file. nat_lt file.1 (length (file_bytes known file.0))) (take i (zip (texts names) limits)) (string_bytes (get_or names i d), get_or limits i 0) before here'
+      ∙ find-more (λ file. nat_lt file.1 (length (file_bytes known file.0))) (take i (zip (texts names) limits))
+      (string_bytes (get_or names i d), get_or limits i 0) before here'
 
 -- all files
 pub files-all : {Y : Type 0} (names : List (String Y)) (limits : List ℕ) (i : ℕ) → length names ≤ i
@@ -163,7 +166,8 @@ files-all (n ∷ ns) (l ∷ ls) zero h = absurd (omega arith)
 files-all (n ∷ ns) (l ∷ ls) (suc i) h = ap (λ files. (string_bytes n, l) ∷ files) (files-all ns ls i (omega arith))
 
 -- the bytes of one more file
-pub AreBytesOf-more : {Y Z : Type 0} (contents : Option FileMap) (names : List (String Y)) (i : ℕ) (d : String Y) (loaded more : List (Vec ℕ Z)) (bytes : Vec ℕ Z)
+pub AreBytesOf-more : {Y Z : Type 0} (contents : Option FileMap) (names : List (String Y)) (i : ℕ) (d : String Y)
+    (loaded more : List (Vec ℕ Z)) (bytes : Vec ℕ Z)
     → i < length names → more ≡ loaded ++ bytes ∷ [] → AreBytesOf contents (texts (take i names)) (all_bytes loaded)
     → ForSome contents (λ known. bytes.items ≡ file_bytes known (string_bytes (get_or names i d)))
     → AreBytesOf contents (texts (take (i + 1) names)) (all_bytes more)
@@ -191,4 +195,5 @@ pub AreWithin-more : {Y Z : Type 0} (names : List (String Y)) (loaded more : Lis
 AreWithin-more names loaded more bytes limits i pushed count each h before short =
     let listed : length (all_bytes loaded) ≡ i = length-map loaded (λ bytes. bytes.items) ∙ count in
     subst (λ lists. AreWithin lists limits) (sym (ap all_bytes pushed ∙ map-append (λ bytes. bytes.items) loaded (bytes ∷ [])))
-    (AreWithin-after (all_bytes loaded) bytes.items limits (omega (arith, listed, each, h)) before (subst (λ k. length bytes.items ≤ get_or limits k 0) (sym listed) short))
+    (AreWithin-after (all_bytes loaded) bytes.items limits (omega (arith, listed, each, h)) before
+    (subst (λ k. length bytes.items ≤ get_or limits k 0) (sym listed) short))

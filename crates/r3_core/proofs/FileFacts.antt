@@ -1,15 +1,13 @@
 -- What is known of modules and declarations that are read from files, and of the module that is made of them.
-use Rattle.std.proofs.Common.{◌≡◌, ℕ, ◌+◌, ◌≤◌, List, [], ◌∷◌, length, map, All, IfOk, Ok, Err, Result, false, arith, length-append}
-use Rattle.std.proofs.lemmas.List.{length-map}
+use Rattle.std.proofs.Common.{◌≡◌, ℕ, ◌≤◌, List, [], ◌∷◌, length, All, IfOk, Ok, Err, Result, false, arith}
 use Rattle.std.specs.Str.{IsUtf8}
 use Rattle.wasm_syntax.specs.declared.forms.Form.TheVariants.{Core}
 use Rattle.wasm_syntax.specs.declared.limits.TheConstants.{MAX_FILE_BYTES}
-use Rattle.wasm_syntax.specs.declared.modules.Func.{Func}
 use Rattle.wasm_syntax.specs.declared.modules.Module.{Module}
 use Rattle.wasm_syntax.specs.Encoding.Laws.{EncodableInCore, EncodedIsEncodable, NoneIsShorter}
-use Rattle.wasm_syntax.specs.Index.{func_import, func_indices, imported_funcs, of_kind}
 use Rattle.wasm_syntax.specs.ListsWithin.{HasListsWithin}
 use Rattle.wasm_syntax.specs.Profile.{IsSupported}
+use Rattle.wasm_syntax.proofs.FuncTypes.{func_count_is}
 use Rattle.wasm_flat.specs.Sizes.{IsShort}
 use Rattle.type_safety.specs.Supplies.{HasBytes}
 use Rattle.instance_spec.specs.declared.decls.Decl.{Decl}
@@ -29,13 +27,6 @@ use Rattle.r3_core.specs.declared.declared_modules.DeclaredModule.{DeclaredModul
 decls_few : (decls : List Decl) → length decls ≤ decls_size decls
 decls_few [] = omega arith
 decls_few (d ∷ decls) = let more = decls_few decls in omega (arith, more)
-
--- imported and defined functions
-funcs_together : (m : Module) → length (func_indices m) ≡ imported_funcs m + length m.funcs
-funcs_together m =
-    let all = length-append (of_kind func_import m.imports) (map (λ (f : Func). f.ty) m.funcs) in
-    let own = length-map m.funcs (λ (f : Func). f.ty) in
-    omega (arith, all, own)
 
 -- a module that is read from a file
 is_from_file : (bytes : List ℕ) (m : Module) → length bytes ≤ MAX_FILE_BYTES → EncodedIsEncodable → NoneIsShorter
@@ -73,7 +64,7 @@ module _ (decl_bytes : List ℕ) (m : Module) (decls : List Decl) (file : IsFrom
 
   fitting : AreDecls m decls × HaveFewParameters decls
   fitting =
-      let all = funcs_together m in
+      let all = func_count_is m in
       let funcs = file.funcs in
       fit m decl_bytes decls read file.accepted.valid (omega (arith, all, funcs, count, few))
 

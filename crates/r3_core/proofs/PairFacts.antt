@@ -5,11 +5,7 @@ use Rattle.std.proofs.lemmas.List.Elements.{All-append, All-map}
 use Rattle.wasm_syntax.specs.declared.modules.DataSeg.{DataSeg}
 use Rattle.wasm_syntax.specs.declared.modules.Module.{Module}
 use Rattle.wasm_syntax.specs.Encoding.Laws.{EncodableInCore}
-use Rattle.wasm_syntax.specs.Encoding.Sections.{GlobalSection}
-use Rattle.wasm_syntax.specs.Encoding.Shortest.{encoding_of, global_bytes, unless_empty}
-use Rattle.wasm_syntax.proofs.Encoding.NotEmpty.{global_bytes_some}
-use Rattle.wasm_syntax.proofs.ItemLists.{items_some, list_least}
-use Rattle.wasm_syntax.proofs.SectionLists.{encoding_parts, part_is, vectors}
+use Rattle.wasm_syntax.proofs.VectorLists.{globals_few}
 use Rattle.type_safety.specs.Supplies.{HasBytes}
 use Rattle.instance_spec.specs.declared.sides.Side.TheVariants.{Left, Right}
 use Rattle.pair_spec.specs.declared.faults.PairFault.{PairFault}
@@ -26,15 +22,6 @@ use Rattle.r3_faults.specs.Answers.{IsExactValue}
 use Rattle.r3_core.specs.PairInputs.{pair_fault, IsPairFault}
 use Rattle.r3_core.specs.RecordedModules.{AreFromFiles, CanBeRecorded, IsLinkedOf}
 use Rattle.r3_core.proofs.ResultLemmas.{no_memory}
-
--- a global takes a byte at least
-globals_few : (m : Module) → length m.globals ≤ length (encoding_of m)
-globals_few m =
-    let all = encoding_parts m in
-    let part = part_is (unless_empty GlobalSection m.globals) in
-    let least = list_least GlobalSection global_bytes vectors.globals m.globals in
-    let some = items_some global_bytes global_bytes_some m.globals in
-    omega (arith, all, part, least, some)
 
 -- a data segment holds bytes
 abbrev HasOwnBytes : DataSeg → Type 0

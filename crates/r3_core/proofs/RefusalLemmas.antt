@@ -12,8 +12,8 @@ use Rattle.r3_inputs.specs.Inputs.{invalid_fault, refusal_fault, script_fault, I
 use Rattle.accepted_runs.specs.Unlinked as unlinked
 use Rattle.accepted_runs.specs.Runs as runs
 use Rattle.rest_spec.specs.Rests.{calls_in}
-use Rattle.r3_from.specs.RestRefusals as rests
-use Rattle.r3_from.specs.RestRefusals.{HasNoRest, IsRestRefusal}
+use Rattle.r3_make.specs.RestRefusals as rests
+use Rattle.r3_make.specs.RestRefusals.{HasNoRest, IsRestRefusal}
 use Rattle.r3_make.specs.Refusals as refusals
 use Rattle.r3_make.specs.Refusals.{IsMakeRefusal, IsUnmade, OfInputs, OfModule}
 use Rattle.wasm_syntax.specs.declared.modules.Module.{Module}
@@ -22,22 +22,20 @@ use Rattle.host_script.specs.declared.scripts.LinkFault.{LinkFault}
 use Rattle.host_script.specs.declared.scripts.LinkFault.TheVariants as link
 use Rattle.r3_history.specs.Histories as histories
 use Rattle.r3_history.specs.Histories.{IsHistoryRefusal, IsUnprinted, OfRun, OfLink}
-use Rattle.replay_run.specs.declared.results.ReplayFault.{ReplayFault}
-use Rattle.replay_run.specs.declared.results.ReplayFault.TheVariants as replay
 use Rattle.r3_inputs.specs.declared.module_files.ModuleFile.{ModuleFile}
 use Rattle.r3_inputs.specs.declared.module_files.ModuleFile.TheVariants.{Original, Instrumented, Replay as ReplayModule}
 use Rattle.r3_replay.specs.ReplayTexts as texts
 use Rattle.r3_replay.specs.ReplayTexts.{IsReplayRefusal, replay_fault}
+use Rattle.r3_replay.proofs.FaultCases.{by_cause as of_replay}
 use Rattle.trace_format.specs.declared.files.FormatFault.{FormatFault}
 use Rattle.trace_format.specs.declared.files.FormatFault.TheVariants as format
 use Rattle.r3_show.specs.FileLines.{IsShowRefusal, fault_of}
 use Rattle.sha2.specs.Sha256.{sha256}
-use Rattle.host_play.specs.declared.results.PlayFault.{PlayFault}
-use Rattle.host_play.specs.declared.results.PlayFault.TheVariants as play
 use Rattle.r3_instrument.specs.InstrumentedBytes as hooked
 use Rattle.r3_instrument.specs.InstrumentedBytes.{IsHookedRefusal}
 use Rattle.r3_make.specs.LogFiles as logs
 use Rattle.r3_make.specs.LogFiles.{HasNoModuleLog, IsLogRefusal, record_fault}
+use Rattle.r3_make.proofs.FaultCases.{by_cause as of_record}
 use Rattle.trace_model.specs.Weight.{tape_weight}
 use Rattle.r3_reduce.specs.TapeFiles.{IsReduceRefusal}
 use Rattle.r3_make.specs.BuildRefusals as tapes
@@ -106,12 +104,14 @@ script-other script.Memory differs = absurd (differs refl)
 module-other : (file : ModuleFile) (bytes : List ℕ) (fault : Fault) → IsRefusedIn file bytes fault → IsOther (status_of fault)
 module-other file bytes fault (ByBytes malformed) = named-other fault (faults.Malformed malformed.at) malformed.named refl
 module-other file bytes fault (ByRules m encoded invalid) = named-other fault (invalid_fault invalid.place) invalid.named (invalid-other invalid.place)
-module-other file bytes fault (ByProfile m encoded valid refused) = named-other fault (refusal_fault refused.refusal) refused.named (profile-other refused.refusal)
+module-other file bytes fault (ByProfile m encoded valid refused) =
+    named-other fault (refusal_fault refused.refusal) refused.named (profile-other refused.refusal)
 
 inputs-other : (module_bytes script_bytes : List ℕ) (fault : Fault) → AreRefused module_bytes script_bytes fault
     → IsOther (status_of fault)
 inputs-other module_bytes script_bytes fault (ByModule refused) = module-other Original module_bytes fault refused
-inputs-other module_bytes script_bytes fault (ByScript m is refused) = named-other fault (script_fault refused.found) refused.named (script-other refused.found refused.differs)
+inputs-other module_bytes script_bytes fault (ByScript m is refused) =
+    named-other fault (script_fault refused.found) refused.named (script-other refused.found refused.differs)
 
 link-other : (found : LinkFault) → (found ≡ link.Memory → ⊥) → is_other (status_of (unlinked.link_fault found)) ≡ true
 link-other (link.Missing import) differs = refl
@@ -156,17 +156,10 @@ history-status : (module_bytes script_bytes : List ℕ) (turns : ℕ) (fault : F
 history-status m s turns fault (histories.OfInputs refused) = inputs-other m s fault refused
 history-status m s turns fault (OfRun original played inputs unreported) = unreported-status original played turns fault unreported
 
-replay-other : (turns : ℕ) (found : ReplayFault) → (found ≡ replay.Memory → ⊥) → is_other (status_of (replay_fault turns found)) ≡ true
-replay-other turns replay.NoLayout differs = refl
-replay-other turns replay.Imports differs = refl
-replay-other turns replay.NoEntry differs = refl
-replay-other turns (replay.Link segment) differs = refl
-replay-other turns replay.Spent differs = refl
-replay-other turns replay.Memory differs = absurd (differs refl)
-
 replay-status : (binary : List ℕ) (turns : ℕ) (fault : Fault) → IsReplayRefusal binary turns fault → IsOther (status_of fault)
 replay-status binary turns fault (texts.OfModule refused) = module-other ReplayModule binary fault refused
-replay-status binary turns fault (texts.OfRun m is_module u) = named-other fault (replay_fault turns u.found) u.named (replay-other turns u.found u.differs)
+replay-status binary turns fault (texts.OfRun m is_module u) = named-other fault (replay_fault turns u.found) u.named
+    (of_replay (λ fault. is_other (status_of fault) ≡ true) turns refl refl refl (λ segment. refl) refl u.found u.differs)
 
 trace-other : (found : FormatFault) → (found ≡ format.Memory → ⊥) → is_other (status_of (fault_of found)) ≡ true
 trace-other (format.Version found) differs = refl
@@ -180,17 +173,15 @@ hooked-status : (bytes : List ℕ) (fault : Fault) → IsHookedRefusal bytes fau
 hooked-status bytes fault (hooked.OfModule refused) = module-other Original bytes fault refused
 hooked-status bytes fault (hooked.OfLength m is_module long) = named-other fault faults.HookedLimit long.named refl
 
-record-other : (turns : ℕ) (found : PlayFault) → (found ≡ play.Memory → ⊥) → is_other (status_of (record_fault turns found)) ≡ true
-record-other turns (play.Fault turn kind) differs = refl
-record-other turns play.Spent differs = refl
-record-other turns (play.Hook number) differs = refl
-record-other turns play.Memory differs = absurd (differs refl)
-
 unlogged-status : (m : Module) (script : List ℕ) (turns : ℕ) (fault : Fault) → HasNoModuleLog m script turns fault → IsOther (status_of fault)
 unlogged-status m script turns fault (logs.OfForm none named) = named-other fault faults.NotHooked named refl
-unlogged-status m script turns fault (logs.OfScript form has_form refused) = named-other fault (script_fault refused.found) refused.named (script-other refused.found refused.differs)
-unlogged-status m script turns fault (logs.OfLog form has_form played is_script (logs.OfLink u)) = named-other fault (unlinked.link_fault u.found) u.named (link-other u.found u.differs)
-unlogged-status m script turns fault (logs.OfLog form has_form played is_script (logs.OfRun supply store links u)) = named-other fault (record_fault turns u.found) u.named (record-other turns u.found u.differs)
+unlogged-status m script turns fault (logs.OfScript form has_form refused) =
+    named-other fault (script_fault refused.found) refused.named (script-other refused.found refused.differs)
+unlogged-status m script turns fault (logs.OfLog form has_form played is_script (logs.OfLink u)) =
+    named-other fault (unlinked.link_fault u.found) u.named (link-other u.found u.differs)
+unlogged-status m script turns fault (logs.OfLog form has_form played is_script (logs.OfRun supply store links u)) =
+    named-other fault (record_fault turns u.found) u.named
+    (of_record (λ fault. is_other (status_of fault) ≡ true) turns (λ turn kind. refl) refl (λ number. refl) u.found u.differs)
 
 record-status : (h s : List ℕ) (turns : ℕ) (fault : Fault) → IsLogRefusal h s turns fault → IsOther (status_of fault)
 record-status h s turns fault (logs.OfModule refused) = module-other Instrumented h fault refused

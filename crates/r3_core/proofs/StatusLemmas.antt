@@ -71,7 +71,8 @@ load-refused reading files fault other known e none (inl memory) = (2, omega ari
 load-refused reading files fault other known e none (inr cause) =
     elim (load-statuses reading files fault cause) [
       | inl three ↦ (1, omega arith, sym three)
-      | inr four ↦ (let long = load-status_too_long reading files fault cause four in absurd (none-differs long.0 (first_longer known files) none (long.3 known e)))
+      | inr four ↦ (let long = load-status_too_long reading files fault cause four in
+          absurd (none-differs long.0 (first_longer known files) none (long.3 known e)))
     ]
 
 pub load-done : (reading : Reading) (files : List (List ℕ × ℕ)) (fault : Fault) (known : FileMap)
@@ -81,7 +82,8 @@ load-done reading files fault known e none (inl memory) = (2, omega arith, sym (
 load-done reading files fault known e none (inr cause) =
     elim (load-statuses reading files fault cause) [
       | inl three ↦ (0, omega arith, sym three)
-      | inr four ↦ (let long = load-status_too_long reading files fault cause four in absurd (none-differs long.0 (first_longer known files) none (long.3 known e)))
+      | inr four ↦ (let long = load-status_too_long reading files fault cause four in
+          absurd (none-differs long.0 (first_longer known files) none (long.3 known e)))
     ]
 
 -- ---- the cause of a call's fault
@@ -191,7 +193,9 @@ decimal-one : (a b : ℕ) → a < 2 ^ 64 → b < 2 ^ 64 → decimal a ≡ decima
 decimal-one a b low high e = stable a b (λ differ.
     let none : Result ℕ (Unit {0}) = Err tt in
     let word : Result ℕ (Unit {0}) = Ok (digits_value 10 (without_leading_plus (decimal a))) in
-    let unread : none ≡ Ok a = parse-decimal 64 a (decimal a) none low low refl (λ numeral. differ (ok-one a b word (parse-decimal 64 a (decimal a) word low low refl (numeral, refl)) (parse-decimal 64 b (decimal a) word high high e (numeral, refl))))
+    let unread : none ≡ Ok a = parse-decimal 64 a (decimal a) none low low refl
+    (λ numeral. differ (ok-one a b word (parse-decimal 64 a (decimal a) word low low refl (numeral, refl))
+    (parse-decimal 64 b (decimal a) word high high e (numeral, refl))))
     in err-no_ok a none refl unread)
 
 -- each number that a command takes is small

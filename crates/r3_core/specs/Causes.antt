@@ -25,8 +25,8 @@ use Rattle.wasm_syntax.specs.declared.limits.TheConstants.{LOAD_TURNS}
 use Rattle.r3_make.specs.Summaries.{IsSummary}
 use Rattle.r3_core.specs.declared.words.Command.{Command}
 use Rattle.r3_core.specs.declared.words.Command.TheVariants.{Make, Instrument, Record, Reduce, Build, History, Replay, Show, Load, Foreign, ForeignHistory, Pair, PairHistory, From}
-use Rattle.r3_from.specs.RestRefusals.{HaveRest, IsRestRefusal}
-use Rattle.r3_from.specs.RestReplays.{IsRestPrinted}
+use Rattle.r3_make.specs.RestRefusals.{HaveRest, IsRestRefusal}
+use Rattle.r3_make.specs.RestReplays.{IsRestPrinted}
 use Rattle.r3_core.specs.declared.words.Numbers.{Numbers}
 use Rattle.r3_core.specs.declared.words.Numbers.TheVariants.{Empty, One, Two}
 use Rattle.r3_core.specs.Words.{form, IsListed, Says, files_of}

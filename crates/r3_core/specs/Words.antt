@@ -4,7 +4,7 @@ use Rattle.std.specs.List.{zip}
 use Rattle.std.specs.Option.{option_map_or}
 use Rattle.std.specs.Str.{bytes_eq}
 use Rattle.wasm_syntax.specs.declared.limits.TheConstants.{MAX_LOAD_CALLS, MAX_TRACE_BYTES, MAX_RECORD_TURNS, MAX_FILE_BYTES, MAX_INSTRUMENTED_BYTES, MAX_REPLAY_BYTES, MAX_TURNS, MAX_HISTORY_TURNS}
-use Rattle.r3_from.specs.declared.from_command.TheConstants.{MAX_CALL_NUMBER}
+use Rattle.r3_make.specs.declared.from_command.TheConstants.{MAX_CALL_NUMBER}
 use Rattle.r3_core.specs.declared.words.Numbers.{Numbers}
 use Rattle.r3_core.specs.declared.words.Numbers.TheVariants.{Empty, One, Two}
 use Rattle.r3_core.specs.declared.words.NumberRange.{NumberRange}

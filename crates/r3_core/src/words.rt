@@ -5,7 +5,7 @@ ghost use Rattle.r3_core.specs.Words.{form, texts, command_of_name, IsNumber, Is
 
 use itoa::Buffer;
 use r3_faults::Fault;
-use r3_from::MAX_CALL_NUMBER;
+use r3_make::MAX_CALL_NUMBER;
 use wasm_syntax::limits::{
     MAX_FILE_BYTES, MAX_HISTORY_TURNS, MAX_INSTRUMENTED_BYTES, MAX_LOAD_CALLS, MAX_RECORD_TURNS,
     MAX_REPLAY_BYTES, MAX_TRACE_BYTES, MAX_TURNS,

@@ -12,7 +12,8 @@ use Rattle.r3_faults.proofs.OneAnswer.{exact_answer}
 use Rattle.accepted_runs.proofs.OneResult.{none-one, outcome-none, outcome-one, run-one, unlinked-one, unlinked-run, unlinked-started}
 use Rattle.r3_history.specs.Histories.{IsHistoryOf, IsUnprinted, OfLink, OfOutcome}
 
-module _ (m : Module) (script : Script) (turns : ℕ) (one : (initial : StepResult) → HasOneResultAtMost (run_from (program_of m script) all_one initial) all_one turns) where
+module _ (m : Module) (script : Script) (turns : ℕ) (one : (initial : StepResult)
+    → HasOneResultAtMost (run_from (program_of m script) all_one initial) all_one turns) where
   unprinted-one : (f g : Fault) → IsUnprinted m script turns f → IsUnprinted m script turns g → f ≡ g
   unprinted-one f g (OfLink u) (OfLink v) = unlinked-one m script f g u v
   unprinted-one f g (OfLink u) (OfOutcome v) = absurd (unlinked-run m script turns f g u v)

@@ -1,5 +1,5 @@
 -- Bytes encode at most one accepted module, and are otherwise refused for one fault.
-use Rattle.std.proofs.Common.{◌≡◌, ◌≢◌, ◌↔◌, ◌⊎◌, inl, inr, ℕ, ◌+◌, ◌<◌, ◌≤◌, ◌^◌, List, [], ◌∷◌, Option, Some, None, Result, Ok, Err, IfOk, IfErr, length, All, get_or, refl, sym, ◌∙◌, ap, subst, arith, Bool}
+use Rattle.std.proofs.Common.{◌≡◌, ◌≢◌, ◌↔◌, ◌⊎◌, inl, inr, ℕ, ◌+◌, ◌<◌, ◌≤◌, ◌^◌, List, [], ◌∷◌, Option, Some, Result, Ok, Err, IfOk, IfErr, length, All, get_or, refl, sym, ◌∙◌, ap, subst, arith, Bool}
 use Rattle.std.specs.List.{slice_get, AllByRecursion}
 use Rattle.std.proofs.lemmas.List.Elements.{All-head, All-tail}
 use Rattle.base.proofs.Options.{none_some, same_some}
@@ -10,6 +10,7 @@ use Rattle.wasm_syntax.specs.Encoding.Modules.{Encodes, IsFaultPlace}
 use Rattle.wasm_syntax.specs.Validity.{IsValid, IsInvalidAt}
 use Rattle.wasm_syntax.specs.ValidityTests.{invalid_at}
 use Rattle.wasm_syntax.specs.Profile.{Refusal, IsAccepted, first_refusal}
+use Rattle.wasm_syntax.proofs.Places.{not_both}
 use Rattle.r3_faults.specs.declared.faults.Fault.{Fault}
 use Rattle.r3_faults.specs.declared.faults.Fault.TheVariants.{Malformed, Memory}
 use Rattle.r3_inputs.specs.declared.module_files.ModuleFile.{ModuleFile}
@@ -24,19 +25,13 @@ no-refusal hooked m refusal accepted first =
 module _ (file : ModuleFile) (one : (form : Form) (bytes : List ℕ) (m n : Module) → Encodes form bytes m → Encodes form bytes n → m ≡ n)
     (place-one : (form : Form) (bytes : List ℕ) (a b : ℕ) → IsFaultPlace form bytes a → IsFaultPlace form bytes b → a
     ≡ b)
-    (valid-decided : (m : Module) → IsValid m ↔ (invalid_at m ≡ None))
     (invalid-decided : (m : Module) (place : Option ℕ) → IsInvalidAt m place ↔ (invalid_at m ≡ Some place)) where
-  -- a valid module has no invalid place
-  not-both : (m : Module) (place : Option ℕ) → IsValid m → IsInvalidAt m place → ⊥
-  not-both m place valid invalid =
-      none_some (invalid_at m) place ((valid-decided m).0 valid) ((invalid-decided m place).0 invalid)
-
   -- a refused module is not accepted
   refused-not_taken : (bytes : List ℕ) (fault : Fault) (m : Module) → IsRefusedIn file bytes fault → IsModuleIn file bytes m
       → ⊥
   refused-not_taken bytes fault m (ByBytes malformed) taken = malformed.none m taken.encoded
   refused-not_taken bytes fault m (ByRules n encoded invalid) taken =
-      not-both n invalid.place (subst IsValid (one (form_of file) bytes m n taken.encoded encoded) taken.accepted.valid)
+      not_both n invalid.place (subst IsValid (one (form_of file) bytes m n taken.encoded encoded) taken.accepted.valid)
       invalid.invalid
   refused-not_taken bytes fault m (ByProfile n encoded valid refused) taken =
       no-refusal (is_instrumented file) n refused.refusal
@@ -55,11 +50,11 @@ module _ (file : ModuleFile) (one : (form : Form) (bytes : List ℕ) (m n : Modu
       (same_some (invalid_at n) a.place b.place ((invalid-decided n a.place).0 same)
       ((invalid-decided n b.place).0 b.invalid)) ∙ sym b.named
   refusal-one bytes f g (ByRules m encoded a) (ByProfile n other valid b) =
-      absurd (not-both n a.place valid
+      absurd (not_both n a.place valid
       (subst (λ m. IsInvalidAt m a.place) (one (form_of file) bytes m n encoded other) a.invalid))
   refusal-one bytes f g (ByProfile m encoded valid a) (ByBytes b) = absurd (b.none m encoded)
   refusal-one bytes f g (ByProfile m encoded valid a) (ByRules n other b) =
-      absurd (not-both n b.place (subst IsValid (one (form_of file) bytes m n encoded other) valid) b.invalid)
+      absurd (not_both n b.place (subst IsValid (one (form_of file) bytes m n encoded other) valid) b.invalid)
   refusal-one bytes f g (ByProfile m encoded valid a) (ByProfile n other valid' b) =
       let same = subst (λ m. first_refusal (is_instrumented file) m ≡ Some a.refusal) (one (form_of file) bytes m n encoded other) a.first in
       a.named ∙ ap refusal_fault (same_some (first_refusal (is_instrumented file) n) a.refusal b.refusal same b.first) ∙ sym b.named

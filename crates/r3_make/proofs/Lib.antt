@@ -1,7 +1,7 @@
 pub mod OneAnswer
-pub mod Originals
-pub mod Recordings
-pub mod LogTapes
+mod Originals
+mod Recordings
+mod LogTapes
 mod ShownRun
 mod OneSummary
 mod OneTape
@@ -11,3 +11,10 @@ mod Playable
 mod OneLog
 mod ModuleAnswers
 pub mod Forms
+pub mod FaultCases
+mod FrozenTapes
+mod Freezing
+mod Rests
+mod StatesAndCuts
+mod RestBinaries
+mod OneRest

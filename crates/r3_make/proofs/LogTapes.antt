@@ -15,22 +15,23 @@ use Rattle.history_spec.specs.Store.{Store}
 use Rattle.record_replay_spec.specs.LogTapes.{IsLogTape}
 use Rattle.record_replay_spec.specs.Logs.{log_with}
 use Rattle.host_play.specs.Results.{IsFault}
+use Rattle.host_play.specs.declared.results.PlayFault.{PlayFault}
 use Rattle.tape_laws.specs.CallLaws.{OriginalRun}
 use Rattle.tape_laws.specs.LogLaws.{LogsAreBalanced, log_of_run}
 use Rattle.instrumented_run_laws.specs.Laws.{original_run}
 use Rattle.tape_laws.specs.NeededTape.{IsOneNeededTape}
 use Rattle.trace_reduce.specs.declared.reducer.Reducer.{Reducer}
-use Rattle.trace_reduce.specs.Reducer.{HasTaken}
-use Rattle.run_recorder.specs.Records.{HasTakenLog, IsLog}
+use Rattle.trace_reduce.specs.Reducer.{HasTaken, HasTakenFor, HasTakenSince, imports_of, most_of}
+use Rattle.run_recorder.specs.Records.{HasTakenLog, IsLog, IsRecordedInto, RecordedRun}
 use Rattle.replay_theorem.specs.RecordedOriginalLaws.{IsLogOfRun, ReportsOriginal, record_of}
 use Rattle.replay_theorem.proofs.Recorded.{over_at}
 use Rattle.accepted_runs.specs.Linked.{IsLinked}
-use Rattle.accepted_runs.specs.Runs.{OfScript, OfTurns}
+use Rattle.accepted_runs.specs.Runs.{HasNoOutcome, HasOutcome, OfScript, OfTurns}
 use Rattle.accepted_runs.proofs.OneResult.{linked-starts}
 use Rattle.r3_faults.specs.declared.faults.Fault.{Fault}
 use Rattle.r3_faults.specs.declared.faults.Fault.TheVariants.{Memory, Script as ScriptFault, Spent}
 use Rattle.r3_make.specs.Answers.{IsHeavyLog, IsLightTape}
-use Rattle.r3_make.specs.Refusals.{IsUnmade, OfRun, OfWeight}
+use Rattle.r3_make.specs.Refusals.{IsUnmade, OfWeight}
 use Rattle.r3_make.specs.Tapes.{NeedsTape}
 
 -- the log that events and an outcome make, of a module that imports this number of functions
@@ -41,6 +42,19 @@ log_is : (imports : ℕ) (outcome : Outcome) (found : Result (List Event) ℕ) (
     → log_with imports outcome found ≡ Ok log → log ≡ log_for imports log.events outcome
 log_is imports outcome (Ok events) log e = cc e
 log_is imports outcome (Err number) log e = absurd (cc e)
+
+-- the reducer that a run is recorded into is made for these numbers, since the one that it began as is
+pub recorded_for : (imports most : ℕ) (sink : Reducer) (r : RecordedRun) (result : Result (Reducer × Outcome) PlayFault)
+    → imports_of sink ≡ imports → most_of sink ≡ most → IsRecordedInto (HasTakenSince sink) r result
+    → IsRecordedInto (HasTakenFor imports most) r result
+recorded_for imports most sink r result same_imports same_most h =
+    subst (λ n. IsRecordedInto (HasTakenFor n most) r result) same_imports
+    (subst (λ m. IsRecordedInto (HasTakenFor (imports_of sink) m) r result) same_most h)
+
+-- a reducer has taken the events of a log, whatever it was made for
+pub taken_log : {imports most : ℕ} (r : RecordedRun) (reducer : Reducer) (outcome : Outcome)
+    → HasTakenLog (HasTakenFor imports most) r reducer outcome → HasTakenLog HasTaken r reducer outcome
+taken_log r reducer outcome h = record { log = h.log; is_log = h.is_log; taken = h.taken.has }
 
 module _ (run : OriginalRun) (turns : ℕ) (reports : ReportsOriginal run turns)
     (linked : IsLinked run.m run.script run.supply run.store) where
@@ -58,43 +72,52 @@ module _ (run : OriginalRun) (turns : ℕ) (reports : ReportsOriginal run turns)
   same_log : (found : Result Log ℕ) (a b : Log) → found ≡ Ok a → found ≡ Ok b → b ≡ a
   same_log found a b e f = cc (sym f ∙ e)
 
-  -- the one tape of the log
-  module _ (outcome : Outcome) (log : Log) (is : IsLog (record_of run turns) outcome log) (tape : Tape)
-      (is_tape : IsLogTape (log_for (imported_funcs run.m) log.events outcome) tape) where
-    of : IsLogOfRun run turns outcome log
+  -- the outcome of the run that the log is of
+  module _ (outcome : Outcome) (log : Log) (is : IsLog (record_of run turns) outcome log) where
+    abbrev pub of : IsLogOfRun run turns outcome log
     of = reports.logs outcome log is
 
-    tape_same : tape ≡ of.shown.tape
-    tape_same =
-        of.shown.is_one tape
-        (subst (λ log. IsLogTape log tape)
-        (sym (log_parts outcome log is)
-        ∙ same_log (log_of_run run of.count outcome) of.shown.log log of.shown.logged of.logged) is_tape)
-
-    pub needs : NeedsTape run.m run.script turns run.supply run.store tape
-    needs =
+    abbrev pub outcome_of_log : HasOutcome run.m run.script turns (original_run run of.count) outcome
+    outcome_of_log =
         record {
-          linked = linked;
-          run = original_run run of.count;
-          outcome = outcome;
-          ends = record {
-            initial = start_in_store run.m run.script run.store;
-            starts = linked-starts run.m run.script run.supply run.store linked;
-            within = record { count = of.count; is_run = refl; over = over_at (original_run run of.count).at outcome of.ends; in_budget = of.in_budget };
-            ends = of.ends;
+          initial = start_in_store run.m run.script run.store;
+          starts = linked-starts run.m run.script run.supply run.store linked;
+          within = record {
+            count = of.count;
+            is_run = refl;
+            over = over_at (original_run run of.count).at outcome of.ends;
+            in_budget = of.in_budget;
           };
-          is_one = subst
-              (λ (tape : Tape). IsOneNeededTape run.m run.script run.store (original_run run of.count).history outcome
-              tape.segments) (sym tape_same) of.shown.shown.is_one;
+          ends = of.ends;
         }
 
-  -- why there is no tape
+    -- the one tape of the log
+    module _ (tape : Tape) (is_tape : IsLogTape (log_for (imported_funcs run.m) log.events outcome) tape) where
+      pub tape_same : tape ≡ of.shown.tape
+      tape_same =
+          of.shown.is_one tape
+          (subst (λ log. IsLogTape log tape)
+          (sym (log_parts outcome log is)
+          ∙ same_log (log_of_run run of.count outcome) of.shown.log log of.shown.logged of.logged) is_tape)
+
+      abbrev pub needs : NeedsTape run.m run.script turns run.supply run.store tape
+      needs =
+          record {
+            linked = linked;
+            run = original_run run of.count;
+            outcome = outcome;
+            ends = outcome_of_log;
+            is_one = subst
+                (λ (tape : Tape). IsOneNeededTape run.m run.script run.store (original_run run of.count).history
+                outcome tape.segments) (sym tape_same) of.shown.shown.is_one;
+          }
+
+  -- why the run has no outcome
   pub faulty : (turn : ℕ) (kind : FaultKind)
       → IsFault (program_of run.m run.script) (start_in_store run.m run.script run.store) turns turn kind
-      → IsUnmade run.m run.script turns (ScriptFault turn kind)
+      → HasNoOutcome run.m run.script turns (ScriptFault turn kind)
   faulty turn kind is =
-      OfRun
-      (OfScript
+      OfScript
       (record {
         turn = turn;
         kind = kind;
@@ -102,19 +125,19 @@ module _ (run : OriginalRun) (turns : ℕ) (reports : ReportsOriginal run turns)
         initial = start_in_store run.m run.script run.store;
         starts = linked-starts run.m run.script run.supply run.store linked;
         faulty = is;
-      }))
+      })
 
-  pub spent : IsSpent (original_run run) all_one turns → IsUnmade run.m run.script turns (Spent turns)
+  pub spent : IsSpent (original_run run) all_one turns → HasNoOutcome run.m run.script turns (Spent turns)
   spent is =
-      OfRun
-      (OfTurns
+      OfTurns
       (record {
         named = refl;
         initial = start_in_store run.m run.script run.store;
         starts = linked-starts run.m run.script run.supply run.store linked;
         spent = is;
-      }))
+      })
 
+  -- why there is no tape
   pub heavy : (outcome : Outcome) (log : Log) → IsLog (record_of run turns) outcome log → (fault : Fault)
       → IsHeavyLog (log_for (imported_funcs run.m) log.events outcome) fault → IsUnmade run.m run.script turns fault
   heavy outcome log is fault h =

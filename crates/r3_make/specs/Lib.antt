@@ -7,3 +7,9 @@ pub mod Summaries
 pub mod BuildRefusals
 pub mod BuiltReplays
 pub mod LogFiles
+pub mod FrozenRuns
+pub mod FrozenTapes
+pub mod TapesAtCalls
+pub mod StatesAndCuts
+pub mod RestReplays
+pub mod RestRefusals

@@ -121,7 +121,7 @@ pub fn replay_bytes(
 /// # Errors
 ///
 /// `Memory` if memory is out.
-pub fn encoded_replay(
+pub(crate) fn encoded_replay(
     alloc: Global,
     checked: Checked,
     supply: &Supply,
@@ -145,7 +145,7 @@ pub fn encoded_replay(
 }
 
 /// A maximum of a table has 32 bits.
-pub fn know_maximum(limits: Option<Limits>)
+pub(crate) fn know_maximum(limits: Option<Limits>)
     ensures { IfSome limits (λ table. IfSome table.max (λ max. max < 2 ^ 32)) }
 {
     if let Some(limits) = limits {

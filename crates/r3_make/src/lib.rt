@@ -1,9 +1,12 @@
-//! The commands `make`, `load`, `build` and `record`, from the bytes of their files to what they print or why they
-//! refuse.
+//! The commands `make`, `load`, `build`, `record` and `from`, from the bytes of their files to what they print or why
+//! they refuse.
 #![tactic(auto)]
 
 mod build_command;
 mod built_replays;
+mod from_command;
+mod frozen_runs;
+mod frozen_tapes;
 mod lines;
 mod log_files;
 mod make_command;
@@ -11,16 +14,19 @@ mod module_logs;
 mod read_tapes;
 mod recorded_runs;
 mod replay_binary;
+mod rest_binary;
 mod run_logs;
+mod states_and_cuts;
 mod summaries;
 mod tapes;
 
 pub use build_command::build;
-pub use built_replays::{encoded_replay, know_maximum, replay_bytes};
+pub use built_replays::replay_bytes;
+pub use from_command::{MAX_CALL_NUMBER, from_call};
 pub use log_files::log_run;
 pub use make_command::make;
 pub use r3_faults::Fault;
-pub use recorded_runs::{HookedInputs, hooked_inputs, hooked_play};
 pub use replay_binary::replay_of;
+pub use states_and_cuts::{StateAndCut, state_and_cut};
 pub use summaries::load_summary;
-pub use tapes::{needed_tape, tape_of};
+pub use tapes::needed_tape;

@@ -2,7 +2,7 @@
 
 ghost use Rattle.std.specs.Prelude.{◌≡◌, ◌<◌, ◌≤◌, ◌⊎◌, IfErr, IfOk, length};
 ghost use Rattle.sha2.specs.Sha256.{sha256};
-ghost use Rattle.wasm_syntax.specs.declared.limits.TheConstants.{MAX_ORIGINAL_BYTES};
+ghost use Rattle.wasm_syntax.specs.declared.limits.TheConstants.{MAX_ORIGINAL_BYTES, MAX_TAPE_WEIGHT};
 ghost use Rattle.wasm_syntax.specs.ListsWithin.{HasListsWithin};
 ghost use Rattle.host_script.specs.Fits.{Fits};
 ghost use Rattle.wasm_flat.specs.Bounds.{IsBound};
@@ -12,7 +12,7 @@ ghost use Rattle.history_spec.specs.Store.{Store};
 ghost use Rattle.tape_laws.specs.CallLaws.{OriginalRun};
 ghost use Rattle.record_replay_spec.specs.Hooks.{renumbered_view};
 ghost use Rattle.wasm_syntax.specs.Index.{func_indices, imported_funcs};
-ghost use Rattle.trace_reduce.specs.Reducer.{HasTaken};
+ghost use Rattle.trace_reduce.specs.Reducer.{HasTakenFor};
 ghost use Rattle.run_recorder.specs.Records.{IsRecordedInto};
 ghost use Rattle.replay_theorem.specs.RecordedOriginalLaws.{record_of};
 ghost use Rattle.r3_inputs.specs.Inputs.{IsModuleOf};
@@ -47,15 +47,15 @@ use wasm_validate::Checked;
 /// An instrumented module, the meter under which its run takes the turns of the original's, the script for it,
 /// and the number of functions that the original imports.
 #[derive(Drop)]
-pub struct HookedInputs {
-    pub hooked: Checked,
-    pub meter: Meter,
-    pub script: Script,
-    pub imports: u32,
+pub(crate) struct HookedInputs {
+    pub(crate) hooked: Checked,
+    pub(crate) meter: Meter,
+    pub(crate) script: Script,
+    pub(crate) imports: u32,
 }
 
 /// The instrumented module of a module that `bytes` encode, and what its run needs besides.
-pub fn hooked_inputs(
+pub(crate) fn hooked_inputs(
     alloc: Global,
     bytes: &[u8],
     checked: &Checked,
@@ -124,7 +124,7 @@ fn hooked_store(alloc: Global, inputs: &HookedInputs, _supply: &Supply) -> Resul
 }
 
 /// The instantiation of the instrumented module, which links as the original does.
-pub fn hooked_play<'a>(
+pub(crate) fn hooked_play<'a>(
     alloc: Global,
     inputs: &'a HookedInputs,
     supply: &Supply,
@@ -156,7 +156,7 @@ pub(crate) fn recorded_run(
 ) -> Result<(Reducer, Outcome), PlayFault>
     requires { (run : OriginalRun) × IsRecordable run inputs.now supply.now }
     ensures { (run : OriginalRun) → IsRecordable run inputs.now supply.now
-        → IsRecordedInto HasTaken (record_of run turns) result }
+        → IsRecordedInto (HasTakenFor inputs.now.imports MAX_TAPE_WEIGHT) (record_of run turns) result }
 {
     let play = hooked_play(alloc, inputs, supply)?;
     record_play(alloc, inputs, supply, play, turns)
@@ -178,7 +178,7 @@ fn record_play(
     requires bound { IsBound play.flat }
     ensures { (run : OriginalRun) → IsRecordable run inputs.now supply.now
         → play.entry.store ≡ renumbered_view (imported_funcs run.m) run.store
-        → IsRecordedInto HasTaken (record_of run turns) result }
+        → IsRecordedInto (HasTakenFor inputs.now.imports MAX_TAPE_WEIGHT) (record_of run turns) result }
 {
     instrumented_are_runnable();
     instrumented_are_fitted();

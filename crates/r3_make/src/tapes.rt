@@ -8,7 +8,7 @@ ghost use Rattle.trace_model.specs.Weight.{tape_weight};
 ghost use Rattle.history_spec.specs.Store.{Store};
 ghost use Rattle.type_safety.specs.Supplies.{HasBytes};
 ghost use Rattle.tape_laws.specs.CallLaws.{OriginalRun};
-ghost use Rattle.trace_reduce.specs.Reducer.{HasTaken};
+ghost use Rattle.trace_reduce.specs.Reducer.{HasTaken, imports_of, most_of};
 ghost use Rattle.accepted_runs.specs.Runnable.{CanRun};
 ghost use Rattle.r3_inputs.specs.Inputs.{IsModuleOf};
 ghost use Rattle.accepted_runs.specs.Linked.{IsLinked};
@@ -91,16 +91,15 @@ fn tape_of_record(
     }
 }
 
-/// The tape of the log whose events a reducer has taken, of a module that imports this number of functions.
-pub fn tape_of(reducer: Reducer, imports: u32, outcome: Outcome) -> Result<Tape, Fault>
-    requires { HasTakenBalanced reducer imports outcome }
+/// The tape of the log whose events a reducer has taken, of a module that imports this number of functions. The reducer
+/// was made for that number and for the weight that the tape of a replay module may have.
+pub(crate) fn tape_of(reducer: Reducer, imports: u32, outcome: Outcome) -> Result<Tape, Fault>
+    requires balanced { HasTakenBalanced reducer imports outcome }
+    requires imports { imports_of reducer ≡ imports }
+    requires most { most_of reducer ≡ MAX_TAPE_WEIGHT }
     ensures { (taken : List Event) → HasTaken reducer taken
         → IsLightTape (record { imports = imports; events = taken; outcome = outcome }) result }
 {
-    // The contract on what a sink has taken does not say that the sink is the reducer that was passed in.
-    if !reducer.is_for(imports, MAX_TAPE_WEIGHT) {
-        return Err(Fault::Memory);
-    }
     match tape_from(reducer, outcome) {
         Ok(tape) => Ok(tape),
         Err(ReducerFault::Unbalanced { .. }) => unreachable!(),

@@ -1,5 +1,5 @@
 -- The file that the log of a file is reduced to, or why there is none.
-use Rattle.std.specs.Prelude.{◌≡◌, ◌⊎◌, ℕ, List, [], ◌∷◌, Some, false}
+use Rattle.std.specs.Prelude.{◌≡◌, ◌≤◌, ◌⊎◌, ℕ, List, [], ◌∷◌, length, Some, false}
 use Rattle.base.specs.declared.outcomes.Outcome.{Outcome}
 use Rattle.wasm_syntax.specs.declared.limits.TheConstants.{MAX_TRACE_BYTES}
 use Rattle.trace_model.specs.Sink.{TookAlso}
@@ -11,7 +11,7 @@ use Rattle.trace_bytes.specs.declared.tags.TheConstants.{VERSION_2}
 use Rattle.trace_bytes.specs.Spelled.{SpellsTape}
 use Rattle.trace_format.specs.Faults.{IsLogOf}
 use Rattle.record_replay_spec.specs.LogTapes.{IsLogTape}
-use Rattle.trace_reduce.specs.Reducer.{HasTaken, imports_of, most_of}
+use Rattle.trace_reduce.specs.Reducer.{HasTaken, HasTakenSince, imports_of, most_of}
 use Rattle.trace_reduce.specs.declared.reducer.Reducer.{Reducer}
 use Rattle.r3_faults.specs.declared.faults.Fault.{Fault}
 use Rattle.r3_faults.specs.declared.faults.Fault.TheVariants.{Unbalanced}
@@ -34,15 +34,14 @@ pub record IsReduced (bytes file : List ℕ) : Type 0 where
 -- ---- the reducer
 
 -- a reducer takes one more event
-pub record TakesNext (before : Reducer) (event : Event) (now : Reducer) : Type 0 where
-  pub took : TookAlso HasTaken before now (event ∷ [])
-  pub imports : imports_of now ≡ imports_of before
-  pub most : most_of now ≡ most_of before
+abbrev pub TakesNext : (before : Reducer) → Event → (now : Reducer) → Type 0
+TakesNext before event now = TookAlso HasTakenSince before now (event ∷ [])
 
--- a reducer has taken the events of a log, whose run ended with this outcome; the tape may weigh as much as the log's
--- file may have bytes
+-- a reducer has taken the events of a log, whose run ended with this outcome; the log has no more events than its file
+-- may have bytes, and the tape may weigh as much
 pub record HasTakenLog (reducer : Reducer) (outcome : Outcome) (log : Log) : Type 0 where
   pub taken : HasTaken reducer log.events
+  pub few : length log.events ≤ MAX_TRACE_BYTES
   pub imports : imports_of reducer ≡ log.imports
   pub most : most_of reducer ≡ MAX_TRACE_BYTES
   pub ended : outcome ≡ log.outcome

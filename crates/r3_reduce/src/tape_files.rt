@@ -50,6 +50,7 @@ fn reduced_file(alloc: Global, bytes: &[u8]) -> Result<Vec<u8>, Fault>
 
 /// The digest of a log's file, the reducer that has taken its events one at a time, and the outcome.
 fn read_events(alloc: Global, bytes: &[u8]) -> Result<(Digest, Reducer, Outcome), FormatFault>
+    requires { length bytes.now ≤ MAX_TRACE_BYTES }
     ensures { MatchResult result
         (λ read. IsTaken bytes.now read.0 read.1 read.2)
         (λ fault. IsLogFault bytes.now fault) }

@@ -1,2 +1,3 @@
 mod OneAnswer
+pub mod FaultCases
 mod ModuleAnswers

@@ -13,7 +13,8 @@ module _ (bytes : List ℕ) (q : Result Module Fault) (refused : (fault : Fault)
     (accepted : (m : Module) → IsModuleIn Replay bytes m → (q ≡ Ok m) ⊎ (q ≡ Err Memory)) where
   -- the module is refused, and the call passes the fault on
   module _ (err : Fault) (is : q ≡ Err err) where
-    pub refusal-answer : {T : Type 0} (r : Result T Fault) → IsErrAnd r (λ other. other ≡ err) → (turns : ℕ) (fault : Fault) → IsReplayRefusal bytes turns fault → IsAnswer r fault
+    pub refusal-answer : {T : Type 0} (r : Result T Fault) → IsErrAnd r (λ other. other ≡ err)
+        → (turns : ℕ) (fault : Fault) → IsReplayRefusal bytes turns fault → IsAnswer r fault
     refusal-answer r passes turns fault (OfModule found) = answer-passed r err fault passes (answer-err q err fault is (refused fault found))
     refusal-answer r passes turns fault (OfRun m taken none) = answer-passed r err fault passes (inr (memory-err q m err is (accepted m taken)))
 

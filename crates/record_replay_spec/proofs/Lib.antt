@@ -18,10 +18,11 @@ pub mod SameExecutions
 pub mod ShownMemorySteps
 pub mod ShownTableSteps
 pub mod ShownSteps
-mod Indices
+pub mod Indices
 pub mod Bodies
 mod Modules
 pub mod LongestRuns
 mod LogTapes
 pub mod HookTables
 mod TestedTapes
+pub mod Awaited

@@ -19,6 +19,7 @@ use Rattle.wasm_syntax.specs.declared.modules.Module.{Module}
 use Rattle.wasm_syntax.specs.Index.{of_kind, func_import, table_import, memory_import, global_import, func_indices, imported_funcs, type_at, func_type}
 use Rattle.wasm_syntax.specs.Alike.{same_signature}
 use Rattle.wasm_syntax.specs.Nest.{Nest, nest_of}
+use Rattle.wasm_syntax.proofs.JoinedLists.{kinds_append}
 use Rattle.record_replay_spec.specs.declared.hooks.Hook.{Hook}
 use Rattle.record_replay_spec.specs.declared.hooks.Hook.TheVariants.{Arg, Enter, Leave, Pre, Post, Ipre, Ipost, Load, Store, Size, Grow, Gget, Gset, Copy, Fill}
 use Rattle.record_replay_spec.specs.Hooks.{hooks, hook_count, hook_place, hook_func, hook_name, hook_type, renumber}
@@ -27,16 +28,6 @@ use Rattle.record_replay_spec.specs.HookedForm.{HookedForm, is_of_type, is_from_
 use Rattle.record_replay_spec.specs.HookLaws.{InstrumentedKeepsIndices, InstrumentedKeepIndices, InstrumentedAreHooked}
 
 -- ---- lists
-
-of_kind_both : {K : Type 0} (pick : ImportKind → Option K) (a b : List Import)
-    → of_kind pick (a ++ b) ≡ of_kind pick a ++ of_kind pick b
-of_kind_both pick [] b = refl
-of_kind_both {K = K} pick (i ∷ a) b = go (pick i.kind) (of_kind_both pick a b)
-  where
-    go : (o : Option K) → of_kind pick (a ++ b) ≡ of_kind pick a ++ of_kind pick b
-        → cons_option o (of_kind pick (a ++ b)) ≡ cons_option o (of_kind pick a) ++ of_kind pick b
-    go None same = same
-    go (Some x) same = ap (λ xs. x ∷ xs) same
 
 func_kinds : (imports : List Import)
     → length (filter (λ import. is_func_kind import.kind) imports) ≡ length (of_kind func_import imports)
@@ -158,7 +149,7 @@ module _ (m : Module) (digest : List ℕ) where
       ≡ (of_kind func_import m.imports ++ of_kind func_import (map (hook_import m) hooks))
       ++ map (λ func. func.ty) m.funcs
   indices_kept =
-      let a = of_kind_both func_import m.imports (map (hook_import m) hooks) in
+      let a = kinds_append func_import m.imports (map (hook_import m) hooks) in
       let b = funcs_types m (imported_funcs m) m.funcs in (λ i. a i ++ b i)
 
   -- a type of the original is kept
@@ -207,7 +198,7 @@ module _ (m : Module) (digest : List ℕ) where
   others_kept : {K : Type 0} (pick : ImportKind → Option K) → of_kind pick (map (hook_import m) hooks) ≡ []
       → of_kind pick (m.imports ++ map (hook_import m) hooks) ≡ of_kind pick m.imports
   others_kept pick none =
-      of_kind_both pick m.imports (map (hook_import m) hooks)
+      kinds_append pick m.imports (map (hook_import m) hooks)
       ∙ ap (λ more. of_kind pick m.imports ++ more) none
       ∙ append-nil (of_kind pick m.imports)
 
@@ -215,7 +206,7 @@ module _ (m : Module) (digest : List ℕ) where
   keeps_indices =
       record {
         imports =
-            ap length (of_kind_both func_import m.imports (map (hook_import m) hooks))
+            ap length (kinds_append func_import m.imports (map (hook_import m) hooks))
             ∙ length-append (of_kind func_import m.imports) (of_kind func_import (map (hook_import m) hooks));
         defined = funcs_length m (imported_funcs m) m.funcs;
         type_of = type_of_kept;

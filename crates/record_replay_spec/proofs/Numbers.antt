@@ -89,14 +89,14 @@ module _ (to from : ℕ) (wider : 2 ^ from ≤ 2 ^ to) where
 
 -- ---- loads
 
-abbrev is_narrow : Access → Bool
-is_narrow access = nat_le (8 * access.width) (bits_of access.ty)
+abbrev is_no_wider : Access → Bool
+is_no_wider access = nat_le (8 * access.width) (bits_of access.ty)
 
 -- a load reads at most as many bits as its value has
-narrow_access : (op : ℕ) (access : Access) → load_of op ≡ Some access → is_narrow access ≡ true
-narrow_access op access h =
+no_wider : (op : ℕ) (access : Access) → load_of op ≡ Some access → is_no_wider access ≡ true
+no_wider op access h =
     let there = cond_some (is_from I32_LOAD I64_LOAD32_U op) (slice_get load_table (op - I32_LOAD)) access h in
-    item_passes is_narrow load_table (op - I32_LOAD) access refl there.1
+    item_passes is_no_wider load_table (op - I32_LOAD) access refl there.1
 
 -- loads that give equal numbers read equal bytes
 pub same_loaded : (op : ℕ) (access : Access) → load_of op ≡ Some access → (bytes others : List ℕ)
@@ -115,7 +115,7 @@ same_loaded op access is bytes others long longer small smaller h =
         → number_of bytes ≡ number_of others
     go false e = e
     go true e =
-        let t = narrow_access op access is in
+        let t = no_wider op access is in
         let fits : from ≤ bits_of access.ty = grind (arith, nat_tests, t) in
         same_extension (bits_of access.ty) from (pow_mono fits) (number_of bytes) (number_of others)
         (subst (λ n. number_of bytes < 2 ^ (8 * n)) long (number_below bytes small))

@@ -10,6 +10,7 @@ use Rattle.wasm_syntax.specs.declared.values.Val.{Val}
 use Rattle.trace_model.specs.declared.tapes.Effect.{Effect}
 use Rattle.trace_model.specs.declared.tapes.Effect.TheVariants.{Grow, Table, Bytes, Entry, Global}
 use Rattle.trace_model.specs.Effects.{is_before, are_ordered_after, are_ordered}
+use Rattle.history_spec.proofs.PlacedBytes.{byte_below, byte_in}
 use Rattle.record_replay_spec.specs.Known.{byte_among, last_some}
 use Rattle.record_replay_spec.specs.Needed.{effect_byte, effect_entry, effect_global, effect_pages, effect_entries, has_bytes, Given, SameGiven, GiveJust, given_by}
 
@@ -143,17 +144,6 @@ byte_within address at x bytes h =
     let w : at - address < length bytes = slice_get_within bytes (at - address) x p.1 in
     omega (arith, q, w)
 
-byte_before : (address at : ℕ) (bytes : List ℕ) → at < address → byte_among address bytes at ≡ None
-byte_before address at bytes h =
-    let p : nat_le address at ≡ false = grind (arith, nat_tests, h) in
-    ap (λ b. cond b (slice_get bytes (at - address)) None) p
-
-byte_in : (address k : ℕ) (bytes : List ℕ) → byte_among address bytes (address + k) ≡ slice_get bytes k
-byte_in address k bytes =
-    let p : nat_le address (address + k) ≡ true = grind (arith, nat_tests) in
-    let q : address + k - address ≡ k = omega arith in
-    ap (λ b. cond b (slice_get bytes (address + k - address)) None) p ∙ ap (slice_get bytes) q
-
 abbrev ByteAbove : ℕ → Effect → Type 0
 ByteAbove at (Grow pages) = ⊥
 ByteAbove at (Table size) = ⊥
@@ -175,7 +165,7 @@ byte_kind at = record { gives_none = none; goes_on = on; next = next }
     none : (f : Effect) → ByteAbove at f → effect_byte at f ≡ None
     none (Grow pages) above = absurd above
     none (Table size) above = absurd above
-    none (Bytes address bytes) above = byte_before address at bytes above
+    none (Bytes address bytes) above = byte_below address bytes at above
     none f above = refl
 
     on : (f g : Effect) → ByteAbove at f → is_before f g ≡ true → ByteAbove at g
@@ -198,7 +188,7 @@ byte_kind at = record { gives_none = none; goes_on = on; next = next }
 
 -- ---- entries and globals
 
-own_place : {X : Type 0} (i : ℕ) (x : X) → cond (nat_eq i i) (Some x) None ≡ Some x
+pub own_place : {X : Type 0} (i : ℕ) (x : X) → cond (nat_eq i i) (Some x) None ≡ Some x
 own_place i x =
     let p : nat_eq i i ≡ true = grind (arith, nat_tests) in
     ap (λ b. cond b (Some x) None) p

@@ -6,6 +6,7 @@ use Rattle.wasm_syntax.specs.declared.values.Val.{Val}
 use Rattle.trace_model.specs.declared.events.Event.{Event}
 use Rattle.trace_model.specs.declared.events.Event.TheVariants as events
 use Rattle.trace_model.specs.Sink.{TookAlso}
+use Rattle.trace_model.proofs.SinkLemmas.{took_both, took_same}
 use Rattle.history_spec.specs.Store.{Store, Memory}
 use Rattle.wasm_store.specs.Calls.{pages_in, pages_of_memory}
 use Rattle.record_replay_spec.specs.Observations.{Observation}
@@ -19,13 +20,13 @@ use Rattle.shadow_memory.specs.Shadow.{Shadow}
 use Rattle.shadow_tables.specs.Tables.{Tables}
 use Rattle.recorder.specs.Known.{Show, Reports, ReportsMemory, ReportsTables}
 use Rattle.recorder.specs.Recordings.{Recording, Logs, Takes, order_after}
-use Rattle.recorder.proofs.Kit.{resized, took_both, took_same}
+use Rattle.recorder.proofs.Kit.{resized}
 
 pub pages_same : (memory : Option Memory) → pages_of_memory memory ≡ pages_of memory
 pages_same None = refl
 pages_same (Some memory) = refl
 
-module _ {S : Type 0} (has_taken : S → List Event → Type 0) (before : Recording S) (kind : Hook) (args : List Val)
+module _ {S : Type 0} (has_taken : S → S → List Event → Type 0) (before : Recording S) (kind : Hook) (args : List Val)
     (view : Store) where
   abbrev call : HookCall
   call = record { kind = kind; args = args; view = view }

@@ -6,6 +6,7 @@ use Rattle.std.proofs.lemmas.List.{append-nil}
 use Rattle.std.proofs.lemmas.Option.{slice_get_past, slice_get-get_or}
 use Rattle.trace_model.specs.declared.events.Event.{Event}
 use Rattle.trace_model.specs.declared.events.Event.TheVariants.{Table as TableEvent}
+use Rattle.trace_model.proofs.SinkLemmas.{took_same}
 use Rattle.history_spec.specs.Store.{Store, Table}
 use Rattle.history_spec.specs.Instantiation.{table_length}
 use Rattle.wasm_store.specs.Calls.{entries_of_table, entries_in}
@@ -16,7 +17,7 @@ use Rattle.record_replay_spec.specs.Hooks.{on}
 use Rattle.record_replay_spec.specs.Logs.{unless, all_observed_events}
 use Rattle.shadow_tables.specs.Tables.{Tables}
 use Rattle.recorder.specs.Known.{ReportsTables}
-use Rattle.recorder.proofs.Kit.{reports_then, took_same}
+use Rattle.recorder.proofs.Kit.{reports_then}
 
 pub size_same : (store : Store) → length (entries_in store) ≡ table_length store.table
 size_same store = go store.table
@@ -32,7 +33,7 @@ below_after known index found below = go (nat_lt index known) refl
     go true p = grind (arith, nat_tests, p)
     go false p = below
 
-module _ {S : Type 0} (has_taken : S → List Event → Type 0) (n : ℕ) (a b : Tables) (s t : S) (index : ℕ) where
+module _ {S : Type 0} (has_taken : S → S → List Event → Type 0) (n : ℕ) (a b : Tables) (s t : S) (index : ℕ) where
   -- nothing is observed of a missing table
   reaches_none : length a.entries ≡ 0 → ReportsTables has_taken n a s (ReachesEntry index 0 ∷ []) b t
       → ReportsTables has_taken n a s [] b t

@@ -10,12 +10,14 @@ use Rattle.wasm_syntax.specs.declared.values.Val.{Val}
 use Rattle.trace_model.specs.declared.events.Event.{Event}
 use Rattle.trace_model.specs.declared.events.Event.TheVariants.{Table, Entry, Global}
 use Rattle.trace_model.specs.Sink.{TookAlso}
+use Rattle.trace_model.proofs.SinkLemmas.{took_none, took_same}
 use Rattle.record_replay_spec.specs.Observations.{ReachesEntry, ReadsEntry, ReadsGlobal, WritesGlobal}
 use Rattle.record_replay_spec.specs.Hooks.{original}
-use Rattle.record_replay_spec.specs.Logs.{LogState, unless, same_entry, same_bits, all_observed_events}
+use Rattle.record_replay_spec.specs.Alike.{same_option}
+use Rattle.record_replay_spec.specs.Logs.{LogState, unless, same_bits, all_observed_events}
 use Rattle.shadow_tables.specs.Tables.{Tables}
 use Rattle.recorder.specs.Known.{ReportsTables}
-use Rattle.recorder.proofs.Kit.{took_none, took_same, with_entries, with_globals}
+use Rattle.recorder.proofs.Kit.{with_entries, with_globals}
 
 -- ---- the table's size
 
@@ -28,7 +30,7 @@ padded [] (suc count) (suc at) = padded [] count at
 padded (x ∷ xs) count zero = refl
 padded (x ∷ xs) count (suc at) = padded xs count at
 
-module _ {S : Type 0} (has_taken : S → List Event → Type 0) (n : ℕ) (tables : Tables) where
+module _ {S : Type 0} (has_taken : S → S → List Event → Type 0) (n : ℕ) (tables : Tables) where
   pub reaches_known : (sink : S) (index found : ℕ) → index < length tables.entries
       → ReportsTables has_taken n tables sink (ReachesEntry index found ∷ []) tables sink
   reaches_known sink index found below memory state shows =
@@ -70,13 +72,13 @@ pub true_false : true ≡ false → ⊥
 true_false e = cc
 
 -- two entries are equal if and only if the test says so
-same_is : (a b : Option ℕ) → same_entry a b ≡ true → a ≡ b
+same_is : (a b : Option ℕ) → same_option nat_eq a b ≡ true → a ≡ b
 same_is None None h = refl
 same_is None (Some b) h = cc
 same_is (Some a) None h = cc
 same_is (Some a) (Some b) h = let e : a ≡ b = grind (arith, nat_tests, h) in ap Some e
 
-same_self : (a : Option ℕ) → same_entry a a ≡ true
+same_self : (a : Option ℕ) → same_option nat_eq a a ≡ true
 same_self None = refl
 same_self (Some a) = grind (arith, nat_tests)
 
@@ -87,29 +89,29 @@ module _ (entries : List (Option ℕ)) (index : ℕ) (func : Option ℕ) (below 
   there : slice_get entries index ≡ Some known
   there = slice_get-get_or entries index None below
 
-  differs_test : slice_get entries index ≢ Some func → same_entry known func ≡ false
-  differs_test apart = go (same_entry known func) refl
+  differs_test : slice_get entries index ≢ Some func → same_option nat_eq known func ≡ false
+  differs_test apart = go (same_option nat_eq known func) refl
     where
-      go : (b : Bool) → same_entry known func ≡ b → b ≡ false
+      go : (b : Bool) → same_option nat_eq known func ≡ b → b ≡ false
       go true p = absurd (apart (there ∙ ap Some (same_is known func p)))
       go false p = refl
 
-  same_test : (slice_get entries index ≢ Some func → ⊥) → same_entry known func ≡ true
-  same_test same = go (same_entry known func) refl
+  same_test : (slice_get entries index ≢ Some func → ⊥) → same_option nat_eq known func ≡ true
+  same_test same = go (same_option nat_eq known func) refl
     where
-      go : (b : Bool) → same_entry known func ≡ b → b ≡ true
+      go : (b : Bool) → same_option nat_eq known func ≡ b → b ≡ true
       go true p = refl
       go false p = absurd (same (λ e. true_false (sym (one e) ∙ p)))
         where
           inner : Some known ≡ Some func → known ≡ func
           inner e = cc
 
-          one : slice_get entries index ≡ Some func → same_entry known func ≡ true
-          one e = subst (λ f. same_entry known f ≡ true) (inner (sym there ∙ e)) (same_self known)
+          one : slice_get entries index ≡ Some func → same_option nat_eq known func ≡ true
+          one e = subst (λ f. same_option nat_eq known f ≡ true) (inner (sym there ∙ e)) (same_self known)
 
-module _ {S : Type 0} (has_taken : S → List Event → Type 0) (n : ℕ) (tables : Tables) (index : ℕ) (func : Option ℕ)
+module _ {S : Type 0} (has_taken : S → S → List Event → Type 0) (n : ℕ) (tables : Tables) (index : ℕ) (func : Option ℕ)
     (below : index < length tables.entries) where
-  events_by : (state : LogState) → (b : Bool) → same_entry (state.known.entry index) func ≡ b
+  events_by : (state : LogState) → (b : Bool) → same_option nat_eq (state.known.entry index) func ≡ b
       → all_observed_events n state (ReadsEntry index func ∷ [])
       ≡ unless b (Entry index (option_and_then (original n) func)) ++ []
   events_by state b p = ap (λ t. unless t (Entry index (option_and_then (original n) func)) ++ []) p
@@ -119,8 +121,8 @@ module _ {S : Type 0} (has_taken : S → List Event → Type 0) (n : ℕ) (table
       → ReportsTables has_taken n tables sink (ReadsEntry index func ∷ [])
       (record tables { entries = slice_set tables.entries index func }) sink'
   finds_entry sink sink' callee is apart reported memory state shows =
-      let p : same_entry (state.known.entry index) func ≡ false =
-      ap (λ known. same_entry known func) (shows.entry index) ∙ differs_test tables.entries index func below apart in (
+      let p : same_option nat_eq (state.known.entry index) func ≡ false =
+      ap (λ known. same_option nat_eq known func) (shows.entry index) ∙ differs_test tables.entries index func below apart in (
         with_entries shows _ _ (slice_set tables.entries index func) (λ at. entry at (nat_eq index at) refl)
             (shows.entries ∙ sym (length-set tables.entries index func)),
         took_same has_taken sink sink' _ (all_observed_events n state (ReadsEntry index func ∷ []))
@@ -145,8 +147,8 @@ module _ {S : Type 0} (has_taken : S → List Event → Type 0) (n : ℕ) (table
       → ReportsTables has_taken n tables sink (ReadsEntry index func ∷ []) tables sink
   knows_entry sink same memory state shows =
       let q = same_test tables.entries index func below same in
-      let p : same_entry (state.known.entry index) func ≡ true =
-      ap (λ known. same_entry known func) (shows.entry index) ∙ q in (
+      let p : same_option nat_eq (state.known.entry index) func ≡ true =
+      ap (λ known. same_option nat_eq known func) (shows.entry index) ∙ q in (
         with_entries shows _ _ tables.entries
             (λ at. entry (same_is (slice_index_or tables.entries index None) func q) at (nat_eq index at) refl) shows.entries,
         took_same has_taken sink sink _ (all_observed_events n state (ReadsEntry index func ∷ []))
@@ -255,7 +257,7 @@ set_global globals index at value below false p old same =
     apart : index ≡ at → ⊥
     apart e = let q : nat_eq index at ≡ true = grind (arith, nat_tests, e) in true_false (sym q ∙ p)
 
-module _ {S : Type 0} (has_taken : S → List Event → Type 0) (n : ℕ) (tables : Tables) (global : ℕ) (value : Val)
+module _ {S : Type 0} (has_taken : S → S → List Event → Type 0) (n : ℕ) (tables : Tables) (global : ℕ) (value : Val)
     (typed : option_map (λ known. known.ty) (slice_get tables.globals global) ≡ Some value.ty) where
   global_events : (state : LogState) → (b : Bool) → same_bits (state.known.global global) value ≡ b
       → all_observed_events n state (ReadsGlobal global value ∷ []) ≡ unless b (Global global value) ++ []

@@ -7,6 +7,7 @@ use Rattle.std.proofs.lemmas.Bool.Decides.{nat_tests}
 use Rattle.std.proofs.lemmas.List.{append-nil, get_or-drop, get_or-take, length-drop, length-take-le, length-append, length-replicate, replicate-append-replicate, take_at, drop_at}
 use Rattle.base.proofs.Options.{or_none}
 use Rattle.trace_model.specs.declared.events.Event.{Event}
+use Rattle.trace_model.proofs.SinkLemmas.{took_none, took_both, took_same}
 use Rattle.record_replay_spec.specs.Observations.{Reads, Writes}
 use Rattle.record_replay_spec.specs.Logs.{differing_runs, all_observed_events, log_after}
 use Rattle.shadow_memory.specs.Shadow.{Shadow, byte_among, HasTaken}
@@ -14,7 +15,6 @@ use Rattle.shadow_memory.specs.declared.runs.Difference.{Difference}
 use Rattle.shadow_memory.proofs.WrittenBytes.{among_there, among_below, among_past, Among, Below, There, Past, where_among}
 use Rattle.recorder.specs.Known.{ReportsMemory}
 use Rattle.recorder.specs.Bytes.{run_event, FindsRun, FindsNothing}
-use Rattle.recorder.proofs.Kit.{took_none, took_both, took_same}
 use Rattle.recorder.proofs.Sizes.{writes}
 use Rattle.recorder.proofs.Differences.{known_runs, same_runs, first_run}
 
@@ -65,7 +65,7 @@ module _ (address : ℕ) (bytes : List ℕ) (cut : ℕ) (within : cut ≤ length
 
 -- ---- a run, and what comes after it
 
-module _ {S : Type 0} (has_taken : S → List Event → Type 0) where
+module _ {S : Type 0} (has_taken : S → S → List Event → Type 0) where
   pub finds_nothing : (before : Shadow) (sink : S) (address : ℕ) (bytes : List ℕ) (after : Shadow) (sink' : S)
       → FindsNothing has_taken before sink address bytes after sink'
       → ReportsMemory has_taken before sink (Reads address bytes ∷ []) after sink'

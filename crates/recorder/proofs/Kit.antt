@@ -1,51 +1,36 @@
--- What sinks take and what shadows show, after observations one after another.
-use Rattle.std.proofs.Common.{◌≡◌, ℕ, List, [], ◌∷◌, ◌++◌, length, Option, None, slice_get, slice_index, slice_index_or, sym, ap, subst}
-use Rattle.std.proofs.lemmas.List.{append_assoc, append-nil}
+-- What a keeper reports and what shadows show, after observations one after another.
+use Rattle.std.proofs.Common.{◌≡◌, ℕ, List, [], ◌∷◌, ◌++◌, length, Option, None, slice_get, slice_index, slice_index_or, ap}
+use Rattle.std.proofs.lemmas.List.{append-nil}
 use Rattle.wasm_syntax.specs.declared.values.Val.{Val}
 use Rattle.trace_model.specs.declared.events.Event.{Event}
-use Rattle.trace_model.specs.Sink.{TookAlso}
+use Rattle.trace_model.proofs.SinkLemmas.{took_none, took_both, took_same}
 use Rattle.record_replay_spec.specs.Observations.{Observation}
 use Rattle.record_replay_spec.specs.Logs.{LogState, observed_events, all_observed_events, log_after}
 use Rattle.shadow_memory.specs.Shadow.{Shadow}
 use Rattle.shadow_tables.specs.Tables.{Tables}
 use Rattle.recorder.specs.Known.{Keeper, Show, Reports}
 
-module _ {S : Type 0} (has_taken : S → List Event → Type 0) where
-  -- nothing was taken
-  pub took_none : (sink : S) → TookAlso has_taken sink sink []
-  took_none sink taken h = subst (has_taken sink) (sym (append-nil taken)) h
+module _ {S : Type 0} (has_taken : S → S → List Event → Type 0) (n : ℕ) where
+  -- nothing is observed
+  pub reports_none : (keeper : Keeper S) → Reports has_taken n keeper [] keeper
+  reports_none keeper state shows = (shows, took_none has_taken keeper.sink)
 
-  -- some events, and others then
-  pub took_both : (a b c : S) (first later : List Event) → TookAlso has_taken a b first → TookAlso has_taken b c later
-      → TookAlso has_taken a c (first ++ later)
-  took_both a b c first later f g taken h =
-      subst (has_taken c) (append_assoc taken first later) (g (taken ++ first) (f taken h))
-
-  pub took_same : (a b : S) (events others : List Event) → events ≡ others → TookAlso has_taken a b events
-      → TookAlso has_taken a b others
-  took_same a b events others same f = subst (TookAlso has_taken a b) same f
-
-  module _ (n : ℕ) where
-    -- nothing is observed
-    pub reports_none : (keeper : Keeper S) → Reports has_taken n keeper [] keeper
-    reports_none keeper state shows = (shows, took_none keeper.sink)
-
-    -- one observation, and others then
-    pub reports_then : (a b c : Keeper S) (o : Observation) (later : List Observation)
-        → Reports has_taken n a (o ∷ []) b → Reports has_taken n b later c → Reports has_taken n a (o ∷ later) c
-    reports_then a b c o later f g state shows =
-        let first = f state shows in
-        let rest = g (log_after state o) first.0 in
-        let joined =
-        took_both a.sink b.sink c.sink (observed_events n state o ++ [])
-        (all_observed_events n (log_after state o) later) first.1 rest.1
-        in (
-          rest.0,
-          took_same a.sink c.sink _ _
-              (ap (λ events. events ++ all_observed_events n (log_after state o) later)
-              (append-nil (observed_events n state o)))
-              joined,
-        )
+  -- one observation, and others then
+  pub reports_then : (a b c : Keeper S) (o : Observation) (later : List Observation)
+      → Reports has_taken n a (o ∷ []) b → Reports has_taken n b later c → Reports has_taken n a (o ∷ later) c
+  reports_then a b c o later f g state shows =
+      let first = f state shows in
+      let rest = g (log_after state o) first.0 in
+      let joined =
+      took_both has_taken a.sink b.sink c.sink (observed_events n state o ++ [])
+      (all_observed_events n (log_after state o) later) first.1 rest.1
+      in (
+        rest.0,
+        took_same has_taken a.sink c.sink _ _
+            (ap (λ events. events ++ all_observed_events n (log_after state o) later)
+            (append-nil (observed_events n state o)))
+            joined,
+      )
 
 -- shadows show a state by its parts
 pub show_by : {memory : Shadow} {tables : Tables} {state : LogState}

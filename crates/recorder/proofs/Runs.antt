@@ -2,6 +2,7 @@
 use Rattle.std.proofs.Common.{◌≡◌, ℕ, ◌+◌, List, [], ◌∷◌, ◌++◌, length, Option, Some, None, Ok, Err, false, inl, inr, refl, sym, ap, ◌∙◌, subst}
 use Rattle.trace_model.specs.declared.events.Event.{Event}
 use Rattle.trace_model.specs.Sink.{TookAlso}
+use Rattle.trace_model.proofs.SinkLemmas.{took_none, took_both}
 use Rattle.hook_names.specs.declared.hooks.HookFault.TheVariants.{Order}
 use Rattle.hook_names.specs.Steps.{IsRun}
 use Rattle.history_spec.specs.Instantiation.{table_length}
@@ -14,7 +15,7 @@ use Rattle.recorder.specs.Known.{Show}
 use Rattle.recorder.specs.Recordings.{order_after}
 use Rattle.recorder.specs.Recorders.{Recorded, after_freeze, IsAnswer, IsRecorderStep, StandsAt}
 use Rattle.recorder.specs.Laws.{IsNext, StepsAreRecorded, RunsAreRecorded, LogsAreRecorded}
-use Rattle.recorder.proofs.Kit.{show_by, took_none, took_both}
+use Rattle.recorder.proofs.Kit.{show_by}
 
 -- a recorder that is frozen stays where it is
 frozen_stands : {S : Type 0} (before : Recorded S) (shape : HookedShape) (order : OrderState) (log : LogState)
@@ -30,7 +31,7 @@ frozen_stands before shape order log number stands =
           stands.shows.noticed;
     }
 
-module _ {S : Type 0} (has_taken : S → List Event → Type 0) (shape : HookedShape) where
+module _ {S : Type 0} (has_taken : S → S → List Event → Type 0) (shape : HookedShape) where
   -- the order after a call, in terms of the recorder's parts
   same_order : (before : Recorded S) (order : OrderState) (log : LogState) (number : ℕ) (call : HookCall)
       → StandsAt before shape order log number
@@ -118,7 +119,7 @@ module _ {S : Type 0} (has_taken : S → List Event → Type 0) (shape : HookedS
       (same_order before order log number call stands ∙ answer.0)
       ∙ ap Some (sym (answer.1 ∙ stands.counted))
 
-pub steps_are_recorded : {S : Type 0} (has_taken : S → List Event → Type 0) → StepsAreRecorded has_taken
+pub steps_are_recorded : {S : Type 0} (has_taken : S → S → List Event → Type 0) → StepsAreRecorded has_taken
 steps_are_recorded has_taken before shape order log number stands =
     record {
       accepted = λ call after step.
@@ -142,7 +143,7 @@ steps_are_recorded has_taken before shape order log number stands =
       top = ap (λ o. o.frames) stands.ordered;
     }
 
-pub runs_are_recorded : {S : Type 0} (has_taken : S → List Event → Type 0) → RunsAreRecorded has_taken
+pub runs_are_recorded : {S : Type 0} (has_taken : S → S → List Event → Type 0) → RunsAreRecorded has_taken
 runs_are_recorded has_taken before shape order log number stands =
     record {
       accepted = λ calls after run. accepted has_taken shape calls before order log number after stands run;
@@ -174,7 +175,7 @@ module _ (shape : HookedShape) where
           inner e = cc
       go rest (Some next) h = ap (after_events (call_events shape log order.pending call)) (rest next h)
 
-pub logs_are_recorded : {S : Type 0} (has_taken : S → List Event → Type 0) → LogsAreRecorded has_taken
+pub logs_are_recorded : {S : Type 0} (has_taken : S → S → List Event → Type 0) → LogsAreRecorded has_taken
 logs_are_recorded has_taken before shape opened stands empty =
     record {
       accepted = λ calls outcome after run.
@@ -183,7 +184,7 @@ logs_are_recorded has_taken before shape opened stands empty =
           stands run in (
             record { imports = shape.imports; events = made.0; outcome = outcome },
             ap (log_with shape.imports outcome) made.1,
-            made.2 [] empty,
+            made.2 before.recording.sink [] empty,
             ap (λ s. s.imports) (sym made.4),
             refl,
             made.3,

@@ -2,13 +2,13 @@
 use Rattle.std.proofs.Common.{◌≡◌, ℕ, List, [], ◌∷◌, Result, Ok, Err, sym, ap, ◌∙◌}
 use Rattle.std.specs.Prelude.{unwrap_or, OnErr, OnOk}
 use Rattle.trace_model.specs.declared.events.Event.{Event}
+use Rattle.trace_model.proofs.SinkLemmas.{took_none}
 use Rattle.record_replay_spec.specs.Observations.{Writes}
 use Rattle.record_replay_spec.specs.Known.{byte_among}
 use Rattle.shadow_memory.specs.Shadow.{Shadow, HasTaken, IsUnchanged}
 use Rattle.recorder.specs.Known.{ReportsMemory}
-use Rattle.recorder.proofs.Kit.{took_none}
 
-module _ {S : Type 0} (has_taken : S → List Event → Type 0) (memory : Shadow) where
+module _ {S : Type 0} (has_taken : S → S → List Event → Type 0) (memory : Shadow) where
   -- bytes that are written are known
   pub writes : (sink : S) (address : ℕ) (bytes : List ℕ) (after : Shadow) → HasTaken memory address bytes after
       → ReportsMemory has_taken memory sink (Writes address bytes ∷ []) after sink

@@ -4,6 +4,7 @@ use Rattle.wasm_syntax.specs.declared.values.Val.{Val}
 use Rattle.trace_model.specs.declared.events.Event.{Event}
 use Rattle.trace_model.specs.declared.events.Event.TheVariants as events
 use Rattle.trace_model.specs.Sink.{TookAlso}
+use Rattle.trace_model.proofs.SinkLemmas.{took_none, took_both, took_same}
 use Rattle.history_spec.specs.Store.{Store}
 use Rattle.history_spec.specs.Instantiation.{table_length}
 use Rattle.history_spec.specs.Instruction.{bits_at}
@@ -21,7 +22,6 @@ use Rattle.shadow_memory.specs.Shadow.{Shadow}
 use Rattle.shadow_tables.specs.Tables.{Tables}
 use Rattle.recorder.specs.Known.{HaveTypes, Show, ReportsMemory, ReportsTables}
 use Rattle.recorder.specs.Recordings.{Recording, Takes}
-use Rattle.recorder.proofs.Kit.{took_none, took_both, took_same}
 use Rattle.recorder.proofs.Arms.{takes_memory, takes_tables, takes_reported, takes_noticed}
 use Rattle.recorder.proofs.AccessArguments.{read_is, write_is, known_typed}
 use Rattle.recorder.proofs.Entries.{writes_global}
@@ -34,7 +34,7 @@ abbrev noticed_after : {S : Type 0} (before : Recording S) (order : OrderParts) 
 noticed_after before order memory sink =
     record { order = order; memory = memory; tables = before.tables; sink = sink }
 
-module _ {S : Type 0} {has_taken : S → List Event → Type 0} {before : Recording S} {args : List Val} {view : Store}
+module _ {S : Type 0} {has_taken : S → S → List Event → Type 0} {before : Recording S} {args : List Val} {view : Store}
   where
     -- ---- functions and calls
 

@@ -51,7 +51,7 @@ on_written bytes address count news seen long b p =
 
 -- ---- how long what is written is
 
-module _ {S : Type 0} (has_taken : S → List Event → Type 0) where
+module _ {S : Type 0} (has_taken : S → S → List Event → Type 0) where
   -- nothing is observed of a missing memory
   pub reports_nowhere : (memory : Option Memory) (make : Memory → List Observation) (shadow : Shadow) (sink : S)
       → is_some memory ≡ false → ReportsMemory has_taken shadow sink (on memory make) shadow sink
@@ -106,7 +106,8 @@ module _ {S : Type 0} (has_taken : S → List Event → Type 0) where
         go (Some memory) h reach past =
             reaches_then a b b s t t (Reaches (address + width) (pages memory))
             (observed.on (bytes_at memory.bytes address width) (λ bytes. Reads address bytes ∷ [])) reach
-            (reports_no_more b t (observed.on (bytes_at memory.bytes address width) (λ bytes. Reads address bytes ∷ [])) (ap (λ o. observed.on o (λ bytes. Reads address bytes ∷ [])) past))
+            (reports_no_more b t (observed.on (bytes_at memory.bytes address width) (λ bytes. Reads address bytes ∷ []))
+            (ap (λ o. observed.on o (λ bytes. Reads address bytes ∷ [])) past))
 
     -- ---- stores and fills
 
@@ -222,7 +223,7 @@ module _ {S : Type 0} (has_taken : S → List Event → Type 0) where
 
 -- ---- facts in terms of other equal values
 
-module _ {S : Type 0} (has_taken : S → List Event → Type 0) (view : Store) (a b : Shadow) (s t : S)
+module _ {S : Type 0} (has_taken : S → S → List Event → Type 0) (view : Store) (a b : Shadow) (s t : S)
     (there : is_some view.memory ≡ true) (address count start last found : ℕ) (bytes : List ℕ) (starts : start ≡ address)
     (ends : last ≡ address + count) (pages_are : found ≡ pages_in view) (bytes_are : bytes ≡ bytes_in view)
     (reach : ReportsMemory has_taken a s (Reaches last found ∷ []) b t) where
@@ -259,7 +260,7 @@ module _ {S : Type 0} (has_taken : S → List Event → Type 0) (view : Store) (
         stores_within has_taken view.memory there a b s t address count news part c long reached (part_is ∙ is)
         (subst (λ at. HasTaken b at news c) same taken)
 
-pub copy_all : {S : Type 0} (has_taken : S → List Event → Type 0) (view : Store) (a next b c : Shadow) (s middle t u : S)
+pub copy_all : {S : Type 0} (has_taken : S → S → List Event → Type 0) (view : Store) (a next b c : Shadow) (s middle t u : S)
     (to source count last last' found found' : ℕ) (bytes : List ℕ)
     → is_some view.memory ≡ true → last ≡ source + count → last' ≡ to + count → found ≡ pages_in view
     → found' ≡ pages_in view → bytes ≡ bytes_in view

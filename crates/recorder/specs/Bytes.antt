@@ -13,14 +13,14 @@ run_event address bytes run =
     Bytes (address + run.start) (take (run.«end» - run.start) (drop run.start bytes))
 
 -- a run of bytes is found and reported, and the bytes up to its end are taken; or all bytes are known
-pub record FindsRun {S : Type 0} (has_taken : S → List Event → Type 0) (before : Shadow) (sink : S) (address : ℕ)
+pub record FindsRun {S : Type 0} (has_taken : S → S → List Event → Type 0) (before : Shadow) (sink : S) (address : ℕ)
     (bytes : List ℕ) (run : Difference) (after : Shadow) (sink' : S) : Type 0 where
   pub first : IsFirstDifference before.bytes address bytes run
   pub taken : HasTaken before address (take run.«end» bytes) after
   pub reported : TookAlso has_taken sink sink' (run_event address bytes run ∷ [])
 
-pub record FindsNothing {S : Type 0} (has_taken : S → List Event → Type 0) (before : Shadow) (sink : S) (address : ℕ)
-    (bytes : List ℕ) (after : Shadow) (sink' : S) : Type 0 where
+pub record FindsNothing {S : Type 0} (has_taken : S → S → List Event → Type 0) (before : Shadow) (sink : S)
+    (address : ℕ) (bytes : List ℕ) (after : Shadow) (sink' : S) : Type 0 where
   pub known : AreKnown before.bytes address bytes
   pub taken : HasTaken before address bytes after
   pub reported : TookAlso has_taken sink sink' []

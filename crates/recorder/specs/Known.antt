@@ -31,7 +31,7 @@ pub record Keeper (S : Type 0) : Type 0 where
 
 -- these observations lead from any state that a keeper shows to the state that it shows after, and its sink took
 -- their events
-abbrev pub Reports : {S : Type 0} → (has_taken : S → List Event → Type 0) → (n : ℕ) → Keeper S → List Observation
+abbrev pub Reports : {S : Type 0} → (has_taken : S → S → List Event → Type 0) → (n : ℕ) → Keeper S → List Observation
     → Keeper S → Type 0
 Reports has_taken n before seen after =
     (state : LogState) → Show before.memory before.tables state
@@ -39,7 +39,7 @@ Reports has_taken n before seen after =
     × TookAlso has_taken before.sink after.sink (all_observed_events n state seen)
 
 -- observations of the memory lead from one keeper to the next, whatever is known of the table and of globals
-abbrev pub ReportsMemory : {S : Type 0} → (has_taken : S → List Event → Type 0) → (before : Shadow) → S
+abbrev pub ReportsMemory : {S : Type 0} → (has_taken : S → S → List Event → Type 0) → (before : Shadow) → S
     → List Observation → (after : Shadow) → S → Type 0
 ReportsMemory has_taken before sink seen after sink' =
     (n : ℕ) (tables : Tables)
@@ -47,7 +47,7 @@ ReportsMemory has_taken before sink seen after sink' =
     (record { memory = after; tables = tables; sink = sink' })
 
 -- observations of the table or of globals lead from one keeper to the next, whatever is known of the memory
-abbrev pub ReportsTables : {S : Type 0} → (has_taken : S → List Event → Type 0) → (n : ℕ) → (before : Tables) → S
+abbrev pub ReportsTables : {S : Type 0} → (has_taken : S → S → List Event → Type 0) → (n : ℕ) → (before : Tables) → S
     → List Observation → (after : Tables) → S → Type 0
 ReportsTables has_taken n before sink seen after sink' =
     (memory : Shadow)

@@ -17,7 +17,7 @@ use Rattle.recorder.specs.Recorders.{Recorded, known_now, after_freeze, IsRecord
 
 -- a call is taken: it is in order, the recorder is at the next states of the order and of the log, its sink took the
 -- call's events, and what was frozen stays
-pub record IsNext {S : Type 0} (has_taken : S → List Event → Type 0) (before : Recorded S) (shape : HookedShape)
+pub record IsNext {S : Type 0} (has_taken : S → S → List Event → Type 0) (before : Recorded S) (shape : HookedShape)
     (order : OrderState) (log : LogState) (number : ℕ) (call : HookCall) (after : Recorded S) : Type 0 where
   pub next : OrderState
   pub ordered : ordered_step shape order call ≡ Some next
@@ -30,8 +30,8 @@ pub record IsNext {S : Type 0} (has_taken : S → List Event → Type 0) (before
 -- refuses a call as out of order, the call is out of order, the reported number is that of the call, and nothing has
 -- changed; if the recorder is frozen, it is at the same states; what is frozen then is what the log's state knows; and
 -- its parts have the number of imports of the shape and the frames of the order
-pub record StepRecords {S : Type 0} (has_taken : S → List Event → Type 0) (before : Recorded S) (shape : HookedShape)
-    (order : OrderState) (log : LogState) (number : ℕ) : Type 0 where
+pub record StepRecords {S : Type 0} (has_taken : S → S → List Event → Type 0) (before : Recorded S)
+    (shape : HookedShape) (order : OrderState) (log : LogState) (number : ℕ) : Type 0 where
   pub accepted : (call : HookCall) (after : Recorded S) → IsRecorderStep has_taken before call (Ok tt) after
       → IsNext has_taken before shape order log number call after
   pub refused : (call : HookCall) (at : ℕ) (after : Recorded S)
@@ -44,14 +44,14 @@ pub record StepRecords {S : Type 0} (has_taken : S → List Event → Type 0) (b
 
 -- from each state of a recorder, a call that is accepted leads to the next states of the order and of the log, only
 -- a call out of order is refused as such, and a freeze keeps both states
-abbrev pub StepsAreRecorded : {S : Type 0} → (has_taken : S → List Event → Type 0) → Type 0
+abbrev pub StepsAreRecorded : {S : Type 0} → (has_taken : S → S → List Event → Type 0) → Type 0
 StepsAreRecorded {S} has_taken =
     (before : Recorded S) (shape : HookedShape) (order : OrderState) (log : LogState) (number : ℕ)
     → StandsAt before shape order log number → StepRecords has_taken before shape order log number
 
 -- a run of calls from a recorder's state: if all are accepted, its sink took exactly the events of their log; if
 -- one is refused as out of order, it is the first such call, and its number is reported
-pub record RunsRecord {S : Type 0} (has_taken : S → List Event → Type 0) (before : Recorded S) (shape : HookedShape)
+pub record RunsRecord {S : Type 0} (has_taken : S → S → List Event → Type 0) (before : Recorded S) (shape : HookedShape)
     (order : OrderState) (log : LogState) (number : ℕ) : Type 0 where
   pub accepted : (calls : List HookCall) (after : Recorded S)
       → IsRun (IsRecorderStep has_taken) before calls (Ok tt) after
@@ -64,7 +64,7 @@ pub record RunsRecord {S : Type 0} (has_taken : S → List Event → Type 0) (be
 
 -- from each state of a recorder, a run of calls that are all accepted gives its sink exactly the events of their log;
 -- if a call is refused as out of order, it is the first such call
-abbrev pub RunsAreRecorded : {S : Type 0} → (has_taken : S → List Event → Type 0) → Type 0
+abbrev pub RunsAreRecorded : {S : Type 0} → (has_taken : S → S → List Event → Type 0) → Type 0
 RunsAreRecorded {S} has_taken =
     (before : Recorded S) (shape : HookedShape) (order : OrderState) (log : LogState) (number : ℕ)
     → StandsAt before shape order log number → RunsRecord has_taken before shape order log number
@@ -72,11 +72,12 @@ RunsAreRecorded {S} has_taken =
 -- a run of calls from a new recorder, whose sink has taken nothing: if all are accepted, its sink has taken the
 -- events of the calls' log, for any outcome; otherwise there is no log, since the call of this number is the
 -- first out of order
-pub record RunsGiveLogs {S : Type 0} (has_taken : S → List Event → Type 0) (before : Recorded S) (shape : HookedShape)
-    (opened : Store) : Type 0 where
+pub record RunsGiveLogs {S : Type 0} (has_taken : S → S → List Event → Type 0) (before : Recorded S)
+    (shape : HookedShape) (opened : Store) : Type 0 where
   pub accepted : (calls : List HookCall) (outcome : Outcome) (after : Recorded S)
       → IsRun (IsRecorderStep has_taken) before calls (Ok tt) after
-      → (log : Log) × (log_of shape opened calls outcome ≡ Ok log) × has_taken after.recording.sink log.events
+      → (log : Log) × (log_of shape opened calls outcome ≡ Ok log)
+      × has_taken before.recording.sink after.recording.sink log.events
       × (log.imports ≡ after.recording.order.shape.imports) × (log.outcome ≡ outcome) × (after.broken ≡ false)
   pub refused : (calls : List HookCall) (outcome : Outcome) (at : ℕ) (after : Recorded S)
       → IsRun (IsRecorderStep has_taken) before calls (Err (Order at)) after
@@ -85,8 +86,8 @@ pub record RunsGiveLogs {S : Type 0} (has_taken : S → List Event → Type 0) (
 
 -- from a new recorder, whose sink has taken nothing, a run of calls that are all accepted gives its sink exactly the
 -- events of the calls' log; if a call is refused as out of order, it is the first such call, and there is no log
-abbrev pub LogsAreRecorded : {S : Type 0} → (has_taken : S → List Event → Type 0) → Type 0
+abbrev pub LogsAreRecorded : {S : Type 0} → (has_taken : S → S → List Event → Type 0) → Type 0
 LogsAreRecorded {S} has_taken =
     (before : Recorded S) (shape : HookedShape) (opened : Store)
     → StandsAt before shape (order_start (table_length opened.table)) (log_start opened) 0
-    → has_taken before.recording.sink [] → RunsGiveLogs has_taken before shape opened
+    → has_taken before.recording.sink before.recording.sink [] → RunsGiveLogs has_taken before shape opened

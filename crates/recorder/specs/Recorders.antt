@@ -37,8 +37,8 @@ after_freeze recorder =
 
 -- how a recorder that is not broken answers a call: it takes the call; it reports that the call is out of order,
 -- and nothing changes; or it is broken from then on; what was frozen stays in any case
-abbrev pub IsAnswer : {S : Type 0} → (has_taken : S → List Event → Type 0) → Recorded S → HookCall → Result ⊤ HookFault
-    → Recorded S → Type 0
+abbrev pub IsAnswer : {S : Type 0} → (has_taken : S → S → List Event → Type 0) → Recorded S → HookCall
+    → Result ⊤ HookFault → Recorded S → Type 0
 IsAnswer has_taken before call (Ok done) after =
     Takes has_taken before.recording call after.recording × (after.calls ≡ before.calls + 1) × (after.broken ≡ false)
     × (after.frozen ≡ before.frozen)
@@ -48,7 +48,7 @@ IsAnswer has_taken before call (Err Memory) after =
     IsSome (order_after before.recording call) × (after.broken ≡ true) × (after.frozen ≡ before.frozen)
 
 -- a step of a recorder: a broken one reports that memory is out, and nothing changes
-abbrev pub IsRecorderStep : {S : Type 0} → (has_taken : S → List Event → Type 0) → Recorded S → HookCall
+abbrev pub IsRecorderStep : {S : Type 0} → (has_taken : S → S → List Event → Type 0) → Recorded S → HookCall
     → Result ⊤ HookFault → Recorded S → Type 0
 IsRecorderStep has_taken before call answer after =
     (before.broken ≡ false → IsAnswer has_taken before call answer after)

@@ -26,7 +26,8 @@ recording_of fields =
 
 -- a call leads from any state that a recording shows to the state that it shows after, and its sink took the
 -- call's events
-abbrev pub Logs : {S : Type 0} → (has_taken : S → List Event → Type 0) → Recording S → HookCall → Recording S → Type 0
+abbrev pub Logs : {S : Type 0} → (has_taken : S → S → List Event → Type 0) → Recording S → HookCall → Recording S
+    → Type 0
 Logs has_taken before call after =
     (state : LogState) → Show before.memory before.tables state
     → Show after.memory after.tables (log_after_call (shape_from before.order.shape) state call)
@@ -38,14 +39,14 @@ abbrev pub order_after : {S : Type 0} → Recording S → HookCall → Option Or
 order_after recording call = step_from (length recording.tables.entries) recording.order call
 
 -- a call that is in order is taken
-pub record Takes {S : Type 0} (has_taken : S → List Event → Type 0) (before : Recording S) (call : HookCall)
+pub record Takes {S : Type 0} (has_taken : S → S → List Event → Type 0) (before : Recording S) (call : HookCall)
     (after : Recording S) : Type 0 where
   pub shape : after.order.shape ≡ before.order.shape
   pub ordered : order_after before call ≡ Some (state_of (length after.tables.entries) after.order)
   pub logged : Logs has_taken before call after
 
 -- a call is taken, or it is out of order and nothing changes
-abbrev pub IsTaken : {S : Type 0} → (has_taken : S → List Event → Type 0) → Recording S → HookCall → (may : Bool)
+abbrev pub IsTaken : {S : Type 0} → (has_taken : S → S → List Event → Type 0) → Recording S → HookCall → (may : Bool)
     → Recording S → Type 0
 IsTaken has_taken before call true after = Takes has_taken before call after
 IsTaken has_taken before call false after = (order_after before call ≡ None) × (after ≡ before)

@@ -202,6 +202,7 @@ impl<S: EventSink> Hooks for Recorder<S> {
 
     ghost is_step = { IsRecorderStep S.has_taken };
 
+    #[inline(always)]
     fn hook(&mut self, kind: Hook, args: &[Val], view: &View) -> Result<(), HookFault> {
         if self.broken {
             return Err(HookFault::Memory);

@@ -31,6 +31,7 @@ impl<S: EventSink> Recording<S> {
     ///
     /// # Errors
     /// `NoMemory` if an allocation failed.
+    #[inline(always)]
     pub(crate) fn take(&mut self, kind: Hook, args: &[Val], view: &View) -> Result<bool, NoMemory>
         ensures ok { IfOk result (λ may. IsTaken S.has_taken (recording_of self.old)
             (record { kind = kind; args = args.now; view = view.now }) may (recording_of self.new)) }

@@ -170,7 +170,7 @@ module _ (m : Module) (valid : All IsFuncType m.types) where
   calls_arms [] = omega arith
   calls_arms (segments ∷ calls) = omega (arith, segments_most m valid segments, calls_arms calls)
 
-  group_most : (ty : ℕ) (calls : List (List Segment))
+  pub group_most : (ty : ℕ) (calls : List (List Segment))
       → func_cost (group_func m ty calls) ≤ 49 + activations_cost 9 segment_cost calls
   group_most ty calls =
       let selector = LocalGet 0 ∷ i32_const GROUP_CALLS ∷ Numeric I32_REM_U ∷ [] in
@@ -184,7 +184,7 @@ module _ (m : Module) (valid : All IsFuncType m.types) where
         calls_arms calls,
       )
 
-  part_cost : (count : ℕ) (calls : List (List Segment))
+  pub part_cost : (count : ℕ) (calls : List (List Segment))
       → activations_cost 9 segment_cost (take count calls) + activations_cost 9 segment_cost (drop count calls)
       ≡ activations_cost 9 segment_cost calls
   part_cost zero calls = omega arith

@@ -1,37 +1,14 @@
 -- Exactly the functions to which bodies refer are declared.
-use Rattle.std.proofs.Common.{◌≡◌, ◌↔◌, ℕ, zero, suc, ◌<◌, List, [], ◌∷◌, length, Bool, true, false, cond, refl, sym, ap, subst, arith}
+use Rattle.std.proofs.Common.{◌≡◌, ◌↔◌, ℕ, ◌<◌, List, [], ◌∷◌, Bool, true, false, cond, refl, sym, subst, arith}
 use Rattle.std.specs.Prelude.{◌||◌, filter, nat_eq}
-use Rattle.std.specs.List.{AllByRecursion, Contains, list_any, range_with_len, slice_index_or}
-use Rattle.std.proofs.lemmas.Bool.Decides.{nat_tests}
+use Rattle.std.specs.List.{AllByRecursion, Contains, list_any, range_with_len}
 use Rattle.std.proofs.lemmas.List.Elements.{All-contains, All-from_recursion}
 use Rattle.std.proofs.lemmas.Bool.{eqb-true}
 use Rattle.wasm_syntax.specs.declared.modules.Func.{Func}
 use Rattle.replay_module_spec.specs.Fragments.{referred_funcs, referred_once}
-use Rattle.replay_module_laws.proofs.Declarations.{any_filter, in_range}
+use Rattle.replay_module_laws.proofs.Declarations.{any_contains, any_filter, contains_any, in_range}
 
--- ---- membership in a list, and the test of it
-
-any_contains : (func : ℕ) (xs : List ℕ) → list_any (nat_eq func) xs ≡ true → Contains xs func
-any_contains func [] h = cc
-any_contains func (x ∷ xs) h = go (nat_eq func x) refl h (any_contains func xs)
-  where
-    go : (b : Bool) → nat_eq func x ≡ b → (b || list_any (nat_eq func) xs) ≡ true
-        → (list_any (nat_eq func) xs ≡ true → Contains xs func) → Contains (x ∷ xs) func
-    go true e h' later = (0, omega arith, sym (eqb-true func x e))
-    go false e h' later = let there = later h' in (suc there.0, (let low = there.1 in omega (arith, low)), there.2)
-
-contains_any : (func : ℕ) (xs : List ℕ) (place : ℕ) → place < length xs → slice_index_or xs place func ≡ func
-    → list_any (nat_eq func) xs ≡ true
-contains_any func [] place below is = absurd (omega (arith, below))
-contains_any func (x ∷ xs) zero below is =
-    let own : nat_eq func x ≡ true = grind (arith, nat_tests, is) in
-    ap (λ b. b || list_any (nat_eq func) xs) own
-contains_any func (x ∷ xs) (suc place) below is =
-    go (nat_eq func x) (contains_any func xs place (omega (arith, below)) is)
-  where
-    go : (b : Bool) → list_any (nat_eq func) xs ≡ true → (b || list_any (nat_eq func) xs) ≡ true
-    go true later = refl
-    go false later = later
+-- ---- what a filter keeps
 
 filter_passes : (func : ℕ) (test : ℕ → Bool) (xs : List ℕ) → list_any (nat_eq func) (filter test xs) ≡ true
     → test func ≡ true

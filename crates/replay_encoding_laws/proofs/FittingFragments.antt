@@ -4,7 +4,7 @@ use Rattle.std.specs.Prelude.{◌&&◌, nat_le, replicate, IfSome}
 use Rattle.std.specs.List.{AllByRecursion, AllZip, cons_option, zip}
 use Rattle.std.proofs.lemmas.Bool.Decides.{nat_tests}
 use Rattle.std.proofs.lemmas.List.Elements.{All-from_recursion, recursion_from_All}
-use Rattle.base.proofs.Booleans.{and_true}
+use Rattle.base.proofs.Booleans.{and_parts, and_true}
 use Rattle.base.proofs.Lists.{get_after_by, get_front, item_there, joined_all}
 use Rattle.wasm_syntax.specs.declared.limits.TheConstants.{MAX_ENTRIES, MAX_LOCALS, MAX_PAGES, MAX_PARAMETERS}
 use Rattle.wasm_syntax.specs.declared.signatures.FuncType.{FuncType}
@@ -15,10 +15,10 @@ use Rattle.wasm_syntax.specs.declared.modules.Import.{Import}
 use Rattle.wasm_syntax.specs.declared.modules.ImportKind.{ImportKind}
 use Rattle.wasm_syntax.specs.declared.modules.ImportKind.TheVariants as kinds
 use Rattle.wasm_syntax.specs.declared.modules.Module.{Module}
-use Rattle.wasm_syntax.specs.Encoding.Forms.{IsCoreModule}
 use Rattle.wasm_syntax.specs.Index.{all_globals, all_memories, all_tables, imported_funcs, imported_globals, memory_import, of_kind, table_import}
 use Rattle.wasm_syntax.specs.Profile.{IsSupported, count_of_locals}
 use Rattle.wasm_syntax.specs.Validity.{IsDeclaredFunc, IsFuncType, IsGlobal, IsImport, IsLimits, IsTypedFunc, IsValid}
+use Rattle.host_script.specs.declared.scripts.Supply.{Supply}
 use Rattle.host_script.specs.Supply.{is_within, keeps_max, limits_match}
 use Rattle.history_spec.specs.Code.{zero_of}
 use Rattle.type_safety.specs.Supplies.{IsSupply, Match}
@@ -35,9 +35,10 @@ use Rattle.replay_module_spec.specs.Merge.{constant_global, supplied_global}
 use Rattle.replay_module_laws.specs.Laws.{StatesMaximum}
 use Rattle.replay_module_laws.specs.Plans.{PlanFits}
 use Rattle.replay_module_laws.proofs.Outside.{types_imported}
+use Rattle.replay_module_laws.proofs.References.{referred_below}
 use Rattle.trace_model.specs.declared.tapes.Segment.{Segment}
 use Rattle.replay_encoding_laws.proofs.Declared.{declared_are}
-use Rattle.replay_encoding_laws.proofs.FragmentReferences.{referred_below, replay_refers}
+use Rattle.replay_encoding_laws.proofs.FragmentReferences.{replay_refers}
 
 -- ---- each import as it is declared
 
@@ -45,6 +46,11 @@ max_within : (range least : ℕ) (max : Option ℕ) → IfSome max (λ max. (max
     → is_within least max ≡ true
 max_within range least None h = refl
 max_within range least (Some max) h = let low = h.1 in grind (arith, nat_tests, low)
+
+-- the first of some limits begins with at most this number
+abbrev FirstIsSmall : ℕ → List Limits → Type 0
+FirstIsSmall most [] = Unit {0}
+FirstIsSmall most (limits ∷ more) = limits.min ≤ most
 
 same_matches : (most range : ℕ) (limits : Limits) → IsLimits range limits → limits.min ≤ most
     → limits_match most limits limits ≡ true
@@ -59,9 +65,29 @@ same_matches most range limits valid small =
     few
 
 first_matches : (most range : ℕ) (imports : List Limits) → AllByRecursion (IsLimits range) imports
-    → AllByRecursion (λ (limits : Limits). limits.min ≤ most) imports → Match most imports (slice_get imports 0)
+    → FirstIsSmall most imports → Match most imports (slice_get imports 0)
 first_matches most range [] valid small = tt
-first_matches most range (limits ∷ more) valid small = same_matches most range limits valid.0 small.0
+first_matches most range (limits ∷ more) valid small = same_matches most range limits valid.0 small
+
+all_small : (most : ℕ) (imports : List Limits) → AllByRecursion (λ (limits : Limits). limits.min ≤ most) imports
+    → FirstIsSmall most imports
+all_small most [] small = tt
+all_small most (limits ∷ more) small = small.0
+
+supplied_small : (most : ℕ) (imports : List Limits) (given : Option Limits) → Match most imports given
+    → FirstIsSmall most imports
+supplied_small most [] given match' = tt
+supplied_small most (limits ∷ more) None match' = absurd match'
+supplied_small most (limits ∷ more) (Some given) match' =
+    let p = and_parts (nat_le limits.min given.min && keeps_max given.max limits.max && is_within given.min given.max)
+    (nat_le given.min most) match' in
+    let q = and_parts (nat_le limits.min given.min && keeps_max given.max limits.max) (is_within given.min given.max)
+    p.0 in
+    let first = (and_parts (nat_le limits.min given.min) (keeps_max given.max limits.max) q.0).0 in
+    let last = p.1 in
+    let least : limits.min ≤ given.min = grind (arith, nat_tests, first) in
+    let few : given.min ≤ most = grind (arith, nat_tests, last) in
+    omega (arith, least, few)
 
 front_all : {X : Type 0} (P : X → Type 0) (xs ys : List X) → AllByRecursion P (xs ++ ys) → AllByRecursion P xs
 front_all P [] ys all = tt
@@ -109,25 +135,39 @@ types_twice : (globals : List GlobalType)
 types_twice [] = refl
 types_twice (g ∷ globals) = ap (λ l. zero_of g.ty ∷ l) (types_twice globals)
 
-pub declared_supplies : (m : Module) → IsValid m → IsSupported m → IsSupply m (declared_supply m)
-declared_supplies m valid supported =
+declared_supply_matches : (m : Module) → IsValid m → FirstIsSmall MAX_PAGES (of_kind memory_import m.imports)
+    → FirstIsSmall MAX_ENTRIES (of_kind table_import m.imports) → IsSupply m (declared_supply m)
+declared_supply_matches m valid pages entries =
     let imports = recursion_from_All (λ (i : Import). IsImport m i.kind) m.imports valid.outside.imports in
     record {
-      memory = first_matches MAX_PAGES (2 ^ 16) (of_kind memory_import m.imports)
-          (imported_memories m m.imports imports)
-          (front_all (λ (limits : Limits). limits.min ≤ MAX_PAGES) (of_kind memory_import m.imports) m.memories
-          (recursion_from_All (λ (limits : Limits). limits.min ≤ MAX_PAGES) (all_memories m)
-          (small_memories m supported)));
-      table = first_matches MAX_ENTRIES (2 ^ 32) (of_kind table_import m.imports)
-          (imported_tables m m.imports imports)
-          (front_all (λ (limits : Limits). limits.min ≤ MAX_ENTRIES) (of_kind table_import m.imports) m.tables
-          (recursion_from_All (λ (limits : Limits). limits.min ≤ MAX_ENTRIES) (all_tables m)
-          (small_tables m supported)));
+      memory =
+          first_matches MAX_PAGES (2 ^ 16) (of_kind memory_import m.imports) (imported_memories m m.imports imports)
+          pages;
+      table =
+          first_matches MAX_ENTRIES (2 ^ 32) (of_kind table_import m.imports) (imported_tables m m.imports imports)
+          entries;
       globals =
           subst (λ l. AreValues (func_count m) (map (λ (g : GlobalType). g.ty) (imported_globals m)) l)
           (sym (types_twice (imported_globals m)))
           (zero_values (func_count m) (map (λ (g : GlobalType). g.ty) (imported_globals m)));
     }
+
+-- if a module can be run, or some supply matches its imports, the declared one does
+pub runnable_supplies : (m : Module) → IsValid m → IsSupported m → IsSupply m (declared_supply m)
+runnable_supplies m valid supported =
+    declared_supply_matches m valid
+    (all_small MAX_PAGES (of_kind memory_import m.imports)
+    (front_all (λ (limits : Limits). limits.min ≤ MAX_PAGES) (of_kind memory_import m.imports) m.memories
+    (recursion_from_All (λ (limits : Limits). limits.min ≤ MAX_PAGES) (all_memories m) (small_memories m supported))))
+    (all_small MAX_ENTRIES (of_kind table_import m.imports)
+    (front_all (λ (limits : Limits). limits.min ≤ MAX_ENTRIES) (of_kind table_import m.imports) m.tables
+    (recursion_from_All (λ (limits : Limits). limits.min ≤ MAX_ENTRIES) (all_tables m) (small_tables m supported))))
+
+pub declared_supplies : (m : Module) (supply : Supply) → IsValid m → IsSupply m supply → IsSupply m (declared_supply m)
+declared_supplies m supply valid supplied =
+    declared_supply_matches m valid
+    (supplied_small MAX_PAGES (of_kind memory_import m.imports) supply.memory supplied.memory)
+    (supplied_small MAX_ENTRIES (of_kind table_import m.imports) supply.table supplied.table)
 
 first_states : (imports : List Limits) → AllByRecursion (IsLimits (2 ^ 32)) imports
     → StatesMaximum (slice_get imports 0)
@@ -210,9 +250,9 @@ appended_fit : (m : Module) (types : List FuncType) → AllByRecursion IsFuncTyp
 appended_fit m [] valid few = tt
 appended_fit m (ty ∷ types) valid few = (record { valid = valid.0; params = few.0 }, appended_fit m types valid.1 few.1)
 
-pub fragment_fits : (m : Module) (plan : Plan) → IsValid m → IsCoreModule m → length plan.imports ≡ imported_funcs m
+pub fragment_fits : (m : Module) (plan : Plan) → IsValid m → length plan.imports ≡ imported_funcs m
     → PlanFits m plan → IsValid (unsupplied_module m (fragment_of m plan)) → FitsModule m (fragment_of m plan)
-fragment_fits m plan valid core many fits whole =
+fragment_fits m plan valid many fits whole =
     let r = unsupplied_module m (fragment_of m plan) in
     let bodies = import_bodies m plan in
     let helpers = helper_funcs m plan in
@@ -243,7 +283,7 @@ fragment_fits m plan valid core many fits whole =
           };
       declared =
           declared_are (start_index m) (bodies ++ (m.funcs ++ helpers))
-          (referred_below (start_index m) (bodies ++ (m.funcs ++ helpers)) (replay_refers m plan core fits));
+          (referred_below (start_index m) (bodies ++ (m.funcs ++ helpers)) (replay_refers m plan valid fits));
       generated =
           All-from_recursion (IsGeneratedFunc m (fragment_of m plan)) (bodies ++ helpers)
           (generated_are m plan (bodies ++ helpers)

@@ -1,21 +1,22 @@
 -- The functions to which generated code refers are functions of the original.
-use Rattle.std.proofs.Common.{◌≡◌, ℕ, zero, suc, ◌+◌, ◌*◌, ◌<◌, List, [], ◌∷◌, ◌++◌, length, map, Option, Some, None, true, arith}
-use Rattle.std.specs.Prelude.{drop, filter_map, nat_lt, take}
+use Rattle.std.proofs.Common.{◌≡◌, ℕ, zero, suc, ◌+◌, ◌*◌, List, [], ◌∷◌, ◌++◌, length, map, Option, Some, None, true, arith}
+use Rattle.std.specs.Prelude.{drop, nat_lt, take}
 use Rattle.std.specs.Option.{option_to_list}
-use Rattle.std.specs.List.{AllByRecursion, cons_option, list_all, range_with_len}
+use Rattle.std.specs.List.{AllByRecursion, list_all, range_with_len}
 use Rattle.std.proofs.lemmas.Bool.Decides.{nat_tests}
+use Rattle.std.proofs.lemmas.List.Elements.{recursion_from_All}
 use Rattle.base.proofs.Booleans.{and_parts}
 use Rattle.base.proofs.Lists.{joined_all}
 use Rattle.base.specs.declared.opcodes.TheConstants.{I32_DIV_U, I32_REM_U}
 use Rattle.wasm_syntax.specs.declared.values.Val.{Val}
 use Rattle.wasm_syntax.specs.declared.values.ValType.{ValType}
 use Rattle.wasm_syntax.specs.declared.instructions.Instr.{Instr}
-use Rattle.wasm_syntax.specs.declared.instructions.Instr.TheVariants.{Call, Const, LocalGet, Numeric, RefFunc, Return}
+use Rattle.wasm_syntax.specs.declared.instructions.Instr.TheVariants.{Call, Const, LocalGet, Numeric, Return}
 use Rattle.wasm_syntax.specs.declared.modules.Func.{Func}
 use Rattle.wasm_syntax.specs.declared.modules.Module.{Module}
-use Rattle.wasm_syntax.specs.Encoding.Forms.{AreCoreInstrs, IsCoreInstr, IsCoreModule}
 use Rattle.wasm_syntax.specs.Index.{all_globals, all_tables, func_type}
 use Rattle.wasm_syntax.specs.Nest.{Nest, Empty, flat}
+use Rattle.wasm_syntax.specs.Validity.{IsTypedFunc, IsValid}
 use Rattle.trace_model.specs.declared.tapes.Effect.{Effect}
 use Rattle.trace_model.specs.declared.tapes.Effect.TheVariants.{Grow, Table, Bytes, Entry, Global}
 use Rattle.trace_model.specs.declared.tapes.Next.{Next}
@@ -26,45 +27,35 @@ use Rattle.replay_module_spec.specs.declared.groups.TheConstants.{GROUP_CALLS}
 use Rattle.replay_module_spec.specs.Dispatch.{body_of, dispatch, sequence}
 use Rattle.replay_module_spec.specs.Effects.{Width, byte_count, effect_code, i32_const, reference_code, store_widths, stores_code}
 use Rattle.replay_module_spec.specs.Functions.{count_code, group_call, group_count, group_func, group_funcs, group_nest, groups, import_funcs, import_nest, original_type, start_func}
-use Rattle.replay_module_spec.specs.Fragments.{helper_funcs, import_bodies, import_types, referred_func, referred_funcs, start_index}
+use Rattle.replay_module_spec.specs.Fragments.{helper_funcs, import_bodies, import_types, start_index}
 use Rattle.replay_module_spec.specs.Segments.{drops, effects_code, next_code, segments_code}
 use Rattle.replay_module_spec.specs.declared.plans.Plan.{Plan}
 use Rattle.replay_module_laws.specs.Plans.{AreFit, CallsFit, PlanFits}
+use Rattle.replay_module_laws.proofs.References.{AllRefer, FuncsRefer, RefersBelow, funcs_refer}
 use Rattle.replay_encoding_laws.proofs.Arms.{body_all, dispatch_all, sequence_all, dropped_all}
 use Rattle.replay_encoding_laws.proofs.FittingCode.{parts_all}
 
 module _ (below : ℕ) where
-  -- a function to which the instruction refers has a smaller index
-  abbrev pub RefersBelow : Instr → Type 0
-  RefersBelow (RefFunc func) = func < below
-  RefersBelow i = Unit {0}
-
-  abbrev pub AllRefer : List Instr → Type 0
-  AllRefer body = AllByRecursion RefersBelow body
-
-  abbrev pub FuncsRefer : List Func → Type 0
-  FuncsRefer funcs = AllByRecursion (λ func. AllRefer func.body) funcs
-
   -- ---- arms
 
-  sequence_refers : (is : List Instr) (rest : Nest) → AllRefer is → AllRefer (flat rest)
-      → AllRefer (flat (sequence is rest))
-  sequence_refers is rest own later = sequence_all RefersBelow tt tt tt is rest own later
+  sequence_refers : (is : List Instr) (rest : Nest) → AllRefer below is → AllRefer below (flat rest)
+      → AllRefer below (flat (sequence is rest))
+  sequence_refers is rest own later = sequence_all (RefersBelow below) tt tt tt is rest own later
 
-  dispatch_refers : (selector : List Instr) (arms : List (List Instr)) → AllRefer selector
-      → AllByRecursion AllRefer arms → AllRefer (flat (dispatch selector arms))
-  dispatch_refers selector arms own all = dispatch_all RefersBelow tt tt tt selector arms own tt all
+  dispatch_refers : (selector : List Instr) (arms : List (List Instr)) → AllRefer below selector
+      → AllByRecursion (AllRefer below) arms → AllRefer below (flat (dispatch selector arms))
+  dispatch_refers selector arms own all = dispatch_all (RefersBelow below) tt tt tt selector arms own tt all
 
-  body_refers : (nest : Nest) → AllRefer (flat nest) → AllRefer (body_of nest)
-  body_refers nest own = body_all RefersBelow tt tt tt nest own
+  body_refers : (nest : Nest) → AllRefer below (flat nest) → AllRefer below (body_of nest)
+  body_refers nest own = body_all (RefersBelow below) tt tt tt nest own
 
   -- ---- segments
 
-  constants_refer : (values : List Val) → AllRefer (map Const values)
+  constants_refer : (values : List Val) → AllRefer below (map Const values)
   constants_refer [] = tt
   constants_refer (value ∷ values) = (tt, constants_refer values)
 
-  stores_refer : (widths : List Width) (address : ℕ) (bytes : List ℕ) → AllRefer (stores_code widths address bytes)
+  stores_refer : (widths : List Width) (address : ℕ) (bytes : List ℕ) → AllRefer below (stores_code widths address bytes)
   stores_refer [] address bytes = tt
   stores_refer (width ∷ widths) address bytes =
       (tt, (tt, (tt, stores_refer widths (address + byte_count width) (drop (byte_count width) bytes))))
@@ -176,45 +167,13 @@ module _ (m : Module) where
       body_refers (start_index m) (sequence (segments_code m segments) Empty)
       (sequence_refers (start_index m) (segments_code m segments) Empty (segments_refer [] segments fit) tt)
 
--- a module of the form Core refers to no function
-core_refers : (below : ℕ) (body : List Instr) → AreCoreInstrs body → AllRefer below body
-core_refers below [] core = tt
-core_refers below (i ∷ body) core = (one i core.0, core_refers below body core.1)
-  where
-    one : (i : Instr) → IsCoreInstr i → RefersBelow below i
-    one (RefFunc func) h = absurd h
-    one i h = tt
-
-core_funcs : (below : ℕ) (funcs : List Func) → AllByRecursion (λ func. AreCoreInstrs func.body) funcs
-    → FuncsRefer below funcs
-core_funcs below [] core = tt
-core_funcs below (func ∷ funcs) core = (core_refers below func.body core.0, core_funcs below funcs core.1)
-
--- all functions of the replay module refer to functions of the original
-pub replay_refers : (m : Module) (plan : Plan) → IsCoreModule m → PlanFits m plan
+-- all functions of the replay module of a valid module refer to functions of the original
+pub replay_refers : (m : Module) (plan : Plan) → IsValid m → PlanFits m plan
     → FuncsRefer (start_index m) (import_bodies m plan ++ (m.funcs ++ helper_funcs m plan))
-replay_refers m plan core fits =
+replay_refers m plan valid fits =
     joined_all (λ (func : Func). AllRefer (start_index m) func.body) (import_bodies m plan)
     (m.funcs ++ helper_funcs m plan)
     (imports_refer m (length (all_globals m)) (start_index m + 1) (import_types m) plan.imports)
     (joined_all (λ (func : Func). AllRefer (start_index m) func.body) m.funcs (helper_funcs m plan)
-    (core_funcs (start_index m) m.funcs core.funcs)
+    (funcs_refer m m.funcs (recursion_from_All (IsTypedFunc m) m.funcs valid.bodies))
     (start_refers m plan.begin fits.begin, groups_refer m (import_types m) plan.imports fits.imports))
-
--- each function to which a body refers is one of the original
-refers_of : (below : ℕ) (body : List Instr) → AllRefer below body
-    → AllByRecursion (λ func. func < below) (filter_map referred_func body)
-refers_of below [] all = tt
-refers_of below (i ∷ body) all = one i all.0 (refers_of below body all.1)
-  where
-    one : (i : Instr) → RefersBelow below i → AllByRecursion (λ func. func < below) (filter_map referred_func body)
-        → AllByRecursion (λ func. func < below) (cons_option (referred_func i) (filter_map referred_func body))
-    one (RefFunc func) own later = (own, later)
-    one i own later = later
-
-pub referred_below : (below : ℕ) (funcs : List Func) → FuncsRefer below funcs
-    → AllByRecursion (λ func. func < below) (referred_funcs funcs)
-referred_below below [] all = tt
-referred_below below (func ∷ funcs) all =
-    joined_all (λ func. func < below) (filter_map referred_func func.body) (referred_funcs funcs)
-    (refers_of below func.body all.0) (referred_below below funcs all.1)

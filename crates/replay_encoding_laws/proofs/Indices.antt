@@ -49,7 +49,7 @@ all_many : (segments : List Segment) → all_cost 1 nothing segments ≡ length 
 all_many [] = refl
 all_many (segment ∷ segments) = let later = all_many segments in omega (arith, later)
 
-groups_weigh : (m : Module) (tape : Tape)
+pub groups_weigh : (m : Module) (tape : Tape)
     → group_total (import_types m) (plan_of (imported_funcs m) tape).imports ≤ tape_weight tape
 groups_weigh m tape = omega (
   arith,
@@ -124,7 +124,7 @@ bound_small m tape short weight = omega (
 
 -- ---- indices
 
-params_few : (most : ℕ) (m : Module) → All (λ (ty : FuncType). length ty.params ≤ most) m.types → most < 2 ^ 32
+pub params_few : (most : ℕ) (m : Module) → All (λ (ty : FuncType). length ty.params ≤ most) m.types → most < 2 ^ 32
     → (ty : ℕ) → length (original_type m ty).params < 2 ^ 32
 params_few most m within few ty = elim (cases_lt ty (length m.types)) [
   | inl there ↦ let small = within ty start_type there in omega (arith, small, few)

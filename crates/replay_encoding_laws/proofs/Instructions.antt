@@ -1,47 +1,15 @@
 -- The cost of generated instructions: their bytes, and for a reference to a function the bytes of its declaration.
-use Rattle.std.proofs.Common.{◌≡◌, ℕ, zero, suc, ◌+◌, ◌*◌, ◌≤◌, List, [], ◌∷◌, ◌++◌, length, map, None, true, false, Bool, refl, arith}
-use Rattle.std.specs.Prelude.{ℤ, replicate}
+use Rattle.std.proofs.Common.{◌≡◌, ℕ, zero, suc, ◌+◌, ◌*◌, ◌≤◌, List, [], ◌∷◌, ◌++◌, length, map, None, refl, arith}
+use Rattle.std.specs.Prelude.{replicate}
 use Rattle.std.proofs.lemmas.List.{length-append}
-use Rattle.std.specs.Int.{w32, w64, cast_signed}
 use Rattle.leb_bytes.specs.Unsigned.{u32_bytes}
-use Rattle.leb_bytes.specs.Signed.{signed_bytes, s64_bytes, i32_bytes, i64_bytes, fits_seven_bits, high_bits}
 use Rattle.wasm_syntax.specs.declared.values.Val.{Val}
-use Rattle.wasm_syntax.specs.declared.values.ValType.{ValType}
-use Rattle.wasm_syntax.specs.declared.values.ValType.TheVariants.{I32, I64, F32, F64, FuncRef}
 use Rattle.wasm_syntax.specs.declared.instructions.MemArg.{MemArg}
 use Rattle.wasm_syntax.specs.declared.instructions.Instr.{Instr}
 use Rattle.wasm_syntax.specs.declared.instructions.Instr.TheVariants.{Unreachable, Block, End, BrTable, Return, Call, Drop, LocalGet, LocalTee, GlobalGet, GlobalSet, Store, MemorySize, MemoryGrow, Const, Numeric, RefNull, RefFunc, TableSet, TableGrow, TableSize}
 use Rattle.base.specs.declared.opcodes.TheConstants.{TABLE_GROW, TABLE_SIZE}
-use Rattle.wasm_syntax.specs.Encoding.Shortest.{const_bytes, instr_bytes, vector_bytes}
-use Rattle.wasm_syntax.proofs.ItemLists.{u32_most, items, items_cons, items_nil, vector_length}
-
--- ---- constants
-
-signed_most : (more : ℕ) (z : ℤ) → length (signed_bytes more z) ≤ more + 1
-unfolding signed_bytes
-signed_most zero z = omega arith
-signed_most (suc more) z = go (fits_seven_bits z) refl (signed_most more (high_bits z))
-  where
-    go : (b : Bool) → fits_seven_bits z ≡ b → length (signed_bytes more (high_bits z)) ≤ more + 1
-        → length (signed_bytes (suc more) z) ≤ suc more + 1
-    go true e rest = rw (e) (omega arith)
-    go false e rest = rw (e) (omega (arith, rest))
-
-i32_most : (bits : ℕ) → length (i32_bytes bits) ≤ 10
-unfolding i32_bytes s64_bytes
-i32_most bits = signed_most 9 (cast_signed w32 bits)
-
-i64_most : (bits : ℕ) → length (i64_bytes bits) ≤ 10
-unfolding i64_bytes s64_bytes
-i64_most bits = signed_most 9 (cast_signed w64 bits)
-
-pub const_most : (ty : ValType) (bits : ℕ) → length (const_bytes ty bits) ≤ 11
-unfolding const_bytes
-const_most I32 bits = omega (arith, i32_most bits)
-const_most I64 bits = omega (arith, i64_most bits)
-const_most F32 bits = omega arith
-const_most F64 bits = omega arith
-const_most FuncRef bits = omega arith
+use Rattle.wasm_syntax.specs.Encoding.Shortest.{instr_bytes, vector_bytes}
+use Rattle.wasm_syntax.proofs.ItemLists.{u32_most, items, items_cons, items_nil, vector_length, const_most}
 
 -- ---- instructions
 

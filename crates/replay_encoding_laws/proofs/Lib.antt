@@ -14,3 +14,4 @@ mod FragmentReferences
 mod Declared
 mod FittingFragments
 mod ReadTapes
+mod ShortParts

@@ -4,12 +4,14 @@
 
 pub mod constants;
 pub mod fragments;
+pub mod short_lists;
 
 ghost use Rattle.replay_encoding_laws.specs.Laws.{BoundsAreShort, PlansFitIndices, ReplayModulesAreEncodable, ReplayModulesAreShort};
 
 pub use constants::read_tapes_are_constant;
 pub use fragments::fragments_fit;
 use replay_module_laws::replay_modules_of_tapes_are_valid;
+pub use short_lists::{fragments_are_short, short_lists_fit_indices};
 use wasm_syntax::{encoding_forms, lists_of_encoding, shortest_encoding};
 
 /// With the generated parts of a tape all indices have 32 bits, if at most `MAX_ORIGINAL_BYTES` bytes encode the module

@@ -48,7 +48,8 @@ module _ (encoding : IsEncoding EncodesU32 first_u32 (λ n. n < 2 ^ 32) u32_byte
 
   -- ---- bytes that are read
 
-  module _ (bytes : List ℕ) (imports next : ℕ) (read : first_u32 bytes ≡ Some (imports, drop next bytes)) (layout : Layout) (h : AreLayoutBytes bytes layout) where
+  module _ (bytes : List ℕ) (imports next : ℕ) (read : first_u32 bytes ≡ Some (imports, drop next bytes))
+      (layout : Layout) (h : AreLayoutBytes bytes layout) where
     rest : drop next bytes ≡ u32_bytes layout.defined
     rest = same-rest (first_u32 bytes) imports layout.imports (drop next bytes) (u32_bytes layout.defined) read (first_read bytes layout h)
 

@@ -1,1 +1,2 @@
 mod TapesOfRuns
+mod PlannedBinaries

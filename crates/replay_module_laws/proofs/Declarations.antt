@@ -1,8 +1,9 @@
 -- The functions to which bodies refer are declared in the replay module.
-use Rattle.std.proofs.Common.{◌≡◌, ℕ, zero, suc, ◌+◌, ◌<◌, ◌≤◌, List, [], ◌∷◌, ◌++◌, Option, Some, None, Bool, true, false, cond, refl, sym, ap, ◌∙◌, subst, arith}
+use Rattle.std.proofs.Common.{◌≡◌, ℕ, zero, suc, ◌+◌, ◌<◌, ◌≤◌, List, [], ◌∷◌, ◌++◌, Option, Some, None, Bool, true, false, cond, length, refl, sym, ap, ◌∙◌, subst, arith}
 use Rattle.std.specs.Prelude.{◌||◌, filter, filter_map, flat_map, nat_eq}
-use Rattle.std.specs.List.{AllByRecursion, cons_option, list_any, range_with_len}
+use Rattle.std.specs.List.{AllByRecursion, Contains, cons_option, list_any, range_with_len, slice_index_or}
 use Rattle.std.proofs.lemmas.Bool.Decides.{nat_tests}
+use Rattle.std.proofs.lemmas.Bool.{eqb-true}
 use Rattle.std.proofs.lemmas.List.{append_assoc}
 use Rattle.base.proofs.Booleans.{own_number}
 use Rattle.wasm_syntax.specs.declared.instructions.Instr.{Instr}
@@ -110,22 +111,54 @@ refers_among before (f ∷ funcs) after = (
       (append_assoc before (f ∷ []) (funcs ++ after)) (refers_among (before ++ f ∷ []) funcs after),
 )
 
+-- ---- membership in a list, and the test of it
+
+pub any_contains : (func : ℕ) (xs : List ℕ) → list_any (nat_eq func) xs ≡ true → Contains xs func
+any_contains func [] h = cc
+any_contains func (x ∷ xs) h = go (nat_eq func x) refl h (any_contains func xs)
+  where
+    go : (b : Bool) → nat_eq func x ≡ b → (b || list_any (nat_eq func) xs) ≡ true
+        → (list_any (nat_eq func) xs ≡ true → Contains xs func) → Contains (x ∷ xs) func
+    go true e h' later = (0, omega arith, sym (eqb-true func x e))
+    go false e h' later = let there = later h' in (suc there.0, (let low = there.1 in omega (arith, low)), there.2)
+
+pub contains_any : (func : ℕ) (xs : List ℕ) (place : ℕ) → place < length xs → slice_index_or xs place func ≡ func
+    → list_any (nat_eq func) xs ≡ true
+contains_any func [] place below is = absurd (omega (arith, below))
+contains_any func (x ∷ xs) zero below is =
+    let own : nat_eq func x ≡ true = grind (arith, nat_tests, is) in
+    ap (λ b. b || list_any (nat_eq func) xs) own
+contains_any func (x ∷ xs) (suc place) below is =
+    go (nat_eq func x) (contains_any func xs place (omega (arith, below)) is)
+  where
+    go : (b : Bool) → list_any (nat_eq func) xs ≡ true → (b || list_any (nat_eq func) xs) ≡ true
+    go true later = refl
+    go false later = later
+
+-- ---- declared functions
+
+-- a function of a declared list is declared
+pub declared_in : (func : ℕ) (declared : List ℕ) (elems : List ElemSeg) (exported : List ℕ)
+    → list_any (nat_eq func) declared ≡ true
+    → list_any (nat_eq func) (flat_map elem_funcs (elems ++ declaration declared) ++ exported) ≡ true
+declared_in func declared elems exported h =
+    any_front (nat_eq func) (flat_map elem_funcs (elems ++ declaration declared)) exported
+    (any_item (nat_eq func) elem_funcs elems (declaration declared) (of_declaration declared h))
+  where
+    of_declaration : (declared : List ℕ) → list_any (nat_eq func) declared ≡ true
+        → list_any (nat_eq func) (flat_map elem_funcs (declaration declared)) ≡ true
+    of_declaration [] h' = cc
+    of_declaration (x ∷ more) h' = any_front (nat_eq func) (x ∷ more) [] h'
+
 -- a function below the given number to which bodies refer is declared
 pub declared_among : (func below : ℕ) (funcs : List Func) (elems : List ElemSeg) (exported : List ℕ) → func < below
     → list_any (nat_eq func) (referred_funcs funcs) ≡ true
     → list_any (nat_eq func)
     (flat_map elem_funcs (elems ++ declaration (referred_once below funcs)) ++ exported) ≡ true
 declared_among func below funcs elems exported small h =
-    any_front (nat_eq func) (flat_map elem_funcs (elems ++ declaration (referred_once below funcs))) exported
-    (any_item (nat_eq func) elem_funcs elems (declaration (referred_once below funcs))
-    (of_declaration (referred_once below funcs)
+    declared_in func (referred_once below funcs) elems exported
     (any_filter func (λ f. list_any (nat_eq f) (referred_funcs funcs)) (range_with_len 0 below) h
-    (in_range func 0 below (omega arith) (omega (arith, small))))))
-  where
-    of_declaration : (declared : List ℕ) → list_any (nat_eq func) declared ≡ true
-        → list_any (nat_eq func) (flat_map elem_funcs (declaration declared)) ≡ true
-    of_declaration [] h = cc
-    of_declaration (x ∷ declared) h = any_front (nat_eq func) (x ∷ declared) [] h
+    (in_range func 0 below (omega arith) (omega (arith, small))))
 
 -- a number in a range is below its end
 pub range_end : (func from count : ℕ) → list_any (nat_eq func) (range_with_len from count) ≡ true → func < from + count

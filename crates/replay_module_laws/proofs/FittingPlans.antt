@@ -58,7 +58,7 @@ same_at P zero y own place x h = absurd (cc h)
 same_at P (suc count) y own zero x h = let same : y ≡ x = cc in subst (P 0) same (own 0)
 same_at P (suc count) y own (suc place) x h = same_at (λ n. P (suc n)) count y (λ n. own (suc n)) place x h
 
-stepped : {X : Type 0} (f : X → Option ℕ) (o : Option X) (at : ℕ) → option_map_or f o (Some at) ≡ None
+pub stepped : {X : Type 0} (f : X → Option ℕ) (o : Option X) (at : ℕ) → option_map_or f o (Some at) ≡ None
     → (x : X) × (o ≡ Some x) × (f x ≡ None)
 stepped f None at h = absurd (cc h)
 stepped f (Some x) at h = (x, refl, h)
@@ -86,7 +86,7 @@ left_length imports (segment ∷ later) =
     by (Imports import) begun calls e = length-set calls import _ ∙ e
     by Back begun calls e = e
 
-none_after : (at count more : ℕ) → count ≡ at + suc more → nat_eq (suc at) count ≡ true → more ≡ 0
+pub none_after : (at count more : ℕ) → count ≡ at + suc more → nat_eq (suc at) count ≡ true → more ≡ 0
 none_after at count more long last =
     let same : suc at ≡ count = grind (arith, nat_tests, last) in omega (arith, long, same)
 

@@ -18,6 +18,7 @@ use Rattle.wasm_syntax.specs.Nest.{Nest, Empty, IsNest, nest_of}
 use Rattle.wasm_syntax.specs.Index.{all_globals, func_import, func_indices, imported_funcs, of_kind}
 use Rattle.wasm_syntax.specs.Typing.{is_number}
 use Rattle.wasm_syntax.specs.Validity.{IsFuncType, IsValid, each_local}
+use Rattle.wasm_syntax.proofs.FuncTypes.{TypeIndex, type_index}
 use Rattle.host_script.specs.declared.scripts.Supply.{Supply}
 use Rattle.trace_model.specs.declared.tapes.Segment.{Segment}
 use Rattle.history_spec.specs.Code.{code_of, definition, definition_of, signature}
@@ -231,8 +232,8 @@ module _ (m : Module) (supply : Supply) (plan : Plan) (valid : IsValid m)
         let there = item_there plan.imports import (omega (arith, many, below)) in
         there.1 ∙ ap (λ c. Some c) (sym (get_or_from_slice_get plan.imports import there.0 [] there.1))
 
-    abbrev type_place : (t : ℕ) × (slice_get (func_indices m) import ≡ Some t) × (slice_get m.types t ≡ Some ty)
-    type_place = and_then_some (slice_get (func_indices m) import) (λ t. slice_get m.types t) ty typed
+    abbrev type_place : TypeIndex m import ty
+    type_place = type_index m import ty typed
 
     index_there : slice_get (import_types m) import ≡ Some type_place.0
     index_there =

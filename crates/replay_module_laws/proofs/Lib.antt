@@ -14,3 +14,7 @@ pub mod FittingPlans
 mod Bodies
 pub mod Functions
 mod Openings
+pub mod References
+mod FittingFragments
+mod PlanSegments
+mod PlanCalls

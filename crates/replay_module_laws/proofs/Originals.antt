@@ -7,7 +7,8 @@ use Rattle.wasm_syntax.specs.declared.instructions.Instr.{Instr}
 use Rattle.wasm_syntax.specs.declared.instructions.Instr.TheVariants.{Block, If, Loop, Else, End}
 use Rattle.wasm_syntax.specs.Nest.{IsNest, is_plain, Nest, Empty, Plain, InBlock, InLoop, InIf, InIfElse, flat}
 use Rattle.wasm_syntax.specs.Typing.{Context, IsTyped, Leads, inside, instr_type, results_of}
-use Rattle.type_safety.proofs.Wider.{IsKnown, Widens, both_parts, calling_same, inside_wider, leads_wider}
+use Rattle.wasm_syntax.proofs.JoinedLists.{both_parts}
+use Rattle.type_safety.proofs.Wider.{IsKnown, Widens, calling_same, inside_wider, leads_wider}
 
 -- the wider context knows what the first one knows
 abbrev pub Extends : Context → Context → Type 0

@@ -24,13 +24,14 @@ use Rattle.wasm_syntax.specs.declared.modules.Module.{Module}
 use Rattle.wasm_syntax.specs.Index.{func_import, global_import, imported_globals, of_kind}
 use Rattle.wasm_syntax.specs.Typing.{is_constant, is_number}
 use Rattle.wasm_syntax.specs.Validity.{IsConstant, IsGlobal, IsImport, IsMemory, IsTable, constant_type, immutable_type, single}
+use Rattle.wasm_syntax.proofs.ValidParts.{single_is}
 use Rattle.host_script.specs.Supply.{is_within, keeps_max, limits_match}
 use Rattle.history_spec.specs.Code.{zero_of}
 use Rattle.history_spec.specs.Instantiation.{constant, limits_of}
 use Rattle.type_safety.specs.Supplies.{Match}
 use Rattle.type_safety.specs.Values.{AreValues, IsValue, count_of}
 use Rattle.type_safety.proofs.Values.{value_at}
-use Rattle.type_safety.proofs.NewStores.{immutable, single_is}
+use Rattle.type_safety.proofs.NewStores.{immutable}
 use Rattle.replay_module_spec.specs.Merge.{constant_body, constant_global, memory_written, supplied_global}
 use Rattle.replay_module_laws.specs.Laws.{StatesMaximum}
 

@@ -22,11 +22,12 @@ use Rattle.wasm_syntax.specs.Nest.{Nest, Empty, flat}
 use Rattle.wasm_syntax.specs.Index.{all_globals, all_memories, all_tables, func_indices, func_type, imported_funcs, type_at}
 use Rattle.wasm_syntax.specs.Typing.{Context, IsTyped}
 use Rattle.wasm_syntax.specs.Validity.{IsFuncType, IsImport, IsTypedFunc, IsValid, body_context}
+use Rattle.wasm_syntax.proofs.JoinedLists.{both_parts}
 use Rattle.host_script.specs.declared.scripts.Supply.{Supply}
 use Rattle.trace_model.specs.declared.tapes.Segment.{Segment}
 use Rattle.history_spec.specs.Code.{code_of}
 use Rattle.type_safety.specs.Supplies.{IsSupply}
-use Rattle.type_safety.proofs.Wider.{IsKnown, both_parts}
+use Rattle.type_safety.proofs.Wider.{IsKnown}
 use Rattle.replay_module_spec.specs.declared.plans.Plan.{Plan}
 use Rattle.replay_module_spec.specs.declared.groups.TheConstants.{GROUP_CALLS}
 use Rattle.replay_module_spec.specs.Dispatch.{body_of, sequence}
@@ -275,7 +276,8 @@ module _ (law : ReplayModulesHaveCode) (m : Module) (supply : Supply) (plan : Pl
   helpers_refer =
       subst
       (λ l. AllByRecursion (λ (f : Func). AllByRecursion (IsReferred (referred_funcs l)) f.body) (helper_funcs m plan))
-      (append_assoc (import_bodies m plan) m.funcs (helper_funcs m plan ++ []) ∙ ap (λ l. import_bodies m plan ++ (m.funcs ++ l)) (append-nil (helper_funcs m plan)))
+      (append_assoc (import_bodies m plan) m.funcs (helper_funcs m plan ++ [])
+      ∙ ap (λ l. import_bodies m plan ++ (m.funcs ++ l)) (append-nil (helper_funcs m plan)))
       (refers_among (import_bodies m plan ++ m.funcs) (helper_funcs m plan) [])
 
   pub all_typed : All (IsTypedFunc replay) replay.funcs

@@ -22,16 +22,19 @@ use Rattle.wasm_syntax.specs.declared.modules.Module.{Module}
 use Rattle.wasm_syntax.specs.Nest.{flat}
 use Rattle.wasm_syntax.specs.Index.{all_globals, all_memories, all_tables, func_indices, imported_funcs, imported_globals, memory_import, of_kind, table_import}
 use Rattle.wasm_syntax.specs.Validity.{IsTypedFunc, IsValid, body_context, declared_funcs, exported_func}
+use Rattle.wasm_syntax.proofs.JoinedLists.{both_parts}
 use Rattle.host_script.specs.declared.scripts.Supply.{Supply}
 use Rattle.history_spec.specs.Instantiation.{limits_of}
 use Rattle.type_safety.specs.Supplies.{IsSupply, Match}
 use Rattle.type_safety.specs.Values.{AreValues}
 use Rattle.type_safety.specs.Stores.{func_count}
-use Rattle.type_safety.proofs.Wider.{IsKnown, both_parts}
+use Rattle.type_safety.proofs.Wider.{IsKnown}
 use Rattle.replay_module_spec.specs.declared.plans.Plan.{Plan}
-use Rattle.replay_module_spec.specs.Fragments.{counter, fragment_of, helper_funcs, import_bodies, referred_funcs, start_index}
+use Rattle.replay_module_spec.specs.declared.fragments.Fragment.{Fragment}
+use Rattle.replay_module_spec.specs.Fragments.{counter, fragment_of, referred_funcs, start_index}
 use Rattle.replay_module_spec.specs.Merge.{constant_elem, constant_global, memory_written, replay_module, supplied_global}
 use Rattle.replay_module_laws.specs.CodeLaws.{ReplayModulesHaveCode}
+use Rattle.replay_module_laws.specs.Standing.{KeepsOriginals}
 use Rattle.replay_module_laws.proofs.Declarations.{IsReferred, declared_among, refers_among}
 use Rattle.replay_module_laws.proofs.Originals.{Extends, typed_known}
 use Rattle.replay_module_laws.proofs.Standing.{functions_more, originals_kept}
@@ -65,61 +68,123 @@ supplied_types funcs [] (value ∷ values) h = absurd h
 supplied_types funcs (ty ∷ types) [] h = absurd h
 supplied_types funcs (ty ∷ types) (value ∷ values) h = ap (λ l. ty ∷ l) (supplied_types funcs types values h.1)
 
-constant_types : (imported : List Val) (globals : List Global)
+pub constant_types : (imported : List Val) (globals : List Global)
     → map (λ (g : Global). g.ty) (map (constant_global imported) globals) ≡ map (λ (g : Global). g.ty) globals
 constant_types imported [] = refl
 constant_types imported (g ∷ globals) = ap (λ l. g.ty ∷ l) (constant_types imported globals)
 
--- ---- the replay module
+-- ---- the replay module of any generated part
+
+module _ (m : Module) (supply : Supply) (fragment : Fragment) (valid : IsValid m) (supplied : IsSupply m supply) where
+  abbrev merged : Module
+  merged = replay_module m supply fragment
+
+  abbrev global_type : Global → GlobalType
+  global_type g = g.ty
+
+  pub globals_of : all_globals merged ≡ all_globals m ++ map global_type fragment.globals
+  globals_of =
+      let imported = map supplied_global (zip (imported_globals m) supply.globals) in
+      let kept = map (constant_global supply.globals) m.globals in
+      map-append global_type imported (kept ++ fragment.globals)
+      ∙ ap (λ l. map global_type imported ++ l) (map-append global_type kept fragment.globals)
+      ∙ ap (λ l. l ++ (map global_type kept ++ map global_type fragment.globals))
+      (supplied_types (func_count m) (imported_globals m) supply.globals supplied.globals)
+      ∙ ap (λ l. imported_globals m ++ (l ++ map global_type fragment.globals)) (constant_types supply.globals m.globals)
+      ∙ sym (append_assoc (imported_globals m) (map global_type m.globals) (map global_type fragment.globals))
+
+  pub tables_of : length (all_tables m) ≡ length (all_tables merged)
+  tables_of =
+      as_many MAX_ENTRIES (of_kind table_import m.imports) m.tables supply.table supplied.table valid.outside.one_table
+
+  pub memories_of : length (all_memories m) ≡ length (all_memories merged)
+  memories_of =
+      as_many MAX_PAGES (of_kind memory_import m.imports) m.memories supply.memory supplied.memory
+      valid.outside.one_memory
+      ∙ sym (mapped_length memory_written (limits_of (of_kind memory_import m.imports) supply.memory m.memories))
+
+  -- a function of the original to which bodies refer is declared
+  abbrev pub DeclaresReferred : Type 0
+  DeclaresReferred =
+      (func : ℕ) → func < start_index m → list_any (nat_eq func) (referred_funcs merged.funcs) ≡ true
+      → (nat_lt func (length (func_indices merged)) && list_any (nat_eq func) (declared_funcs merged)) ≡ true
+
+  module _ (kept : KeepsOriginals m merged) (declares : DeclaresReferred) where
+    extends : (ty : FuncType) (f : Func) → Extends (body_context m ty f) (body_context merged ty f)
+    extends ty f =
+        record {
+          types = kept.types;
+          funcs = kept.signatures;
+          tables = λ x. there_alike (all_tables m) (all_tables merged) x tables_of;
+          memory = there_alike (all_memories m) (all_memories merged) 0 memories_of;
+          globals = λ x g h.
+              ap (λ l. slice_get l x) globals_of
+              ∙ get_front (all_globals m) (map global_type fragment.globals) x
+              (slice_get_within (all_globals m) x g h)
+              ∙ h;
+          locals = λ x t h. h;
+          labels = λ l x h. h;
+          results = refl;
+        }
+
+    known : (ty : FuncType) (f : Func) (code : List Instr)
+        → AllByRecursion (IsReferred (referred_funcs merged.funcs)) code
+        → AllByRecursion (IsKnown (body_context m ty f) (body_context merged ty f)) code
+    known ty f [] r = tt
+    known ty f (i ∷ code) r = (
+      (λ func e is.
+          let first = (and_parts (nat_lt func (start_index m)) _ is).0 in
+          declares func (grind (arith, nat_tests, first)) (r.0 func e)),
+      known ty f code r.1,
+    )
+
+    original_typed : (f : Func) → AllByRecursion (IsReferred (referred_funcs merged.funcs)) f.body → IsTypedFunc m f
+        → IsTypedFunc merged f
+    original_typed f referred t =
+        let parts =
+        both_parts (IsReferred (referred_funcs merged.funcs)) (flat t.nest) (End ∷ [])
+        (subst (AllByRecursion (IsReferred (referred_funcs merged.funcs))) (sym t.is_body.written) referred) in
+        record {
+          ty = t.ty;
+          nest = t.nest;
+          has_type = kept.types f.ty t.ty t.has_type;
+          is_body = t.is_body;
+          typed =
+              typed_known t.nest (body_context m t.ty f) (body_context merged t.ty f) [] (reverse t.ty.results)
+              (extends t.ty f) (known t.ty f (flat t.nest) parts.0) t.typed;
+        }
+
+    each_typed : (funcs : List Func)
+        → AllByRecursion (λ (f : Func). AllByRecursion (IsReferred (referred_funcs merged.funcs)) f.body) funcs
+        → AllByRecursion (IsTypedFunc m) funcs → AllByRecursion (IsTypedFunc merged) funcs
+    each_typed [] referred typed = tt
+    each_typed (f ∷ funcs) referred typed =
+        (original_typed f referred.0 typed.0, each_typed funcs referred.1 typed.1)
+
+    pub kept_typed : All (IsTypedFunc merged) m.funcs
+    kept_typed =
+        All-from_recursion (IsTypedFunc merged) m.funcs
+        (each_typed m.funcs (refers_among fragment.bodies m.funcs fragment.helpers)
+        (recursion_from_All (IsTypedFunc m) m.funcs valid.bodies))
+
+-- ---- the replay module of a plan
 
 module _ (law : ReplayModulesHaveCode) (m : Module) (supply : Supply) (plan : Plan) (valid : IsValid m)
     (supplied : IsSupply m supply) (many : length plan.imports ≡ imported_funcs m) where
   abbrev replay : Module
   replay = replay_module m supply (fragment_of m plan)
 
-  abbrev global_type : Global → GlobalType
-  global_type g = g.ty
-
   abbrev own_globals : List Global
   own_globals = replicate (imported_funcs m) counter
 
-  pub globals_are : all_globals replay ≡ all_globals m ++ map global_type own_globals
-  globals_are =
-      let imported = map supplied_global (zip (imported_globals m) supply.globals) in
-      let kept = map (constant_global supply.globals) m.globals in
-      map-append global_type imported (kept ++ own_globals)
-      ∙ ap (λ l. map global_type imported ++ l) (map-append global_type kept own_globals)
-      ∙ ap (λ l. l ++ (map global_type kept ++ map global_type own_globals))
-      (supplied_types (func_count m) (imported_globals m) supply.globals supplied.globals)
-      ∙ ap (λ l. imported_globals m ++ (l ++ map global_type own_globals)) (constant_types supply.globals m.globals)
-      ∙ sym (append_assoc (imported_globals m) (map global_type m.globals) (map global_type own_globals))
+  pub globals_are : all_globals replay ≡ all_globals m ++ map (λ (g : Global). g.ty) own_globals
+  globals_are = globals_of m supply (fragment_of m plan) valid supplied
 
   pub tables_many : length (all_tables m) ≡ length (all_tables replay)
-  tables_many =
-      as_many MAX_ENTRIES (of_kind table_import m.imports) m.tables supply.table supplied.table valid.outside.one_table
+  tables_many = tables_of m supply (fragment_of m plan) valid supplied
 
   pub memories_many : length (all_memories m) ≡ length (all_memories replay)
-  memories_many =
-      as_many MAX_PAGES (of_kind memory_import m.imports) m.memories supply.memory supplied.memory
-      valid.outside.one_memory
-      ∙ sym (mapped_length memory_written (limits_of (of_kind memory_import m.imports) supply.memory m.memories))
-
-  extends : (ty : FuncType) (f : Func) → Extends (body_context m ty f) (body_context replay ty f)
-  extends ty f =
-      let kept = originals_kept law m supply plan valid many in
-      record {
-        types = kept.types;
-        funcs = kept.signatures;
-        tables = λ x. there_alike (all_tables m) (all_tables replay) x tables_many;
-        memory = there_alike (all_memories m) (all_memories replay) 0 memories_many;
-        globals = λ x g h.
-            ap (λ l. slice_get l x) globals_are
-            ∙ get_front (all_globals m) (map global_type own_globals) x (slice_get_within (all_globals m) x g h)
-            ∙ h;
-        locals = λ x t h. h;
-        labels = λ l x h. h;
-        results = refl;
-      }
+  memories_many = memories_of m supply (fragment_of m plan) valid supplied
 
   -- a function of the original to which bodies refer is declared
   pub declared_there : (func : ℕ) → func < start_index m → list_any (nat_eq func) (referred_funcs replay.funcs) ≡ true
@@ -131,41 +196,6 @@ module _ (law : ReplayModulesHaveCode) (m : Module) (supply : Supply) (plan : Pl
       (declared_among func (start_index m) replay.funcs (map (constant_elem supply.globals) m.elems)
       (filter_map (λ (e : Export). exported_func e.kind) replay.exports) small referred)
 
-  known : (ty : FuncType) (f : Func) (code : List Instr) → AllByRecursion (IsReferred (referred_funcs replay.funcs)) code
-      → AllByRecursion (IsKnown (body_context m ty f) (body_context replay ty f)) code
-  known ty f [] r = tt
-  known ty f (i ∷ code) r = (
-    (λ func e is.
-        let first = (and_parts (nat_lt func (start_index m)) _ is).0 in
-        declared_there func (grind (arith, nat_tests, first)) (r.0 func e)),
-    known ty f code r.1,
-  )
-
-  original_typed : (f : Func) → AllByRecursion (IsReferred (referred_funcs replay.funcs)) f.body → IsTypedFunc m f
-      → IsTypedFunc replay f
-  original_typed f referred t =
-      let parts =
-      both_parts (IsReferred (referred_funcs replay.funcs)) (flat t.nest) (End ∷ [])
-      (subst (AllByRecursion (IsReferred (referred_funcs replay.funcs))) (sym t.is_body.written) referred) in
-      record {
-        ty = t.ty;
-        nest = t.nest;
-        has_type = (originals_kept law m supply plan valid many).types f.ty t.ty t.has_type;
-        is_body = t.is_body;
-        typed =
-            typed_known t.nest (body_context m t.ty f) (body_context replay t.ty f) [] (reverse t.ty.results)
-            (extends t.ty f) (known t.ty f (flat t.nest) parts.0) t.typed;
-      }
-
-  each_typed : (funcs : List Func)
-      → AllByRecursion (λ (f : Func). AllByRecursion (IsReferred (referred_funcs replay.funcs)) f.body) funcs
-      → AllByRecursion (IsTypedFunc m) funcs → AllByRecursion (IsTypedFunc replay) funcs
-  each_typed [] referred typed = tt
-  each_typed (f ∷ funcs) referred typed =
-      (original_typed f referred.0 typed.0, each_typed funcs referred.1 typed.1)
-
   pub originals_typed : All (IsTypedFunc replay) m.funcs
   originals_typed =
-      All-from_recursion (IsTypedFunc replay) m.funcs
-      (each_typed m.funcs (refers_among (import_bodies m plan) m.funcs (helper_funcs m plan))
-      (recursion_from_All (IsTypedFunc m) m.funcs valid.bodies))
+      kept_typed m supply (fragment_of m plan) valid supplied (originals_kept law m supply plan valid many) declared_there

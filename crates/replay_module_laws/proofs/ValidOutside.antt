@@ -1,6 +1,6 @@
 -- The replay module of a plan is valid but for the bodies of its functions.
 use Rattle.std.proofs.Common.{◌≡◌, ℕ, ◌+◌, ◌<◌, ◌≤◌, List, [], ◌∷◌, ◌++◌, length, refl, sym, ap, ◌∙◌, subst, arith, length-append}
-use Rattle.std.specs.Prelude.{get_or, map, nat_eq, IsTrue, All, replicate}
+use Rattle.std.specs.Prelude.{get_or, map, nat_eq, IsTrue, All}
 use Rattle.std.specs.List.{AllByRecursion, list_any, range_with_len, zip}
 use Rattle.std.proofs.lemmas.List.Elements.{All-append, All-cons, All-filter, All-from_recursion, All-map, All-nil, All-replicate, All-weaker, recursion_from_All}
 use Rattle.std.proofs.lemmas.List.FromFn.{get_or-range_with_len, length-range_with_len}
@@ -16,7 +16,7 @@ use Rattle.wasm_syntax.specs.declared.modules.Import.{Import}
 use Rattle.wasm_syntax.specs.declared.modules.Func.{Func}
 use Rattle.wasm_syntax.specs.declared.modules.Module.{Module}
 use Rattle.wasm_syntax.specs.declared.modules.Run.{Run}
-use Rattle.wasm_syntax.specs.Index.{all_globals, imported_funcs, imported_globals, memory_import, of_kind, table_import}
+use Rattle.wasm_syntax.specs.Index.{all_globals, func_indices, imported_funcs, imported_globals, memory_import, of_kind, table_import}
 use Rattle.wasm_syntax.specs.Typing.{is_number}
 use Rattle.wasm_syntax.specs.Validity.{AreFuncs, IsData, IsDeclaredFunc, IsElem, IsFuncType, IsGlobal, IsImport, IsThere, IsValid, IsValidOutside}
 use Rattle.host_script.specs.declared.scripts.Supply.{Supply}
@@ -26,6 +26,7 @@ use Rattle.history_spec.specs.Instantiation.{limits_of}
 use Rattle.type_safety.specs.Stores.{func_count}
 use Rattle.type_safety.specs.Supplies.{IsSupply}
 use Rattle.replay_module_spec.specs.declared.plans.Plan.{Plan}
+use Rattle.replay_module_spec.specs.declared.fragments.Fragment.{Fragment}
 use Rattle.replay_module_spec.specs.Functions.{appended_types, group_count, group_func, group_funcs, group_type, group_type_place, groups, import_funcs, one_i32, original_type, start_func}
 use Rattle.replay_module_spec.specs.Fragments.{counter, fragment_of, helper_funcs, import_bodies, import_types, referred_funcs, referred_once, start_index}
 use Rattle.replay_module_spec.specs.Merge.{constant_data, constant_elem, constant_global, declaration, memory_written, replay_module, supplied_global}
@@ -118,11 +119,6 @@ module _ (m other : Module) (types : other.types ≡ m.types ++ appended_types) 
   start_declared segments =
       let more = more_types in record { type_there = omega (arith, more); locals = All-nil IsNumberRun }
 
-  original_declared : (f : Func) → IsDeclaredFunc m f → IsDeclaredFunc other f
-  original_declared f is =
-      let more = more_types in
-      let here = is.type_there in record { type_there = omega (arith, more, here); locals = is.locals }
-
 -- ---- segments
 
 pub range_below : (n : ℕ) → All (λ f. f < n) (range_with_len 0 n)
@@ -141,67 +137,73 @@ declaration_valid other [] are = All-nil (IsElem other)
 declaration_valid other (func ∷ funcs) are =
     All-cons (IsElem other) (Declared (func ∷ funcs)) [] are (All-nil (IsElem other))
 
--- ---- the replay module
+-- ---- the replay module of any generated part
 
-module _ (law : ReplayModulesHaveCode) (m : Module) (supply : Supply) (plan : Plan) (valid : IsValid m)
-    (supplied : IsSupply m supply) (stated : StatesMaximum supply.table)
-    (many : length plan.imports ≡ imported_funcs m) where
-  abbrev replay : Module
-  replay = replay_module m supply (fragment_of m plan)
+-- what a replay module needs to be valid but for the bodies of its functions: its types, functions and globals are
+-- valid; the exported function, the original's and the declared ones exist
+pub record HasValidParts (m : Module) (supply : Supply) (fragment : Fragment) : Type 0 where
+  pub types : All IsFuncType fragment.types
+  pub bodies : All (IsDeclaredFunc (replay_module m supply fragment)) fragment.bodies
+  pub helpers : All (IsDeclaredFunc (replay_module m supply fragment)) fragment.helpers
+  pub globals : All (IsGlobal (replay_module m supply fragment)) fragment.globals
+  pub entry : fragment.entry < length (func_indices (replay_module m supply fragment))
+  pub more : start_index m ≤ length (func_indices (replay_module m supply fragment))
+  pub declared : AreFuncs (replay_module m supply fragment) fragment.declared
+
+module _ (m : Module) (supply : Supply) (fragment : Fragment) (valid : IsValid m) (supplied : IsSupply m supply)
+    (stated : StatesMaximum supply.table) (parts : HasValidParts m supply fragment) where
+  abbrev merged : Module
+  merged = replay_module m supply fragment
 
   abbrev IsNumberGlobal : GlobalType → Type 0
   IsNumberGlobal g = IsTrue (is_number g.ty)
 
-  imports_valid : AllByRecursion (λ (i : Import). IsImport m i.kind) m.imports
-  imports_valid = recursion_from_All (λ (i : Import). IsImport m i.kind) m.imports valid.outside.imports
-
   numbers : AllByRecursion IsNumberGlobal (imported_globals m)
-  numbers = numbers_imported m m.imports imports_valid
+  numbers =
+      numbers_imported m m.imports
+      (recursion_from_All (λ (i : Import). IsImport m i.kind) m.imports valid.outside.imports)
 
   numbers_all : All IsNumberGlobal (imported_globals m)
   numbers_all = All-from_recursion IsNumberGlobal (imported_globals m) numbers
 
-  funcs_declared : All (IsDeclaredFunc replay) replay.funcs
-  funcs_declared =
-      All-append (IsDeclaredFunc replay) (import_bodies m plan) (m.funcs ++ helper_funcs m plan)
-      (All-from_recursion (IsDeclaredFunc replay) (import_bodies m plan)
-      (import_funcs_declared m replay refl (length (all_globals m)) (start_index m + 1) (import_types m) plan.imports
-      (types_imported m m.imports imports_valid)))
-      (All-append (IsDeclaredFunc replay) m.funcs (helper_funcs m plan)
-      (All-weaker (IsDeclaredFunc m) (IsDeclaredFunc replay) (original_declared m replay refl) m.funcs
-      valid.outside.funcs)
-      (All-cons (IsDeclaredFunc replay) (start_func m plan.begin) (group_funcs m (import_types m) plan.imports)
-      (start_declared m replay refl plan.begin)
-      (group_funcs_declared m replay refl (import_types m) plan.imports)))
+  own_declared : (f : Func) → IsDeclaredFunc m f → IsDeclaredFunc merged f
+  own_declared f is =
+      let more = length-append m.types fragment.types in
+      let here = is.type_there in record { type_there = omega (arith, more, here); locals = is.locals }
 
-  globals_valid : All (IsGlobal replay) replay.globals
+  funcs_declared : All (IsDeclaredFunc merged) merged.funcs
+  funcs_declared =
+      All-append (IsDeclaredFunc merged) fragment.bodies (m.funcs ++ fragment.helpers) parts.bodies
+      (All-append (IsDeclaredFunc merged) m.funcs fragment.helpers
+      (All-weaker (IsDeclaredFunc m) (IsDeclaredFunc merged) own_declared m.funcs valid.outside.funcs) parts.helpers)
+
+  globals_valid : All (IsGlobal merged) merged.globals
   globals_valid =
       let own = map (constant_global supply.globals) m.globals in
       let imported = map supplied_global (zip (imported_globals m) supply.globals) in
-      let counters = replicate (imported_funcs m) counter in
-      All-append (IsGlobal replay) imported (own ++ counters)
-      (All-from_recursion (IsGlobal replay) imported
-      (supplied_kept replay (func_count m) (imported_globals m) supply.globals supplied.globals numbers))
-      (All-append (IsGlobal replay) own counters
-      (All-map (IsGlobal replay) (constant_global supply.globals) m.globals
-      (All-weaker (IsGlobal m) (λ g. IsGlobal replay (constant_global supply.globals g))
-      (global_kept m replay (func_count m) supply.globals supplied.globals numbers_all) m.globals valid.outside.globals))
-      (All-replicate (IsGlobal replay) (imported_funcs m) counter (record { number = refl; init = refl })))
+      All-append (IsGlobal merged) imported (own ++ fragment.globals)
+      (All-from_recursion (IsGlobal merged) imported
+      (supplied_kept merged (func_count m) (imported_globals m) supply.globals supplied.globals numbers))
+      (All-append (IsGlobal merged) own fragment.globals
+      (All-map (IsGlobal merged) (constant_global supply.globals) m.globals
+      (All-weaker (IsGlobal m) (λ g. IsGlobal merged (constant_global supply.globals g))
+      (global_kept m merged (func_count m) supply.globals supplied.globals numbers_all) m.globals valid.outside.globals))
+      parts.globals)
 
-  funcs_there : (funcs : List ℕ) → AreFuncs m funcs → AreFuncs replay funcs
+  funcs_there : (funcs : List ℕ) → AreFuncs m funcs → AreFuncs merged funcs
   funcs_there funcs are k d below =
-      let more = functions_more law m supply plan valid many in let there = are k d below in omega (arith, more, there)
+      let more = parts.more in let there = are k d below in omega (arith, more, there)
 
-  elem_kept : (segment : ElemSeg) → IsElem m segment → IsElem replay (constant_elem supply.globals segment)
+  elem_kept : (segment : ElemSeg) → IsElem m segment → IsElem merged (constant_elem supply.globals segment)
   elem_kept (Active table offset funcs) is = (
     limits_there MAX_ENTRIES (of_kind table_import m.imports) m.tables supply.table table supplied.table
         valid.outside.one_table is.0,
-    constant_kept m replay (func_count m) supply.globals supplied.globals numbers_all I32 offset (zero_of I32) is.1,
+    constant_kept m merged (func_count m) supply.globals supplied.globals numbers_all I32 offset (zero_of I32) is.1,
     funcs_there funcs is.2,
   )
   elem_kept (Declared funcs) is = funcs_there funcs is
 
-  data_kept : (segment : DataSeg) → IsData m segment → IsData replay (constant_data supply.globals segment)
+  data_kept : (segment : DataSeg) → IsData m segment → IsData merged (constant_data supply.globals segment)
   data_kept segment is =
       record {
         memory =
@@ -211,28 +213,23 @@ module _ (law : ReplayModulesHaveCode) (m : Module) (supply : Supply) (plan : Pl
             (limits_there MAX_PAGES (of_kind memory_import m.imports) m.memories supply.memory segment.memory
             supplied.memory valid.outside.one_memory is.memory);
         offset =
-            constant_kept m replay (func_count m) supply.globals supplied.globals numbers_all I32 segment.offset
+            constant_kept m merged (func_count m) supply.globals supplied.globals numbers_all I32 segment.offset
             (zero_of I32) is.offset;
       }
 
-  elems_valid : All (IsElem replay) replay.elems
+  elems_valid : All (IsElem merged) merged.elems
   elems_valid =
-      let declared = (fragment_of m plan).declared in
-      All-append (IsElem replay) (map (constant_elem supply.globals) m.elems) (declaration declared)
-      (All-map (IsElem replay) (constant_elem supply.globals) m.elems
-      (All-weaker (IsElem m) (λ segment. IsElem replay (constant_elem supply.globals segment)) elem_kept m.elems
+      All-append (IsElem merged) (map (constant_elem supply.globals) m.elems) (declaration fragment.declared)
+      (All-map (IsElem merged) (constant_elem supply.globals) m.elems
+      (All-weaker (IsElem m) (λ segment. IsElem merged (constant_elem supply.globals segment)) elem_kept m.elems
       valid.outside.elems))
-      (declaration_valid replay declared
-      (λ k d below.
-      let more = functions_more law m supply plan valid many in
-      let there = referred_below (start_index m) (import_bodies m plan ++ (m.funcs ++ helper_funcs m plan)) k d below in
-      omega (arith, more, there)))
+      (declaration_valid merged fragment.declared parts.declared)
 
-  pub valid_outside : IsValidOutside replay
-  valid_outside =
+  pub valid_parts : IsValidOutside merged
+  valid_parts =
       record {
-        types = All-append IsFuncType m.types appended_types valid.outside.types appended_valid;
-        imports = All-nil (λ (i : Import). IsImport replay i.kind);
+        types = All-append IsFuncType m.types fragment.types valid.outside.types parts.types;
+        imports = All-nil (λ (i : Import). IsImport merged i.kind);
         funcs = funcs_declared;
         tables =
             tables_valid (of_kind table_import m.imports) m.tables supply.table supplied.table stated
@@ -241,15 +238,47 @@ module _ (law : ReplayModulesHaveCode) (m : Module) (supply : Supply) (plan : Pl
             memories_valid (of_kind memory_import m.imports) m.memories supply.memory supplied.memory
             valid.outside.memories;
         globals = globals_valid;
-        exports =
-            All-from_recursion (λ (e : Export). IsThere replay e.kind) replay.exports (functions_more law m supply plan valid many, tt);
+        exports = All-from_recursion (λ (e : Export). IsThere merged e.kind) merged.exports (parts.entry, tt);
         names_differ = λ i j d below within. absurd (omega (arith, below, within));
         start = tt;
         elems = elems_valid;
         datas =
-            All-map (IsData replay) (constant_data supply.globals) m.datas
-            (All-weaker (IsData m) (λ segment. IsData replay (constant_data supply.globals segment)) data_kept m.datas
+            All-map (IsData merged) (constant_data supply.globals) m.datas
+            (All-weaker (IsData m) (λ segment. IsData merged (constant_data supply.globals segment)) data_kept m.datas
             valid.outside.datas);
         one_table = at_most_one _;
         one_memory = at_most_one _;
       }
+
+-- ---- the replay module of a plan
+
+module _ (law : ReplayModulesHaveCode) (m : Module) (supply : Supply) (plan : Plan) (valid : IsValid m)
+    (supplied : IsSupply m supply) (stated : StatesMaximum supply.table)
+    (many : length plan.imports ≡ imported_funcs m) where
+  abbrev replay : Module
+  replay = replay_module m supply (fragment_of m plan)
+
+  parts_valid : HasValidParts m supply (fragment_of m plan)
+  parts_valid =
+      let more = functions_more law m supply plan valid many in
+      record {
+        types = appended_valid;
+        bodies =
+            All-from_recursion (IsDeclaredFunc replay) (import_bodies m plan)
+            (import_funcs_declared m replay refl (length (all_globals m)) (start_index m + 1) (import_types m) plan.imports
+            (types_imported m m.imports
+            (recursion_from_All (λ (i : Import). IsImport m i.kind) m.imports valid.outside.imports)));
+        helpers =
+            All-cons (IsDeclaredFunc replay) (start_func m plan.begin) (group_funcs m (import_types m) plan.imports)
+            (start_declared m replay refl plan.begin)
+            (group_funcs_declared m replay refl (import_types m) plan.imports);
+        globals = All-replicate (IsGlobal replay) (imported_funcs m) counter (record { number = refl; init = refl });
+        entry = more;
+        more = omega (arith, more);
+        declared = λ k d below.
+            let there = referred_below (start_index m) (import_bodies m plan ++ (m.funcs ++ helper_funcs m plan)) k d below in
+            omega (arith, more, there);
+      }
+
+  pub valid_outside : IsValidOutside replay
+  valid_outside = valid_parts m supply (fragment_of m plan) valid supplied stated parts_valid

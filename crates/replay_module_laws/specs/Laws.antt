@@ -10,6 +10,8 @@ use Rattle.replay_form.specs.Forms.{IsReplayable}
 use Rattle.trace_model.specs.declared.tapes.Tape.{Tape}
 use Rattle.trace_model.specs.Fitting.{IsFitting}
 use Rattle.replay_module_spec.specs.declared.plans.Plan.{Plan}
+use Rattle.replay_module_spec.specs.declared.fragments.Fragment.{Fragment}
+use Rattle.replay_module_spec.specs.Fits.{FitsModule}
 use Rattle.replay_module_spec.specs.Plans.{plan_of}
 use Rattle.replay_module_spec.specs.Fragments.{fragment_of, start_index}
 use Rattle.replay_module_spec.specs.Merge.{layout_of, replay_module}
@@ -76,3 +78,18 @@ ReplayModulesOfTapesAreValid =
     (m : Module) (supply : Supply) (tape : Tape) → IsValid m → IsSupply m supply → StatesMaximum supply.table
     → IsFitting m tape → IsConstantTape tape
     → IsValid (replay_module m supply (fragment_of m (plan_of (imported_funcs m) tape)))
+
+-- ---- any generated part
+
+-- the replay module of any generated part that fits a valid module keeps the types and functions of the original at
+-- their indices
+abbrev pub ReplayModulesOfFragmentsKeepOriginals : Type 0
+ReplayModulesOfFragmentsKeepOriginals =
+    (m : Module) (supply : Supply) (fragment : Fragment) → IsValid m → IsSupply m supply → FitsModule m fragment
+    → KeepsOriginals m (replay_module m supply fragment)
+
+-- with each supply that matches the imports, the replay module of any generated part that fits a valid module is valid
+abbrev pub ReplayModulesOfFragmentsAreValid : Type 0
+ReplayModulesOfFragmentsAreValid =
+    (m : Module) (supply : Supply) (fragment : Fragment) → IsValid m → IsSupply m supply → StatesMaximum supply.table
+    → FitsModule m fragment → IsValid (replay_module m supply fragment)

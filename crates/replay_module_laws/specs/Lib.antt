@@ -5,3 +5,4 @@ pub mod Plans
 pub mod Stores
 pub mod Codes
 pub mod CodeLaws
+pub mod PlanLaws

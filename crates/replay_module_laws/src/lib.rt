@@ -3,10 +3,12 @@
 #![tactic(auto)]
 
 pub mod codes;
+pub mod plans;
 
-ghost use Rattle.replay_module_laws.specs.Laws.{OriginalsAreTyped, PlansFit, ReplayModulesAreValid, ReplayModulesOfTapesAreValid, ReplayModulesAreReplayable, ReplayModulesAreValidOutside, ReplayModulesKeepOriginals, ReplayModulesStandAlone};
+ghost use Rattle.replay_module_laws.specs.Laws.{OriginalsAreTyped, PlansFit, ReplayModulesAreValid, ReplayModulesOfFragmentsAreValid, ReplayModulesOfFragmentsKeepOriginals, ReplayModulesOfTapesAreValid, ReplayModulesAreReplayable, ReplayModulesAreValidOutside, ReplayModulesKeepOriginals, ReplayModulesStandAlone};
 
 pub use codes::replay_modules_have_code;
+pub use plans::plans_have_segments;
 
 /// The replay module of a plan keeps the original's types and functions at their indices, imports nothing, and
 /// declares its layout and the one function that it exports.
@@ -50,3 +52,10 @@ pub fn replay_modules_of_tapes_are_valid()
 {
     replay_modules_are_valid();
 }
+
+/// The replay module of any generated part that fits the module is valid, and keeps the original's types and functions
+/// at their indices. The part need not be that of a plan.
+pub fn replay_modules_of_fragments_are_valid()
+    ensures originals { ReplayModulesOfFragmentsKeepOriginals }
+    ensures valid { ReplayModulesOfFragmentsAreValid }
+{}

@@ -42,13 +42,17 @@ unchanged frame going =
     let left = leaves_none frame.labels frame.values frame.at.rest frame.at.number going in
     ap (λ p. record frame { values = p.values; labels = p.labels; at = p.at }) left
 
-pub going_settles : (frame : Frame) (below : List Activation) → IsGoing frame.at.rest → settle (InModule frame ∷ below) ≡ settle_result [] (Continues (InModule frame ∷ below))
+pub going_settles : (frame : Frame) (below : List Activation) → IsGoing frame.at.rest
+    → settle (InModule frame ∷ below) ≡ settle_result [] (Continues (InModule frame ∷ below))
 going_settles frame below going =
-    ap (λ f. return_from (at_end f) f below (deliver below)) (unchanged frame going) ∙ ap (λ e. return_from e frame below (deliver below)) (going_within frame.at.rest frame going)
+    ap (λ f. return_from (at_end f) f below (deliver below)) (unchanged frame going)
+    ∙ ap (λ e. return_from e frame below (deliver below)) (going_within frame.at.rest frame going)
 
 -- ---- where the machine arrives
 
-module _ (m : Module) (heights : Heights) (actions : List Action) (outside : List Activation) (is_run : IsRun m heights (program_alone m) []) (called : outside ≡ host actions) (entries : List Entry) (machine : State) (s : StepResult) where
+module _ (m : Module) (heights : Heights) (actions : List Action) (outside : List Activation)
+    (is_run : IsRun m heights (program_alone m) []) (called : outside ≡ host actions) (entries : List Entry)
+    (machine : State) (s : StepResult) where
   -- a module without imports calls no import
   pub own_pause : (where_to : Option Pause) → Comes m heights (program_alone m) outside [] where_to entries machine s → IsOwnPause where_to
   own_pause None comes = tt
@@ -62,40 +66,65 @@ module _ (m : Module) (heights : Heights) (actions : List Action) (outside : Lis
   own_pause (Some pause.Spent) comes = absurd comes
 
   -- without a trap: the entries are the step's, and the call is at its place after every history without a trap
-  pub arrives_on : (shown : ShownLines) (where_to : Option Pause) → IsReturnPause where_to → Comes m heights (program_alone m) outside [] where_to entries machine s
-      → (s.entries ≡ entries) × ((history printed : List Entry) → AreNoTraps history → GoesOn m heights actions (stand_of shown.layout where_to printed) shown history machine s.next)
+  pub arrives_on : (shown : ShownLines) (where_to : Option Pause) → IsReturnPause where_to
+      → Comes m heights (program_alone m) outside [] where_to entries machine s
+      → (s.entries ≡ entries) × ((history printed : List Entry) → AreNoTraps history
+      → GoesOn m heights actions (stand_of shown.layout where_to printed) shown history machine s.next)
   arrives_on shown None own comes = (
     ap (λ (r : StepResult). r.entries) comes.same,
     λ history printed none. (
-      record { frame = comes.frame; below = comes.below; stands = comes.stands; going = comes.going; called = comes.same_outside ∙ called; same = ap (λ (r : StepResult). r.next) comes.same },
+      record {
+        frame = comes.frame;
+        below = comes.below;
+        stands = comes.stands;
+        going = comes.going;
+        called = comes.same_outside ∙ called;
+        same = ap (λ (r : StepResult). r.next) comes.same;
+      },
       none,
     ),
   )
   arrives_on shown (Some pause.Returned) own comes =
-      let same : s ≡ after_entries entries (after_settling machine.store [] (settle (host actions))) = subst (λ o. s ≡ after_entries entries (after_settling machine.store [] (settle o))) called comes.same in (
+      let same : s ≡ after_entries entries (after_settling machine.store [] (settle (host actions))) =
+      subst (λ o. s ≡ after_entries entries (after_settling machine.store [] (settle o))) called comes.same in (
         ap (λ (r : StepResult). r.entries) same ∙ ap (λ es. entries ++ es) (host_prints_none actions) ∙ append-nil entries,
-        λ history printed none. (record { stands = subst (λ o. StandsFor m heights o machine) called comes.stands; same = ap (λ (r : StepResult). r.next) same }, none),
+        λ history printed none. (
+          record {
+            stands = subst (λ o. StandsFor m heights o machine) called comes.stands;
+            same = ap (λ (r : StepResult). r.next) same;
+          },
+          none,
+        ),
       )
   arrives_on shown (Some pause.Trapped) own comes = absurd own
   arrives_on shown (Some (pause.Import index)) own comes = absurd own
   arrives_on shown (Some pause.Spent) own comes = absurd own
 
   -- a step that does not end by a trap has no trap
-  untrapped : (where_to : Option Pause) → IsReturnPause where_to → Comes m heights (program_alone m) outside [] where_to entries machine s → s.next ≢ Finished ByTrap
-  untrapped None own comes trapped = let bad : Running (config_of machine (InModule comes.frame ∷ comes.below) []) ≡ Finished ByTrap = sym (ap (λ (r : StepResult). r.next) comes.same) ∙ trapped in cc
+  untrapped : (where_to : Option Pause) → IsReturnPause where_to
+      → Comes m heights (program_alone m) outside [] where_to entries machine s → s.next ≢ Finished ByTrap
+  untrapped None own comes trapped =
+      let bad : Running (config_of machine (InModule comes.frame ∷ comes.below) []) ≡ Finished ByTrap =
+      sym (ap (λ (r : StepResult). r.next) comes.same) ∙ trapped in
+      cc
   untrapped (Some pause.Returned) own comes trapped =
-      let same : s ≡ after_entries entries (after_settling machine.store [] (settle (host actions))) = subst (λ o. s ≡ after_entries entries (after_settling machine.store [] (settle o))) called comes.same in
+      let same : s ≡ after_entries entries (after_settling machine.store [] (settle (host actions))) =
+      subst (λ o. s ≡ after_entries entries (after_settling machine.store [] (settle o))) called comes.same in
       host_ends machine.store actions (sym (ap (λ (r : StepResult). r.next) same) ∙ trapped)
   untrapped (Some pause.Trapped) own comes trapped = absurd own
   untrapped (Some (pause.Import index)) own comes trapped = absurd own
   untrapped (Some pause.Spent) own comes trapped = absurd own
 
-  no_traps : (where_to : Option Pause) → IsReturnPause where_to → Comes m heights (program_alone m) outside [] where_to entries machine s → AreNoTraps s.entries ⊎ (s.next ≡ Finished ByTrap) → AreNoTraps s.entries
+  no_traps : (where_to : Option Pause) → IsReturnPause where_to
+      → Comes m heights (program_alone m) outside [] where_to entries machine s
+      → AreNoTraps s.entries ⊎ (s.next ≡ Finished ByTrap) → AreNoTraps s.entries
   no_traps where_to own comes (inl none) = none
   no_traps where_to own comes (inr trapped) = absurd (untrapped where_to own comes trapped)
 
   -- for a step: the entries are the step's, and the call is at its place
-  pub arrives : (shown : ShownLines) (where_to : Option Pause) → Comes m heights (program_alone m) outside [] where_to entries machine s → AreNoTraps s.entries ⊎ (s.next ≡ Finished ByTrap)
+  pub arrives : (shown : ShownLines) (where_to : Option Pause)
+      → Comes m heights (program_alone m) outside [] where_to entries machine s
+      → AreNoTraps s.entries ⊎ (s.next ≡ Finished ByTrap)
       → (s.entries ≡ entries) × GoesOn m heights actions (stand_of shown.layout where_to entries) shown s.entries machine s.next
   arrives shown None comes traps = let a = arrives_on shown None tt comes in (a.0, a.1 s.entries entries (no_traps None tt comes traps))
   arrives shown (Some (pause.Import index)) comes traps = absurd (own_pause (Some (pause.Import index)) comes)

@@ -22,16 +22,23 @@ use Rattle.host_play.proofs.Joins.{run_continued, run_of}
 use Rattle.replay_run.proofs.ShownParts.{has_shown, trap_after}
 
 -- where a call is, after a history without a trap
-pub after_history : (m : Module) (heights : Heights) (actions : List Action) (stand : CallStand) (shown : ShownLines) (history entries : List Entry) (machine : State) (next : Progress)
+pub after_history : (m : Module) (heights : Heights) (actions : List Action) (stand : CallStand) (shown : ShownLines)
+    (history entries : List Entry) (machine : State) (next : Progress)
     → AreNoTraps history → GoesOn m heights actions stand shown entries machine next → GoesOn m heights actions stand shown (history ++ entries) machine next
 after_history m heights actions at.Instruction shown history entries machine next none goes = (goes.0, All-append IsNoTrap history entries none goes.1)
 after_history m heights actions at.Returned shown history entries machine next none goes = (goes.0, All-append IsNoTrap history entries none goes.1)
-after_history m heights actions (at.Trapped outcome) shown history entries machine next none goes = (goes.0, goes.1 ∙ sym (trap_after shown.layout history entries none))
+after_history m heights actions (at.Trapped outcome) shown history entries machine next none goes =
+    (goes.0, goes.1 ∙ sym (trap_after shown.layout history entries none))
 
-module _ (law : ProjectionsRunAlong) (m : Module) (before actions : List Action) (initial : StepResult) (turns : ℕ) (stand : CallStand) (shown : ShownLines) (machine : State) (left : ℕ) (so : ShowsSoFar m before initial turns stand shown machine left) (none : AreNoTraps so.history) where
+module _ (law : ProjectionsRunAlong) (m : Module) (before actions : List Action) (initial : StepResult) (turns : ℕ)
+    (stand : CallStand) (shown : ShownLines) (machine : State) (left : ℕ)
+    (so : ShowsSoFar m before initial turns stand shown machine left) (none : AreNoTraps so.history) where
   -- more steps after a run so far
-  pub extended : (count used : ℕ) (entries : List Entry) (next : Progress) → steps (program_alone m) instructions count so.next ≡ run_of entries used next → (after : CallStand) (after_shown : ShownLines) (after_machine : State) (after_left : ℕ)
-      → used + after_left ≡ left → Leads m so.heights actions after shown after_shown after_machine entries next → ShowsSoFar m actions initial turns after after_shown after_machine after_left
+  pub extended : (count used : ℕ) (entries : List Entry) (next : Progress)
+      → steps (program_alone m) instructions count so.next ≡ run_of entries used next
+      → (after : CallStand) (after_shown : ShownLines) (after_machine : State) (after_left : ℕ)
+      → used + after_left ≡ left → Leads m so.heights actions after shown after_shown after_machine entries next
+      → ShowsSoFar m actions initial turns after after_shown after_machine after_left
   extended count used entries next run after after_shown after_machine after_left all leads =
       let spent : so.used + left ≡ turns = so.all in
       record {
@@ -48,14 +55,29 @@ module _ (law : ProjectionsRunAlong) (m : Module) (before actions : List Action)
       }
 
 -- a run so far, within a number of turns that leaves another number
-pub rebudgeted : (m : Module) (actions : List Action) (initial : StepResult) (turns : ℕ) (stand : CallStand) (shown : ShownLines) (machine : State) (left other : ℕ) → (so : ShowsSoFar m actions initial turns stand shown machine left)
+pub rebudgeted : (m : Module) (actions : List Action) (initial : StepResult) (turns : ℕ) (stand : CallStand)
+    (shown : ShownLines) (machine : State) (left other : ℕ)
+    → (so : ShowsSoFar m actions initial turns stand shown machine left)
     → ShowsSoFar m actions initial (so.used + other) stand shown machine other
 rebudgeted m actions initial turns stand shown machine left other so =
-    record { heights = so.heights; is_run = so.is_run; steps = so.steps; history = so.history; used = so.used; next = so.next; run = so.run; all = refl; prints = so.prints; goes_on = so.goes_on }
+    record {
+      heights = so.heights;
+      is_run = so.is_run;
+      steps = so.steps;
+      history = so.history;
+      used = so.used;
+      next = so.next;
+      run = so.run;
+      all = refl;
+      prints = so.prints;
+      goes_on = so.goes_on;
+    }
 
 -- ---- control is at an instruction
 
-module _ (law : ProjectionsRunAlong) (m : Module) (actions : List Action) (initial : StepResult) (turns : ℕ) (shown : ShownLines) (machine : State) (left : ℕ) (so : ShowsSoFar m actions initial turns at.Instruction shown machine left) where
+module _ (law : ProjectionsRunAlong) (m : Module) (actions : List Action) (initial : StepResult) (turns : ℕ)
+    (shown : ShownLines) (machine : State) (left : ℕ)
+    (so : ShowsSoFar m actions initial turns at.Instruction shown machine left) where
   abbrev frame : Frame
   frame = so.goes_on.0.frame
 
@@ -69,18 +91,26 @@ module _ (law : ProjectionsRunAlong) (m : Module) (actions : List Action) (initi
   stands_at = record { is_run = so.is_run; stands = so.goes_on.0.stands; going = so.goes_on.0.going; called = so.goes_on.0.called }
 
   -- the instruction at which the run is takes a turn
-  pub stepped : (stand : CallStand) (after : ShownLines) (new : State) → 0 < left → MakesStep shown machine stand after new → ShowsSoFar m actions initial turns stand after new (left - 1)
+  pub stepped : (stand : CallStand) (after : ShownLines) (new : State) → 0 < left
+      → MakesStep shown machine stand after new → ShowsSoFar m actions initial turns stand after new (left - 1)
   stepped stand after new some makes =
       let s : StepResult = step (program_alone m) config in
-      let run : steps (program_alone m) instructions 1 so.next ≡ run_of s.entries 1 s.next = ap (steps (program_alone m) instructions 1) so.goes_on.0.same ∙ ap (λ es. run_of es 1 s.next) (append-nil s.entries) in
-      extended law m actions actions initial turns at.Instruction shown machine left so so.goes_on.1 1 1 s.entries s.next run stand after new (left - 1) (omega (arith, some)) (makes m so.heights actions frame below stands_at)
+      let run : steps (program_alone m) instructions 1 so.next ≡ run_of s.entries 1 s.next =
+      ap (steps (program_alone m) instructions 1) so.goes_on.0.same
+      ∙ ap (λ es. run_of es 1 s.next) (append-nil s.entries) in
+      extended law m actions actions initial turns at.Instruction shown machine left so so.goes_on.1 1 1 s.entries
+      s.next run stand after new (left - 1) (omega (arith, some)) (makes m so.heights actions frame below stands_at)
 
   -- instructions outside the original
-  pub walked : (stand : CallStand) (after : ShownLines) (new : State) (after_left : ℕ) → WalksOutside shown machine left stand after new after_left → ShowsSoFar m actions initial turns stand after new after_left
+  pub walked : (stand : CallStand) (after : ShownLines) (new : State) (after_left : ℕ)
+      → WalksOutside shown machine left stand after new after_left
+      → ShowsSoFar m actions initial turns stand after new after_left
   walked stand after new after_left walks =
       let on : LeadsOn m so.heights actions (Running config) left stand shown after new after_left = walks m so.heights actions frame below stands_at in
-      let run : steps (program_alone m) instructions on.count so.next ≡ run_of on.entries on.used on.next = ap (steps (program_alone m) instructions on.count) so.goes_on.0.same ∙ on.run in
-      extended law m actions actions initial turns at.Instruction shown machine left so so.goes_on.1 on.count on.used on.entries on.next run stand after new after_left on.all on.leads
+      let run : steps (program_alone m) instructions on.count so.next ≡ run_of on.entries on.used on.next =
+      ap (steps (program_alone m) instructions on.count) so.goes_on.0.same ∙ on.run in
+      extended law m actions actions initial turns at.Instruction shown machine left so so.goes_on.1 on.count on.used
+      on.entries on.next run stand after new after_left on.all on.leads
 
   -- if no turn is left for the instruction, the run is spent
   pub spent : left ≡ 0 → IsSpent (run_from (program_alone m) instructions initial) instructions turns

@@ -41,32 +41,44 @@ none_answered m none =
     let own : FitAnswers (record m { imports = [] }) [] = tt in
     subst (λ imports. FitAnswers (record m { imports = imports }) []) (sym none) own
 
-ready_of : HostsBegin → (m : Module) (heights : Heights) (layout : Layout) (entry : ℕ) (store : Store) → IsValid m → IsTypedCode m heights → IsReplayable m layout entry → IsStore m store
+ready_of : HostsBegin → (m : Module) (heights : Heights) (layout : Layout) (entry : ℕ) (store : Store) → IsValid m
+    → IsTypedCode m heights → IsReplayable m layout entry → IsStore m store
     → IsReady m heights m.start entry (state (flat_of m) store [] [] false)
 ready_of hosts m heights layout entry store valid code form is_store =
     let none : imported_funcs m ≡ 0 = none_imported m form.alone in
-    let call : IsCallable m entry [] = record { defined = omega (arith, none); ty = record { params = []; results = [] }; has_type = form.enters.typed; fit = record { in_range = All-nil (λ value. IsTrue (is_constant value)); typed = refl } } in
+    let call : IsCallable m entry [] = record {
+      defined = omega (arith, none);
+      ty = record { params = []; results = [] };
+      has_type = form.enters.typed;
+      fit = record { in_range = All-nil (λ value. IsTrue (is_constant value)); typed = refl };
+    } in
     let main : FitActions m [] (main_of entry) = All-cons (FitsAction m []) (Call entry []) [] call (All-nil (FitsAction m [])) in
     record {
       is_run = record { valid = valid; code = code; fits = record { code = refl; answers = none_answered m form.alone }; counted = sym none };
       starts = refl;
-      start_function = IfSome_then m.start valid.outside.start (λ func s. record { defined = omega (arith, none); ty = s.ty; has_type = s.has_type; none = s.params });
+      start_function =
+          IfSome_then m.start valid.outside.start
+          (λ func s. record { defined = omega (arith, none); ty = s.ty; has_type = s.has_type; none = s.params });
       entry_function = record { defined = omega (arith, none); ty = record { params = []; results = [] }; has_type = form.enters.typed; none = refl };
       stands = hosts m heights store (main_of entry) is_store main;
     }
 
-pub ready_in : HostsBegin → ValidCodeHasHeights → ValidCodeIsTyped → (m other : Module) (layout : Layout) (entry : ℕ) (store : Store) (machine : State) → other ≡ m → IsValid other → IsSupported m → IsReplayable m layout entry → IsStore m store
+pub ready_in : HostsBegin → ValidCodeHasHeights → ValidCodeIsTyped
+    → (m other : Module) (layout : Layout) (entry : ℕ) (store : Store) (machine : State) → other ≡ m → IsValid other
+    → IsSupported m → IsReplayable m layout entry → IsStore m store
     → machine ≡ state (flat_of m) store [] [] false → (heights : Heights) × IsReady m heights other.start entry machine
 ready_in hosts there typed m other layout entry store machine same valid supported form is_store is =
     let own : IsValid m = subst IsValid same valid in
     let found = there m own in (
       found.0,
       subst (λ (n : Module). IsReady m found.0 n.start entry machine) (sym same)
-          (subst (IsReady m found.0 m.start entry) (sym is) (ready_of hosts m found.0 layout entry store own (typed m found.0 own supported found.1) form is_store)),
+          (subst (IsReady m found.0 m.start entry) (sym is)
+          (ready_of hosts m found.0 layout entry store own (typed m found.0 own supported found.1) form is_store)),
     )
 
 -- the start of the run, in terms of the parts of the machine and the module
-pub starts_in : (m other : Module) (entry : ℕ) (store : Store) (machine : State) → other ≡ m → instantiate m alone ≡ Ok store → machine ≡ state (flat_of m) store [] [] false
+pub starts_in : (m other : Module) (entry : ℕ) (store : Store) (machine : State) → other ≡ m
+    → instantiate m alone ≡ Ok store → machine ≡ state (flat_of m) store [] [] false
     → run_start_alone m entry ≡ Ok (start (program_alone m) other.start machine.store [] (main_of entry))
 starts_in m other entry store machine same opened is =
     ap (start_alone_or_fault m entry) opened ∙ ap (λ (n : Module). Ok (start (program_alone m) n.start store [] (main_of entry))) (sym same)
@@ -82,17 +94,24 @@ form_refused m turns fault.Spent refuses = absurd refuses
 form_refused m turns fault.Memory refuses = tt
 
 -- `replay` reports why the run stopped
-pub run_stopped : (m : Module) (turns : ℕ) (layout : Layout) (entry : ℕ) (initial : StepResult) (found : ReplayFault) → IsReplayable m layout entry → run_start_alone m entry ≡ Ok initial → StopsBy m initial turns found → RefusesReplay m turns found
+pub run_stopped : (m : Module) (turns : ℕ) (layout : Layout) (entry : ℕ) (initial : StepResult) (found : ReplayFault)
+    → IsReplayable m layout entry → run_start_alone m entry ≡ Ok initial → StopsBy m initial turns found
+    → RefusesReplay m turns found
 run_stopped m turns layout entry initial fault.NoLayout form starts stops = absurd stops
 run_stopped m turns layout entry initial fault.Imports form starts stops = absurd stops
 run_stopped m turns layout entry initial fault.NoEntry form starts stops = absurd stops
 run_stopped m turns layout entry initial (fault.Link segment) form starts stops = absurd stops
-run_stopped m turns layout entry initial fault.Spent form starts stops = record { layout = layout; entry = entry; form = form; initial = initial; starts = starts; spent = stops }
+run_stopped m turns layout entry initial fault.Spent form starts stops =
+    record { layout = layout; entry = entry; form = form; initial = initial; starts = starts; spent = stops }
 run_stopped m turns layout entry initial fault.Memory form starts stops = tt
 
 -- `replay` reports a run that is over
-pub run_printed : (m : Module) (turns left : ℕ) (layout : Layout) (entry : ℕ) (initial : StepResult) (outcome : Outcome) (shown : ShownLines) (printed : PrintedRun) → IsReplayable m layout entry → run_start_alone m entry ≡ Ok initial → EndsBy m initial turns outcome shown left → shown.layout ≡ layout
-    → printed.text ≡ shown.text ++ line (outcome_text outcome) → (printed.entries ≡ shown.entries) × (printed.turns ≡ turns - left) × (printed.outcome ≡ outcome) → PrintsReplay m turns printed
+pub run_printed : (m : Module) (turns left : ℕ) (layout : Layout) (entry : ℕ) (initial : StepResult) (outcome : Outcome)
+    (shown : ShownLines) (printed : PrintedRun) → IsReplayable m layout entry → run_start_alone m entry ≡ Ok initial
+    → EndsBy m initial turns outcome shown left → shown.layout ≡ layout
+    → printed.text ≡ shown.text ++ line (outcome_text outcome)
+    → (printed.entries ≡ shown.entries) × (printed.turns ≡ turns - left) × (printed.outcome ≡ outcome)
+    → PrintsReplay m turns printed
 run_printed m turns left layout entry initial outcome shown printed form starts ends same text rest =
     let all : ends.run.turns + left ≡ turns = ends.all in
     let spent : printed.turns ≡ turns - left = rest.1 in

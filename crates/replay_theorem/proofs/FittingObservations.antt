@@ -29,7 +29,8 @@ use Rattle.type_safety.specs.Values.{AreValues, count_of}
 use Rattle.type_safety.specs.Stores.{MayBeMemory, MayBeTable}
 use Rattle.record_replay_spec.specs.Hooks.{hook_count, on, original}
 use Rattle.record_replay_spec.specs.Order.{bits_fit, value_if_fits, value_reported}
-use Rattle.record_replay_spec.specs.Logs.{LogState, all_observed_events, differing_runs, found_events, log_after, observed_events, same_bits, same_entry, seen_events, sees_size, unless, with_first_byte}
+use Rattle.record_replay_spec.specs.Alike.{same_option}
+use Rattle.record_replay_spec.specs.Logs.{LogState, all_observed_events, differing_runs, found_events, log_after, observed_events, same_bits, seen_events, sees_size, unless, with_first_byte}
 
 -- ---- values
 
@@ -162,7 +163,7 @@ found_fit n state (Writes address bytes) small = tt
 found_fit n state (Reaches «end» found) small = tt
 found_fit n state (Resizes found left) small = tt
 found_fit n state (ReadsEntry index func) small =
-    unless_fits (same_entry (state.known.entry index) func) (events.Entry index (option_and_then (original n) func))
+    unless_fits (same_option nat_eq (state.known.entry index) func) (events.Entry index (option_and_then (original n) func))
     (small.0, original_fits n func small.1)
 found_fit n state (WritesEntry index func) small = tt
 found_fit n state (ReachesEntry index found) small = by (nat_lt index state.known.entries)

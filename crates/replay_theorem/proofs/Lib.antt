@@ -5,7 +5,7 @@ mod GrowingRuns
 mod Counts
 mod Whole
 pub mod Recorded
-mod Originals
+pub mod Originals
 mod OneRecord
 mod TypedCalls
 mod FittingObservations

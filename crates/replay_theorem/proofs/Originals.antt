@@ -9,18 +9,18 @@ use Rattle.history_spec.specs.Budget.{RunResult, Over, Spent, IsResult, IsSpent}
 use Rattle.history_spec.specs.Run.{Meter, Run, all_one, program_of, start_in_store}
 use Rattle.wasm_syntax.specs.Index.{imported_funcs}
 use Rattle.wasm_flat.specs.Meters.{meter_of}
-use Rattle.record_replay_spec.specs.Hooks.{hook_count, renumbered_view}
+use Rattle.record_replay_spec.specs.Hooks.{HookCall, hook_count, renumbered_view}
 use Rattle.record_replay_spec.specs.Order.{order_start, first_disorder}
-use Rattle.record_replay_spec.specs.HookedRuns.{first_answers, hook_answer, hooked_script, renumbered_script}
+use Rattle.record_replay_spec.specs.HookedRuns.{first_answers, hook_answer, hook_calls, hooked_script, renumbered_script}
 use Rattle.record_replay_spec.specs.Instrumented.{instrumented_weights, instrumented_meter}
-use Rattle.tape_laws.specs.CallLaws.{OriginalRun, hooked_shape}
+use Rattle.tape_laws.specs.CallLaws.{OriginalRun, calls_of_run, hooked_shape}
 use Rattle.tape_laws.proofs.CallOrder.{same_length}
 use Rattle.instrumented_module_laws.specs.Links.{script_with_hooks}
-use Rattle.instrumented_run_laws.specs.Laws.{AreAlike, InstrumentedRunsFollow, instrumented_calls, instrumented_of, instrumented_program, instrumented_start, original_program, original_run, original_start}
+use Rattle.instrumented_run_laws.specs.Laws.{AreAlike, InstrumentedRunsFollow, IsFollowed, instrumented_calls, instrumented_of, instrumented_program, instrumented_start, original_program, original_run, original_start}
 use Rattle.replay_theorem.specs.RecordedRunLaws.{RecordedRunsAreReplayed, WeightsMeanMeters}
-use Rattle.host_play.specs.HookedResults.{HookedRun}
+use Rattle.host_play.specs.HookedResults.{HookedRun, steps_of}
 use Rattle.host_play.specs.Results.{IsFault}
-use Rattle.run_recorder.specs.Records.{RecordedRun, IsFaulty, IsLog, IsOutOfOrder, IsSpentInOrder}
+use Rattle.run_recorder.specs.Records.{RecordedRun, IsFaulty, IsLog, IsOutOfOrder, IsSpentInOrder, calls_in}
 use Rattle.replay_theorem.specs.RecordedOriginalLaws.{IsLogOfRun, RecordsReportOriginals, record_of}
 
 -- ---- hooks are answered once
@@ -138,3 +138,21 @@ reports meters follow replayed = λ run turns.
       spends = λ is. spent_reported follow run turns (subst IsSpentInOrder same is);
       ordered = λ number is. in_order follow run turns number (subst (λ r. IsOutOfOrder r number) same is);
     }
+
+-- ---- hook calls
+
+calls_made : HookedRun → (count : ℕ) → List HookCall
+calls_made run count = hook_calls run.imports run.program count run.initial.next
+
+-- the hook calls of a recorded run are those of the original's run
+pub calls_alike : WeightsMeanMeters → (run : OriginalRun) (turns : ℕ) → IsFollowed run → (outcome : Outcome) (log : Log)
+    (is : IsLog (record_of run turns) outcome log) (of : IsLogOfRun run turns outcome log)
+    → calls_in (record_of run turns) is.within.count ≡ calls_of_run run of.count
+unfolding plain_of calls_made
+calls_alike meters run turns follows outcome log is of =
+    let same = same_run meters run turns in
+    let count = is.within.count in
+    ap (λ run. calls_made run count) same
+    ∙ follows.reported_all of.count count outcome outcome of.ends
+    (sym (ap (λ (run : HookedRun). (steps_of run count).at) same) ∙ ap (λ (after : Run). after.at) is.within.is_run
+    ∙ is.ends)

@@ -7,12 +7,13 @@ use Rattle.std.proofs.lemmas.List.Elements.{All-from_recursion}
 use Rattle.std.proofs.lemmas.Option.{get_or_from_slice_get}
 use Rattle.base.proofs.Booleans.{and_left, and_right}
 use Rattle.base.proofs.Lists.{item_there}
+use Rattle.history_spec.proofs.PlacedBytes.{byte_in}
 use Rattle.trace_model.specs.declared.tapes.Effect.{Effect}
 use Rattle.trace_model.specs.declared.tapes.Effect.TheVariants.{Bytes, Entry, Global}
 use Rattle.trace_model.specs.declared.tapes.Segment.{Segment}
 use Rattle.trace_model.specs.Effects.{are_ordered_after, are_ordered}
 use Rattle.record_replay_spec.specs.Observations.{Observation, Begins, Ends}
-use Rattle.record_replay_spec.specs.Known.{Known, byte_among, read_byte, written_byte, last_some}
+use Rattle.record_replay_spec.specs.Known.{Known, read_byte, written_byte, last_some}
 use Rattle.record_replay_spec.specs.Windows.{window, unless_some, first_byte}
 use Rattle.record_replay_spec.specs.Needed.{effect_byte, AreNeeded, AreNeededSegments}
 use Rattle.record_replay_spec.proofs.OneList.{ordered_rest}
@@ -72,12 +73,6 @@ bytes_after address bytes at (effect ∷ effects) low h = cc
 
 abbrev GiveBytes : List Effect → Type 0
 GiveBytes effects = (at x : ℕ) → last_some (effect_byte at) effects ≡ Some x → x < 256
-
-byte_in : (address k : ℕ) (bytes : List ℕ) → byte_among address bytes (address + k) ≡ slice_get bytes k
-byte_in address k bytes =
-    let within : nat_le address (address + k) ≡ true = grind (arith, nat_tests) in
-    let place : address + k - address ≡ k = omega arith in
-    ap (λ b. cond b (slice_get bytes (address + k - address)) None) within ∙ ap (slice_get bytes) place
 
 one_writes : (effect : Effect) (effects : List Effect) → are_ordered_after effect effects ≡ true
     → GiveBytes (effect ∷ effects) → WritesBytes effect

@@ -1,14 +1,10 @@
 -- A tape's run shows the same whatever calls of imports were counted before: the counts may begin anew.
-use Rattle.std.proofs.Common.{◌≡◌, ℕ, zero, suc, ◌<◌, List, [], ◌∷◌, ◌++◌, length, Option, Some, None, Bool, true, false, nat_lt, slice_set, slice_index, replicate, refl, sym, ap, ◌∙◌, arith}
-use Rattle.std.specs.Prelude.{option_and_then, ◌+◌}
+use Rattle.std.proofs.Common.{◌≡◌, ℕ, zero, suc, List, [], ◌∷◌, ◌++◌, Option, Some, None, Bool, true, false, nat_lt, slice_set, slice_index, refl, sym, ap, ◌∙◌}
+use Rattle.std.specs.Prelude.{◌+◌}
 use Rattle.std.specs.Option.{option_to_list}
 use Rattle.base.specs.declared.outcomes.Outcome.{Outcome}
-use Rattle.std.proofs.lemmas.Bool.Decides.{nat_tests}
-use Rattle.std.proofs.lemmas.List.{length-replicate, get_or-replicate}
-use Rattle.std.proofs.lemmas.Option.{slice_get-get_or}
 use Rattle.wasm_syntax.specs.declared.values.Val.{Val}
 use Rattle.wasm_syntax.specs.declared.signatures.FuncType.{FuncType}
-use Rattle.host_script.specs.declared.scripts.Answer.{Answer}
 use Rattle.host_script.specs.declared.scripts.ResponseEnd.TheVariants.{Trap as EndsInTrap}
 use Rattle.trace_model.specs.declared.tapes.Origin.{Origin}
 use Rattle.trace_model.specs.declared.tapes.Next.{Next}
@@ -21,9 +17,10 @@ use Rattle.history_spec.specs.Code.{Code, Definition, signature, definition}
 use Rattle.history_spec.specs.Configuration.{Frame, Activation, InModule, InMain, InImport, Config}
 use Rattle.history_spec.specs.Instruction.{Control, Goes, Calls, Returns, Execution, Did, Traps, NoRule, execute}
 use Rattle.history_spec.specs.Settle.{SettleEnd, Continues, Finishes, NoRule as NoneHolds, SettleResult, settle, deliver, return_entry}
-use Rattle.history_spec.specs.Step.{Progress, Running, Finished, Faulted, Stuck, StepResult, step_result, after_entries, after_settling, enter_defined, enter_function, frame_of, response_of, response_to, answer_call, call_function, after_control, after_instruction, step}
-use Rattle.record_replay_spec.specs.TapeRun.{pause, awaiting_answer, program_awaiting, TapeConfig, TapeProgress, Plays, Over, Disagrees, NoRule as TapeNoRule, TapeResult, tape_result, after_step, after_next, after_effects, after_segment, after_segment_if, tape_step, tape_after, tape_steps, store_after_effects}
+use Rattle.history_spec.specs.Step.{Progress, Running, Finished, Faulted, Stuck, StepResult, step_result, after_entries, after_settling, enter_defined, enter_function, frame_of, answer_call, call_function, after_control, after_instruction, step}
+use Rattle.record_replay_spec.specs.TapeRun.{pause, program_awaiting, TapeConfig, TapeProgress, Plays, Over, Disagrees, NoRule as TapeNoRule, TapeResult, tape_result, after_step, after_next, after_effects, after_segment, after_segment_if, tape_step, tape_after, tape_steps, store_after_effects}
 use Rattle.record_replay_spec.specs.Alike.{same_origin}
+use Rattle.record_replay_spec.proofs.Awaited.{awaits}
 use Rattle.rest_laws.specs.Laws.{CountsDoNotMatter}
 
 -- ---- without the counts
@@ -78,21 +75,6 @@ module _ (code : Code) where
       go (Some ty) None = refl
       go (Some ty) (Some d) = settled store counts other (settle (InModule (frame_of func ty d args) ∷ stack))
 
-  awaits : (import number : ℕ) → nat_lt import code.imported ≡ true
-      → response_to (program_awaiting code).answers import number
-      ≡ Some (record { actions = pause ∷ []; end = EndsInTrap })
-  awaits import number h =
-      let below : import < code.imported = grind (arith, nat_tests, h) in
-      let long : length (replicate {A = Option Answer} code.imported (Some awaiting_answer)) ≡ code.imported =
-      length-replicate code.imported (Some awaiting_answer) in
-      let there =
-      slice_get-get_or (replicate code.imported (Some awaiting_answer)) import None (omega (arith, below, long)) in
-      let is = get_or-replicate code.imported import (Some awaiting_answer) None below in
-      ap
-      (λ o. option_and_then (λ answer. response_of answer number)
-      (option_and_then (λ a. a) o))
-      (there ∙ ap Some is)
-
   called : (b : Bool) (store : Store) (counts other : List ℕ) (func : ℕ) (args : List Val) (stack : List Activation)
       → nat_lt func code.imported ≡ b
       → plain_step (call_function (program_awaiting code) b store counts func args stack)
@@ -101,7 +83,7 @@ module _ (code : Code) where
       in_front (Enter func ∷ []) (enter_function code store counts func args stack)
       (enter_function code store other func args stack) (entered store counts other func args stack)
   called true store counts other func args stack e =
-      ap (λ r. plain_step (answer_call r store counts func args stack)) (awaits func (slice_index counts func) e)
+      ap (λ r. plain_step (answer_call r store counts func args stack)) (awaits code func (slice_index counts func) e)
       ∙ in_front (ImportCall func args ∷ [])
       (after_settling store (slice_set counts func (slice_index counts func + 1))
       (settle (InImport func args (pause ∷ []) EndsInTrap ∷ stack)))
@@ -110,7 +92,7 @@ module _ (code : Code) where
       (settled store (slice_set counts func (slice_index counts func + 1))
       (slice_set other func (slice_index other func + 1))
       (settle (InImport func args (pause ∷ []) EndsInTrap ∷ stack)))
-      ∙ sym (ap (λ r. plain_step (answer_call r store other func args stack)) (awaits func (slice_index other func) e))
+      ∙ sym (ap (λ r. plain_step (answer_call r store other func args stack)) (awaits code func (slice_index other func) e))
 
   abbrev at : Store → List Activation → List ℕ → Config
   at store stack counts = record { store = store; stack = stack; counts = counts }

@@ -21,7 +21,6 @@ use Rattle.record_replay_spec.specs.Logs.{LogState, log_after_call}
 use Rattle.record_replay_spec.specs.ReportedCalls.{Moment, reported_enter, reported_values, reported_over, reported_number}
 use Rattle.rest_spec.specs.Rests.{calls_in}
 use Rattle.rest_spec.specs.AtCalls.{AtCall as FoundCall, at_call}
-use Rattle.tape_laws.specs.ReportedObservations.{is_mutable}
 use Rattle.tape_laws.proofs.BalancedCalls.{open_imports}
 use Rattle.tape_laws.proofs.CallOrder as orders
 use Rattle.tape_laws.proofs.CallOrder.{IsHooked, renumbered, state, AreOrdered, callee_may, never_imported}
@@ -29,7 +28,7 @@ use Rattle.tape_laws.proofs.EachMoment.{HoldsFirst, HoldsFor}
 use Rattle.tape_laws.proofs.ModuleFacts.{func_there}
 use Rattle.tape_laws.proofs.ObservedFinds.{IsReportedKnown}
 use Rattle.tape_laws.proofs.TrailOrder.{calls_at}
-use Rattle.tape_laws.proofs.Trails.{Level, AtFunction, AtImport, AtCall, at_host, KeepsImmutables, IsHostCall, IsTrail}
+use Rattle.tape_laws.proofs.Trails.{Level, AtFunction, AtImport, AtCall, at_host, KeepsImmutables, IsHostCall, IsTrail, KnowsImmutables}
 use Rattle.rest_laws.proofs.PassedCalls.{LogAfter, Passes, nothing_passes, both_pass, values_pass, enter_passes, leave_passes, over_passes}
 use Rattle.rest_laws.proofs.Places.{call_after, call_from, begun}
 use Rattle.rest_laws.proofs.TopSearch.{Finds, finds_same, finds_after, finds_here, Reports, search_within}
@@ -38,8 +37,7 @@ module _ (m : Module) (shape : HookedShape) (outcome : Option Outcome) where
   -- what the log knows at a point of a trail
   pub record Knows (known : Known) (store : Store) (st : LogState) : Type 0 where
     pub reported : IsReportedKnown (imported_funcs m) known st.known
-    pub immutable : (at : ℕ) → is_mutable (slice_get (all_globals m) at) ≡ false
-        → known.global at ≡ slice_get store.globals at
+    pub immutable : KnowsImmutables (all_globals m) known store
 
   abbrev pub KnowsAt : List Level → Known → Store → List Observation → LogState → Type 0
   KnowsAt levels known store left st = Knows known store st

@@ -105,7 +105,7 @@ module _ (m : Module) (shape : HookedShape) (hooked : IsHooked m shape) (outcome
       kept : Keeps n (all_globals m) (known_after_all known items) (with_changes store items)
           (log_after_all real (reported items)) (pages_of store.memory)
       kept =
-          keeps_after_all n (all_globals m) (hooked.back n) (pages_of store.memory) known store real items
+          keeps_after_all n (all_globals m) (hooked.indices.of_renumbered n) (pages_of store.memory) known store real items
           (record { reported = h.reported; immutable = h.immutable; real = refl; size_reported = inl refl }) are core
 
   stepped : (func number : ℕ) (operands results : List Val) (found : Option ℕ)

@@ -44,11 +44,11 @@ in_order shape order log at (call ∷ calls) reported is =
         (events_from shape next (log_after_call shape log call) (at + 1) calls) reported is in
         rest next later.0 later.1
 
-pub led : {S : Type 0} (has_taken : S → List Event → Type 0) → RunsAreRecorded has_taken → (r : RecordedRun) (before after : Recorded S)
-    → StandsAt before r.shape (order_start (table_length r.opened.table)) (log_start r.opened) 0
-    → has_taken before.recording.sink [] → (answer : Result Outcome PlayFault)
-    → IsPlayedWithHooks (IsRecorderStep has_taken) r.run answer before after → IsLed has_taken r answer after
-led has_taken law r before after stands fresh (Ok outcome) played =
+pub led : {S : Type 0} (has_taken : S → S → List Event → Type 0) → RunsAreRecorded has_taken → (first : S) (r : RecordedRun)
+    (before after : Recorded S) → StandsAt before r.shape (order_start (table_length r.opened.table)) (log_start r.opened) 0
+    → has_taken first before.recording.sink [] → (answer : Result Outcome PlayFault)
+    → IsPlayedWithHooks (IsRecorderStep has_taken) r.run answer before after → IsLed (has_taken first) r answer after
+led has_taken law first r before after stands fresh (Ok outcome) played =
     let reported = (law before r.shape _ _ 0 stands).accepted (calls_in r played.within.count) after played.hooks in
     record {
       log = record { imports = r.shape.imports; events = reported.0; outcome = outcome };
@@ -58,9 +58,9 @@ led has_taken law r before after stands fresh (Ok outcome) played =
         ends = played.ends;
         logged = ap (log_with r.shape.imports outcome) reported.1;
       };
-      taken = reported.2 [] fresh;
+      taken = reported.2 first [] fresh;
     }
-led has_taken law r before after stands fresh (Err (refusal.Fault turn kind)) played =
+led has_taken law first r before after stands fresh (Err (refusal.Fault turn kind)) played =
     let reported = (law before r.shape _ _ 0 stands).accepted (calls_in r played.within.count) after played.hooks in
     record {
       after = played.run;
@@ -69,16 +69,16 @@ led has_taken law r before after stands fresh (Err (refusal.Fault turn kind)) pl
       turn_is = played.turn_is;
       ordered = in_order r.shape _ _ 0 (calls_in r played.within.count) reported.0 reported.1;
     }
-led has_taken law r before after stands fresh (Err refusal.Spent) played =
+led has_taken law first r before after stands fresh (Err refusal.Spent) played =
     let reported = (law before r.shape _ _ 0 stands).accepted (calls_in r played.spent.count) after played.hooks in
     record { spent = played.spent; ordered = in_order r.shape _ _ 0 (calls_in r played.spent.count) reported.0 reported.1 }
-led has_taken law r before after stands fresh (Err (refusal.Hook number)) played =
+led has_taken law first r before after stands fresh (Err (refusal.Hook number)) played =
     record {
       count = played.count;
       in_budget = played.in_budget;
       first = (law before r.shape _ _ 0 stands).refused (calls_in r played.count) number after played.hooks;
     }
-led has_taken law r before after stands fresh (Err refusal.Memory) played = tt
+led has_taken law first r before after stands fresh (Err refusal.Memory) played = tt
 
 -- a log has the imports and the outcome that it is made with
 abbrev pub IsMadeWith : (imports : ℕ) → Outcome → Result Log ℕ → Type 0

@@ -45,8 +45,8 @@ pub fn record_into<S: EventSink + Drop>(
     requires bound { IsBound play.flat }
     requires store { IsStore hooked.now play.store }
     requires begins { instantiate hooked.now supply.now ≡ Ok play.store }
-    requires fresh { S.has_taken sink [] }
-    ensures { IsRecordedInto S.has_taken
+    requires fresh { S.has_taken sink sink [] }
+    ensures { IsRecordedInto (S.has_taken sink)
         (record {
           run = hooked_run hooked.now play.entry.script.now play.entry.store settings.now.meter.now
               settings.now.imports settings.now.turns;
@@ -66,7 +66,8 @@ fn recorded_sink<S: EventSink + Drop>(
     recorder: Recorder<S>,
     answer: Result<Outcome, PlayFault>,
 ) -> Result<(S, Outcome), PlayFault>
-    ensures { (r : RecordedRun) → IsLed S.has_taken r answer recorder → IsRecordedInto S.has_taken r result }
+    ensures { (first : S) (r : RecordedRun) → IsLed (S.has_taken first) r answer recorder
+        → IsRecordedInto (S.has_taken first) r result }
 {
     let outcome = answer?;
     Ok((recorder.close(), outcome))

@@ -87,6 +87,9 @@ module _ (m : Module) (valid : IsValid m) (name : List ℕ) (types : List FuncTy
       let calls = both_ok (under_or (codes "calls") [] (list_of (response_of m name types)) d) _ answer listed.2 in
       let rest = both_ok (under_if_there (codes "rest") (response_of m name types) d) _ answer calls.2 in
       subst (FitsAnswer m ty) (ok_one (record { calls = calls.0; rest = rest.0 }) answer rest.2) (record {
-        calls = under_or_holds (All (FitsResponse m ty)) (list_of (response_of m name types)) (list_holds (FitsResponse m ty) (response_of m name types) response_fits) (codes "calls") [] d calls.0 (All-nil (FitsResponse m ty)) calls.1;
+        calls =
+            under_or_holds (All (FitsResponse m ty)) (list_of (response_of m name types))
+            (list_holds (FitsResponse m ty) (response_of m name types) response_fits) (codes "calls") [] d calls.0
+            (All-nil (FitsResponse m ty)) calls.1;
         rest = if_there_holds (FitsResponse m ty) (response_of m name types) response_fits (codes "rest") d rest.0 rest.1;
       })

@@ -17,7 +17,10 @@ use Rattle.script_text.specs.Texts.{fits_results, trap_of, return_of, end_of, re
 
 -- what is unfolded to compute what a text means
 unfoldable script_on_literals : ⊤
-unfolding serde_json_on_literals hex_on_literals is_utf8 chars digits items_from value_of address_of fits_address memory_access table_access write_of copy_of func_named entry_named set_table_of target_of global_at fits_global set_global_of grow_of grow_table_of is_defined fits_params call_of call_table_of action_of fits_results trap_of return_of end_of response_of answer_of each_name script_of
+unfolding serde_json_on_literals hex_on_literals is_utf8 chars digits items_from value_of address_of fits_address
+    memory_access table_access write_of copy_of func_named entry_named set_table_of target_of global_at fits_global
+    set_global_of grow_of grow_table_of is_defined fits_params call_of call_table_of action_of fits_results trap_of
+    return_of end_of response_of answer_of each_name script_of
 script_on_literals = tt
 
 -- the fault of a script for a module that calls its one import twice and adds the answers
@@ -49,13 +52,18 @@ unfolding script_on_literals
 no_table = refl
 
 -- the table is exported
-grows_table : script_of_text (record two_answers { tables = record { min = 1; max = None } ∷ []; exports = record { name = codes "t"; kind = ExportTable 0 } ∷ [] })
-    (codes "{\"main\":[{\"grow_table\":4294967295}]}") ≡ Ok (record { memory = None; table = None; globals = []; imports = None ∷ []; main = GrowTable 4294967295 ∷ [] })
+grows_table : script_of_text (record two_answers {
+  tables = record { min = 1; max = None } ∷ [];
+  exports = record { name = codes "t"; kind = ExportTable 0 } ∷ [];
+})
+    (codes "{\"main\":[{\"grow_table\":4294967295}]}")
+    ≡ Ok (record { memory = None; table = None; globals = []; imports = None ∷ []; main = GrowTable 4294967295 ∷ [] })
 unfolding script_on_literals
 grows_table = refl
 
 -- the export names the import
-calls_own : script_of_text (record two_answers { exports = record { name = codes "g"; kind = ExportFunc 0 } ∷ [] }) (codes "{\"main\":[{\"call\":\"g\"}]}") ≡ Err (CallsOwn (codes "g"))
+calls_own : script_of_text (record two_answers { exports = record { name = codes "g"; kind = ExportFunc 0 } ∷ [] })
+    (codes "{\"main\":[{\"call\":\"g\"}]}") ≡ Err (CallsOwn (codes "g"))
 unfolding script_on_literals
 calls_own = refl
 
@@ -92,11 +100,14 @@ known_module : fault_of_two_answers (codes "{\"imports\":{\"h\":5}}") (Shape (co
 unfolding script_on_literals
 known_module = refl
 
-too_large : fault_of_two_answers (codes "{\"imports\":{\"h\":{\"f\":{\"calls\":[{\"return\":{\"i32\":4294967296}}]}}}}") (Shape (codes "/imports/h/f/calls/0/return/i32"))
+too_large : fault_of_two_answers (codes "{\"imports\":{\"h\":{\"f\":{\"calls\":[{\"return\":{\"i32\":4294967296}}]}}}}")
+    (Shape (codes "/imports/h/f/calls/0/return/i32"))
 unfolding script_on_literals
 too_large = refl
 
-too_small : fault_of_two_answers (codes "{\"imports\":{\"h\":{\"f\":{\"calls\":[{\"return\":{\"i32\":-2147483649}}]}}}}") (Shape (codes "/imports/h/f/calls/0/return/i32"))
+too_small : fault_of_two_answers
+    (codes "{\"imports\":{\"h\":{\"f\":{\"calls\":[{\"return\":{\"i32\":-2147483649}}]}}}}")
+    (Shape (codes "/imports/h/f/calls/0/return/i32"))
 unfolding script_on_literals
 too_small = refl
 

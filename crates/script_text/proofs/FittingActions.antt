@@ -105,8 +105,11 @@ module _ (m : Module) (place : Place) (params : List ValType) (valid : IsValid m
       let bytes = both_ok (under (codes "bytes") bytes_of d) _ action to.2 in
       let access = both_ok (memory_access m) _ action bytes.2 in
       let fits = both_ok (fits_address place to.0) _ action access.2 in
-      subst (FitsAction m params) (ok_one (actions.Write to.0 bytes.0) action fits.2)
-      (has_memory m access.0 valid access.1, serves to.0 fits.0 fits.1, under_holds (All (λ byte. byte < 256)) bytes_of bytes_below (codes "bytes") d bytes.0 bytes.1)
+      subst (FitsAction m params) (ok_one (actions.Write to.0 bytes.0) action fits.2) (
+        has_memory m access.0 valid access.1,
+        serves to.0 fits.0 fits.1,
+        under_holds (All (λ byte. byte < 256)) bytes_of bytes_below (codes "bytes") d bytes.0 bytes.1,
+      )
 
   copy_fits : copy_of m place d ≡ Ok action → FitsAction m params action
   unfolding copy_of
@@ -141,7 +144,8 @@ module _ (m : Module) (place : Place) (params : List ValType) (valid : IsValid m
       let global = both_ok (global_at m target.0) _ action value.2 in
       let fits = both_ok (fits_global m global.0 (name_of target.0) value.0) _ action global.2 in
       subst (FitsAction m params) (ok_one (actions.SetGlobal global.0 value.0) action fits.2)
-      (settable m global.0 (name_of target.0) value.0 fits.0 (under_holds (λ v. is_constant v ≡ true) value_of value_in_range (codes "value") d value.0 value.1) fits.1)
+      (settable m global.0 (name_of target.0) value.0 fits.0
+      (under_holds (λ v. is_constant v ≡ true) value_of value_in_range (codes "value") d value.0 value.1) fits.1)
 
   grow_fits : grow_of m d ≡ Ok action → FitsAction m params action
   unfolding grow_of
@@ -203,4 +207,6 @@ module _ (m : Module) (place : Place) (params : List ValType) (valid : IsValid m
 pub actions_fit : (m : Module) (place : Place) (params : List ValType) → IsValid m → Serves place params
     → (key : List ℕ) (d : Data) (found : List Action) → actions_under m place key d ≡ Ok found → FitActions m params found
 actions_fit m place params valid serves key d found h =
-    under_or_holds (FitActions m params) _ (list_holds (FitsAction m params) (action_of m place) (action_fits m place params valid serves)) key [] d found (All-nil (FitsAction m params)) h
+    under_or_holds (FitActions m params) _
+    (list_holds (FitsAction m params) (action_of m place) (action_fits m place params valid serves)) key [] d found
+    (All-nil (FitsAction m params)) h

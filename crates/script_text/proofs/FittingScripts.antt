@@ -88,7 +88,12 @@ answer_for_fits m d x t valid there is = by (member_for d x)
 
     fits : (a : Data) (r : Result Answer ScriptFault) → answer_of m x.name (func_types_named m x.«module» x.name) a ≡ r
         → FitsImport m t (result_ok r)
-    fits a (Ok answer) read = (typed.0, typed.1, answer_fits m valid x.name (func_types_named m x.«module» x.name) typed.0 (among_types m x t typed.0 there is typed.1) a answer read)
+    fits a (Ok answer) read = (
+      typed.0,
+      typed.1,
+      answer_fits m valid x.name (func_types_named m x.«module» x.name) typed.0
+          (among_types m x t typed.0 there is typed.1) a answer read,
+    )
     fits a (Err fault) read = tt
 
     by : (o : Option Data)
@@ -130,8 +135,12 @@ script_fits m d script valid h =
     let answers = map (answer_for m (get (codes "imports") d)) (imports_with func_import m) in
     subst (Fits m) (ok_one (record { memory = memory.0; table = table.0; globals = given; imports = answers; main = main.0 }) script main.2) (record {
       globals = length-map (imports_with global_import m) (value_for (get (codes "globals") d)) ∙ sym (length-of_kind global_import m.imports);
-      values = all_mapped (λ given. IfSome given (λ v. IsTrue (is_constant v))) (value_for (get (codes "globals") d)) (imports_with global_import m) (value_for_fits (get (codes "globals") d));
-      imports = each_of_kind func_import (answer_for m (get (codes "imports") d)) (FitsImport m) m.imports (λ x t there is. answer_for_fits m (get (codes "imports") d) x t valid there is);
+      values =
+          all_mapped (λ given. IfSome given (λ v. IsTrue (is_constant v))) (value_for (get (codes "globals") d))
+          (imports_with global_import m) (value_for_fits (get (codes "globals") d));
+      imports =
+          each_of_kind func_import (answer_for m (get (codes "imports") d)) (FitsImport m) m.imports
+          (λ x t there is. answer_for_fits m (get (codes "imports") d) x t valid there is);
       main = actions_fit m InMain [] valid serves_main (codes "main") d main.0 main.1;
     })
 

@@ -24,17 +24,20 @@ at vs i v lt is =
     let f : drop i vs ≡ v ∷ drop (suc i) vs = rw (sym is) at e in
     rw (f, add-one) refl
 
-pub goes_on : {A : Type 0} (read : Data → Result A ScriptFault) (front : List A) (vs : List Value) (i : ℕ) (v : Value) (a : A) (total : Result (List A) ScriptFault)
+pub goes_on : {A : Type 0} (read : Data → Result A ScriptFault) (front : List A) (vs : List Value) (i : ℕ) (v : Value)
+    (a : A) (total : Result (List A) ScriptFault)
     → i < length vs → v ≡ get_or vs i v → at_index i read (view v) ≡ Ok a
     → with_front front (items_from read i (items_view (drop i vs))) ≡ total
     → with_front (front ++ a ∷ []) (items_from read (i + 1) (items_view (drop (i + 1) vs))) ≡ total
 unfolding items_from
 goes_on read front vs i v a total lt is h so_far =
-    let one : with_front front (items_from read i (items_view (drop i vs))) ≡ with_front (front ++ a ∷ []) (items_from read (i + 1) (items_view (drop (i + 1) vs)))
+    let one : with_front front (items_from read i (items_view (drop i vs)))
+    ≡ with_front (front ++ a ∷ []) (items_from read (i + 1) (items_view (drop (i + 1) vs)))
     = rw (at vs i v lt is, h) (regroup front a (items_from read (i + 1) (items_view (drop (i + 1) vs)))) in
     sym one ∙ so_far
 
-pub ends : {A : Type 0} (read : Data → Result A ScriptFault) (e : ScriptFault) (front : List A) (vs : List Value) (i : ℕ) (v : Value) (total : Result (List A) ScriptFault)
+pub ends : {A : Type 0} (read : Data → Result A ScriptFault) (e : ScriptFault) (front : List A) (vs : List Value)
+    (i : ℕ) (v : Value) (total : Result (List A) ScriptFault)
     → i < length vs → v ≡ get_or vs i v → Fails e (at_index i read (view v))
     → with_front front (items_from read i (items_view (drop i vs))) ≡ total → Fails e total
 unfolding items_from

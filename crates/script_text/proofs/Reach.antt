@@ -46,7 +46,8 @@ some_exported : (P : Type 0) (space : Space) (m : Module)
     → ((kind : ExportKind) (x : ℕ) → index_in space kind ≡ Some x → IsThere m kind → P)
     → (exports : List Export) → All (λ e. IsThere m e.kind) exports → list_any (λ e. is_some (index_in space e.kind)) exports ≡ true → P
 some_exported P space m holds [] there h = cc h
-some_exported P space m holds (e ∷ es) there h = by (index_in space e.kind) refl h (some_exported P space m holds es (All-tail (λ e. IsThere m e.kind) e es there))
+some_exported P space m holds (e ∷ es) there h =
+    by (index_in space e.kind) refl h (some_exported P space m holds es (All-tail (λ e. IsThere m e.kind) e es there))
   where
     by : (o : Option ℕ) → index_in space e.kind ≡ o → (is_some o || list_any (λ e. is_some (index_in space e.kind)) es) ≡ true
         → (list_any (λ e. is_some (index_in space e.kind)) es ≡ true → P) → P

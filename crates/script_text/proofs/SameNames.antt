@@ -14,7 +14,8 @@ first_has_names from name place [] p h = cc
 first_has_names from name place (y ∷ ys) p h = by (is_named from name y) refl (first_has_names from name (place + 1) ys p) h
   where
     by : (b : Bool) → is_named from name y ≡ b
-        → (first_named from name (place + 1) ys ≡ Some p → (place + 1 ≤ p) × ((x : Import) → slice_get ys (p - (place + 1)) ≡ Some x → is_named from name x ≡ true))
+        → (first_named from name (place + 1) ys ≡ Some p
+        → (place + 1 ≤ p) × ((x : Import) → slice_get ys (p - (place + 1)) ≡ Some x → is_named from name x ≡ true))
         → cond b (Some place) (first_named from name (place + 1) ys) ≡ Some p
         → (place ≤ p) × ((x : Import) → slice_get (y ∷ ys) (p - place) ≡ Some x → is_named from name x ≡ true)
     by true named rest h =
@@ -59,7 +60,8 @@ module _ {V : Type 0} (value : (from name : List ℕ) → V) where
           → v.now ≡ value_of_import x
       by None there e = cc
       by (Some y) there e =
-          let whole : slice_get (map (λ import. import.now) imports) (p - 0) ≡ Some y = let z : p - 0 ≡ p = omega arith in rw z (seen_among imports i p y there) in
+          let whole : slice_get (map (λ import. import.now) imports) (p - 0) ≡ Some y =
+          let z : p - 0 ≡ p = omega arith in rw z (seen_among imports i p y there) in
           let n = same_names x.«module» x.name y ((first_has_names x.«module» x.name 0 (map (λ import. import.now) imports) p (sym first)).1 y whole) in
           let same : value_of_import y ≡ v.now = cc in
           sym same ∙ ap₂ value n.0 n.1

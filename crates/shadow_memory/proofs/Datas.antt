@@ -17,6 +17,7 @@ use Rattle.history_spec.specs.Instantiation.{data_fits, instantiate, memory_leng
 use Rattle.instantiation_parts.specs.Parts.{HasParts, InstantiatedStoresHaveParts}
 use Rattle.wasm_store.specs.Calls.{bytes_in, bytes_of_memory, pages_in, pages_of_memory}
 use Rattle.wasm_store.specs.Parts.{minimum_of}
+use Rattle.wasm_store.proofs.FirstSizes.{new_memory_length}
 use Rattle.shadow_memory.specs.Shadow.{byte_among, AreSame, AreWritten}
 use Rattle.shadow_memory.specs.Opening.{with_all, EndWithin}
 use Rattle.shadow_memory.proofs.WrittenBytes.{replaced_length, replaced_part}
@@ -84,11 +85,6 @@ module _ (imported : List Val) where
       let whole : limits.min ≡ limits.min * PAGE_SIZE / PAGE_SIZE = omega arith in
       whole ∙ sym (ap (λ n. n / PAGE_SIZE) long)
 
-  new_memory_length : (limits : Option Limits)
-      → memory_length (option_map new_memory limits) ≡ minimum_of limits * PAGE_SIZE
-  new_memory_length None = refl
-  new_memory_length (Some limits) = new_length (Some limits)
-
 module _ (m : Module) (supply : Supply) (store : Store) (parts : HasParts m supply store) where
   pub datas_within : EndWithin supply.globals (minimum_of (memory_limits m supply) * PAGE_SIZE) m.datas
   datas_within =
@@ -96,7 +92,7 @@ module _ (m : Module) (supply : Supply) (store : Store) (parts : HasParts m supp
       (ends_by supply.globals (minimum_of (memory_limits m supply) * PAGE_SIZE))
       (λ segment fits. omega (
         arith,
-        new_memory_length supply.globals (memory_limits m supply),
+        new_memory_length (memory_limits m supply),
         leb-true (offset_of supply.globals segment.offset + length segment.bytes)
             (memory_length (option_map new_memory (memory_limits m supply))) fits,
       ))

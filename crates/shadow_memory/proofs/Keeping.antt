@@ -4,13 +4,14 @@ use Rattle.std.specs.Prelude.{is_some, slice_set, unwrap_or}
 use Rattle.std.proofs.lemmas.Bool.{cases_eq, cases_order}
 use Rattle.std.proofs.lemmas.List.{drop-drop, get_or-replicate, length-replicate}
 use Rattle.base.proofs.Lists.{mapped_item}
+use Rattle.history_spec.proofs.PlacedBytes.{byte_moved}
 use Rattle.page_arena.specs.declared.TheConstants.{PAGE_LENGTH}
 use Rattle.page_arena.specs.declared.PageId.{PageId}
 use Rattle.page_arena.specs.Pages.{page_at}
 use Rattle.shadow_memory.specs.Shadow.{byte_among, AreSame, AreWritten, IsBlock}
 use Rattle.shadow_memory.specs.KnownBytes.{AreExtended, AreKept, AreBytesOf, bytes_of_place, bytes_of_places, is_touched, kept_of, page_of}
 use Rattle.shadow_memory.proofs.Flat.{flat_item}
-use Rattle.shadow_memory.proofs.WrittenBytes.{among_below, among_past, among_moved, replaced_part}
+use Rattle.shadow_memory.proofs.WrittenBytes.{among_below, among_past, replaced_part}
 
 module _ (places : List (Option PageId)) (pages : List (List ℕ))
     (whole : (number : ℕ) → number < length pages → length (page_at pages number) ≡ PAGE_LENGTH)
@@ -157,7 +158,7 @@ module _ (places : List (Option PageId)) (pages : List (List ℕ)) (kept : AreKe
           ∙ ap (λ bytes. slice_index bytes k) (get_or-set_same pages id.number page [] there)
           ∙ written k
           ∙ ap (λ o. unwrap_or o (slice_index (page_at pages id.number) k))
-          (sym (among_moved (place * PAGE_LENGTH) from bytes k))
+          (sym (byte_moved (place * PAGE_LENGTH) from bytes k))
           ∙ ap (λ n. unwrap_or (written_at n) (slice_index (page_at pages id.number) k)) (sym same)
           ∙ ap (λ o. unwrap_or (written_at other) (slice_index (bytes_of_place pages o) k)) (sym here)
       go (inr apart) =

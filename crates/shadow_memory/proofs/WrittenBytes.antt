@@ -4,7 +4,8 @@ use Rattle.std.specs.Prelude.{unwrap_or}
 use Rattle.std.proofs.lemmas.Bool.{eqb-true}
 use Rattle.std.proofs.lemmas.Bool.Decides.{nat_tests}
 use Rattle.std.proofs.lemmas.List.{get_or-drop, get_or-take, get_or_append_left, get_or-append_right, length-drop, length-take}
-use Rattle.std.proofs.lemmas.Option.{slice_get-get_or, slice_get_past}
+use Rattle.std.proofs.lemmas.Option.{slice_get-get_or}
+pub use Rattle.history_spec.proofs.PlacedBytes.{byte_below as among_below, byte_past as among_past}
 use Rattle.shadow_memory.specs.Runs.{is_known}
 use Rattle.shadow_memory.specs.Shadow.{byte_among, AreWritten}
 
@@ -13,17 +14,6 @@ pub among_there : (address : ℕ) (bytes : List ℕ) (at : ℕ) → address ≤ 
 among_there address bytes at from to =
     let e : nat_le address at ≡ true = grind (arith, nat_tests) in
     ap (λ b. cond b (slice_get bytes (at - address)) None) e ∙ slice_get-get_or bytes (at - address) 0 (omega arith)
-
-pub among_below : (address : ℕ) (bytes : List ℕ) (at : ℕ) → at < address → byte_among address bytes at ≡ None
-among_below address bytes at below =
-    let e : nat_le address at ≡ false = grind (arith, nat_tests) in
-    ap (λ b. cond b (slice_get bytes (at - address)) None) e
-
-pub among_past : (address : ℕ) (bytes : List ℕ) (at : ℕ) → address + length bytes ≤ at
-    → byte_among address bytes at ≡ None
-among_past address bytes at past =
-    let e : nat_le address at ≡ true = grind (arith, nat_tests) in
-    ap (λ b. cond b (slice_get bytes (at - address)) None) e ∙ slice_get_past bytes (at - address) (omega arith)
 
 -- an address is within the bytes, below them or past them
 pub data Among (address : ℕ) (bytes : List ℕ) (at : ℕ) : Type 0 where
@@ -39,15 +29,6 @@ where_among address bytes at = go (nat_le address at) refl (nat_le (address + le
     go false p c q = Below (grind (arith, nat_tests, p))
     go true p true q = Past (grind (arith, nat_tests, q))
     go true p false q = There (grind (arith, nat_tests, p)) (grind (arith, nat_tests, q))
-
--- the byte at an address stays the same if both addresses are moved by the same number
-pub among_moved : (more address : ℕ) (bytes : List ℕ) (at : ℕ)
-    → byte_among (more + address) bytes (more + at) ≡ byte_among address bytes at
-among_moved more address bytes at =
-    let e : nat_le (more + address) (more + at) ≡ nat_le address at = grind (arith, nat_tests) in
-    let d : (more + at) - (more + address) ≡ at - address = omega arith in
-    ap (λ b. cond b (slice_get bytes ((more + at) - (more + address))) None) e
-    ∙ ap (λ i. cond (nat_le address at) (slice_get bytes i) None) d
 
 -- a list with a part replaced is as long as before
 pub replaced_length : (items : List ℕ) (address : ℕ) (bytes : List ℕ) → address + length bytes ≤ length items

@@ -15,9 +15,6 @@ pub args_over : (args : List Val) (first second : List Entry)
 args_over args [] second = refl
 args_over args (entry ∷ first) second = args_over (args_after args entry) first second
 
-pub lines_over : (first second : List Entry) → lines (first ++ second) ≡ lines first ++ lines second
-lines_over first second = flat_map-append (λ entry. line (entry_text entry)) first second
-
 module _ (along : ProjectionsRunAlong) (old mid new : ShownLines) (args : List Val) (first second : List Entry) (before : Shows old mid args first)
     (after : Shows mid new (args_after_all args first) second) where
   abbrev earlier : List Entry
@@ -40,7 +37,8 @@ module _ (along : ProjectionsRunAlong) (old mid new : ShownLines) (args : List V
     same_layout = after.same_layout ∙ before.same_layout;
     lines_are =
         after.lines_are ∙ ap (λ entries. mid.text ++ lines entries) later_is ∙ ap (λ text. text ++ lines later) before.lines_are
-        ∙ append_assoc old.text (lines earlier) (lines later) ∙ ap (λ text. old.text ++ text) (sym (lines_over earlier later))
+        ∙ append_assoc old.text (lines earlier) (lines later)
+        ∙ ap (λ text. old.text ++ text) (sym (flat_map-append (λ entry. line (entry_text entry)) earlier later))
         ∙ ap (λ entries. old.text ++ lines entries) (sym whole);
     count_is = omega (arith, after.count_is, ap length later_is, before.count_is, length-append earlier later, ap length whole);
     inside_is = after.inside_is ∙ ap (λ inside. inside_after_all inside second) before.inside_is ∙ sym (inside_over old.inside first second);

@@ -15,10 +15,10 @@ use Rattle.wasm_syntax.specs.declared.modules.Global.{Global}
 use Rattle.wasm_syntax.specs.declared.modules.Module.{Module}
 use Rattle.wasm_syntax.specs.Index.{imported_globals, all_globals}
 use Rattle.wasm_syntax.specs.Validity.{IsConstant, IsGlobal, single, constant_type, immutable_type}
+use Rattle.wasm_syntax.proofs.ValidParts.{single_is}
 use Rattle.history_spec.specs.Code.{zero_of}
 use Rattle.history_spec.specs.Instantiation.{constant, global_value}
 use Rattle.rest_spec.specs.StateModules.{state_global, state_globals}
-use Rattle.type_safety.proofs.NewStores.{single_is}
 
 -- other values are the same for immutable types
 abbrev pub AreSameImmutables : List GlobalType → (values others : List Val) → Type 0

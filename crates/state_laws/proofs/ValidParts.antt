@@ -24,13 +24,14 @@ use Rattle.wasm_syntax.specs.Encoding.Forms.{AreCoreInstrs, IsCoreInstr, IsCoreS
 use Rattle.wasm_syntax.specs.Index.{all_memories, all_tables, imported_globals}
 use Rattle.wasm_syntax.specs.Nest.{flat}
 use Rattle.wasm_syntax.specs.Validity.{IsConstant, IsData, IsDeclaredFunc, IsElem, IsGlobal, IsImport, IsThere, IsTypedFunc, body_context, constant_type, single}
+use Rattle.wasm_syntax.proofs.JoinedLists.{both_parts}
 use Rattle.rest_spec.specs.KnownStates.{KnownState}
 use Rattle.rest_spec.specs.StateModules.{state_global, state_globals, state_module_of}
 use Rattle.rest_spec.specs.StateSegments.{FuncRun, offset_at, run_segment}
 use Rattle.type_safety.specs.Stores.{func_count, global_types}
 use Rattle.type_safety.specs.Values.{AreValues, IsValue}
 use Rattle.type_safety.proofs.Values.{length_values, split_values}
-use Rattle.type_safety.proofs.Wider.{IsKnown, both_parts}
+use Rattle.type_safety.proofs.Wider.{IsKnown}
 use Rattle.replay_module_laws.proofs.Originals.{Extends, typed_known}
 use Rattle.replay_module_laws.proofs.Outside.{number_constant, supplied_kept}
 use Rattle.replay_module_laws.proofs.TypedOriginals.{there_alike}

@@ -11,7 +11,7 @@ use Rattle.record_replay_spec.specs.Known.{Known, byte_among}
 use Rattle.record_replay_spec.specs.Alike.{same_option}
 use Rattle.record_replay_spec.specs.Needed.{needed, effect_entry, effect_global, effect_pages, effect_entries, effect_byte}
 use Rattle.record_replay_spec.specs.Hooks.{renumber, original}
-use Rattle.record_replay_spec.specs.Logs.{LogState, differing_runs, unless, same_entry, all_observed_events}
+use Rattle.record_replay_spec.specs.Logs.{LogState, differing_runs, unless, all_observed_events}
 use Rattle.tape_laws.proofs.Agrees.{AreFindsOf}
 use Rattle.tape_laws.proofs.FirstBytes.{finds_of, first_differing}
 use Rattle.tape_laws.proofs.ObservedFinds.{IsReportedKnown, IsNoticed, none_differing, found_size, found_entries_number, same_reported_entry, original_entry, none_reported, reported_place}
@@ -163,12 +163,12 @@ module _ (n size : ℕ) (known : Known) (state : LogState) (reported : IsReporte
       subst
       (λ e. AreFindsOf known (ReadsEntry index func)
       (finds_of size
-      (unless (same_entry (state.known.entry index) (option_map (renumber n) func)) (Entry index e) ++ [])))
+      (unless (same_option nat_eq (state.known.entry index) (option_map (renumber n) func)) (Entry index e) ++ [])))
       (sym (original_entry n back func))
       (subst
       (λ b. AreFindsOf known (ReadsEntry index func) (finds_of size (unless b (Entry index func) ++ [])))
       (sym
-      (ap (λ e. same_entry e (option_map (renumber n) func)) (reported.entry index)
+      (ap (λ e. same_option nat_eq e (option_map (renumber n) func)) (reported.entry index)
       ∙ same_reported_entry n (known.entry index) func))
       (subst (λ events. AreFindsOf known (ReadsEntry index func) (finds_of size events))
       (sym (append-nil (unless unreported (Entry index func))))

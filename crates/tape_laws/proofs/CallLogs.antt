@@ -208,7 +208,7 @@ module _ (m : Module) (shape : HookedShape) (hooked : IsHooked m shape) where
       hooked.is.imports
       ∙ ap (λ e. all_observed_events n st obs ++ events.Pre e ∷ [])
       (ap (option_and_then (original n)) (same_entry n view.table index)
-      ∙ original_entry n (hooked.back n) (entry_of view.table index) ∙ entry))
+      ∙ original_entry n (hooked.indices.of_renumbered n) (entry_of view.table index) ∙ entry))
       (one_logged call (state (AtFunction func ∷ levels) [] entries) step.0
       (orders.after_index m shape hooked func index levels entries view callee) st step.1 step.2))
 

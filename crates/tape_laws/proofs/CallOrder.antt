@@ -30,6 +30,7 @@ use Rattle.type_safety.proofs.Values.{types_values}
 use Rattle.record_replay_spec.specs.Hooks.{HookCall, renumber, renumbered_call, renumbered_table, original}
 use Rattle.record_replay_spec.specs.ReportedCalls.{reported_values, reported_number, reported_over, reported_enter}
 use Rattle.record_replay_spec.specs.Order.{HookedShape, InFunction, InCall, OrderState, when, may_report, is_function, is_defined, with_entered, bits_fit, value_reported, with_pending, pending_are, may_enter, begins_entry, begins_original, ends_call, ordered_step}
+use Rattle.record_replay_spec.specs.HookLaws.{IndicesAreRenumbered}
 use Rattle.tape_laws.proofs.Reportable.{IsShapeOf, fits_number}
 use Rattle.tape_laws.proofs.Trails.{Level, AtFunction, AtImport, AtCall, order_frames, at_host, with_top_entered, IsTypedFor, AreReportable}
 
@@ -54,6 +55,13 @@ same_entry n (Some table) index =
 pub never_imported : (n func : ℕ) → n ≤ func → nat_lt func n ≡ false
 never_imported n func own = grind (arith, nat_tests, own)
 
+-- the tests of numbers
+is_below : (a b : ℕ) → a < b → nat_lt a b ≡ true
+is_below a b below = grind (arith, nat_tests, below)
+
+is_at_most : (a b : ℕ) → a ≤ b → nat_le a b ≡ true
+is_at_most a b most = grind (arith, nat_tests, most)
+
 -- a function that is called and not yet entered may be entered
 pub callee_may : (imports func : ℕ) → (nat_lt func imports || (nat_eq func func && not false)) ≡ true
 callee_may imports func =
@@ -66,7 +74,7 @@ pub record IsHooked (m : Module) (shape : HookedShape) : Type 0 where
   pub is : IsShapeOf m shape
   pub counts : func_count m ≡ imported_funcs m + length m.funcs
   pub numbers : (func : ℕ) (ty : FuncType) → signature (code_of m) func ≡ Some ty → IsFuncType ty
-  pub back : (n func : ℕ) → original n (renumber n func) ≡ Some func
+  pub indices : IndicesAreRenumbered
 
 -- ---- hook calls in order
 
@@ -165,14 +173,12 @@ module _ (m : Module) (shape : HookedShape) (hooked : IsHooked m shape) where
       let i = hooked.is.imports in
       let d = hooked.is.defined in
       let c = hooked.counts in
-      let low : func < shape.imports + shape.defined = omega (arith, below, c, i, d) in
-      grind (arith, nat_tests, low)
+      is_below func (shape.imports + shape.defined) (omega (arith, below, c, i, d))
 
   defined_there : (func : ℕ) → n ≤ func → func < func_count m → is_defined shape func ≡ true
   defined_there func own below =
       let i = hooked.is.imports in
-      let from : shape.imports ≤ func = omega (arith, own, i) in
-      let t : nat_le shape.imports func ≡ true = grind (arith, nat_tests, from) in
+      let t : nat_le shape.imports func ≡ true = is_at_most shape.imports func (omega (arith, own, i)) in
       and_true (nat_le shape.imports func) (is_function shape func) t (function_there func below)
 
   -- a function is entered, if it may be
@@ -270,7 +276,7 @@ module _ (m : Module) (shape : HookedShape) (hooked : IsHooked m shape) where
           → AreOrdered shape (state (AtCall direct callee entered args ∷ levels) results entries)
           (renumbered m (reported_over (cond direct (Some callee) None) view)) (state levels [] entries)
       go true =
-          let same : nat_eq callee callee ≡ true = grind (arith, nat_tests) in (
+          let same : nat_eq callee callee ≡ true = own_number callee in (
             state levels [] entries,
             ap
                 (λ b. cond b
@@ -360,5 +366,5 @@ module _ (m : Module) (shape : HookedShape) (hooked : IsHooked m shape) where
       go None there = refl
       go (Some callee) there =
           ap (λ i. begins_original shape seen (original i (renumber n callee))) hooked.is.imports
-          ∙ ap (begins_original shape seen) (hooked.back n callee)
+          ∙ ap (begins_original shape seen) (hooked.indices.of_renumbered n callee)
           ∙ ap (λ b. when b (after_index func index levels entries view (Some callee))) (function_there callee there)

@@ -255,50 +255,62 @@ module _ (code : Code) (store : Store) (frame : Frame) (core : CoreFrame frame) 
     plain_keeps (instrs.CallIndirect t) h =
         on_keeps store frame.values (Some (instrs.CallIndirect t)) (slice_get code.types t) _ (λ ty e.
         on_keeps store frame.values (Some (instrs.CallIndirect t)) store.table _ (λ table is.
-        on_keeps store frame.values (Some (instrs.CallIndirect t)) (pop (ty.params ++ I32 ∷ []) frame.values) _ (λ p e. call_entry_keeps t ty table is p.operands p.rest
+        on_keeps store frame.values (Some (instrs.CallIndirect t)) (pop (ty.params ++ I32 ∷ []) frame.values) _
+        (λ p e. call_entry_keeps t ty table is p.operands p.rest
         (popped (ty.params ++ I32 ∷ []) frame.values p e) _ refl)))
     plain_keeps instrs.Drop h =
         on_keeps store frame.values (Some instrs.Drop) (type_of_top frame 0) _ (λ ty e.
         on_keeps store frame.values (Some instrs.Drop) (pop (ty ∷ []) frame.values) _ (λ p e. going (Some instrs.Drop) tt next rest _ p.operands p.rest _ _))
     plain_keeps instrs.Select h =
         on_keeps store frame.values (Some instrs.Select) (type_of_top frame 1) _ (λ ty e.
-        on_keeps store frame.values (Some instrs.Select) (pop (ty ∷ ty ∷ I32 ∷ []) frame.values) _ (λ p e. going (Some instrs.Select) tt next rest _ p.operands p.rest _ _))
+        on_keeps store frame.values (Some instrs.Select) (pop (ty ∷ ty ∷ I32 ∷ []) frame.values) _
+        (λ p e. going (Some instrs.Select) tt next rest _ p.operands p.rest _ _))
     plain_keeps (instrs.LocalGet x) h =
         on_keeps store frame.values (Some (instrs.LocalGet x)) (slice_get frame.locals x) _ (λ value e. going (Some (instrs.LocalGet x)) tt next rest _ _ _ _ _)
     plain_keeps (instrs.LocalSet x) h =
         on_keeps store frame.values (Some (instrs.LocalSet x)) (slice_get frame.locals x) _ (λ old e.
-        on_keeps store frame.values (Some (instrs.LocalSet x)) (pop (old.ty ∷ []) frame.values) _ (λ p e. local_keeps (Some (instrs.LocalSet x)) tt next rest store x _ p.operands p.rest _))
+        on_keeps store frame.values (Some (instrs.LocalSet x)) (pop (old.ty ∷ []) frame.values) _
+        (λ p e. local_keeps (Some (instrs.LocalSet x)) tt next rest store x _ p.operands p.rest _))
     plain_keeps (instrs.LocalTee x) h =
         on_keeps store frame.values (Some (instrs.LocalTee x)) (slice_get frame.locals x) _ (λ old e.
-        on_keeps store frame.values (Some (instrs.LocalTee x)) (pop (old.ty ∷ []) frame.values) _ (λ p e. local_keeps (Some (instrs.LocalTee x)) tt next rest store x _ p.operands p.rest _))
+        on_keeps store frame.values (Some (instrs.LocalTee x)) (pop (old.ty ∷ []) frame.values) _
+        (λ p e. local_keeps (Some (instrs.LocalTee x)) tt next rest store x _ p.operands p.rest _))
     plain_keeps (instrs.GlobalGet x) h =
-        on_keeps store frame.values (Some (instrs.GlobalGet x)) (slice_get store.globals x) _ (λ value e. going (Some (instrs.GlobalGet x)) tt next rest _ _ _ _ _)
+        on_keeps store frame.values (Some (instrs.GlobalGet x)) (slice_get store.globals x) _
+        (λ value e. going (Some (instrs.GlobalGet x)) tt next rest _ _ _ _ _)
     plain_keeps (instrs.GlobalSet x) h =
         on_keeps store frame.values (Some (instrs.GlobalSet x)) (slice_get store.globals x) _ (λ old e.
-        on_keeps store frame.values (Some (instrs.GlobalSet x)) (pop (old.ty ∷ []) frame.values) _ (λ p e. going (Some (instrs.GlobalSet x)) tt next rest _ p.operands p.rest _ _))
+        on_keeps store frame.values (Some (instrs.GlobalSet x)) (pop (old.ty ∷ []) frame.values) _
+        (λ p e. going (Some (instrs.GlobalSet x)) tt next rest _ p.operands p.rest _ _))
     plain_keeps (instrs.Load at) h =
         on_keeps store frame.values (Some (instrs.Load at)) (load_of at.op) _ (λ access e.
         on_keeps store frame.values (Some (instrs.Load at)) store.memory _ (λ memory e.
-        on_keeps store frame.values (Some (instrs.Load at)) (pop (I32 ∷ []) frame.values) _ (λ p e. load_keeps (Some (instrs.Load at)) tt next rest memory access p.operands p.rest _)))
+        on_keeps store frame.values (Some (instrs.Load at)) (pop (I32 ∷ []) frame.values) _
+        (λ p e. load_keeps (Some (instrs.Load at)) tt next rest memory access p.operands p.rest _)))
     plain_keeps (instrs.Store at) h =
         on_keeps store frame.values (Some (instrs.Store at)) (store_of at.op) _ (λ access e.
         on_keeps store frame.values (Some (instrs.Store at)) store.memory _ (λ memory e.
-        on_keeps store frame.values (Some (instrs.Store at)) (pop (I32 ∷ access.ty ∷ []) frame.values) _ (λ p e. store_keeps (Some (instrs.Store at)) tt next rest memory p.operands p.rest _)))
+        on_keeps store frame.values (Some (instrs.Store at)) (pop (I32 ∷ access.ty ∷ []) frame.values) _
+        (λ p e. store_keeps (Some (instrs.Store at)) tt next rest memory p.operands p.rest _)))
     plain_keeps instrs.MemorySize h =
         on_keeps store frame.values (Some instrs.MemorySize) store.memory _ (λ memory e. going (Some instrs.MemorySize) tt next rest _ _ _ _ _)
     plain_keeps instrs.MemoryGrow h =
         on_keeps store frame.values (Some instrs.MemoryGrow) store.memory _ (λ memory e.
-        on_keeps store frame.values (Some instrs.MemoryGrow) (pop (I32 ∷ []) frame.values) _ (λ p e. grow_keeps (Some instrs.MemoryGrow) tt next rest memory p.operands p.rest _))
+        on_keeps store frame.values (Some instrs.MemoryGrow) (pop (I32 ∷ []) frame.values) _
+        (λ p e. grow_keeps (Some instrs.MemoryGrow) tt next rest memory p.operands p.rest _))
     plain_keeps instrs.MemoryCopy h =
         on_keeps store frame.values (Some instrs.MemoryCopy) store.memory _ (λ memory e.
-        on_keeps store frame.values (Some instrs.MemoryCopy) (pop (I32 ∷ I32 ∷ I32 ∷ []) frame.values) _ (λ p e. store_keeps (Some instrs.MemoryCopy) tt next rest memory p.operands p.rest _))
+        on_keeps store frame.values (Some instrs.MemoryCopy) (pop (I32 ∷ I32 ∷ I32 ∷ []) frame.values) _
+        (λ p e. store_keeps (Some instrs.MemoryCopy) tt next rest memory p.operands p.rest _))
     plain_keeps instrs.MemoryFill h =
         on_keeps store frame.values (Some instrs.MemoryFill) store.memory _ (λ memory e.
-        on_keeps store frame.values (Some instrs.MemoryFill) (pop (I32 ∷ I32 ∷ I32 ∷ []) frame.values) _ (λ p e. store_keeps (Some instrs.MemoryFill) tt next rest memory p.operands p.rest _))
+        on_keeps store frame.values (Some instrs.MemoryFill) (pop (I32 ∷ I32 ∷ I32 ∷ []) frame.values) _
+        (λ p e. store_keeps (Some instrs.MemoryFill) tt next rest memory p.operands p.rest _))
     plain_keeps (instrs.Const value) h = going (Some (instrs.Const value)) tt next rest _ _ _ _ _
     plain_keeps (instrs.Numeric op) h =
         on_keeps store frame.values (Some (instrs.Numeric op)) (numeric_shape op) _ (λ shape e.
-        on_keeps store frame.values (Some (instrs.Numeric op)) (pop shape.operands frame.values) _ (λ p e. numeric_keeps (Some (instrs.Numeric op)) tt next rest shape.result p.operands p.rest _))
+        on_keeps store frame.values (Some (instrs.Numeric op)) (pop shape.operands frame.values) _
+        (λ p e. numeric_keeps (Some (instrs.Numeric op)) tt next rest shape.result p.operands p.rest _))
     plain_keeps instrs.RefNull h = absurd h
     plain_keeps (instrs.RefFunc func) h = absurd h
     plain_keeps (instrs.TableSet t) h = absurd h

@@ -78,7 +78,7 @@ module _ (m : Module) (shape : HookedShape) (hooked : IsHooked m shape) (outcome
           (marks_from n outcome (log_frames (AtFunction func ∷ h.below)) size
           (all_observed_events n st (reported left) ++ more))
       agree size more size_reported none =
-          let a = agrees_all n (all_globals m) (hooked.back n) size outcome (log_frames (AtFunction func ∷ h.below)) known
+          let a = agrees_all n (all_globals m) (hooked.indices.of_renumbered n) size outcome (log_frames (AtFunction func ∷ h.below)) known
           moment.before st left [] more
           (record {
             reported = here.reported;

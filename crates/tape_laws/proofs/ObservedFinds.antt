@@ -11,7 +11,7 @@ use Rattle.record_replay_spec.specs.Known.{Known}
 use Rattle.record_replay_spec.specs.Alike.{same_option}
 use Rattle.record_replay_spec.specs.Needed.{needed, effect_pages, effect_entries}
 use Rattle.record_replay_spec.specs.Hooks.{renumber, original}
-use Rattle.record_replay_spec.specs.Logs.{with_first_byte, differing_runs, unless, same_entry}
+use Rattle.record_replay_spec.specs.Logs.{with_first_byte, differing_runs, unless}
 use Rattle.record_replay_spec.specs.LogTapes.{first_some}
 use Rattle.tape_laws.proofs.FirstBytes.{finds_of}
 
@@ -117,7 +117,7 @@ same_renumbered n a b = go (nat_lt a n) (nat_lt b n) refl refl
     go false false p q = grind (arith, nat_tests, p, q)
 
 pub same_reported_entry : (n : ℕ) (known func : Option ℕ)
-    → same_entry (option_map (renumber n) known) (option_map (renumber n) func) ≡ same_option nat_eq known func
+    → same_option nat_eq (option_map (renumber n) known) (option_map (renumber n) func) ≡ same_option nat_eq known func
 same_reported_entry n None None = refl
 same_reported_entry n None (Some b) = refl
 same_reported_entry n (Some a) None = refl

@@ -58,7 +58,7 @@ hooked_run indices renumbered run =
       is = shape_is run (indices run.m run.digest);
       counts = count_is run.m;
       numbers = types_are run.m run.runnable.valid.outside;
-      back = renumbered.of_renumbered;
+      indices = renumbered;
     }
 
 -- ---- a run's trail

@@ -1,9 +1,5 @@
 -- A tape's run follows the scripted run, step by step.
-use Rattle.std.proofs.Common.{◌≡◌, ℕ, zero, suc, ◌+◌, ◌<◌, List, [], ◌∷◌, length, Option, Some, None, Bool, true, false, nat_lt, slice_get, slice_set, slice_index, option_to_list, replicate, refl, sym, ap, ◌∙◌, subst, arith}
-use Rattle.std.specs.Prelude.{option_and_then}
-use Rattle.std.proofs.lemmas.Bool.Decides.{nat_tests}
-use Rattle.std.proofs.lemmas.List.{length-replicate, get_or-replicate}
-use Rattle.std.proofs.lemmas.Option.{slice_get-get_or}
+use Rattle.std.proofs.Common.{◌≡◌, ℕ, zero, suc, ◌+◌, List, [], ◌∷◌, Option, Some, None, Bool, true, false, nat_lt, slice_get, slice_set, slice_index, option_to_list, refl, sym, ap, ◌∙◌, subst}
 use Rattle.wasm_syntax.specs.declared.values.Val.{Val}
 use Rattle.wasm_syntax.specs.declared.signatures.FuncType.{FuncType}
 use Rattle.wasm_syntax.specs.declared.modules.Module.{Module}
@@ -27,12 +23,13 @@ use Rattle.history_spec.specs.Configuration.{Frame, Activation, InModule, InMain
 use Rattle.history_spec.specs.Instruction.{Control, Goes, Calls, Returns}
 use Rattle.history_spec.specs.Action.{ActionResult, Changes, Enters, Fails, Unfit, perform}
 use Rattle.history_spec.specs.Settle.{AtEnd, Within, Gives, TooFew, at_end, return_entry, return_from, deliver}
-use Rattle.history_spec.specs.Step.{Program, Running, Finished, Faulted, StepResult, step_result, after_entries, after_settling, enter_defined, enter_function, frame_of, response_of, response_to, answer_call, call_function, after_control, after_action}
+use Rattle.history_spec.specs.Step.{Program, Running, Finished, Faulted, StepResult, step_result, after_entries, after_settling, enter_defined, enter_function, frame_of, response_to, answer_call, call_function, after_control, after_action}
 use Rattle.history_spec.specs.Run.{all_one, steps}
 use Rattle.record_replay_spec.specs.Observations.{Observation, Begins, Ends, observations}
 use Rattle.record_replay_spec.specs.Known.{Known}
-use Rattle.record_replay_spec.specs.TapeRun.{pause, awaiting_answer, program_awaiting, TapeConfig, TapeResult, after_step, after_next, after_segment, tape_step_of}
+use Rattle.record_replay_spec.specs.TapeRun.{program_awaiting, TapeConfig, TapeResult, after_step, after_next, after_segment, tape_step_of}
 use Rattle.record_replay_spec.specs.Executions.{left_store, in_store}
+use Rattle.record_replay_spec.proofs.Awaited.{awaits}
 use Rattle.type_safety.specs.Configurations.{IsConfig, IsSafe, IsTypedCode, scope}
 use Rattle.type_safety.specs.Heights.{Heights}
 use Rattle.type_safety.specs.Results.{IsControl, IsActionResult}
@@ -215,22 +212,6 @@ module _ (laws : LawsOfSteps) (m : Module) (heights : Heights) (valid : IsValid 
       go (Some ty) (Some d) safe =
           delivers (InModule (frame_of func ty d args) ∷ stack) [] store counts known came nested is of safe
 
-  -- the response of the tape's run to a call of an import
-  awaits : (import number : ℕ) → nat_lt import code.imported ≡ true
-      → response_to (program_awaiting code).answers import number
-      ≡ Some (record { actions = pause ∷ []; end = EndsInTrap })
-  awaits import number h =
-      let below : import < code.imported = grind (arith, nat_tests, h) in
-      let long : length (replicate {A = Option Answer} code.imported (Some awaiting_answer)) ≡ code.imported =
-      length-replicate code.imported (Some awaiting_answer) in
-      let there =
-      slice_get-get_or (replicate code.imported (Some awaiting_answer)) import None (omega (arith, below, long)) in
-      let is = get_or-replicate code.imported import (Some awaiting_answer) None below in
-      ap
-      (λ o. option_and_then (λ answer. response_of answer number)
-      (option_and_then (λ a. a) o))
-      (there ∙ ap Some is)
-
   -- the module calls a function
   call : (k : ℕ) → Delivers k → (waiting : Frame) (below : List Activation) (func : ℕ) (args : List Val) (store : Store)
       (counts : List ℕ) (known : Known) (came : Origin) (b : Bool) → nat_lt func code.imported ≡ b → AreNested below
@@ -261,7 +242,7 @@ module _ (laws : LawsOfSteps) (m : Module) (heights : Heights) (valid : IsValid 
           follows_entry m heights answers claim closed k known store _ _ _ _ (ImportCall func args)
           (λ other segments. ap
           (λ r. after_step segments came (answer_call r other counts func args (all_paused stack)))
-          (awaits func (slice_index counts func) e))
+          (awaits code func (slice_index counts func) e))
           (delivers (InImport func args response.actions response.end ∷ stack) [] store
           (slice_set counts func (slice_index counts func + 1)) known (Import func) (tt, nested) is of safe)
 

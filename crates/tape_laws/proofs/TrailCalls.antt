@@ -64,7 +64,8 @@ module _ (m : Module) (heights : Heights) (typed : IsTypedCode m heights) (core 
         (AtFunction func ∷ levels) known)
         (sym b.1)
         (delivers (InModule (frame_of func ty b.0 args) ∷ stack) [] [] store counts (AtFunction func ∷ levels) known instr
-        before (ty, b.0, entered_frame m heights func ty b.0 args has_type b.1 p b.2, a) tt is of count (record { rest = core_definition m core func b.0 b.1; labels = tt }, c)
+        before (ty, b.0, entered_frame m heights func ty b.0 args has_type b.1 p b.2, a) tt is of count
+        (record { rest = core_definition m core func b.0 b.1; labels = tt }, c)
         (record { below = levels; stands = refl; mirrors = mirrors })))
 
     -- the module calls a function

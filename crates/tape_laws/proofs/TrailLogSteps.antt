@@ -125,7 +125,7 @@ module _ (m : Module) (shape : HookedShape) (hooked : IsHooked m shape) (outcome
     kept_next : (size : ℕ) → IsSizeReported size known st
         → Keeps n (all_globals m) known_next (with_changes moment.before items) st_next size
     kept_next size size_reported =
-        keeps_after_all n (all_globals m) (hooked.back n) size known moment.before st items (kept_at size size_reported) are core
+        keeps_after_all n (all_globals m) (hooked.indices.of_renumbered n) size known moment.before st items (kept_at size size_reported) are core
 
     stands_next : Stands m shape outcome after known_next moment.after st_next
     stands_next =
@@ -145,7 +145,7 @@ module _ (m : Module) (shape : HookedShape) (hooked : IsHooked m shape) (outcome
         → ModuleAgrees known moment.before (items ++ obs)
         (marks_from n outcome (log_frames top) size (all_observed_events n st (reported items) ++ more))
     all_agree size more size_reported h =
-        let a = agrees_all n (all_globals m) (hooked.back n) size outcome (log_frames top) known moment.before st items obs more
+        let a = agrees_all n (all_globals m) (hooked.indices.of_renumbered n) size outcome (log_frames top) known moment.before st items obs more
         (kept_at size size_reported) of are core (subst (λ s. IsReadOf known_next (window obs) s) changed h.reads) h.agrees
         in
         record { agrees = a.0; reads = a.1 }

@@ -24,11 +24,10 @@ use Rattle.record_replay_spec.specs.LogTapes.{Mark, Begins as BeginsMark, Ends a
 use Rattle.record_replay_spec.specs.Order.{HookedShape, OrderState}
 use Rattle.record_replay_spec.specs.ReportedCalls.{Moment, reported_calls, reported_enter, reported_values, reported_over, reported_number}
 use Rattle.record_replay_spec.specs.declared.hooks.Hook.TheVariants.{Leave}
-use Rattle.tape_laws.specs.ReportedObservations.{is_mutable}
 use Rattle.tape_laws.proofs.CallOrder as orders
 use Rattle.tape_laws.proofs.ModuleFacts.{func_there}
 use Rattle.tape_laws.proofs.TrailOrder.{same_waiting, calls_at}
-use Rattle.tape_laws.proofs.Trails.{Level, AtFunction, AtImport, AtCall, at_host, with_top_entered, IsWithin, KeepsImmutables, waiting_calls}
+use Rattle.tape_laws.proofs.Trails.{Level, AtFunction, AtImport, AtCall, at_host, with_top_entered, IsWithin, KeepsImmutables, waiting_calls, KnowsImmutables}
 use Rattle.tape_laws.proofs.CallOrder.{IsHooked, renumbered, state, callee_may, never_imported}
 use Rattle.tape_laws.proofs.Agrees.{Agrees, agrees_activity}
 use Rattle.tape_laws.proofs.CallLogs as logs
@@ -43,8 +42,7 @@ module _ (m : Module) (shape : HookedShape) (outcome : Outcome) where
   -- what the log knows at a point
   pub record Stands (levels : List Level) (known : Known) (store : Store) (st : LogState) : Type 0 where
     pub reported : IsReportedKnown (imported_funcs m) known st.known
-    pub immutable : (at : ℕ) → is_mutable (slice_get (all_globals m) at) ≡ false
-        → known.global at ≡ slice_get store.globals at
+    pub immutable : KnowsImmutables (all_globals m) known store
     pub real : IsWithin levels → st.noticed ≡ pages_of store.memory
 
   -- hook calls have events, and the marks of these events agree with the remaining observations

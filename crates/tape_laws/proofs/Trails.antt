@@ -89,6 +89,11 @@ abbrev pub KeepsImmutables : List GlobalType → (store after : Store) → Type 
 KeepsImmutables globals store after =
     (at : ℕ) → is_mutable (slice_get globals at) ≡ false → slice_get after.globals at ≡ slice_get store.globals at
 
+-- the known values of immutable globals are those that a store has
+abbrev pub KnowsImmutables : List GlobalType → Known → Store → Type 0
+KnowsImmutables globals known store =
+    (at : ℕ) → is_mutable (slice_get globals at) ≡ false → known.global at ≡ slice_get store.globals at
+
 -- ---- observations
 
 -- an observation of a module of the form Core changes no table

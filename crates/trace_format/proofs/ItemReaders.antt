@@ -99,13 +99,16 @@ module _ (laws : NumberLaws) where
       → by_mark (row_at (event_rows version)) (bytes ++ rest) ≡ Some (event, rest)
   unfolding event_bytes
   event_only version bytes rest (Enter func args) h =
-      row_only (row_at (event_rows version)) IsCall spell_call TAG_ENTER (first_then first_number first_args) (with_pair Enter) refl call_reads bytes rest (func, args) h.fits h.spelled
+      row_only (row_at (event_rows version)) IsCall spell_call TAG_ENTER (first_then first_number first_args)
+      (with_pair Enter) refl call_reads bytes rest (func, args) h.fits h.spelled
   event_only version bytes rest (Leave func) h =
       row_only (row_at (event_rows version)) FitsU32 u32_bytes TAG_LEAVE first_number Leave refl (number_reads laws) bytes rest func h.fits h.spelled
   event_only version bytes rest (Pre callee) h =
-      row_only (row_at (event_rows version)) IsCallee (option_bytes u32_bytes) TAG_PRE (first_option first_number) Pre refl callee_reads bytes rest callee h.fits h.spelled
+      row_only (row_at (event_rows version)) IsCallee (option_bytes u32_bytes) TAG_PRE
+      (first_option first_number) Pre refl callee_reads bytes rest callee h.fits h.spelled
   event_only version bytes rest (Post result) h =
-      row_only (row_at (event_rows version)) IsResult (option_bytes val_bytes) TAG_POST (first_option first_val) Post refl result_reads bytes rest result h.fits h.spelled
+      row_only (row_at (event_rows version)) IsResult (option_bytes val_bytes) TAG_POST
+      (first_option first_val) Post refl result_reads bytes rest result h.fits h.spelled
   event_only version bytes rest (Grow pages) h =
       row_only (row_at (event_rows version)) FitsU32 u32_bytes TAG_GROW first_number Grow refl (number_reads laws) bytes rest pages h.fits h.spelled
   event_only version bytes rest Seen h = done_only (row_at (event_rows version)) TAG_SEEN Seen refl bytes rest h.spelled
@@ -113,11 +116,16 @@ module _ (laws : NumberLaws) where
       subst (λ v. by_mark (row_at (event_rows v)) (bytes ++ rest) ≡ Some (Table size, rest)) (sym h.fits.0)
       (row_only (row_at (event_rows VERSION_2)) FitsU32 u32_bytes TAG_TABLE first_number Table refl (number_reads laws) bytes rest size h.fits.1 h.spelled)
   event_only version bytes rest (Bytes addr content) h =
-      row_only (row_at (event_rows version)) IsPlaced spell_placed TAG_BYTES (first_then first_number first_bytes) (with_pair Bytes) refl placed_reads bytes rest (addr, content) (h.fits.address, (h.fits.some, h.fits.few)) h.spelled
+      row_only (row_at (event_rows version)) IsPlaced spell_placed TAG_BYTES (first_then first_number first_bytes)
+      (with_pair Bytes) refl placed_reads bytes rest (addr, content)
+      (h.fits.address, (h.fits.some, h.fits.few)) h.spelled
   event_only version bytes rest (Entry index func) h =
-      row_only (row_at (event_rows version)) IsEntry spell_entry TAG_ENTRY (first_then first_number (first_option first_number)) (with_pair Entry) refl entry_reads bytes rest (index, func) h.fits h.spelled
+      row_only (row_at (event_rows version)) IsEntry spell_entry TAG_ENTRY
+      (first_then first_number (first_option first_number)) (with_pair Entry) refl entry_reads bytes rest
+      (index, func) h.fits h.spelled
   event_only version bytes rest (Global global value) h =
-      row_only (row_at (event_rows version)) IsGlobal spell_global TAG_GLOBAL (first_then first_number first_val) (with_pair Global) refl global_reads bytes rest (global, value) h.fits h.spelled
+      row_only (row_at (event_rows version)) IsGlobal spell_global TAG_GLOBAL (first_then first_number first_val)
+      (with_pair Global) refl global_reads bytes rest (global, value) h.fits h.spelled
 
   pub event_reads : (version : ℕ) → IsReadBy (Spells (FitsEvent version) event_bytes) (first_event version)
   unfolding first_event event_bytes
@@ -141,11 +149,15 @@ module _ (laws : NumberLaws) where
                       row_finds F event_bytes IsPlaced spell_placed TAG_BYTES (first_then first_number first_bytes) (with_pair Bytes) placed_reads
                           (λ x f. record { address = f.0; some = f.1.0; few = f.1.1 }) (λ x. refl),
                       (
-                        row_finds F event_bytes IsEntry spell_entry TAG_ENTRY (first_then first_number (first_option first_number)) (with_pair Entry) entry_reads (λ x f. f) (λ x. refl),
+                        row_finds F event_bytes IsEntry spell_entry TAG_ENTRY
+                            (first_then first_number (first_option first_number)) (with_pair Entry) entry_reads
+                            (λ x f. f) (λ x. refl),
                         (
-                          row_finds F event_bytes IsGlobal spell_global TAG_GLOBAL (first_then first_number first_val) (with_pair Global) global_reads (λ x f. f) (λ x. refl),
+                          row_finds F event_bytes IsGlobal spell_global TAG_GLOBAL (first_then first_number first_val)
+                              (with_pair Global) global_reads (λ x f. f) (λ x. refl),
                           second_all _ version (TAG_TABLE, _)
-                              (λ second. row_finds F event_bytes FitsU32 u32_bytes TAG_TABLE first_number Table (number_reads laws) (λ x f. (second, f)) (λ x. refl)),
+                              (λ second. row_finds F event_bytes FitsU32 u32_bytes TAG_TABLE first_number Table
+                              (number_reads laws) (λ x f. (second, f)) (λ x. refl)),
                         ),
                       ),
                     ),
@@ -167,13 +179,19 @@ module _ (laws : NumberLaws) where
       row_only (row_at (effect_rows version)) FitsU32 u32_bytes TAG_GROW first_number changes.Grow refl (number_reads laws) bytes rest pages h.fits h.spelled
   effect_only version bytes rest (changes.Table size) h =
       subst (λ v. by_mark (row_at (effect_rows v)) (bytes ++ rest) ≡ Some (changes.Table size, rest)) (sym h.fits.0)
-      (row_only (row_at (effect_rows VERSION_2)) FitsU32 u32_bytes TAG_TABLE first_number changes.Table refl (number_reads laws) bytes rest size h.fits.1 h.spelled)
+      (row_only (row_at (effect_rows VERSION_2)) FitsU32 u32_bytes TAG_TABLE first_number changes.Table refl
+      (number_reads laws) bytes rest size h.fits.1 h.spelled)
   effect_only version bytes rest (changes.Bytes addr content) h =
-      row_only (row_at (effect_rows version)) IsPlaced spell_placed TAG_BYTES (first_then first_number first_bytes) (with_pair changes.Bytes) refl placed_reads bytes rest (addr, content) (h.fits.address, (h.fits.some, h.fits.few)) h.spelled
+      row_only (row_at (effect_rows version)) IsPlaced spell_placed TAG_BYTES (first_then first_number first_bytes)
+      (with_pair changes.Bytes) refl placed_reads bytes rest (addr, content)
+      (h.fits.address, (h.fits.some, h.fits.few)) h.spelled
   effect_only version bytes rest (changes.Entry index func) h =
-      row_only (row_at (effect_rows version)) IsEntry spell_entry TAG_ENTRY (first_then first_number (first_option first_number)) (with_pair changes.Entry) refl entry_reads bytes rest (index, func) h.fits h.spelled
+      row_only (row_at (effect_rows version)) IsEntry spell_entry TAG_ENTRY
+      (first_then first_number (first_option first_number)) (with_pair changes.Entry) refl entry_reads bytes rest
+      (index, func) h.fits h.spelled
   effect_only version bytes rest (changes.Global global value) h =
-      row_only (row_at (effect_rows version)) IsGlobal spell_global TAG_GLOBAL (first_then first_number first_val) (with_pair changes.Global) refl global_reads bytes rest (global, value) h.fits h.spelled
+      row_only (row_at (effect_rows version)) IsGlobal spell_global TAG_GLOBAL (first_then first_number first_val)
+      (with_pair changes.Global) refl global_reads bytes rest (global, value) h.fits h.spelled
 
   effect_reads : (version : ℕ) → IsReadBy (Spells (FitsEffect version) effect_bytes) (first_effect version)
   unfolding first_effect effect_bytes
@@ -187,11 +205,15 @@ module _ (laws : NumberLaws) where
             row_finds F effect_bytes IsPlaced spell_placed TAG_BYTES (first_then first_number first_bytes) (with_pair changes.Bytes) placed_reads
                 (λ x f. record { address = f.0; some = f.1.0; few = f.1.1 }) (λ x. refl),
             (
-              row_finds F effect_bytes IsEntry spell_entry TAG_ENTRY (first_then first_number (first_option first_number)) (with_pair changes.Entry) entry_reads (λ x f. f) (λ x. refl),
+              row_finds F effect_bytes IsEntry spell_entry TAG_ENTRY
+                  (first_then first_number (first_option first_number)) (with_pair changes.Entry) entry_reads (λ x f. f)
+                  (λ x. refl),
               (
-                row_finds F effect_bytes IsGlobal spell_global TAG_GLOBAL (first_then first_number first_val) (with_pair changes.Global) global_reads (λ x f. f) (λ x. refl),
+                row_finds F effect_bytes IsGlobal spell_global TAG_GLOBAL (first_then first_number first_val)
+                    (with_pair changes.Global) global_reads (λ x f. f) (λ x. refl),
                 second_all _ version (TAG_TABLE, _)
-                    (λ second. row_finds F effect_bytes FitsU32 u32_bytes TAG_TABLE first_number changes.Table (number_reads laws) (λ x f. (second, f)) (λ x. refl)),
+                    (λ second. row_finds F effect_bytes FitsU32 u32_bytes TAG_TABLE first_number changes.Table
+                    (number_reads laws) (λ x f. (second, f)) (λ x. refl)),
               ),
             ),
           ),
@@ -213,7 +235,11 @@ module _ (laws : NumberLaws) where
   origin_reads = record {
     found = by_mark_found (Spells FitsOrigin origin_bytes) (row_at origin_rows) (rows_well (Spells FitsOrigin origin_bytes) origin_rows (
       done_finds (Spells FitsOrigin origin_bytes) TAG_BEGIN Begin (record { fits = tt; spelled = refl }),
-      (row_finds FitsOrigin origin_bytes FitsU32 u32_bytes TAG_IMPORT first_number Import (number_reads laws) (λ x f. f) (λ x. refl), (done_finds (Spells FitsOrigin origin_bytes) TAG_BACK Back (record { fits = tt; spelled = refl }), tt)),
+      (
+        row_finds FitsOrigin origin_bytes FitsU32 u32_bytes TAG_IMPORT first_number Import (number_reads laws)
+            (λ x f. f) (λ x. refl),
+        (done_finds (Spells FitsOrigin origin_bytes) TAG_BACK Back (record { fits = tt; spelled = refl }), tt),
+      ),
     ));
     only = origin_only;
   }
@@ -221,9 +247,11 @@ module _ (laws : NumberLaws) where
   next_only : (bytes rest : List ℕ) (next : Next) → Spells FitsNext next_bytes bytes next
       → by_mark (row_at next_rows) (bytes ++ rest) ≡ Some (next, rest)
   next_only bytes rest (Call func args) h =
-      row_only (row_at next_rows) IsCall spell_call TAG_CALL (first_then first_number first_args) (with_pair Call) refl call_reads bytes rest (func, args) h.fits h.spelled
+      row_only (row_at next_rows) IsCall spell_call TAG_CALL (first_then first_number first_args)
+      (with_pair Call) refl call_reads bytes rest (func, args) h.fits h.spelled
   next_only bytes rest (Return result) h =
-      row_only (row_at next_rows) IsResult (option_bytes val_bytes) TAG_RETURN (first_option first_val) Return refl result_reads bytes rest result h.fits h.spelled
+      row_only (row_at next_rows) IsResult (option_bytes val_bytes) TAG_RETURN
+      (first_option first_val) Return refl result_reads bytes rest result h.fits h.spelled
   next_only bytes rest End h = done_only (row_at next_rows) TAG_END End refl bytes rest h.spelled
   next_only bytes rest Trap h = done_only (row_at next_rows) TAG_TRAP Trap refl bytes rest h.spelled
 
@@ -232,7 +260,14 @@ module _ (laws : NumberLaws) where
   next_reads = record {
     found = by_mark_found (Spells FitsNext next_bytes) (row_at next_rows) (rows_well (Spells FitsNext next_bytes) next_rows (
       row_finds FitsNext next_bytes IsCall spell_call TAG_CALL (first_then first_number first_args) (with_pair Call) call_reads (λ x f. f) (λ x. refl),
-      (row_finds FitsNext next_bytes IsResult (option_bytes val_bytes) TAG_RETURN (first_option first_val) Return result_reads (λ x f. f) (λ x. refl), (done_finds (Spells FitsNext next_bytes) TAG_END End (record { fits = tt; spelled = refl }), (done_finds (Spells FitsNext next_bytes) TAG_TRAP Trap (record { fits = tt; spelled = refl }), tt))),
+      (
+        row_finds FitsNext next_bytes IsResult (option_bytes val_bytes) TAG_RETURN
+            (first_option first_val) Return result_reads (λ x f. f) (λ x. refl),
+        (
+          done_finds (Spells FitsNext next_bytes) TAG_END End (record { fits = tt; spelled = refl }),
+          (done_finds (Spells FitsNext next_bytes) TAG_TRAP Trap (record { fits = tt; spelled = refl }), tt),
+        ),
+      ),
     ));
     only = next_only;
   }
@@ -244,11 +279,14 @@ module _ (laws : NumberLaws) where
   unfolding first_segment segment_bytes
   segment_reads version =
       let effects = counted_reads laws (FitsEffect version) effect_bytes (first_effect version) (effect_reads version) in
-      let later = then_reads (AreFewEffects version) (vector_bytes effect_bytes) FitsNext next_bytes (first_counted (first_effect version)) first_next effects next_reads in
+      let later = then_reads (AreFewEffects version) (vector_bytes effect_bytes) FitsNext next_bytes
+      (first_counted (first_effect version)) first_next effects next_reads in
       let Later = λ (p : List Effect × Next). AreFewEffects version p.0 × FitsNext p.1 in
       let spell_later = λ (p : List Effect × Next). vector_bytes effect_bytes p.0 ++ next_bytes p.1 in
-      let all = then_reads FitsOrigin origin_bytes Later spell_later first_origin (first_then (first_counted (first_effect version)) first_next) origin_reads later in
-      let E = Spells (λ (p : Origin × (List Effect × Next)). FitsOrigin p.0 × Later p.1) (λ (p : Origin × (List Effect × Next)). origin_bytes p.0 ++ spell_later p.1) in
+      let all = then_reads FitsOrigin origin_bytes Later spell_later first_origin
+      (first_then (first_counted (first_effect version)) first_next) origin_reads later in
+      let E = Spells (λ (p : Origin × (List Effect × Next)). FitsOrigin p.0 × Later p.1)
+      (λ (p : Origin × (List Effect × Next)). origin_bytes p.0 ++ spell_later p.1) in
       let is = as_read_is E (first_then first_origin (first_then (first_counted (first_effect version)) first_next)) segment_of
       (λ (s : Segment). (s.origin, (s.effects, s.next))) (λ parts. refl) (λ s. refl) all in
       same_grammar (λ bytes (s : Segment). E bytes (s.origin, (s.effects, s.next))) (Spells (FitsSegment version) segment_bytes) (first_segment version)
@@ -275,7 +313,10 @@ unfolding first_outcome
 outcome_reads = record {
   found = by_mark_found (Spells IsAny outcome_bytes) (row_at outcome_rows) (rows_well (Spells IsAny outcome_bytes) outcome_rows (
     done_finds (Spells IsAny outcome_bytes) TAG_ENDED Ended (record { fits = tt; spelled = refl }),
-    (done_finds (Spells IsAny outcome_bytes) TAG_TRAPPED Trapped (record { fits = tt; spelled = refl }), (done_finds (Spells IsAny outcome_bytes) TAG_HOST_TRAPPED HostTrapped (record { fits = tt; spelled = refl }), tt)),
+    (
+      done_finds (Spells IsAny outcome_bytes) TAG_TRAPPED Trapped (record { fits = tt; spelled = refl }),
+      (done_finds (Spells IsAny outcome_bytes) TAG_HOST_TRAPPED HostTrapped (record { fits = tt; spelled = refl }), tt),
+    ),
   ));
   only = outcome_only;
 }

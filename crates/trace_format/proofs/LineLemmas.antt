@@ -36,7 +36,8 @@ module _ {A : Type 0} (read : Reader A) (lines : A → List ℕ) where
 pub log_shown : (bytes digest : List ℕ) (version imports : ℕ) (start : List ℕ)
     → IsLogStart bytes version digest imports start
     → (before now : List ℕ) → before ≡ line (codes "log" ++ with_space (hex_text digest))
-    → IsEndShown (first_event version) first_outcome (λ event. line (event_text event)) (λ outcome. line (outcome_text outcome)) start before now → IsTextOf (IsLogRead bytes) log_content_text now
+    → IsEndShown (first_event version) first_outcome (λ event. line (event_text event))
+    (λ outcome. line (outcome_text outcome)) start before now → IsTextOf (IsLogRead bytes) log_content_text now
 unfolding log_text
 log_shown bytes digest version imports start begun before now first shown =
     let log : Log = record { imports = imports; events = shown.items; outcome = shown.close } in
@@ -48,7 +49,8 @@ log_shown bytes digest version imports start begun before now first shown =
 
 pub tape_shown : (bytes digest : List ℕ) (version : ℕ) → IsHeaderThere TAPE_MAGIC bytes (version, digest)
     → (before now : List ℕ) → before ≡ line (codes "tape" ++ with_space (hex_text digest))
-    → IsEndShown (first_segment version) first_close segment_text (λ it. line (codes "close")) (drop header_length bytes) before now → IsTextOf (IsTapeRead bytes) tape_content_text now
+    → IsEndShown (first_segment version) first_close segment_text (λ it. line (codes "close"))
+    (drop header_length bytes) before now → IsTextOf (IsTapeRead bytes) tape_content_text now
 unfolding tape_text
 tape_shown bytes digest version there before now begun shown =
     let tape : Tape = record { segments = shown.items } in

@@ -1,1 +1,2 @@
 mod FittingLemmas
+pub mod SinkLemmas

@@ -7,13 +7,13 @@ use crate::events::{Event, Events};
 use base::NoMemory;
 
 /// A sink takes the events of a log one after another. What it has taken is a relation, since it need not keep
-/// the events.
+/// the events. The relation also names the sink before its first event, which says what the sink was made with.
 pub trait EventSink {
     ghost use Rattle.std.specs.Prelude.{List};
     ghost use Rattle.trace_model.specs.declared.events.Event.{Event};
 
-    // the sink has taken these events
-    ghost has_taken: { Self → List Event → Type 0 };
+    // the sink that began as the first has become the second by taking these events
+    ghost has_taken: { Self → Self → List Event → Type 0 };
 
     /// Takes an event.
     ///
@@ -24,11 +24,11 @@ pub trait EventSink {
         ensures refused { OnErr result (TookAlso has_taken self.old self.new []) };
 }
 
-/// A list of events has taken exactly the events that it holds.
+/// A list of events has taken exactly the events that it holds after those that it began with.
 impl EventSink for Events {
-    ghost use Rattle.std.specs.Prelude.{◌≡◌};
+    ghost use Rattle.std.specs.Prelude.{◌≡◌, ◌++◌};
 
-    ghost has_taken = { λ events taken. events ≡ taken };
+    ghost has_taken = { λ first events taken. events ≡ first ++ taken };
 
     fn event(&mut self, event: Event) -> Result<(), NoMemory> {
         self.push(event)

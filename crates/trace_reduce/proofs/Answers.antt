@@ -13,7 +13,7 @@ use Rattle.trace_reduce.specs.declared.faults.ReducerFault.{ReducerFault}
 use Rattle.trace_reduce.specs.declared.faults.ReducerFault.TheVariants.{Unbalanced, TooHeavy, Memory}
 use Rattle.trace_reduce.specs.declared.limited_tape.LimitedTape.{LimitedTape}
 use Rattle.trace_reduce.specs.LimitedTape.{IsSoFar}
-use Rattle.trace_reduce.specs.Answers.{IsTooHeavy, IsWeighed, IsAnswer, AnswersAreExact, ReductionsAreExact, reported_weight}
+use Rattle.trace_reduce.specs.Answers.{IsTooHeavy, IsWeighed, IsAnswer, AnswersAreExact, ReductionsAreExact, reported_place, reported_weight}
 
 -- a result for tapes of one kind is a result for tapes of another
 pub weighed_as : (P Q : Tape → Type 0) (most : ℕ) → ((tape : Tape) → P tape → Q tape) → (answer : Result Tape ReducerFault)
@@ -56,9 +56,10 @@ module _ (one : LogTapeIsOne) where
       }
   exact most log (Err (Unbalanced event)) h =
       record {
-        unbalanced = λ number is. inl (ap (λ n. Err (Unbalanced n)) (some_same (first_unbalanced log) event number h is));
-        heavy = λ tape balanced is passes. absurd (none_some (first_unbalanced log) event balanced h);
-        light = λ tape balanced is weight. absurd (none_some (first_unbalanced log) event balanced h);
+        unbalanced = λ place is.
+            inl (ap (λ n. Err (Unbalanced n)) (h.reported ∙ ap reported_place (some_same (first_unbalanced log) h.place place h.first is)));
+        heavy = λ tape balanced is passes. absurd (none_some (first_unbalanced log) h.place balanced h.first);
+        light = λ tape balanced is weight. absurd (none_some (first_unbalanced log) h.place balanced h.first);
       }
   exact most log (Err (TooHeavy weight)) h =
       record {

@@ -9,6 +9,8 @@ use Rattle.std.proofs.lemmas.Option.{slice_get_past}
 use Rattle.std.proofs.lemmas.List.{length-append, length-take, take-append-drop}
 use Rattle.base.proofs.Lists.{get_front, get_after_by}
 use Rattle.base.proofs.Options.{or_none, or_assoc}
+pub use Rattle.history_spec.proofs.PlacedBytes.{byte_past as among_past}
+use Rattle.history_spec.proofs.PlacedBytes.{byte_below, byte_moved}
 use Rattle.record_replay_spec.specs.Known.{byte_among}
 use Rattle.trace_reduce.specs.declared.byte_groups.TheConstants.{GROUP}
 use Rattle.trace_reduce.specs.ByteGroups.{AreInOrder, TakesFront, both_slots, bytes_of, byte_at, group_byte, merged_from, merged_groups, slot_at, slot_bytes}
@@ -44,23 +46,6 @@ among_append start front later at = go (nat_le start at) refl (nat_le (start + l
         ∙ sym (ap (λ o. option_or o (byte_among (start + length front) later at)) (among_before start front at before)
         ∙ among_before (start + length front) later at past)
 
-pub among_past : (start : ℕ) (run : List ℕ) (at : ℕ) → start + length run ≤ at → byte_among start run at ≡ None
-among_past start run at past =
-    let from : nat_le start at ≡ true = grind (arith, nat_tests, past) in
-    among_within start run at from ∙ slice_get_past run (at - start) (omega (arith, past))
-
-among_under : (start : ℕ) (run : List ℕ) (at : ℕ) → at < start → byte_among start run at ≡ None
-among_under start run at less =
-    among_before start run at (grind (arith, nat_tests, less))
-
--- the byte at an address, with both addresses moved
-among_moved : (by start : ℕ) (run : List ℕ) (at : ℕ)
-    → byte_among (by + start) run (by + at) ≡ byte_among start run at
-among_moved by start run at =
-    let test : nat_le (by + start) (by + at) ≡ nat_le start at = grind (arith, nat_tests) in
-    let place : (by + at) - (by + start) ≡ at - start = omega arith in
-    (λ i. cond (test i) (slice_get run (place i)) None)
-
 -- ---- one group
 
 -- a group has the bytes for the addresses from `at` on
@@ -77,11 +62,11 @@ group_has slots at front within has q = go (nat_eq (at / GROUP) (q / GROUP)) ref
         let place : q ≡ GROUP * (at / GROUP) + q % GROUP = omega (arith, group) in
         has (q % GROUP)
         ∙ sym ((λ i. byte_among (from i) front (place i))
-        ∙ among_moved (GROUP * (at / GROUP)) (at % GROUP) front (q % GROUP))
+        ∙ byte_moved (GROUP * (at / GROUP)) (at % GROUP) front (q % GROUP))
     go false apart = sym (outside (nat_lt q at) refl)
       where
         outside : (b : Bool) → nat_lt q at ≡ b → byte_among at front q ≡ None
-        outside true less = among_under at front q (grind (arith, nat_tests, less))
+        outside true less = byte_below at front q (grind (arith, nat_tests, less))
         outside false past =
             let after : at ≤ q = grind (arith, nat_tests, past) in
             let other : at / GROUP ≡ q / GROUP → ⊥ = grind (arith, nat_tests, apart) in

@@ -2,6 +2,7 @@ mod Firsts
 mod Bytes
 mod Groups
 mod Answers
+pub mod Places
 mod Ordered
 mod Parts
 mod Fitting

@@ -1,5 +1,5 @@
 -- What a reducer holds of the events of a log, event by event, and at the end.
-use Rattle.std.proofs.Common.{◌≡◌, ℕ, suc, ◌+◌, List, [], ◌∷◌, ◌++◌, length, Option, Some, None, Bool, true, false, cond, ◌||◌, nat_lt, refl, sym, ap, ◌∙◌, subst, arith}
+use Rattle.std.proofs.Common.{◌≡◌, ℕ, suc, ◌+◌, ◌-◌, ◌^◌, min, List, [], ◌∷◌, ◌++◌, length, Option, Some, None, Bool, true, false, cond, ◌||◌, nat_lt, refl, sym, ap, ◌∙◌, subst, arith}
 use Rattle.std.specs.Option.{is_none, option_map_or}
 use Rattle.std.proofs.lemmas.List.{append_assoc, append-nil, length-append}
 use Rattle.base.specs.declared.outcomes.Outcome.{Outcome}
@@ -14,6 +14,7 @@ use Rattle.trace_model.specs.declared.tapes.Next.TheVariants.{End, Trap}
 use Rattle.trace_model.specs.Balance.{balance_start, balanced_step, calls_import, ends_so, is_empty_stack, is_function, unbalanced_from, first_unbalanced}
 use Rattle.record_replay_spec.specs.LogTapes.{Mark, Begins, Ends, Finds, LogFrame, InCall, frames_after, is_at_host, event_marks, import_marks, mark_if, size_after, is_trapped_call, marks_from, outcome_marks, log_marks}
 use Rattle.trace_reduce.specs.declared.builder.TapeBuilder.{TapeBuilder}
+use Rattle.trace_reduce.specs.Answers.{IsFirstUnbalanced, reported_place}
 use Rattle.trace_reduce.specs.Builder.{IsAtHost, IsInWindow, TakesMarks, end_marks}
 use Rattle.trace_reduce.specs.Reducer.{log_frames, IsBuilt, IsInOrder, last_marks}
 use Rattle.trace_reduce.proofs.EventSteps.{is_pre, Moves, Follows, follows}
@@ -106,6 +107,10 @@ module _ (n size : ℕ) (frames : List LogFrame) (before marks : List Mark) wher
 
 -- ---- one more event
 
+one_more_counted : (count long more : ℕ) → count ≡ reported_place long → more ≡ long + 1
+    → min (count + 1) (2 ^ 64 - 1) ≡ reported_place more
+one_more_counted count long more counted is = grind (arith, counted, is)
+
 module _ (n size count : ℕ) (balance : Balance) (builder : TapeBuilder) (taken : List Event) (event : Event)
     (h : IsInOrder n balance builder size count taken) where
   abbrev all : List Event
@@ -174,10 +179,10 @@ module _ (n size count : ℕ) (balance : Balance) (builder : TapeBuilder) (taken
     pub next_in_order :
         ((frames : List LogFrame) → is_at_host n frames ≡ is_none builder.next
         → TakesMarks builder (event_marks n frames (log_frames next.frames) size event) new)
-        → IsInOrder n next new (size_after size event) (count + 1) all
+        → IsInOrder n next new (size_after size event) (min (count + 1) (2 ^ 64 - 1)) all
     next_in_order reports =
         record {
-          counted = omega (arith, h.counted, length-append taken (event ∷ []));
+          counted = one_more_counted count (length taken) (length all) h.counted (length-append taken (event ∷ []));
           balanced =
               λ outcome later. balanced_so_far outcome later
               ∙ ap (λ o. option_map_or (λ next. unbalanced_from n (suc (length taken)) next outcome later) o
@@ -206,9 +211,13 @@ module _ (n size count : ℕ) (balance : Balance) (builder : TapeBuilder) (taken
       ap (unbalanced_from n 0 balance_start outcome) (sym (append-nil taken)) ∙ h.balanced outcome []
 
   pub ends_wrong : ends_so n balance outcome ≡ false
-      → first_unbalanced (record { imports = n; events = taken; outcome = outcome }) ≡ Some count
+      → IsFirstUnbalanced (record { imports = n; events = taken; outcome = outcome }) count
   ends_wrong wrong =
-      at_end ∙ ap (λ b. cond b None (Some (length taken))) wrong ∙ ap Some (sym h.counted)
+      record {
+        place = length taken;
+        first = at_end ∙ ap (λ b. cond b None (Some (length taken))) wrong;
+        reported = h.counted;
+      }
 
   pub ends_right : ends_so n balance outcome ≡ true
       → first_unbalanced (record { imports = n; events = taken; outcome = outcome }) ≡ None

@@ -1,5 +1,5 @@
 -- What a reducer has taken, call by call, and what it returns.
-use Rattle.std.proofs.Common.{◌≡◌, ℕ, ◌+◌, List, [], ◌∷◌, ◌++◌, Option, Some, Result, Ok, Err, Bool, true, false, not, OnOk, refl, sym, ap, ◌∙◌, subst}
+use Rattle.std.proofs.Common.{◌≡◌, ℕ, ◌+◌, ◌-◌, ◌^◌, min, List, [], ◌∷◌, ◌++◌, Option, Some, Result, Ok, Err, Bool, true, false, not, OnOk, refl, sym, ap, ◌∙◌, subst}
 use Rattle.std.proofs.lemmas.List.{append_assoc, append-nil}
 use Rattle.base.specs.declared.no_memory.NoMemory.{NoMemory}
 use Rattle.base.specs.declared.outcomes.Outcome.{Outcome}
@@ -9,7 +9,7 @@ use Rattle.trace_model.specs.declared.events.Event.{Event}
 use Rattle.trace_model.specs.declared.events.Log.{Log}
 use Rattle.trace_model.specs.declared.tapes.Origin.TheVariants.{Begin}
 use Rattle.trace_model.specs.declared.tapes.Tape.{Tape}
-use Rattle.trace_model.specs.Balance.{Takes, balance_start, balanced_step, ends_so, first_unbalanced, unbalanced_from}
+use Rattle.trace_model.specs.Balance.{Takes, balance_start, balanced_step, ends_so, unbalanced_from}
 use Rattle.trace_model.specs.Sink.{TookAlso}
 use Rattle.record_replay_spec.specs.LogTapes.{Mark, Begins, outcome_marks, size_after, AreLogSegments}
 use Rattle.trace_reduce.specs.declared.builder.TapeBuilder.{TapeBuilder}
@@ -17,8 +17,8 @@ use Rattle.trace_reduce.specs.declared.reducer.Progress.TheVariants.{InOrder, Un
 use Rattle.trace_reduce.specs.declared.faults.ReducerFault.{ReducerFault}
 use Rattle.trace_reduce.specs.declared.reducer.Reducer.{Reducer}
 use Rattle.trace_reduce.specs.Builder.{IsAtHost, IsInWindow, end_marks}
-use Rattle.trace_reduce.specs.Reducer.{HasReached, HasTaken, IsInOrder, IsPart, TakesEvent, Reports, last_marks, most_of}
-use Rattle.trace_reduce.specs.Answers.{IsAnswer, IsWeighed}
+use Rattle.trace_reduce.specs.Reducer.{HasReached, HasTaken, HasTakenSince, IsInOrder, IsPart, IsUnbalanced, TakesEvent, Reports, last_marks, most_of}
+use Rattle.trace_reduce.specs.Answers.{IsAnswer, IsFirstUnbalanced, IsWeighed}
 use Rattle.trace_reduce.proofs.Answers.{answer_in_order}
 use Rattle.trace_reduce.proofs.Marks.{all_marks, ends_right, ends_wrong, next_in_order}
 
@@ -53,8 +53,9 @@ pub takes_some : {A : Type 0} (may : Bool) (now : A) (after : Option A) → Take
 takes_some true now after h holds = h
 takes_some false now after h holds = cc
 
-pub event_taken : (old : Reducer) (balance : Balance) (new : Reducer) (event : Event)
+pub event_taken : (old : Reducer) (balance : Balance) (count : ℕ) (new : Reducer) (event : Event)
     (answer : Result (Unit {0}) NoMemory)
+    → count ≡ min (old.count + 1) (2 ^ 64 - 1)
     → balanced_step old.imports old.balance event ≡ Some balance
     → new.imports ≡ old.imports
     → OnOk answer
@@ -64,22 +65,22 @@ pub event_taken : (old : Reducer) (balance : Balance) (new : Reducer) (event : E
       balance = balance;
       builder = old.builder;
       size = old.size;
-      count = old.count + 1;
+      count = count;
       progress = old.progress;
     })
     event new)
     → OnOk answer (old.progress ≡ InOrder → TakesEvent old event new)
-event_taken old balance new event (Ok it) step imports t =
+event_taken old balance count new event (Ok it) counted step imports t =
     λ is taken h.
     subst (λ progress. HasReached progress new (taken ++ event ∷ [])) (sym (t.progress ∙ is))
     (subst (λ n. IsInOrder n new.balance new.builder new.size new.count (taken ++ event ∷ [])) (sym imports)
     (subst (λ b. IsInOrder old.imports b new.builder new.size new.count (taken ++ event ∷ [])) (sym t.balance)
     (subst (λ s. IsInOrder old.imports balance new.builder s new.count (taken ++ event ∷ [])) (sym t.size)
     (subst (λ k. IsInOrder old.imports balance new.builder (size_after old.size event) k (taken ++ event ∷ []))
-    (sym t.count)
+    (sym (t.count ∙ counted))
     (next_in_order old.imports old.size old.count old.balance old.builder taken event h balance new.builder step
     t.marks)))))
-event_taken old balance new event (Err refused) step imports t = tt
+event_taken old balance count new event (Err refused) counted step imports t = tt
 
 -- ---- results
 
@@ -89,14 +90,20 @@ reached reducer taken is h = subst (λ progress. HasReached progress reducer tak
 
 pub unbalanced_answer : (reducer : Reducer) (number : ℕ) (taken : List Event) (outcome : Outcome)
     → reducer.progress ≡ Unbalanced number → HasTaken reducer taken
-    → first_unbalanced (record { imports = reducer.imports; events = taken; outcome = outcome }) ≡ Some number
+    → IsFirstUnbalanced (record { imports = reducer.imports; events = taken; outcome = outcome }) number
 unbalanced_answer reducer number taken outcome is h =
-    ap (unbalanced_from reducer.imports 0 balance_start outcome) (sym (append-nil taken))
-    ∙ subst (λ progress. HasReached progress reducer taken) is h outcome []
+    let stuck : IsUnbalanced reducer.imports taken number =
+    subst (λ progress. HasReached progress reducer taken) is h in
+    record {
+      place = stuck.place;
+      first = ap (unbalanced_from reducer.imports 0 balance_start outcome) (sym (append-nil taken))
+          ∙ stuck.first outcome [];
+      reported = stuck.reported;
+    }
 
 pub wrong_answer : (reducer : Reducer) (taken : List Event) (outcome : Outcome) → reducer.progress ≡ InOrder
     → ends_so reducer.imports reducer.balance outcome ≡ false → HasTaken reducer taken
-    → first_unbalanced (record { imports = reducer.imports; events = taken; outcome = outcome }) ≡ Some reducer.count
+    → IsFirstUnbalanced (record { imports = reducer.imports; events = taken; outcome = outcome }) reducer.count
 wrong_answer reducer taken outcome is wrong h =
     ends_wrong reducer.imports reducer.size reducer.count reducer.balance reducer.builder taken outcome
     (reached reducer taken is h) wrong
@@ -123,7 +130,7 @@ tape_answer reducer taken outcome most answer is right window host h =
 -- ---- the events of a balanced log
 
 pub part_more : (old new : Reducer) (event copy : Event) (answer : Result (Unit {0}) NoMemory) → copy ≡ event
-    → OnOk answer (TookAlso HasTaken old new (copy ∷ [])) → new.imports ≡ old.imports
+    → OnOk answer (TookAlso HasTakenSince old new (copy ∷ [])) → new.imports ≡ old.imports
     → most_of new ≡ most_of old
     → OnOk answer ((n most : ℕ) (all later : List Event) → IsPart n most all (event ∷ later) old
     → IsPart n most all later new)
@@ -132,7 +139,8 @@ part_more old new event copy (Ok it) same took imports limit =
     record {
       taken = h.taken ++ event ∷ [];
       whole = append_assoc h.taken (event ∷ []) later ∙ h.whole;
-      has = subst (λ e. HasTaken new (h.taken ++ e ∷ [])) same (took h.taken h.has);
+      has = subst (λ e. HasTaken new (h.taken ++ e ∷ [])) same
+          (took old h.taken (record { has = h.has; imports_are = refl; most_is = refl })).has;
       imports = imports ∙ h.imports;
       limit = limit ∙ h.limit;
     }

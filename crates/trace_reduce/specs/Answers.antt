@@ -14,6 +14,17 @@ use Rattle.trace_reduce.specs.declared.faults.ReducerFault.TheVariants.{Unbalanc
 abbrev pub reported_weight : Tape → ℕ
 reported_weight tape = min (tape_weight tape) (2 ^ 64 - 1)
 
+-- the number that is reported for a place in a log: the place, or the greatest number of 64 bits if it is more
+abbrev pub reported_place : ℕ → ℕ
+reported_place place = min place (2 ^ 64 - 1)
+
+-- the number that is reported for the first event of a log that is not allowed, or for its outcome if only that is not
+-- allowed
+pub record IsFirstUnbalanced (log : Log) (number : ℕ) : Type 0 where
+  pub place : ℕ
+  pub first : first_unbalanced log ≡ Some place
+  pub reported : number ≡ reported_place place
+
 -- one of these tapes weighs more than the limit, and its weight is reported
 pub record IsTooHeavy (IsTape : Tape → Type 0) (most weight : ℕ) : Type 0 where
   pub tape : Tape
@@ -32,7 +43,7 @@ IsWeighed IsTape most (Err Memory) = Unit {0}
 -- the log
 abbrev pub IsAnswer : (most : ℕ) → Log → Result Tape ReducerFault → Type 0
 IsAnswer most log (Ok tape) = IsBalanced log × (IsLogTape log tape × (tape_weight tape ≤ most))
-IsAnswer most log (Err (Unbalanced event)) = first_unbalanced log ≡ Some event
+IsAnswer most log (Err (Unbalanced event)) = IsFirstUnbalanced log event
 IsAnswer most log (Err (TooHeavy weight)) = IsBalanced log × IsTooHeavy (IsLogTape log) most weight
 IsAnswer most log (Err Memory) = Unit {0}
 
@@ -46,8 +57,8 @@ IsReduction log (Err faults.Memory) = Unit {0}
 
 -- a result that is due is returned, unless memory runs out; a log has at most one tape
 pub record IsExact (most : ℕ) (log : Log) (answer : Result Tape ReducerFault) : Type 0 where
-  pub unbalanced : (event : ℕ) → first_unbalanced log ≡ Some event
-      → (answer ≡ Err (Unbalanced event)) ⊎ (answer ≡ Err Memory)
+  pub unbalanced : (place : ℕ) → first_unbalanced log ≡ Some place
+      → (answer ≡ Err (Unbalanced (reported_place place))) ⊎ (answer ≡ Err Memory)
   pub heavy : (tape : Tape) → IsBalanced log → IsLogTape log tape → most < tape_weight tape
       → (answer ≡ Err (TooHeavy (reported_weight tape))) ⊎ (answer ≡ Err Memory)
   pub light : (tape : Tape) → IsBalanced log → IsLogTape log tape → tape_weight tape ≤ most

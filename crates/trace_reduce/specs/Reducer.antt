@@ -8,6 +8,7 @@ use Rattle.trace_model.specs.declared.balance.Balance.{Balance}
 use Rattle.trace_model.specs.declared.events.Event.{Event}
 use Rattle.trace_model.specs.Balance.{balance_start, is_function, unbalanced_from}
 use Rattle.record_replay_spec.specs.LogTapes.{Mark, LogFrame, InFunction, InCall, is_at_host, event_marks, size_after, marks_from, outcome_marks, log_marks}
+use Rattle.trace_reduce.specs.Answers.{reported_place}
 use Rattle.trace_reduce.specs.Builder.{IsAtHost, IsInWindow, TakesMarks}
 use Rattle.trace_reduce.specs.declared.builder.TapeBuilder.{TapeBuilder}
 use Rattle.trace_reduce.specs.declared.reducer.Progress.{Progress}
@@ -38,10 +39,11 @@ abbrev pub last_marks : Outcome → (called at_host : Bool) → (before marks : 
 last_marks Trapped true true before marks = before
 last_marks outcome called at_host before marks = marks
 
--- all events so far are balanced, and the reducer's state is that of these events
+-- all events so far are balanced, and the reducer's state is that of these events; their count stays at the greatest
+-- number of 64 bits
 pub record IsInOrder (n : ℕ) (balance : Balance) (builder : TapeBuilder) (size count : ℕ) (taken : List Event)
     : Type 0 where
-  pub counted : count ≡ length taken
+  pub counted : count ≡ reported_place (length taken)
   pub balanced : (outcome : Outcome) (later : List Event) → unbalanced_from n 0 balance_start outcome (taken ++ later)
       ≡ unbalanced_from n (length taken) balance outcome later
   pub stand : calls_stand balance.frames ≡ true
@@ -56,25 +58,41 @@ pub record IsInOrder (n : ℕ) (balance : Balance) (builder : TapeBuilder) (size
       ≡ last_marks outcome balance.called (is_at_host n (log_frames balance.frames)) before marks
       ++ outcome_marks outcome
 
+-- one of these events is the first that is not allowed, whatever comes after them, and this number is reported for it
+pub record IsUnbalanced (n : ℕ) (taken : List Event) (number : ℕ) : Type 0 where
+  pub place : ℕ
+  pub first : (outcome : Outcome) (later : List Event)
+      → unbalanced_from n 0 balance_start outcome (taken ++ later) ≡ Some place
+  pub reported : number ≡ reported_place place
+
 abbrev pub HasReached : Progress → Reducer → List Event → Type 0
 HasReached InOrder reducer taken =
     IsInOrder reducer.imports reducer.balance reducer.builder reducer.size reducer.count taken
-HasReached (Unbalanced number) reducer taken =
-    (outcome : Outcome) (later : List Event)
-    → unbalanced_from reducer.imports 0 balance_start outcome (taken ++ later) ≡ Some number
+HasReached (Unbalanced number) reducer taken = IsUnbalanced reducer.imports taken number
 HasReached Lost reducer taken = Unit {0}
 
 -- a reducer has taken these events
 abbrev pub HasTaken : Reducer → List Event → Type 0
 HasTaken reducer taken = HasReached reducer.progress reducer taken
 
--- the number of imported functions of the log's module; the limit of the tape's weight
+-- the number of imported functions of the log's module
 abbrev pub imports_of : Reducer → ℕ
 imports_of reducer = reducer.imports
 
 -- the limit of the tape's weight
 abbrev pub most_of : Reducer → ℕ
 most_of reducer = reducer.builder.tape.most
+
+-- a reducer for a log of a module that imports this number of functions, and for a tape of at most this weight, has
+-- taken these events
+pub record HasTakenFor (imports most : ℕ) (reducer : Reducer) (taken : List Event) : Type 0 where
+  pub has : HasTaken reducer taken
+  pub imports_are : imports_of reducer ≡ imports
+  pub most_is : most_of reducer ≡ most
+
+-- the reducer that began as the first has taken these events; what it was made for has not changed
+abbrev pub HasTakenSince : (first reducer : Reducer) → List Event → Type 0
+HasTakenSince first reducer taken = HasTakenFor (imports_of first) (most_of first) reducer taken
 
 -- one more event is taken, after balanced events
 abbrev pub TakesEvent : Reducer → Event → Reducer → Type 0

@@ -1,6 +1,6 @@
 // The tape of a log that is whole in memory.
 
-ghost use Rattle.std.specs.Prelude.{◌≡◌, ℕ, List, [], ◌∷◌, IfOk, OnOk};
+ghost use Rattle.std.specs.Prelude.{◌≡◌, ℕ, ◌^◌, ◌-◌, ◌≤◌, List, [], ◌∷◌, length, IfOk, OnOk};
 ghost use Rattle.trace_model.specs.declared.events.Event.{Event};
 ghost use Rattle.trace_model.specs.declared.events.Log.{Log};
 ghost use Rattle.trace_reduce.specs.Answers.{IsAnswer, IsReduction};
@@ -58,7 +58,8 @@ fn push_all(reducer: &mut Reducer, events: &[Event]) -> Result<(), NoMemory>
 
 /// The result without a limit of weight.
 fn of_any_weight(answer: Result<Tape, ReducerFault>) -> Result<Tape, ReduceFault>
-    ensures { (most : ℕ) (log : Log) → IsAnswer most log answer → IsReduction log result }
+    ensures { (most : ℕ) (log : Log) → length log.events ≤ 2 ^ 64 - 1 → IsAnswer most log answer
+        → IsReduction log result }
 {
     match answer {
         Ok(tape) => Ok(tape),

@@ -1,12 +1,12 @@
 // The reducer: it takes events one after another, and keeps only the tape of their log.
 
-ghost use Rattle.std.specs.Prelude.{◌≡◌, ◌+◌, ◌∷◌, List, [], Some, None, is_none, true, OnOk, OnErr};
+ghost use Rattle.std.specs.Prelude.{◌≡◌, ◌+◌, ◌∷◌, List, [], Some, None, is_none, OnOk, OnErr};
 ghost use Rattle.record_replay_spec.specs.LogTapes.{LogFrame, event_marks, import_marks, is_at_host};
 ghost use Rattle.trace_model.specs.Balance.{balanced_step};
 ghost use Rattle.trace_model.specs.Sink.{TookAlso};
 ghost use Rattle.trace_reduce.specs.Answers.{IsAnswer};
 ghost use Rattle.trace_reduce.specs.Builder.{TakesMarks, turn_marks};
-ghost use Rattle.trace_reduce.specs.Reducer.{HasTaken, TakesEvent, Reports, imports_of, log_frames, most_of};
+ghost use Rattle.trace_reduce.specs.Reducer.{HasTaken, HasTakenSince, TakesEvent, Reports, imports_of, log_frames, most_of};
 ghost use Rattle.trace_reduce.specs.declared.reducer.Progress.TheVariants.{InOrder};
 
 use crate::builder::{TapeBuilder, Turn};
@@ -16,7 +16,8 @@ use std::alloc::Global;
 use trace_model::balance::Frames;
 use trace_model::{Balance, Effect, Event, EventSink, Next, Origin, Tape};
 
-/// The state of a reducer: all events so far are balanced; the first unbalanced event; or memory was out.
+/// The state of a reducer: all events so far are balanced; the number reported for the first unbalanced event; or
+/// memory was out.
 #[derive(Clone, Copy)]
 pub(crate) enum Progress {
     InOrder,
@@ -97,21 +98,13 @@ impl Reducer {
         self.imports
     }
 
-    /// Whether the reducer was made for this number of imported functions and this limit of the tape's weight.
-    pub fn is_for(&self, imports: u32, most: u64) -> bool
-        ensures imports { result ≡ true → imports_of self.now ≡ imports }
-        ensures most { result ≡ true → most_of self.now ≡ most }
-    {
-        self.imports == imports && self.builder.tape.most == most
-    }
-
     /// Takes an event.
     ///
     /// # Errors
     /// `NoMemory` if an allocation failed; the tape is lost then, and each later call fails so too.
     pub fn push(&mut self, event: Event) -> Result<(), NoMemory>
-        ensures ok { OnOk result (TookAlso HasTaken self.old self.new (event ∷ [])) }
-        ensures refused { OnErr result (TookAlso HasTaken self.old self.new []) }
+        ensures ok { OnOk result (TookAlso HasTakenSince self.old self.new (event ∷ [])) }
+        ensures refused { OnErr result (TookAlso HasTakenSince self.old self.new []) }
         ensures imports { imports_of self.new ≡ imports_of self.old }
         ensures most { most_of self.new ≡ most_of self.old }
     {
@@ -133,15 +126,11 @@ impl Reducer {
         ensures imports { self.new.imports ≡ self.old.imports }
         ensures most { most_of self.new ≡ most_of self.old }
     {
-        // No run is that long.
-        if self.count == u64::MAX {
-            return Err(NoMemory);
-        }
         if !self.balance.step(self.imports, &event)? {
             self.progress = Progress::Unbalanced(self.count);
             return Ok(());
         }
-        self.count += 1;
+        self.count = self.count.saturating_add(1);
         self.report(event)
     }
 
@@ -172,8 +161,8 @@ impl Reducer {
     /// The tape of the log of the events, whose run ended with this outcome.
     ///
     /// # Errors
-    /// The first unbalanced event, or the outcome; the tape's weight if it is more than the limit; `Memory` if
-    /// an allocation failed.
+    /// The first unbalanced event, or the outcome, by its number from 0, which stays at `u64::MAX`; the tape's weight
+    /// if it is more than the limit; `Memory` if an allocation failed.
     pub fn finish(self, outcome: Outcome) -> Result<Tape, ReducerFault>
         ensures { (taken : List Event) → HasTaken self taken
             → IsAnswer (most_of self) (record { imports = imports_of self; events = taken; outcome = outcome })
@@ -193,9 +182,9 @@ impl Reducer {
 }
 
 impl EventSink for Reducer {
-    ghost use Rattle.trace_reduce.specs.Reducer.{HasTaken};
+    ghost use Rattle.trace_reduce.specs.Reducer.{HasTakenSince};
 
-    ghost has_taken = { HasTaken };
+    ghost has_taken = { HasTakenSince };
 
     fn event(&mut self, event: Event) -> Result<(), NoMemory> {
         self.push(event)

@@ -1,10 +1,11 @@
 -- What holds of each instruction of a body's list holds of those of its tree, and no instruction of the tree is
 -- refused if no instruction of the list is.
-use Rattle.std.proofs.Common.{◌≡◌, ℕ, suc, zero, ◌+◌, List, [], ◌∷◌, ◌++◌, Option, Some, None, Bool, true, false, cond, option_map, slice_get, refl, sym, subst}
+use Rattle.std.proofs.Common.{◌≡◌, ℕ, suc, zero, ◌+◌, List, [], ◌∷◌, ◌++◌, Some, None, Bool, true, false, cond, option_map, slice_get, refl, sym, subst}
 use Rattle.std.specs.Prelude.{filter, filter_map, flat_map}
-use Rattle.std.specs.List.{AllByRecursion, enumerate_from, cons_option}
+use Rattle.std.specs.List.{AllByRecursion, enumerate_from}
 use Rattle.std.proofs.lemmas.List.{append_assoc}
 use Rattle.base.proofs.Lists.{nil_parts}
+use Rattle.wasm_syntax.proofs.JoinedLists.{nil_option_of}
 use Rattle.wasm_syntax.specs.declared.instructions.Instr.{Instr}
 use Rattle.wasm_syntax.specs.declared.instructions.Instr.TheVariants.{Else, End, Numeric}
 use Rattle.wasm_syntax.specs.declared.modules.Func.{Func}
@@ -56,12 +57,6 @@ unnumbered End h = refl
 unnumbered (Numeric op) h = cc
 unnumbered i h = refl
 
--- if a list with an optional item in front is empty, the item and the rest are empty
-none_of : {X Y : Type 0} (f : X → Y) (o : Option X) (later : List Y) → cons_option (option_map f o) later ≡ []
-    → (o ≡ None) × (later ≡ [])
-none_of f None later h = (refl, h)
-none_of f (Some x) later h = cc
-
 none_in_body : (func start : ℕ) (body : List Instr)
     → filter_map (λ (i : ℕ × Instr). option_map (Unsupported func i.0) (refused_feature i.1))
     (enumerate_from start (filter is_numbered body)) ≡ [] → NoneIn body
@@ -77,7 +72,7 @@ none_in_body func start (i ∷ is) h = by (is_numbered i) refl (λ k g. none_in_
         (enumerate_from start (cond true (i ∷ filter is_numbered is) (filter is_numbered is))) ≡ [] =
         subst (λ b. filter_map (λ (j : ℕ × Instr). option_map (Unsupported func j.0) (refused_feature j.1))
         (enumerate_from start (cond b (i ∷ filter is_numbered is) (filter is_numbered is))) ≡ []) e h in
-        let p = none_of (Unsupported func start) (refused_feature i)
+        let p = nil_option_of (Unsupported func start) (refused_feature i)
         (filter_map (λ (j : ℕ × Instr). option_map (Unsupported func j.0) (refused_feature j.1))
         (enumerate_from (start + 1) (filter is_numbered is))) own in
         (p.0, later (start + 1) p.1)

@@ -9,13 +9,13 @@ use Rattle.history_spec.specs.Store.{Store}
 use Rattle.history_spec.specs.Code.{code_of}
 use Rattle.history_spec.specs.Configuration.{Place, place, Frame}
 use Rattle.history_spec.specs.Instruction.{block_arity, bits_at, choice, takes, enters, execute_at, execute}
+use Rattle.wasm_numeric.specs.Laws.{ResultsFit}
 use Rattle.type_safety.specs.Values.{AreValues}
 use Rattle.type_safety.specs.Stores.{func_count, IsStore}
 use Rattle.type_safety.specs.Frames.{Scope, IsCode, base_of, IsAround, IsFrame}
 use Rattle.type_safety.specs.Configurations.{IsGoing}
 use Rattle.type_safety.proofs.Values.{length_values}
 use Rattle.type_safety.proofs.Codes.{of_plain, of_block, of_loop, of_if, of_if_else}
-use Rattle.type_safety.proofs.Numbers.{ResultsFit}
 use Rattle.type_safety.specs.Results.{HasRule}
 use Rattle.type_safety.proofs.Fine.{takes_fine, enters_fine}
 use Rattle.type_safety.proofs.Instructions.{HaveTypes, plain_fine}

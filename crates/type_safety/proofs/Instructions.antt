@@ -26,12 +26,13 @@ use Rattle.history_spec.specs.Code.{code_of, signature}
 use Rattle.history_spec.specs.Numeric.{NumericValue, Computed, Undefined, Unsupported, numeric_value}
 use Rattle.history_spec.specs.Configuration.{Place, Label, Frame}
 use Rattle.history_spec.specs.Instruction.{Execution, on, bits_at, gives, choice, branch, calls, calls_if, calls_entry, reference, numeric_result, type_of_top, execute_plain, takes}
+use Rattle.wasm_numeric.specs.Laws.{ResultsFit}
 use Rattle.type_safety.specs.Values.{count_of, IsValue, AreValues}
 use Rattle.type_safety.specs.Stores.{func_count, global_types, IsTable, IsStore}
 use Rattle.type_safety.specs.Frames.{Scope, context, IsCode, base_of, AreLabels, IsAround}
 use Rattle.type_safety.proofs.Values.{split_values, value_at, set_value, length_values}
 use Rattle.type_safety.proofs.Constants.{constant_value}
-use Rattle.type_safety.proofs.Numbers.{ResultsFit, IsNumber, number_fine, operands_reversed}
+use Rattle.type_safety.proofs.Numbers.{IsNumber, number_fine, operands_reversed}
 use Rattle.type_safety.proofs.Tables.{table_there}
 use Rattle.type_safety.proofs.InstrTypes.{mapped_leads, then_leads, cond_leads, ready}
 use Rattle.type_safety.specs.Results.{HasRule}

@@ -8,6 +8,7 @@ use Rattle.std.proofs.lemmas.Option.{slice_get-map, cond_some}
 use Rattle.base.proofs.Options.{and_then_some}
 use Rattle.base.proofs.Booleans.{and_parts}
 use Rattle.type_safety.proofs.Quantities.{small_memories, small_tables}
+use Rattle.wasm_syntax.proofs.ValidParts.{single_is}
 use Rattle.wasm_syntax.specs.declared.limits.TheConstants.{MAX_ENTRIES, MAX_PAGES, PAGE_SIZE}
 use Rattle.wasm_syntax.specs.declared.values.ValType.{ValType}
 use Rattle.wasm_syntax.specs.declared.values.Val.{Val}
@@ -37,11 +38,6 @@ use Rattle.type_safety.proofs.Constants.{constant_value}
 use Rattle.type_safety.proofs.Memories.{memory_written}
 
 -- ---- constants
-
--- an expression of one instruction
-pub single_is : (body : List Instr) (i : Instr) → single body ≡ Some i → body ≡ i ∷ End ∷ []
-single_is (j ∷ End ∷ []) i h = let same : j ≡ i = cc in ap (λ k. k ∷ End ∷ []) same
-single_is body i h = cc
 
 -- an immutable type is the type of its global
 pub immutable : (g : GlobalType) (ty : ValType) → immutable_type g ≡ Some ty → g.ty ≡ ty

@@ -14,28 +14,10 @@ use Rattle.wasm_syntax.specs.Alike.{same_type, same_types}
 use Rattle.wasm_syntax.specs.Opcodes.{is_from, Shape, Row, row_of as shape_among, numeric_rows, numeric_shape}
 use Rattle.wasm_syntax.specs.Profile.{feature_of}
 use Rattle.wasm_numeric.specs.Integer.{BinaryValue, Bits, DivideByZero, Overflow}
-use Rattle.wasm_numeric.specs.Opcode.{NumType, I32 as N32, I64 as N64, F32 as NF32, F64 as NF64, Kind, Test, Compare, Unary, Binary, Convert, FloatComparison, FloatArithmetic, FloatConversion, NotNumeric, width, kind_of, row_of, result_of, width_of, test_of, compare_of, unary_of, binary_of, convert_of}
+use Rattle.wasm_numeric.specs.Laws.{ResultsFit}
+use Rattle.wasm_numeric.specs.Opcode.{NumType, I32 as N32, I64 as N64, F32 as NF32, F64 as NF64, Kind, Test, Compare, Unary, Binary, Convert, FloatComparison, FloatArithmetic, FloatConversion, NotNumeric, width, kind_of, row_of, test_of, compare_of, unary_of, binary_of, convert_of}
 use Rattle.history_spec.specs.Numeric.{NumericValue, Computed, Undefined, Unsupported, of_binary, of_one, of_two, numeric_value}
 use Rattle.type_safety.specs.Values.{count_of, AreValues}
-
--- the law of the results of operations, which the proofs below use
-pub record ResultsFit : Type 0 where
-  pub test : (op a : ℕ) → test_of op a ≤ 1
-  pub compare : (op a b : ℕ) → compare_of op a b ≤ 1
-  pub unary : (op a : ℕ) → kind_of op ≡ Unary → unary_of op a < 2 ^ width (result_of op)
-  pub binary : (op a b n : ℕ) → kind_of op ≡ Binary → a < 2 ^ width_of op → binary_of op a b ≡ Bits n
-      → n < 2 ^ width (result_of op)
-  pub convert : (op a : ℕ) → kind_of op ≡ Convert → a < 2 ^ width_of op → convert_of op a < 2 ^ width (result_of op)
-
-pub results_fit : ((op a : ℕ) → test_of op a ≤ 1)
-    → ((op a b : ℕ) → compare_of op a b ≤ 1)
-    → ((op a : ℕ) → kind_of op ≡ Unary → unary_of op a < 2 ^ width (result_of op))
-    → ((op a b n : ℕ) → kind_of op ≡ Binary → a < 2 ^ width_of op → binary_of op a b ≡ Bits n
-    → n < 2 ^ width (result_of op))
-    → ((op a : ℕ) → kind_of op ≡ Convert → a < 2 ^ width_of op → convert_of op a < 2 ^ width (result_of op))
-    → ResultsFit
-results_fit test compare unary binary convert =
-    record { test = test; compare = compare; unary = unary; binary = binary; convert = convert }
 
 -- ---- the two tables agree
 

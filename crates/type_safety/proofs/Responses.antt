@@ -4,6 +4,7 @@ use Rattle.std.specs.Prelude.{IfSome, All}
 use Rattle.std.specs.List.{AllZip}
 use Rattle.base.proofs.Lists.{all_at}
 use Rattle.base.proofs.Options.{and_then_some}
+use Rattle.wasm_syntax.proofs.FuncTypes.{TypeIndex, type_index}
 use Rattle.wasm_syntax.specs.declared.signatures.FuncType.{FuncType}
 use Rattle.wasm_syntax.specs.declared.modules.Module.{Module}
 use Rattle.wasm_syntax.specs.Index.{of_kind, func_import, func_indices}
@@ -57,8 +58,8 @@ response_fits m answers import number ty response fit has_type is =
     outer : (o : Option Answer) × (slice_get answers import ≡ Some o) × (o ≡ Some found.0)
     outer = and_then_some (slice_get answers import) (λ a. a) found.0 found.1
 
-    index : (t : ℕ) × (slice_get (func_indices m) import ≡ Some t) × (slice_get m.types t ≡ Some ty)
-    index = and_then_some (slice_get (func_indices m) import) (λ t. slice_get m.types t) ty has_type
+    index : TypeIndex m import ty
+    index = type_index m import ty has_type
 
     kind : (t : ℕ) × (slice_get (func_indices m) import ≡ Some t) × FitsImport m t outer.0
     kind = zip_at (FitsImport m) (of_kind func_import m.imports) (map (λ f. f.ty) m.funcs) answers import outer.0 fit

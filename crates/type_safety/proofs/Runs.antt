@@ -25,11 +25,11 @@ use Rattle.history_spec.specs.Step.{Program, Progress, Running, Finished, Faulte
 use Rattle.history_spec.specs.Settle.{deliver}
 use Rattle.history_spec.specs.Run.{Meter, steps, run_from, program_of, start_in_store, start_or_fault, start_with_supply, run_start}
 use Rattle.history_spec.specs.Replay.{alone, program_alone, start_alone_or_fault, run_start_alone}
+use Rattle.wasm_numeric.specs.Laws.{ResultsFit}
 use Rattle.type_safety.specs.Stores.{IsStore}
 use Rattle.type_safety.specs.Heights.{Heights}
 use Rattle.type_safety.specs.Configurations.{scope, IsTypedCode, IsConfig, IsSafe, IsProgram}
 use Rattle.type_safety.specs.Supplies.{HasBytes, IsSupply}
-use Rattle.type_safety.proofs.Numbers.{ResultsFit}
 use Rattle.type_safety.proofs.Execution.{execute_fine}
 use Rattle.type_safety.specs.Laws.{CallsAreSafe, FittingActionsHaveResults, InstructionsHaveRules, ResultsAreSafe, RunsAloneAreNeverStuck, RunsAreNeverStuck}
 use Rattle.type_safety.proofs.Actions.{act_fine}

@@ -20,13 +20,13 @@ use Rattle.history_spec.specs.Instruction.{Control, Goes, Calls, Returns, Execut
 use Rattle.history_spec.specs.Action.{ActionResult, Changes, Enters, Fails, Unfit, perform}
 use Rattle.history_spec.specs.Settle.{SettleEnd, Continues, Finishes, NoRule as NoneHolds, deliver, settle}
 use Rattle.history_spec.specs.Step.{Program, progress_of, after_settling, frame_of, enter_defined, enter_function, response_to, answer_call, call_function, after_control, after_instruction, after_action, step_of, step, start_with_call}
+use Rattle.wasm_numeric.specs.Laws.{ResultsFit}
 use Rattle.type_safety.specs.Values.{AreValues}
 use Rattle.type_safety.specs.Stores.{func_count, IsStore}
 use Rattle.type_safety.specs.Frames.{IsFrame}
 use Rattle.type_safety.specs.Heights.{Heights}
 use Rattle.type_safety.specs.Configurations.{scope, IsTypedCode, Accept, IsAtStep, IsConfig, IsSafe}
 use Rattle.type_safety.proofs.Values.{append_values, zero_values}
-use Rattle.type_safety.proofs.Numbers.{ResultsFit}
 use Rattle.type_safety.proofs.SettleEnds.{IsSettleEnd, deliver_safe, settle_safe}
 use Rattle.type_safety.specs.Results.{HasRule, IsControl}
 use Rattle.type_safety.proofs.Execution.{execute_fine}

@@ -1,5 +1,5 @@
 -- The supply of a script that fits a module, if it links, matches the imports.
-use Rattle.std.proofs.Common.{◌≡◌, ℕ, ◌+◌, List, [], ◌∷◌, ◌++◌, length, Option, Some, None, Ok, Bool, true, false, map, option_and_then, slice_get, refl, sym, ap, ◌∙◌, subst, arith}
+use Rattle.std.proofs.Common.{◌≡◌, ℕ, ◌+◌, List, [], ◌∷◌, ◌++◌, length, Option, Some, None, Bool, true, false, map, option_and_then, slice_get, refl, sym, ap, ◌∙◌, subst, arith}
 use Rattle.std.specs.Prelude.{IsTrue, IfSome, All}
 use Rattle.std.specs.List.{cons_option}
 use Rattle.std.proofs.lemmas.Bool.Decides.{nat_tests}
@@ -17,9 +17,8 @@ use Rattle.wasm_syntax.specs.Alike.{same_type}
 use Rattle.wasm_syntax.specs.Index.{of_kind, memory_import, table_import, global_import}
 use Rattle.wasm_syntax.specs.Typing.{is_constant}
 use Rattle.host_script.specs.declared.scripts.Script.{Script}
-use Rattle.host_script.specs.declared.scripts.Supply.{Supply}
-use Rattle.host_script.specs.declared.scripts.LinkFault.{LinkFault}
-use Rattle.host_script.specs.Supply.{keeps_max, limits_match, ImportMatch, Nothing, Unlike, Alike, alike_if, match_of_limits, match_of_value, import_match, globals_in, fault_or, first_fault, given_values, if_imported, supply_for, supply_unless}
+use Rattle.host_script.specs.Supply.{keeps_max, limits_match, Nothing, Alike, alike_if, match_of_limits, match_of_value, import_match, globals_in, first_fault, given_values, if_imported, supply_for}
+use Rattle.host_script.proofs.Faults.{no_fault, no_link_fault}
 use Rattle.type_safety.specs.Values.{IsValue, AreValues}
 use Rattle.type_safety.specs.Stores.{func_count}
 use Rattle.type_safety.specs.Supplies.{Match, IsSupply}
@@ -33,12 +32,6 @@ max_kept (Some max) = grind (arith, nat_tests)
 alike_true : (b : Bool) → alike_if b ≡ Alike → b ≡ true
 alike_true true h = refl
 alike_true false h = cc
-
-no_fault : (s : ImportMatch) (at : ℕ) (later : Option LinkFault) → fault_or s at later ≡ None
-    → (s ≡ Alike) × (later ≡ None)
-no_fault Nothing at later h = cc
-no_fault Unlike at later h = cc
-no_fault Alike at later h = (refl, h)
 
 limits_matched : (most : ℕ) (given : Option Limits) (wanted : Limits) (more : List Limits)
     → match_of_limits most given wanted ≡ Alike → Match most (wanted ∷ more) given
@@ -129,11 +122,6 @@ module _ (script : Script) where
       (first_fault script imports (at + 1) (globals + globals_in i.kind)) h in
       global_matched n (of_kind global_import imports) globals i.kind p.0
       (globals_matched n imports (at + 1) (globals + globals_in i.kind) p.1) before given is size count each
-
-no_link_fault : (o : Option LinkFault) (made supply : Supply) → supply_unless o made ≡ Ok supply
-    → (o ≡ None) × (made ≡ supply)
-no_link_fault None made supply h = (refl, cc)
-no_link_fault (Some fault) made supply h = cc
 
 -- the supply of a script that fits matches the imports
 pub supply_fits : SuppliesMatch

@@ -6,7 +6,7 @@ use Rattle.std.proofs.lemmas.Bool.{le-ltb}
 use Rattle.std.proofs.lemmas.List.Elements.{recursion_from_All}
 use Rattle.std.proofs.lemmas.Option.{slice_get-map}
 use Rattle.base.proofs.Lists.{get_after, all_at, item_there}
-use Rattle.base.proofs.Options.{and_then_some, map_some}
+use Rattle.base.proofs.Options.{map_some}
 use Rattle.wasm_syntax.specs.declared.signatures.FuncType.{FuncType}
 use Rattle.wasm_syntax.specs.declared.modules.Module.{Module}
 use Rattle.wasm_syntax.specs.declared.modules.Func.{Func}
@@ -20,7 +20,7 @@ use Rattle.type_safety.specs.Frames.{IsCode}
 use Rattle.type_safety.specs.Heights.{Heights, IsTypedWith, AreHeights, height}
 use Rattle.type_safety.specs.Configurations.{scope, IsTypedCode}
 use Rattle.type_safety.specs.Laws.{ValidCodeHasHeights}
-use Rattle.wasm_syntax.proofs.FuncTypes.{func_types_there}
+use Rattle.wasm_syntax.proofs.FuncTypes.{func_types_there, TypeIndex, type_index}
 use Rattle.wasm_syntax.proofs.Nests.{nest_of_body}
 use Rattle.type_safety.proofs.Bodies.{body_supported}
 
@@ -72,8 +72,8 @@ module _ (m : Module) (heights : Heights) (valid : IsValid m) (supported : IsSup
       × IsCode (scope m heights func ty body) [] (place body.body 0) 0 [] (reverse ty.results)
   body_typed func ty own is = (body, defined, code)
     where
-      index : (t : ℕ) × (slice_get (func_indices m) func ≡ Some t) × (slice_get m.types t ≡ Some ty)
-      index = and_then_some (slice_get (func_indices m) func) (λ t. slice_get m.types t) ty is
+      index : TypeIndex m func ty
+      index = type_index m func ty is
 
       found : (f : Func) × (slice_get m.funcs (func - imported_funcs m) ≡ Some f) × (f.ty ≡ index.0)
       found = map_some (λ (f : Func). f.ty) (slice_get m.funcs (func - imported_funcs m)) index.0

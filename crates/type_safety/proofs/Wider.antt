@@ -1,6 +1,5 @@
 -- An instruction that leads from one stack to another does so in a wider context too, with functions renumbered.
-use Rattle.std.proofs.Common.{◌≡◌, ℕ, zero, suc, List, [], ◌∷◌, ◌++◌, Option, Some, None, Bool, true, false, cond, slice_get, option_map, option_and_then, refl, sym, ap, ◌∙◌, subst}
-use Rattle.std.specs.List.{AllByRecursion}
+use Rattle.std.proofs.Common.{◌≡◌, ℕ, zero, suc, List, [], ◌∷◌, Option, Some, None, Bool, true, false, cond, slice_get, option_map, option_and_then, refl, sym, ap, ◌∙◌, subst}
 use Rattle.std.proofs.lemmas.List.Elements.{All-weaker}
 use Rattle.std.proofs.lemmas.Option.{none-some}
 use Rattle.base.proofs.Options.{cond_some, map_wider}
@@ -155,10 +154,3 @@ inside_wider to label ctx wider w =
       labels = label_inside label ctx.labels wider.labels w.labels;
       results = w.results;
     }
-
--- ---- bodies
-
-pub both_parts : {X : Type 0} (P : X → Type 0) (xs ys : List X) → AllByRecursion P (xs ++ ys)
-    → AllByRecursion P xs × AllByRecursion P ys
-both_parts P [] ys h = (tt, h)
-both_parts P (x ∷ xs) ys h = let later = both_parts P xs ys h.1 in ((h.0, later.0), later.1)

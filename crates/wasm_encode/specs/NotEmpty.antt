@@ -1,11 +1,10 @@
 -- No encoding of an item is empty.
-use Rattle.std.specs.Prelude.{ℕ, ◌<◌, length, IsUtf8}
+use Rattle.std.specs.Prelude.{◌<◌, length, IsUtf8}
 use Rattle.std.proofs.Common.{arith}
-use Rattle.leb_bytes.specs.Unsigned.{u32_bytes}
 use Rattle.wasm_syntax.specs.Encoding.Encodable.{FitsDataSeg, FitsElemSeg, FitsExport, FitsFunc, FitsFuncType, FitsGlobal, FitsImport, FitsInstr, FitsRun}
 use Rattle.wasm_syntax.specs.Encoding.Modules.{code_of}
 use Rattle.wasm_syntax.specs.Encoding.Sections.{CustomSection}
-use Rattle.wasm_syntax.specs.Encoding.Shortest.{code_bytes, data_bytes, elem_bytes, export_bytes, func_type_bytes, global_bytes, import_bytes, instr_bytes, limits_bytes, run_bytes, section_bytes}
+use Rattle.wasm_syntax.specs.Encoding.Shortest.{code_bytes, data_bytes, elem_bytes, export_bytes, func_type_bytes, global_bytes, import_bytes, instr_bytes, run_bytes, section_bytes}
 use Rattle.wasm_syntax.specs.declared.forms.Form.TheVariants as forms
 use Rattle.wasm_syntax.specs.declared.modules.Custom.{Custom}
 use Rattle.wasm_syntax.specs.declared.modules.DataSeg.{DataSeg}
@@ -16,19 +15,11 @@ use Rattle.wasm_syntax.specs.declared.modules.Global.{Global}
 use Rattle.wasm_syntax.specs.declared.modules.Import.{Import}
 use Rattle.wasm_syntax.specs.declared.modules.Run.{Run}
 use Rattle.wasm_syntax.specs.declared.signatures.FuncType.{FuncType}
-use Rattle.wasm_syntax.specs.declared.signatures.Limits.{Limits}
 use Rattle.wasm_syntax.specs.declared.instructions.Instr.{Instr}
-use Rattle.wasm_syntax.proofs.Encoding.NotEmpty.{code_bytes_some, data_bytes_some, elem_bytes_some, export_bytes_some, func_type_bytes_some, global_bytes_some, import_bytes_some, instr_bytes_some, limits_bytes_some, run_bytes_some}
-use Rattle.wasm_syntax.proofs.Encoding.Writing.{u32_some as u32_bytes_some}
-
-pub u32_some : (n : ℕ) → 0 < length (u32_bytes n)
-u32_some n = u32_bytes_some n
+use Rattle.wasm_syntax.proofs.Encoding.NotEmpty.{code_bytes_some, data_bytes_some, elem_bytes_some, export_bytes_some, func_type_bytes_some, global_bytes_some, import_bytes_some, instr_bytes_some, run_bytes_some}
 
 pub func_type_some : (ty : FuncType) → FitsFuncType ty → 0 < length (func_type_bytes ty)
 func_type_some ty fits = func_type_bytes_some ty
-
-pub limits_some : (limits : Limits) → 0 < length (limits_bytes limits)
-limits_some limits = limits_bytes_some limits
 
 pub instr_some : (instr : Instr) → FitsInstr forms.Replay instr → 0 < length (instr_bytes instr)
 instr_some instr fits = instr_bytes_some forms.Replay instr fits

@@ -4,12 +4,14 @@ ghost use Rattle.std.specs.Prelude.{◌≡◌, ◌++◌, length, IsUtf8};
 ghost use Rattle.std.proofs.Common.{rules};
 ghost use Rattle.leb_bytes.specs.Unsigned.{u32_bytes};
 ghost use Rattle.wasm_encode.specs.Lengths.{at_most_u64};
-ghost use Rattle.wasm_encode.specs.NotEmpty.{code_some, custom_some, data_some, elem_some, export_some, func_type_some, global_some, import_some, limits_some, run_some, u32_some};
+ghost use Rattle.wasm_encode.specs.NotEmpty.{code_some, custom_some, data_some, elem_some, export_some, func_type_some, global_some, import_some, run_some};
 ghost use Rattle.wasm_syntax.specs.Encoding.Encodable.{FitsDataSeg, FitsElemSeg, FitsExport, FitsFunc, FitsFuncType, FitsGlobal, FitsImport, FitsLimits, FitsRun, FitsU32, FitsValType};
 ghost use Rattle.wasm_syntax.specs.Encoding.Modules.{code_of};
 ghost use Rattle.wasm_syntax.specs.Encoding.Sections.{CustomSection};
 ghost use Rattle.wasm_syntax.specs.Encoding.Shortest.{body_bytes, code_bytes, data_bytes, elem_bytes, export_bytes, func_type_bytes, global_bytes, import_bytes, limits_bytes, run_bytes, section_bytes, table_type_bytes, val_type_bytes, vector_bytes};
 ghost use Rattle.wasm_syntax.specs.declared.forms.Form.TheVariants.{Replay};
+ghost use Rattle.wasm_syntax.proofs.Encoding.NotEmpty.{limits_bytes_some};
+ghost use Rattle.wasm_syntax.proofs.Encoding.Writing.{u32_some};
 
 use crate::encoding::Encoding;
 use crate::instructions::{body_length, write_body};
@@ -141,7 +143,7 @@ impl Encoding for MemoryTypes {
         write_limits(item, out)
     }
 
-    ghost some = { λ item fits. limits_some item };
+    ghost some = { λ item fits. limits_bytes_some item };
 }
 
 /// Imports (Core 1.0, 5.5.5).

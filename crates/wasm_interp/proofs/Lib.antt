@@ -1,7 +1,6 @@
 pub mod Stacks
 pub mod Opcodes
 pub mod Bytes
-pub mod Types
 pub mod Globals
 pub mod Computes
 pub mod Slots
@@ -26,3 +25,5 @@ pub mod FormItems
 pub mod Measure
 pub mod OwnSteps
 pub mod WalkLaws
+pub mod PairSteps
+pub mod PairValues

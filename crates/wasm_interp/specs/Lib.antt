@@ -17,3 +17,4 @@ pub mod Ahead
 pub mod Sound
 pub mod FormResults
 pub mod Laws
+pub mod FormPairs

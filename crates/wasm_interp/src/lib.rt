@@ -6,6 +6,7 @@ mod calls;
 pub mod control;
 mod form_advances;
 mod form_calls;
+mod form_pairs;
 mod form_steps;
 mod form_walks;
 mod form_weights;

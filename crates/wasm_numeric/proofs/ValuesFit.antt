@@ -1,5 +1,6 @@
 -- What an operation computes of values that fit their type fits the type of the result.
-use Rattle.std.proofs.Common.{◌≡◌, ℕ, zero, suc, ◌+◌, ◌-◌, ◌*◌, ◌/◌, ◌%◌, ◌^◌, ◌<◌, ◌≤◌, max, Bool, true, false, ◌==◌, if◌then◌else◌, nat_le, ◌&&◌, ℤ, pos, negsuc, IfOk, sym, subst, arith, inl, inr}
+use Rattle.std.proofs.Common.{◌≡◌, ℕ, zero, suc, ◌+◌, ◌-◌, ◌*◌, ◌/◌, ◌%◌, ◌^◌, ◌<◌, ◌≤◌, max, Bool, true, false, ◌==◌, if◌then◌else◌, not, nat_le, nat_lt, ◌&&◌, ℤ, pos, negsuc, IfOk, sym, subst, arith, inl, inr}
+use Rattle.std.specs.Prelude.{int_lt, int_le}
 use Rattle.std.proofs.Math.Nat.{mod-lt, mod-le, div-le_self, mul-le-mul_right, pow-suc}
 use Rattle.std.proofs.Math.Pow.{pow_mono}
 use Rattle.std.proofs.lemmas.Bool.{cases_eq, eq-eqb, ne_eqb}
@@ -9,8 +10,11 @@ use Rattle.wasm_numeric.specs.declared.operation.UnaryOp.{UnaryOp}
 use Rattle.wasm_numeric.specs.declared.operation.UnaryOp.TheVariants.{Clz, Ctz, Popcnt, Extend8S, Extend16S, Extend32S}
 use Rattle.wasm_numeric.specs.declared.operation.BinaryOp.{BinaryOp}
 use Rattle.wasm_numeric.specs.declared.operation.BinaryOp.TheVariants.{Add, Sub, Mul, DivS, DivU, RemS, RemU, And, Or, Xor, Shl, ShrS, ShrU, Rotl, Rotr}
-use Rattle.wasm_numeric.specs.Integer.{sum_below, greatest_below, modulo, signed, quotient, remainder, floor_quotient, bit, number_of_bits, rotl_by, BinaryValue, Bits, DivideByZero, Overflow, binary_value, unary_value, wrap, extend_s}
-use Rattle.wasm_numeric.specs.Opcode.{Unary, Binary, Convert, kind_of, width, width_of, result_of, unary_op_of, binary_op_of, unary_of, binary_of, convert_of, answer_of}
+use Rattle.wasm_numeric.specs.declared.operation.CompareOp.{CompareOp}
+use Rattle.wasm_numeric.specs.declared.operation.CompareOp.TheVariants.{Eq, Ne, LtS, LtU, GtS, GtU, LeS, LeU, GeS, GeU}
+use Rattle.wasm_numeric.specs.Laws.{ResultsFit}
+use Rattle.wasm_numeric.specs.Integer.{truth, compare_value, sum_below, greatest_below, modulo, signed, quotient, remainder, floor_quotient, bit, number_of_bits, rotl_by, BinaryValue, Bits, DivideByZero, Overflow, binary_value, unary_value, wrap, extend_s}
+use Rattle.wasm_numeric.specs.Opcode.{Binary, kind_of, width, width_of, result_of, unary_op_of, binary_op_of, compare_op_of, unary_of, binary_of, convert_of, answer_of}
 use Rattle.wasm_numeric.proofs.OpcodeTable.{unary_result, binary_result, binary_wide, ConvertWidths, convert_result}
 use Rattle.wasm_numeric.proofs.Rotations.{rotl_is}
 
@@ -110,11 +114,25 @@ fits_answer w (Bits n) p = p
 fits_answer w DivideByZero p = tt
 fits_answer w Overflow p = tt
 
--- ---- by opcode
+-- ---- tests and comparisons
 
-pub unary_fits : (op a : ℕ) → kind_of op ≡ Unary → unary_of op a < 2 ^ width (result_of op)
-unary_fits op a is =
-    subst (λ w. unary_of op a < 2 ^ w) (sym (unary_result op is)) (unary_value_fits (unary_op_of op) (width_of op) a)
+truth_small : (b : Bool) → truth b ≤ 1
+truth_small true = omega arith
+truth_small false = omega arith
+
+compare_small : (operation : CompareOp) (w a b : ℕ) → compare_value operation w a b ≤ 1
+compare_small Eq w a b = truth_small (a == b)
+compare_small Ne w a b = truth_small (not (a == b))
+compare_small LtS w a b = truth_small (int_lt (signed w a) (signed w b))
+compare_small LtU w a b = truth_small (nat_lt a b)
+compare_small GtS w a b = truth_small (int_lt (signed w b) (signed w a))
+compare_small GtU w a b = truth_small (nat_lt b a)
+compare_small LeS w a b = truth_small (int_le (signed w a) (signed w b))
+compare_small LeU w a b = truth_small (nat_le a b)
+compare_small GeS w a b = truth_small (int_le (signed w b) (signed w a))
+compare_small GeU w a b = truth_small (nat_le b a)
+
+-- ---- by opcode
 
 pub binary_fits : (op a b : ℕ) → kind_of op ≡ Binary → a < 2 ^ width_of op
     → FitsIn (width (result_of op)) (binary_of op a b)
@@ -140,6 +158,13 @@ convert_by_widths op a w r widths p =
           ])
     ]
 
-pub convert_fits : (op a : ℕ) → kind_of op ≡ Convert → a < 2 ^ width_of op → convert_of op a < 2 ^ width (result_of op)
-convert_fits op a is p =
-    convert_by_widths op a (width_of op) (width (result_of op)) (convert_result op is) p
+pub results_fit : ResultsFit
+results_fit = record {
+  test = λ op a. truth_small (a == 0);
+  compare = λ op a b. compare_small (compare_op_of op) (width_of op) a b;
+  unary = λ op a is.
+      subst (λ w. unary_of op a < 2 ^ w) (sym (unary_result op is))
+      (unary_value_fits (unary_op_of op) (width_of op) a);
+  binary = λ op a b n is p value. subst (FitsIn (width (result_of op))) value (binary_fits op a b is p);
+  convert = λ op a is p. convert_by_widths op a (width_of op) (width (result_of op)) (convert_result op is) p;
+}

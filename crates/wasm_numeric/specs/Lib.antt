@@ -1,2 +1,3 @@
 pub mod Integer
 pub mod Opcode
+pub mod Laws

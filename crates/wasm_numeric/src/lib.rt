@@ -3,7 +3,7 @@
 #![tactic(auto)]
 
 ghost use Rattle.std.specs.Prelude.{◌≡◌, ℕ, ◌^◌, ◌<◌, ◌≤◌, ◌==◌, IfOk};
-ghost use Rattle.wasm_numeric.specs.Integer.{Bits};
+ghost use Rattle.wasm_numeric.specs.Laws.{ResultsFit};
 ghost use Rattle.wasm_numeric.specs.Opcode.{Test, Compare, Unary, Binary, Convert, kind_of, width, width_of, result_of, test_of, compare_of, unary_of, binary_of, convert_of, answer_of};
 
 pub mod i32_ops;
@@ -121,11 +121,5 @@ pub fn convert(op: u8, a: u64) -> u64
 
 /// The result of an operation fits its type, if the first operand fits.
 pub fn values_fit()
-    ensures test { (op a : ℕ) → test_of op a ≤ 1 }
-    ensures compare { (op a b : ℕ) → compare_of op a b ≤ 1 }
-    ensures unary { (op a : ℕ) → kind_of op ≡ Unary → unary_of op a < 2 ^ width (result_of op) }
-    ensures binary { (op a b n : ℕ) → kind_of op ≡ Binary → a < 2 ^ width_of op → binary_of op a b ≡ Bits n
-        → n < 2 ^ width (result_of op) }
-    ensures convert { (op a : ℕ) → kind_of op ≡ Convert → a < 2 ^ width_of op
-        → convert_of op a < 2 ^ width (result_of op) }
+    ensures { ResultsFit }
 {}

@@ -1,1 +1,2 @@
+pub mod FirstSizes
 mod Numbers

@@ -28,7 +28,10 @@ unfolding instr first_instrs first_expr
 expr form bytes = whole (first_expr form) bytes
 
 place : Form → List ℕ → ℕ
-unfolding expr is_utf8 chars lib.Utf8.encode first_bytes first_name first_func_type first_limits first_table_type first_mutability first_global_type first_import_kind first_import first_global first_export_kind first_export first_elem first_data first_run first_locals first_code first_section next_section lawful_sections read_sections fault_place
+unfolding expr is_utf8 chars lib.Utf8.encode first_bytes first_name first_func_type first_limits first_table_type
+    first_mutability first_global_type first_import_kind first_import first_global first_export_kind first_export
+    first_elem first_data first_run first_locals first_code first_section next_section lawful_sections read_sections
+    fault_place
 place form bytes = fault_place form bytes
 
 -- ---- blocks: an `Else` is in an `if` alone, once, and each block has its `End`
@@ -103,7 +106,8 @@ unfolding instr
 unknown = (refl, refl, refl, refl, refl, refl, refl)
 
 -- the first and the last sign extension
-sign_extensions : (instr Core (0xC0 ∷ []) ≡ Some (Numeric 0xC0)) × (instr Core (0xC4 ∷ []) ≡ Some (Numeric 0xC4)) × (instr Replay (0xC2 ∷ []) ≡ Some (Numeric 0xC2))
+sign_extensions : (instr Core (0xC0 ∷ []) ≡ Some (Numeric 0xC0)) × (instr Core (0xC4 ∷ []) ≡ Some (Numeric 0xC4))
+    × (instr Replay (0xC2 ∷ []) ≡ Some (Numeric 0xC2))
 unfolding instr
 sign_extensions = (refl, refl, refl)
 
@@ -132,13 +136,15 @@ fills = (refl, refl, refl, refl, refl)
 other_prefixed : (instr Core (0xFC ∷ 0x00 ∷ []) ≡ None) × (instr Core (0xFC ∷ 0x08 ∷ 0x00 ∷ 0x00 ∷ []) ≡ None) × (instr Core (0xFC ∷ 0x09 ∷ 0x00 ∷ []) ≡ None)
     × (instr Core (0xFC ∷ 0x0C ∷ 0x00 ∷ 0x00 ∷ []) ≡ None) × (instr Core (0xFC ∷ 0x0E ∷ 0x00 ∷ 0x00 ∷ []) ≡ None)
     × (instr Core (0xFC ∷ 0x8A ∷ 0x02 ∷ 0x00 ∷ 0x00 ∷ []) ≡ None)
-    × (instr Replay (0xFC ∷ 0x08 ∷ 0x00 ∷ 0x00 ∷ []) ≡ None) × (instr Replay (0xFC ∷ 0x0C ∷ 0x00 ∷ 0x00 ∷ []) ≡ None) × (instr Replay (0xFC ∷ 0x11 ∷ 0x00 ∷ []) ≡ None)
+    × (instr Replay (0xFC ∷ 0x08 ∷ 0x00 ∷ 0x00 ∷ []) ≡ None) × (instr Replay (0xFC ∷ 0x0C ∷ 0x00 ∷ 0x00 ∷ []) ≡ None)
+    × (instr Replay (0xFC ∷ 0x11 ∷ 0x00 ∷ []) ≡ None)
 unfolding instr
 other_prefixed = (refl, refl, refl, refl, refl, refl, refl, refl, refl)
 
 -- what the replay form alone has
 replay_alone : (instr Core (0x26 ∷ 0x00 ∷ []) ≡ None) × (instr Core (0xD0 ∷ 0x70 ∷ []) ≡ None) × (instr Core (0xD2 ∷ 0x05 ∷ []) ≡ None)
-    × (instr Replay (0x26 ∷ 0x00 ∷ []) ≡ Some (TableSet 0)) × (instr Replay (0xD0 ∷ 0x70 ∷ []) ≡ Some RefNull) × (instr Replay (0xD2 ∷ 0x05 ∷ []) ≡ Some (RefFunc 5))
+    × (instr Replay (0x26 ∷ 0x00 ∷ []) ≡ Some (TableSet 0)) × (instr Replay (0xD0 ∷ 0x70 ∷ []) ≡ Some RefNull)
+    × (instr Replay (0xD2 ∷ 0x05 ∷ []) ≡ Some (RefFunc 5))
     × (instr Replay (0xD0 ∷ 0x6F ∷ []) ≡ None)
 unfolding instr
 replay_alone = (refl, refl, refl, refl, refl, refl, refl)
@@ -175,7 +181,8 @@ limits : List ℕ → Option Limits
 unfolding first_u32 first_limits
 limits bytes = whole first_limits bytes
 
-limits_flags : (limits (0x00 ∷ 0x05 ∷ []) ≡ Some (record { min = 5; max = None })) × (limits (0x01 ∷ 0x05 ∷ 0x03 ∷ []) ≡ Some (record { min = 5; max = Some 3 }))
+limits_flags : (limits (0x00 ∷ 0x05 ∷ []) ≡ Some (record { min = 5; max = None }))
+    × (limits (0x01 ∷ 0x05 ∷ 0x03 ∷ []) ≡ Some (record { min = 5; max = Some 3 }))
     × (limits (0x03 ∷ 0x05 ∷ 0x06 ∷ []) ≡ None)
 unfolding limits
 limits_flags = (refl, refl, refl)
@@ -187,7 +194,8 @@ unfolding first_u32 first_val_type first_run first_locals
 locals bytes = whole first_locals bytes
 
 -- runs of no locals are left out, and neighbours of one type are joined
-joined : locals (0x04 ∷ 0x02 ∷ 0x7F ∷ 0x00 ∷ 0x7E ∷ 0x03 ∷ 0x7F ∷ 0x01 ∷ 0x7E ∷ []) ≡ Some (record { count = 5; ty = I32 } ∷ record { count = 1; ty = I64 } ∷ [])
+joined : locals (0x04 ∷ 0x02 ∷ 0x7F ∷ 0x00 ∷ 0x7E ∷ 0x03 ∷ 0x7F ∷ 0x01 ∷ 0x7E ∷ [])
+    ≡ Some (record { count = 5; ty = I32 } ∷ record { count = 1; ty = I64 } ∷ [])
 unfolding locals
 joined = refl
 

@@ -36,7 +36,8 @@ joined_fits : (one other : Option ValType) (t : ValType) → IsTrue (is_number t
 joined_fits None None t number p q = (None, refl, number)
 joined_fits None (Some u) t number p q = (Some u, rw (subst (λ v. is_number v ≡ true) q number) refl, q)
 joined_fits (Some u) other t number p q =
-    let is_here : (is_number u && may_be u other) ≡ true = subst (λ v. (is_number v && may_be v other) ≡ true) p (and_true (is_number t) (may_be t other) number (slot_true other t q)) in
+    let is_here : (is_number u && may_be u other) ≡ true = subst (λ v. (is_number v && may_be v other) ≡ true) p
+    (and_true (is_number t) (may_be t other) number (slot_true other t q)) in
     (Some u, rw is_here refl, p)
 
 joined_from : (one other slot : Option ValType) (t : ValType) → common_slot one other ≡ Some slot → IsSlot slot t
@@ -117,7 +118,9 @@ module _ (labels : List (List ValType)) (label : List ValType) where
   all_take : (ls : List ℕ) → AllByRecursion (λ l. slice_get labels l ≡ Some label) ls
       → list_all (λ k. takes label (slice_get labels k)) ls ≡ true
   all_take [] h = refl
-  all_take (l ∷ ls) h = and_true (takes label (slice_get labels l)) (list_all (λ k. takes label (slice_get labels k)) ls) (takes_true label (slice_get labels l) h.0) (all_take ls h.1)
+  all_take (l ∷ ls) h =
+      and_true (takes label (slice_get labels l)) (list_all (λ k. takes label (slice_get labels k)) ls)
+      (takes_true label (slice_get labels l) h.0) (all_take ls h.1)
 
   each_takes : (ls : List ℕ) → list_all (λ k. takes label (slice_get labels k)) ls ≡ true
       → AllByRecursion (λ l. slice_get labels l ≡ Some label) ls
@@ -129,7 +132,8 @@ module _ (labels : List (List ValType)) (label : List ValType) where
 -- labels that all take the type_same types share them; no label shares any
 shared_is : (labels : List (List ValType)) (label : List ValType) (targets : List ℕ)
     → AllByRecursion (λ l. slice_get labels l ≡ Some label) targets
-    → (it : List ValType) × (common_label labels targets ≡ Some it) × ((stack : Known) (below : List ValType) → Fits stack (I32 ∷ (label ++ below)) → (below' : List ValType) × Fits stack (I32 ∷ (it ++ below')))
+    → (it : List ValType) × (common_label labels targets ≡ Some it) × ((stack : Known) (below : List ValType)
+    → Fits stack (I32 ∷ (label ++ below)) → (below' : List ValType) × Fits stack (I32 ∷ (it ++ below')))
 shared_is labels label [] h = ([], refl, λ stack below fits. (label ++ below, fits))
 shared_is labels label (l ∷ ls) h =
     (label, rw h.0 (rw (all_take labels label ls h.1) refl), λ stack below fits. (below, fits))
@@ -183,8 +187,11 @@ behind_from ctx (Some Drops) stack next after e fits =
     (p.0 ∷ after, p.1, record { ty = p.0; had = refl })
 behind_from ctx (Some Selects) stack next after e fits =
     let p = and_then_some (pop I32 stack) (λ below. select_slot below.slots below.free) next e in
-    let q = selected_from p.0.slots p.0.free next after p.2 fits in
-    (I32 ∷ q.0 ∷ q.0 ∷ q.1, pop_from_fits I32 stack.slots stack.free p.0 (q.0 ∷ q.0 ∷ q.1) p.1 q.3, record { ty = q.0; below = q.1; number = q.2; had = refl; left = q.4 })
+    let q = selected_from p.0.slots p.0.free next after p.2 fits in (
+      I32 ∷ q.0 ∷ q.0 ∷ q.1,
+      pop_from_fits I32 stack.slots stack.free p.0 (q.0 ∷ q.0 ∷ q.1) p.1 q.3,
+      record { ty = q.0; below = q.1; number = q.2; had = refl; left = q.4 },
+    )
 behind_from ctx (Some (Leaves operands)) stack next after e fits =
     let p = and_then_some (pops operands stack) (λ below. Some anything) next e in
     let below = some_fits p.0 in

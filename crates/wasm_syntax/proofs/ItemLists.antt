@@ -1,13 +1,17 @@
 -- How many bytes numbers, items one after another, and sections take.
-use Rattle.std.proofs.Common.{◌≡◌, ℕ, zero, suc, ◌+◌, ◌/◌, ◌<◌, ◌≤◌, ◌^◌, List, [], ◌∷◌, ◌++◌, length, get_or, flat_map, refl, ap, ◌∙◌, inl, inr, arith}
+use Rattle.std.proofs.Common.{◌≡◌, ℕ, zero, suc, ◌+◌, ◌/◌, ◌<◌, ◌≤◌, ◌^◌, List, [], ◌∷◌, ◌++◌, length, get_or, flat_map, refl, ap, ◌∙◌, inl, inr, Bool, true, false, cond, ℤ, arith}
 use Rattle.std.specs.List.{AllByRecursion}
+use Rattle.std.specs.Int.{w32, w64, cast_signed}
 use Rattle.std.proofs.lemmas.Bool.{cases_lt}
 use Rattle.std.proofs.lemmas.Bool.Decides.{nat_tests}
 use Rattle.std.proofs.lemmas.Grind.{flat_map-append}
 use Rattle.std.proofs.lemmas.List.{length-append}
 use Rattle.leb_bytes.specs.Unsigned.{unsigned_bytes, u32_bytes}
+use Rattle.leb_bytes.specs.Signed.{signed_bytes, s64_bytes, i32_bytes, i64_bytes, fits_seven_bits, high_bits, low_bits}
+use Rattle.wasm_syntax.specs.declared.values.ValType.{ValType}
+use Rattle.wasm_syntax.specs.declared.values.ValType.TheVariants.{I32, I64, F32, F64, FuncRef}
 use Rattle.wasm_syntax.specs.Encoding.Sections.{Section}
-use Rattle.wasm_syntax.specs.Encoding.Shortest.{sized_bytes, vector_bytes, content_bytes, section_bytes, unless_empty}
+use Rattle.wasm_syntax.specs.Encoding.Shortest.{const_bytes, sized_bytes, vector_bytes, content_bytes, section_bytes, unless_empty}
 use Rattle.wasm_syntax.proofs.Encoding.Encodable.{content_le}
 
 -- ---- numbers
@@ -23,6 +27,25 @@ unsigned_most (suc more) n = elim (cases_lt n (2 ^ 7)) [
 pub u32_most : (n : ℕ) → length (u32_bytes n) ≤ 5
 unfolding u32_bytes
 u32_most n = unsigned_most 4 n
+
+pub signed_most : (more : ℕ) (z : ℤ) → length (signed_bytes more z) ≤ more + 1
+unfolding signed_bytes
+signed_most zero z = omega arith
+signed_most (suc more) z = by (fits_seven_bits z) (signed_most more (high_bits z))
+  where
+    by : (b : Bool) → length (signed_bytes more (high_bits z)) ≤ more + 1
+        → length (cond b (low_bits z ∷ []) ((low_bits z + 2 ^ 7) ∷ signed_bytes more (high_bits z))) ≤ suc more + 1
+    by true rest = omega arith
+    by false rest = omega (arith, rest)
+
+-- an instruction with a constant
+pub const_most : (ty : ValType) (bits : ℕ) → length (const_bytes ty bits) ≤ 11
+unfolding const_bytes i32_bytes i64_bytes s64_bytes
+const_most I32 bits = omega (arith, signed_most 9 (cast_signed w32 bits))
+const_most I64 bits = omega (arith, signed_most 9 (cast_signed w64 bits))
+const_most F32 bits = omega arith
+const_most F64 bits = omega arith
+const_most FuncRef bits = omega arith
 
 -- ---- items one after another
 

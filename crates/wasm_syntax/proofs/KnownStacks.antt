@@ -106,4 +106,9 @@ fits_from_ends types (Some stack) h = by (pops types stack) refl h
     by : (o : Option Known) → pops types stack ≡ o → is_over o ≡ true
         → (s : Known) × (Some stack ≡ Some s) × Fits s types
     by None e over = cc
-    by (Some below) e over = (stack, refl, subst (λ l. Fits stack l) (append-nil types) (pops_from_fits types stack below [] e (none_fits below.slots below.free over)))
+    by (Some below) e over = (
+      stack,
+      refl,
+      subst (λ l. Fits stack l) (append-nil types)
+          (pops_from_fits types stack below [] e (none_fits below.slots below.free over)),
+    )

@@ -6,7 +6,7 @@ pub mod FuncTypes
 pub mod ModuleExamples
 pub mod Nests
 mod OpcodeExamples
-mod Places
+pub mod Places
 mod ProfileExamples
 pub mod Quantities
 pub mod SameTypes
@@ -19,3 +19,5 @@ pub mod ValTypes
 pub mod ItemLists
 pub mod SectionLists
 pub mod VectorLists
+pub mod JoinedLists
+pub mod ValidParts

@@ -169,7 +169,15 @@ c_buffers = record empty_module {
       ∷ [];
   imports = record { «module» = codes "env"; name = codes "read"; kind = import.Func 0 } ∷ [];
   funcs =
-      record { ty = 2; locals = record { count = 1; ty = I32 } ∷ []; body = GlobalGet 0 ∷ constant I32 16 ∷ Numeric 0x6B ∷ LocalTee 0 ∷ GlobalSet 0 ∷ LocalGet 0 ∷ constant I32 4 ∷ LocalGet 0 ∷ constant I32 8 ∷ Numeric 0x6A ∷ Call 0 ∷ Drop ∷ LocalGet 0 ∷ load 0x28 2 0 ∷ LocalGet 0 ∷ load 0x28 2 8 ∷ Numeric 0x6A ∷ constant I32 1 ∷ CallIndirect 1 ∷ LocalGet 0 ∷ constant I32 16 ∷ Numeric 0x6A ∷ GlobalSet 0 ∷ End ∷ [] }
+      record {
+        ty = 2;
+        locals = record { count = 1; ty = I32 } ∷ [];
+        body =
+            GlobalGet 0 ∷ constant I32 16 ∷ Numeric 0x6B ∷ LocalTee 0 ∷ GlobalSet 0 ∷ LocalGet 0 ∷ constant I32 4
+            ∷ LocalGet 0 ∷ constant I32 8 ∷ Numeric 0x6A ∷ Call 0 ∷ Drop ∷ LocalGet 0 ∷ load 0x28 2 0 ∷ LocalGet 0
+            ∷ load 0x28 2 8 ∷ Numeric 0x6A ∷ constant I32 1 ∷ CallIndirect 1 ∷ LocalGet 0 ∷ constant I32 16
+            ∷ Numeric 0x6A ∷ GlobalSet 0 ∷ End ∷ [];
+      }
       ∷ record { ty = 1; locals = []; body = LocalGet 0 ∷ constant I32 1 ∷ Numeric 0x74 ∷ End ∷ [] }
       ∷ [];
   tables = limits 2 (Some 2) ∷ [];
@@ -190,7 +198,13 @@ replay_two_answers = record empty_module {
       ∷ func_type [] []
       ∷ [];
   funcs =
-      record { ty = 0; locals = []; body = GlobalGet 0 ∷ GlobalGet 0 ∷ constant I32 1 ∷ Numeric 0x6A ∷ GlobalSet 0 ∷ If (Some I32) ∷ constant I32 7 ∷ Else ∷ constant I32 5 ∷ End ∷ End ∷ [] }
+      record {
+        ty = 0;
+        locals = [];
+        body =
+            GlobalGet 0 ∷ GlobalGet 0 ∷ constant I32 1 ∷ Numeric 0x6A ∷ GlobalSet 0 ∷ If (Some I32) ∷ constant I32 7
+            ∷ Else ∷ constant I32 5 ∷ End ∷ End ∷ [];
+      }
       ∷ record { ty = 0; locals = []; body = Call 0 ∷ Call 0 ∷ Numeric 0x6A ∷ End ∷ [] }
       ∷ record { ty = 1; locals = []; body = Call 1 ∷ Drop ∷ End ∷ [] }
       ∷ [];

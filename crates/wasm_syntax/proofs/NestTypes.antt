@@ -62,7 +62,8 @@ checked_fits ctx (InIfElse ty body other rest) stack before after fits typed =
 
 -- a body that may leave these types leaves them from an empty stack
 body_typed : (ctx : Context) (body : Nest) (types : List ValType)
-    → ((next : Known) → known_after ctx body nothing ≡ Some next → Fits next types → (before : List ValType) × Fits nothing before × IsTyped ctx body before types)
+    → ((next : Known) → known_after ctx body nothing ≡ Some next → Fits next types
+    → (before : List ValType) × Fits nothing before × IsTyped ctx body before types)
     → ends types (known_after ctx body nothing) ≡ true → IsTyped ctx body [] types
 body_typed ctx body types each over =
     let p = fits_from_ends types (known_after ctx body nothing) over in
@@ -113,7 +114,8 @@ checked_from ctx (InLoop ty body rest) stack next after e fits =
 checked_from ctx (InIf ty body rest) stack next after e fits =
     let types = results_of ty in
     let it = known_after (inside types ctx) body nothing in
-    let p = cond_some (is_block_type ty && ends types it && ends types (Some nothing)) (option_and_then (λ below. known_after ctx rest (push_types types below)) (pop I32 stack)) next e in
+    let p = cond_some (is_block_type ty && ends types it && ends types (Some nothing))
+    (option_and_then (λ below. known_after ctx rest (push_types types below)) (pop I32 stack)) next e in
     let tests = and_parts (is_block_type ty && ends types it) (ends types (Some nothing)) p.0 in
     let tests' = and_parts (is_block_type ty) (ends types it) tests.0 in
     let inner = body_typed (inside types ctx) body types (λ s e' f. checked_from (inside types ctx) body nothing s types e' f) tests'.1 in
@@ -124,7 +126,8 @@ checked_from ctx (InIfElse ty body other rest) stack next after e fits =
     let types = results_of ty in
     let it = known_after (inside types ctx) body nothing in
     let it' = known_after (inside types ctx) other nothing in
-    let p = cond_some (is_block_type ty && ends types it && ends types it') (option_and_then (λ below. known_after ctx rest (push_types types below)) (pop I32 stack)) next e in
+    let p = cond_some (is_block_type ty && ends types it && ends types it')
+    (option_and_then (λ below. known_after ctx rest (push_types types below)) (pop I32 stack)) next e in
     let tests = and_parts (is_block_type ty && ends types it) (ends types it') p.0 in
     let tests' = and_parts (is_block_type ty) (ends types it) tests.0 in
     let inner = body_typed (inside types ctx) body types (λ s e' f. checked_from (inside types ctx) body nothing s types e' f) tests'.1 in

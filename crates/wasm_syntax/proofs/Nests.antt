@@ -35,7 +35,8 @@ reading_flat (InIf ty body rest) is around h e =
 reading_flat (InIfElse ty body other rest) is around h e =
     let behind = ap (in_front End) (reading_flat rest is around h.2 e) in
     let parted = ap (in_front Else) (reading_flat other (End ∷ (flat rest ++ is)) (InEnd around rest) h.1 behind) in
-    ap (λ l. in_front (If ty) (open_nest l)) (append_assoc (flat body) (Else ∷ (flat other ++ End ∷ flat rest)) is ∙ ap (λ l. flat body ++ Else ∷ l) (append_assoc (flat other) (End ∷ flat rest) is))
+    ap (λ l. in_front (If ty) (open_nest l)) (append_assoc (flat body) (Else ∷ (flat other ++ End ∷ flat rest)) is
+    ∙ ap (λ l. flat body ++ Else ∷ l) (append_assoc (flat other) (End ∷ flat rest) is))
     ∙ ap (in_front (If ty)) (reading_flat body (Else ∷ (flat other ++ End ∷ (flat rest ++ is))) (InElse around other rest) h.0 parted)
 
 -- a body's tree is the one that is read
@@ -82,8 +83,12 @@ stood_in_front (Loop ty) (Within first Outside) is h = tt
 stood_in_front (Loop ty) (Within first (InElse outer other rest)) is h = tt
 stood_in_front (If ty) (Within first (InEnd outer rest)) is h =
     ((h.0, h.1.0), h.1.1, ap (λ l. If ty ∷ l) (append_assoc (flat first) (End ∷ flat rest) (text outer) ∙ h.2))
-stood_in_front (If ty) (Within first (InElse outer other rest)) is h =
-    ((h.0, h.1.0, h.1.1), h.1.2, ap (λ l. If ty ∷ l) (append_assoc (flat first) (Else ∷ (flat other ++ End ∷ flat rest)) (text outer) ∙ ap (λ l. flat first ++ Else ∷ l) (append_assoc (flat other) (End ∷ flat rest) (text outer)) ∙ h.2))
+stood_in_front (If ty) (Within first (InElse outer other rest)) is h = (
+  (h.0, h.1.0, h.1.1),
+  h.1.2,
+  ap (λ l. If ty ∷ l) (append_assoc (flat first) (Else ∷ (flat other ++ End ∷ flat rest)) (text outer)
+      ∙ ap (λ l. flat first ++ Else ∷ l) (append_assoc (flat other) (End ∷ flat rest) (text outer)) ∙ h.2),
+)
 stood_in_front (If ty) (Within first Outside) is h = tt
 stood_in_front i (Within first around) is h = stood_plain i is first around refl h
 

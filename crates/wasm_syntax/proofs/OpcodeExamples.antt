@@ -74,7 +74,8 @@ numeric_names =
     ++ all_of plain (0xC0 ∷ 0xC1 ∷ []) (I32 ∷ []) I32
     ++ all_of plain (0xC2 ∷ 0xC3 ∷ 0xC4 ∷ []) (I64 ∷ []) I64
 
-shapes_agree : map (λ (n : Numeric). numeric_shape n.op) numeric_names ≡ map (λ (n : Numeric). Some (record { operands = n.operands; result = n.result })) numeric_names
+shapes_agree : map (λ (n : Numeric). numeric_shape n.op) numeric_names
+    ≡ map (λ (n : Numeric). Some (record { operands = n.operands; result = n.result })) numeric_names
 shapes_agree = refl
 
 classes_agree : map (λ (n : Numeric). feature_of n.op) numeric_names ≡ map (λ (n : Numeric). n.feature) numeric_names
@@ -87,7 +88,8 @@ no_others = refl
 abbrev access : ValType × ℕ × Bool → Option Access
 access row = Some (record { ty = row.0; width = row.1; signed = row.2 })
 
--- `i32.load`, `i64.load`, `f32.load`, `f64.load`, `i32.load8_s`, `i32.load8_u`, `i32.load16_s`, `i32.load16_u`, `i64.load8_s`, `i64.load8_u`, `i64.load16_s`, `i64.load16_u`, `i64.load32_s`, `i64.load32_u`
+-- `i32.load`, `i64.load`, `f32.load`, `f64.load`, `i32.load8_s`, `i32.load8_u`, `i32.load16_s`, `i32.load16_u`,
+-- `i64.load8_s`, `i64.load8_u`, `i64.load16_s`, `i64.load16_u`, `i64.load32_s`, `i64.load32_u`
 loads_agree : map load_of (0x28 ∷ 0x29 ∷ 0x2A ∷ 0x2B ∷ 0x2C ∷ 0x2D ∷ 0x2E ∷ 0x2F ∷ 0x30 ∷ 0x31 ∷ 0x32 ∷ 0x33 ∷ 0x34 ∷ 0x35 ∷ []) ≡ map access (
     (I32, 4, false) ∷ (I64, 8, false) ∷ (F32, 4, false) ∷ (F64, 8, false) ∷ (I32, 1, true)
     ∷ (I32, 1, false) ∷ (I32, 2, true) ∷ (I32, 2, false) ∷ (I64, 1, true) ∷ (I64, 1, false)

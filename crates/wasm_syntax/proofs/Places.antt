@@ -64,7 +64,8 @@ pub place_found : (m : Module) → MatchOption (invalid_at m) (IsValid m) (λ pl
 place_found m = by (is_valid_outside m) refl
   where
     by : (b : Bool) → is_valid_outside m ≡ b
-        → MatchOption (cond b (option_map (λ place. Some (imported_funcs m + place)) (position (λ f. not (is_typed_func m f)) m.funcs)) (Some None)) (IsValid m) (λ place. IsInvalidAt m place)
+        → MatchOption (cond b (option_map (λ place. Some (imported_funcs m + place))
+        (position (λ f. not (is_typed_func m f)) m.funcs)) (Some None)) (IsValid m) (λ place. IsInvalidAt m place)
     by true e = bodies_place m ((outside_decides m).0 e) (position (λ f. not (is_typed_func m f)) m.funcs) refl
     by false e = not_from_Decides (is_valid_outside m) (outside_decides m) e
 

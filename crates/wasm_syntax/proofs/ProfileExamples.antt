@@ -44,7 +44,8 @@ abbrev with_bodies : List Func → Module
 with_bodies funcs = record two_answers { funcs = funcs }
 
 -- `else` and `end` have no number, and the first in the body is named before those of other classes
-first_in_body : refused (with_bodies (body (constant I32 0 ∷ If None ∷ Nop ∷ Else ∷ Nop ∷ End ∷ constant F64 0 ∷ Numeric 0xAA ∷ Drop ∷ constant F32 0 ∷ constant F32 0 ∷ Numeric 0x5B ∷ Drop ∷ []) ∷ []))
+first_in_body : refused (with_bodies (body (constant I32 0 ∷ If None ∷ Nop ∷ Else ∷ Nop ∷ End ∷ constant F64 0
+    ∷ Numeric 0xAA ∷ Drop ∷ constant F32 0 ∷ constant F32 0 ∷ Numeric 0x5B ∷ Drop ∷ []) ∷ []))
     ≡ Some (Unsupported 1 5 FloatConversion)
 first_in_body = refl
 

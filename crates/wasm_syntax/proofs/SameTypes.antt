@@ -4,9 +4,12 @@ use Rattle.std.proofs.lemmas.List.Quantifiers.{position-Some}
 use Rattle.std.proofs.lemmas.Option.{slice_get-get_or}
 use Rattle.std.proofs.lemmas.Bool.Decides.{Decides-and}
 use Rattle.std.specs.Cmp.Lexicographic.{pointwise, pointwise_decides}
+use Rattle.base.proofs.Booleans.{same_tests}
 use Rattle.wasm_syntax.specs.declared.values.ValType.{ValType}
 use Rattle.wasm_syntax.specs.declared.values.ValType.TheVariants.{I32, I64, F32, F64, FuncRef}
 use Rattle.wasm_syntax.specs.declared.signatures.FuncType.{FuncType}
+use Rattle.wasm_syntax.specs.Alike.{same_signature}
+use Rattle.wasm_syntax.proofs.ValTypes.{signature_own, signature_same}
 use Rattle.wasm_syntax.specs.contracts.signatures.FuncTypePartialEq.TheImpl as func_type
 use Rattle.wasm_syntax.specs.contracts.values.ValTypePartialEq.TheImpl as val_type
 
@@ -42,6 +45,13 @@ func_decides a b =
     let results = pointwise_decides {K = ValType} {E = eq_val} val_decides a.results b.results in
     let both = Decides-and (pointwise eq_val a.params b.params) (pointwise eq_val a.results b.results) params results in
     (λ h. let p = both.0 h in (λ i. record { params = p.0 i; results = p.1 i }), λ e. both.1 (ap (λ t. t.params) e, ap (λ t. t.results) e))
+
+-- the equality of function types is the test for types that are equal in structure
+pub signature_test : (a b : FuncType) → eq_func a b ≡ same_signature a b
+signature_test a b =
+    same_tests (eq_func a b) (same_signature a b)
+    (λ e. subst (λ t. same_signature a t ≡ true) ((func_decides a b).0 e) (signature_own a))
+    (λ e. (func_decides a b).1 (signature_same a b e))
 
 module _ {K : Type 0} {eq : K → K → Bool} (same : (a b : K) → Decides (eq a b) (a ≡ b)) (ks : List K) (k : K) (place : ℕ) where
   -- a key that is found is at its place

@@ -73,7 +73,9 @@ module _ (at : List ValType → Context) where
   none_typed : (rows : List Row) → list_all (λ row. not (accepts row)) rows ≡ true
       → All (λ row. ¬ HasTyping (at row.0) row) rows
   none_typed rows h =
-      (Decides-by_and (λ row. not (accepts row)) (λ row. ¬ HasTyping (at row.0) row) (list_all (λ row. not (accepts row))) (λ row. Decides-not (accepts row) (decided row)) refl (λ _ _. refl) rows).0 h
+      (Decides-by_and (λ row. not (accepts row)) (λ row. ¬ HasTyping (at row.0) row)
+      (list_all (λ row. not (accepts row))) (λ row. Decides-not (accepts row) (decided row)) refl (λ _ _. refl) rows).0
+      h
 
 -- ---- the bodies, without their `End`
 

@@ -91,7 +91,9 @@ whole = record {
   funcs = record { ty = 0; locals = record { count = 2; ty = F32 } ∷ []; body = Nop ∷ End ∷ [] } ∷ body (constant I32 0 ∷ RefFunc 0 ∷ TableSet 0 ∷ []) ∷ [];
   tables = limits 2 (Some 2) ∷ [];
   memories = limits 1 (Some 65536) ∷ [];
-  globals = record { ty = record { ty = I64; mutable = true }; init = expression (constant I64 7) } ∷ record { ty = record { ty = I32; mutable = false }; init = expression (GlobalGet 0) } ∷ [];
+  globals =
+      record { ty = record { ty = I64; mutable = true }; init = expression (constant I64 7) }
+      ∷ record { ty = record { ty = I32; mutable = false }; init = expression (GlobalGet 0) } ∷ [];
   exports = record { name = codes "f"; kind = Func 1 } ∷ record { name = codes "g"; kind = Func 1 } ∷ record { name = codes "x"; kind = Global 1 } ∷ [];
   start = Some 1;
   elems = Active 0 (expression (GlobalGet 0)) (0 ∷ 2 ∷ []) ∷ Declared (1 ∷ []) ∷ [];
@@ -169,7 +171,10 @@ invalid_outside =
     ∷ with_import (import.Global (record { ty = FuncRef; mutable = false }))
     -- a function: an absent type index, a local that is a reference
     ∷ outside (record empty_module { funcs = body [] ∷ [] })
-    ∷ outside (record empty_module { types = func_type [] [] ∷ []; funcs = record { ty = 0; locals = record { count = 1; ty = FuncRef } ∷ []; body = End ∷ [] } ∷ [] })
+    ∷ outside (record empty_module {
+      types = func_type [] [] ∷ [];
+      funcs = record { ty = 0; locals = record { count = 1; ty = FuncRef } ∷ []; body = End ∷ [] } ∷ [];
+    })
     -- a table, a memory: limits
     ∷ outside (record empty_module { tables = limits 2 (Some 1) ∷ [] })
     ∷ outside (record empty_module { memories = limits 2 (Some 1) ∷ [] })
@@ -192,7 +197,11 @@ invalid_outside =
     ∷ with_export (Table 1)
     ∷ with_export (Memory 1)
     ∷ with_export (Global 4)
-    ∷ outside (record whole { exports = record { name = codes "f"; kind = Func 1 } ∷ record { name = codes "g"; kind = Func 1 } ∷ record { name = codes "f"; kind = Memory 0 } ∷ [] })
+    ∷ outside (record whole {
+      exports =
+          record { name = codes "f"; kind = Func 1 } ∷ record { name = codes "g"; kind = Func 1 }
+          ∷ record { name = codes "f"; kind = Memory 0 } ∷ [];
+    })
     -- a start function that does not exist, that takes arguments, that gives a result
     ∷ with_start 3
     ∷ with_start 0
@@ -211,7 +220,10 @@ invalid_outside =
     -- two tables, two memories, one of them imported
     ∷ outside (record empty_module { tables = limits 0 None ∷ limits 0 None ∷ [] })
     ∷ outside (record empty_module { memories = limits 0 None ∷ limits 0 None ∷ [] })
-    ∷ outside (record empty_module { imports = record { «module» = codes "env"; name = codes "m"; kind = import.Memory (limits 0 None) } ∷ []; memories = limits 0 None ∷ [] })
+    ∷ outside (record empty_module {
+      imports = record { «module» = codes "env"; name = codes "m"; kind = import.Memory (limits 0 None) } ∷ [];
+      memories = limits 0 None ∷ [];
+    })
     -- a fault outside the bodies beside one inside
     ∷ outside (record two_answers_untyped { start = Some 0 })
     ∷ []

@@ -12,8 +12,8 @@ use Rattle.wasm_syntax.specs.Index.{func_import, of_kind}
 use Rattle.wasm_syntax.specs.Encoding.Encodable.{IsEncodable, FitsInstr, FitsFunc}
 use Rattle.wasm_syntax.specs.Encoding.Sections.{Code}
 use Rattle.wasm_syntax.specs.Encoding.Modules.{code_of}
-use Rattle.wasm_syntax.specs.Encoding.Shortest.{vector_bytes, val_type_bytes, func_type_bytes, instr_bytes, import_bytes, run_bytes, body_bytes, code_bytes, encoding_of}
-use Rattle.wasm_syntax.proofs.Encoding.NotEmpty.{func_type_bytes_some, import_bytes_some, run_bytes_some, instr_bytes_some}
+use Rattle.wasm_syntax.specs.Encoding.Shortest.{vector_bytes, val_type_bytes, func_type_bytes, instr_bytes, import_bytes, global_bytes, run_bytes, body_bytes, code_bytes, encoding_of}
+use Rattle.wasm_syntax.proofs.Encoding.NotEmpty.{func_type_bytes_some, import_bytes_some, global_bytes_some, run_bytes_some, instr_bytes_some}
 use Rattle.wasm_syntax.specs.ListsWithin.{HasListsWithin}
 use Rattle.wasm_syntax.proofs.ItemLists.{items, items_as, items_some, items_some_of, items_one, vector_length, sized_length}
 use Rattle.wasm_syntax.proofs.SectionLists.{encoding_least}
@@ -87,6 +87,10 @@ few_parts m = omega (
   items_some u32_bytes u32_some (map (λ func. func.ty) m.funcs),
   length-map m.funcs (λ func. func.ty),
 )
+
+-- a global takes a byte at least
+pub globals_few : (m : Module) → length m.globals ≤ length (encoding_of m)
+globals_few m = omega (arith, encoding_least m, items_some global_bytes global_bytes_some m.globals)
 
 -- no list is longer than the bytes of an encodable module's shortest encoding
 pub lists_within : (form : Form) (m : Module) (most : ℕ) → IsEncodable form m → length (encoding_of m) ≤ most

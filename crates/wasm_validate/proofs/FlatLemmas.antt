@@ -40,17 +40,26 @@ then-moved ctx is levels (Some k) = refl
 
 -- the end of a block
 then-end : (ctx : Context) (is : List Instr) (l : Level) (levels : List Level) (o : Option Known)
-    → then ctx (instr.End ∷ is) (l ∷ levels) o ≡ cond (may_close l.kind l.result && ends (results_of l.result) o) (scan ctx is (state levels (push_types (results_of l.result) l.below))) false
-then-end ctx is l levels None = elim (may_close l.kind l.result) as (λ b. false ≡ cond (b && false) (scan ctx is (state levels (push_types (results_of l.result) l.below))) false) [ true ↦ refl | false ↦ refl ]
+    → then ctx (instr.End ∷ is) (l ∷ levels) o ≡ cond (may_close l.kind l.result && ends (results_of l.result) o)
+    (scan ctx is (state levels (push_types (results_of l.result) l.below))) false
+then-end ctx is l levels None =
+    elim (may_close l.kind l.result) as
+    (λ b. false ≡ cond (b && false) (scan ctx is (state levels (push_types (results_of l.result) l.below))) false)
+    [ true ↦ refl | false ↦ refl ]
 then-end ctx is l levels (Some k) =
-    elim (may_close l.kind l.result && ends (results_of l.result) (Some k)) as (λ b. on_some (λ s. scan ctx is s) (cond b (Some (state levels (push_types (results_of l.result) l.below))) None) ≡ cond b (scan ctx is (state levels (push_types (results_of l.result) l.below))) false) [ true ↦ refl | false ↦ refl ]
+    elim (may_close l.kind l.result && ends (results_of l.result) (Some k)) as
+    (λ b. on_some (λ s. scan ctx is s) (cond b (Some (state levels (push_types (results_of l.result) l.below))) None) ≡
+    cond b (scan ctx is (state levels (push_types (results_of l.result) l.below))) false) [ true ↦ refl | false ↦ refl ]
 
 -- the second part of an `if`
 then-else : (ctx : Context) (is : List Instr) (result : Option ValType) (below : Known) (levels : List Level) (o : Option Known)
-    → then ctx (instr.Else ∷ is) (level If result below ∷ levels) o ≡ cond (ends (results_of result) o) (scan ctx is (state (level Block result below ∷ levels) nothing)) false
+    → then ctx (instr.Else ∷ is) (level If result below ∷ levels) o
+    ≡ cond (ends (results_of result) o) (scan ctx is (state (level Block result below ∷ levels) nothing)) false
 then-else ctx is result below levels None = refl
 then-else ctx is result below levels (Some k) =
-    elim (ends (results_of result) (Some k)) as (λ b. on_some (λ s. scan ctx is s) (cond b (Some (state (level Block result below ∷ levels) nothing)) None) ≡ cond b (scan ctx is (state (level Block result below ∷ levels) nothing)) false) [ true ↦ refl | false ↦ refl ]
+    elim (ends (results_of result) (Some k)) as
+    (λ b. on_some (λ s. scan ctx is s) (cond b (Some (state (level Block result below ∷ levels) nothing)) None)
+    ≡ cond b (scan ctx is (state (level Block result below ∷ levels) nothing)) false) [ true ↦ refl | false ↦ refl ]
 
 -- ---- a nested sequence
 
@@ -75,7 +84,8 @@ block-scanned : (ctx : Context) (front tail is : List Instr) (kind : Kind) (ty :
     → may_close kind ty ≡ true
     → scan ctx front (state (level kind ty here ∷ outer) nothing) ≡ then ctx (instr.End ∷ tail) (level kind ty here ∷ outer) inner
     → scan ctx tail (state outer (push_types (results_of ty) here)) ≡ then ctx is outer next
-    → on_some (λ s. scan ctx front s) (after_open kind ty outer (Some here)) ≡ then ctx is outer (cond (is_block_type ty && ends (results_of ty) inner) next None)
+    → on_some (λ s. scan ctx front s) (after_open kind ty outer (Some here))
+    ≡ then ctx is outer (cond (is_block_type ty && ends (results_of ty) inner) next None)
 block-scanned ctx front tail is kind ty here outer inner next may body rest =
     on_some-cond (λ s. scan ctx front s) (is_block_type ty) (state (level kind ty here ∷ outer) nothing)
     ∙ then-block ctx is outer (is_block_type ty) (ends (results_of ty) inner) next _
@@ -115,7 +125,9 @@ scan-flat ctx (Plain i rest) is l levels here h =
     let outer = within ctx (l ∷ levels) in
     ap (on_some (λ s. scan ctx (flat rest ++ is) s)) (changed-plain ctx i (state (l ∷ levels) here) h.0)
     ∙ then-moved ctx (flat rest ++ is) (l ∷ levels) (after_instr outer (instr_type outer i) here)
-    ∙ elim (after_instr outer (instr_type outer i) here) as (λ o. then ctx (flat rest ++ is) (l ∷ levels) o ≡ then ctx is (l ∷ levels) (option_and_then (λ k. known_after outer rest k) o)) [ None ↦ refl | Some k ↦ scan-flat ctx rest is l levels k h.1 ]
+    ∙ elim (after_instr outer (instr_type outer i) here) as
+    (λ o. then ctx (flat rest ++ is) (l ∷ levels) o ≡ then ctx is (l ∷ levels)
+    (option_and_then (λ k. known_after outer rest k) o)) [ None ↦ refl | Some k ↦ scan-flat ctx rest is l levels k h.1 ]
 scan-flat ctx (InBlock ty body rest) is l levels here h =
     let outer = within ctx (l ∷ levels) in
     let tail = flat rest ++ is in
@@ -138,8 +150,11 @@ scan-flat ctx (InIf ty body rest) is l levels here h =
     let e = ends (results_of ty) inner in
     let e0 = ends (results_of ty) (Some nothing) in
     ap (λ is. scan ctx (instr.If ty ∷ is) (state (l ∷ levels) here)) (append_assoc (flat body) (instr.End ∷ flat rest) is)
-    ∙ elim (pop I32 here) as (λ o. on_some (λ s. scan ctx (flat body ++ instr.End ∷ (flat rest ++ is)) s) (after_open If ty (l ∷ levels) o) ≡ then ctx is (l ∷ levels) (cond (is_block_type ty && e && e0) (option_and_then (λ below. known_after outer rest (push_types (results_of ty) below)) o) None)) [
-      | None ↦ on_some-opened (λ s. scan ctx (flat body ++ instr.End ∷ (flat rest ++ is)) s) ty (l ∷ levels) ∙ then-none ctx is (l ∷ levels) (is_block_type ty && e && e0)
+    ∙ elim (pop I32 here) as (λ o. on_some (λ s. scan ctx (flat body ++ instr.End ∷ (flat rest ++ is)) s)
+    (after_open If ty (l ∷ levels) o) ≡ then ctx is (l ∷ levels) (cond (is_block_type ty && e && e0)
+    (option_and_then (λ below. known_after outer rest (push_types (results_of ty) below)) o) None)) [
+      | None ↦ on_some-opened (λ s. scan ctx (flat body ++ instr.End ∷ (flat rest ++ is)) s) ty (l ∷ levels)
+          ∙ then-none ctx is (l ∷ levels) (is_block_type ty && e && e0)
       | Some below ↦
           on_some-cond (λ s. scan ctx (flat body ++ instr.End ∷ (flat rest ++ is)) s) (is_block_type ty) (state (level If ty below ∷ l ∷ levels) nothing)
           ∙ then-if ctx is (l ∷ levels) (is_block_type ty) e e0 (known_after outer rest (push_types (results_of ty) below)) _
@@ -154,8 +169,12 @@ scan-flat ctx (InIfElse ty body other rest) is l levels here h =
     let e = ends (results_of ty) inner in
     let e1 = ends (results_of ty) second in
     let text = instr.Else ∷ (flat other ++ instr.End ∷ (flat rest ++ is)) in
-    ap (λ is. scan ctx (instr.If ty ∷ is) (state (l ∷ levels) here)) (append_assoc (flat body) (instr.Else ∷ (flat other ++ instr.End ∷ flat rest)) is ∙ ap (λ l. flat body ++ instr.Else ∷ l) (append_assoc (flat other) (instr.End ∷ flat rest) is))
-    ∙ elim (pop I32 here) as (λ o. on_some (λ s. scan ctx (flat body ++ text) s) (after_open If ty (l ∷ levels) o) ≡ then ctx is (l ∷ levels) (cond (is_block_type ty && e && e1) (option_and_then (λ below. known_after outer rest (push_types (results_of ty) below)) o) None)) [
+    ap (λ is. scan ctx (instr.If ty ∷ is) (state (l ∷ levels) here))
+    (append_assoc (flat body) (instr.Else ∷ (flat other ++ instr.End ∷ flat rest)) is
+    ∙ ap (λ l. flat body ++ instr.Else ∷ l) (append_assoc (flat other) (instr.End ∷ flat rest) is))
+    ∙ elim (pop I32 here) as (λ o. on_some (λ s. scan ctx (flat body ++ text) s) (after_open If ty (l ∷ levels) o)
+    ≡ then ctx is (l ∷ levels) (cond (is_block_type ty && e && e1)
+    (option_and_then (λ below. known_after outer rest (push_types (results_of ty) below)) o) None)) [
       | None ↦ on_some-opened (λ s. scan ctx (flat body ++ text) s) ty (l ∷ levels) ∙ then-none ctx is (l ∷ levels) (is_block_type ty && e && e1)
       | Some below ↦
           on_some-cond (λ s. scan ctx (flat body ++ text) s) (is_block_type ty) (state (level If ty below ∷ l ∷ levels) nothing)
@@ -201,17 +220,25 @@ reads-open i block opens inner l levels is first (InElse around other rest) not 
 reads-if : (inner l : Level) (levels : List Level) (is : List Instr) (ty : Option ValType) (first : Nest) (around : Open)
     → open_nest is ≡ Within first around → AreOpen (inner ∷ l ∷ levels) around → IsRead (l ∷ levels) (instr.If ty ∷ is)
 reads-if inner l levels is ty first Outside r b = absurd b
-reads-if inner l levels is ty first (InEnd around rest) r b = record { first = InIf ty first rest; around = around; read = ap (in_front (instr.If ty)) r; blocks = b }
-reads-if inner l levels is ty first (InElse around other rest) r b = record { first = InIfElse ty first other rest; around = around; read = ap (in_front (instr.If ty)) r; blocks = b.1 }
+reads-if inner l levels is ty first (InEnd around rest) r b =
+    record { first = InIf ty first rest; around = around; read = ap (in_front (instr.If ty)) r; blocks = b }
+reads-if inner l levels is ty first (InElse around other rest) r b =
+    record { first = InIfElse ty first other rest; around = around; read = ap (in_front (instr.If ty)) r; blocks = b.1 }
 
 reads-else : (inner l : Level) (levels : List Level) (is : List Instr) (first : Nest) (around : Open)
     → is_if inner.kind ≡ false → is_if l.kind ≡ true → open_nest is ≡ Within first around
     → AreOpen (inner ∷ levels) around → IsRead (l ∷ levels) (instr.Else ∷ is)
 reads-else inner l [] is first Outside not if r b = absurd b
-reads-else inner l [] is first (InEnd around rest) not if r b = record { first = Empty; around = InElse around first rest; read = ap (in_front instr.Else) r; blocks = (if, b.0, b.1) }
+reads-else inner l [] is first (InEnd around rest) not if r b = record {
+  first = Empty;
+  around = InElse around first rest;
+  read = ap (in_front instr.Else) r;
+  blocks = (if, b.0, b.1);
+}
 reads-else inner l [] is first (InElse around other rest) not if r b = absurd (false≢true (sym not ∙ b.0))
 reads-else inner l (outer ∷ levels) is first Outside not if r b = absurd b
-reads-else inner l (outer ∷ levels) is first (InEnd around rest) not if r b = record { first = Empty; around = InElse around first rest; read = ap (in_front instr.Else) r; blocks = (if, b) }
+reads-else inner l (outer ∷ levels) is first (InEnd around rest) not if r b =
+    record { first = Empty; around = InElse around first rest; read = ap (in_front instr.Else) r; blocks = (if, b) }
 reads-else inner l (outer ∷ levels) is first (InElse around other rest) not if r b = absurd (false≢true (sym not ∙ b.0))
 
 reads-end : (l outer : Level) (levels : List Level) (is : List Instr) → IsRead (outer ∷ levels) is
@@ -226,7 +253,12 @@ reads-last ctx l (i ∷ is) here h = absurd (false≢true h)
 
 reads-plain : (i : Instr) (levels : List Level) (is : List Instr) → IsTrue (is_plain i) → IsRead levels is
     → IsRead levels (i ∷ is)
-reads-plain i levels is h r = record { first = Plain i r.first; around = r.around; read = ap (in_front i) r.read ∙ plain_in_front i r.first r.around h; blocks = r.blocks }
+reads-plain i levels is h r = record {
+  first = Plain i r.first;
+  around = r.around;
+  read = ap (in_front i) r.read ∙ plain_in_front i r.first r.around h;
+  blocks = r.blocks;
+}
 
 cond-left : (b x : Bool) → cond b x false ≡ true → b ≡ true
 cond-left true x h = refl
@@ -245,7 +277,11 @@ then-some ctx is levels (Some k) h = (k, h)
 on_some-popped : (f : State → Bool) (ty : Option ValType) (levels : List Level) (o : Option Known)
     → on_some f (after_open If ty levels o) ≡ true → (k : Known) × (f (state (level If ty k ∷ levels) nothing) ≡ true)
 on_some-popped f ty levels None h = absurd (false≢true (sym (on_some-opened f ty levels) ∙ h))
-on_some-popped f ty levels (Some k) h = (k, cond-right (is_block_type ty) _ (sym (on_some-cond f (is_block_type ty) (state (level If ty k ∷ levels) nothing)) ∙ h))
+on_some-popped f ty levels (Some k) h = (
+  k,
+  cond-right (is_block_type ty) _
+      (sym (on_some-cond f (is_block_type ty) (state (level If ty k ∷ levels) nothing)) ∙ h),
+)
 
 typed-after : (ctx : Context) (i : Instr) (is : List Instr) (l : Level) (levels : List Level) (here : Known)
     → IsTrue (is_plain i) → scan ctx (i ∷ is) (state (l ∷ levels) here) ≡ true
@@ -260,10 +296,12 @@ scan-read : (ctx : Context) (is : List Instr) (l : Level) (levels : List Level) 
     → scan ctx is (state (l ∷ levels) here) ≡ true → IsRead (l ∷ levels) is
 scan-read ctx [] l levels here h = absurd (false≢true h)
 scan-read ctx (instr.Block ty ∷ is) l levels here h =
-    let r = scan-read ctx is (level Block ty here) (l ∷ levels) nothing (cond-right (is_block_type ty) _ (sym (on_some-cond (λ s. scan ctx is s) (is_block_type ty) (state (level Block ty here ∷ l ∷ levels) nothing)) ∙ h)) in
+    let r = scan-read ctx is (level Block ty here) (l ∷ levels) nothing (cond-right (is_block_type ty) _ (sym
+    (on_some-cond (λ s. scan ctx is s) (is_block_type ty) (state (level Block ty here ∷ l ∷ levels) nothing)) ∙ h)) in
     reads-open (instr.Block ty) (InBlock ty) (λ first rest around. refl) (level Block ty here) l levels is r.first r.around refl r.read r.blocks
 scan-read ctx (instr.Loop ty ∷ is) l levels here h =
-    let r = scan-read ctx is (level Loop ty here) (l ∷ levels) nothing (cond-right (is_block_type ty) _ (sym (on_some-cond (λ s. scan ctx is s) (is_block_type ty) (state (level Loop ty here ∷ l ∷ levels) nothing)) ∙ h)) in
+    let r = scan-read ctx is (level Loop ty here) (l ∷ levels) nothing (cond-right (is_block_type ty) _ (sym
+    (on_some-cond (λ s. scan ctx is s) (is_block_type ty) (state (level Loop ty here ∷ l ∷ levels) nothing)) ∙ h)) in
     reads-open (instr.Loop ty) (InLoop ty) (λ first rest around. refl) (level Loop ty here) l levels is r.first r.around refl r.read r.blocks
 scan-read ctx (instr.If ty ∷ is) l levels here h =
     let p = on_some-popped (λ s. scan ctx is s) ty (l ∷ levels) (pop I32 here) h in
@@ -273,13 +311,17 @@ scan-read ctx (instr.Else ∷ is) l levels here h =
     let lv = level Block l.result l.below in
     let c = sym (on_some-cond (λ s. scan ctx is s) (is_if l.kind && may_leave l here) (state (lv ∷ levels) nothing)) ∙ h in
     let r = scan-read ctx is lv levels nothing (cond-right (is_if l.kind && may_leave l here) _ c) in
-    reads-else lv l levels is r.first r.around refl (and_left (is_if l.kind) (may_leave l here) (cond-left (is_if l.kind && may_leave l here) _ c)) r.read r.blocks
+    reads-else lv l levels is r.first r.around refl
+    (and_left (is_if l.kind) (may_leave l here) (cond-left (is_if l.kind && may_leave l here) _ c)) r.read r.blocks
 scan-read ctx (instr.End ∷ is) l [] here h =
     let after = push_types (results_of l.result) l.below in
-    reads-last ctx l is after (cond-right (may_close l.kind l.result && may_leave l here) _ (sym (on_some-cond (λ s. scan ctx is s) (may_close l.kind l.result && may_leave l here) (state [] after)) ∙ h))
+    reads-last ctx l is after (cond-right (may_close l.kind l.result && may_leave l here) _
+    (sym (on_some-cond (λ s. scan ctx is s) (may_close l.kind l.result && may_leave l here) (state [] after)) ∙ h))
 scan-read ctx (instr.End ∷ is) l (outer ∷ levels) here h =
     let after = push_types (results_of l.result) l.below in
-    reads-end l outer levels is (scan-read ctx is outer levels after (cond-right (may_close l.kind l.result && may_leave l here) _ (sym (on_some-cond (λ s. scan ctx is s) (may_close l.kind l.result && may_leave l here) (state (outer ∷ levels) after)) ∙ h)))
+    reads-end l outer levels is (scan-read ctx is outer levels after
+    (cond-right (may_close l.kind l.result && may_leave l here) _ (sym (on_some-cond (λ s. scan ctx is s)
+    (may_close l.kind l.result && may_leave l here) (state (outer ∷ levels) after)) ∙ h)))
 scan-read ctx (i ∷ is) l levels here h =
     let k = typed-after ctx i is l levels here refl h in
     reads-plain i (l ∷ levels) is refl (scan-read ctx is l levels k.0 k.1)
@@ -287,7 +329,8 @@ scan-read ctx (i ∷ is) l levels here h =
 whole-body : (result : Option ValType) (body : List Instr) (first : Nest) (around : Open)
     → open_nest body ≡ Within first around → AreOpen (level Block result nothing ∷ []) around → nest_of body ≡ Some first
 whole-body result body first Outside r b = absurd b
-whole-body result body first (InEnd around rest) r b = ap closed_nest (r ∙ ap (λ o. Within first (InEnd o rest)) b.0 ∙ ap (λ n. Within first (InEnd Outside n)) b.1)
+whole-body result body first (InEnd around rest) r b =
+    ap closed_nest (r ∙ ap (λ o. Within first (InEnd o rest)) b.0 ∙ ap (λ n. Within first (InEnd Outside n)) b.1)
 whole-body result body first (InElse around other rest) r b = absurd (false≢true b.0)
 
 -- ---- a whole body
@@ -310,7 +353,8 @@ scan-nest ctx result nest body b =
     ∙ then-end ctx [] l [] known
     ∙ cond-same (ends (results_of result) known)
 
-scan-cases : (ctx : Context) (result : Option ValType) (body : List Instr) (read : (nest : Nest) → nest_of body ≡ Some nest → IsBody nest body) (o : Option Nest)
+scan-cases : (ctx : Context) (result : Option ValType) (body : List Instr)
+    (read : (nest : Nest) → nest_of body ≡ Some nest → IsBody nest body) (o : Option Nest)
     → nest_of body ≡ o
     → scan ctx body (body_start result) ≡ nest_ends (within ctx (body_start result).levels) (results_of result) o
 scan-cases ctx result body read (Some nest) e = scan-nest ctx result nest body (read nest e)

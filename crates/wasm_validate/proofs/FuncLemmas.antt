@@ -22,7 +22,9 @@ use Rattle.wasm_validate.specs.Scopes.{base}
 use Rattle.wasm_validate.proofs.FlatLemmas.{scan-body}
 
 one-result : (ty : FuncType) → is_func_type ty ≡ true → length ty.results ≤ 1
-one-result ty h = leb-true (length ty.results) 1 (and_right (are_numbers ty.results) (nat_le (length ty.results) 1) (and_right (are_numbers ty.params) (are_numbers ty.results && nat_le (length ty.results) 1) h))
+one-result ty h =
+    leb-true (length ty.results) 1 (and_right (are_numbers ty.results) (nat_le (length ty.results) 1)
+    (and_right (are_numbers ty.params) (are_numbers ty.results && nat_le (length ty.results) 1) h))
 
 -- each type has at most one result
 pub results-at : (types : List FuncType) (t : ℕ) (ty : FuncType) → list_all is_func_type types ≡ true
@@ -57,7 +59,8 @@ position-found p xs i d h before here =
 pub position-none : {A : Type 0} (p : A → Bool) (xs : List A) (i : ℕ) (d : A) → length xs ≤ i
     → ((k : ℕ) → k < i → p (get_or xs k d) ≡ false) → None ≡ position p xs
 position-none p xs i d h before =
-    let e : position_or_len p xs ≡ length xs = position_or_len_is p xs (length xs) d (omega arith) (λ k lt. before k (omega arith)) (λ lt. absurd (omega arith)) in
+    let e : position_or_len p xs ≡ length xs =
+    position_or_len_is p xs (length xs) d (omega arith) (λ k lt. before k (omega arith)) (λ lt. absurd (omega arith)) in
     sym (ap (λ n. cond (nat_lt n (length xs)) (Some n) None) e ∙ ap (λ b. cond b (Some (length xs)) None) (lt-leb (suc (length xs)) (length xs) (omega arith)))
 
 -- the place of the first fault of a module that is valid outside its bodies

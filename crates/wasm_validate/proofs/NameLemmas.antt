@@ -36,7 +36,9 @@ or-comm false false = refl
 pub has-name : (keys : List (Bor (List ℕ))) (name : List ℕ)
     → list_any (λ (k : Bor (List ℕ)). is_eq (slice_cmp nat_cmp name k.now)) keys ≡ list_any (λ (k : Bor (List ℕ)). bytes_eq name k.now) keys
 has-name [] name = refl
-has-name (k ∷ keys) name = ap (λ b. b || list_any (λ (k : Bor (List ℕ)). is_eq (slice_cmp nat_cmp name k.now)) keys) (is_eq-slice_cmp name k.now) ∙ ap (λ b. bytes_eq name k.now || b) (has-name keys name)
+has-name (k ∷ keys) name =
+    ap (λ b. b || list_any (λ (k : Bor (List ℕ)). is_eq (slice_cmp nat_cmp name k.now)) keys)
+    (is_eq-slice_cmp name k.now) ∙ ap (λ b. bytes_eq name k.now || b) (has-name keys name)
 
 or-twice : (a b : Bool) → (a || b) ≡ (a || (a || b))
 or-twice true b = refl
@@ -59,24 +61,32 @@ same-bytes : (name x : List ℕ) → slice_cmp nat_cmp name x ≡ Equal → name
 same-bytes name x e = (bytes_eq-Decides name x).0 (sym (is_eq-slice_cmp name x) ∙ ap is_eq e)
 
 pub insert-known : (keys : List (Bor (List ℕ))) (name : Bor (List ℕ)) (other : List ℕ)
-    → list_any (λ (k : Bor (List ℕ)). bytes_eq other k.now) (insert_key (λ (a b : Bor (List ℕ)). slice_cmp nat_cmp a.now b.now) keys name) ≡ (bytes_eq other name.now || list_any (λ (k : Bor (List ℕ)). bytes_eq other k.now) keys)
+    → list_any (λ (k : Bor (List ℕ)). bytes_eq other k.now)
+    (insert_key (λ (a b : Bor (List ℕ)). slice_cmp nat_cmp a.now b.now) keys name)
+    ≡ (bytes_eq other name.now || list_any (λ (k : Bor (List ℕ)). bytes_eq other k.now) keys)
 insert-known [] name other = refl
 insert-known (x ∷ keys) name other =
     let p : Bor (List ℕ) → Bool = λ k. bytes_eq other k.now in
-    inserted p name x keys (insert_key (λ (a b : Bor (List ℕ)). slice_cmp nat_cmp a.now b.now) keys name) (slice_cmp nat_cmp name.now x.now) (λ e. ap (bytes_eq other) (same-bytes name.now x.now e)) (insert-known keys name other)
+    inserted p name x keys (insert_key (λ (a b : Bor (List ℕ)). slice_cmp nat_cmp a.now b.now) keys name)
+    (slice_cmp nat_cmp name.now x.now) (λ e. ap (bytes_eq other) (same-bytes name.now x.now e))
+    (insert-known keys name other)
 
 -- ---- names that are new
 
 fresh-next : (exports : List Export) (i : ℕ) (e : Export) → i < length exports → e ≡ get_or exports i e
-    → are_new_names (take i exports) (drop i exports) ≡ (not (exports_have (take i exports) e.name) && are_new_names (take (i + 1) exports) (drop (i + 1) exports))
+    → are_new_names (take i exports) (drop i exports)
+    ≡ (not (exports_have (take i exports) e.name) && are_new_names (take (i + 1) exports) (drop (i + 1) exports))
 fresh-next exports i e h is =
     ap (are_new_names (take i exports)) (drop_more exports i e h ∙ ap (λ (y : Export). y ∷ drop (i + 1) exports) (sym is))
-    ∙ ap (λ l. not (exports_have (take i exports) e.name) && are_new_names l (drop (i + 1) exports)) (ap (λ y. take i exports ++ y ∷ []) is ∙ sym (take_more exports i e h))
+    ∙ ap (λ l. not (exports_have (take i exports) e.name) && are_new_names l (drop (i + 1) exports))
+    (ap (λ y. take i exports ++ y ∷ []) is ∙ sym (take_more exports i e h))
 
 pub fresh-stops : (exports : List Export) (i : ℕ) (e : Export) (added : Bool) → i < length exports
     → e ≡ get_or exports i e → added ≡ not (exports_have (take i exports) e.name) → added ≡ false
     → false ≡ are_new_names (take i exports) (drop i exports)
-fresh-stops exports i e added h is reported new = ap (λ b. b && are_new_names (take (i + 1) exports) (drop (i + 1) exports)) (sym new ∙ reported) ∙ sym (fresh-next exports i e h is)
+fresh-stops exports i e added h is reported new =
+    ap (λ b. b && are_new_names (take (i + 1) exports) (drop (i + 1) exports)) (sym new ∙ reported)
+    ∙ sym (fresh-next exports i e h is)
 
 pub fresh-ends : (exports : List Export) (i : ℕ) → length exports ≤ i
     → true ≡ are_new_names (take i exports) (drop i exports)
@@ -98,22 +108,29 @@ and-shift true false c d = refl
 and-shift false b c d = refl
 
 bytes_eq-swap : (a b : List ℕ) → bytes_eq a b ≡ bytes_eq b a
-bytes_eq-swap a b = same_tests (bytes_eq a b) (bytes_eq b a) (λ h. (bytes_eq-Decides b a).1 (sym ((bytes_eq-Decides a b).0 h))) (λ h. (bytes_eq-Decides a b).1 (sym ((bytes_eq-Decides b a).0 h)))
+bytes_eq-swap a b =
+    same_tests (bytes_eq a b) (bytes_eq b a) (λ h. (bytes_eq-Decides b a).1 (sym ((bytes_eq-Decides a b).0 h)))
+    (λ h. (bytes_eq-Decides a b).1 (sym ((bytes_eq-Decides b a).0 h)))
 
 new-more : (done : List Export) (e : Export) (name : List ℕ)
     → not (exports_have (done ++ e ∷ []) name) ≡ (not (exports_have done name) && not (bytes_eq e.name name))
 new-more done e name =
-    ap not (list_any-append (λ (x : Export). bytes_eq name x.name) done (e ∷ []) ∙ sym (or-last (bytes_eq name e.name) (exports_have done name)) ∙ or-comm (bytes_eq name e.name) (exports_have done name))
+    ap not (list_any-append (λ (x : Export). bytes_eq name x.name) done (e ∷ []) ∙ sym
+    (or-last (bytes_eq name e.name) (exports_have done name)) ∙ or-comm (bytes_eq name e.name) (exports_have done name))
     ∙ not-or (exports_have done name) (bytes_eq name e.name)
     ∙ ap (λ b. not (exports_have done name) && not b) (bytes_eq-swap name e.name)
 
 all-new : (done : List Export) (e : Export) (rest : List Export)
-    → list_all (λ (x : Export). not (exports_have (done ++ e ∷ []) x.name)) rest ≡ (list_all (λ (x : Export). not (exports_have done x.name)) rest && list_all (λ (x : Export). not (bytes_eq e.name x.name)) rest)
+    → list_all (λ (x : Export). not (exports_have (done ++ e ∷ []) x.name)) rest
+    ≡ (list_all (λ (x : Export). not (exports_have done x.name)) rest
+    && list_all (λ (x : Export). not (bytes_eq e.name x.name)) rest)
 all-new done e [] = refl
 all-new done e (x ∷ rest) =
     ap (λ b. b && list_all (λ (x : Export). not (exports_have (done ++ e ∷ []) x.name)) rest) (new-more done e x.name)
     ∙ ap (λ b. (not (exports_have done x.name) && not (bytes_eq e.name x.name)) && b) (all-new done e rest)
-    ∙ and-cross (not (exports_have done x.name)) (not (bytes_eq e.name x.name)) (list_all (λ (x : Export). not (exports_have done x.name)) rest) (list_all (λ (x : Export). not (bytes_eq e.name x.name)) rest)
+    ∙ and-cross (not (exports_have done x.name)) (not (bytes_eq e.name x.name))
+    (list_all (λ (x : Export). not (exports_have done x.name)) rest)
+    (list_all (λ (x : Export). not (bytes_eq e.name x.name)) rest)
 
 fresh-differ : (done rest : List Export)
     → are_new_names done rest ≡ (list_all (λ (x : Export). not (exports_have done x.name)) rest && names_differ rest)
@@ -121,7 +138,8 @@ fresh-differ done [] = refl
 fresh-differ done (e ∷ rest) =
     ap (λ b. not (exports_have done e.name) && b) (fresh-differ (done ++ e ∷ []) rest)
     ∙ ap (λ b. not (exports_have done e.name) && (b && names_differ rest)) (all-new done e rest)
-    ∙ and-shift (not (exports_have done e.name)) (list_all (λ (x : Export). not (exports_have done x.name)) rest) (list_all (λ (x : Export). not (bytes_eq e.name x.name)) rest) (names_differ rest)
+    ∙ and-shift (not (exports_have done e.name)) (list_all (λ (x : Export). not (exports_have done x.name)) rest)
+    (list_all (λ (x : Export). not (bytes_eq e.name x.name)) rest) (names_differ rest)
 
 none-seen : (exports : List Export) → list_all (λ (x : Export). not (exports_have [] x.name)) exports ≡ true
 none-seen [] = refl

@@ -25,7 +25,9 @@ same-test a b c d f g =
 pub none_left-above : (count height : ℕ) (slots : List (Option ValType)) → count ≡ length slots
     → leb count height ≡ none_left (reverse (drop height slots))
 none_left-above count height slots e =
-    same-test count height (length (reverse (drop height slots))) 0 (λ h. omega (arith, e, length-reverse (drop height slots), length-drop height slots)) (λ h. omega (arith, e, length-reverse (drop height slots), length-drop height slots))
+    same-test count height (length (reverse (drop height slots))) 0
+    (λ h. omega (arith, e, length-reverse (drop height slots), length-drop height slots))
+    (λ h. omega (arith, e, length-reverse (drop height slots), length-drop height slots))
     ∙ none_left-length (reverse (drop height slots))
 
 -- any operands can be popped if anything may be on the stack
@@ -68,7 +70,8 @@ label-there frames outer count index place f e p is =
     let within : index < length frames = omega arith in
     let at : length frames - 1 - index ≡ place = omega arith in
     let found : slice_get (reverse frames) index ≡ Some f =
-    slice_get-get_or (reverse frames) index f (omega (arith, length-reverse frames)) ∙ ap Some (get_or-reverse frames index f within ∙ ap (λ n. get_or frames n f) at ∙ sym is)
+    slice_get-get_or (reverse frames) index f (omega (arith, length-reverse frames))
+    ∙ ap Some (get_or-reverse frames index f within ∙ ap (λ n. get_or frames n f) at ∙ sym is)
     in
     sym (labels-at frames outer index ∙ ap (option_map frame_label) found)
 
@@ -98,7 +101,11 @@ heights-set frames last f g outer e is same h =
     subst (λ fs. AreHeights fs outer) (sym (last-set frames last g e))
     (omega (arith, before.0), subst (λ n. AreHeights (reverse (take last frames)) (take n outer)) (sym same) before.1)
 
-pub parted-frames : (frames : List Frame) (last : ℕ) (f : Frame) (outer : List (Option ValType)) (here : Known) → length frames ≡ last + 1 → f ≡ get_or frames last f → is_if f.kind ≡ true → ends (results_of f.result) (Some here) ≡ true → Some (state (levels_of (reverse (slice_set frames last (record f { kind = Block }))) outer) nothing) ≡ after_else (levels_of (reverse frames) outer) here
+pub parted-frames : (frames : List Frame) (last : ℕ) (f : Frame) (outer : List (Option ValType)) (here : Known)
+    → length frames ≡ last + 1 → f ≡ get_or frames last f → is_if f.kind ≡ true
+    → ends (results_of f.result) (Some here) ≡ true
+    → Some (state (levels_of (reverse (slice_set frames last (record f { kind = Block }))) outer) nothing)
+    ≡ after_else (levels_of (reverse frames) outer) here
 parted-frames frames last f outer here e is if may =
     let pass : (is_if f.kind && ends (results_of f.result) (Some here)) ≡ true = ap (λ b. b && ends (results_of f.result) (Some here)) if ∙ may in
     let l : Level = level f.kind f.result (known_stack (reverse (drop f.height outer)) f.free) in

@@ -15,7 +15,9 @@ two_answers_weights : TwoAnswersWeights
 two_answers_weights = refl
 
 two_answers_bytes : TwoAnswersBytes
-unfolding u32_bytes unsigned_bytes s64_bytes signed_bytes i32_bytes i64_bytes func_type_bytes limits_bytes global_type_bytes const_bytes instr_bytes custom_bytes import_bytes global_bytes export_bytes elem_bytes data_bytes code_bytes content_bytes section_bytes sections_of encoding_of
+unfolding u32_bytes unsigned_bytes s64_bytes signed_bytes i32_bytes i64_bytes func_type_bytes limits_bytes
+    global_type_bytes const_bytes instr_bytes custom_bytes import_bytes global_bytes export_bytes elem_bytes data_bytes
+    code_bytes content_bytes section_bytes sections_of encoding_of
 two_answers_bytes = refl
 
 every_kind_functions : EveryKindFunctions

@@ -45,7 +45,9 @@ calls_of_groups =
     }
 
 pub two_answers_size : TwoAnswersSize
-unfolding unsigned_bytes u32_bytes signed_bytes s64_bytes i32_bytes i64_bytes func_type_bytes limits_bytes global_type_bytes const_bytes instr_bytes custom_bytes import_bytes global_bytes export_bytes elem_bytes data_bytes code_bytes content_bytes section_bytes sections_of encoding_of
+unfolding unsigned_bytes u32_bytes signed_bytes s64_bytes i32_bytes i64_bytes func_type_bytes limits_bytes
+    global_type_bytes const_bytes instr_bytes custom_bytes import_bytes global_bytes export_bytes elem_bytes data_bytes
+    code_bytes content_bytes section_bytes sections_of encoding_of
 two_answers_size = record { size = refl; within = refl }
 
 pub declared_segment : DeclaredSegment

@@ -27,11 +27,15 @@ returns-in_err-loaded-clause-refused g c = λ fault known e none sure.
 pub returns-clause-refused : goal.returns-clause-refused
 returns-clause-refused g c = λ fault known e none sure.
     IsErrAnd-refused c.output_of_command.result fault
-    (c.output_of_command.ensures.refused fault (subst (λ loaded. IsRefusal c.args.call.now.command loaded c.args.call.now.numbers fault) (sym (ap all_bytes c.deref.ensures.value ∙ c.in_ok-loaded.ensures.bytes known e)) sure))
+    (c.output_of_command.ensures.refused fault
+    (subst (λ loaded. IsRefusal c.args.call.now.command loaded c.args.call.now.numbers fault)
+    (sym (ap all_bytes c.deref.ensures.value ∙ c.in_ok-loaded.ensures.bytes known e)) sure))
 
 pub returns-clause-cause : goal.returns-clause-cause
 returns-clause-cause g c =
-    IfErr-bytes c.output_of_command.result _ c.args.call.now.command _ _ c.args.call.now.numbers (λ known e. ap all_bytes c.deref.ensures.value ∙ c.in_ok-loaded.ensures.bytes known e) c.output_of_command.ensures.cause
+    IfErr-bytes c.output_of_command.result _ c.args.call.now.command _ _ c.args.call.now.numbers
+    (λ known e. ap all_bytes c.deref.ensures.value ∙ c.in_ok-loaded.ensures.bytes known e)
+    c.output_of_command.ensures.cause
 
 -- no longer file is found if there is none
 none-longer : {X : Type 0} (found : Option X) → found ≡ None → IsSome found → ⊥
@@ -55,7 +59,8 @@ returns-in_err-loaded-clause-done g c = λ known e none doable.
 pub returns-clause-done : goal.returns-clause-done
 returns-clause-done g c = λ known e none doable.
     IfErr-done c.output_of_command.result
-    (c.output_of_command.ensures.done (subst (λ loaded. IsDoable c.args.call.now.command loaded c.args.call.now.numbers) (sym (ap all_bytes c.deref.ensures.value ∙ c.in_ok-loaded.ensures.bytes known e)) doable))
+    (c.output_of_command.ensures.done (subst (λ loaded. IsDoable c.args.call.now.command loaded c.args.call.now.numbers)
+    (sym (ap all_bytes c.deref.ensures.value ∙ c.in_ok-loaded.ensures.bytes known e)) doable))
 
 -- no names
 no-names : {Y : Type 0} (names : List (String Y)) → texts names ≡ [] → length names ≡ 0

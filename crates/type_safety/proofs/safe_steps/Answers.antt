@@ -1,13 +1,10 @@
 -- The operations' results fit, by the law that is called; the rest are lemmas on the definitions.
-use Rattle.type_safety.proofs.Numbers.{ResultsFit, results_fit}
 use Rattle.type_safety.proofs.Runs.{program_start_safe, program_step_safe, call_safe, results_safe}
 use Rattle.type_safety.proofs.safe_steps.Goals as goal
 
 pub returns-clause-starts : goal.returns-clause-starts
 returns-clause-starts c = λ m heights program store main valid typed fits is_store actions.
-    let fit = c.values_fit.ensures in
-    let laws : ResultsFit = results_fit fit.test fit.compare fit.unary fit.binary fit.convert in
-    program_start_safe laws m heights typed valid program fits store main is_store actions
+    program_start_safe c.values_fit.ensures m heights typed valid program fits store main is_store actions
 
 pub returns-clause-calls : goal.returns-clause-calls
 returns-clause-calls c = call_safe
@@ -17,6 +14,4 @@ returns-clause-results c = results_safe
 
 pub returns-clause-steps : goal.returns-clause-steps
 returns-clause-steps c = λ m heights program config valid typed fits is_config.
-    let fit = c.values_fit.ensures in
-    let laws : ResultsFit = results_fit fit.test fit.compare fit.unary fit.binary fit.convert in
-    program_step_safe laws m heights typed valid program fits config is_config
+    program_step_safe c.values_fit.ensures m heights typed valid program fits config is_config

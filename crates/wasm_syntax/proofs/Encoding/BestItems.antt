@@ -163,8 +163,8 @@ module _ (laws : NumberLaws) where
   code_best form code =
       sized_best laws (EncodesLocals then EncodesExpr form) (λ (p : List Run × List Instr). FitsLocals p.0 × FitsBody form p.1)
       (λ (p : List Run × List Instr). vector_bytes run_bytes p.0 ++ body_bytes p.1)
-      (λ (p : List Run × List Instr). then_best EncodesLocals (EncodesExpr form) FitsLocals (FitsBody form) (vector_bytes run_bytes) body_bytes locals_best (body_best laws form) p.0 p.1)
-      (code.locals, code.body)
+      (λ (p : List Run × List Instr). then_best EncodesLocals (EncodesExpr form) FitsLocals (FitsBody form)
+      (vector_bytes run_bytes) body_bytes locals_best (body_best laws form) p.0 p.1) (code.locals, code.body)
 
   -- ---- imports, globals, exports, segments, custom sections
 
@@ -180,13 +180,15 @@ module _ (laws : NumberLaws) where
       (λ fits. (fits.0, (fits.1, fits.2))) (λ both. (both.0, both.1.0, both.1.1))
       (then_best EncodesName (EncodesName then EncodesImportKind) (λ name. IsUtf8 name) (λ (p : List ℕ × ImportKind). IsUtf8 p.0 × FitsImportKind p.1)
       sized_bytes (λ (p : List ℕ × ImportKind). sized_bytes p.0 ++ import_kind_bytes p.1) (name_best laws)
-      (λ (p : List ℕ × ImportKind). then_best EncodesName EncodesImportKind (λ name. IsUtf8 name) FitsImportKind sized_bytes import_kind_bytes (name_best laws) import_kind_best p.0 p.1)
+      (λ (p : List ℕ × ImportKind). then_best EncodesName EncodesImportKind
+      (λ name. IsUtf8 name) FitsImportKind sized_bytes import_kind_bytes (name_best laws) import_kind_best p.0 p.1)
       i.module (i.name, i.kind))
 
   pub global_best : (form : Form) → IsWrittenBy (EncodesGlobal form) (FitsGlobal form) global_bytes
   unfolding global_bytes
   global_best form g =
-      then_best EncodesGlobalType (EncodesExpr form) (λ (ty : GlobalType). FitsValType ty.ty) (FitsBody form) global_type_bytes body_bytes global_type_best (body_best laws form) g.ty g.init
+      then_best EncodesGlobalType (EncodesExpr form) (λ (ty : GlobalType). FitsValType ty.ty)
+      (FitsBody form) global_type_bytes body_bytes global_type_best (body_best laws form) g.ty g.init
 
   export_kind_best : IsWrittenBy EncodesExportKind FitsExportKind export_kind_bytes
   export_kind_best (exports.Func n) = marked_best 0x00 EncodesU32 FitsU32 u32_bytes (u32_best laws) n
@@ -196,15 +198,19 @@ module _ (laws : NumberLaws) where
 
   pub export_best : IsWrittenBy EncodesExport FitsExport export_bytes
   unfolding export_bytes
-  export_best e = then_best EncodesName EncodesExportKind (λ name. IsUtf8 name) FitsExportKind sized_bytes export_kind_bytes (name_best laws) export_kind_best e.name e.kind
+  export_best e =
+      then_best EncodesName EncodesExportKind (λ name. IsUtf8 name) FitsExportKind sized_bytes export_kind_bytes
+      (name_best laws) export_kind_best e.name e.kind
 
   active_best : (form : Form) (table : ℕ) (offset : List Instr) (funcs : List ℕ)
-      → IsBest (λ bytes. (EncodesU32 then EncodesExpr form then EncodesIndices) bytes (table, (offset, funcs))) (FitsU32 table × (FitsBody form offset × AllByRecursion FitsU32 funcs))
+      → IsBest (λ bytes. (EncodesU32 then EncodesExpr form then EncodesIndices) bytes (table, (offset, funcs)))
+      (FitsU32 table × (FitsBody form offset × AllByRecursion FitsU32 funcs))
       (u32_bytes table ++ (body_bytes offset ++ vector_bytes u32_bytes funcs))
   active_best form table offset funcs =
       then_best EncodesU32 (EncodesExpr form then EncodesIndices) FitsU32 (λ (p : List Instr × List ℕ). FitsBody form p.0 × AllByRecursion FitsU32 p.1)
       u32_bytes (λ (p : List Instr × List ℕ). body_bytes p.0 ++ vector_bytes u32_bytes p.1) (u32_best laws)
-      (λ (p : List Instr × List ℕ). then_best (EncodesExpr form) EncodesIndices (FitsBody form) (AllByRecursion FitsU32) body_bytes (vector_bytes u32_bytes) (body_best laws form) (indices_best laws) p.0 p.1)
+      (λ (p : List Instr × List ℕ). then_best (EncodesExpr form) EncodesIndices (FitsBody form)
+      (AllByRecursion FitsU32) body_bytes (vector_bytes u32_bytes) (body_best laws form) (indices_best laws) p.0 p.1)
       table (offset, funcs)
 
   pub elem_best : (form : Form) → IsWrittenBy (EncodesElemSeg form) (FitsElemSeg form) elem_bytes
@@ -217,19 +223,23 @@ module _ (laws : NumberLaws) where
       refit (λ bytes. EncodesElemSeg Replay bytes (Active table offset funcs)) (u32_bytes table ++ (body_bytes offset ++ vector_bytes u32_bytes funcs))
       (λ fits. (fits.0, (subst (λ n. FitsU32 n) (sym fits.0) (omega arith), (fits.1, fits.2)))) (λ both. (both.0, both.1.1.0, both.1.1.1))
       (under_best {C = table ≡ 0} (λ bytes. (EncodesU32 then EncodesExpr Replay then EncodesIndices) bytes (table, (offset, funcs)))
-      (FitsU32 table × (FitsBody Replay offset × AllByRecursion FitsU32 funcs)) (u32_bytes table ++ (body_bytes offset ++ vector_bytes u32_bytes funcs)) (active_best Replay table offset funcs))
+      (FitsU32 table × (FitsBody Replay offset × AllByRecursion FitsU32 funcs))
+      (u32_bytes table ++ (body_bytes offset ++ vector_bytes u32_bytes funcs)) (active_best Replay table offset funcs))
   elem_best Replay (Declared funcs) =
-      refit (λ bytes. EncodesElemSeg Replay bytes (Declared funcs)) (u32_bytes 3 ++ 0x00 ∷ vector_bytes u32_bytes funcs) (λ fits. (omega arith, fits)) (λ both. both.1)
+      refit (λ bytes. EncodesElemSeg Replay bytes (Declared funcs)) (u32_bytes 3 ++ 0x00 ∷ vector_bytes u32_bytes funcs)
+      (λ fits. (omega arith, fits)) (λ both. both.1)
       (then_best EncodesU32 (Marked 0x00 EncodesIndices) FitsU32 (AllByRecursion FitsU32) u32_bytes (λ (ns : List ℕ). 0x00 ∷ vector_bytes u32_bytes ns)
       (u32_best laws) (marked_best 0x00 EncodesIndices (AllByRecursion FitsU32) (vector_bytes u32_bytes) (indices_best laws)) 3 funcs)
 
   pub data_best : (form : Form) → IsWrittenBy (EncodesDataSeg form) (FitsDataSeg form) data_bytes
   unfolding data_bytes
   data_best form d =
-      refit (λ bytes. EncodesDataSeg form bytes d) (u32_bytes d.memory ++ (body_bytes d.offset ++ sized_bytes d.bytes)) (λ fits. (fits.0, (fits.1, tt))) (λ both. (both.0, both.1.0))
+      refit (λ bytes. EncodesDataSeg form bytes d) (u32_bytes d.memory ++ (body_bytes d.offset ++ sized_bytes d.bytes))
+      (λ fits. (fits.0, (fits.1, tt))) (λ both. (both.0, both.1.0))
       (then_best EncodesU32 (EncodesExpr form then EncodesBytes) FitsU32 (λ (p : List Instr × List ℕ). FitsBody form p.0 × Unit {0})
       u32_bytes (λ (p : List Instr × List ℕ). body_bytes p.0 ++ sized_bytes p.1) (u32_best laws)
-      (λ (p : List Instr × List ℕ). then_best (EncodesExpr form) EncodesBytes (FitsBody form) (λ content. Unit {0}) body_bytes sized_bytes (body_best laws form) (bytes_best laws) p.0 p.1)
+      (λ (p : List Instr × List ℕ). then_best (EncodesExpr form) EncodesBytes (FitsBody form)
+      (λ content. Unit {0}) body_bytes sized_bytes (body_best laws form) (bytes_best laws) p.0 p.1)
       d.memory (d.offset, d.bytes))
 
   pub custom_best : IsWrittenBy EncodesCustom (λ (c : Custom). IsUtf8 c.name) custom_bytes

@@ -104,7 +104,12 @@ share_customs : (sections : List Section) → cost (map CustomSection (flat_map 
 unfolding cost share
 share_customs [] = omega arith
 share_customs (CustomSection custom ∷ rest) =
-    omega (arith, length-append (section_bytes (CustomSection custom)) (flat_map section_bytes (map CustomSection (flat_map customs_in rest))), share_customs rest)
+    omega (
+      arith,
+      length-append (section_bytes (CustomSection custom))
+          (flat_map section_bytes (map CustomSection (flat_map customs_in rest))),
+      share_customs rest,
+    )
 share_customs (section ∷ rest) = omega (arith, share_customs rest)
 
 shares : (sections : List Section)
@@ -125,7 +130,9 @@ cost_front xs ys a b first rest =
 arranged_no_longer : (last : ℕ) (sections : List Section) → AreInOrder last sections
     → cost (arranged_from sections) ≤ cost sections
 arranged_no_longer last sections h =
-    let all : cost (arranged_from sections) ≤ share 1 sections + (share 2 sections + (share 3 sections + (share 4 sections + (share 5 sections + (share 6 sections + (share 7 sections + (share 8 sections + (share 9 sections + (share 10 sections + (share 11 sections + share 0 sections)))))))))) =
+    let all : cost (arranged_from sections) ≤ share 1 sections + (share 2 sections
+    + (share 3 sections + (share 4 sections + (share 5 sections + (share 6 sections + (share 7 sections
+    + (share 8 sections + (share 9 sections + (share 10 sections + (share 11 sections + share 0 sections)))))))))) =
     cost_front _ _ _ _ (share_no_more 1 (unless_empty TypeSection) types_in types_part last sections h) (
     cost_front _ _ _ _ (share_no_more 2 (unless_empty ImportSection) imports_in imports_part last sections h) (
     cost_front _ _ _ _ (share_no_more 3 (unless_empty FunctionSection) functions_in functions_part last sections h) (
@@ -189,7 +196,12 @@ module _ (laws : NumberLaws) (form : Form) where
   unfolding encoding_of
   fitting_encodes m all = record {
     sections = sections_of m;
-    encoded = record { behind = flat_map section_bytes (sections_of m); begins = refl; each = each_encodes (sections_of m) all; in_order = sections_in_order m };
+    encoded = record {
+      behind = flat_map section_bytes (sections_of m);
+      begins = refl;
+      each = each_encodes (sections_of m) all;
+      in_order = sections_in_order m;
+    };
     hold = sections_hold m;
   }
 

@@ -68,7 +68,9 @@ mutability_best true = exactly_best (0x01 ∷ [])
 
 pub global_type_best : IsWrittenBy EncodesGlobalType (λ (ty : GlobalType). FitsValType ty.ty) global_type_bytes
 unfolding global_type_bytes
-global_type_best ty = refit (λ bytes. EncodesGlobalType bytes ty) (val_type_bytes ty.ty ++ mutability_byte ty.mutable ∷ []) (λ fits. (fits, tt)) (λ both. both.0)
+global_type_best ty =
+    refit (λ bytes. EncodesGlobalType bytes ty) (val_type_bytes ty.ty ++ mutability_byte ty.mutable ∷ [])
+    (λ fits. (fits, tt)) (λ both. both.0)
     (then_best EncodesValType EncodesMutability FitsValType (λ mutable. Unit {0}) val_type_bytes (λ mutable. mutability_byte mutable ∷ [])
     val_type_best mutability_best ty.ty ty.mutable)
 
@@ -79,9 +81,11 @@ module _ (laws : NumberLaws) where
   pub func_type_best : IsWrittenBy EncodesFuncType FitsFuncType func_type_bytes
   unfolding func_type_bytes
   func_type_best ty =
-      marked_best 0x60 (VectorOf EncodesValType then VectorOf EncodesValType) (λ (p : List ValType × List ValType). AllByRecursion FitsValType p.0 × AllByRecursion FitsValType p.1)
+      marked_best 0x60 (VectorOf EncodesValType then VectorOf EncodesValType)
+      (λ (p : List ValType × List ValType). AllByRecursion FitsValType p.0 × AllByRecursion FitsValType p.1)
       (λ (p : List ValType × List ValType). vector_bytes val_type_bytes p.0 ++ vector_bytes val_type_bytes p.1)
-      (λ (p : List ValType × List ValType). then_best (VectorOf EncodesValType) (VectorOf EncodesValType) (AllByRecursion FitsValType) (AllByRecursion FitsValType)
+      (λ (p : List ValType × List ValType). then_best (VectorOf EncodesValType) (VectorOf EncodesValType)
+      (AllByRecursion FitsValType) (AllByRecursion FitsValType)
       (vector_bytes val_type_bytes) (vector_bytes val_type_bytes) types_best types_best p.0 p.1)
       (ty.params, ty.results)
 
@@ -93,7 +97,8 @@ module _ (laws : NumberLaws) where
       → IsBest (λ bytes. EncodesBounds bytes least most) (FitsBounds least most) (bounds_bytes least most)
   bounds_best least None = marked_best 0x00 EncodesU32 FitsU32 u32_bytes (u32_best laws) least
   bounds_best least (Some most) =
-      marked_best 0x01 (EncodesU32 then EncodesU32) (λ (p : ℕ × ℕ). FitsU32 p.0 × FitsU32 p.1) (λ (p : ℕ × ℕ). u32_bytes p.0 ++ u32_bytes p.1) two_best (least, most)
+      marked_best 0x01 (EncodesU32 then EncodesU32) (λ (p : ℕ × ℕ). FitsU32 p.0 × FitsU32 p.1)
+      (λ (p : ℕ × ℕ). u32_bytes p.0 ++ u32_bytes p.1) two_best (least, most)
 
   pub limits_best : IsWrittenBy EncodesLimits FitsLimits limits_bytes
   unfolding limits_bytes
@@ -169,15 +174,15 @@ module _ (laws : NumberLaws) where
   instr_best form (BrTable labels default) =
       marked_best 0x0E (EncodesIndices then EncodesU32) (λ (p : List ℕ × ℕ). AllByRecursion FitsU32 p.0 × FitsU32 p.1)
       (λ (p : List ℕ × ℕ). vector_bytes u32_bytes p.0 ++ u32_bytes p.1)
-      (λ (p : List ℕ × ℕ). then_best EncodesIndices EncodesU32 (AllByRecursion FitsU32) FitsU32 (vector_bytes u32_bytes) u32_bytes (indices_best laws) (u32_best laws) p.0 p.1)
-      (labels, default)
+      (λ (p : List ℕ × ℕ). then_best EncodesIndices EncodesU32 (AllByRecursion FitsU32) FitsU32
+      (vector_bytes u32_bytes) u32_bytes (indices_best laws) (u32_best laws) p.0 p.1) (labels, default)
   instr_best form Return = exactly_best (0x0F ∷ [])
   instr_best form (Call func) = indexed 0x10 func
   instr_best form (CallIndirect ty) =
       refit (λ bytes. EncodesInstr form bytes (CallIndirect ty)) (0x11 ∷ (u32_bytes ty ++ 0x00 ∷ [])) (λ fits. (fits, tt)) (λ both. both.0)
       (marked_best 0x11 (EncodesU32 then Exactly (0x00 ∷ [])) (λ (p : ℕ × Unit {0}). FitsU32 p.0 × Unit {0}) (λ (p : ℕ × Unit {0}). u32_bytes p.0 ++ 0x00 ∷ [])
-      (λ (p : ℕ × Unit {0}). then_best EncodesU32 (Exactly (0x00 ∷ [])) FitsU32 (λ it. Unit {0}) u32_bytes (λ it. 0x00 ∷ []) (u32_best laws) (λ it. exactly_best (0x00 ∷ [])) p.0 p.1)
-      (ty, tt))
+      (λ (p : ℕ × Unit {0}). then_best EncodesU32 (Exactly (0x00 ∷ [])) FitsU32 (λ it. Unit {0}) u32_bytes
+      (λ it. 0x00 ∷ []) (u32_best laws) (λ it. exactly_best (0x00 ∷ [])) p.0 p.1) (ty, tt))
   instr_best form Drop = exactly_best (0x1A ∷ [])
   instr_best form Select = exactly_best (0x1B ∷ [])
   instr_best form (LocalGet local) = indexed 0x20 local
@@ -186,9 +191,11 @@ module _ (laws : NumberLaws) where
   instr_best form (GlobalGet global) = indexed 0x23 global
   instr_best form (GlobalSet global) = indexed 0x24 global
   instr_best form (Load access) =
-      under_best (λ bytes. Marked access.op (EncodesU32 then EncodesU32) bytes (access.align, access.offset)) (FitsMemArg access) (access_bytes access) (access_best access)
+      under_best (λ bytes. Marked access.op (EncodesU32 then EncodesU32) bytes (access.align, access.offset))
+      (FitsMemArg access) (access_bytes access) (access_best access)
   instr_best form (Store access) =
-      under_best (λ bytes. Marked access.op (EncodesU32 then EncodesU32) bytes (access.align, access.offset)) (FitsMemArg access) (access_bytes access) (access_best access)
+      under_best (λ bytes. Marked access.op (EncodesU32 then EncodesU32) bytes (access.align, access.offset))
+      (FitsMemArg access) (access_bytes access) (access_best access)
   instr_best form MemorySize = exactly_best (0x3F ∷ 0x00 ∷ [])
   instr_best form MemoryGrow = exactly_best (0x40 ∷ 0x00 ∷ [])
   instr_best form MemoryCopy = prefixed_exactly 10 (0x00 ∷ 0x00 ∷ []) (omega arith)

@@ -70,14 +70,16 @@ module _ (laws : NumberLaws) (form : Form) where
   contents_fit m h =
       all_append (FitsContent laws form) _ _ (list_fits FitsFuncType TypeSection (λ xs all. all) m.types h.types) (
       all_append (FitsContent laws form) _ _ (list_fits FitsImport ImportSection (λ xs all. all) m.imports h.imports) (
-      all_append (FitsContent laws form) _ _ (list_fits FitsU32 FunctionSection (λ xs all. all) (map (λ func. func.ty) m.funcs) (types_of_funcs m.funcs h.funcs)) (
+      all_append (FitsContent laws form) _ _ (list_fits FitsU32 FunctionSection (λ xs all. all)
+      (map (λ func. func.ty) m.funcs) (types_of_funcs m.funcs h.funcs)) (
       all_append (FitsContent laws form) _ _ (list_fits FitsLimits TableSection (λ xs all. all) m.tables h.tables) (
       all_append (FitsContent laws form) _ _ (list_fits FitsLimits MemorySection (λ xs all. all) m.memories h.memories) (
       all_append (FitsContent laws form) _ _ (list_fits (FitsGlobal form) GlobalSection (λ xs all. all) m.globals h.globals) (
       all_append (FitsContent laws form) _ _ (list_fits FitsExport ExportSection (λ xs all. all) m.exports h.exports) (
       all_append (FitsContent laws form) _ _ (start_fits m.start h.start) (
       all_append (FitsContent laws form) _ _ (list_fits (FitsElemSeg form) ElementSection (λ xs all. all) m.elems h.elems) (
-      all_append (FitsContent laws form) _ _ (list_fits (FitsCode laws form) CodeSection (λ xs all. all) (map code_of m.funcs) (codes_of_funcs m.funcs h.funcs)) (
+      all_append (FitsContent laws form) _ _ (list_fits (FitsCode laws form) CodeSection (λ xs all. all)
+      (map code_of m.funcs) (codes_of_funcs m.funcs h.funcs)) (
       all_append (FitsContent laws form) _ _ (list_fits (FitsDataSeg form) DataSection (λ xs all. all) m.datas h.datas) (
       customs_fit m.customs h.customs)))))))))))
 
@@ -92,7 +94,8 @@ module _ (laws : NumberLaws) (form : Form) where
       → Encodes form (encoding_of m) m
   unfolding encoding_of
   encodable_encodes m h few =
-      fitting_encodes laws form m (short_fit (sections_of m) (contents_fit m h) (omega (arith, length-append preamble (flat_map section_bytes (sections_of m)))))
+      fitting_encodes laws form m (short_fit (sections_of m) (contents_fit m h)
+      (omega (arith, length-append preamble (flat_map section_bytes (sections_of m)))))
 
   -- ---- from the sections to the module
 
@@ -166,16 +169,39 @@ module _ (laws : NumberLaws) (form : Form) where
       let all = contents h.sections (each_fits laws form h.encoded.behind h.sections h.encoded.each) in
       let ss = h.sections in
       record {
-        types = subst (λ (xs : List FuncType). AllByRecursion FitsFuncType xs) (sym h.hold.types) (all_flat (FitsContent laws form) FitsFuncType types_in types_fit ss all);
-        imports = subst (λ (xs : List Import). AllByRecursion FitsImport xs) (sym h.hold.imports) (all_flat (FitsContent laws form) FitsImport imports_in imports_fit ss all);
-        tables = subst (λ (xs : List Limits). AllByRecursion FitsLimits xs) (sym h.hold.tables) (all_flat (FitsContent laws form) FitsLimits tables_in tables_fit ss all);
-        memories = subst (λ (xs : List Limits). AllByRecursion FitsLimits xs) (sym h.hold.memories) (all_flat (FitsContent laws form) FitsLimits memories_in memories_fit ss all);
-        globals = subst (λ (xs : List Global). AllByRecursion (FitsGlobal form) xs) (sym h.hold.globals) (all_flat (FitsContent laws form) (FitsGlobal form) globals_in globals_fit ss all);
-        exports = subst (λ (xs : List Export). AllByRecursion FitsExport xs) (sym h.hold.exports) (all_flat (FitsContent laws form) FitsExport exports_in exports_fit ss all);
-        elems = subst (λ (xs : List ElemSeg). AllByRecursion (FitsElemSeg form) xs) (sym h.hold.elems) (all_flat (FitsContent laws form) (FitsElemSeg form) elems_in elems_fit ss all);
-        datas = subst (λ (xs : List DataSeg). AllByRecursion (FitsDataSeg form) xs) (sym h.hold.datas) (all_flat (FitsContent laws form) (FitsDataSeg form) datas_in datas_fit ss all);
-        customs = subst (λ (xs : List Custom). AllByRecursion (λ (c : Custom). IsUtf8 c.name) xs) (sym h.hold.customs) (all_flat (FitsContent laws form) (λ (c : Custom). IsUtf8 c.name) customs_in custom_fits ss all);
-        funcs = funcs_fit m.funcs (subst (λ (xs : List ℕ). AllByRecursion FitsU32 xs) (sym h.hold.functions) (all_flat (FitsContent laws form) FitsU32 functions_in functions_fit ss all))
-            (subst (λ (xs : List Code). AllByRecursion (FitsCode laws form) xs) (sym h.hold.codes) (all_flat (FitsContent laws form) (FitsCode laws form) codes_in codes_fit ss all));
-        start = some_fits m.start (subst (λ (xs : List ℕ). AllByRecursion FitsU32 xs) (sym h.hold.start) (all_flat (FitsContent laws form) FitsU32 starts_in starts_fit ss all));
+        types =
+            subst (λ (xs : List FuncType). AllByRecursion FitsFuncType xs) (sym h.hold.types)
+            (all_flat (FitsContent laws form) FitsFuncType types_in types_fit ss all);
+        imports =
+            subst (λ (xs : List Import). AllByRecursion FitsImport xs) (sym h.hold.imports)
+            (all_flat (FitsContent laws form) FitsImport imports_in imports_fit ss all);
+        tables =
+            subst (λ (xs : List Limits). AllByRecursion FitsLimits xs) (sym h.hold.tables)
+            (all_flat (FitsContent laws form) FitsLimits tables_in tables_fit ss all);
+        memories =
+            subst (λ (xs : List Limits). AllByRecursion FitsLimits xs) (sym h.hold.memories)
+            (all_flat (FitsContent laws form) FitsLimits memories_in memories_fit ss all);
+        globals =
+            subst (λ (xs : List Global). AllByRecursion (FitsGlobal form) xs) (sym h.hold.globals)
+            (all_flat (FitsContent laws form) (FitsGlobal form) globals_in globals_fit ss all);
+        exports =
+            subst (λ (xs : List Export). AllByRecursion FitsExport xs) (sym h.hold.exports)
+            (all_flat (FitsContent laws form) FitsExport exports_in exports_fit ss all);
+        elems =
+            subst (λ (xs : List ElemSeg). AllByRecursion (FitsElemSeg form) xs) (sym h.hold.elems)
+            (all_flat (FitsContent laws form) (FitsElemSeg form) elems_in elems_fit ss all);
+        datas =
+            subst (λ (xs : List DataSeg). AllByRecursion (FitsDataSeg form) xs) (sym h.hold.datas)
+            (all_flat (FitsContent laws form) (FitsDataSeg form) datas_in datas_fit ss all);
+        customs =
+            subst (λ (xs : List Custom). AllByRecursion (λ (c : Custom). IsUtf8 c.name) xs) (sym h.hold.customs)
+            (all_flat (FitsContent laws form) (λ (c : Custom). IsUtf8 c.name) customs_in custom_fits ss all);
+        funcs =
+            funcs_fit m.funcs (subst (λ (xs : List ℕ). AllByRecursion FitsU32 xs) (sym h.hold.functions)
+            (all_flat (FitsContent laws form) FitsU32 functions_in functions_fit ss all))
+            (subst (λ (xs : List Code). AllByRecursion (FitsCode laws form) xs) (sym h.hold.codes)
+            (all_flat (FitsContent laws form) (FitsCode laws form) codes_in codes_fit ss all));
+        start =
+            some_fits m.start (subst (λ (xs : List ℕ). AllByRecursion FitsU32 xs) (sym h.hold.start)
+            (all_flat (FitsContent laws form) FitsU32 starts_in starts_fit ss all));
       }

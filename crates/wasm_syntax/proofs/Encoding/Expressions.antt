@@ -58,7 +58,8 @@ module _ (laws : NumberLaws) (form : Form) where
       option_map (λ (others : List Instr × List ℕ). (first.0 ∷ others.0, others.1)) (first_instrs form most still first.1))
       (open_after first.0 (b ∷ blocks))) (is, rest) e in
       let o = and_then_some (open_after f.0.0 (b ∷ blocks))
-      (λ (still : List Bool). option_map (λ (others : List Instr × List ℕ). (f.0.0 ∷ others.0, others.1)) (first_instrs form most still f.0.1)) (is, rest) f.2 in
+      (λ (still : List Bool). option_map (λ (others : List Instr × List ℕ). (f.0.0 ∷ others.0, others.1))
+      (first_instrs form most still f.0.1)) (is, rest) f.2 in
       let m = map_some (λ (others : List Instr × List ℕ). (f.0.0 ∷ others.0, others.1)) (first_instrs form most o.0 f.0.1) (is, rest) o.2 in
       let parts = some_pair_parts (f.0.0 ∷ m.0.0) is m.0.1 rest (ap Some m.2) in
       let one = (instr_is laws form).found input f.0.1 f.0.0 f.1 in
@@ -86,7 +87,8 @@ module _ (laws : NumberLaws) (form : Form) where
       ∙ ap (option_and_then (λ (first : Instr × List ℕ). option_and_then (λ left.
       option_map (λ (others : List Instr × List ℕ). (first.0 ∷ others.0, others.1)) (first_instrs form most left first.1))
       (open_after first.0 (b ∷ blocks)))) ((instr_is laws form).only h.0 (h.1 ++ rest) i h.3)
-      ∙ ap (option_and_then (λ (left : List Bool). option_map (λ (others : List Instr × List ℕ). (i ∷ others.0, others.1)) (first_instrs form most left (h.1 ++ rest)))) still.1
+      ∙ ap (option_and_then (λ (left : List Bool). option_map
+      (λ (others : List Instr × List ℕ). (i ∷ others.0, others.1)) (first_instrs form most left (h.1 ++ rest)))) still.1
       ∙ ap (option_map (λ (others : List Instr × List ℕ). (i ∷ others.0, others.1))) (instrs_only most still.0 h.1 rest is h.4 still.2 (omega arith))
 
   pub expr_is : IsReadBy (EncodesExpr form) (first_expr form)

@@ -91,7 +91,11 @@ core_instr (TableSize table) h core = absurd core
 core_instr i h core = h
 
 core_body : (body : List Instr) → FitsBody Replay body → AreCoreInstrs body → FitsBody Core body
-core_body body h core = record { instructions = all_both (FitsInstr Replay) IsCoreInstr (FitsInstr Core) core_instr body h.instructions core; nest = h.nest; is_body = h.is_body }
+core_body body h core = record {
+  instructions = all_both (FitsInstr Replay) IsCoreInstr (FitsInstr Core) core_instr body h.instructions core;
+  nest = h.nest;
+  is_body = h.is_body;
+}
 
 core_seg : (seg : ElemSeg) → FitsElemSeg Replay seg → IsCoreSeg seg → FitsElemSeg Core seg
 core_seg (Active table offset funcs) h core =
@@ -102,13 +106,19 @@ pub replay_core : (m : Module) → IsEncodable Replay m → IsCoreModule m → I
 replay_core m h core = record {
   types = h.types;
   imports = h.imports;
-  funcs = all_both (FitsFunc Replay) (λ (func : Func). AreCoreInstrs func.body) (FitsFunc Core) (λ func fits c. (fits.0, fits.1, core_body func.body fits.2 c)) m.funcs h.funcs core.funcs;
+  funcs =
+      all_both (FitsFunc Replay) (λ (func : Func). AreCoreInstrs func.body) (FitsFunc Core)
+      (λ func fits c. (fits.0, fits.1, core_body func.body fits.2 c)) m.funcs h.funcs core.funcs;
   tables = h.tables;
   memories = h.memories;
-  globals = all_both (FitsGlobal Replay) (λ (g : Global). AreCoreInstrs g.init) (FitsGlobal Core) (λ g fits c. (fits.0, core_body g.init fits.1 c)) m.globals h.globals core.globals;
+  globals =
+      all_both (FitsGlobal Replay) (λ (g : Global). AreCoreInstrs g.init) (FitsGlobal Core)
+      (λ g fits c. (fits.0, core_body g.init fits.1 c)) m.globals h.globals core.globals;
   exports = h.exports;
   start = h.start;
   elems = all_both (FitsElemSeg Replay) IsCoreSeg (FitsElemSeg Core) core_seg m.elems h.elems core.elems;
-  datas = all_both (FitsDataSeg Replay) (λ (d : DataSeg). AreCoreInstrs d.offset) (FitsDataSeg Core) (λ d fits c. (fits.0, core_body d.offset fits.1 c)) m.datas h.datas core.datas;
+  datas =
+      all_both (FitsDataSeg Replay) (λ (d : DataSeg). AreCoreInstrs d.offset) (FitsDataSeg Core)
+      (λ d fits c. (fits.0, core_body d.offset fits.1 c)) m.datas h.datas core.datas;
   customs = h.customs;
 }

@@ -48,10 +48,12 @@ none_of a b c d e f g h =
 core_at : (form : Form) (op : ℕ) (read : Reader Instr) → special op ≡ false → row_at core_rows op ≡ Some read
     → instr_at form op ≡ Some read
 core_at Core op read h e =
-    let n = none_of (is_from 0x45 0xC4 op) (is_from 0x28 0x35 op) (is_from 0x36 0x3E op) (nat_eq 0xFC op) (nat_eq 0x26 op) (nat_eq 0xD0 op) (nat_eq 0xD2 op) h in
+    let n = none_of (is_from 0x45 0xC4 op) (is_from 0x28 0x35 op) (is_from 0x36 0x3E op) (nat_eq 0xFC op)
+    (nat_eq 0x26 op) (nat_eq 0xD0 op) (nat_eq 0xD2 op) h in
     rw (n.0, n.1, n.2, n.3) e
 core_at Replay op read h e =
-    let n = none_of (is_from 0x45 0xC4 op) (is_from 0x28 0x35 op) (is_from 0x36 0x3E op) (nat_eq 0xFC op) (nat_eq 0x26 op) (nat_eq 0xD0 op) (nat_eq 0xD2 op) h in
+    let n = none_of (is_from 0x45 0xC4 op) (is_from 0x28 0x35 op) (is_from 0x36 0x3E op) (nat_eq 0xFC op)
+    (nat_eq 0x26 op) (nat_eq 0xD0 op) (nat_eq 0xD2 op) h in
     rw (n.0, n.1, n.2, n.3, n.4, n.5, n.6) e
 
 -- the instructions of the prefix
@@ -118,13 +120,17 @@ module _ (laws : NumberLaws) where
                   (
                     read_finds (EncodesInstr form) EncodesU32 0x0D first_u32 BrIf laws.u32 (λ bytes a h. (bytes, refl, h)),
                     (
-                      read_finds (EncodesInstr form) (EncodesIndices then EncodesU32) 0x0E (first_then first_indices first_u32) (λ labels. BrTable labels.0 labels.1) labels_is (λ bytes a h. (bytes, refl, h)),
+                      read_finds (EncodesInstr form) (EncodesIndices then EncodesU32) 0x0E
+                          (first_then first_indices first_u32) (λ labels. BrTable labels.0 labels.1) labels_is
+                          (λ bytes a h. (bytes, refl, h)),
                       (
                         done_finds (EncodesInstr form) 0x0F Return refl,
                         (
                           read_finds (EncodesInstr form) EncodesU32 0x10 first_u32 Call laws.u32 (λ bytes a h. (bytes, refl, h)),
                           (
-                            read_finds (EncodesInstr form) (EncodesU32 then Exactly (0x00 ∷ [])) 0x11 (first_then first_u32 (first_exactly (0x00 ∷ []))) (λ parts. CallIndirect parts.0) indirect_is (λ bytes a h. (bytes, refl, h)),
+                            read_finds (EncodesInstr form) (EncodesU32 then Exactly (0x00 ∷ [])) 0x11
+                                (first_then first_u32 (first_exactly (0x00 ∷ [])))
+                                (λ parts. CallIndirect parts.0) indirect_is (λ bytes a h. (bytes, refl, h)),
                             (
                               done_finds (EncodesInstr form) 0x1A Drop refl,
                               (
@@ -140,9 +146,13 @@ module _ (laws : NumberLaws) where
                                         (
                                           read_finds (EncodesInstr form) EncodesU32 0x24 first_u32 GlobalSet laws.u32 (λ bytes a h. (bytes, refl, h)),
                                           (
-                                            read_finds (EncodesInstr form) (Exactly (0x00 ∷ [])) 0x3F (first_exactly (0x00 ∷ [])) (λ it. MemorySize) (exactly_is (0x00 ∷ [])) (λ bytes a h. ap (λ r. 0x3F ∷ r) h),
+                                            read_finds (EncodesInstr form) (Exactly (0x00 ∷ [])) 0x3F
+                                                (first_exactly (0x00 ∷ [])) (λ it. MemorySize) (exactly_is (0x00 ∷ []))
+                                                (λ bytes a h. ap (λ r. 0x3F ∷ r) h),
                                             (
-                                              read_finds (EncodesInstr form) (Exactly (0x00 ∷ [])) 0x40 (first_exactly (0x00 ∷ [])) (λ it. MemoryGrow) (exactly_is (0x00 ∷ [])) (λ bytes a h. ap (λ r. 0x40 ∷ r) h),
+                                              read_finds (EncodesInstr form) (Exactly (0x00 ∷ [])) 0x40
+                                                  (first_exactly (0x00 ∷ [])) (λ it. MemoryGrow)
+                                                  (exactly_is (0x00 ∷ [])) (λ bytes a h. ap (λ r. 0x40 ∷ r) h),
                                               (
                                                 read_finds (EncodesInstr form) EncodesI32 0x41 first_i32 (const I32) laws.i32 (λ bytes a h. (bytes, refl, h)),
                                                 (
@@ -150,7 +160,8 @@ module _ (laws : NumberLaws) where
                                                   (
                                                     read_finds (EncodesInstr form) EncodesF32 0x43 first_f32 (const F32) f32_is (λ bytes a h. (bytes, refl, h)),
                                                     (
-                                                      read_finds (EncodesInstr form) EncodesF64 0x44 first_f64 (const F64) f64_is (λ bytes a h. (bytes, refl, h)),
+                                                      read_finds (EncodesInstr form) EncodesF64 0x44 first_f64
+                                                          (const F64) f64_is (λ bytes a h. (bytes, refl, h)),
                                                       tt,
                                                     ),
                                                   ),
@@ -218,7 +229,8 @@ module _ (laws : NumberLaws) where
     (
       read_finds (EncodesInstr Replay) EncodesU32 0x26 first_u32 TableSet laws.u32 (λ bytes a h. (tt, (bytes, refl, h))),
       (
-        read_finds (EncodesInstr Replay) (Exactly (0x70 ∷ [])) 0xD0 (first_exactly (0x70 ∷ [])) (λ it. RefNull) (exactly_is (0x70 ∷ [])) (λ bytes a h. (tt, ap (λ r. 0xD0 ∷ r) h)),
+        read_finds (EncodesInstr Replay) (Exactly (0x70 ∷ [])) 0xD0 (first_exactly (0x70 ∷ [])) (λ it. RefNull)
+            (exactly_is (0x70 ∷ [])) (λ bytes a h. (tt, ap (λ r. 0xD0 ∷ r) h)),
         (
           read_finds (EncodesInstr Replay) EncodesU32 0xD2 first_u32 RefFunc laws.u32 (λ bytes a h. (tt, (bytes, refl, h))),
           core_find Replay,
@@ -232,19 +244,28 @@ module _ (laws : NumberLaws) where
       elim (chosen (is_from 0x45 0xC4 op) (Some (always (Numeric op))) (rest op) (Some read) e) [
         | inl numeric ↦ subst (λ r. FindsBehind (EncodesInstr form) op r) (same_Some _ _ numeric.1)
             (done_finds (EncodesInstr form) op (Numeric op) (numeric.0, refl))
-        | inr others ↦ elim (chosen (is_from 0x28 0x35 op) (Some (map_read (λ numbers. Load (mem_arg op numbers)) (first_then first_u32 first_u32))) (rows op) (Some read) others.1) [
-          | inl load ↦ subst (λ r. FindsBehind (EncodesInstr form) op r) (same_Some _ _ load.1)
-              (read_finds (EncodesInstr form) (EncodesU32 then EncodesU32) op (first_then first_u32 first_u32) (λ numbers. Load (mem_arg op numbers)) access_is (λ bytes a h. (load.0, (bytes, refl, h))))
-          | inr more ↦ elim (chosen (is_from 0x36 0x3E op) (Some (map_read (λ numbers. Store (mem_arg op numbers)) (first_then first_u32 first_u32))) (row_at (instr_rows form) op) (Some read) more.1) [
-            | inl store ↦ subst (λ r. FindsBehind (EncodesInstr form) op r) (same_Some _ _ store.1)
-                (read_finds (EncodesInstr form) (EncodesU32 then EncodesU32) op (first_then first_u32 first_u32) (λ numbers. Store (mem_arg op numbers)) access_is (λ bytes a h. (store.0, (bytes, refl, h))))
-            | inr row ↦ rows_well (EncodesInstr form) (instr_rows form) (rows_find form) op read row.1
-          ]
-        ]
+        | inr others ↦ elim (chosen (is_from 0x28 0x35 op)
+            (Some (map_read (λ numbers. Load (mem_arg op numbers)) (first_then first_u32 first_u32))) (rows op)
+            (Some read) others.1) [
+              | inl load ↦ subst (λ r. FindsBehind (EncodesInstr form) op r) (same_Some _ _ load.1)
+                  (read_finds (EncodesInstr form) (EncodesU32 then EncodesU32) op (first_then first_u32 first_u32)
+                  (λ numbers. Load (mem_arg op numbers)) access_is (λ bytes a h. (load.0, (bytes, refl, h))))
+              | inr more ↦ elim (chosen (is_from 0x36 0x3E op)
+                  (Some (map_read (λ numbers. Store (mem_arg op numbers)) (first_then first_u32 first_u32)))
+                  (row_at (instr_rows form) op) (Some read) more.1) [
+                    | inl store ↦ subst (λ r. FindsBehind (EncodesInstr form) op r) (same_Some _ _ store.1)
+                        (read_finds (EncodesInstr form) (EncodesU32 then EncodesU32) op (first_then first_u32 first_u32)
+                        (λ numbers. Store (mem_arg op numbers)) access_is (λ bytes a h. (store.0, (bytes, refl, h))))
+                    | inr row ↦ rows_well (EncodesInstr form) (instr_rows form) (rows_find form) op read row.1
+                  ]
+            ]
       ]
     where
       rows : ℕ → Option (Reader Instr)
-      rows op = cond (is_from 0x36 0x3E op) (Some (map_read (λ numbers. Store (mem_arg op numbers)) (first_then first_u32 first_u32))) (row_at (instr_rows form) op)
+      rows op =
+          cond (is_from 0x36 0x3E op)
+          (Some (map_read (λ numbers. Store (mem_arg op numbers)) (first_then first_u32 first_u32)))
+          (row_at (instr_rows form) op)
 
       rest : ℕ → Option (Reader Instr)
       rest op = cond (is_from 0x28 0x35 op) (Some (map_read (λ numbers. Load (mem_arg op numbers)) (first_then first_u32 first_u32))) (rows op)
@@ -288,21 +309,30 @@ module _ (laws : NumberLaws) where
   instr_only form bytes rest Unreachable h = done_only (instr_at form) 0x00 Unreachable (core_at form 0x00 (always Unreachable) refl refl) bytes rest h
   instr_only form bytes rest Nop h = done_only (instr_at form) 0x01 Nop (core_at form 0x01 (always Nop) refl refl) bytes rest h
   instr_only form bytes rest (Block ty) h =
-      read_only (instr_at form) 0x02 EncodesBlockType first_block_type Block (core_at form 0x02 (map_read Block first_block_type) refl refl) block_type_is bytes rest ty h
+      read_only (instr_at form) 0x02 EncodesBlockType first_block_type Block
+      (core_at form 0x02 (map_read Block first_block_type) refl refl) block_type_is bytes rest ty h
   instr_only form bytes rest (Loop ty) h =
-      read_only (instr_at form) 0x03 EncodesBlockType first_block_type Loop (core_at form 0x03 (map_read Loop first_block_type) refl refl) block_type_is bytes rest ty h
+      read_only (instr_at form) 0x03 EncodesBlockType first_block_type Loop
+      (core_at form 0x03 (map_read Loop first_block_type) refl refl) block_type_is bytes rest ty h
   instr_only form bytes rest (If ty) h =
-      read_only (instr_at form) 0x04 EncodesBlockType first_block_type If (core_at form 0x04 (map_read If first_block_type) refl refl) block_type_is bytes rest ty h
+      read_only (instr_at form) 0x04 EncodesBlockType first_block_type If
+      (core_at form 0x04 (map_read If first_block_type) refl refl) block_type_is bytes rest ty h
   instr_only form bytes rest Else h = done_only (instr_at form) 0x05 Else (core_at form 0x05 (always Else) refl refl) bytes rest h
   instr_only form bytes rest End h = done_only (instr_at form) 0x0B End (core_at form 0x0B (always End) refl refl) bytes rest h
   instr_only form bytes rest (Br label) h = number_only form 0x0C Br refl refl bytes rest label h
   instr_only form bytes rest (BrIf label) h = number_only form 0x0D BrIf refl refl bytes rest label h
   instr_only form bytes rest (BrTable labels default) h =
-      read_only (instr_at form) 0x0E (EncodesIndices then EncodesU32) (first_then first_indices first_u32) (λ labels. BrTable labels.0 labels.1) (core_at form 0x0E (map_read (λ labels. BrTable labels.0 labels.1) (first_then first_indices first_u32)) refl refl) labels_is bytes rest (labels, default) h
+      read_only (instr_at form) 0x0E (EncodesIndices then EncodesU32) (first_then first_indices first_u32)
+      (λ labels. BrTable labels.0 labels.1)
+      (core_at form 0x0E (map_read (λ labels. BrTable labels.0 labels.1) (first_then first_indices first_u32)) refl
+      refl) labels_is bytes rest (labels, default) h
   instr_only form bytes rest Return h = done_only (instr_at form) 0x0F Return (core_at form 0x0F (always Return) refl refl) bytes rest h
   instr_only form bytes rest (Call func) h = number_only form 0x10 Call refl refl bytes rest func h
   instr_only form bytes rest (CallIndirect ty) h =
-      read_only (instr_at form) 0x11 (EncodesU32 then Exactly (0x00 ∷ [])) (first_then first_u32 (first_exactly (0x00 ∷ []))) (λ parts. CallIndirect parts.0) (core_at form 0x11 (map_read (λ parts. CallIndirect parts.0) (first_then first_u32 (first_exactly (0x00 ∷ [])))) refl refl) indirect_is bytes rest (ty, tt) h
+      read_only (instr_at form) 0x11 (EncodesU32 then Exactly (0x00 ∷ []))
+      (first_then first_u32 (first_exactly (0x00 ∷ []))) (λ parts. CallIndirect parts.0)
+      (core_at form 0x11 (map_read (λ parts. CallIndirect parts.0) (first_then first_u32 (first_exactly (0x00 ∷ []))))
+      refl refl) indirect_is bytes rest (ty, tt) h
   instr_only form bytes rest Drop h = done_only (instr_at form) 0x1A Drop (core_at form 0x1A (always Drop) refl refl) bytes rest h
   instr_only form bytes rest Select h = done_only (instr_at form) 0x1B Select (core_at form 0x1B (always Select) refl refl) bytes rest h
   instr_only form bytes rest (LocalGet local) h = number_only form 0x20 LocalGet refl refl bytes rest local h
@@ -311,9 +341,13 @@ module _ (laws : NumberLaws) where
   instr_only form bytes rest (GlobalGet global) h = number_only form 0x23 GlobalGet refl refl bytes rest global h
   instr_only form bytes rest (GlobalSet global) h = number_only form 0x24 GlobalSet refl refl bytes rest global h
   instr_only form bytes rest MemorySize h =
-      read_only (instr_at form) 0x3F (Exactly (0x00 ∷ [])) (first_exactly (0x00 ∷ [])) (λ it. MemorySize) (core_at form 0x3F (map_read (λ it. MemorySize) (first_exactly (0x00 ∷ []))) refl refl) (exactly_is (0x00 ∷ [])) bytes rest tt (0x00 ∷ [], h, refl)
+      read_only (instr_at form) 0x3F (Exactly (0x00 ∷ [])) (first_exactly (0x00 ∷ [])) (λ it. MemorySize)
+      (core_at form 0x3F (map_read (λ it. MemorySize) (first_exactly (0x00 ∷ []))) refl refl)
+      (exactly_is (0x00 ∷ [])) bytes rest tt (0x00 ∷ [], h, refl)
   instr_only form bytes rest MemoryGrow h =
-      read_only (instr_at form) 0x40 (Exactly (0x00 ∷ [])) (first_exactly (0x00 ∷ [])) (λ it. MemoryGrow) (core_at form 0x40 (map_read (λ it. MemoryGrow) (first_exactly (0x00 ∷ []))) refl refl) (exactly_is (0x00 ∷ [])) bytes rest tt (0x00 ∷ [], h, refl)
+      read_only (instr_at form) 0x40 (Exactly (0x00 ∷ [])) (first_exactly (0x00 ∷ [])) (λ it. MemoryGrow)
+      (core_at form 0x40 (map_read (λ it. MemoryGrow) (first_exactly (0x00 ∷ []))) refl refl)
+      (exactly_is (0x00 ∷ [])) bytes rest tt (0x00 ∷ [], h, refl)
   instr_only form bytes rest MemoryCopy h =
       prefixed_only form 10 (Exactly (0x00 ∷ 0x00 ∷ [])) (first_exactly (0x00 ∷ 0x00 ∷ [])) (λ it. MemoryCopy)
       (core_prefixed_at form 10 (map_read (λ it. MemoryCopy) (first_exactly (0x00 ∷ 0x00 ∷ []))) refl refl) (exactly_is (0x00 ∷ 0x00 ∷ [])) bytes rest tt h
@@ -331,7 +365,9 @@ module _ (laws : NumberLaws) where
   instr_only form bytes rest (TableSet table) h =
       replay_only form bytes rest (TableSet table) (read_only (instr_at Replay) 0x26 EncodesU32 first_u32 TableSet refl laws.u32 bytes rest table h.1) h.0
   instr_only form bytes rest RefNull h =
-      replay_only form bytes rest RefNull (read_only (instr_at Replay) 0xD0 (Exactly (0x70 ∷ [])) (first_exactly (0x70 ∷ [])) (λ it. RefNull) refl (exactly_is (0x70 ∷ [])) bytes rest tt (0x70 ∷ [], h.1, refl)) h.0
+      replay_only form bytes rest RefNull
+      (read_only (instr_at Replay) 0xD0 (Exactly (0x70 ∷ [])) (first_exactly (0x70 ∷ [])) (λ it. RefNull) refl
+      (exactly_is (0x70 ∷ [])) bytes rest tt (0x70 ∷ [], h.1, refl)) h.0
   instr_only form bytes rest (RefFunc func) h =
       replay_only form bytes rest (RefFunc func) (read_only (instr_at Replay) 0xD2 EncodesU32 first_u32 RefFunc refl laws.u32 bytes rest func h.1) h.0
   instr_only form bytes rest (TableGrow table) h =

@@ -129,7 +129,8 @@ module _ (laws : NumberLaws) where
       → map_read (active_of kind) (first_then (first_expr form) first_indices) input ≡ Some (seg, rest)
       → (bytes : List ℕ) × Behind form kind bytes seg × (input ≡ bytes ++ rest)
   active_found form kind input rest seg into e =
-      let m = map_some (λ (first : (List Instr × List ℕ) × List ℕ). (active_of kind first.0, first.1)) (first_then (first_expr form) first_indices input) (seg, rest) e in
+      let m = map_some (λ (first : (List Instr × List ℕ) × List ℕ). (active_of kind first.0, first.1))
+      (first_then (first_expr form) first_indices input) (seg, rest) e in
       let parts = some_pair_parts (active_of kind m.0.0) seg m.0.1 rest (ap Some m.2) in
       let f = (active_is form).found input m.0.1 m.0.0 m.1 in
       (f.0, subst (λ s. Behind form kind f.0 s) parts.0 (into f.0 m.0.0 f.1), f.2 ∙ ap (λ r. f.0 ++ r) parts.1)
@@ -175,7 +176,10 @@ module _ (laws : NumberLaws) where
 
   zero_behind : (table : ℕ) → table ≡ 0 → (input : List ℕ)
       → elem_after Replay table input ≡ map_read (active_of table) (first_then (first_expr Replay) first_indices) input
-  zero_behind table none input = subst (λ t. elem_after Replay t input ≡ map_read (active_of t) (first_then (first_expr Replay) first_indices) input) (sym none) refl
+  zero_behind table none input =
+      subst
+      (λ t. elem_after Replay t input ≡ map_read (active_of t) (first_then (first_expr Replay) first_indices) input)
+      (sym none) refl
 
   elem_only : (form : Form) (bytes rest : List ℕ) (seg : ElemSeg) → EncodesElemSeg form bytes seg
       → first_elem form (bytes ++ rest) ≡ Some (seg, rest)

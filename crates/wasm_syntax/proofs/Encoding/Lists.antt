@@ -42,7 +42,8 @@ module _ {A : Type 0} (E : Grammar A) (read : Reader A) (is : IsReadBy E read) w
       let parts = some_pair_parts [] xs input rest e in
       ([], subst (λ ys. Each E [] ys) parts.0 refl, ap length (sym parts.0), parts.1)
   items_found (suc more) input rest xs e =
-      let b = and_then_some (read input) (λ (first : A × List ℕ). option_map (λ (others : List A × List ℕ). (first.0 ∷ others.0, others.1)) (first_items read more first.1)) (xs, rest) e in
+      let b = and_then_some (read input) (λ (first : A × List ℕ). option_map
+      (λ (others : List A × List ℕ). (first.0 ∷ others.0, others.1)) (first_items read more first.1)) (xs, rest) e in
       let m = map_some (λ (others : List A × List ℕ). (b.0.0 ∷ others.0, others.1)) (first_items read more b.0.1) (xs, rest) b.2 in
       let parts = some_pair_parts (b.0.0 ∷ m.0.0) xs m.0.1 rest (ap Some m.2) in
       let one = is.found input b.0.1 b.0.0 b.1 in
@@ -61,7 +62,8 @@ module _ {A : Type 0} (E : Grammar A) (read : Reader A) (is : IsReadBy E read) w
   items_only bytes rest (x ∷ xs) h =
       ap (λ bs. first_items read (suc (length xs)) (bs ++ rest)) h.2
       ∙ ap (first_items read (suc (length xs))) (append_assoc h.0 h.1 rest)
-      ∙ ap (option_and_then (λ (first : A × List ℕ). option_map (λ (others : List A × List ℕ). (first.0 ∷ others.0, others.1)) (first_items read (length xs) first.1)))
+      ∙ ap (option_and_then (λ (first : A × List ℕ).
+      option_map (λ (others : List A × List ℕ). (first.0 ∷ others.0, others.1)) (first_items read (length xs) first.1)))
       (is.only h.0 (h.1 ++ rest) x h.3)
       ∙ ap (option_map (λ (others : List A × List ℕ). (x ∷ others.0, others.1))) (items_only h.1 rest xs h.4)
 

@@ -158,7 +158,8 @@ module _ (laws : NumberLaws) where
   locals_is = record {
     found = λ input rest locals e.
         let b = and_then_some (first_vector first_run input)
-        (λ (written : List Run × List ℕ). cond (nat_lt (sum_by (λ run. run.count) written.0) (2 ^ 32)) (Some (runs_of written.0, written.1)) None) (locals, rest) e in
+        (λ (written : List Run × List ℕ). cond (nat_lt (sum_by (λ run. run.count) written.0) (2 ^ 32))
+        (Some (runs_of written.0, written.1)) None) (locals, rest) e in
         let g = cond_some (nat_lt (sum_by (λ run. run.count) b.0.0) (2 ^ 32)) (Some (runs_of b.0.0, b.0.1)) (locals, rest) b.2 in
         let parts = some_pair_parts (runs_of b.0.0) locals b.0.1 rest g.1 in
         let f = (vector_is laws.u32 EncodesRun first_run run_is).found input b.0.1 b.0.0 b.1 in
@@ -171,7 +172,8 @@ module _ (laws : NumberLaws) where
         } in
         (f.0, subst (λ runs. EncodesLocals f.0 runs) parts.0 made, f.2 ∙ ap (λ r. f.0 ++ r) parts.1);
     only = λ bytes rest locals h.
-        ap (option_and_then (λ (written : List Run × List ℕ). cond (nat_lt (sum_by (λ run. run.count) written.0) (2 ^ 32)) (Some (runs_of written.0, written.1)) None))
+        ap (option_and_then (λ (written : List Run × List ℕ).
+        cond (nat_lt (sum_by (λ run. run.count) written.0) (2 ^ 32)) (Some (runs_of written.0, written.1)) None))
         ((vector_is laws.u32 EncodesRun first_run run_is).only bytes rest h.written h.vector)
         ∙ ap (λ b. cond b (Some (runs_of h.written, rest)) None) (lt-ltb _ _ h.few)
         ∙ ap (λ runs. Some (runs, rest)) (one_runs (runs_of h.written) locals (runs_of_are h.written) h.are_runs (runs_of_same h.written ∙ sym h.same));

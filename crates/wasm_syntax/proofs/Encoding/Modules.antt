@@ -198,7 +198,8 @@ module _ (laws : NumberLaws) (form : Form) where
   place bytes (Some result) e =
       let r = read_found bytes result e in
       let count : length bytes - length result.1 ≡ length r.0 = omega (arith, ap length r.2, length-append r.0 result.1) in
-      let front : take (length bytes - length result.1) bytes ≡ r.0 = ap (λ n. take n bytes) count ∙ ap (take (length r.0)) r.2 ∙ take_at r.0 result.1 (length r.0) refl in
+      let front : take (length bytes - length result.1) bytes ≡ r.0 =
+      ap (λ n. take n bytes) count ∙ ap (take (length r.0)) r.2 ∙ take_at r.0 result.1 (length r.0) refl in
       inr (
         record { within = omega arith; sections = result.0; encoded = subst (λ bs. EncodesSections form bs result.0) (sym front) r.1 },
         no_longer bytes result e,

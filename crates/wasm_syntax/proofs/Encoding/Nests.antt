@@ -74,7 +74,8 @@ in_front : (b : Bool) (blocks : List Bool) (before is : List Instr) (wrap : Nest
     → Ends (b ∷ blocks) is → Ends (b ∷ blocks) (before ++ is)
 in_front b blocks before is wrap nested written h =
     let ending : Ending b (wrap h.0) h.2 (before ++ is) = elim h.4 [
-      | inl e ↦ inl (ap (λ (x : List Instr). x ++ End ∷ h.2) (written h.0) ∙ append_assoc before (flat h.0) (End ∷ h.2) ∙ ap (λ (x : List Instr). before ++ x) e)
+      | inl e ↦ inl (ap (λ (x : List Instr). x ++ End ∷ h.2) (written h.0) ∙ append_assoc before (flat h.0) (End ∷ h.2)
+          ∙ ap (λ (x : List Instr). before ++ x) e)
       | inr e ↦ inr (
         e.0,
         e.1,
@@ -91,7 +92,8 @@ block_front : (b : Bool) (blocks : List Bool) (first : Instr) (is : List Instr) 
     → flat body ++ End ∷ rest ≡ is → Ends (b ∷ blocks) rest → Ends (b ∷ blocks) (first ∷ is)
 block_front b blocks first is body rest wrap nested written e h =
     let before : List Instr = first ∷ (flat body ++ End ∷ []) in
-    let same : (t : List Instr) → before ++ t ≡ first ∷ (flat body ++ End ∷ t) = λ t. ap (λ (x : List Instr). first ∷ x) (append_assoc (flat body) (End ∷ []) t) in
+    let same : (t : List Instr) → before ++ t ≡ first ∷ (flat body ++ End ∷ t) =
+    λ t. ap (λ (x : List Instr). first ∷ x) (append_assoc (flat body) (End ∷ []) t) in
     subst (λ (x : List Instr). Ends (b ∷ blocks) x) (same rest ∙ ap (λ (x : List Instr). first ∷ x) e)
     (in_front b blocks before rest wrap nested (λ t. written t ∙ sym (same (flat t))) h)
 

@@ -22,7 +22,10 @@ as_read_is {A} {B} E read make back there again is = record {
       let f = is.found input m.0.1 m.0.0 m.1 in
       let same : m.0.0 ≡ back b = sym (there m.0.0) ∙ ap back parts.0 in
       (f.0, subst (λ a. E f.0 a) same f.1, f.2 ∙ ap (λ r. f.0 ++ r) parts.1);
-  only = λ bytes rest b h. ap (option_map (λ (first : A × List ℕ). (make first.0, first.1))) (is.only bytes rest (back b) h) ∙ ap (λ x. Some (x, rest)) (again b);
+  only =
+      λ bytes rest b h.
+      ap (option_map (λ (first : A × List ℕ). (make first.0, first.1))) (is.only bytes rest (back b) h)
+      ∙ ap (λ x. Some (x, rest)) (again b);
 }
 
 -- ---- one after another
@@ -31,7 +34,8 @@ pub then_is : {A B : Type 0} (E : Grammar A) (F : Grammar B) (read : Reader A) (
     → IsReadBy F other → IsReadBy (E then F) (first_then read other)
 then_is {A} {B} E F read other e-is f-is = record {
   found = λ input rest v e.
-      let b = and_then_some (read input) (λ (first : A × List ℕ). option_map (λ (second : B × List ℕ). ((first.0, second.0), second.1)) (other first.1)) (v, rest) e in
+      let b = and_then_some (read input) (λ (first : A × List ℕ).
+      option_map (λ (second : B × List ℕ). ((first.0, second.0), second.1)) (other first.1)) (v, rest) e in
       let m = map_some (λ (second : B × List ℕ). ((b.0.0, second.0), second.1)) (other b.0.1) (v, rest) b.2 in
       let one = e-is.found input b.0.1 b.0.0 b.1 in
       let two = f-is.found b.0.1 m.0.1 m.0.0 m.1 in
@@ -44,7 +48,8 @@ then_is {A} {B} E F read other e-is f-is = record {
   only = λ bytes rest v h.
       ap (λ bs. first_then read other (bs ++ rest)) h.2
       ∙ ap (first_then read other) (append_assoc h.0 h.1 rest)
-      ∙ ap (option_and_then (λ (first : A × List ℕ). option_map (λ (second : B × List ℕ). ((first.0, second.0), second.1)) (other first.1))) (e-is.only h.0 (h.1 ++ rest) v.0 h.3)
+      ∙ ap (option_and_then (λ (first : A × List ℕ). option_map
+      (λ (second : B × List ℕ). ((first.0, second.0), second.1)) (other first.1))) (e-is.only h.0 (h.1 ++ rest) v.0 h.3)
       ∙ ap (option_map (λ (second : B × List ℕ). ((v.0, second.0), second.1))) (f-is.only h.1 rest v.1 h.4);
 }
 
@@ -96,7 +101,9 @@ pub rows_well : {A : Type 0} (E : Grammar A) (rows : Rows A) → AllByRecursion 
 rows_well E [] all mark read e = absurd (none-some _ e)
 rows_well {A} E (row ∷ rows) all mark read e = elim (cases_eq row.0 mark) [
   | inl same ↦
-      let taken : Some row.1 ≡ Some read = sym (ap (λ b. cond b (Some row.1) (row_at rows mark)) (ap (nat_eq row.0) (sym same) ∙ eq-eqb row.0 row.0 refl)) ∙ e in
+      let taken : Some row.1 ≡ Some read =
+      sym (ap (λ b. cond b (Some row.1) (row_at rows mark)) (ap (nat_eq row.0) (sym same) ∙ eq-eqb row.0 row.0 refl))
+      ∙ e in
       subst (λ (r : Reader A). FindsBehind E mark r) (same_Some row.1 read taken) (subst (λ m. FindsBehind E m row.1) same all.0)
   | inr other ↦ rows_well E rows all.1 mark read (sym (ap (λ b. cond b (Some row.1) (row_at rows mark)) (ne_eqb row.0 mark other)) ∙ e)
 ]

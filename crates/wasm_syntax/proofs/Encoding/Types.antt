@@ -133,6 +133,7 @@ mutability_is = record {
 pub global_type_is : IsReadBy EncodesGlobalType first_global_type
 unfolding first_global_type
 global_type_is =
-    let is = as_read_is (EncodesValType then EncodesMutability) (first_then first_val_type first_mutability) global_type (λ (ty : GlobalType). (ty.ty, ty.mutable))
+    let is = as_read_is (EncodesValType then EncodesMutability) (first_then first_val_type first_mutability) global_type
+    (λ (ty : GlobalType). (ty.ty, ty.mutable))
     (λ parts. refl) (λ ty. refl) (then_is EncodesValType EncodesMutability first_val_type first_mutability val_type_is mutability_is) in
     record { found = is.found; only = is.only }

@@ -12,5 +12,9 @@ returns-in_err-checked-clause-cause c =
 
 pub returns-in_err-script-clause-cause : goal.returns-in_err-script-clause-cause
 returns-in_err-script-clause-cause c =
-    holds_of_error c.from_residual-in_err-script.result (Input c.in_err-script.field-0.0) (HasCause c.args.module.now c.args.script.now) c.from_residual-in_err-script.ensures.1
-    (elim c.in_err-script.ensures.cause [ inl memory ↦ inl memory | inr refused ↦ inr (ByScript c.in_ok-checked.checked c.in_ok-checked.ensures.taken refused) ])
+    holds_of_error c.from_residual-in_err-script.result (Input c.in_err-script.field-0.0)
+    (HasCause c.args.module.now c.args.script.now) c.from_residual-in_err-script.ensures.1
+    (elim c.in_err-script.ensures.cause [
+      | inl memory ↦ inl memory
+      | inr refused ↦ inr (ByScript c.in_ok-checked.checked c.in_ok-checked.ensures.taken refused)
+    ])

@@ -14,7 +14,8 @@ returns-clause-idle c =
     let valid : IsValid m = subst IsValid c.module-module.ensures.same c.module-module.ensures.valid in
     let found = c.typed_code.ensures.heights m valid in
     let code : IsTypedCode m found.0 = c.typed_code.ensures.code m found.0 valid c.requires.supported found.1 in
-    let stands : StandsFor m found.0 host (state (flat_of m) c.args.store [] [] false) = c.hosts_go_on.ensures.begins m found.0 c.args.store [] c.requires.typed (no_actions m) in
+    let stands : StandsFor m found.0 host (state (flat_of m) c.args.store [] [] false) =
+    c.hosts_go_on.ensures.begins m found.0 c.args.store [] c.requires.typed (no_actions m) in
     on_ok c.new.result (λ machine. machine ≡ state c.in_ok-flat.flat c.args.store [] [] false) (λ machine. IsIdle m machine)
     (λ machine is.
     let same : machine ≡ state (flat_of m) c.args.store [] [] false = is ∙ ap (λ flat. state flat c.args.store [] [] false) c.in_ok-flat.ensures.code in

@@ -7,10 +7,12 @@ use Rattle.history_lines.proofs.lines.print_step.Goals as goal
 pub returns-in_err-put_step-clause-refused : goal.returns-in_err-put_step-clause-refused
 returns-in_err-put_step-clause-refused c =
     at-exit c.from_residual.result
-    (grew-longer _ _ (entry_text (Step c.args.func c.args.number c.args.operands.now c.args.results.now c.args.found)) (codes "\n") c.in_err-put_step.ensures.refused)
+    (grew-longer _ _ (entry_text (Step c.args.func c.args.number c.args.operands.now c.args.results.now c.args.found))
+    (codes "\n") c.in_err-put_step.ensures.refused)
 
 pub returns-clause-refused : goal.returns-clause-refused
 returns-clause-refused c =
     at-refusal c.put_line_feed.result
-    (λ part. grew-after _ _ _ (entry_text (Step c.args.func c.args.number c.args.operands.now c.args.results.now c.args.found)) (codes "\n") c.in_ok-put_step.ensures.ok
-    (part)) c.put_line_feed.ensures.refused
+    (λ part.
+    grew-after _ _ _ (entry_text (Step c.args.func c.args.number c.args.operands.now c.args.results.now c.args.found))
+    (codes "\n") c.in_ok-put_step.ensures.ok (part)) c.put_line_feed.ensures.refused

@@ -12,5 +12,5 @@ returns-in_err-put_trap-clause-refused c =
 pub returns-clause-refused : goal.returns-clause-refused
 returns-clause-refused c =
     at-refusal c.put_line_feed.result
-    (λ part. grew-after _ _ _ (entry_text (Trap c.args.func c.args.number c.args.kind c.args.operands.now c.args.found)) (codes "\n") c.in_ok-put_trap.ensures.ok
-    (part)) c.put_line_feed.ensures.refused
+    (λ part. grew-after _ _ _ (entry_text (Trap c.args.func c.args.number c.args.kind c.args.operands.now c.args.found))
+    (codes "\n") c.in_ok-put_trap.ensures.ok (part)) c.put_line_feed.ensures.refused

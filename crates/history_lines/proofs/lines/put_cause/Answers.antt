@@ -5,7 +5,8 @@ use Rattle.history_lines.proofs.lines.put_cause.Goals as goal
 
 pub returns-in_err-put_kind-clause-refused : goal.returns-in_err-put_kind-clause-refused
 returns-in_err-put_kind-clause-refused c =
-    at-exit c.from_residual.result (grew-longer _ _ (with_space (kind_text c.args.kind)) ((values_text c.args.operands.now) ++ (found_text c.args.found)) c.in_err-put_kind.ensures.refused)
+    at-exit c.from_residual.result (grew-longer _ _ (with_space (kind_text c.args.kind))
+    ((values_text c.args.operands.now) ++ (found_text c.args.found)) c.in_err-put_kind.ensures.refused)
 
 pub returns-in_err-put_values-clause-refused : goal.returns-in_err-put_values-clause-refused
 returns-in_err-put_values-clause-refused c =

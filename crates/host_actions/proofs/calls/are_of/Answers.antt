@@ -10,4 +10,5 @@ pub returns-then-types-values : goal.returns-then-types-values
 returns-then-types-values c =
     let types = c.args.types.now in
     let values = c.args.values.now in
-    sym (false_from_ne_true (same_types types (types_of values)) (λ same. c.if-types-values.true (ap length (types_same types (types_of values) same) ∙ length-map values (λ value. value.ty))))
+    sym (false_from_ne_true (same_types types (types_of values)) (λ same. c.if-types-values.true
+    (ap length (types_same types (types_of values) same) ∙ length-map values (λ value. value.ty))))

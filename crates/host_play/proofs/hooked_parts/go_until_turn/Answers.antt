@@ -7,6 +7,7 @@ pub go_on-requires-clause-hooked : goal.go_on-requires-clause-hooked
 go_on-requires-clause-hooked g c =
     let m : Module = c.requires.so_far.0 in
     let initial : StepResult = c.requires.so_far.1 in
-    let here : HooksSoFar g.H.Hooks.is_step m c.args.script.now c.args.settings.now initial c.requires.so_far.2 c.parts.hooks c.parts.stand c.parts.playing c.parts.left =
+    let here : HooksSoFar g.H.Hooks.is_step m c.args.script.now c.args.settings.now initial c.requires.so_far.2
+    c.parts.hooks c.parts.stand c.parts.playing c.parts.left =
     c.parts.invariant.0 m initial c.requires.so_far.2 c.requires.so_far.3 in
     (m, here.reached.pending, here.reached.standing, here.can_play)

@@ -10,7 +10,8 @@ use Rattle.host_play.proofs.hooked_plays.play.Goals as goal
 pub play_from-requires-clause-begins : goal.play_from-requires-clause-begins
 play_from-requires-clause-begins g c =
     begins_with c.args.play c.requires.begins
-    (subst (Fits c.args.play.code.now) (sym c.with_hooks-host.ensures) (hooked_fits c.args.play.code.now c.args.settings.now.imports c.requires.hooked c.args.play.script.now c.requires.begins.fits))
+    (subst (Fits c.args.play.code.now) (sym c.with_hooks-host.ensures) (hooked_fits c.args.play.code.now
+    c.args.settings.now.imports c.requires.hooked c.args.play.script.now c.requires.begins.fits))
 
 pub play_from-requires-clause-hooked : goal.play_from-requires-clause-hooked
 play_from-requires-clause-hooked g c =
@@ -19,5 +20,6 @@ play_from-requires-clause-hooked g c =
 
 pub returns : goal.returns
 returns g c =
-    subst (λ script. IsPlayedWithHooks g.H.Hooks.is_step (run_in c.args.play.code.now script c.args.settings.now (start_in_store c.args.play.code.now script c.args.play.store)) c.play_from.result c.args.hooks.now c.play_from.new.hooks)
-    c.with_hooks-host.ensures c.play_from.ensures
+    subst (λ script. IsPlayedWithHooks g.H.Hooks.is_step (run_in c.args.play.code.now script c.args.settings.now
+    (start_in_store c.args.play.code.now script c.args.play.store))
+    c.play_from.result c.args.hooks.now c.play_from.new.hooks) c.with_hooks-host.ensures c.play_from.ensures

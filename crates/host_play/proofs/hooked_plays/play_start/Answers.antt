@@ -11,8 +11,11 @@ play_parts-requires-clause-so_far g c = (
   c.requires.leads.0,
   c.requires.leads.1,
   c.args.hooks.now,
-  subst (λ stand. HooksSoFar g.H.Hooks.is_step c.requires.leads.0 c.args.script.now c.args.settings.now c.requires.leads.1 c.args.hooks.now c.args.hooks.now stand c.args.playing c.args.settings.now.turns) (sym c.stand-first.ensures)
-      (hooks_begun g.H.Hooks.is_step c.requires.leads.0 c.args.script.now c.args.settings.now c.requires.leads.1 c.args.hooks.now (entries_of c.args.host_step.now) (stand_after c.args.host_step.now) c.args.playing
+  subst
+      (λ stand. HooksSoFar g.H.Hooks.is_step c.requires.leads.0 c.args.script.now c.args.settings.now c.requires.leads.1
+      c.args.hooks.now c.args.hooks.now stand c.args.playing c.args.settings.now.turns) (sym c.stand-first.ensures)
+      (hooks_begun g.H.Hooks.is_step c.requires.leads.0 c.args.script.now c.args.settings.now c.requires.leads.1
+      c.args.hooks.now (entries_of c.args.host_step.now) (stand_after c.args.host_step.now) c.args.playing
       c.requires.leads.2 c.requires.leads.3),
 )
 
@@ -22,5 +25,7 @@ play_parts-requires-clause-part g c = subst BeginsPart (sym c.stand-first.ensure
 pub returns : goal.returns
 returns g c = λ m initial can_play leads.
     c.play_parts.ensures m initial c.args.hooks.now
-    (subst (λ stand. HooksSoFar g.H.Hooks.is_step m c.args.script.now c.args.settings.now initial c.args.hooks.now c.args.hooks.now stand c.args.playing c.args.settings.now.turns) (sym c.stand-first.ensures)
-    (hooks_begun g.H.Hooks.is_step m c.args.script.now c.args.settings.now initial c.args.hooks.now (entries_of c.args.host_step.now) (stand_after c.args.host_step.now) c.args.playing can_play leads))
+    (subst (λ stand. HooksSoFar g.H.Hooks.is_step m c.args.script.now c.args.settings.now initial c.args.hooks.now
+    c.args.hooks.now stand c.args.playing c.args.settings.now.turns) (sym c.stand-first.ensures)
+    (hooks_begun g.H.Hooks.is_step m c.args.script.now c.args.settings.now initial c.args.hooks.now
+    (entries_of c.args.host_step.now) (stand_after c.args.host_step.now) c.args.playing can_play leads))

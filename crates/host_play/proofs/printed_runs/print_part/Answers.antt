@@ -9,7 +9,9 @@ pub returns-clause-goes : goal.returns-clause-goes
 returns-clause-goes c = λ m initial t. record {
   history = t.history ++ c.in_ok-moved.moved.entries;
   reached = c.in_ok-moved.ensures.goes m initial t.history t.reached;
-  prints = prints_more c.args.lines.now c.print_all.new.self t.history c.in_ok-moved.moved.entries t.prints (subst (Prints c.args.lines.now c.print_all.new.self) c.as_slice.ensures c.in_ok-print_all.ensures);
+  prints =
+      prints_more c.args.lines.now c.print_all.new.self t.history c.in_ok-moved.moved.entries t.prints
+      (subst (Prints c.args.lines.now c.print_all.new.self) c.as_slice.ensures c.in_ok-print_all.ensures);
 }
 
 pub returns-in_err-moved-clause-goes : goal.returns-in_err-moved-clause-goes

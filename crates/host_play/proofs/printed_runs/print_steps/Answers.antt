@@ -16,13 +16,15 @@ pub print_on-requires-clause-played : goal.print_on-requires-clause-played
 print_on-requires-clause-played c =
     let m : Module = c.requires.so_far.0 in
     let initial : StepResult = c.requires.so_far.1 in
-    let here : PrintsSoFar m c.args.script.now initial c.args.turns c.steps.printed.lines c.steps.stand c.steps.playing c.steps.left = c.steps.invariant.0 m initial c.requires.so_far.2 in
+    let here : PrintsSoFar m c.args.script.now initial c.args.turns c.steps.printed.lines c.steps.stand c.steps.playing
+    c.steps.left = c.steps.invariant.0 m initial c.requires.so_far.2 in
     (m, here.reached.pending, here.reached.standing)
 
 pub returns-in-Over : goal.returns-in-Over
 returns-in-Over c = λ m initial so_far. (
   c.steps.left,
-  subst (λ stand. PrintsSoFar m c.args.script.now initial c.args.turns c.steps.printed.lines stand c.steps.playing c.steps.left) c.in-Over.is (c.steps.invariant.0 m initial so_far),
+  subst (λ stand. PrintsSoFar m c.args.script.now initial c.args.turns c.steps.printed.lines stand c.steps.playing
+      c.steps.left) c.in-Over.is (c.steps.invariant.0 m initial so_far),
   refl,
 )
 

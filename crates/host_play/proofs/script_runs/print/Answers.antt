@@ -10,5 +10,9 @@ print_from-requires c =
     subst (CanBegin c.args.play) (sym c.of-host.ensures) c.requires.begins
 
 pub returns : goal.returns
-returns c = λ initial is. subst (λ b. IsPrinted (program_of c.args.play.code.now c.args.play.script.now) b c.args.turns c.print_from.result) (same_begun (run_start c.args.play.code.now c.args.play.script.now) c.requires.opened is)
-    (subst (λ script. IsPrinted (program_of c.args.play.code.now script) (start_in_store c.args.play.code.now script c.args.play.store) c.args.turns c.print_from.result) c.of-host.ensures c.print_from.ensures)
+returns c =
+    λ initial is.
+    subst (λ b. IsPrinted (program_of c.args.play.code.now c.args.play.script.now) b c.args.turns c.print_from.result)
+    (same_begun (run_start c.args.play.code.now c.args.play.script.now) c.requires.opened is)
+    (subst (λ script. IsPrinted (program_of c.args.play.code.now script) (start_in_store c.args.play.code.now script
+    c.args.play.store) c.args.turns c.print_from.result) c.of-host.ensures c.print_from.ensures)

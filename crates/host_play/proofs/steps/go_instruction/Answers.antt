@@ -13,10 +13,14 @@ pub returns-in-Ok-clause-goes : goal.returns-in-Ok-clause-goes
 returns-in-Ok-clause-goes c = λ m initial history r.
     let small : c.args.left.now ≤ c.args.turns = c.requires.left in
     let made = c.in-Ok.ensures.makes m r.pending r.standing in
-    goes_step m c.args.script.now None initial c.args.turns history at.Instruction c.args.playing.now c.args.left.now r (play_step c.in-Ok.next (entries_of c.turn.new.entries)) c.turn.new.playing (c.args.left.now - 1) (omega arith) made (takes_one made.config.stack)
+    goes_step m c.args.script.now None initial c.args.turns history at.Instruction c.args.playing.now c.args.left.now r
+    (play_step c.in-Ok.next (entries_of c.turn.new.entries)) c.turn.new.playing (c.args.left.now - 1) (omega arith) made
+    (takes_one made.config.stack)
 
 pub returns-in-Err-clause-goes : goal.returns-in-Err-clause-goes
 returns-in-Err-clause-goes c = λ m initial history r.
     let small : c.args.left.now ≤ c.args.turns = c.requires.left in
     subst (Refuses (program_of m c.args.script.now) initial c.args.turns) (sym c.play_fault.ensures)
-    (step_fails m c.args.script.now initial c.args.turns history at.Instruction c.args.playing.now c.args.left.now r c.in-Err.refusal c.turn.new.playing (c.args.left.now - 1) (c.args.turns - (c.args.left.now - 1)) (omega arith) (omega arith) (c.in-Err.ensures.makes m r.pending r.standing))
+    (step_fails m c.args.script.now initial c.args.turns history at.Instruction c.args.playing.now c.args.left.now r
+    c.in-Err.refusal c.turn.new.playing (c.args.left.now - 1) (c.args.turns - (c.args.left.now - 1)) (omega arith)
+    (omega arith) (c.in-Err.ensures.makes m r.pending r.standing))

@@ -7,8 +7,8 @@ returns-then-byte-lt128 c = (
   omega arith,
   stops _ c.args.bytes.now c.loop-before.before c.loop-before.low c.loop-before.shift c.loop-before-test.true
       c.loop-before.invariant.bits c.loop-before.invariant.rest c.from.result c.from.ensures (omega arith)
-      (rw c.from.ensures (last_fits c.loop-before.shift c.loop-before.before _ c.loop-before.invariant.turns c.loop-before.invariant.within c.if-byte-lt128.true c.else-is_fifth.either))
-      (omega arith),
+      (rw c.from.ensures (last_fits c.loop-before.shift c.loop-before.before _ c.loop-before.invariant.turns
+      c.loop-before.invariant.within c.if-byte-lt128.true c.else-is_fifth.either)) (omega arith),
 )
 
 pub loop-before-preserved : goal.loop-before-preserved

@@ -21,7 +21,8 @@ bytes-preserved c =
     let large : fits_seven_bits (to_z w64 c.bytes.rest-bits) ≡ false = sym c.fits_seven_bits.ensures ∙ c.bytes-test.true in
     let next : to_z w64 (of_z w64 (shr_z (to_z w64 c.bytes.rest-bits) (2 ^ 7))) ≡ high_bits (to_z w64 c.bytes.rest-bits) =
     shifted (to_z w64 c.bytes.rest-bits) fits.sfits in
-    let more : s64_bytes (to_z w64 c.bytes.rest-bits) ≡ (c.low_bits.result + 2 ^ 7) ∷ s64_bytes (to_z w64 (of_z w64 (shr_z (to_z w64 c.bytes.rest-bits) (2 ^ 7)))) =
+    let more : s64_bytes (to_z w64 c.bytes.rest-bits)
+    ≡ (c.low_bits.result + 2 ^ 7) ∷ s64_bytes (to_z w64 (of_z w64 (shr_z (to_z w64 c.bytes.rest-bits) (2 ^ 7)))) =
     rw (next, c.low_bits.ensures) (s64-more (to_z w64 c.bytes.rest-bits) large fits.sfits) in
     record {
       written = appended c.bytes.out.items _ (s64_bytes (to_z w64 c.bytes.rest-bits)) _ _ _ c.bytes.invariant.written more c.push_reserved.ensures.items;

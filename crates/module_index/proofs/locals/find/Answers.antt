@@ -20,7 +20,10 @@ over ends place at h point =
 pub returns-in-Some : goal.returns-in-Some
 returns-in-Some c =
     let p : RunEnd → Bool = λ e. leb e.end c.args.place in
-    let point : IsPartitionPoint (λ y. p y ≡ true) (λ y. p y ≡ false) c.args.ends.now c.partition_point-at.result = IsPartitionPoint-from_clause p c.args.ends.now c.partition_point-at.result c.partition_point-at.ensures.partitioned (IsPartitionedBy-leb (λ (e : RunEnd). e.end) c.args.ends.now c.args.place (λ i j d le lt. ends-rise 0 c.args.ends.now i j d c.requires le lt)) (search rules) in
+    let point : IsPartitionPoint (λ y. p y ≡ true) (λ y. p y ≡ false) c.args.ends.now c.partition_point-at.result =
+    IsPartitionPoint-from_clause p c.args.ends.now c.partition_point-at.result c.partition_point-at.ensures.partitioned
+    (IsPartitionedBy-leb (λ (e : RunEnd). e.end) c.args.ends.now c.args.place
+    (λ i j d le lt. ends-rise 0 c.args.ends.now i j d c.requires le lt)) (search rules) in
     let found = c.in-Some.ensures.lookup in
     let run : RunEnd = c.in-Some.run'.now in
     sym (ap (option_map (λ (e : RunEnd). e.ty)) (slice_get-get_or c.args.ends.now c.partition_point-at.result run found.3.0 ∙ ap Some (sym found.1)))
@@ -29,7 +32,10 @@ returns-in-Some c =
 pub returns-in-None : goal.returns-in-None
 returns-in-None c =
     let p : RunEnd → Bool = λ e. leb e.end c.args.place in
-    let point : IsPartitionPoint (λ y. p y ≡ true) (λ y. p y ≡ false) c.args.ends.now c.partition_point-at.result = IsPartitionPoint-from_clause p c.args.ends.now c.partition_point-at.result c.partition_point-at.ensures.partitioned (IsPartitionedBy-leb (λ (e : RunEnd). e.end) c.args.ends.now c.args.place (λ i j d le lt. ends-rise 0 c.args.ends.now i j d c.requires le lt)) (search rules) in
+    let point : IsPartitionPoint (λ y. p y ≡ true) (λ y. p y ≡ false) c.args.ends.now c.partition_point-at.result =
+    IsPartitionPoint-from_clause p c.args.ends.now c.partition_point-at.result c.partition_point-at.ensures.partitioned
+    (IsPartitionedBy-leb (λ (e : RunEnd). e.end) c.args.ends.now c.args.place
+    (λ i j d le lt. ends-rise 0 c.args.ends.now i j d c.requires le lt)) (search rules) in
     let found = c.in-None.ensures.lookup in
     sym (ap (option_map (λ (e : RunEnd). e.ty)) (slice_get_past c.args.ends.now c.partition_point-at.result found.3))
     ∙ over c.args.ends.now c.args.place c.partition_point-at.result c.requires point

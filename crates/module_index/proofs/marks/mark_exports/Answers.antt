@@ -12,10 +12,13 @@ pub exports-preserved : goal.exports-preserved
 exports-preserved c = λ count done h.
     let picks : Export → Option ℕ = λ e. exported_func e.kind in
     let before = done ++ filter_map picks (take c.exports.export-index c.args.exports.now) in
-    subst (AreMarks c.mark_some.new.marks.items count) (ap (λ o. before ++ cons_option o []) c.func_of_export.ensures ∙ picked-more picks done c.args.exports.now c.exports.export-index c.export-item.result c.exports-test.true c.export-item.is)
+    subst (AreMarks c.mark_some.new.marks.items count)
+    (ap (λ o. before ++ cons_option o []) c.func_of_export.ensures ∙ picked-more picks done c.args.exports.now
+    c.exports.export-index c.export-item.result c.exports-test.true c.export-item.is)
     (c.mark_some.ensures count before (c.exports.invariant count done h))
 
 pub returns : goal.returns
 returns c = λ count done h.
     let picks : Export → Option ℕ = λ e. exported_func e.kind in
-    subst (λ l. AreMarks c.exports.marks.items count (done ++ filter_map picks l)) (take_all c.exports.export-index c.args.exports.now c.exports-test.false) (c.exports.invariant count done h)
+    subst (λ l. AreMarks c.exports.marks.items count (done ++ filter_map picks l))
+    (take_all c.exports.export-index c.args.exports.now c.exports-test.false) (c.exports.invariant count done h)

@@ -12,7 +12,11 @@ returns c =
     let count = c.args.count in
     let picks : Export → Option ℕ = λ e. exported_func e.kind in
     let fresh : c.in_ok-marks.marks.items ≡ replicate count false = search rules in
-    let elems : AreMarks c.mark_elems.new.marks.items count (flat_map elem_funcs c.as_slice.result.now) = c.mark_elems.ensures count [] (none-marked count c.in_ok-marks.marks.items fresh) in
-    let exports : AreMarks c.mark_exports.new.marks.items count (flat_map elem_funcs c.as_slice.result.now ++ filter_map picks c.as_slice-2.result.now) = c.mark_exports.ensures count (flat_map elem_funcs c.as_slice.result.now) elems in
+    let elems : AreMarks c.mark_elems.new.marks.items count (flat_map elem_funcs c.as_slice.result.now) =
+    c.mark_elems.ensures count [] (none-marked count c.in_ok-marks.marks.items fresh) in
+    let exports : AreMarks c.mark_exports.new.marks.items count
+    (flat_map elem_funcs c.as_slice.result.now ++ filter_map picks c.as_slice-2.result.now) =
+    c.mark_exports.ensures count (flat_map elem_funcs c.as_slice.result.now) elems in
     subst (AreMarks c.mark_exports.new.marks.items count)
-    (ap (λ e. flat_map elem_funcs e ++ filter_map picks c.as_slice-2.result.now) c.as_slice.ensures ∙ ap (λ x. flat_map elem_funcs m.elems ++ filter_map picks x) c.as_slice-2.ensures) exports
+    (ap (λ e. flat_map elem_funcs e ++ filter_map picks c.as_slice-2.result.now) c.as_slice.ensures
+    ∙ ap (λ x. flat_map elem_funcs m.elems ++ filter_map picks x) c.as_slice-2.ensures) exports

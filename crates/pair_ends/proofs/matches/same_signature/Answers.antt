@@ -1,5 +1,5 @@
 use Rattle.std.proofs.Common.{◌∙◌}
-use Rattle.pair_ends.proofs.Signatures.{signature_test}
+use Rattle.wasm_syntax.proofs.SameTypes.{signature_test}
 use Rattle.pair_ends.proofs.matches.same_signature.Goals as goal
 
 pub returns : goal.returns

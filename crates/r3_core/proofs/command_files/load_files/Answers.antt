@@ -13,7 +13,10 @@ returns-in_err-load_file-clause-cause g c =
     (elim c.in_err-load_file.ensures.cause [
       | inl memory ↦ inl memory
       | inr cause ↦ inr
-          (IsLoadCause-at c.args.names.now c.args.limits.now c.files.index c.index-names-index.result _ _ _ _ _ _ _ _ _ c.files-test.true c.requires.each name c.files.invariant.contents_unchanged c.files.invariant.faults_never_fall c.files.invariant.taken_never_falls c.files.invariant.within_limits c.in_err-load_file.field-0.0 cause)
+          (IsLoadCause-at c.args.names.now c.args.limits.now c.files.index c.index-names-index.result _ _ _ _ _ _ _ _ _
+          c.files-test.true c.requires.each name c.files.invariant.contents_unchanged
+          c.files.invariant.faults_never_fall c.files.invariant.taken_never_falls c.files.invariant.within_limits
+          c.in_err-load_file.field-0.0 cause)
     ])
 
 pub files-preserved : goal.files-preserved
@@ -26,15 +29,17 @@ files-preserved g c =
           AreBytesOf-more _ c.args.names.now c.files.index c.index-names-index.result _ _ _ c.files-test.true c.in_ok-push.ensures.items c.files.invariant.bytes
           (λ known e. c.in_ok-load_file.ensures.bytes known (c.files.invariant.contents_unchanged ∙ e) ∙ ap (file_bytes known) name);
       within =
-          AreWithin-more c.args.names.now _ _ _ c.args.limits.now c.files.index c.in_ok-push.ensures.items (omega (arith, c.files.loaded.ok, c.files.invariant.all)) c.requires.each c.files-test.true c.files.invariant.within
-          c.in_ok-load_file.ensures.short;
+          AreWithin-more c.args.names.now _ _ _ c.args.limits.now c.files.index c.in_ok-push.ensures.items
+          (omega (arith, c.files.loaded.ok, c.files.invariant.all)) c.requires.each c.files-test.true
+          c.files.invariant.within c.in_ok-load_file.ensures.short;
       contents_unchanged = c.in_ok-load_file.ensures.contents_unchanged ∙ c.files.invariant.contents_unchanged;
       faults_never_fall = λ other.
           omega (arith, c.files.invariant.faults_never_fall other, c.in_ok-load_file.ensures.faults_never_fall other);
       taken_never_falls = λ other.
           omega (arith, c.files.invariant.taken_never_falls other, c.in_ok-load_file.ensures.taken_never_falls other);
       within_limits = λ known e.
-          first_longer-more c.args.names.now c.args.limits.now known c.files.index c.index-names-index.result _ c.files-test.true c.requires.each name (c.files.invariant.within_limits known e)
+          first_longer-more c.args.names.now c.args.limits.now known c.files.index c.index-names-index.result _
+          c.files-test.true c.requires.each name (c.files.invariant.within_limits known e)
           (c.in_ok-load_file.ensures.within_limit known (c.files.invariant.contents_unchanged ∙ e));
     }
 

@@ -31,8 +31,11 @@ returns-clause-longer c = λ built longer.
 
 pub returns-clause-refused : goal.returns-clause-refused
 returns-clause-refused c = λ command names number fault says none refusal.
-    refusal-or_memory c.r3.result (status_of fault) (c.r3.ensures.refused command names number fault says _ refl none refusal) (λ e. absurd (omega (arith, (c.r3.ensures.read e).2)))
+    refusal-or_memory c.r3.result (status_of fault)
+    (c.r3.ensures.refused command names number fault says _ refl none refusal)
+    (λ e. absurd (omega (arith, (c.r3.ensures.read e).2)))
 
 pub returns-clause-done : goal.returns-clause-done
 returns-clause-done c = λ command names number says none doable.
-    done-or_memory c.r3.result (c.r3.ensures.done command names number says _ refl none doable) (λ e. absurd (omega (arith, (c.r3.ensures.read e).2))) (λ e. absurd (omega (arith, c.r3.ensures.write e)))
+    done-or_memory c.r3.result (c.r3.ensures.done command names number says _ refl none doable)
+    (λ e. absurd (omega (arith, (c.r3.ensures.read e).2))) (λ e. absurd (omega (arith, c.r3.ensures.write e)))

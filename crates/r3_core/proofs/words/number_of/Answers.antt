@@ -9,14 +9,16 @@ use Rattle.r3_core.proofs.words.number_of.Goals.{then-number-least-via-then-numb
 pub returns-in_default-clause-unfit : goal.returns-in_default-clause-unfit
 returns-in_default-clause-unfit c = λ number is.
     let read : c.parse.result ≡ Ok number =
-    parse-decimal 64 number c.args.word.now c.parse.result (omega (arith, is.high, c.ranges.most.fits)) (omega (arith, is.high, c.ranges.most.fits)) is.digits c.parse.ensures.value.0
+    parse-decimal 64 number c.args.word.now c.parse.result (omega (arith, is.high, c.ranges.most.fits))
+    (omega (arith, is.high, c.ranges.most.fits)) is.digits c.parse.ensures.value.0
     in
     c.in_default.not-Ok number read
 
 pub returns-then-number-least-clause-unfit : goal.returns-then-number-least-clause-unfit
 returns-then-number-least-clause-unfit c = λ number is.
     let read : c.parse.result ≡ Ok number =
-    parse-decimal 64 number c.args.word.now c.parse.result (omega (arith, is.high, c.ranges.most.fits)) (omega (arith, is.high, c.ranges.most.fits)) is.digits c.parse.ensures.value.0
+    parse-decimal 64 number c.args.word.now c.parse.result (omega (arith, is.high, c.ranges.most.fits))
+    (omega (arith, is.high, c.ranges.most.fits)) is.digits c.parse.ensures.value.0
     in
     let same : c.in-Ok.number ≡ number = cc (read, c.in-Ok.is) in
     elim c.then-number-least.branch [

@@ -13,7 +13,8 @@ use Rattle.r3_history.proofs.histories.history.Goals as goal
 abbrev Why : ℕ → Module → Script → Fault → Type 0
 Why turns m script fault = IsUnprinted m script turns fault
 
-why : (module_bytes script_bytes : List ℕ) (turns : ℕ) (fault : Fault) → IsHistoryRefusal module_bytes script_bytes turns fault → IsWhy module_bytes script_bytes (Why turns) fault
+why : (module_bytes script_bytes : List ℕ) (turns : ℕ) (fault : Fault)
+    → IsHistoryRefusal module_bytes script_bytes turns fault → IsWhy module_bytes script_bytes (Why turns) fault
 why module_bytes script_bytes turns fault (OfInputs x) = inl x
 why module_bytes script_bytes turns fault (OfRun m script inputs x) = inr (m, script, inputs, x)
 
@@ -35,21 +36,30 @@ returns c =
       cause =
           IfErr-weaker c.history_of.result (λ fault. (fault ≡ Memory) ⊎ IsUnprinted c.in_ok-checked.checked c.in_ok-checked.script c.args.turns fault)
           (λ fault. (fault ≡ Memory) ⊎ IsHistoryRefusal c.args.module.now c.args.script.now c.args.turns fault)
-          (λ fault either. elim either [ inl memory ↦ inl memory | inr unprinted ↦ inr (OfRun c.in_ok-checked.checked c.in_ok-checked.script c.in_ok-checked.ensures.taken.inputs unprinted) ])
-          c.history_of.ensures.cause;
+          (λ fault either. elim either [
+            | inl memory ↦ inl memory
+            | inr unprinted ↦ inr
+                (OfRun c.in_ok-checked.checked c.in_ok-checked.script c.in_ok-checked.ensures.taken.inputs unprinted)
+          ]) c.history_of.ensures.cause;
       refused =
           λ fault refusal.
           c.history_of.ensures.refused fault
-          (inputs-why c.args.module.now c.args.script.now c.inputs_of.result c.inputs_of.ensures.refused c.inputs_of.ensures.accepted c.in_ok-checked.checked c.in_ok-checked.script c.in_ok-checked.was
+          (inputs-why c.args.module.now c.args.script.now c.inputs_of.result c.inputs_of.ensures.refused
+          c.inputs_of.ensures.accepted c.in_ok-checked.checked c.in_ok-checked.script c.in_ok-checked.was
           (Why c.args.turns) fault (why c.args.module.now c.args.script.now c.args.turns fault refusal));
       printed =
           IfOk-weaker c.history_of.result (λ bytes. IsHistoryOf c.in_ok-checked.checked c.in_ok-checked.script c.args.turns bytes.items)
           (λ bytes. IsHistory c.args.module.now c.args.script.now c.args.turns bytes.items)
-          (λ bytes history. record { m = c.in_ok-checked.checked; script = c.in_ok-checked.script; inputs = c.in_ok-checked.ensures.taken.inputs; history = history })
-          c.history_of.ensures.printed;
+          (λ bytes history. record {
+            m = c.in_ok-checked.checked;
+            script = c.in_ok-checked.script;
+            inputs = c.in_ok-checked.ensures.taken.inputs;
+            history = history;
+          }) c.history_of.ensures.printed;
       accepted =
           λ text history.
           c.history_of.ensures.accepted text
-          (inputs-same c.args.module.now c.args.script.now c.inputs_of.result c.inputs_of.ensures.refused c.inputs_of.ensures.accepted c.in_ok-checked.checked c.in_ok-checked.script c.in_ok-checked.was
+          (inputs-same c.args.module.now c.args.script.now c.inputs_of.result c.inputs_of.ensures.refused
+          c.inputs_of.ensures.accepted c.in_ok-checked.checked c.in_ok-checked.script c.in_ok-checked.was
           (λ m script. IsHistoryOf m script c.args.turns text) history.m history.script history.inputs history.history);
     }

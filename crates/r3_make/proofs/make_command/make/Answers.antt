@@ -15,31 +15,40 @@ use Rattle.r3_make.proofs.make_command.make.Goals as goal
 abbrev Why : ℕ → Module → Script → Fault → Type 0
 Why turns m script fault = IsUnmade m script turns fault
 
-why : (module_bytes script_bytes : List ℕ) (turns : ℕ) (fault : Fault) → IsMakeRefusal module_bytes script_bytes turns fault → IsWhy module_bytes script_bytes (Why turns) fault
+why : (module_bytes script_bytes : List ℕ) (turns : ℕ) (fault : Fault)
+    → IsMakeRefusal module_bytes script_bytes turns fault → IsWhy module_bytes script_bytes (Why turns) fault
 why module_bytes script_bytes turns fault (OfInputs x) = inl x
 why module_bytes script_bytes turns fault (OfModule m script inputs x) = inr (m, script, inputs, x)
 
 pub returns-in_err-checked-clause-cause : goal.returns-in_err-checked-clause-cause
 returns-in_err-checked-clause-cause c =
-    passed c.from_residual.result c.in_err-checked.field-0.0 (λ fault. (fault ≡ Memory) ⊎ IsMakeRefusal c.args.module.now c.args.script.now c.args.turns fault) c.from_residual.ensures.1
+    passed c.from_residual.result c.in_err-checked.field-0.0
+    (λ fault. (fault ≡ Memory) ⊎ IsMakeRefusal c.args.module.now c.args.script.now c.args.turns fault)
+    c.from_residual.ensures.1
     (elim c.in_err-checked.ensures.cause [ inl memory ↦ inl memory | inr refused ↦ inr (OfInputs refused) ])
 
 pub returns-in_err-checked-clause-refused : goal.returns-in_err-checked-clause-refused
 returns-in_err-checked-clause-refused c = λ fault refusal.
-    inputs-answer c.args.module.now c.args.script.now c.inputs_of.result c.inputs_of.ensures.refused c.inputs_of.ensures.accepted c.in_err-checked.field-0.0 c.in_err-checked.was c.from_residual.result c.from_residual.ensures.1
+    inputs-answer c.args.module.now c.args.script.now c.inputs_of.result c.inputs_of.ensures.refused
+    c.inputs_of.ensures.accepted c.in_err-checked.field-0.0 c.in_err-checked.was c.from_residual.result
+    c.from_residual.ensures.1
     (Why c.args.turns) fault (why c.args.module.now c.args.script.now c.args.turns fault refusal)
 
 pub returns-in_err-checked-clause-accepted : goal.returns-in_err-checked-clause-accepted
 returns-in_err-checked-clause-accepted c = λ these.
-    inputs-memory c.args.module.now c.args.script.now c.inputs_of.result c.inputs_of.ensures.refused c.inputs_of.ensures.accepted c.in_err-checked.field-0.0 c.in_err-checked.was c.from_residual.result c.from_residual.ensures.1
-    these.m these.script these.inputs
+    inputs-memory c.args.module.now c.args.script.now c.inputs_of.result c.inputs_of.ensures.refused
+    c.inputs_of.ensures.accepted c.in_err-checked.field-0.0 c.in_err-checked.was c.from_residual.result
+    c.from_residual.ensures.1 these.m these.script these.inputs
 
 pub returns-clause-cause : goal.returns-clause-cause
 returns-clause-cause c =
     IfErr-weaker c.replay_of.result (λ fault. (fault ≡ Memory) ⊎ IsUnmade c.in_ok-checked.checked c.in_ok-checked.script c.args.turns fault)
     (λ fault. (fault ≡ Memory) ⊎ IsMakeRefusal c.args.module.now c.args.script.now c.args.turns fault)
-    (λ fault either. elim either [ inl memory ↦ inl memory | inr unmade ↦ inr (OfModule c.in_ok-checked.checked c.in_ok-checked.script c.in_ok-checked.ensures.taken.inputs unmade) ])
-    c.replay_of.ensures.cause
+    (λ fault either. elim either [
+      | inl memory ↦ inl memory
+      | inr unmade ↦
+          inr (OfModule c.in_ok-checked.checked c.in_ok-checked.script c.in_ok-checked.ensures.taken.inputs unmade)
+    ]) c.replay_of.ensures.cause
 
 pub returns-clause-printed : goal.returns-clause-printed
 returns-clause-printed c =
@@ -51,11 +60,13 @@ returns-clause-printed c =
 pub returns-clause-refused : goal.returns-clause-refused
 returns-clause-refused c = λ fault refusal.
     c.replay_of.ensures.refused fault
-    (inputs-why c.args.module.now c.args.script.now c.inputs_of.result c.inputs_of.ensures.refused c.inputs_of.ensures.accepted c.in_ok-checked.checked c.in_ok-checked.script c.in_ok-checked.was
+    (inputs-why c.args.module.now c.args.script.now c.inputs_of.result c.inputs_of.ensures.refused
+    c.inputs_of.ensures.accepted c.in_ok-checked.checked c.in_ok-checked.script c.in_ok-checked.was
     (Why c.args.turns) fault (why c.args.module.now c.args.script.now c.args.turns fault refusal))
 
 pub returns-clause-accepted : goal.returns-clause-accepted
 returns-clause-accepted c = λ these.
     c.replay_of.ensures.accepted
-    (inputs-same c.args.module.now c.args.script.now c.inputs_of.result c.inputs_of.ensures.refused c.inputs_of.ensures.accepted c.in_ok-checked.checked c.in_ok-checked.script c.in_ok-checked.was
+    (inputs-same c.args.module.now c.args.script.now c.inputs_of.result c.inputs_of.ensures.refused
+    c.inputs_of.ensures.accepted c.in_ok-checked.checked c.in_ok-checked.script c.in_ok-checked.was
     (λ m script. NeedsLightTape m script c.args.turns) these.m these.script these.inputs these.replayable)

@@ -1,12 +1,14 @@
-use Rattle.std.proofs.Common.{◌≡◌, Ok, sym, ◌∙◌, ap, subst}
+use Rattle.std.proofs.Common.{◌≡◌, Ok, refl, sym, ◌∙◌, ap, subst}
+use Rattle.wasm_syntax.specs.declared.limits.TheConstants.{MAX_TAPE_WEIGHT}
 use Rattle.host_script.specs.Fits.{Fits}
 use Rattle.history_spec.specs.Instantiation.{instantiate}
 use Rattle.type_safety.specs.Stores.{IsStore}
 use Rattle.wasm_flat.specs.Meters.{FitsMeter}
-use Rattle.trace_reduce.specs.Reducer.{HasTaken}
+use Rattle.trace_reduce.specs.Reducer.{HasTakenFor}
 use Rattle.host_play.specs.HookedResults.{HasHooksAfter}
 use Rattle.instrumented_run_laws.specs.Laws.{instrumented_of}
 use Rattle.run_recorder.specs.Records.{IsRecordedInto}
+use Rattle.r3_make.proofs.LogTapes.{recorded_for}
 use Rattle.r3_make.proofs.Recordings.{hooked_begins, hooked_store, hooks_after, meter_fits, recorded_same, script_fits}
 use Rattle.r3_make.proofs.recorded_runs.record_play.Goals as goal
 
@@ -53,10 +55,15 @@ record_into-requires-clause-begins c =
     (hooked_begins run is.original c.instrumented_are_instantiated.ensures
     ∙ ap (λ store. Ok store) (sym c.requires.recordable.2)))
 
+pub record_into-requires-clause-fresh : goal.record_into-requires-clause-fresh
+record_into-requires-clause-fresh c =
+    record { has = c.new-sink.ensures.taken; imports_are = refl; most_is = refl }
+
 pub returns : goal.returns
 returns c = λ run is same.
     let inputs = c.args.inputs.now in
-    subst (λ r. IsRecordedInto HasTaken r c.record_into.result)
+    subst (λ r. IsRecordedInto (HasTakenFor inputs.imports MAX_TAPE_WEIGHT) r c.record_into.result)
     (recorded_same run c.args.turns inputs.hooked c.args.play.script.now c.args.play.store inputs.meter inputs.imports
     is.inputs_are.hooked (c.requires.script ∙ is.inputs_are.script) same is.inputs_are.meter is.inputs_are.imports)
-    c.record_into.ensures
+    (recorded_for inputs.imports MAX_TAPE_WEIGHT c.new-sink.result _ c.record_into.result c.new-sink.ensures.imports
+    c.new-sink.ensures.most c.record_into.ensures)

@@ -29,7 +29,8 @@ returns c =
       refused =
           λ fault refusal.
           c.text_of.ensures.refused fault
-          (none-same c.args.binary.now c.module_in.result c.module_in.ensures.refused c.module_in.ensures.accepted c.in_ok-checked.checked c.in_ok-checked.was c.args.turns fault refusal);
+          (none-same c.args.binary.now c.module_in.result c.module_in.ensures.refused c.module_in.ensures.accepted
+          c.in_ok-checked.checked c.in_ok-checked.was c.args.turns fault refusal);
       printed =
           IfOk-weaker c.text_of.result (λ bytes. HasReplayText c.in_ok-checked.checked c.args.turns bytes.items)
           (λ bytes. IsReplayText c.args.binary.now c.args.turns bytes.items)
@@ -38,5 +39,6 @@ returns c =
       accepted =
           λ text shown.
           c.text_of.ensures.accepted text
-          (text-same c.args.binary.now c.module_in.result c.module_in.ensures.refused c.module_in.ensures.accepted c.in_ok-checked.checked c.in_ok-checked.was c.args.turns text shown.m shown.is_module shown.shown);
+          (text-same c.args.binary.now c.module_in.result c.module_in.ensures.refused c.module_in.ensures.accepted
+          c.in_ok-checked.checked c.in_ok-checked.was c.args.turns text shown.m shown.is_module shown.shown);
     }

@@ -60,7 +60,8 @@ module _ {M : Type 1} {𝓤 : Ura M} (𝓛 : Logic 𝓤) (mem : Memory → SProp
         (Post (vptr at.0 at.1))
     ending =
         qed 𝓛 (‵ (flft κ q) ∷ ‵ (hidden_shr owner.the_row κ page b o) ∷ ‵ (hidden_shr page_row κ page.bytes at.0 at.1) ∷ []) ∵
-        suffices ! _ (ends_at 𝓛 f.ended stayed (f.clauses 𝓛 mem run) bound (vptr at.0 at.1) (record { ref_ptr = at; now = page.bytes }) (tt, tt) (tt, tt)) $ says ! refl $
+        suffices ! _ (ends_at 𝓛 f.ended stayed (f.clauses 𝓛 mem run) bound (vptr at.0 at.1)
+        (record { ref_ptr = at; now = page.bytes }) (tt, tt) (tt, tt)) $ says ! refl $
         nothing ! $ move ! (1 ∷ 0 ∷ []) $ join ! $ frame ! $
         feq_i ! (List Val) (vptr b o ∷ []) (vptr b o ∷ []) refl $ fjoin ! $ nothing ! $ move ! (1 ∷ 0 ∷ []) $ fjoin ! $ frame ! $
         feq_i ! (List Val) (vptr at.0 at.1 ∷ []) (vptr at.0 at.1 ∷ []) refl $ fjoin ! $ done !

@@ -18,7 +18,8 @@ returns-clause-absent c = λ layout h.
     in
     let written : c.as_slice.result.now ≡ u32_bytes c.in-Ok.imports ++ u32_bytes c.in-Ok-read_u32.defined =
     c.as_slice.ensures.value ∙ c.in_ok-push_u32-2.ensures.ok
-    ∙ ap (λ items. items ++ u32_bytes c.in-Ok-read_u32.defined) (c.in_ok-push_u32.ensures.ok ∙ ap (λ items. items ++ u32_bytes c.in-Ok.imports) c.new-written.ensures.items)
+    ∙ ap (λ items. items ++ u32_bytes c.in-Ok-read_u32.defined)
+    (c.in_ok-push_u32.ensures.ok ∙ ap (λ items. items ++ u32_bytes c.in-Ok.imports) c.new-written.ensures.items)
     in
-    not_from_Decides (bytes_eq c.as_slice.result.now c.args.bytes.now) (bytes_eq-Decides c.as_slice.result.now c.args.bytes.now) (sym c.eq.ensures ∙ c.if-eq.false)
-    (written ∙ same)
+    not_from_Decides (bytes_eq c.as_slice.result.now c.args.bytes.now)
+    (bytes_eq-Decides c.as_slice.result.now c.args.bytes.now) (sym c.eq.ensures ∙ c.if-eq.false) (written ∙ same)

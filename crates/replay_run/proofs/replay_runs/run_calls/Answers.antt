@@ -26,7 +26,8 @@ pub returns-in-Trapped-clause-runs : goal.returns-in-Trapped-clause-runs
 returns-in-Trapped-clause-runs c = λ m heights ready has.
     let initial : StepResult = start (program_alone m) c.args.start c.args.machine.now.store [] (main_of c.args.entry) in
     ended_trapped m (main_of c.args.entry) initial c.args.left.now c.in-Trapped.outcome c.finish_call.new.shown c.finish_call.new.machine c.finish_call.new.left
-    (subst (λ stand. ShowsSoFar m (main_of c.args.entry) initial c.args.left.now stand c.finish_call.new.shown c.finish_call.new.machine c.finish_call.new.left) c.in-Trapped.is
+    (subst (λ stand. ShowsSoFar m (main_of c.args.entry) initial c.args.left.now stand c.finish_call.new.shown
+    c.finish_call.new.machine c.finish_call.new.left) c.in-Trapped.is
     (c.in-Ok.ensures.goes m (main_of c.args.entry) initial c.args.left.now (c.in_ok-first.ensures.begins m heights c.args.left.now ready has)))
 
 pub begin_entry-requires : goal.begin_entry-requires
@@ -38,8 +39,10 @@ begin_entry-requires c =
       c.args.left.now,
       c.finish_call.new.left,
       ready.2.entry_function,
-      start_returned c.args.start c.args.entry c.args.left.now c.args.shown.now c.args.machine.now c.in_ok-first.first c.begin_run.new.shown c.begin_run.new.machine c.in_ok-first.ensures.begins
-          c.in-Ok.called c.finish_call.new.shown c.finish_call.new.machine c.finish_call.new.left c.in-Ok.ensures.goes c.in-Ok.ensures.over c.in_default.not-Trapped m ready.1 ready.2 c.requires.fresh,
+      start_returned c.args.start c.args.entry c.args.left.now c.args.shown.now c.args.machine.now c.in_ok-first.first
+          c.begin_run.new.shown c.begin_run.new.machine c.in_ok-first.ensures.begins
+          c.in-Ok.called c.finish_call.new.shown c.finish_call.new.machine c.finish_call.new.left c.in-Ok.ensures.goes
+          c.in-Ok.ensures.over c.in_default.not-Trapped m ready.1 ready.2 c.requires.fresh,
     )
 
 pub finish_call-requires-2 : goal.finish_call-requires-2
@@ -51,8 +54,10 @@ finish_call-requires-2 c =
       start (program_alone m) c.args.start c.args.machine.now.store [] (main_of c.args.entry),
       c.args.left.now,
       c.finish_call.new.left,
-      entered c.args.start c.args.entry c.args.left.now c.args.shown.now c.args.machine.now c.in_ok-first.first c.begin_run.new.shown c.begin_run.new.machine c.in_ok-first.ensures.begins
-          c.in-Ok.called c.finish_call.new.shown c.finish_call.new.machine c.finish_call.new.left c.in-Ok.ensures.goes c.in-Ok.ensures.over c.in_default.not-Trapped m ready.1 ready.2 c.requires.fresh
+      entered c.args.start c.args.entry c.args.left.now c.args.shown.now c.args.machine.now c.in_ok-first.first
+          c.begin_run.new.shown c.begin_run.new.machine c.in_ok-first.ensures.begins
+          c.in-Ok.called c.finish_call.new.shown c.finish_call.new.machine c.finish_call.new.left c.in-Ok.ensures.goes
+          c.in-Ok.ensures.over c.in_default.not-Trapped m ready.1 ready.2 c.requires.fresh
           c.in_ok-second.second c.begin_entry.new.shown c.begin_entry.new.machine c.in_ok-second.ensures.enters,
     )
 
@@ -64,10 +69,13 @@ returns-in-Trapped-last c =
       runs = λ m heights ready has.
           let initial : StepResult = start (program_alone m) c.args.start c.args.machine.now.store [] (main_of c.args.entry) in
           ended_trapped m [] initial c.args.left.now c.in-Trapped-last.outcome c.finish_call-2.new.shown c.finish_call-2.new.machine c.finish_call-2.new.left
-          (subst (λ stand. ShowsSoFar m [] initial c.args.left.now stand c.finish_call-2.new.shown c.finish_call-2.new.machine c.finish_call-2.new.left) c.in-Trapped-last.is
+          (subst (λ stand. ShowsSoFar m [] initial c.args.left.now stand c.finish_call-2.new.shown
+          c.finish_call-2.new.machine c.finish_call-2.new.left) c.in-Trapped-last.is
           (c.in-Ok-finish_call.ensures.goes m [] initial c.args.left.now
-          (entered c.args.start c.args.entry c.args.left.now c.args.shown.now c.args.machine.now c.in_ok-first.first c.begin_run.new.shown c.begin_run.new.machine c.in_ok-first.ensures.begins
-          c.in-Ok.called c.finish_call.new.shown c.finish_call.new.machine c.finish_call.new.left c.in-Ok.ensures.goes c.in-Ok.ensures.over c.in_default.not-Trapped m heights ready has
+          (entered c.args.start c.args.entry c.args.left.now c.args.shown.now c.args.machine.now c.in_ok-first.first
+          c.begin_run.new.shown c.begin_run.new.machine c.in_ok-first.ensures.begins
+          c.in-Ok.called c.finish_call.new.shown c.finish_call.new.machine c.finish_call.new.left c.in-Ok.ensures.goes
+          c.in-Ok.ensures.over c.in_default.not-Trapped m heights ready has
           c.in_ok-second.second c.begin_entry.new.shown c.begin_entry.new.machine c.in_ok-second.ensures.enters)));
       left = omega (arith, first, later);
       layout = c.in-Ok-finish_call.ensures.layout ∙ c.in_ok-second.ensures.layout ∙ c.in-Ok.ensures.layout ∙ c.in_ok-first.ensures.layout;
@@ -81,10 +89,14 @@ returns-in_default-last c =
       runs = λ m heights ready has.
           let initial : StepResult = start (program_alone m) c.args.start c.args.machine.now.store [] (main_of c.args.entry) in
           ended_returned m initial c.args.left.now c.finish_call-2.new.shown c.finish_call-2.new.machine c.finish_call-2.new.left
-          (subst (λ stand. ShowsSoFar m [] initial c.args.left.now stand c.finish_call-2.new.shown c.finish_call-2.new.machine c.finish_call-2.new.left) (is_returned c.in-Ok-finish_call.last c.in-Ok-finish_call.ensures.over c.in_default-last.not-Trapped)
+          (subst (λ stand. ShowsSoFar m [] initial c.args.left.now stand c.finish_call-2.new.shown
+          c.finish_call-2.new.machine c.finish_call-2.new.left)
+          (is_returned c.in-Ok-finish_call.last c.in-Ok-finish_call.ensures.over c.in_default-last.not-Trapped)
           (c.in-Ok-finish_call.ensures.goes m [] initial c.args.left.now
-          (entered c.args.start c.args.entry c.args.left.now c.args.shown.now c.args.machine.now c.in_ok-first.first c.begin_run.new.shown c.begin_run.new.machine c.in_ok-first.ensures.begins
-          c.in-Ok.called c.finish_call.new.shown c.finish_call.new.machine c.finish_call.new.left c.in-Ok.ensures.goes c.in-Ok.ensures.over c.in_default.not-Trapped m heights ready has
+          (entered c.args.start c.args.entry c.args.left.now c.args.shown.now c.args.machine.now c.in_ok-first.first
+          c.begin_run.new.shown c.begin_run.new.machine c.in_ok-first.ensures.begins
+          c.in-Ok.called c.finish_call.new.shown c.finish_call.new.machine c.finish_call.new.left c.in-Ok.ensures.goes
+          c.in-Ok.ensures.over c.in_default.not-Trapped m heights ready has
           c.in_ok-second.second c.begin_entry.new.shown c.begin_entry.new.machine c.in_ok-second.ensures.enters)));
       left = omega (arith, first, later);
       layout = c.in-Ok-finish_call.ensures.layout ∙ c.in_ok-second.ensures.layout ∙ c.in-Ok.ensures.layout ∙ c.in_ok-first.ensures.layout;
@@ -95,8 +107,10 @@ returns-in-Err-finish_call c =
     record {
       runs = λ m heights ready has.
           c.in-Err-finish_call.ensures.goes m [] (start (program_alone m) c.args.start c.args.machine.now.store [] (main_of c.args.entry)) c.args.left.now
-          (entered c.args.start c.args.entry c.args.left.now c.args.shown.now c.args.machine.now c.in_ok-first.first c.begin_run.new.shown c.begin_run.new.machine c.in_ok-first.ensures.begins
-          c.in-Ok.called c.finish_call.new.shown c.finish_call.new.machine c.finish_call.new.left c.in-Ok.ensures.goes c.in-Ok.ensures.over c.in_default.not-Trapped m heights ready has
+          (entered c.args.start c.args.entry c.args.left.now c.args.shown.now c.args.machine.now c.in_ok-first.first
+          c.begin_run.new.shown c.begin_run.new.machine c.in_ok-first.ensures.begins
+          c.in-Ok.called c.finish_call.new.shown c.finish_call.new.machine c.finish_call.new.left c.in-Ok.ensures.goes
+          c.in-Ok.ensures.over c.in_default.not-Trapped m heights ready has
           c.in_ok-second.second c.begin_entry.new.shown c.begin_entry.new.machine c.in_ok-second.ensures.enters);
       left = tt;
       layout = tt;

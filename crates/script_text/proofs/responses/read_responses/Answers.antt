@@ -8,12 +8,21 @@ use Rattle.script_text.proofs.responses.read_responses.Goals as goal
 pub returns-in_err-item : goal.returns-in_err-item
 returns-in_err-item c =
     let p = err_from_is_err_and c.from_residual.result c.from_residual.ensures.1 in
-    rw (p.1, p.2) (ends (response_of c.args.names.now c.args.name.now c.args.types.now) c.in_err-item.field-0.0 c.items.found.items c.args.values.now c.items.index c.index-values-index.result (items_from (response_of c.args.names.now c.args.name.now c.args.types.now) 0 (items_view c.args.values.now)) c.items-test.true c.index-values-index.is c.in_err-item.ensures c.items.invariant)
+    rw (p.1, p.2) (ends (response_of c.args.names.now c.args.name.now c.args.types.now) c.in_err-item.field-0.0
+    c.items.found.items c.args.values.now c.items.index c.index-values-index.result
+    (items_from (response_of c.args.names.now c.args.name.now c.args.types.now) 0 (items_view c.args.values.now))
+    c.items-test.true c.index-values-index.is c.in_err-item.ensures c.items.invariant)
 
 pub items-preserved : goal.items-preserved
 items-preserved c =
     rw c.in_ok-push_item.ensures.ok
-    (goes_on (response_of c.args.names.now c.args.name.now c.args.types.now) c.items.found.items c.args.values.now c.items.index c.index-values-index.result c.in_ok-item.item (items_from (response_of c.args.names.now c.args.name.now c.args.types.now) 0 (items_view c.args.values.now)) c.items-test.true c.index-values-index.is c.in_ok-item.ensures c.items.invariant)
+    (goes_on (response_of c.args.names.now c.args.name.now c.args.types.now) c.items.found.items c.args.values.now
+    c.items.index c.index-values-index.result c.in_ok-item.item
+    (items_from (response_of c.args.names.now c.args.name.now c.args.types.now) 0 (items_view c.args.values.now))
+    c.items-test.true c.index-values-index.is c.in_ok-item.ensures c.items.invariant)
 
 pub returns : goal.returns
-returns c = rw c.from_vec.ensures (is_done (response_of c.args.names.now c.args.name.now c.args.types.now) c.items.found.items c.args.values.now c.items.index (items_from (response_of c.args.names.now c.args.name.now c.args.types.now) 0 (items_view c.args.values.now)) c.items-test.false c.items.invariant)
+returns c =
+    rw c.from_vec.ensures (is_done (response_of c.args.names.now c.args.name.now c.args.types.now) c.items.found.items
+    c.args.values.now c.items.index (items_from (response_of c.args.names.now c.args.name.now c.args.types.now) 0
+    (items_view c.args.values.now)) c.items-test.false c.items.invariant)

@@ -13,12 +13,15 @@ use Rattle.script_text.proofs.scripts.answers_by.Goals as goal
 
 -- the answers under two names
 abbrev answer_at : Module → Option Data → (from name : List ℕ) → Option Answer
-answer_at m d from name = option_and_then (λ a. result_ok (answer_of m name (func_types_named m from name) a)) (option_and_then (get name) (option_and_then (get from) d))
+answer_at m d from name =
+    option_and_then (λ a. result_ok (answer_of m name (func_types_named m from name) a))
+    (option_and_then (get name) (option_and_then (get from) d))
 
 pub answer_or_copy-requires : goal.answer_or_copy-requires
 answer_or_copy-requires c =
     let x = c.import-item.result.now in
     let place = under_names x.«module» x.name c.args.firsts.now.entries in
-    found_before (answer_at c.args.names.now (option_map (λ v. view v.now) c.args.texts)) c.args.imports.now c.imports.import-index x c.imports.answers.items place c.earlier_answer-before.result
+    found_before (answer_at c.args.names.now (option_map (λ v. view v.now) c.args.texts)) c.args.imports.now
+    c.imports.import-index x c.imports.answers.items place c.earlier_answer-before.result
     (c.requires.holds x.«module» x.name) c.imports.invariant
     (c.earlier_answer-before.ensures ∙ ap (λ l. option_and_then (slice_get l) place) c.as_slice.ensures.value)

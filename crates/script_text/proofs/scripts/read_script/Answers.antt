@@ -12,4 +12,6 @@ returns-in-Ok c =
     (sym (text_read c.args.module.now c.args.bytes.now (view c.in-Ok.value) c.in-Ok.ensures.ok.0 c.in-Ok.ensures.ok.1)) c.read_for_module.ensures
 
 pub returns-in-Err-2 : goal.returns-in-Err-2
-returns-in-Err-2 c no_memory = no_text c.args.module.now c.args.bytes.now (c.in-Err.ensures.err (λ memory. true≢false (sym (subst IsTrue c.if-is_memory.false (c.is_memory.ensures.1 memory)))))
+returns-in-Err-2 c no_memory =
+    no_text c.args.module.now c.args.bytes.now (c.in-Err.ensures.err
+    (λ memory. true≢false (sym (subst IsTrue c.if-is_memory.false (c.is_memory.ensures.1 memory)))))

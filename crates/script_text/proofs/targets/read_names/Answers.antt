@@ -13,7 +13,8 @@ not_two (a ∷ b ∷ c ∷ vs) h = refl
 
 pub returns-in-len1 : goal.returns-in-len1
 returns-in-len1 c =
-    let other : length c.in-Some.items.now.items ≡ 2 → ⊥ = λ e. absurd (omega (arith, e, c.as_slice.ensures.len, ap length c.as_slice.ensures.value, c.in-len1.len_below)) in
+    let other : length c.in-Some.items.now.items ≡ 2 → ⊥ =
+    λ e. absurd (omega (arith, e, c.as_slice.ensures.len, ap length c.as_slice.ensures.value, c.in-len1.len_below)) in
     λ no_memory. ap two_names (sym c.in-Some.ensures) ∙ not_two c.in-Some.items.now.items other ∙ ap Err (sym c.shape-in-len1.ensures)
 
 pub returns-in-len3-up : goal.returns-in-len3-up

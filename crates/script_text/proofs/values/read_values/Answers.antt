@@ -8,12 +8,18 @@ use Rattle.script_text.proofs.values.read_values.Goals as goal
 pub returns-in_err-item : goal.returns-in_err-item
 returns-in_err-item c =
     let p = err_from_is_err_and c.from_residual.result c.from_residual.ensures.1 in
-    rw (p.1, p.2) (ends value_of c.in_err-item.field-0.0 c.items.found.items c.args.values.now c.items.index c.index-values-index.result (items_from value_of 0 (items_view c.args.values.now)) c.items-test.true c.index-values-index.is c.in_err-item.ensures c.items.invariant)
+    rw (p.1, p.2) (ends value_of c.in_err-item.field-0.0 c.items.found.items c.args.values.now c.items.index
+    c.index-values-index.result (items_from value_of 0 (items_view c.args.values.now)) c.items-test.true
+    c.index-values-index.is c.in_err-item.ensures c.items.invariant)
 
 pub items-preserved : goal.items-preserved
 items-preserved c =
     rw c.in_ok-push_item.ensures.ok
-    (goes_on value_of c.items.found.items c.args.values.now c.items.index c.index-values-index.result c.in_ok-item.item (items_from value_of 0 (items_view c.args.values.now)) c.items-test.true c.index-values-index.is c.in_ok-item.ensures c.items.invariant)
+    (goes_on value_of c.items.found.items c.args.values.now c.items.index c.index-values-index.result c.in_ok-item.item
+    (items_from value_of 0 (items_view c.args.values.now)) c.items-test.true c.index-values-index.is
+    c.in_ok-item.ensures c.items.invariant)
 
 pub returns : goal.returns
-returns c = rw c.from_vec.ensures (is_done value_of c.items.found.items c.args.values.now c.items.index (items_from value_of 0 (items_view c.args.values.now)) c.items-test.false c.items.invariant)
+returns c =
+    rw c.from_vec.ensures (is_done value_of c.items.found.items c.args.values.now c.items.index
+    (items_from value_of 0 (items_view c.args.values.now)) c.items-test.false c.items.invariant)

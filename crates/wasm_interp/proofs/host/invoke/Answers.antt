@@ -5,10 +5,15 @@ use Rattle.wasm_interp.proofs.Safety.{bound_func, entered_in}
 use Rattle.wasm_interp.proofs.host.invoke.Goals as goal
 
 pub enter_slots-requires-clause-locals : goal.enter_slots-requires-clause-locals
-enter_slots-requires-clause-locals c = (bound_func c.args.flat.now c.args.func c.in-Some.function.now c.requires.safe.code c.requires.defined c.in-Some.ensures.there).locals
+enter_slots-requires-clause-locals c =
+    (bound_func c.args.flat.now c.args.func c.in-Some.function.now c.requires.safe.code c.requires.defined
+    c.in-Some.ensures.there).locals
 
 pub enter_slots-requires-clause-reach : goal.enter_slots-requires-clause-reach
-enter_slots-requires-clause-reach c = let reach = (bound_func c.args.flat.now c.args.func c.in-Some.function.now c.requires.safe.code c.requires.defined c.in-Some.ensures.there).reach in omega (arith, reach)
+enter_slots-requires-clause-reach c =
+    let reach = (bound_func c.args.flat.now c.args.func c.in-Some.function.now c.requires.safe.code c.requires.defined
+    c.in-Some.ensures.there).reach in
+    omega (arith, reach)
 
 pub returns-clause-safe : goal.returns-clause-safe
 returns-clause-safe c =
@@ -16,7 +21,8 @@ returns-clause-safe c =
     let longer = c.enter_slots.ensures.longer in
     let longer_before = c.place_args.ensures.longer in
     subst (λ frames. AreInBounds c.args.flat.now frames c.enter_slots.new.slots.items) (sym c.in_ok-push_start.ensures.ok)
-    (entered_in c.args.flat.now c.in-Some.function.now (record { func = c.args.func; number = 0; base = c.base_above-base.result }) c.args.frames.now c.args.slots.now.items c.enter_slots.new.slots.items
-    c.requires.safe.code c.requires.defined c.in-Some.ensures.there
+    (entered_in c.args.flat.now c.in-Some.function.now
+    (record { func = c.args.func; number = 0; base = c.base_above-base.result }) c.args.frames.now
+    c.args.slots.now.items c.enter_slots.new.slots.items c.requires.safe.code c.requires.defined c.in-Some.ensures.there
     (bound_func c.args.flat.now c.args.func c.in-Some.function.now c.requires.safe.code c.requires.defined c.in-Some.ensures.there).some
     (omega (arith, room)) (omega (arith, longer, longer_before)) c.requires.safe.places)

@@ -1,6 +1,6 @@
 -- The derived equality is the test.
 use Rattle.std.proofs.Common.{◌∙◌}
-use Rattle.wasm_interp.proofs.Types.{signature_test}
+use Rattle.wasm_syntax.proofs.SameTypes.{signature_test}
 use Rattle.wasm_interp.proofs.signatures.same_signature.Goals as goal
 
 pub returns : goal.returns

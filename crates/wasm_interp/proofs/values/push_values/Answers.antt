@@ -11,8 +11,11 @@ overflow_add-slot c = let place = c.each.invariant.0 in omega (arith, place)
 
 pub each-preserved : goal.each-preserved
 each-preserved c =
-    let place = c.each.invariant.0 in
-    (omega (arith, place), one_read c.args.slots.now c.each.slot c.each.ty-index c.args.types.now c.each.values.items c.push.new.self.items _ _ _ c.each-test.true c.bits_at.ensures c.in_ok-push.ensures.items c.each.invariant.1)
+    let place = c.each.invariant.0 in (
+      omega (arith, place),
+      one_read c.args.slots.now c.each.slot c.each.ty-index c.args.types.now c.each.values.items c.push.new.self.items _
+          _ _ c.each-test.true c.bits_at.ensures c.in_ok-push.ensures.items c.each.invariant.1,
+    )
 
 pub returns : goal.returns
 returns c = all_read c.args.slots.now c.each.slot c.each.ty-index c.args.types.now c.each.values.items _ (omega arith) c.each.invariant.1

@@ -5,6 +5,11 @@ use Rattle.wasm_profile.proofs.instructions.imported_funcs.Goals as goal
 
 pub imports-preserved : goal.imports-preserved
 imports-preserved c = record {
-  counted = omega (arith, c.one_if_func-count.ensures.count, count_next func_import c.imports.count _ c.args.imports.now c.imports.import-index c.import-item.result c.imports.invariant.counted c.imports-test.true c.import-item.is);
+  counted = omega (
+    arith,
+    c.one_if_func-count.ensures.count,
+    count_next func_import c.imports.count _ c.args.imports.now c.imports.import-index c.import-item.result
+        c.imports.invariant.counted c.imports-test.true c.import-item.is,
+  );
   few = omega (arith, c.one_if_func-count.ensures.most, c.imports.invariant.few);
 }

@@ -6,4 +6,6 @@ use Rattle.wasm_syntax.specs.declared.profile.Which.TheVariants.{Parameters}
 use Rattle.wasm_profile.proofs.quantities.refuse_parameters.Given as goal
 
 abbrev pub invariant-types : goal.invariant-types
-invariant-types l = filter_map (λ ty. past MAX_PARAMETERS Parameters (length ty.params)) l.types ≡ filter_map (λ ty. past MAX_PARAMETERS Parameters (length ty.params)) (drop l.ty-index l.types)
+invariant-types l =
+    filter_map (λ ty. past MAX_PARAMETERS Parameters (length ty.params)) l.types
+    ≡ filter_map (λ ty. past MAX_PARAMETERS Parameters (length ty.params)) (drop l.ty-index l.types)

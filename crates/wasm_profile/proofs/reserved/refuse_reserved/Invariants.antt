@@ -6,4 +6,5 @@ use Rattle.wasm_profile.proofs.reserved.refuse_reserved.Given as goal
 
 abbrev pub invariant-imports : goal.invariant-imports
 invariant-imports l =
-    filter_map reserved_import (enumerate_from 0 l.«module».imports) ≡ filter_map reserved_import (enumerate_from (0 + l.place) (drop l.place l.«module».imports))
+    filter_map reserved_import (enumerate_from 0 l.«module».imports)
+    ≡ filter_map reserved_import (enumerate_from (0 + l.place) (drop l.place l.«module».imports))

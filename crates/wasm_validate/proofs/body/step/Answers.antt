@@ -15,8 +15,8 @@ returns-in-Some c =
     subst (λ (o : Option Change). Gives o (within (base_of func) before.levels) c.args.instr.now) c.in-Some.is c.change.ensures
     in
     subst (λ (o : Option State). IfOk c.apply.result (λ passed. then_some passed c.apply.new.self ≡ o))
-    (next-other (base_of func) c.args.instr.now before (Some c.in-Some.change) open_ c.in_default.not-Block c.in_default.not-Loop c.in_default.not-If c.in_default.not-Else c.in_default.not-End gives)
-    c.apply.ensures
+    (next-other (base_of func) c.args.instr.now before (Some c.in-Some.change) open_ c.in_default.not-Block
+    c.in_default.not-Loop c.in_default.not-If c.in_default.not-Else c.in_default.not-End gives) c.apply.ensures
 
 pub returns-in-None : goal.returns-in-None
 returns-in-None c =
@@ -26,4 +26,5 @@ returns-in-None c =
     let gives : Gives None (within (base_of func) before.levels) c.args.instr.now =
     subst (λ (o : Option Change). Gives o (within (base_of func) before.levels) c.args.instr.now) c.in-None.is c.change.ensures
     in
-    next-other (base_of func) c.args.instr.now before None open_ c.in_default.not-Block c.in_default.not-Loop c.in_default.not-If c.in_default.not-Else c.in_default.not-End gives
+    next-other (base_of func) c.args.instr.now before None open_ c.in_default.not-Block c.in_default.not-Loop
+    c.in_default.not-If c.in_default.not-Else c.in_default.not-End gives

@@ -10,7 +10,8 @@ returns-then-not-branch c =
     let reported : c.in_ok-add.field-0 ≡ not (exports_have (take i exports) c.export-item.result.name) =
     c.in_ok-add.ensures.added ∙ ap not (c.exports.invariant.known c.as_str.result.now ∙ ap (exports_have (take i exports)) c.as_str.ensures)
     in
-    fresh-stops exports i c.export-item.result c.in_ok-add.field-0 c.exports-test.true c.export-item.is reported c.if-not-branch.true ∙ c.exports.invariant.left ∙ fresh-all exports
+    fresh-stops exports i c.export-item.result c.in_ok-add.field-0 c.exports-test.true c.export-item.is reported
+    c.if-not-branch.true ∙ c.exports.invariant.left ∙ fresh-all exports
 
 pub returns : goal.returns
 returns c = fresh-ends c.args.exports.now c.exports.export-index c.exports-test.false ∙ c.exports.invariant.left ∙ fresh-all c.args.exports.now

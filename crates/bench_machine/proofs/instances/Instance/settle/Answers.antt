@@ -7,4 +7,5 @@ pub returns-clause-comes : goal.returns-clause-comes
 returns-clause-comes c =
     let old = c.args.self.now in
     let new = c.settle.new.self in
-    on_ok c.settle.result (λ turn. SettlesRun old.machine turn new) (λ turn. ComesBy old.module turn.pause new) (λ turn run. settle_place old.module old.machine new turn c.requires run) c.settle.ensures.run
+    on_ok c.settle.result (λ turn. SettlesRun old.machine turn new) (λ turn. ComesBy old.module turn.pause new)
+    (λ turn run. settle_place old.module old.machine new turn c.requires run) c.settle.ensures.run

@@ -8,7 +8,8 @@ use Rattle.module_names.proofs.ImportLoops.{types_or_none}
 use Rattle.module_names.proofs.funcs.ImportedFuncs.types.Goals as goal
 
 copied : (found : Option (Bor (Vec (Bor FuncType) Global)))
-    → option_map (λ (types : Bor (Vec (Bor FuncType) Global)). map (λ ty. ty.now) types.now.items) found ≡ option_map (λ (types : Vec (Bor FuncType) Global). map (λ ty. ty.now) types.items) (option_copied found)
+    → option_map (λ (types : Bor (Vec (Bor FuncType) Global)). map (λ ty. ty.now) types.now.items) found
+    ≡ option_map (λ (types : Vec (Bor FuncType) Global). map (λ ty. ty.now) types.items) (option_copied found)
 copied None = refl
 copied (Some types) = refl
 
@@ -18,4 +19,6 @@ returns c =
     let name = c.args.name.now in
     let m = c.self.inside.source.now in
     subst (λ (n : Module). unwrap_or (option_map (λ types. map (λ ty. ty.now) types.now.items) c.get.result) [] ≡ func_types_named n from name) c.self.view_is
-    (ap (λ o. unwrap_or o []) (copied c.get.result ∙ ap (option_map (λ (types : Vec (Bor FuncType) Global). map (λ ty. ty.now) types.items)) c.get.ensures.value) ∙ ap (λ o. unwrap_or o []) (c.self.invariant.2.holds from name) ∙ types_or_none m from name (imports_with func_import m))
+    (ap (λ o. unwrap_or o []) (copied c.get.result
+    ∙ ap (option_map (λ (types : Vec (Bor FuncType) Global). map (λ ty. ty.now) types.items)) c.get.ensures.value) ∙ ap
+    (λ o. unwrap_or o []) (c.self.invariant.2.holds from name) ∙ types_or_none m from name (imports_with func_import m))

@@ -10,4 +10,5 @@ returns c =
     let from = c.args.from.now in
     let name = c.args.name.now in
     subst (λ (m : Module). c.contains_key.result ≡ imports_named global_import m from name) c.self.view_is
-    (c.contains_key.ensures ∙ ap is_some (c.self.invariant.2.holds from name) ∙ first_is_there from name 0 (imports_with global_import c.self.inside.source.now))
+    (c.contains_key.ensures ∙ ap is_some (c.self.invariant.2.holds from name)
+    ∙ first_is_there from name 0 (imports_with global_import c.self.inside.source.now))

@@ -9,4 +9,5 @@ returns c =
     let m = c.self.inside.source.now in
     let le : imported_funcs m ≤ c.args.func = subst (λ (n : Module). imported_funcs n ≤ c.args.func) (sym c.self.view_is) c.requires in
     subst (λ (n : Module). option_map (λ ty. ty.now) c.type_of_defined.result ≡ func_type n c.args.func) c.self.view_is
-    (c.type_of_defined.ensures ∙ rw (c.count.ensures, c.self.invariant.1) refl ∙ ap (option_and_then (type_at m)) (sym (get_after (of_kind func_import m.imports) (map (λ func. func.ty) m.funcs) c.args.func le)))
+    (c.type_of_defined.ensures ∙ rw (c.count.ensures, c.self.invariant.1) refl ∙ ap (option_and_then (type_at m))
+    (sym (get_after (of_kind func_import m.imports) (map (λ func. func.ty) m.funcs) c.args.func le)))

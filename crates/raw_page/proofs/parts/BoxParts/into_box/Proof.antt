@@ -56,7 +56,8 @@ module _ (E : Bx) where
         box_out E ! boxed z.0.4.0 (λ b o hv at_b is_word fits. fjoin ! $
         let w = word E hv b o in
         let at_call : Called.Ghost = ((κs, qs, tt, (alloc, (block_ptr b o, tt)), (hv ∷ [], (vptr b o ∷ [], tt))), value) in
-        let Γ : List (Item 𝓤) = ‵ (box_owns (token E.al alloc) (R E) (block_ptr b o) value) ∷ ‵ ((P E).own_val alloc (hv ∷ [])) ∷ ‵ ftrue ∷ lives ∷ within ∷ [] in
+        let Γ : List (Item 𝓤) = ‵ (box_owns (token E.al alloc) (R E) (block_ptr b o) value) ∷
+        ‵ ((P E).own_val alloc (hv ∷ [])) ∷ ‵ ftrue ∷ lives ∷ within ∷ [] in
         by ! (subst (λ (ws : List Val). ent 𝓤 (⋆ 𝓛 Γ) (WpFn 𝓤 H 𝓣.C 𝓣.Λ function (ws ++ []) Post)) (sym is_word)
         (qed 𝓛 Γ ∵ enter ! 𝓣.C 𝓣.Λ function (w ∷ []) _ $ alloc_all ! (λ l. pass_all ! refl (box_typed E hv b o fits, tt) $
         sets ! (of_opd ! (get_in ! (fld ! refl (stop !)) (sub ! 0 refl (whole !)))) refl (tt, tt) $

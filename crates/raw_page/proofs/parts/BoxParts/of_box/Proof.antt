@@ -73,7 +73,8 @@ module _ (E : Bx) (value_drops : Dict) where
         some (λ (_ : (Unit {0} × (Unit {0} × Unit {0})) × Unit {0}). ‵ (fsep (fsep ftrue (fsep ftrue ftrue)) ftrue) ⊛
         (raw (fact 𝓤 (pair.1 ≡ alloc)) ⊛ ‵ (box_owns (token E.al alloc) (R E) pair.0 boxed.value)))))) (id⊢ 𝓤 _) $
         await ! tt $ pick ! (λ pair. split ! $ move ! (1 ∷ []) $ pick ! (λ _. split3 ! $ drop ! $ heard ! (pair.1 ≡ alloc) (λ same.
-        in_a_block ! pair.0 (λ p. box_owns (token E.al alloc) (R E) p boxed.value) (fst∗ 𝓤 (never 𝓤) (sem 𝓛 (token E.al alloc (bare (τ E)) null_ptr))) (λ b' o' at_b'.
+        in_a_block ! pair.0 (λ p. box_owns (token E.al alloc) (R E) p boxed.value)
+        (fst∗ 𝓤 (never 𝓤) (sem 𝓛 (token E.al alloc (bare (τ E)) null_ptr))) (λ b' o' at_b'.
         -- [the lifetimes with the pair; what the pointer owns; the locals]
         move ! (1 ∷ []) $ split ! $ move ! (1 ∷ []) $ fpick ! (λ vss. fsplit ! $ feq_l ! (λ is_pair. fsplit ! $ feq_l ! (λ is_pointer. fsplit ! $
         rewrite ! 0 (λ (a : E.al.row.Denot). ‵ (E.al.row.own_val a vss.1.0)) same refl $ handle_tells E.al ! alloc vss.1.0 (λ hv' is_handle fits'.
@@ -87,7 +88,8 @@ module _ (E : Bx) (value_drops : Dict) where
         sets ! (agg ! (and_then ! (get ! refl) (and_then ! (get ! refl) (no_more !)))) refl (box_typed E hv' b' o' fits') $
         returns ! (look_at ! 0 refl) $ free_all ! refl $
         -- [the handle; true; the lifetimes; what the pointer owns]
-        move ! (3 ∷ []) $ fsplit ! $ box_in E ! taken b' o' boxed.value refl refl $ use1 𝓛 (‵ (Made.own_val made (w' ∷ []))) (id⊢ 𝓤 _) $ move ! (1 ∷ []) $ drop ! $
+        move ! (3 ∷ []) $ fsplit ! $ box_in E ! taken b' o' boxed.value refl refl
+        $ use1 𝓛 (‵ (Made.own_val made (w' ∷ []))) (id⊢ 𝓤 _) $ move ! (1 ∷ []) $ drop ! $
         suffices ! _ (ends_at 𝓛 ended stayed held z w' made ((tt, (tt, tt)), tt) (tt, tt)) $ says ! refl $
         nothing ! $ nothing ! $ fjoin ! $ join ! $ move ! (1 ∷ 0 ∷ []) $ join ! $ done !)))))))))))))
 

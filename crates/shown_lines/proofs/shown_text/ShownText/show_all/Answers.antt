@@ -18,5 +18,6 @@ entries-preserved c =
     in
     let both = shows_more c.projections_run_along.ensures c.args.self.now c.entries.self c.show.new.self [] first (entry ∷ []) c.entries.invariant.0 after in (
       subst (Shows c.args.self.now c.show.new.self []) (sym more) both,
-      c.args_after-args.ensures ∙ ap (λ args. args_after args entry) c.entries.invariant.1 ∙ sym (args_over [] first (entry ∷ [])) ∙ ap (args_after_all []) (sym more),
+      c.args_after-args.ensures ∙ ap (λ args. args_after args entry) c.entries.invariant.1
+          ∙ sym (args_over [] first (entry ∷ [])) ∙ ap (args_after_all []) (sym more),
     )

@@ -27,5 +27,6 @@ returns-in-Store c =
 
 pub returns-in-BrTable : goal.returns-in-BrTable
 returns-in-BrTable c =
-    subst (λ (i : Instr). Gives c.switch.result (within (base_of c.args.self.now) c.args.stacks.now.levels) i) (ap (λ labels. BrTable labels c.in-BrTable.default) c.as_slice.ensures ∙ sym c.in-BrTable.is)
+    subst (λ (i : Instr). Gives c.switch.result (within (base_of c.args.self.now) c.args.stacks.now.levels) i)
+    (ap (λ labels. BrTable labels c.in-BrTable.default) c.as_slice.ensures ∙ sym c.in-BrTable.is)
     (c.switch.ensures (base_of c.args.self.now))

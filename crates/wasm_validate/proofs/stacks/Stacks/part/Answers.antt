@@ -27,6 +27,8 @@ returns c =
     let frame : Frame = c.index-frame.result.now in
     let operands = c.self.inside.operands in
     let count : length frames ≡ last + 1 = grind (arith, common_steps, c.checked_sub.ensures) in
-    ap (λ h. Some (state (levels_of (reverse (slice_set frames last (record frame { kind = Block }))) h.outer) h.here)) (c.restart.ensures ∙ ap (λ outer. operand_state outer nothing) c.ends.ensures.outer)
-    ∙ parted-frames frames last frame operands.outer operands.here count c.index-frame.ensures (sym c.is_if.ensures ∙ c.if-not-is_if.false) (sym c.ends.ensures.ends ∙ c.if-not-ends.false)
+    ap (λ h. Some (state (levels_of (reverse (slice_set frames last (record frame { kind = Block }))) h.outer) h.here))
+    (c.restart.ensures ∙ ap (λ outer. operand_state outer nothing) c.ends.ensures.outer)
+    ∙ parted-frames frames last frame operands.outer operands.here count c.index-frame.ensures
+    (sym c.is_if.ensures ∙ c.if-not-is_if.false) (sym c.ends.ensures.ends ∙ c.if-not-ends.false)
     ∙ ap (λ s. after_else s.levels s.here) c.self.view_is

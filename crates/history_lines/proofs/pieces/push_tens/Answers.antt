@@ -1,0 +1,9 @@
+use Rattle.std.proofs.Common.{◌+◌, ◌/◌, ◌%◌, [], ◌∷◌, ◌++◌, ◌∙◌, ap}
+use Rattle.history_lines.proofs.Numbers.{tens-pushed}
+use Rattle.history_lines.proofs.pieces.push_tens.Goals as goal
+
+pub returns-clause-items : goal.returns-clause-items
+returns-clause-items c =
+    c.push_two_digits.ensures.items
+    ∙ ap (λ l. l ++ (48 + c.args.number / 10) ∷ (48 + c.args.number % 10) ∷ []) c.push_bytes.ensures.items
+    ∙ tens-pushed c.args.out.now.items c.args.number c.requires.least c.requires.most
